@@ -45,7 +45,7 @@ SECTIONS = [
         "event listener list": ("dom_dispatch::one_list_serves_all", "rows/listeners"),
         "add an event listener": ("Listeners::listen", "calls/dispatch-to-a-listener-added-twice"),
         "remove an event listener": ("Listeners::unlisten", "calls/dispatch-once-a-listener-is-taken-away"),
-        "get the parent": ("dom_isolation::path_follows_parents", "calls/paths-of-a-slotted-node"),
+        "get the parent": ("dom_worlds::path_follows_parents", "calls/paths-of-a-slotted-node"),
         "addEventListener()": None,
         "removeEventListener()": None,
         "dispatchEvent()": None,
@@ -183,7 +183,7 @@ SECTIONS = [
     }),
     ("5.5", "Interface Range", {
         "new Range()": ("Doc::range_make", "commands/ranging-a-component-begins-a-range-at-its-shadow-root"),
-        "range's root": ("dom_isolation::ranges_have_one_root", "calls/ranges-stay-in-a-root-that-is-split"),
+        "range's root": ("dom_worlds::ranges_have_one_root", "calls/ranges-stay-in-a-root-that-is-split"),
         "contained": ("dom_range_ops::range_text", "calls/ranges-text-of-texts"),
         "partially contained": ("dom_range_ops::extract", "calls/ranges-extract-across-depths"),
         "set the start or end": ("RangeTable::set_start", "calls/ranges-the-end-follows-the-start"),

@@ -10,7 +10,7 @@ use Rattle.dom_model.specs.Slots.{signals, with_signal}
 use Rattle.dom_model.specs.World.{World, part_of, component_at, components_below, shadow_root_of, trees_with}
 use Rattle.dom_model.specs.WorldSteps.{world_step, world_after, stepped, with_removal_signals, with_notify_if, with_shadow_document}
 use Rattle.dom_admission.specs.Turned.{with_turn, turned}
-use Rattle.dom_isolation.specs.Bounds.{IsBounded}
+use Rattle.dom_worlds.specs.Bounds.{IsBounded}
 use Rattle.dom_mutation.specs.Doc.{DocState}
 
 module _ (t : Option Owner) where

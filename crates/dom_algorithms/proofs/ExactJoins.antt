@@ -12,9 +12,9 @@ use Rattle.dom_model.specs.TextChanges.{replacing_data, joins, texts_after}
 use Rattle.dom_model.specs.Tree.{Trees, none, tree, Node, node_in, has_node, is_text, kind_of, names_of, roots, subtree, trees_below, children_of}
 use Rattle.dom_model.specs.Tree.{parent_of, index_of, length_of}
 use Rattle.dom_model.specs.TreeChanges.{map_nodes, change_node, with_data_replaced}
-use Rattle.dom_isolation.specs.Worlds.{IsPart}
-use Rattle.dom_isolation.proofs.KindLines.{has_node-times}
-use Rattle.dom_isolation.proofs.TextBounds.{text-data, joining-fits}
+use Rattle.dom_worlds.specs.Worlds.{IsPart}
+use Rattle.dom_worlds.proofs.KindLines.{has_node-times}
+use Rattle.dom_worlds.proofs.TextBounds.{text-data, joining-fits}
 use Rattle.dom_tree_laws.proofs.Covering.{subtree_mapped}
 use Rattle.dom_tree_laws.proofs.Near.{path_mapped}
 

@@ -9,9 +9,9 @@ use Rattle.dom_model.specs.Steps.{after}
 use Rattle.dom_model.specs.TextChanges.{replacing_data, joins, texts_after}
 use Rattle.dom_model.specs.Tree.{node_in, has_node, is_text, kind_of, parent_of, length_of}
 use Rattle.dom_model.specs.World.{part_of}
-use Rattle.dom_isolation.specs.Bounds.{HasBounds}
-use Rattle.dom_isolation.specs.Worlds.{IsPart}
-use Rattle.dom_isolation.proofs.TextBounds.{text-data}
+use Rattle.dom_worlds.specs.Bounds.{HasBounds}
+use Rattle.dom_worlds.specs.Worlds.{IsPart}
+use Rattle.dom_worlds.proofs.TextBounds.{text-data}
 use Rattle.dom_tree.specs.Forest.{name_at}
 use Rattle.dom_parts.specs.Doc.{DocState, JoinsFit, name_in, owner_in, trees_in, planned}
 use Rattle.dom_parts.specs.Hosting.{IsAlone}

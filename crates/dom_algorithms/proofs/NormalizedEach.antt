@@ -11,14 +11,14 @@ use Rattle.dom_model.specs.TextChanges.{joins, normalizing_text}
 use Rattle.dom_model.specs.Tree.{has_node, kind_of, is_text, index_of, length_of}
 use Rattle.dom_model.specs.Part.{Part}
 use Rattle.dom_model.specs.World.{part_of}
-use Rattle.dom_isolation.specs.Bounds.{HasBounds}
-use Rattle.dom_isolation.specs.Worlds.{IsPart}
+use Rattle.dom_worlds.specs.Bounds.{HasBounds}
+use Rattle.dom_worlds.specs.Worlds.{IsPart}
 use Rattle.dom_tree.specs.Forest.{name_at}
 use Rattle.dom_parts.specs.Doc.{DocState, JoinsFit, IsOwnNode, name_in, owner_in, trees_in, stepped, planned}
 use Rattle.dom_parts.specs.Hosting.{IsAlone}
-use Rattle.dom_isolation.proofs.KeptOffsets.{join_at-keeps}
-use Rattle.dom_isolation.proofs.KindLines.{has_node-times}
-use Rattle.dom_isolation.proofs.PlanTexts.{leads-normalizing_text}
+use Rattle.dom_worlds.proofs.KeptOffsets.{join_at-keeps}
+use Rattle.dom_worlds.proofs.KindLines.{has_node-times}
+use Rattle.dom_worlds.proofs.PlanTexts.{leads-normalizing_text}
 use Rattle.dom_parts.proofs.BoundedPlans.{normalized_text-keeps, normalized_text-leaves}
 use Rattle.dom_tree_laws.proofs.Lists.{all_drop}
 use Rattle.dom_parts.proofs.Made.{alone_after, alone_made, plan_alone, planned_turn}

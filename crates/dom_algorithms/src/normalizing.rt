@@ -7,7 +7,7 @@ ghost use Rattle.dom_model.specs.Tree.{kind_of, is_text, node_in, parent_of, des
 ghost use Rattle.dom_model.specs.Changes.{in_turn};
 ghost use Rattle.dom_model.specs.TextChanges.{texts_after, joining, normalizing_text, normalizing};
 ghost use Rattle.dom_model.specs.World.{part_of};
-ghost use Rattle.dom_isolation.specs.Bounds.{HasBounds};
+ghost use Rattle.dom_worlds.specs.Bounds.{HasBounds};
 ghost use Rattle.dom_parts.specs.Doc.{made, planned, name_in, owner_in, trees_in, IsOwnNode};
 
 use crate::character_data::replacing_data;

@@ -5,7 +5,7 @@ ghost use Rattle.dom_model.specs.Tree.{is_inclusive_ancestor};
 ghost use Rattle.dom_model.specs.Changes.{placed_nodes, replacing};
 ghost use Rattle.dom_model.specs.Validity.{replacement_refusal};
 ghost use Rattle.dom_model.specs.World.{part_of};
-ghost use Rattle.dom_isolation.specs.Bounds.{HasBounds};
+ghost use Rattle.dom_worlds.specs.Bounds.{HasBounds};
 ghost use Rattle.dom_parts.specs.Doc.{AreNodes, made, planned, name_in, owner_in, trees_in, IsChild};
 
 use crate::inserting::{children, inserting, is_fragment, reference_for};

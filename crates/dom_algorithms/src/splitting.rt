@@ -10,7 +10,7 @@ ghost use Rattle.dom_model.specs.Changes.{doing};
 ghost use Rattle.dom_model.specs.TextChanges.{new_text_node, placing_tail, splitting};
 ghost use Rattle.dom_model.specs.World.{part_of};
 ghost use Rattle.dom_model.specs.CommandRefusals.{past_end, past_limit};
-ghost use Rattle.dom_isolation.specs.Bounds.{HasBounds};
+ghost use Rattle.dom_worlds.specs.Bounds.{HasBounds};
 ghost use Rattle.dom_parts.specs.Doc.{made, planned, name_in, owner_in, trees_in, IsChild, splitting_refusal, cutting_tail};
 
 use crate::character_data::replacing_data;

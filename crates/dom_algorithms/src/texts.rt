@@ -6,7 +6,7 @@ ghost use Rattle.dom_model.specs.Tree.{is_inclusive_ancestor};
 ghost use Rattle.dom_model.specs.TextChanges.{setting_text, replacing_children};
 ghost use Rattle.dom_model.specs.World.{part_of};
 ghost use Rattle.dom_model.specs.CommandRefusals.{past_limit, made_by_text};
-ghost use Rattle.dom_isolation.specs.Bounds.{HasBounds};
+ghost use Rattle.dom_worlds.specs.Bounds.{HasBounds};
 ghost use Rattle.dom_parts.specs.Doc.{made, name_in, owner_in, trees_in, planned, texts_made, children_texts, putting_text};
 
 use crate::character_data::set_data;

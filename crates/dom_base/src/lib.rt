@@ -120,6 +120,17 @@ impl<T: Drop> From<AllocFailed<T>> for Fault {
     }
 }
 
+impl From<Refusal> for Fault {
+    ghost use Rattle.std.specs.Prelude.{◌≡◌};
+    ghost use Rattle.dom_base.specs.declared.Fault.TheVariants.{Refused};
+
+    ghost from_gives = { λ refusal f. f ≡ Refused refusal };
+
+    fn from(refusal: Refusal) -> Fault {
+        Fault::Refused(refusal)
+    }
+}
+
 /// The longest line in bytes, without its end.
 pub const MAX_LINE: usize = 65_536;
 

@@ -13,10 +13,10 @@ use Rattle.dom_model.specs.Paths.{views}
 use Rattle.dom_model.specs.Turns.{opening_turn, notified, without_signals}
 use Rattle.dom_model.specs.World.{World, part_of, with_part}
 use Rattle.dom_model.proofs.PartLaws.{owner-part_of}
-use Rattle.dom_isolation.specs.Bounds.{HasBounds, IsBounded}
-use Rattle.dom_isolation.specs.Tables.{IsNodeIn}
-use Rattle.dom_isolation.proofs.TableWorlds.{each-part}
-use Rattle.dom_isolation.proofs.Tests.{either_way}
+use Rattle.dom_worlds.specs.Bounds.{HasBounds, IsBounded}
+use Rattle.dom_worlds.specs.Tables.{IsNodeIn}
+use Rattle.dom_worlds.proofs.TableWorlds.{each-part}
+use Rattle.dom_worlds.proofs.Tests.{either_way}
 use Rattle.dom_commands.specs.Heard.{hearing, heard}
 use Rattle.dom_range_commands.specs.RangeWorlds.{HasFirstNodes}
 use Rattle.dom_commands.proofs.Heard.{FitsIn, there-heard, part-heard}

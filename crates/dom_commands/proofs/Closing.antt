@@ -14,11 +14,11 @@ use Rattle.dom_model.specs.Runs.{Run, run_each}
 use Rattle.dom_model.specs.Turns.{ending_turn, running_task, notifying, notified, notified_lines, is_owned_by, without_signals, slotchange, firing_slotchange}
 use Rattle.dom_model.specs.World.{World, Task, part_of, with_part, is_there}
 use Rattle.dom_model.specs.Dispatch.{dispatch_in}
-use Rattle.dom_isolation.specs.Bounds.{IsBounded}
-use Rattle.dom_isolation.specs.Worlds.{IsThere, task_owner}
-use Rattle.dom_isolation.proofs.Lists.{all-then}
-use Rattle.dom_isolation.proofs.OwnerDispatches.{stays-running}
-use Rattle.dom_isolation.proofs.TaskWorlds.{Stands, at_end-stands, told-stands, dispatch-stands}
+use Rattle.dom_worlds.specs.Bounds.{IsBounded}
+use Rattle.dom_worlds.specs.Worlds.{IsThere, task_owner}
+use Rattle.dom_worlds.proofs.Lists.{all-then}
+use Rattle.dom_worlds.proofs.OwnerDispatches.{stays-running}
+use Rattle.dom_worlds.proofs.TaskWorlds.{Stands, at_end-stands, told-stands, dispatch-stands}
 use Rattle.dom_text.specs.Text.{output_text}
 use Rattle.dom_tree.specs.Forest.{name_at}
 use Rattle.dom_mutation.specs.Doc.{DocState}

@@ -21,9 +21,9 @@ use Rattle.dom_model.specs.Runs.{Run}
 use Rattle.dom_model.specs.Turns.{opening_turn, is_page_turn}
 use Rattle.dom_model.specs.World.{World, part_of, is_there}
 use Rattle.dom_model.proofs.PartLaws.{owner-part_of}
-use Rattle.dom_isolation.specs.Laws.{IsReached}
-use Rattle.dom_isolation.specs.Tables.{IsWhole}
-use Rattle.dom_isolation.proofs.Tests.{which_way, either_way}
+use Rattle.dom_worlds.specs.Reached.{IsReached}
+use Rattle.dom_worlds.specs.Tables.{IsWhole}
+use Rattle.dom_worlds.proofs.Tests.{which_way, either_way}
 use Rattle.dom_text.specs.Text.{output_text}
 use Rattle.dom_tree.specs.Forest.{name_at}
 use Rattle.dom_dispatch.specs.Named.{TellApart, IsListenerAt}

@@ -12,8 +12,8 @@ use Rattle.dom_model.specs.Dispatch.{visit_of, visits_of, is_at_target, event_ou
 use Rattle.dom_model.specs.Listeners.{Listener, Visit, Dispatching, after_action, may_cancel, line_of, kept_after, called, hears, visited, begun}
 use Rattle.dom_model.specs.Output.{Output}
 use Rattle.dom_model.specs.Paths.{View}
-use Rattle.dom_isolation.proofs.Lists.{all-append, all-filter, all-map, all-reverse, all-then}
-use Rattle.dom_isolation.proofs.Tests.{either_way}
+use Rattle.dom_worlds.proofs.Lists.{all-append, all-filter, all-map, all-reverse, all-then}
+use Rattle.dom_worlds.proofs.Tests.{either_way}
 use Rattle.dom_path.specs.Items.{ShowsNodes}
 use Rattle.dom_dispatch.specs.declared.event.LogLine.{LogLine}
 use Rattle.dom_dispatch.specs.Dispatches.{line_in}

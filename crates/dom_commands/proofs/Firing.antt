@@ -8,9 +8,9 @@ use Rattle.dom_model.specs.Command.{EventWords}
 use Rattle.dom_model.specs.Dispatch.{dispatch_in, visits_of}
 use Rattle.dom_model.specs.Listeners.{Listener, begun}
 use Rattle.dom_model.specs.World.{World, shadow_root_of}
-use Rattle.dom_isolation.specs.Laws.{IsReached}
-use Rattle.dom_isolation.specs.Tables.{IsWhole}
-use Rattle.dom_isolation.proofs.Alike.{host_of-same}
+use Rattle.dom_worlds.specs.Reached.{IsReached}
+use Rattle.dom_worlds.specs.Tables.{IsWhole}
+use Rattle.dom_worlds.proofs.Alike.{host_of-same}
 use Rattle.dom_tree.specs.Forest.{NamedTrees, name_at}
 use Rattle.dom_slots.specs.Hosts.{ShadowHost}
 use Rattle.dom_slots.specs.Shadows.{ShadowTrees, shadows, IsShownBy}

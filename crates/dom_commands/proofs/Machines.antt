@@ -17,15 +17,15 @@ use Rattle.dom_model.specs.Turns.{opening_turn}
 use Rattle.dom_model.specs.Part.{Part}
 use Rattle.dom_model.specs.World.{World, part_of, is_there, component_made, MayAttach}
 use Rattle.dom_model.proofs.OwnerLaws.{component_made-no_page}
-use Rattle.dom_isolation.specs.Bounds.{IsBounded}
-use Rattle.dom_isolation.specs.Laws.{IsReached}
-use Rattle.dom_isolation.specs.Tables.{IsWhole}
-use Rattle.dom_isolation.proofs.Acceptance.{accepted-facts, attach-may}
-use Rattle.dom_isolation.proofs.BoundWorlds.{first-is_bounded, step-keeps_bounds}
-use Rattle.dom_isolation.proofs.Makers.{host_of-made}
-use Rattle.dom_isolation.proofs.Reached.{first-is_reached, step-keeps_reached}
-use Rattle.dom_isolation.proofs.ReachedFacts.{attached-are_there}
-use Rattle.dom_isolation.proofs.TableLines.{first-is_whole, step-keeps_whole}
+use Rattle.dom_worlds.specs.Bounds.{IsBounded}
+use Rattle.dom_worlds.specs.Reached.{IsReached}
+use Rattle.dom_worlds.specs.Tables.{IsWhole}
+use Rattle.dom_worlds.proofs.Acceptance.{accepted-facts, attach-may}
+use Rattle.dom_worlds.proofs.BoundWorlds.{first-is_bounded, step-keeps_bounds}
+use Rattle.dom_worlds.proofs.Makers.{host_of-made}
+use Rattle.dom_worlds.proofs.Reached.{first-is_reached, step-keeps_reached}
+use Rattle.dom_worlds.proofs.ReachedFacts.{attached-are_there}
+use Rattle.dom_worlds.proofs.TableLines.{first-is_whole, step-keeps_whole}
 use Rattle.dom_mutation.specs.Doc.{DocState}
 use Rattle.dom_dispatch.specs.Named.{IsListenerAt}
 use Rattle.dom_admission.specs.Handled.{IsHandled}

@@ -13,9 +13,9 @@ use Rattle.dom_model.specs.Output.{says, replied, a_truth}
 use Rattle.dom_model.specs.Turns.{opening_turn}
 use Rattle.dom_model.specs.World.{World, part_of, is_there}
 use Rattle.dom_model.proofs.PartLaws.{owner-part_of}
-use Rattle.dom_isolation.specs.Bounds.{IsBounded}
-use Rattle.dom_isolation.specs.Laws.{IsReached}
-use Rattle.dom_isolation.specs.Tables.{IsWhole}
+use Rattle.dom_worlds.specs.Bounds.{IsBounded}
+use Rattle.dom_worlds.specs.Reached.{IsReached}
+use Rattle.dom_worlds.specs.Tables.{IsWhole}
 use Rattle.dom_text.specs.Text.{output_text}
 use Rattle.dom_mutation.specs.Doc.{DocState}
 use Rattle.dom_reader.specs.declared.line.Spelled as line

@@ -10,13 +10,13 @@ use Rattle.dom_model.specs.Tree.{Trees, kind_of, is_shadow, parent_of}
 use Rattle.dom_model.specs.World.{World, part_of, kind_at}
 use Rattle.dom_model.proofs.PartLaws.{owner-part_of}
 use Rattle.dom_model.proofs.StepLaws.{Component-IsNoPage}
-use Rattle.dom_isolation.specs.Laws.{IsReached}
-use Rattle.dom_isolation.specs.Worlds.{times_in, MayBeShadow}
-use Rattle.dom_isolation.proofs.FollowPaths.{shadow-kind}
-use Rattle.dom_isolation.proofs.InsideAncestors.{child-there}
-use Rattle.dom_isolation.proofs.Owners.{node-there, there-hosted}
-use Rattle.dom_isolation.proofs.ReachedFacts.{no_other_shadow_roots, shadow_roots-are_roots}
-use Rattle.dom_isolation.specs.Tables.{EndsIn}
+use Rattle.dom_worlds.specs.Reached.{IsReached}
+use Rattle.dom_worlds.specs.Worlds.{times_in, MayBeShadow}
+use Rattle.dom_worlds.proofs.FollowPaths.{shadow-kind}
+use Rattle.dom_worlds.proofs.InsideAncestors.{child-there}
+use Rattle.dom_worlds.proofs.Owners.{node-there, there-hosted}
+use Rattle.dom_worlds.proofs.ReachedFacts.{no_other_shadow_roots, shadow_roots-are_roots}
+use Rattle.dom_worlds.specs.Tables.{EndsIn}
 use Rattle.dom_range_ops.specs.Extractions.{ShadowRootsHaveNoParent}
 use Rattle.dom_commands.specs.Heard.{heard}
 use Rattle.dom_range_commands.specs.RangeWorlds.{HasLoneShadowRoots, HasRangeEnds}

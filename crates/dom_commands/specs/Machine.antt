@@ -9,10 +9,10 @@ use Rattle.dom_model.specs.Dispatch.{event_output}
 use Rattle.dom_model.specs.Listeners.{Listener}
 use Rattle.dom_model.specs.Output.{Output, EventLine}
 use Rattle.dom_model.specs.World.{World, Task}
-use Rattle.dom_isolation.specs.Bounds.{IsBounded}
-use Rattle.dom_isolation.specs.Laws.{IsReached}
-use Rattle.dom_isolation.specs.Tables.{IsWhole}
-use Rattle.dom_isolation.specs.Worlds.{IsThere, task_owner}
+use Rattle.dom_worlds.specs.Bounds.{IsBounded}
+use Rattle.dom_worlds.specs.Reached.{IsReached}
+use Rattle.dom_worlds.specs.Tables.{IsWhole}
+use Rattle.dom_worlds.specs.Worlds.{IsThere, task_owner}
 use Rattle.dom_mutation.specs.Doc.{DocState}
 use Rattle.dom_dispatch.specs.declared.event.LogLine.{LogLine}
 use Rattle.dom_dispatch.specs.Dispatches.{line_in}

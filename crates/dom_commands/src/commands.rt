@@ -1,6 +1,6 @@
 //! Which handler does a command.
 ghost use Rattle.std.specs.Prelude.{◌≡◌, ◌||◌, true};
-ghost use Rattle.dom_isolation.specs.Bounds.{IsBounded};
+ghost use Rattle.dom_worlds.specs.Bounds.{IsBounded};
 ghost use Rattle.dom_reader.specs.Views.{command_view};
 ghost use Rattle.dom_admission.specs.Handled.{IsHandled, KeepsNames};
 ghost use Rattle.dom_range_commands.specs.RangeCommands.{is_range};

@@ -2,7 +2,7 @@
 ghost use Rattle.std.specs.Prelude.{◌≡◌, ◌<◌, ◌++◌, All, map, length, OnOk};
 ghost use Rattle.dom_model.specs.Runs.{run_each};
 ghost use Rattle.dom_model.specs.Turns.{notifying, firing_slotchange, running_task};
-ghost use Rattle.dom_isolation.specs.Worlds.{IsThere, task_owner};
+ghost use Rattle.dom_worlds.specs.Worlds.{IsThere, task_owner};
 ghost use Rattle.dom_text.specs.Text.{output_text};
 ghost use Rattle.dom_tree.specs.Forest.{name_at};
 ghost use Rattle.dom_microtasks.specs.Tasks.{task_of};

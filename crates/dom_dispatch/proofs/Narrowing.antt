@@ -8,7 +8,7 @@ use Rattle.dom_base.specs.declared.Action.TheVariants.{Log, Stop, StopNow, Cance
 use Rattle.dom_model.specs.Command.{EventWords}
 use Rattle.dom_model.specs.Listeners.{Listener, Visit, Dispatching, after_action, may_cancel, line_of, is_listener, unlistened, kept_after, called}
 use Rattle.dom_model.specs.Listeners.{hears, visited}
-use Rattle.dom_isolation.proofs.Tests.{by_cases}
+use Rattle.dom_worlds.proofs.Tests.{by_cases}
 
 module _ {X : Type 0} where
   -- two tests in either order

@@ -23,9 +23,9 @@ use Rattle.dom_text.specs.Words.{owner_word}
 use Rattle.dom_text.proofs.DecodeLaws.{decode_says}
 use Rattle.dom_text.proofs.TextLaws.{HasWord, IsOwner-owner_word, IsNumber-decimal, lines_from-outputs}
 use Rattle.dom_isolation.specs.Words.{ReadsPlainWords}
-use Rattle.dom_isolation.proofs.Lists.{all-from, all-map, filter_same}
+use Rattle.dom_worlds.proofs.Lists.{all-from, all-map, filter_same}
 use Rattle.dom_isolation.proofs.PlainTexts.{output-has_its_lines}
-use Rattle.dom_isolation.proofs.Tests.{by_cases}
+use Rattle.dom_worlds.proofs.Tests.{by_cases}
 use Rattle.dom_families.specs.Texts.{IsWordOf, ReadsOwners, DecodeReadsOwners, OwnLinesHaveTheirPrefix, SameFamilyText, SameFamilyTextWhileTurnsStand}
 use Rattle.dom_families.proofs.GroupRuns.{same-family, same-family_while_turns_stand}
 use Rattle.dom_families.proofs.WordedRuns.{IsWordedInput, worded-outputs}

@@ -29,10 +29,10 @@ use Rattle.dom_model.specs.Turns.{ending_turn, opening_turn, has_other_turn, is_
 use Rattle.dom_model.specs.DocumentMachine.{refusal, effect_in, attaching, part_with_root, perform, accepted, run_command}
 use Rattle.dom_model.specs.Groups.{KeepsFamilies, group_world, group_outputs, group_run, is_task_of}
 use Rattle.dom_model.proofs.PartLaws.{owner-part_of}
-use Rattle.dom_isolation.specs.Laws.{IsQuiet}
-use Rattle.dom_isolation.proofs.PageCommands.{owner-named}
-use Rattle.dom_isolation.proofs.TableEffects.{KeepsBase, base-effect}
-use Rattle.dom_isolation.proofs.Tests.{by_cases}
+use Rattle.dom_worlds.specs.Reached.{IsQuiet}
+use Rattle.dom_worlds.proofs.Owners.{owner-named}
+use Rattle.dom_worlds.proofs.TableEffects.{KeepsBase, base-effect}
+use Rattle.dom_worlds.proofs.Tests.{by_cases}
 use Rattle.dom_families.proofs.GroupParts.{in_node, part-in, there-in, with_part-in, with_part-out, filter-here}
 use Rattle.dom_families.proofs.GroupSlots.{IsGround, ground-of, assigned-in}
 use Rattle.dom_families.proofs.GroupSteps.{steps-in}

@@ -18,10 +18,10 @@ use Rattle.dom_model.specs.Dispatch.{Dispatched, dispatch_in}
 use Rattle.dom_model.specs.Groups.{KeepsFamilies, group_world, group_outputs, group_run, outward_words, outward_in}
 use Rattle.dom_model.specs.Trace.{OutwardEvent, is_page, is_of, owner_of_output, outermost_host, outward_of}
 use Rattle.dom_model.proofs.OwnerLaws.{owner_eq-true, owner_eq-false}
-use Rattle.dom_isolation.specs.Laws.{IsQuiet}
-use Rattle.dom_isolation.proofs.Chains.{below-host, hosts-alone, no_host}
+use Rattle.dom_worlds.specs.Reached.{IsQuiet}
+use Rattle.dom_worlds.proofs.Chains.{below-host, hosts-alone, no_host}
 use Rattle.dom_isolation.proofs.ComponentEvents.{outward_at, HasSameRoot, above-sibling}
-use Rattle.dom_isolation.proofs.Tests.{by_cases}
+use Rattle.dom_worlds.proofs.Tests.{by_cases}
 use Rattle.dom_families.proofs.GroupParts.{in_node}
 use Rattle.dom_families.proofs.GroupVisits.{in_view, group_dispatched, same_dispatch, no_dispatch}
 use Rattle.dom_families.proofs.GroupViews.{views-in}

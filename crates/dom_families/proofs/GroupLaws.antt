@@ -10,7 +10,7 @@ use Rattle.dom_model.specs.Paths.{views}
 use Rattle.dom_model.specs.Trace.{is_page, outermost_host}
 use Rattle.dom_model.specs.World.{World, host_chain, is_in_shadow_tree}
 use Rattle.dom_model.proofs.OwnerLaws.{owner_eq-true}
-use Rattle.dom_isolation.proofs.Tests.{by_cases}
+use Rattle.dom_worlds.proofs.Tests.{by_cases}
 use Rattle.dom_families.specs.Laws.{AssignedAgree, SignalsAgree, StepAgrees, ViewsAgree, OutwardViewsAgree, DispatchAgrees, OtherDispatchAgrees, EndingAgrees}
 use Rattle.dom_families.specs.Laws.{LineAgrees, OtherLineAgrees, FinishAgrees}
 use Rattle.dom_families.proofs.GroupBegins.{ending_any-in}

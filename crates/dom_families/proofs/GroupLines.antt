@@ -18,17 +18,17 @@ use Rattle.dom_model.specs.Turns.{ending_turn, has_other_turn, ending_other_turn
 use Rattle.dom_model.specs.DocumentMachine.{refusal, effect_in, perform, accepted, run_command, step}
 use Rattle.dom_model.specs.Groups.{KeepsFamilies, group_world, group_turn, group_outputs, group_run, is_task_of, outward_words, ends_group_turn}
 use Rattle.dom_model.specs.Trace.{OutwardEvent, is_page, is_log, is_of, owner_of_line, owner_of_output, outward_event, outward_command, may_stop, line_may_stop}
-use Rattle.dom_isolation.specs.Laws.{IsQuiet, IsReached}
-use Rattle.dom_isolation.specs.Tables.{IsWhole}
-use Rattle.dom_isolation.proofs.Acceptance.{accepted-facts}
-use Rattle.dom_isolation.proofs.LineBegins.{quiet-ending_other}
-use Rattle.dom_isolation.proofs.Reached.{sound, ending-keeps_reached}
-use Rattle.dom_isolation.proofs.TableCommands.{Holds}
-use Rattle.dom_isolation.proofs.TableLines.{ending-keeps_whole}
-use Rattle.dom_isolation.proofs.TableRegisters.{holds-effect}
-use Rattle.dom_isolation.proofs.Tests.{by_cases}
-use Rattle.dom_isolation.proofs.TurnEndings.{turn-dispatch}
-use Rattle.dom_isolation.proofs.WorldSteps.{turn-world_after}
+use Rattle.dom_worlds.specs.Reached.{IsQuiet, IsReached}
+use Rattle.dom_worlds.specs.Tables.{IsWhole}
+use Rattle.dom_worlds.proofs.Acceptance.{accepted-facts}
+use Rattle.dom_worlds.proofs.LineBegins.{quiet-ending_other}
+use Rattle.dom_worlds.proofs.Reached.{sound, ending-keeps_reached}
+use Rattle.dom_worlds.proofs.TableCommands.{Holds}
+use Rattle.dom_worlds.proofs.TableLines.{ending-keeps_whole}
+use Rattle.dom_worlds.proofs.TableRegisters.{holds-effect}
+use Rattle.dom_worlds.proofs.Tests.{by_cases}
+use Rattle.dom_worlds.proofs.TurnEndings.{turn-dispatch}
+use Rattle.dom_worlds.proofs.WorldSteps.{turn-world_after}
 use Rattle.dom_families.specs.Laws.{IsCalm}
 use Rattle.dom_families.proofs.GroupParts.{filter-away}
 use Rattle.dom_families.proofs.GroupDispatches.{outward_run, runs-then, quiet-then, outward-in}

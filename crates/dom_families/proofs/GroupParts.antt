@@ -9,8 +9,8 @@ use Rattle.dom_model.specs.Part.{Part, empty_part}
 use Rattle.dom_model.specs.World.{World, Task, find_part, put_part, part_of, with_part, is_there}
 use Rattle.dom_model.specs.Groups.{group_world, group_turn, is_task_of}
 use Rattle.dom_model.proofs.OwnerLaws.{owner_eq-true}
-use Rattle.dom_isolation.proofs.Lists.{all-passed, filter_all}
-use Rattle.dom_isolation.proofs.Tests.{by_cases}
+use Rattle.dom_worlds.proofs.Lists.{all-passed, filter_all}
+use Rattle.dom_worlds.proofs.Tests.{by_cases}
 
 -- a world by its fields
 abbrev world_with : List Part → List NodeName → List Task → Option Owner → World

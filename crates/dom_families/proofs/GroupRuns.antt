@@ -17,15 +17,15 @@ use Rattle.dom_model.specs.Trace.{items_of, trace_from, no_component_stops, no_c
 use Rattle.dom_model.specs.Isolation.{output_of, turns_are_closed_from, group_turns_stand}
 use Rattle.dom_model.specs.Isolation.{group_turns_stand_from, silent_output, GroupSeesItsTrace, SameGroup, SameFamily, SameFamilyWhileTurnsStand}
 use Rattle.dom_model.proofs.OwnerLaws.{owner_eq-true}
-use Rattle.dom_isolation.specs.Laws.{IsQuiet, IsReached}
-use Rattle.dom_isolation.specs.Tables.{IsWhole}
-use Rattle.dom_isolation.proofs.FirstWorld.{quiet-first}
+use Rattle.dom_worlds.specs.Reached.{IsQuiet, IsReached}
+use Rattle.dom_worlds.specs.Tables.{IsWhole}
+use Rattle.dom_worlds.proofs.FirstWorld.{quiet-first}
 use Rattle.dom_isolation.proofs.PageRuns.{run_each-append}
-use Rattle.dom_isolation.proofs.Reached.{sound, first-is_reached, step-keeps_reached}
-use Rattle.dom_isolation.proofs.StepKeeps.{quiet-step}
-use Rattle.dom_isolation.proofs.TableLines.{first-is_whole, step-keeps_whole}
-use Rattle.dom_isolation.proofs.Tests.{by_cases, or-second}
-use Rattle.dom_isolation.proofs.TurnEndings.{quiet-dispatch}
+use Rattle.dom_worlds.proofs.Reached.{sound, first-is_reached, step-keeps_reached}
+use Rattle.dom_worlds.proofs.StepKeeps.{quiet-step}
+use Rattle.dom_worlds.proofs.TableLines.{first-is_whole, step-keeps_whole}
+use Rattle.dom_worlds.proofs.Tests.{by_cases, or-second}
+use Rattle.dom_worlds.proofs.TurnEndings.{quiet-dispatch}
 use Rattle.dom_families.specs.Laws.{IsCalm}
 use Rattle.dom_families.proofs.Families.{family-is_group}
 use Rattle.dom_families.proofs.GroupDispatches.{outward_run, runs-then, outward-in}

@@ -14,10 +14,11 @@ use Rattle.dom_model.specs.Groups.{KeepsFamilies, group_world, group_turn, group
 use Rattle.dom_model.specs.Trace.{is_of, owner_of_output}
 use Rattle.dom_model.proofs.OwnerLaws.{owner_eq-true}
 use Rattle.dom_model.proofs.PartLaws.{owner-part_of}
-use Rattle.dom_isolation.specs.Laws.{IsQuiet}
-use Rattle.dom_isolation.proofs.Lists.{all-then, all-passed, filter_all, filter_none, filter-filter}
-use Rattle.dom_isolation.proofs.Tests.{by_cases}
-use Rattle.dom_isolation.proofs.TurnEndings.{told_in, quiet-told, quiet-dispatch, quiet-running, quiet-at_end, IsLineOf, lines-notified}
+use Rattle.dom_worlds.specs.Reached.{IsQuiet}
+use Rattle.dom_worlds.proofs.Lists.{all-then, all-passed, filter_all, filter_none, filter-filter}
+use Rattle.dom_worlds.proofs.Tests.{by_cases}
+use Rattle.dom_worlds.proofs.TurnEndings.{told_in, quiet-told, quiet-dispatch, quiet-running, quiet-at_end}
+use Rattle.dom_isolation.proofs.PageTurns.{IsLineOf, lines-notified}
 use Rattle.dom_families.specs.Laws.{IsCalm}
 use Rattle.dom_families.proofs.GroupParts.{in_node, part-in, with_part-in, with_part-out, filter-here, filter-away}
 use Rattle.dom_families.proofs.GroupVisits.{no_dispatch}

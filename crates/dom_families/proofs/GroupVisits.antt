@@ -20,10 +20,10 @@ use Rattle.dom_model.specs.Dispatch.{Dispatched, world_visit, visits_of, visit_o
 use Rattle.dom_model.specs.Groups.{KeepsFamilies, group_world, group_outputs, group_run}
 use Rattle.dom_model.specs.Trace.{is_of, owner_of_output}
 use Rattle.dom_model.proofs.PartLaws.{owner-part_of}
-use Rattle.dom_isolation.specs.Worlds.{OnlyLogs, ComponentsOnlyLog}
-use Rattle.dom_isolation.proofs.Lists.{all-filter, filter-filter, filter-map, filter-reverse}
-use Rattle.dom_isolation.proofs.Tests.{by_cases}
-use Rattle.dom_isolation.proofs.Visits.{Going, InWorld, logs-visit, with_listeners}
+use Rattle.dom_worlds.specs.Worlds.{OnlyLogs, ComponentsOnlyLog}
+use Rattle.dom_worlds.proofs.Lists.{all-filter, filter-filter, filter-map, filter-reverse}
+use Rattle.dom_worlds.proofs.Tests.{by_cases}
+use Rattle.dom_worlds.proofs.Visits.{Going, InWorld, logs-visit, with_listeners}
 use Rattle.dom_families.proofs.GroupParts.{part-in, with_part-in, with_part-out, group-twice, filter-here, filter-away, filter-twice}
 use Rattle.dom_families.proofs.GroupSlots.{outside-no_page}
 

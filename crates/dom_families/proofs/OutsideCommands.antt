@@ -28,15 +28,15 @@ use Rattle.dom_model.specs.Trace.{OutwardEvent, is_page, is_of, owner_of_output,
 use Rattle.dom_model.proofs.OwnerLaws.{owner_eq-true}
 use Rattle.dom_model.proofs.PartLaws.{owner-part_of}
 use Rattle.dom_model.proofs.StepLaws.{Component-IsNoPage}
-use Rattle.dom_isolation.specs.Laws.{IsQuiet}
-use Rattle.dom_isolation.proofs.Acceptance.{accepted-facts, attach-may}
+use Rattle.dom_worlds.specs.Reached.{IsQuiet}
+use Rattle.dom_worlds.proofs.Acceptance.{accepted-facts, attach-may}
 use Rattle.dom_isolation.proofs.ComponentCommands.{related-near, opened-event}
 use Rattle.dom_isolation.proofs.ComponentEvents.{outward_at, HasSameRoot}
-use Rattle.dom_isolation.proofs.LineBegins.{part_of-opening}
-use Rattle.dom_isolation.proofs.PageCommands.{owner-named}
-use Rattle.dom_isolation.proofs.TableCommands.{Holds}
-use Rattle.dom_isolation.proofs.TableEffects.{KeepsBase, base-effect}
-use Rattle.dom_isolation.proofs.Tests.{by_cases}
+use Rattle.dom_worlds.proofs.LineBegins.{part_of-opening}
+use Rattle.dom_worlds.proofs.Owners.{owner-named}
+use Rattle.dom_worlds.proofs.TableCommands.{Holds}
+use Rattle.dom_worlds.proofs.TableEffects.{KeepsBase, base-effect}
+use Rattle.dom_worlds.proofs.Tests.{by_cases}
 use Rattle.dom_families.specs.Laws.{IsCalm}
 use Rattle.dom_families.proofs.GroupParts.{with_part-out, filter-away}
 use Rattle.dom_families.proofs.GroupSlots.{IsGround, ground-of}

@@ -15,15 +15,17 @@ use Rattle.dom_model.specs.Paths.{views}
 use Rattle.dom_model.specs.Groups.{KeepsFamilies}
 use Rattle.dom_model.specs.Trace.{is_page, outermost_host}
 use Rattle.dom_model.proofs.OwnerLaws.{owner_eq-true, owner_eq-false, made_by-is}
-use Rattle.dom_isolation.specs.Worlds.{IsWorld, times_in}
-use Rattle.dom_isolation.proofs.Chains.{IsBelow, below-host, hosts-alone, chain-below, chain-first, absent-host, above-host}
+use Rattle.dom_worlds.specs.Worlds.{IsWorld, times_in}
+use Rattle.dom_worlds.proofs.Chains.{IsBelow, below-host, hosts-alone, chain-below, chain-first, absent-host, above-host}
 use Rattle.dom_isolation.proofs.ComponentPaths.{cut_at, ends-at_host}
-use Rattle.dom_isolation.proofs.Hiding.{IsInTree, host_chain-page, page-not_hidden, ancestors-in_tree}
-use Rattle.dom_isolation.proofs.Lists.{all-append, all-then, all-from, all-passed, all-flat_map, all-take_while, all-before, filter-map, filter_none, map_same}
-use Rattle.dom_isolation.proofs.Makers.{hosted, hosted-owned, hosted-maker}
-use Rattle.dom_isolation.proofs.PagePaths.{IsInSome, slot_way, slots-behind, slots-first, slot_way-in_some, uncut}
-use Rattle.dom_isolation.proofs.Tests.{by_cases, either_way}
-use Rattle.dom_isolation.proofs.Trees.{by_times, ancestors-absent, ancestors-present}
+use Rattle.dom_worlds.proofs.ShadowTrees.{IsInTree, ancestors-in_tree}
+use Rattle.dom_isolation.proofs.Hiding.{host_chain-page, page-not_hidden}
+use Rattle.dom_worlds.proofs.Lists.{all-append, all-then, all-from, all-passed, all-flat_map, all-take_while, all-before, filter-map, filter_none, map_same}
+use Rattle.dom_worlds.proofs.Makers.{hosted, hosted-owned, hosted-maker}
+use Rattle.dom_isolation.proofs.PagePaths.{IsInSome, slot_way-in_some, uncut}
+use Rattle.dom_worlds.proofs.ShadowTrees.{slot_way, slots-behind, slots-first}
+use Rattle.dom_worlds.proofs.Tests.{by_cases, either_way}
+use Rattle.dom_worlds.proofs.Trees.{by_times, ancestors-absent, ancestors-present}
 use Rattle.std.proofs.lemmas.List.Elements.{filter-append}
 use Rattle.dom_families.proofs.GroupParts.{in_node}
 use Rattle.dom_families.proofs.GroupVisits.{in_view}

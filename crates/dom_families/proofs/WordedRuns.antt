@@ -36,11 +36,11 @@ use Rattle.dom_model.specs.Trace.{owner_of_line}
 use Rattle.dom_model.proofs.PartLaws.{owner-part_of}
 use Rattle.dom_model.proofs.StepLaws.{owner-part_step}
 use Rattle.dom_text.proofs.TextLaws.{HasWord, HasOwner}
-use Rattle.dom_isolation.proofs.Lists.{all-append, all-from, all-then, all-map}
-use Rattle.dom_isolation.proofs.TableEffects.{KeepsBase, base-effect}
-use Rattle.dom_isolation.proofs.Tests.{either_way}
-use Rattle.dom_isolation.proofs.TurnEndings.{IsLineOf, lines-notified}
-use Rattle.dom_isolation.proofs.WorldParts.{HoldsIn, IsKeptIn, holds-with_part, holds-world_after}
+use Rattle.dom_worlds.proofs.Lists.{all-append, all-from, all-then, all-map}
+use Rattle.dom_worlds.proofs.TableEffects.{KeepsBase, base-effect}
+use Rattle.dom_worlds.proofs.Tests.{either_way}
+use Rattle.dom_isolation.proofs.PageTurns.{IsLineOf, lines-notified}
+use Rattle.dom_worlds.proofs.WorldParts.{HoldsIn, IsKeptIn, holds-with_part, holds-world_after}
 
 -- a part that says nothing of its own: no listeners, registrations and pending observers
 abbrev IsSilent : Part → Type 0

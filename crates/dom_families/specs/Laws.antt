@@ -17,9 +17,9 @@ use Rattle.dom_model.specs.Trace.{is_of, owner_of_line, outermost_host, outward_
 use Rattle.dom_model.specs.Turns.{ending_turn}
 use Rattle.dom_model.specs.World.{World, part_of}
 use Rattle.dom_model.specs.WorldSteps.{world_step}
-use Rattle.dom_isolation.specs.Laws.{IsQuiet, IsReached}
-use Rattle.dom_isolation.specs.Tables.{IsWhole}
-use Rattle.dom_isolation.specs.Worlds.{IsWorld}
+use Rattle.dom_worlds.specs.Reached.{IsQuiet, IsReached}
+use Rattle.dom_worlds.specs.Tables.{IsWhole}
+use Rattle.dom_worlds.specs.Worlds.{IsWorld}
 
 -- a node of the group
 abbrev pub IsIn : (Owner → Bool) → NodeName → Type 0

@@ -28,17 +28,19 @@ use Rattle.dom_model.specs.PageMachine.{PageState, page_of, is_page_task}
 use Rattle.dom_model.proofs.OwnerLaws.{component_made-no_page}
 use Rattle.dom_model.proofs.PartLaws.{part_of-with_part-other, owner-part_of}
 use Rattle.dom_model.proofs.StepLaws.{Component-IsNoPage}
-use Rattle.dom_isolation.specs.Laws.{ComponentDispatchAgrees, page_run, IsQuiet}
-use Rattle.dom_isolation.proofs.Tests.{by_cases}
+use Rattle.dom_isolation.specs.Laws.{ComponentDispatchAgrees, page_run}
+use Rattle.dom_worlds.specs.Reached.{IsQuiet}
+use Rattle.dom_worlds.proofs.Tests.{by_cases}
 use Rattle.dom_isolation.proofs.Squares.{run_then-square, same_page_of, outputs_for_page-other}
 use Rattle.dom_isolation.proofs.PageSteps.{page_of-world_after-other}
-use Rattle.dom_isolation.proofs.Acceptance.{next-test, part-accepted, accepted-facts}
-use Rattle.dom_isolation.proofs.Trees.{name_eq-true}
+use Rattle.dom_worlds.proofs.Acceptance.{next-test, part-accepted, accepted-facts}
+use Rattle.dom_worlds.proofs.Trees.{name_eq-true}
 use Rattle.dom_isolation.proofs.ComponentEvents.{outward_run, outward_at, run_then-quiet_end, HasSameRoot, dispatch-component}
-use Rattle.dom_isolation.proofs.TurnEndings.{quiet_then}
-use Rattle.dom_isolation.proofs.LineBegins.{ending-component, part_of-opening, opening-component, quiet-opening}
-use Rattle.dom_isolation.proofs.TableEffects.{KeepsBase, base-effect}
-use Rattle.dom_isolation.proofs.PageCommands.{owner-named}
+use Rattle.dom_isolation.proofs.PageTurns.{quiet_then}
+use Rattle.dom_isolation.proofs.PageTurns.{ending-component, opening-component}
+use Rattle.dom_worlds.proofs.LineBegins.{part_of-opening, quiet-opening}
+use Rattle.dom_worlds.proofs.TableEffects.{KeepsBase, base-effect}
+use Rattle.dom_worlds.proofs.Owners.{owner-named}
 
 -- Effects in a component's part show nothing.
 effect-other : (w : World) (k : ComponentName) (e : Effect) → KeepsBase (part_of w (Component k)) e → page_run (effect_in w (Component k) e) ≡ quiet (page_of w)

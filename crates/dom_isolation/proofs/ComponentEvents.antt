@@ -17,12 +17,13 @@ use Rattle.dom_model.specs.Paths.{views, plain_views}
 use Rattle.dom_model.specs.Dispatch.{Dispatched, dispatch_in, visits_of}
 use Rattle.dom_model.specs.Trace.{is_page, outermost_host, outward_of, OutwardEvent}
 use Rattle.dom_model.specs.PageMachine.{PageState, page_of, page_dispatch, page_outward}
-use Rattle.dom_isolation.specs.Laws.{page_run, is_page_visit, IsQuiet, PageVisitsAgree, OutwardVisitsAgree}
-use Rattle.dom_isolation.specs.Worlds.{IsForeignTo}
-use Rattle.dom_isolation.proofs.Chains.{HasChain, has-chain, below-host, hosts-alone, no_host}
-use Rattle.dom_isolation.proofs.Hiding.{IsInTree}
-use Rattle.dom_isolation.proofs.Lists.{all-append, all-then}
-use Rattle.dom_isolation.proofs.Tests.{by_cases}
+use Rattle.dom_isolation.specs.Laws.{page_run, is_page_visit, PageVisitsAgree, OutwardVisitsAgree}
+use Rattle.dom_worlds.specs.Reached.{IsQuiet}
+use Rattle.dom_worlds.specs.Worlds.{IsForeignTo}
+use Rattle.dom_worlds.proofs.Chains.{HasChain, has-chain, below-host, hosts-alone, no_host}
+use Rattle.dom_worlds.proofs.ShadowTrees.{IsInTree}
+use Rattle.dom_worlds.proofs.Lists.{all-append, all-then}
+use Rattle.dom_worlds.proofs.Tests.{by_cases}
 use Rattle.dom_isolation.proofs.ComponentPaths.{Foreign, IsUnder, views-kept_in, views-far, views-outward, views-related}
 use Rattle.dom_isolation.proofs.Dispatches.{is_page_view, dispatch-page, dispatch-nothing, page_visits_of}
 

@@ -13,13 +13,15 @@ use Rattle.dom_model.specs.World.{World, part_of, trees_with, ancestors_at, host
 use Rattle.dom_model.specs.Paths.{is_hidden_from, retarget, retarget_related, is_node, with_slots, way_up, whole_path, ends_at, event_path, view_at}
 use Rattle.dom_model.specs.Paths.{views, plain_view, plain_views}
 use Rattle.dom_model.proofs.OwnerLaws.{ne-owner_eq, name_eq-same}
-use Rattle.dom_isolation.specs.Worlds.{IsWorld, IsOf, IsForeignTo, times_in}
-use Rattle.dom_isolation.proofs.Chains.{IsBelow, hosts-alone, chain-below, chain-first, absent-host, other-owner, hidden-itself, hidden-deeper}
-use Rattle.dom_isolation.proofs.Lists.{all-append, all-then, all-from, all-flat_map, all-take_while, all-before, filter-map, filter_none, filter_same, map_same}
-use Rattle.dom_isolation.proofs.Tests.{by_cases, either_way}
-use Rattle.dom_isolation.proofs.Trees.{by_times, ancestors-absent, ancestors-present}
-use Rattle.dom_isolation.proofs.Hiding.{IsInTree, ancestors-in_tree, ancestors-owned, page-not_hidden, in_tree-hidden}
-use Rattle.dom_isolation.proofs.PagePaths.{is_page_node, IsSeen, IsInSome, seen-in_some, in_some-foreign, slot_way, slots-behind, slots-first}
+use Rattle.dom_worlds.specs.Worlds.{IsWorld, IsOf, IsForeignTo, times_in}
+use Rattle.dom_worlds.proofs.Chains.{IsBelow, hosts-alone, chain-below, chain-first, absent-host, other-owner, hidden-itself, hidden-deeper}
+use Rattle.dom_worlds.proofs.Lists.{all-append, all-then, all-from, all-flat_map, all-take_while, all-before, filter-map, filter_none, filter_same, map_same}
+use Rattle.dom_worlds.proofs.Tests.{by_cases, either_way}
+use Rattle.dom_worlds.proofs.Trees.{by_times, ancestors-absent, ancestors-present}
+use Rattle.dom_worlds.proofs.ShadowTrees.{IsInTree, ancestors-in_tree, ancestors-owned}
+use Rattle.dom_isolation.proofs.Hiding.{page-not_hidden, in_tree-hidden}
+use Rattle.dom_isolation.proofs.PagePaths.{is_page_node, IsSeen, IsInSome, seen-in_some, in_some-foreign}
+use Rattle.dom_worlds.proofs.ShadowTrees.{slot_way, slots-behind, slots-first}
 use Rattle.dom_isolation.proofs.PagePaths.{slot_way-in_some, way-seen, way-pages, uncut, view_at-page}
 use Rattle.dom_isolation.proofs.Dispatches.{is_page_view}
 

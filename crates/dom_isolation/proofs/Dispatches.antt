@@ -17,11 +17,13 @@ use Rattle.dom_model.specs.Dispatch.{Dispatched, dispatched, dispatch_in, world_
 use Rattle.dom_model.specs.Trace.{is_page, outputs_for}
 use Rattle.dom_model.specs.PageMachine.{PageState, page_of, page_dispatch, is_page_task}
 use Rattle.dom_model.specs.Turns.{is_page_turn}
-use Rattle.dom_isolation.specs.Laws.{page_dispatched, page_run, is_page_line, is_page_visit, page_going}
-use Rattle.dom_isolation.specs.Worlds.{ComponentsOnlyLog}
-use Rattle.dom_isolation.proofs.Lists.{filter-map, filter-reverse, filter-filter}
-use Rattle.dom_isolation.proofs.Tests.{by_cases}
-use Rattle.dom_isolation.proofs.Visits.{Going, InWorld, page_going-visits, part_of-visits, rest-visits, with_listeners}
+use Rattle.dom_isolation.specs.Laws.{page_dispatched, page_run, is_page_visit, page_going}
+use Rattle.dom_isolation.specs.Laws.{is_page_line}
+use Rattle.dom_worlds.specs.Worlds.{ComponentsOnlyLog}
+use Rattle.dom_worlds.proofs.Lists.{filter-map, filter-reverse, filter-filter}
+use Rattle.dom_worlds.proofs.Tests.{by_cases}
+use Rattle.dom_worlds.proofs.Visits.{Going, InWorld, part_of-visits, rest-visits, with_listeners}
+use Rattle.dom_isolation.proofs.PageVisits.{page_going-visits}
 
 -- The visits at page nodes are those of the views at page nodes.
 abbrev pub is_page_view : View NodeName → Bool

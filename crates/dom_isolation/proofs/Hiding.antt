@@ -1,117 +1,16 @@
 -- What is hidden from a page node: in a world as the machine reaches it, just the nodes of shadow trees.
-use Rattle.std.proofs.Common.{◌≡◌, ◌≢◌, ◌≤◌, Bool, true, false, not, ◌&&◌, List, [], ◌∷◌, find, flat_map, option_map, Option, Some, None, unwrap_or}
-use Rattle.std.proofs.Common.{refl, sym, ap, ◌∙◌, arith, true≢false, subst, append-nil}
-use Rattle.std.specs.Prelude.{if◌then◌else◌, IsTrue, is_some, option_to_list}
+use Rattle.std.proofs.Common.{◌≡◌, true, false, not, ◌&&◌, [], ◌∷◌, find, flat_map, Option, Some, None, unwrap_or, refl, sym, ap, ◌∙◌, subst, append-nil}
+use Rattle.std.specs.Prelude.{if◌then◌else◌, option_to_list}
 use Rattle.std.specs.List.{AllByRecursion}
-use Rattle.std.specs.Option.{option_and_then}
-use Rattle.std.proofs.lemmas.Bool.{cond-true, cond-false}
 use Rattle.dom_base.specs.declared.Owner.{Owner}
 use Rattle.dom_base.specs.declared.Owner.TheVariants.{Page}
 use Rattle.dom_base.specs.declared.NodeName.{NodeName}
-use Rattle.dom_model.specs.Names.{DomString, name_eq, owner_depth, is_in}
-use Rattle.dom_model.specs.Tree.{Trees, Node, nodes, root_of}
-use Rattle.dom_model.specs.World.{World, part_of, node_at, trees_with, root_at, parent_at, ancestors_at, component_at, host_of, host_chain}
-use Rattle.dom_model.specs.World.{hosts_from, some_if, shadow_root_of, shadow_tree, shadow_including_ancestors, is_in_shadow_tree}
-use Rattle.dom_model.specs.Slots.{slot_of, slot_in, has_slot_name, slottable_name}
+use Rattle.dom_model.specs.Names.{name_eq, owner_depth, is_in}
+use Rattle.dom_model.specs.World.{World, root_at, ancestors_at, host_chain, hosts_from, shadow_including_ancestors}
 use Rattle.dom_model.specs.Paths.{is_hidden_from, retarget, retarget_related}
-use Rattle.dom_model.proofs.OwnerLaws.{ne-owner_eq, name_eq-same}
-use Rattle.dom_model.proofs.PartLaws.{owner-part_of}
-use Rattle.dom_isolation.specs.Worlds.{IsWorld, IsOf, HasMakers, times_in}
-use Rattle.dom_isolation.proofs.Lists.{all-then}
-use Rattle.dom_isolation.proofs.Makers.{component-host, hosted-is, hosted-no_page}
-use Rattle.dom_isolation.proofs.Tests.{by_cases}
-use Rattle.dom_isolation.proofs.Trees.{ancestors-there, ancestors-root, root-of-root, times-subtree, nodes-there}
-use Rattle.dom_isolation.proofs.PageSteps.{page_in_no_tree}
-
--- A node's ancestors are of its owner.
-pub owned-in : (w : World) → IsWorld w → (o : Owner) (y : NodeName) → 1 ≤ times_in (part_of w o).trees y → y.owner ≡ o
-owned-in w i o y h = (i.parts o).owned y h ∙ owner-part_of w o
-
--- all of them
-pub ancestors-owned : (w : World) → IsWorld w → (x : NodeName) → AllByRecursion (IsOf x.owner) (ancestors_at w x)
-ancestors-owned w i x =
-    all-then (λ y. 1 ≤ times_in (trees_with w x) y) (IsOf x.owner) (λ y h. owned-in w i x.owner y h) (ancestors_at w x) (ancestors-there (trees_with w x) x)
-
--- A component that is attached is no page, and has its host.
-component-facts : (w : World) → HasMakers w → (x : NodeName) (c : Owner) → component_at w x ≡ Some c → (c ≢ Page) × IsTrue (is_some (host_of w c))
-component-facts w makers x c h = let k = component-host w makers x c h in (hosted-no_page w c x k, ap is_some (hosted-is w c x k))
-
--- The slot of a node is in the shadow tree of a component that is attached.
-find-all : {X : Type 0} (P : X → Type 0) (t : X → Bool) (xs : List X) (y : X) → AllByRecursion P xs → find t xs ≡ Some y → P y
-find-all P t [] y h e = cc
-find-all P t (x ∷ xs) y h e =
-    by_cases (t x) (λ a. let same : Some x ≡ Some y = sym (cond-true (t x) (Some x) (find t xs) a) ∙ e in subst P (cc) h.0)
-    (λ a. find-all P t xs y h.1 (sym (cond-false (t x) (Some x) (find t xs) a) ∙ e))
-
--- a slot that is found is there
-pub slot_in-there : (ts : Trees) (n : Node) (s : NodeName) → slot_in ts n ≡ Some s → 1 ≤ times_in ts s
-slot_in-there ts n s h = by_name (slottable_name n) refl
-  where
-    by_found : (name : DomString) (o : Option Node) → find (has_slot_name name) (nodes ts) ≡ o → option_map (λ (m : Node). m.name) o ≡ Some s →
-        1 ≤ times_in ts s
-    by_found name None e g = cc
-    by_found name (Some m) e g =
-        let same : m.name ≡ s = cc in
-        subst (λ s. 1 ≤ times_in ts s) same (find-all (λ (m : Node). 1 ≤ times_in ts m.name) (has_slot_name name) (nodes ts) m (nodes-there ts) e)
-
-    by_name : (o : Option DomString) → slottable_name n ≡ o → 1 ≤ times_in ts s
-    by_name None e = let none : slot_in ts n ≡ None =
-        ap (λ o. option_and_then (λ name. option_map (λ (s : Node). s.name) (find (has_slot_name name) (nodes ts))) o) e in cc
-    by_name (Some name) e =
-        by_found name (find (has_slot_name name) (nodes ts)) refl
-        (sym (ap (λ o. option_and_then (λ name. option_map (λ (s : Node). s.name) (find (has_slot_name name) (nodes ts))) o) e) ∙ h)
-
--- a node that stands in the shadow tree of c
-pub record IsInTree (w : World) (c : Owner) (y : NodeName) : Type 0 where
-  pub foreign : c ≢ Page
-  pub owner : y.owner ≡ c
-  pub host : IsTrue (is_some (host_of w c))
-  pub root : root_at w y ≡ shadow_root_of c
-
--- the slot of a node
-pub slot-in_tree : (w : World) → IsWorld w → (x s : NodeName) → slot_of w x ≡ Some s → (c : Owner) × IsInTree w c s
-slot-in_tree w i x s h = by_component (option_and_then (component_at w) (parent_at w x)) refl
-  where
-    from_parent : (o : Option NodeName) (c : Owner) → option_and_then (component_at w) o ≡ Some c → (c ≢ Page) × IsTrue (is_some (host_of w c))
-    from_parent None c e = cc
-    from_parent (Some p) c e = component-facts w i.makers p c e
-
-    by_component : (o : Option Owner) → option_and_then (component_at w) (parent_at w x) ≡ o → (c : Owner) × IsInTree w c s
-    by_component None e = let none : slot_of w x ≡ None = ap (λ o. option_and_then (λ c. slot_in (shadow_tree w c) (node_at w x)) o) e in cc
-    by_component (Some c) e =
-        let facts = from_parent (parent_at w x) c e in
-        let here : slot_in (shadow_tree w c) (node_at w x) ≡ Some s = sym (ap (λ o. option_and_then (λ c. slot_in (shadow_tree w c) (node_at w x)) o) e) ∙ h in
-        let there = slot_in-there (shadow_tree w c) (node_at w x) s here in
-        let within = times-subtree (part_of w c).trees (shadow_root_of c) s in
-        let mine : s.owner ≡ c = owned-in w i c s (omega arith) in
-        let root = root-of-root (part_of w c).trees (i.parts c).unique (shadow_root_of c) (i.shadow_roots c facts.1).alone s there in
-        (c, record { foreign = facts.0; owner = mine; host = facts.1; root = ap (λ o. root_of (part_of w o).trees s) mine ∙ root })
-
--- then its ancestors stand there too
-pub ancestors-in_tree : (w : World) → IsWorld w → (c : Owner) (s : NodeName) → IsInTree w c s → AllByRecursion (IsInTree w c) (ancestors_at w s)
-ancestors-in_tree w i c s t =
-    all_two (ancestors_at w s) (ancestors-owned w i s) (ancestors-root (trees_with w s) (i.parts s.owner).unique s)
-  where
-    all_two : (ys : List NodeName) → AllByRecursion (IsOf s.owner) ys →
-        AllByRecursion (λ y. root_of (trees_with w s) y ≡ root_of (trees_with w s) s) ys → AllByRecursion (IsInTree w c) ys
-    all_two [] a b = tt
-    all_two (y ∷ ys) a b = (
-      record { foreign = t.foreign; owner = a.0 ∙ t.owner; host = t.host; root = ap (λ o. root_of (part_of w o).trees y) a.0 ∙ b.0 ∙ t.root },
-      all_two ys a.1 b.1,
-    )
-
--- it has a shadow-including ancestor that no page node has
-pub in_tree : (w : World) (c : Owner) (y : NodeName) → IsInTree w c y → is_in_shadow_tree w y ≡ true
-in_tree w c y t = by_host (host_of w c) refl t.host
-  where
-    root_is : name_eq (root_at w y) (shadow_root_of y.owner) ≡ true
-    root_is = ap (λ r. name_eq r (shadow_root_of y.owner)) (t.root ∙ ap shadow_root_of (sym t.owner)) ∙ name_eq-same (shadow_root_of y.owner)
-
-    by_host : (o : Option NodeName) → host_of w c ≡ o → is_some o ≡ true → is_in_shadow_tree w y ≡ true
-    by_host None e h = absurd (true≢false (sym h))
-    by_host (Some x) e h =
-        ap (λ o. is_some (option_and_then (some_if (name_eq (root_at w y) (shadow_root_of y.owner))) o)) (ap (host_of w) t.owner ∙ e) ∙
-        ap (λ b. is_some (some_if b x)) root_is
+use Rattle.dom_worlds.specs.Worlds.{IsWorld, IsOf}
+use Rattle.dom_worlds.proofs.ComponentSignals.{page_in_no_tree}
+use Rattle.dom_worlds.proofs.ShadowTrees.{ancestors-owned, IsInTree, in_tree, not_in}
 
 -- Page nodes.
 pub host_chain-page : (w : World) (x : NodeName) → x.owner ≡ Page → host_chain w x ≡ x ∷ []
@@ -120,11 +19,6 @@ host_chain-page w x h = ap (λ o. hosts_from (owner_depth o) w x) h
 -- its shadow-including ancestors are its ancestors
 pub shadow_including-page : (w : World) (x : NodeName) → x.owner ≡ Page → shadow_including_ancestors w x ≡ ancestors_at w x
 shadow_including-page w x h = ap (flat_map (ancestors_at w)) (host_chain-page w x h) ∙ append-nil (ancestors_at w x)
-
--- a node of another owner is not among an owner's
-pub not_in : (r : NodeName) (xs : List NodeName) (o : Owner) → r.owner ≢ o → AllByRecursion (IsOf o) xs → is_in name_eq r xs ≡ false
-not_in r [] o f h = refl
-not_in r (x ∷ xs) o f h = rw (ne-owner_eq r.owner x.owner (λ e. f (e ∙ h.0))) (not_in r xs o f h.1)
 
 -- from a page node no page node is hidden, and a node of a shadow tree is
 pub page-not_hidden : (w : World) (x y : NodeName) → y.owner ≡ Page → is_hidden_from w x y ≡ false

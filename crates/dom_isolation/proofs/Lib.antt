@@ -1,88 +1,19 @@
-pub mod Tests
-pub mod Lists
 mod Squares
 mod PageSteps
-pub mod Visits
+mod PageVisits
 mod Dispatches
-pub mod Trees
-pub mod Makers
 pub mod Hiding
 pub mod PagePaths
-pub mod Chains
 pub mod ComponentPaths
-pub mod Alike
-pub mod Owners
-pub mod TurnEndings
-pub mod LineBegins
-pub mod TableEffects
-pub mod PageCommands
+pub mod PageTurns
+mod PageCommands
 pub mod ComponentEvents
 pub mod ComponentCommands
 mod Lines
-pub mod FirstWorld
-pub mod StepKeeps
 pub mod PageRuns
 pub mod PageTexts
-pub mod TreeChangeLaws
-pub mod PartSteps
-pub mod Plans
-pub mod FitPieces
-mod PlanCommands
 mod PlainWords
-pub mod WorldParts
 mod PlainRuns
 mod PlainCommands
 pub mod PlainLines
 pub mod PlainTexts
-pub mod WorldSteps
-mod OwnerSteps
-pub mod OwnerDispatches
-mod OwnerCommands
-mod KindCommands
-pub mod KindLines
-pub mod Acceptance
-pub mod ShadowRoots
-pub mod NodeKinds
-mod Insides
-pub mod InsideAncestors
-pub mod Descents
-pub mod Roots
-pub mod TableSteps
-pub mod TableRecords
-pub mod Kids
-pub mod NodesRead
-pub mod PlanPlaces
-pub mod PlanChildren
-pub mod PlanTexts
-pub mod PlanRoots
-pub mod PlanContents
-mod Recorded
-mod RecordedTexts
-pub mod TableCommands
-mod TableCursors
-pub mod TableRegisters
-mod RecordedRanges
-mod RecordedCommands
-pub mod TableWorlds
-pub mod Bounds
-pub mod Reached
-pub mod ReachedFacts
-pub mod PlanBounds
-mod PlacedBounds
-pub mod TextBounds
-pub mod Childs
-pub mod TableLines
-pub mod TaskWorlds
-mod RangeRoots
-pub mod BoundLines
-pub mod RangeInsertions
-mod Contained
-pub mod RangeBounds
-pub mod KeptOffsets
-pub mod BoundWorlds
-pub mod FollowPaths
-pub mod FollowEvents
-mod RangeEnds
-mod RangePlans
-pub mod ExtractionPlans
-mod Sights

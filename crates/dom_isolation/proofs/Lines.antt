@@ -11,10 +11,12 @@ use Rattle.dom_model.specs.Turns.{ending_other_turn}
 use Rattle.dom_model.specs.DocumentMachine.{step, run_command}
 use Rattle.dom_model.specs.Trace.{is_page, is_of, owner_of_line, outward_event, items_of, line, outward, OutwardEvent}
 use Rattle.dom_model.specs.PageMachine.{PageState, page_of, page_line, page_command, run_page}
-use Rattle.dom_isolation.specs.Laws.{page_run, IsQuiet}
-use Rattle.dom_isolation.proofs.Tests.{by_cases}
+use Rattle.dom_isolation.specs.Laws.{page_run}
+use Rattle.dom_worlds.specs.Reached.{IsQuiet}
+use Rattle.dom_worlds.proofs.Tests.{by_cases}
 use Rattle.dom_isolation.proofs.Squares.{run_then-square}
-use Rattle.dom_isolation.proofs.LineBegins.{ending_other-quiet, quiet-ending_other, page_time}
+use Rattle.dom_isolation.proofs.PageTurns.{ending_other-quiet}
+use Rattle.dom_worlds.proofs.LineBegins.{quiet-ending_other, page_time}
 use Rattle.dom_isolation.proofs.PageCommands.{command-page}
 use Rattle.dom_isolation.proofs.ComponentEvents.{outward_run, run_then-quiet_end}
 use Rattle.dom_isolation.proofs.ComponentCommands.{command-component}

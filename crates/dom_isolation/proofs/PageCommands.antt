@@ -1,6 +1,6 @@
 -- A command of the page in the world does to the page's part what it does in the page machine.
-use Rattle.std.proofs.Common.{◌≡◌, Bool, true, false, not, ◌&&◌, List, [], ◌∷◌, ◌++◌, length, map, Option, Some, None, option_map, unwrap_or, refl}
-use Rattle.std.proofs.Common.{sym, ap, ◌∙◌, true≢false, subst}
+use Rattle.std.proofs.Common.{◌≡◌, Bool, true, false, not, ◌&&◌, List, [], ◌∷◌, ◌++◌, length, map, Option, Some, None, option_map, unwrap_or, refl, sym, ap}
+use Rattle.std.proofs.Common.{◌∙◌, true≢false, subst}
 use Rattle.std.specs.Prelude.{option_to_list}
 use Rattle.std.specs.List.{AllByRecursion, last_or}
 use Rattle.std.specs.Option.{option_or}
@@ -12,7 +12,7 @@ use Rattle.dom_base.specs.declared.Refusal.{Refusal}
 use Rattle.dom_base.specs.declared.Refusal.TheVariants.{Syntax, Busy, Foreign, Unknown}
 use Rattle.dom_model.specs.Names.{last_of}
 use Rattle.dom_model.specs.Tree.{node_in, is_document, root_of, kind_of}
-use Rattle.dom_model.specs.Command.{Command, Spelled, EventWords, own, foreign}
+use Rattle.dom_model.specs.Command.{Command, Spelled, EventWords}
 use Rattle.dom_model.specs.Output.{says, nothing, a_component, a_truth}
 use Rattle.dom_model.specs.Part.{Part}
 use Rattle.dom_model.specs.Runs.{run_then, answering, unless_refused}
@@ -28,16 +28,19 @@ use Rattle.dom_model.specs.Trace.{outputs_for}
 use Rattle.dom_model.specs.PageMachine.{PageState, page_of, is_page_task, page_refusal, page_effect, page_attaching, page_perform, page_accepted, page_command}
 use Rattle.dom_model.proofs.PartLaws.{part_of-with_part, part_of-with_part-other, owner-part_of}
 use Rattle.dom_model.proofs.OwnerLaws.{component_made-no_page}
-use Rattle.dom_isolation.specs.Laws.{page_run, IsQuiet}
-use Rattle.dom_isolation.specs.Worlds.{IsWorld, IsOf}
+use Rattle.dom_isolation.specs.Laws.{page_run}
+use Rattle.dom_worlds.specs.Reached.{IsQuiet}
+use Rattle.dom_worlds.specs.Worlds.{IsWorld, IsOf}
 use Rattle.dom_isolation.proofs.Squares.{run_then-square, outputs_for_page-says}
 use Rattle.dom_isolation.proofs.PageSteps.{page_of-world_after}
-use Rattle.dom_isolation.proofs.Hiding.{ancestors-owned, shadow_including-page}
+use Rattle.dom_worlds.proofs.ShadowTrees.{ancestors-owned}
+use Rattle.dom_isolation.proofs.Hiding.{shadow_including-page}
 use Rattle.dom_isolation.proofs.PagePaths.{views-page}
 use Rattle.dom_isolation.proofs.Dispatches.{dispatch-page}
-use Rattle.dom_isolation.proofs.TurnEndings.{ending_turn-page}
-use Rattle.dom_isolation.proofs.LineBegins.{IsPageTime, opening-page, quiet-opening}
-use Rattle.dom_isolation.proofs.TableEffects.{KeepsBase, base-effect}
+use Rattle.dom_isolation.proofs.PageTurns.{ending_turn-page}
+use Rattle.dom_worlds.proofs.LineBegins.{IsPageTime, opening-page, quiet-opening}
+use Rattle.dom_worlds.proofs.TableEffects.{KeepsBase, base-effect}
+use Rattle.dom_worlds.proofs.Owners.{owner-named}
 
 -- Refusals.
 and-false : (b : Bool) → (b && false) ≡ false
@@ -93,11 +96,6 @@ connected-page w i x h =
     ap (λ xs. is_document (kind_at w (unwrap_or (last_of xs) x))) (shadow_including-page w x h)
     ∙ ap (λ o. is_document (kind_of (part_of w o).trees root)) (owner-last up None x owned tt h)
     ∙ ap (λ o. is_document (kind_of (part_of w Page).trees (root_of (part_of w o).trees x))) h
-
--- a node that is named is the owner's
-pub owner-named : (p : Part) (x : Spelled) → (named p x).owner ≡ p.owner
-owner-named p (own k) = refl
-owner-named p foreign = refl
 
 -- of the page
 page_named : (w : World) (x : Spelled) → (named (part_of w Page) x).owner ≡ Page

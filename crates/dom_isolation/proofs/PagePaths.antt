@@ -1,6 +1,6 @@
 -- The path of an event of a page node: its inclusive ancestors, and between them nodes of shadow trees, which are hidden.
-use Rattle.std.proofs.Common.{◌≡◌, ℕ, zero, suc, Bool, true, false, not, ◌&&◌, List, [], ◌∷◌, ◌++◌, filter, flat_map, take_while, Option, Some, None}
-use Rattle.std.proofs.Common.{map, refl, sym, ap, ◌∙◌, subst, append-nil}
+use Rattle.std.proofs.Common.{◌≡◌, ℕ, zero, suc, Bool, true, false, not, ◌&&◌, List, [], ◌∷◌, ◌++◌, filter, flat_map, take_while, Option, Some, None, map, refl}
+use Rattle.std.proofs.Common.{sym, ap, ◌∙◌, subst, append-nil}
 use Rattle.std.specs.Prelude.{if◌then◌else◌, option_to_list}
 use Rattle.std.specs.List.{AllByRecursion}
 use Rattle.std.proofs.lemmas.List.Elements.{filter-append}
@@ -11,14 +11,14 @@ use Rattle.dom_base.specs.declared.NodeName.{NodeName}
 use Rattle.dom_model.specs.Names.{name_eq, max_depth}
 use Rattle.dom_model.specs.World.{World, part_of, ancestors_at, host_chain}
 use Rattle.dom_model.specs.Slots.{slot_of}
-use Rattle.dom_model.specs.Paths.{is_hidden_from, retarget, retarget_related, is_node, with_slots, way_up, whole_path, ends_at, event_path, view_at}
-use Rattle.dom_model.specs.Paths.{views, plain_view, plain_views}
+use Rattle.dom_model.specs.Paths.{is_hidden_from, retarget, retarget_related, is_node, with_slots, way_up, whole_path, ends_at, event_path, view_at, views}
+use Rattle.dom_model.specs.Paths.{plain_view, plain_views}
 use Rattle.dom_model.specs.Trace.{is_page}
 use Rattle.dom_model.proofs.OwnerLaws.{ne-owner_eq}
-use Rattle.dom_isolation.specs.Worlds.{IsWorld, IsOf, IsForeignTo}
-use Rattle.dom_isolation.proofs.Lists.{all-append, all-from, all-then, all-flat_map, filter-map, filter_none, filter_same, map_same, take_while_all}
-use Rattle.dom_isolation.proofs.Hiding.{IsInTree, slot-in_tree, ancestors-in_tree, ancestors-owned, host_chain-page, page-not_hidden, in_tree-hidden}
-use Rattle.dom_isolation.proofs.Hiding.{retarget-page, retarget_related-page}
+use Rattle.dom_worlds.specs.Worlds.{IsWorld, IsOf, IsForeignTo}
+use Rattle.dom_worlds.proofs.Lists.{all-append, all-from, all-then, all-flat_map, filter-map, filter_none, filter_same, map_same, take_while_all}
+use Rattle.dom_worlds.proofs.ShadowTrees.{IsInTree, slot-in_tree, ancestors-in_tree, ancestors-owned, slot_way, slots-behind, slots-first}
+use Rattle.dom_isolation.proofs.Hiding.{host_chain-page, page-not_hidden, in_tree-hidden, retarget-page, retarget_related-page}
 use Rattle.dom_isolation.proofs.Dispatches.{is_page_view}
 
 -- whether a node is the page's
@@ -44,21 +44,6 @@ in_some-foreign w y t e = t.1.foreign (sym t.1.owner ∙ e)
 -- and it is not seen
 pub seen-in_some : (w : World) → IsWorld w → (y : NodeName) → IsInSome w y → IsSeen w y
 seen-in_some w i y t x e = ap not (in_tree-hidden w i t.0 x y e t.1) ∙ sym (ne-owner_eq y.owner Page (in_some-foreign w y t))
-
--- The way through the shadow trees in which a node is slotted, through so many at most, one in another.
-abbrev pub slot_way : ℕ → World → NodeName → List NodeName
-slot_way zero w x = []
-slot_way (suc depth) w x = flat_map (with_slots depth w) (flat_map (ancestors_at w) (option_to_list (slot_of w x)))
-
--- it comes behind the node
-pub slots-behind : (depth : ℕ) (w : World) (x : NodeName) → with_slots depth w x ≡ x ∷ slot_way depth w x
-slots-behind zero w x = refl
-slots-behind (suc depth) w x = refl
-
--- so with each of some nodes
-pub slots-first : (depth : ℕ) (w : World) (x : NodeName) (xs : List NodeName) →
-    flat_map (with_slots depth w) (x ∷ xs) ≡ x ∷ (slot_way depth w x ++ flat_map (with_slots depth w) xs)
-slots-first depth w x xs = ap (λ ys. ys ++ flat_map (with_slots depth w) xs) (slots-behind depth w x)
 
 -- the way through slots is in shadow trees
 pub slot_way-in_some : (depth : ℕ) (w : World) → IsWorld w → (x : NodeName) → AllByRecursion (IsInSome w) (slot_way depth w x)

@@ -8,12 +8,13 @@ use Rattle.dom_model.specs.DocumentMachine.{step, finish, run_lines, first_world
 use Rattle.dom_model.specs.Trace.{is_page, items_of, trace_of, trace_from, line_may_stop, no_component_stops_from}
 use Rattle.dom_model.specs.PageMachine.{first_page, PageState, page_of, step_page, run_page, page_finish, page_outputs_of}
 use Rattle.dom_model.specs.Isolation.{PagePartAgrees, PageSeesItsTrace, SamePage}
-use Rattle.dom_isolation.specs.Laws.{page_run, IsQuiet, PageRunAgrees, TraceGoesOn, PageOutputGoesOn, FirstLinesStopNothing}
+use Rattle.dom_isolation.specs.Laws.{page_run, PageRunAgrees, TraceGoesOn, PageOutputGoesOn, FirstLinesStopNothing}
+use Rattle.dom_worlds.specs.Reached.{IsQuiet}
 use Rattle.dom_isolation.proofs.Squares.{run_then-square}
-use Rattle.dom_isolation.proofs.LineBegins.{ending_any-page}
+use Rattle.dom_isolation.proofs.PageTurns.{ending_any-page}
 use Rattle.dom_isolation.proofs.Lines.{line-items}
-use Rattle.dom_isolation.proofs.FirstWorld.{quiet-first}
-use Rattle.dom_isolation.proofs.StepKeeps.{quiet-step}
+use Rattle.dom_worlds.proofs.FirstWorld.{quiet-first}
+use Rattle.dom_worlds.proofs.StepKeeps.{quiet-step}
 
 -- runs of lists in two parts
 run_then-assoc : {S : Type 0} (r : Run S) (f g : S → Run S) → run_then (run_then r f) g ≡ run_then r (λ s. run_then (f s) g)

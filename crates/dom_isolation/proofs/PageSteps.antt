@@ -1,33 +1,22 @@
 -- Steps in the world, as the page sees them: those of the page are its own, those of components are none.
-use Rattle.std.proofs.Common.{◌≡◌, ◌≢◌, Bool, true, false, ◌&&◌, List, [], ◌∷◌, ◌++◌, filter, fold, Option, Some, None, refl, sym, ap, ◌∙◌}
-use Rattle.std.proofs.Common.{append-nil, true≢false}
-use Rattle.std.specs.Prelude.{if◌then◌else◌}
+use Rattle.std.proofs.Common.{◌≡◌, ◌≢◌, Bool, true, false, List, [], ◌∷◌, filter, fold, Option, Some, None, refl, ap, ◌∙◌}
 use Rattle.std.specs.List.{AllByRecursion, list_any}
 use Rattle.std.proofs.lemmas.List.Elements.{filter-append}
-use Rattle.std.proofs.lemmas.Bool.{and_parts}
 use Rattle.dom_base.specs.declared.Owner.{Owner}
 use Rattle.dom_base.specs.declared.Owner.TheVariants.{Page, Component}
 use Rattle.dom_base.specs.declared.NodeName.{NodeName}
-use Rattle.dom_model.specs.Names.{name_eq, max_depth, is_empty}
+use Rattle.dom_model.specs.Names.{max_depth}
 use Rattle.dom_model.specs.Tree.{parent_of}
 use Rattle.dom_model.specs.Steps.{Step, place, take_out, set_document, set_attribute, queue_record, is_taken}
-use Rattle.dom_model.specs.World.{World, Task, micro_task, notify_task, part_of, node_at, is_in_shadow_tree, is_notify_of, queued_notify, with_notify}
-use Rattle.dom_model.specs.World.{components_below, shadow_root_of}
-use Rattle.dom_model.specs.Slots.{signals, with_signal, assigned, is_slot_element, is_bare_slot, is_changed, own_slots, other_slots}
+use Rattle.dom_model.specs.World.{World, Task, micro_task, notify_task, part_of, is_notify_of, queued_notify, with_notify, components_below, shadow_root_of}
+use Rattle.dom_model.specs.Slots.{signals, with_signal}
 use Rattle.dom_model.specs.WorldSteps.{world_step, world_after, stepped, with_signals, with_removal_signals, with_notify_if, with_shadow_document}
 use Rattle.dom_model.specs.PageMachine.{page_of, is_page_task, page_step, page_notify_if, page_stepped}
-use Rattle.dom_model.proofs.OwnerLaws.{ne-owner_eq}
 use Rattle.dom_model.proofs.StepLaws.{part_of-stepped, part_of-stepped-other, AllComponents, below-components}
-use Rattle.dom_isolation.specs.Worlds.{IsForeignTo}
-use Rattle.dom_isolation.proofs.Lists.{all-append, all-passed, all-distinct}
-use Rattle.dom_isolation.proofs.Tests.{by_cases}
+use Rattle.dom_worlds.specs.Worlds.{IsForeignTo}
+use Rattle.dom_worlds.proofs.Tests.{by_cases}
 use Rattle.dom_isolation.proofs.Squares.{same_page_of}
-
--- Queued notifications.
-pub page_tasks-queued_other : (o : Owner) → o ≢ Page → (ts : List Task) → filter is_page_task (queued_notify o ts) ≡ filter is_page_task ts
-page_tasks-queued_other o h ts =
-    by_cases (list_any (is_notify_of o) ts) (λ e. rw e refl)
-    (λ e. rw e (filter-append is_page_task ts (notify_task o ∷ []) ∙ rw (ne-owner_eq o Page h) (append-nil (filter is_page_task ts))))
+use Rattle.dom_worlds.proofs.ComponentSignals.{page_tasks-queued_other, signals-foreign}
 
 -- whether the page's notification is queued is seen among the page's tasks
 has_notify-page_tasks : (ts : List Task) → list_any (is_notify_of Page) (filter is_page_task ts) ≡ list_any (is_notify_of Page) ts
@@ -42,38 +31,6 @@ pub page_tasks-queued_page : (ts : List Task) → filter is_page_task (queued_no
 page_tasks-queued_page ts =
     by_cases (list_any (is_notify_of Page) ts) (λ e. rw (e, has_notify-page_tasks ts, e) refl)
     (λ e. rw (e, has_notify-page_tasks ts, e) (filter-append is_page_task ts (notify_task Page ∷ [])))
-
--- Signals are of components' slots alone.
-assigned-page : (w : World) (s : NodeName) → s.owner ≡ Page → assigned w s ≡ []
-assigned-page w s e = rw e refl
-
--- a slot whose assigned nodes changed is no page node
-changed-foreign : (was now : World) (s : NodeName) → is_changed was now s ≡ true → IsForeignTo Page s
-changed-foreign was now s h e = true≢false (sym h ∙ rw (assigned-page was s e, assigned-page now s e) refl)
-
--- a page node is in no shadow tree
-pub page_in_no_tree : (w : World) (x : NodeName) → x.owner ≡ Page → is_in_shadow_tree w x ≡ false
-page_in_no_tree w x e = rw e refl
-
--- a slot without assigned nodes is no page node
-bare-foreign : (w : World) (s : NodeName) (is_move : Bool) → (is_move && is_bare_slot w s) ≡ true → IsForeignTo Page s
-bare-foreign w s is_move h e =
-    let both = and_parts is_move (is_bare_slot w s) h in
-    let inside = and_parts (is_slot_element (node_at w s)) (is_in_shadow_tree w s && is_empty (assigned w s)) both.1 in
-    let in_tree = and_parts (is_in_shadow_tree w s) (is_empty (assigned w s)) inside.1 in
-    true≢false (sym in_tree.0 ∙ page_in_no_tree w s e)
-
--- all that is signalled
-pub signals-foreign : (was now : World) (x around : NodeName) (is_move : Bool) → AllByRecursion (IsForeignTo Page) (signals was now x around is_move)
-signals-foreign was now x around is_move =
-    let P = IsForeignTo Page in
-    let bare : List NodeName = if is_move && is_bare_slot now around then around ∷ [] else [] in
-    let own = filter (is_changed was now) (own_slots was now x) in
-    let other = filter (is_changed was now) (other_slots now x around) in
-    let bare-all : AllByRecursion P bare = by_cases (is_move && is_bare_slot now around) (λ e. rw e (bare-foreign now around is_move e, tt)) (λ e. rw e tt) in
-    let own-all : AllByRecursion P own = all-passed P (is_changed was now) (changed-foreign was now) (own_slots was now x) in
-    let other-all : AllByRecursion P other = all-passed P (is_changed was now) (changed-foreign was now) (other_slots now x around) in
-    all-distinct P name_eq (own ++ bare ++ other) (all-append P (own ++ bare) other (all-append P own bare own-all bare-all) other-all)
 
 -- a signal, as the page sees it
 page_of-with_signal : (w : World) (s : NodeName) → IsForeignTo Page s → page_of (with_signal w s) ≡ page_of w

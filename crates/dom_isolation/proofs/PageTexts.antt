@@ -20,7 +20,7 @@ use Rattle.dom_text.proofs.DecodeLaws.{decode_says}
 use Rattle.dom_text.proofs.TextLaws.{IsSaidBy, begins-says, says-begins}
 use Rattle.dom_isolation.specs.Texts.{ReadsPrefix, lines_in, OutputHasPageLines, PageViewIsItsOutput, TraceHasPageLines, PageLinesAgree}
 use Rattle.dom_isolation.specs.Texts.{PageLinesAgreeSoFar, PageTextAgrees, SamePageText, ForeignLineIsRefused}
-use Rattle.dom_isolation.proofs.Tests.{by_cases}
+use Rattle.dom_worlds.proofs.Tests.{by_cases}
 use Rattle.dom_isolation.proofs.PageRuns.{page_run-agrees, page-sees_its_trace}
 use Rattle.dom_model.proofs.TurnLaws.{foreign_is_refused}
 

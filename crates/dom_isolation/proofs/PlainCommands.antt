@@ -27,12 +27,12 @@ use Rattle.dom_model.specs.Traversal.{Iterator, Walker, iterator_next_node, iter
 use Rattle.dom_model.specs.Turns.{ending_turn, ending_other_turn, opening_turn}
 use Rattle.dom_model.specs.World.{World, micro_task, part_of, with_part, component_made}
 use Rattle.dom_isolation.specs.Words.{HasNoFeed, HasPlainWords, IsPlainLine}
-use Rattle.dom_isolation.proofs.Lists.{all-append, all-filter, all-map}
-use Rattle.dom_isolation.proofs.Tests.{either_way}
-use Rattle.dom_isolation.proofs.TreeChangeLaws.{nodes-subtree}
-use Rattle.dom_isolation.proofs.PlanCommands.{Makes, MayDo, made-effect}
+use Rattle.dom_worlds.proofs.Lists.{all-append, all-filter, all-map}
+use Rattle.dom_worlds.proofs.Tests.{either_way}
+use Rattle.dom_worlds.proofs.TreeChangeLaws.{nodes-subtree}
+use Rattle.dom_worlds.proofs.PlanCommands.{Makes, MayDo, made-effect}
 use Rattle.dom_isolation.proofs.PlainWords.{IsPlainNode, IsPlainListener, IsPlainQueue, IsPlainPart, IsPlainStep, plain-queue, plain-queue_set, plain-rules}
-use Rattle.dom_isolation.proofs.WorldParts.{holds-with_part, holds-world_after}
+use Rattle.dom_worlds.proofs.WorldParts.{holds-with_part, holds-world_after}
 use Rattle.dom_isolation.proofs.PlainRuns.{IsPlainTask, IsPlainWorld, IsPlainValue, IsPlainSaid, IsPlainOutput, IsPlainRun, plain-run_then}
 use Rattle.dom_isolation.proofs.PlainRuns.{plain-run_each, plain-steps, plain-dispatch, plain-ending_turn, plain-ending_other, plain-ending_any}
 

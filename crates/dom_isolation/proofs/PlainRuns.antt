@@ -18,11 +18,11 @@ use Rattle.dom_model.specs.Runs.{Run, quiet, run_then, run_each}
 use Rattle.dom_model.specs.Turns.{records_of, notified, slotchange, firing_slotchange, is_owned_by, without_signals, notifying, running_task}
 use Rattle.dom_model.specs.Turns.{ending_turn, has_other_turn, ending_other_turn, ending_any_turn}
 use Rattle.dom_model.specs.World.{World, Task, micro_task, notify_task, part_of, with_part}
-use Rattle.dom_isolation.specs.Worlds.{AllNodes}
+use Rattle.dom_worlds.specs.Worlds.{AllNodes}
 use Rattle.dom_isolation.specs.Words.{HasNoFeed}
-use Rattle.dom_isolation.proofs.Lists.{all-append, all-filter, all-flat_map, all-from}
-use Rattle.dom_isolation.proofs.Tests.{either_way}
-use Rattle.dom_isolation.proofs.WorldParts.{HoldsIn, IsKeptIn, holds-with_part}
+use Rattle.dom_worlds.proofs.Lists.{all-append, all-filter, all-flat_map, all-from}
+use Rattle.dom_worlds.proofs.Tests.{either_way}
+use Rattle.dom_worlds.proofs.WorldParts.{HoldsIn, IsKeptIn, holds-with_part}
 use Rattle.dom_isolation.proofs.PlainWords.{IsPlainNode, IsPlainListener, IsPlainChange, IsPlainQueue, IsPlainPart, IsPlainStep, plain-queue}
 use Rattle.dom_isolation.proofs.PlainWords.{plain-queue_set, plain-part_step}
 

@@ -5,7 +5,7 @@ use Rattle.dom_model.specs.Command.{Line}
 use Rattle.dom_model.specs.DocumentMachine.{first_world, run_lines, outputs_of}
 use Rattle.dom_text.specs.Lines.{lines_of, page_lines}
 use Rattle.dom_isolation.specs.Words.{IsPlainLine, ReadsPlainWords, OutputHasItsLines, OutputHasItsLinesSoFar, PickedLinesAgree, PickedLinesAgreeSoFar}
-use Rattle.dom_isolation.proofs.Lists.{all-from, all-map}
+use Rattle.dom_worlds.proofs.Lists.{all-from, all-map}
 use Rattle.dom_isolation.proofs.PageTexts.{page_lines-agree, page_lines-agree_so_far}
 use Rattle.dom_isolation.proofs.PlainCommands.{plain-outputs, plain-outputs_so_far}
 use Rattle.dom_isolation.proofs.PlainLines.{lines_of-output}

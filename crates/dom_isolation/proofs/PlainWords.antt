@@ -7,19 +7,20 @@ use Rattle.dom_base.specs.declared.NodeName.{NodeName}
 use Rattle.dom_model.specs.Names.{Word, DomString, name_eq, is_in, text_eq}
 use Rattle.dom_model.specs.Tree.{Node, Attribute, nodes, node_in, no_node, children_of, parent_of, inclusive_ancestors, inclusive_descendants}
 use Rattle.dom_model.specs.TreeChanges.{with_name, with_document, with_data_replaced, with_attribute, attributes_with, attributes_without}
-use Rattle.dom_model.specs.Extract.{pieces_of, Pieces, nothing, whole, cut, clone}
+use Rattle.dom_model.specs.Extract.{pieces_of, clone}
 use Rattle.dom_model.specs.Listeners.{Listener}
 use Rattle.dom_model.specs.Observers.{Registration, target_of, without_old, fitting, asks_for_old}
 use Rattle.dom_model.specs.Output.{Change, child_list, attributes, character_data}
 use Rattle.dom_model.specs.Part.{Part, next_name, queue_of}
 use Rattle.dom_model.specs.Steps.{Step, make, place, take_out, set_document, set_attribute, replace_data, queue_record, part_step, leave, record_in}
 use Rattle.dom_model.specs.Steps.{interested_in}
-use Rattle.dom_isolation.specs.Worlds.{AllNodes}
+use Rattle.dom_worlds.specs.Worlds.{AllNodes}
 use Rattle.dom_isolation.specs.Words.{HasNoFeed}
-use Rattle.dom_isolation.proofs.Lists.{all-append, all-from}
-use Rattle.dom_isolation.proofs.Tests.{either_way}
-use Rattle.dom_isolation.proofs.TreeChangeLaws.{nodes-with_node, nodes-taken_out, nodes-placed, nodes-map_nodes, nodes-listed}
-use Rattle.dom_isolation.proofs.Plans.{AllWhole, IsKept}
+use Rattle.dom_worlds.proofs.Lists.{all-append, all-from}
+use Rattle.dom_worlds.proofs.Tests.{either_way}
+use Rattle.dom_worlds.proofs.TreeChangeLaws.{nodes-with_node, nodes-taken_out, nodes-placed, nodes-map_nodes, nodes-listed}
+use Rattle.dom_worlds.proofs.Plans.{IsKept}
+use Rattle.dom_worlds.proofs.FitPieces.{any-whole}
 
 -- A node, a listener and a change with such words.
 abbrev pub IsPlainAttribute : Attribute → Type 0
@@ -157,13 +158,6 @@ plain-found x (n ∷ ns) h =
 -- a node of a part
 pub plain-node_in : (p : Part) (x : NodeName) → IsPlainPart p → IsPlainNode (node_in p.trees x)
 plain-node_in p x i = plain-found x (nodes p.trees) (nodes-listed IsPlainNode p.trees i.0)
-
--- The rules of plans.
-pub any-whole : (pieces : Pieces) → AllWhole (λ x. ⊤) pieces
-any-whole nothing = tt
-any-whole (whole x rest) = (tt, any-whole rest)
-any-whole (cut x from to rest) = (tt, any-whole rest)
-any-whole (clone x inside rest) = (tt, any-whole inside, any-whole rest)
 
 -- the rules hold
 pub plain-rules : IsKept IsPlainPart IsPlainStep (λ x. ⊤)

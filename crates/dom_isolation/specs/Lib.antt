@@ -1,10 +1,4 @@
--- What holds of every world that the document machine reaches, and the isolation laws. Unmarked: own rules, what holds of the two machines.
-pub mod Worlds
-pub mod Tables
+-- The isolation laws: what the page sees of the document machine is the page machine. Unmarked: own rules, what holds of the two machines.
 pub mod Laws
-pub mod Wholes
-pub mod Follows
-pub mod Sights
-pub mod Bounds
 pub mod Texts
 pub mod Words

@@ -2,21 +2,12 @@
 //! code but functions whose contracts are the laws.
 #![tactic(auto)]
 
-ghost use Rattle.std.specs.Prelude.{List, ℕ, true};
+ghost use Rattle.std.specs.Prelude.{List, ℕ};
 ghost use Rattle.dom_model.specs.Command.{Line};
-ghost use Rattle.dom_model.specs.World.{World};
 ghost use Rattle.dom_model.specs.Isolation.{ForeignIsRefused, PagePartAgrees, PageSeesItsTrace, SamePage};
 ghost use Rattle.dom_isolation.specs.Laws.{VisitIsUnseen, FoldSkipsComponents, PageVisitsAgree, OutwardVisitsAgree, PageDispatchAgrees};
 ghost use Rattle.dom_isolation.specs.Laws.{ComponentDispatchAgrees, NotificationIsUnseen, TurnEndingAgrees, OtherEndingIsUnseen, PageLineAgrees};
 ghost use Rattle.dom_isolation.specs.Laws.{OtherLineAgrees, FinishAgrees, PageRunAgrees, TraceGoesOn, PageOutputGoesOn, FirstLinesStopNothing};
-ghost use Rattle.dom_isolation.specs.Laws.{IsReached, IsQuiet, FirstIsReached, StepKeepsReached, EndingKeepsReached, FinishKeepsReached};
-ghost use Rattle.dom_isolation.specs.Laws.{ScriptsReach, QuietScriptsReach, ShadowRootsAreRoots, NoOtherShadowRoots, AttachedAreThere};
-ghost use Rattle.dom_isolation.specs.Laws.{OwnersHaveWords, HostsAreTheirs, AssignedAreSiblings};
-ghost use Rattle.dom_isolation.specs.Wholes.{FirstIsWhole, StepKeepsWhole, EndingKeepsWhole, FinishKeepsWhole, ScriptsStayWhole, FirstHasOneRoots};
-ghost use Rattle.dom_isolation.specs.Wholes.{StepKeepsOneRoots, EndingKeepsOneRoots, FinishKeepsOneRoots, ScriptsKeepOneRoots};
-ghost use Rattle.dom_isolation.specs.Follows.{PathFollowsParents};
-ghost use Rattle.dom_isolation.specs.Sights.{HiddenByRoots, RetargetedByRoots};
-ghost use Rattle.dom_isolation.specs.Bounds.{FirstIsBounded, StepKeepsBounds, EndingKeepsBounds, FinishKeepsBounds, ScriptsStayBounded};
 ghost use Rattle.dom_isolation.specs.Texts.{ReadsPrefix, DecodeReadsPrefix, TraceHasPageLines, OutputHasPageLines, PageViewIsItsOutput};
 ghost use Rattle.dom_isolation.specs.Texts.{PageLinesAgree, PageLinesAgreeSoFar, PageTextAgrees, SamePageText, ForeignLineIsRefused};
 ghost use Rattle.dom_isolation.specs.Words.{ReadsPlainWords, DecodeReadsPlainWords, OutputHasItsLines, OutputHasItsLinesSoFar, PickedLinesAgree};
@@ -49,65 +40,6 @@ pub fn one_line()
     ensures page { PageLineAgrees }
     ensures other { OtherLineAgrees }
     ensures finish { FinishAgrees }
-{}
-
-/// What holds of every world that the machine reaches, whatever its components' listeners do, and where they only log.
-pub fn reached_worlds()
-    ensures first { FirstIsReached }
-    ensures kept { StepKeepsReached }
-    ensures ending { EndingKeepsReached }
-    ensures finish { FinishKeepsReached }
-    ensures script { (read : List ℕ → Line) → ScriptsReach read }
-    ensures quiet_script { (read : List ℕ → Line) → QuietScriptsReach read }
-    ensures quiet { (w : World) → IsReached true w → IsQuiet w }
-    ensures roots { ShadowRootsAreRoots }
-    ensures no_others { NoOtherShadowRoots }
-    ensures there { AttachedAreThere }
-    ensures words { OwnersHaveWords }
-    ensures hosts { HostsAreTheirs }
-    ensures assigned { AssignedAreSiblings }
-{}
-
-/// Of every world that the machine reaches the tables name what is there: hosts, the ends of ranges, iterators, walkers,
-/// registrations, listeners and signalled slots are at nodes of their owners, both ends of a range in one tree, queued records
-/// name nodes of their owners, observers have their record queues, and each owner that is there has its first node.
-pub fn whole_worlds()
-    ensures first { FirstIsWhole }
-    ensures kept { StepKeepsWhole }
-    ensures ending { EndingKeepsWhole }
-    ensures finish { FinishKeepsWhole }
-    ensures script { (read : List ℕ → Line) → ScriptsStayWhole read }
-{}
-
-/// Both ends of each live range have one root, in every world that the machine reaches (DOM Standard, 5.3 and 5.5).
-pub fn ranges_have_one_root()
-    ensures first { FirstHasOneRoots }
-    ensures kept { StepKeepsOneRoots }
-    ensures ending { EndingKeepsOneRoots }
-    ensures finish { FinishKeepsOneRoots }
-    ensures script { (read : List ℕ → Line) → ScriptsKeepOneRoots read }
-{}
-
-/// The ends of live ranges are within their nodes, in every world that the machine reaches (DOM Standard, 5.2 and 5.5).
-pub fn ranges_stay_bounded()
-    ensures first { FirstIsBounded }
-    ensures kept { StepKeepsBounds }
-    ensures ending { EndingKeepsBounds }
-    ensures finish { FinishKeepsBounds }
-    ensures script { (read : List ℕ → Line) → ScriptsStayBounded read }
-{}
-
-/// The whole path of an event begins at its target, goes from each node to its event parent, through slots and shadow roots, and
-/// ends where a node has none.
-pub fn path_follows_parents()
-    ensures { PathFollowsParents }
-{}
-
-/// In every world that the machine reaches a node is hidden from the nodes outside of its own closed shadow tree and of those
-/// below it, and in its place they see what they see in place of the host (DOM Standard, concepts: closed-shadow-hidden, retarget).
-pub fn sights_go_by_roots()
-    ensures hidden { HiddenByRoots }
-    ensures retargeted { RetargetedByRoots }
 {}
 
 /// After every script in which no component listener stops or cancels the page's part is the page machine's state after

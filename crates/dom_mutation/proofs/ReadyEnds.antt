@@ -12,11 +12,11 @@ use Rattle.dom_model.specs.Part.{Part, queue_of}
 use Rattle.dom_model.specs.Steps.{Step, make, make_room, place, take_out, set_document, set_attribute, replace_data, split_at, join_at, set_range}
 use Rattle.dom_model.specs.Steps.{queue_record, part_step, leave, after, record_in}
 use Rattle.dom_model.specs.Tree.{inclusive_ancestors, parent_of}
-use Rattle.dom_isolation.specs.Bounds.{HasBounds}
-use Rattle.dom_isolation.specs.Tables.{EndsIn, HasTables}
-use Rattle.dom_isolation.specs.Worlds.{IsPart}
-use Rattle.dom_isolation.proofs.TableRecords.{tables-after}
-use Rattle.dom_isolation.proofs.TableSteps.{Fits, MadeIn}
+use Rattle.dom_worlds.specs.Bounds.{HasBounds}
+use Rattle.dom_worlds.specs.Tables.{EndsIn, HasTables}
+use Rattle.dom_worlds.specs.Worlds.{IsPart}
+use Rattle.dom_worlds.proofs.TableRecords.{tables-after}
+use Rattle.dom_worlds.proofs.TableSteps.{Fits, MadeIn}
 
 -- the part with its trees and live ranges alone
 abbrev pub bare : Part → Part

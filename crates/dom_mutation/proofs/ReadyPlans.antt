@@ -20,29 +20,29 @@ use Rattle.dom_model.specs.Steps.{Step, make, set_document, set_range, after}
 use Rattle.dom_model.specs.TextChanges.{replacing_data, splitting, normalizing, setting_text}
 use Rattle.dom_model.specs.Tree.{Trees, Node, has_node, kind_of, has_data, is_text, is_shadow, child_nodes, is_inclusive_ancestor}
 use Rattle.dom_model.specs.Validity.{first_refusal, has_parent, may_be_parent, may_be_inserted, placing_tests, insertion_refusal, replacement_refusal}
-use Rattle.dom_isolation.specs.Bounds.{HasBounds, IsWithin}
-use Rattle.dom_isolation.specs.Tables.{EndsIn, HasEnds}
-use Rattle.dom_isolation.specs.Worlds.{IsPart}
-use Rattle.dom_isolation.proofs.Acceptance.{next-test}
-use Rattle.dom_isolation.proofs.BoundLines.{under-at}
-use Rattle.dom_isolation.proofs.Bounds.{RangeUnder, reach, nowhere}
-use Rattle.dom_isolation.proofs.KeptOffsets.{room-of, make-keeps, set_document-keeps, set_range-keeps, removal-keeps, adoption-keeps, insertion-keeps}
-use Rattle.dom_isolation.proofs.KeptOffsets.{replacement-keeps, attribute-keeps, attribute_removal-keeps, data-keeps, split-keeps}
-use Rattle.dom_isolation.proofs.KeptOffsets.{normalization-keeps, text_content-keeps, deletion-keeps, extraction-keeps, range_insertion-keeps}
-use Rattle.dom_isolation.proofs.InsideAncestors.{inside-no_ancestor, times-has_node}
-use Rattle.dom_isolation.proofs.KindLines.{has_node-times}
-use Rattle.dom_isolation.proofs.Plans.{Keeps, keeps-removing, keeps-adopting, keeps-inserting, keeps-replacing, keeps-setting_attribute}
-use Rattle.dom_isolation.proofs.Plans.{keeps-unsetting_attribute, keeps-replacing_data, keeps-splitting, keeps-normalizing, keeps-setting_text}
-use Rattle.dom_isolation.proofs.Plans.{keeps-extracting, keeps-deleting, keeps-inserting_into_range}
-use Rattle.dom_isolation.proofs.PlanContents.{leads-deleting, leads-extracting, leads-inserting_into_range}
-use Rattle.dom_isolation.proofs.PlanPlaces.{MayGo, leads-removing, leads-adopting, leads-inserting}
-use Rattle.dom_isolation.proofs.PlanRoots.{ends-at}
-use Rattle.dom_isolation.proofs.PlanTexts.{leads-replacing, leads-setting_attribute, leads-unsetting_attribute, leads-replacing_data, leads-splitting}
-use Rattle.dom_isolation.proofs.PlanTexts.{leads-normalizing, leads-setting_text}
-use Rattle.dom_isolation.proofs.Roots.{roots-equal}
-use Rattle.dom_isolation.proofs.ShadowRoots.{not_taken}
-use Rattle.dom_isolation.proofs.TableRegisters.{parent-of_range}
-use Rattle.dom_isolation.proofs.TableSteps.{MadeIn}
+use Rattle.dom_worlds.specs.Bounds.{HasBounds, IsWithin}
+use Rattle.dom_worlds.specs.Tables.{EndsIn, HasEnds}
+use Rattle.dom_worlds.specs.Worlds.{IsPart}
+use Rattle.dom_worlds.proofs.Acceptance.{next-test}
+use Rattle.dom_worlds.proofs.BoundLines.{under-at}
+use Rattle.dom_worlds.proofs.Bounds.{RangeUnder, reach, nowhere}
+use Rattle.dom_worlds.proofs.KeptOffsets.{room-of, make-keeps, set_document-keeps, set_range-keeps, removal-keeps, adoption-keeps, insertion-keeps}
+use Rattle.dom_worlds.proofs.KeptOffsets.{replacement-keeps, attribute-keeps, attribute_removal-keeps, data-keeps, split-keeps}
+use Rattle.dom_worlds.proofs.KeptOffsets.{normalization-keeps, text_content-keeps, deletion-keeps, extraction-keeps, range_insertion-keeps}
+use Rattle.dom_worlds.proofs.InsideAncestors.{inside-no_ancestor, times-has_node}
+use Rattle.dom_worlds.proofs.KindLines.{has_node-times}
+use Rattle.dom_worlds.proofs.Plans.{Keeps, keeps-removing, keeps-adopting, keeps-inserting, keeps-replacing, keeps-setting_attribute}
+use Rattle.dom_worlds.proofs.Plans.{keeps-unsetting_attribute, keeps-replacing_data, keeps-splitting, keeps-normalizing, keeps-setting_text}
+use Rattle.dom_worlds.proofs.Plans.{keeps-extracting, keeps-deleting, keeps-inserting_into_range}
+use Rattle.dom_worlds.proofs.PlanContents.{leads-deleting, leads-extracting, leads-inserting_into_range}
+use Rattle.dom_worlds.proofs.PlanPlaces.{MayGo, leads-removing, leads-adopting, leads-inserting}
+use Rattle.dom_worlds.proofs.PlanRoots.{ends-at}
+use Rattle.dom_worlds.proofs.PlanTexts.{leads-replacing, leads-setting_attribute, leads-unsetting_attribute, leads-replacing_data, leads-splitting}
+use Rattle.dom_worlds.proofs.PlanTexts.{leads-normalizing, leads-setting_text}
+use Rattle.dom_worlds.proofs.Roots.{roots-equal}
+use Rattle.dom_worlds.proofs.ShadowRoots.{not_taken}
+use Rattle.dom_worlds.proofs.TableRegisters.{parent-of_range}
+use Rattle.dom_worlds.proofs.TableSteps.{MadeIn}
 use Rattle.dom_mutation.specs.Ready.{IsReadyPart}
 use Rattle.dom_mutation.proofs.ReadyEnds.{bare, bare-part, bare-bounds, bounds-bare, bare-tables, bare-after, made-bare, ends-after}
 use Rattle.dom_mutation.proofs.ReadyRoots.{LoneRoots, lone-rules, lone-before, lone-after}

@@ -22,17 +22,17 @@ use Rattle.dom_model.specs.Tree.{Trees, has_node}
 use Rattle.dom_model.specs.Turns.{notified}
 use Rattle.dom_model.specs.World.{World, part_of}
 use Rattle.dom_model.proofs.PartLaws.{owner-part_of}
-use Rattle.dom_isolation.specs.Bounds.{IsWithin, EndsWithin}
-use Rattle.dom_isolation.specs.Tables.{IsNodeIn, HasEnds, EndsIn}
-use Rattle.dom_isolation.proofs.BoundLines.{under-at}
-use Rattle.dom_isolation.proofs.Bounds.{RangeUnder, reach, nowhere}
-use Rattle.dom_isolation.proofs.KeptOffsets.{room-of}
-use Rattle.dom_isolation.proofs.Lists.{all-append}
-use Rattle.dom_isolation.proofs.PlanRoots.{ends-at}
-use Rattle.dom_isolation.proofs.Roots.{roots-equal, roots-same}
-use Rattle.dom_isolation.proofs.TableSteps.{all-set}
-use Rattle.dom_isolation.proofs.Tests.{which_way}
-use Rattle.dom_isolation.specs.Worlds.{IsPart}
+use Rattle.dom_worlds.specs.Bounds.{IsWithin, EndsWithin}
+use Rattle.dom_worlds.specs.Tables.{IsNodeIn, HasEnds, EndsIn}
+use Rattle.dom_worlds.proofs.BoundLines.{under-at}
+use Rattle.dom_worlds.proofs.Bounds.{RangeUnder, reach, nowhere}
+use Rattle.dom_worlds.proofs.KeptOffsets.{room-of}
+use Rattle.dom_worlds.proofs.Lists.{all-append}
+use Rattle.dom_worlds.proofs.PlanRoots.{ends-at}
+use Rattle.dom_worlds.proofs.Roots.{roots-equal, roots-same}
+use Rattle.dom_worlds.proofs.TableSteps.{all-set}
+use Rattle.dom_worlds.proofs.Tests.{which_way}
+use Rattle.dom_worlds.specs.Worlds.{IsPart}
 use Rattle.dom_mutation.specs.Ready.{IsReadyPart, AreReady}
 use Rattle.dom_mutation.proofs.ReadyEnds.{bare, bare-tables}
 use Rattle.dom_mutation.proofs.ReadyWorlds.{ready-written}

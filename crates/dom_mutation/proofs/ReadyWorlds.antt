@@ -14,11 +14,11 @@ use Rattle.dom_model.specs.WorldSteps.{world_step, world_after, stepped, with_re
 use Rattle.dom_model.proofs.OwnerLaws.{owner_eq-true, owner_eq-false}
 use Rattle.dom_model.proofs.PartLaws.{owner-part_of}
 use Rattle.dom_model.proofs.StepLaws.{owner-part_step, part_of-stepped-other}
-use Rattle.dom_isolation.specs.Worlds.{IsPart}
-use Rattle.dom_isolation.proofs.PartSteps.{part-step}
-use Rattle.dom_isolation.proofs.TableSteps.{MadeIn}
-use Rattle.dom_isolation.proofs.TableWorlds.{each-part}
-use Rattle.dom_isolation.proofs.Tests.{by_cases}
+use Rattle.dom_worlds.specs.Worlds.{IsPart}
+use Rattle.dom_worlds.proofs.PartSteps.{part-step}
+use Rattle.dom_worlds.proofs.TableSteps.{MadeIn}
+use Rattle.dom_worlds.proofs.TableWorlds.{each-part}
+use Rattle.dom_worlds.proofs.Tests.{by_cases}
 use Rattle.dom_mutation.specs.Ready.{IsReadyPart, AreReady}
 use Rattle.dom_mutation.proofs.ReadyPlans.{KeepReady, ready-after, ready-document}
 

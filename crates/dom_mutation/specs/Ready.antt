@@ -3,8 +3,8 @@ use Rattle.std.specs.Prelude.{◌≡◌, true, None}
 use Rattle.std.specs.List.{AllByRecursion}
 use Rattle.dom_base.specs.declared.NodeName.{NodeName}
 use Rattle.dom_base.specs.declared.Owner.{Owner}
-use Rattle.dom_isolation.specs.Bounds.{HasBounds, IsWithin}
-use Rattle.dom_isolation.specs.Tables.{HasEnds, EndsIn}
+use Rattle.dom_worlds.specs.Bounds.{HasBounds, IsWithin}
+use Rattle.dom_worlds.specs.Tables.{HasEnds, EndsIn}
 use Rattle.dom_model.specs.Part.{Part}
 use Rattle.dom_model.specs.Ranges.{Range}
 use Rattle.dom_model.specs.Tree.{Trees, kind_of, is_shadow, parent_of}

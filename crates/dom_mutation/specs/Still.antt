@@ -1,7 +1,7 @@
 -- What is still there of a `Doc` after a call: its nodes, and what each owner has beside them.
 use Rattle.std.specs.Prelude.{◌≡◌, ℕ, ◌<◌, true, List, length, slice_get, is_some, ⊤}
 use Rattle.dom_base.specs.declared.Owner.{Owner}
-use Rattle.dom_isolation.specs.Worlds.{IsPart}
+use Rattle.dom_worlds.specs.Worlds.{IsPart}
 use Rattle.dom_model.specs.Command.{Command}
 use Rattle.dom_model.specs.Part.{Part, range_at}
 use Rattle.dom_model.specs.Tree.{kind_of, has_node}

@@ -1,6 +1,6 @@
 //! The commands on the data of Texts and Comments, and on the text below a node.
 ghost use Rattle.dom_model.specs.Command.{set_data, replace_data, split, set_text, normalize};
-ghost use Rattle.dom_isolation.specs.Bounds.{IsBounded};
+ghost use Rattle.dom_worlds.specs.Bounds.{IsBounded};
 ghost use Rattle.dom_reader.specs.Views.{spelled_view};
 ghost use Rattle.dom_admission.specs.Handled.{KeepsNames, IsHandled};
 

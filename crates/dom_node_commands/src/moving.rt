@@ -1,6 +1,6 @@
 //! The commands that move nodes.
 ghost use Rattle.dom_model.specs.Command.{append, insert, replace, remove, adopt};
-ghost use Rattle.dom_isolation.specs.Bounds.{IsBounded};
+ghost use Rattle.dom_worlds.specs.Bounds.{IsBounded};
 ghost use Rattle.dom_reader.specs.Views.{spelled_view};
 ghost use Rattle.dom_admission.specs.Handled.{KeepsNames, IsHandled};
 

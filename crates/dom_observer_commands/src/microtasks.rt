@@ -4,7 +4,7 @@ ghost use Rattle.std.specs.Prelude.{◌≡◌, ◌<◌, ◌++◌, All, filter, m
 ghost use Rattle.dom_model.specs.Command.{micro};
 ghost use Rattle.dom_model.specs.Turns.{notified, notified_lines, is_owned_by, without_signals};
 ghost use Rattle.dom_model.specs.World.{part_of, with_part};
-ghost use Rattle.dom_isolation.specs.Worlds.{IsThere};
+ghost use Rattle.dom_worlds.specs.Worlds.{IsThere};
 ghost use Rattle.dom_text.specs.Text.{output_text};
 ghost use Rattle.dom_tree.specs.Forest.{name_at};
 ghost use Rattle.dom_admission.specs.Handled.{IsHandled, KeepsNames};

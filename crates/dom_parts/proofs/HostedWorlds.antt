@@ -16,7 +16,7 @@ use Rattle.dom_model.specs.Part.{Part}
 use Rattle.dom_model.specs.Tree.{inclusive_descendants}
 use Rattle.dom_model.specs.World.{MayAttach, part_of, is_there, component_at, component_made, made_by, components_below, host_of, shadow_root_of, trees_with}
 use Rattle.dom_model.proofs.OwnerLaws.{owner_eq-true, owner_eq-false, made_by-is, made_by-made}
-use Rattle.dom_isolation.specs.Worlds.{HasMakers}
+use Rattle.dom_worlds.specs.Worlds.{HasMakers}
 use Rattle.dom_slots.specs.Hosts.{ShadowHost, host_named, root_named}
 use Rattle.dom_slots.specs.Shadows.{IsShownBy, shadow_trees}
 use Rattle.dom_traversal.proofs.Lists.{name_eq-from, name_eq-other}

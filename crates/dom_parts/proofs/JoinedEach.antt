@@ -10,12 +10,12 @@ use Rattle.dom_model.specs.TextChanges.{joins}
 use Rattle.dom_model.specs.Tree.{index_of, length_of}
 use Rattle.dom_model.specs.Part.{Part}
 use Rattle.dom_model.specs.World.{part_of}
-use Rattle.dom_isolation.specs.Bounds.{HasBounds}
-use Rattle.dom_isolation.specs.Worlds.{IsPart}
+use Rattle.dom_worlds.specs.Bounds.{HasBounds}
+use Rattle.dom_worlds.specs.Worlds.{IsPart}
 use Rattle.dom_tree.specs.Forest.{name_at}
 use Rattle.dom_parts.specs.Doc.{DocState, JoinsFit, IsOwnNode, name_in, owner_in, trees_in, stepped, planned}
 use Rattle.dom_parts.specs.Hosting.{IsAlone}
-use Rattle.dom_isolation.proofs.KeptOffsets.{join_at-keeps}
+use Rattle.dom_worlds.proofs.KeptOffsets.{join_at-keeps}
 use Rattle.dom_tree_laws.proofs.Lists.{all_drop}
 use Rattle.dom_parts.proofs.Made.{alone_after}
 

@@ -13,7 +13,7 @@ use Rattle.dom_model.specs.Place.{Boundary}
 use Rattle.dom_model.specs.Ranges.{Range, at, boundary_eq, after_insert, after_removal, after_replace_data, after_split, after_join}
 use Rattle.dom_model.specs.Tree.{length_of}
 use Rattle.dom_model.proofs.OwnerLaws.{owner_eq-true, owner_eq-false}
-use Rattle.dom_isolation.specs.Bounds.{EndsWithin, HasBounds}
+use Rattle.dom_worlds.specs.Bounds.{EndsWithin, HasBounds}
 use Rattle.dom_ranges.specs.Rules.{Fits}
 use Rattle.dom_ranges.specs.Settings.{named_range, named_ranges}
 use Rattle.dom_ranges.specs.Tables.{RangeList, RangeLists, EachRange, BothEnds, ranges_of}

@@ -16,10 +16,10 @@ use Rattle.dom_model.specs.World.{part_of, is_there}
 use Rattle.dom_model.specs.WorldSteps.{world_step, world_after}
 use Rattle.dom_model.specs.Changes.{steps_of}
 use Rattle.dom_model.specs.TextChanges.{joins}
-use Rattle.dom_isolation.specs.Bounds.{HasBounds}
-use Rattle.dom_isolation.specs.Worlds.{IsPart}
-use Rattle.dom_isolation.proofs.Bounds.{length-replaced}
-use Rattle.dom_isolation.proofs.Kids.{index-below, length-children}
+use Rattle.dom_worlds.specs.Bounds.{HasBounds}
+use Rattle.dom_worlds.specs.Worlds.{IsPart}
+use Rattle.dom_worlds.proofs.Bounds.{length-replaced}
+use Rattle.dom_worlds.proofs.Kids.{index-below, length-children}
 use Rattle.dom_ranges.specs.Rules.{Fits}
 use Rattle.dom_ranges.specs.Tables.{RangeLists, EachRange, BothEnds, ends_by, ranges_of, range_in}
 use Rattle.dom_ranges.proofs.Vacant.{ends-none}

@@ -28,7 +28,7 @@ use Rattle.dom_model.specs.Validity.{first_refusal}
 use Rattle.dom_model.specs.CommandRefusals.{past_end, past_limit, may_be_host}
 use Rattle.dom_model.specs.Output.{Value, Said, Change, child_list}
 use Rattle.dom_parts.specs.declared.parts.Parts.TheInside.{Inside}
-use Rattle.dom_isolation.specs.Bounds.{HasBounds}
+use Rattle.dom_worlds.specs.Bounds.{HasBounds}
 use Rattle.dom_parts.specs.Contents.{Contents, Tables, world_of}
 use Rattle.dom_slots.specs.Hosts.{ShadowHost}
 use Rattle.dom_node_trees.specs.Signalled.{AreSignals}

@@ -14,11 +14,11 @@ use Rattle.dom_model.specs.Tree.{Trees, Node, is_shadow, has_node, node_in, pare
 use Rattle.dom_model.specs.World.{World, part_of, component_at, shadow_root_of, some_if, host_above, host_chain, hosts_from, kind_at, node_at}
 use Rattle.dom_model.specs.World.{parent_at, root_at}
 use Rattle.dom_model.proofs.OwnerLaws.{depth-maker}
-use Rattle.dom_isolation.specs.Tables.{IsNodeAt}
-use Rattle.dom_isolation.proofs.Chains.{above-host, below-host, hosts-alone, chain-below, hidden-by_chain}
-use Rattle.dom_isolation.proofs.FollowPaths.{shadow-name}
-use Rattle.dom_isolation.proofs.Makers.{hosted, hosted-maker, hosted-owned, hosted-is, component-host}
-use Rattle.dom_isolation.proofs.ReachedFacts.{shadow_roots-are_roots}
+use Rattle.dom_worlds.specs.Tables.{IsNodeAt}
+use Rattle.dom_worlds.proofs.Chains.{above-host, below-host, hosts-alone, chain-below, hidden-by_chain}
+use Rattle.dom_worlds.proofs.FollowPaths.{shadow-name}
+use Rattle.dom_worlds.proofs.Makers.{hosted, hosted-maker, hosted-owned, hosted-is, component-host}
+use Rattle.dom_worlds.proofs.ReachedFacts.{shadow_roots-are_roots}
 use Rattle.dom_tree.specs.Forest.{NamedTrees}
 use Rattle.dom_tree.proofs.Owned.{read_own, stays_own}
 use Rattle.dom_traversal.proofs.Lists.{name_eq-true, name_eq-from}

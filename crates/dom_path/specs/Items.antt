@@ -8,8 +8,8 @@ use Rattle.dom_model.specs.Paths.{View, retarget, retarget_related, event_path}
 use Rattle.dom_model.specs.Slots.{is_assigned_to}
 use Rattle.dom_model.specs.Tree.{is_shadow}
 use Rattle.dom_model.specs.World.{World, kind_at}
-use Rattle.dom_isolation.specs.Laws.{IsReached}
-use Rattle.dom_isolation.specs.Tables.{IsWhole}
+use Rattle.dom_worlds.specs.Reached.{IsReached}
+use Rattle.dom_worlds.specs.Tables.{IsWhole}
 use Rattle.dom_tree.specs.Forest.{NamedTrees, name_at}
 use Rattle.dom_slots.specs.Hosts.{ShadowHost}
 use Rattle.dom_slots.specs.Shadows.{shadows, IsShownBy}

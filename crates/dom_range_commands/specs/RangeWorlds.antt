@@ -3,8 +3,8 @@ use Rattle.std.specs.List.{AllByRecursion}
 use Rattle.dom_base.specs.declared.Owner.{Owner}
 use Rattle.dom_model.specs.Part.{first_node}
 use Rattle.dom_model.specs.World.{World, part_of}
-use Rattle.dom_isolation.specs.Tables.{IsNodeIn, EndsIn}
-use Rattle.dom_isolation.specs.Worlds.{IsThere}
+use Rattle.dom_worlds.specs.Tables.{IsNodeIn, EndsIn}
+use Rattle.dom_worlds.specs.Worlds.{IsThere}
 use Rattle.dom_range_ops.specs.Extractions.{ShadowRootsHaveNoParent}
 
 -- each owner that is there has its first node (own rule)

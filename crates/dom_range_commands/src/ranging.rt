@@ -3,7 +3,7 @@ ghost use Rattle.std.specs.Prelude.{◌≡◌, ◌<◌, length, true};
 ghost use Rattle.dom_model.specs.Command.{range_new, range_start, range_end, range_collapse, range_drop, range_get, range_text};
 ghost use Rattle.dom_model.specs.Command.{extract as extract_command, delete as delete_command, insert_node as insert_node_command};
 ghost use Rattle.dom_model.specs.Ranges.{at};
-ghost use Rattle.dom_isolation.specs.Bounds.{IsBounded};
+ghost use Rattle.dom_worlds.specs.Bounds.{IsBounded};
 ghost use Rattle.dom_tree.specs.Forest.{name_at};
 ghost use Rattle.dom_printer.specs.Replies.{boundary_view};
 ghost use Rattle.dom_reader.specs.Views.{command_view, spelled_view};

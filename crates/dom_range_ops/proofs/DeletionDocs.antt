@@ -2,8 +2,8 @@
 use Rattle.std.proofs.Common.{◌≡◌, ◌<◌, ℕ, true, List, [], length, map, Some, is_some, Result, Ok, Err, sym, ap, subst, ◌∙◌}
 use Rattle.std.specs.Prelude.{IfOk, IsTrue}
 use Rattle.std.specs.Option.{ForSome}
-use Rattle.dom_isolation.specs.Bounds.{IsWithin, HasBounds}
-use Rattle.dom_isolation.specs.Tables.{HasEnds}
+use Rattle.dom_worlds.specs.Bounds.{IsWithin, HasBounds}
+use Rattle.dom_worlds.specs.Tables.{HasEnds}
 use Rattle.dom_model.specs.Command.{Command}
 use Rattle.dom_model.specs.Effects.{Effect, effect}
 use Rattle.dom_model.specs.Output.{boundaries}

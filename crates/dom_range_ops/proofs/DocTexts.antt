@@ -6,9 +6,9 @@ use Rattle.std.specs.List.{AllByRecursion}
 use Rattle.std.specs.Option.{option_flatten, option_map_or}
 use Rattle.dom_base.specs.declared.NodeName.{NodeName}
 use Rattle.dom_base.specs.declared.Owner.{Owner}
-use Rattle.dom_isolation.specs.Bounds.{IsWithin, EndsWithin, HasBounds}
-use Rattle.dom_isolation.specs.Tables.{HasEnds}
-use Rattle.dom_isolation.proofs.TextBounds.{text-data}
+use Rattle.dom_worlds.specs.Bounds.{IsWithin, EndsWithin, HasBounds}
+use Rattle.dom_worlds.specs.Tables.{HasEnds}
+use Rattle.dom_worlds.proofs.TextBounds.{text-data}
 use Rattle.dom_model.specs.Command.{Command}
 use Rattle.dom_model.specs.Effects.{Effect, effect}
 use Rattle.dom_model.specs.Output.{nothing, boundaries}

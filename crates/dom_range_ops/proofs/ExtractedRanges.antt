@@ -8,9 +8,9 @@ use Rattle.std.proofs.lemmas.Bool.{ltb-false}
 use Rattle.dom_base.specs.declared.NodeName.{NodeName}
 use Rattle.dom_base.specs.declared.Owner.{Owner}
 use Rattle.dom_base.specs.declared.Refusal.TheVariants.{Limit}
-use Rattle.dom_isolation.specs.Bounds.{HasBounds}
-use Rattle.dom_isolation.specs.Tables.{HasEnds}
-use Rattle.dom_isolation.specs.Worlds.{IsPart}
+use Rattle.dom_worlds.specs.Bounds.{HasBounds}
+use Rattle.dom_worlds.specs.Tables.{HasEnds}
+use Rattle.dom_worlds.specs.Worlds.{IsPart}
 use Rattle.dom_model.specs.CommandRefusals.{limit_on, of_range, past_limit}
 use Rattle.dom_model.specs.Effects.{plan_of_range}
 use Rattle.dom_model.specs.Extract.{pieces_of, made_by_extracting, extracting, new_fragment_node, own_document, new_place}

@@ -4,11 +4,11 @@ use Rattle.std.specs.Prelude.{slice_get}
 use Rattle.std.specs.Option.{ForSome}
 use Rattle.dom_base.specs.declared.NodeName.{NodeName}
 use Rattle.dom_base.specs.declared.Owner.{Owner}
-use Rattle.dom_isolation.specs.Worlds.{IsPart}
-use Rattle.dom_isolation.proofs.Childs.{children-childs}
-use Rattle.dom_isolation.proofs.PlanChildren.{IsChild as IsBelow, child-parent}
-use Rattle.dom_isolation.proofs.RangeBounds.{child-there_in}
-use Rattle.dom_isolation.proofs.TableRecords.{IfSome, all-get}
+use Rattle.dom_worlds.specs.Worlds.{IsPart}
+use Rattle.dom_worlds.proofs.Childs.{children-childs}
+use Rattle.dom_worlds.proofs.PlanChildren.{IsChild as IsBelow, child-parent}
+use Rattle.dom_worlds.proofs.RangeBounds.{child-there_in}
+use Rattle.dom_worlds.proofs.TableRecords.{IfSome, all-get}
 use Rattle.dom_model.specs.Names.{first_of}
 use Rattle.dom_model.specs.Tree.{children_of}
 use Rattle.dom_model.specs.World.{part_of}

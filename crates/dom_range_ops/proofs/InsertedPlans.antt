@@ -4,7 +4,7 @@ use Rattle.std.specs.Option.{ForSome}
 use Rattle.std.proofs.lemmas.Bool.{cond-false}
 use Rattle.dom_base.specs.declared.NodeName.{NodeName}
 use Rattle.dom_base.specs.declared.Owner.{Owner}
-use Rattle.dom_isolation.proofs.Trees.{name_eq-sym}
+use Rattle.dom_worlds.proofs.Trees.{name_eq-sym}
 use Rattle.dom_model.specs.Changes.{Plan, ◌and_then◌, observed, removing, inserting, reference_for}
 use Rattle.dom_model.specs.Names.{name_eq}
 use Rattle.dom_model.specs.Ranges.{at}

@@ -4,7 +4,7 @@ use Rattle.std.proofs.Common.{subst, arith}
 use Rattle.std.proofs.lemmas.Bool.{ltb-false}
 use Rattle.dom_base.specs.declared.NodeName.{NodeName}
 use Rattle.dom_base.specs.declared.Owner.{Owner}
-use Rattle.dom_isolation.specs.Worlds.{IsPart}
+use Rattle.dom_worlds.specs.Worlds.{IsPart}
 use Rattle.dom_model.specs.Changes.{Plan}
 use Rattle.dom_model.specs.CommandRefusals.{past_limit}
 use Rattle.dom_model.specs.Part.{Part, range_at}

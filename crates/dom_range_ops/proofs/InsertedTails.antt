@@ -7,16 +7,16 @@ use Rattle.std.proofs.Math.Seq.{get_or-append_seam}
 use Rattle.dom_base.specs.declared.NodeName.{NodeName}
 use Rattle.dom_base.specs.declared.Owner.{Owner}
 use Rattle.dom_base.specs.declared.Owner.TheVariants.{Page}
-use Rattle.dom_isolation.specs.Bounds.{HasBounds}
-use Rattle.dom_isolation.specs.Worlds.{IsPart}
-use Rattle.dom_isolation.proofs.Descents.{ancestor-inside}
-use Rattle.dom_isolation.proofs.InsideAncestors.{inside-no_ancestor}
-use Rattle.dom_isolation.proofs.KindLines.{has_node-times}
-use Rattle.dom_isolation.proofs.KeptOffsets.{split-keeps}
-use Rattle.dom_isolation.proofs.PlanChildren.{child-parent}
-use Rattle.dom_isolation.proofs.PlanPlaces.{Changed}
-use Rattle.dom_isolation.proofs.PlanTexts.{leads-splitting}
-use Rattle.dom_isolation.proofs.RangeInsertions.{tail-child}
+use Rattle.dom_worlds.specs.Bounds.{HasBounds}
+use Rattle.dom_worlds.specs.Worlds.{IsPart}
+use Rattle.dom_worlds.proofs.Descents.{ancestor-inside}
+use Rattle.dom_worlds.proofs.InsideAncestors.{inside-no_ancestor}
+use Rattle.dom_worlds.proofs.KindLines.{has_node-times}
+use Rattle.dom_worlds.proofs.KeptOffsets.{split-keeps}
+use Rattle.dom_worlds.proofs.PlanChildren.{child-parent}
+use Rattle.dom_worlds.proofs.PlanPlaces.{Changed}
+use Rattle.dom_worlds.proofs.PlanTexts.{leads-splitting}
+use Rattle.dom_worlds.proofs.RangeInsertions.{tail-child}
 use Rattle.dom_model.specs.Changes.{Plan, ◌and_then◌}
 use Rattle.dom_model.specs.Names.{node_of}
 use Rattle.dom_model.specs.Part.{Part, next_name}

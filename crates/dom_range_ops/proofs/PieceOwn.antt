@@ -4,8 +4,8 @@ use Rattle.std.specs.Prelude.{filter, find, unwrap_or, if◌then◌else◌}
 use Rattle.std.proofs.lemmas.Bool.{cases_Bool}
 use Rattle.dom_base.specs.declared.NodeName.{NodeName}
 use Rattle.dom_base.specs.declared.Owner.{Owner}
-use Rattle.dom_isolation.specs.Bounds.{IsWithin}
-use Rattle.dom_isolation.specs.Tables.{HasEnds}
+use Rattle.dom_worlds.specs.Bounds.{IsWithin}
+use Rattle.dom_worlds.specs.Tables.{HasEnds}
 use Rattle.dom_model.specs.Extract.{Pieces, nothing, whole, cut, clone, pieces_along, pieces_behind, pieces_in_front, tree_holding, all_whole}
 use Rattle.dom_model.specs.Extract.{◌followed_by◌, common_ancestor, is_in_one_data, pieces_apart, pieces_of}
 use Rattle.dom_model.specs.Names.{name_eq, is_in}

@@ -5,7 +5,7 @@ use Rattle.std.proofs.Math.Seq.{get_or-append_seam}
 use Rattle.dom_base.specs.declared.NodeName.{NodeName}
 use Rattle.dom_base.specs.declared.Owner.{Owner}
 use Rattle.dom_base.specs.declared.Owner.TheVariants.{Page}
-use Rattle.dom_isolation.specs.Worlds.{IsPart}
+use Rattle.dom_worlds.specs.Worlds.{IsPart}
 use Rattle.dom_model.proofs.PartLaws.{owner-part_of}
 use Rattle.dom_model.specs.Changes.{◌and_then◌, doing}
 use Rattle.dom_model.specs.Names.{node_of}

@@ -3,25 +3,25 @@ use Rattle.std.proofs.Common.{suc, ◌≡◌, ◌≤◌, ◌+◌, true, false, t
 use Rattle.std.specs.List.{AllByRecursion}
 use Rattle.std.proofs.lemmas.Bool.{and_parts}
 use Rattle.dom_base.specs.declared.NodeName.{NodeName}
-use Rattle.dom_isolation.specs.Bounds.{HasBounds}
-use Rattle.dom_isolation.specs.Tables.{HasEnds}
-use Rattle.dom_isolation.specs.Worlds.{IsPart, times_in}
-use Rattle.dom_isolation.proofs.FitPieces.{IsClonable, common_below, fit-apart, fit-pieces, whole-pieces}
-use Rattle.dom_isolation.proofs.InsideAncestors.{no_parent-root, times-has_node}
-use Rattle.dom_isolation.proofs.KeptOffsets.{make-keeps}
-use Rattle.dom_isolation.proofs.KindLines.{has_node-times}
-use Rattle.dom_isolation.proofs.Lists.{all-append, all-then}
-use Rattle.dom_isolation.proofs.NodesRead.{node-new}
-use Rattle.dom_isolation.proofs.PartSteps.{next-absent}
-use Rattle.dom_isolation.proofs.PlanContents.{OldIn, old-there}
-use Rattle.dom_isolation.proofs.PlanPlaces.{Changed, still, leads-one}
-use Rattle.dom_isolation.proofs.PlanTexts.{new-there}
-use Rattle.dom_isolation.proofs.Plans.{AreFit, AllWhole}
-use Rattle.dom_isolation.proofs.ExtractionPlans.{common-read}
-use Rattle.dom_isolation.proofs.TableSteps.{There}
-use Rattle.dom_isolation.proofs.Tests.{by_cases}
-use Rattle.dom_isolation.proofs.TreeChangeLaws.{nodes-named, nodes-then, root-below_none, times-below}
-use Rattle.dom_isolation.proofs.Trees.{times-subtree}
+use Rattle.dom_worlds.specs.Bounds.{HasBounds}
+use Rattle.dom_worlds.specs.Tables.{HasEnds}
+use Rattle.dom_worlds.specs.Worlds.{IsPart, times_in}
+use Rattle.dom_worlds.proofs.FitPieces.{IsClonable, common_below, fit-apart, fit-pieces, whole-pieces}
+use Rattle.dom_worlds.proofs.InsideAncestors.{no_parent-root, times-has_node}
+use Rattle.dom_worlds.proofs.KeptOffsets.{make-keeps}
+use Rattle.dom_worlds.proofs.KindLines.{has_node-times}
+use Rattle.dom_worlds.proofs.Lists.{all-append, all-then}
+use Rattle.dom_worlds.proofs.NodesRead.{node-new}
+use Rattle.dom_worlds.proofs.PartSteps.{next-absent}
+use Rattle.dom_worlds.proofs.PlanContents.{OldIn, old-there}
+use Rattle.dom_worlds.proofs.PlanPlaces.{Changed, still, leads-one}
+use Rattle.dom_worlds.proofs.PlanTexts.{new-there}
+use Rattle.dom_worlds.proofs.Plans.{AreFit, AllWhole}
+use Rattle.dom_worlds.proofs.ExtractionPlans.{common-read}
+use Rattle.dom_worlds.proofs.TableSteps.{There}
+use Rattle.dom_worlds.proofs.Tests.{by_cases}
+use Rattle.dom_worlds.proofs.TreeChangeLaws.{nodes-named, nodes-then, root-below_none, times-below}
+use Rattle.dom_worlds.proofs.Trees.{times-subtree}
 use Rattle.dom_model.specs.Extract.{Pieces, nothing, whole, cut, clone, tree_holding, pieces_of, common_ancestor, is_in_one_data}
 use Rattle.dom_model.specs.Names.{name_eq}
 use Rattle.dom_model.specs.Part.{Part, next_name}

@@ -1,8 +1,8 @@
 -- What is asked of the trees in which the contents of a range are deleted, and what is cut at its ends.
 use Rattle.std.specs.Prelude.{◌≡◌, ◌<◌, ℕ, true, [], length, IsTrue, Option, Some, None}
 use Rattle.dom_base.specs.declared.NodeName.{NodeName}
-use Rattle.dom_isolation.specs.Bounds.{IsWithin}
-use Rattle.dom_isolation.specs.Tables.{HasEnds}
+use Rattle.dom_worlds.specs.Bounds.{IsWithin}
+use Rattle.dom_worlds.specs.Tables.{HasEnds}
 use Rattle.dom_model.specs.Changes.{Plan, steps_of}
 use Rattle.dom_model.specs.Names.{name_eq, is_in}
 use Rattle.dom_model.specs.TextChanges.{replacing_data}

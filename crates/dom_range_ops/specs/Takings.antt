@@ -3,7 +3,7 @@ use Rattle.std.specs.Prelude.{◌≡◌, ℕ, zero, suc, ◌+◌, ◌-◌, ◌<�
 use Rattle.std.specs.List.{AllByRecursion}
 use Rattle.dom_base.specs.declared.NodeName.{NodeName}
 use Rattle.dom_base.specs.declared.Owner.{Owner}
-use Rattle.dom_isolation.specs.Bounds.{HasBounds}
+use Rattle.dom_worlds.specs.Bounds.{HasBounds}
 use Rattle.dom_model.specs.Changes.{Plan, ◌and_then◌, observed, inserting}
 use Rattle.dom_model.specs.Extract.{clone_part, making_below}
 use Rattle.dom_model.specs.Names.{node_of, first_of}

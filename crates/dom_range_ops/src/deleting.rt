@@ -3,8 +3,8 @@ ghost use Rattle.std.specs.Prelude.{◌≡◌, ◌<◌, length, map, true, is_so
 ghost use Rattle.std.specs.List.{AllByRecursion};
 ghost use Rattle.std.specs.Option.{ForSome};
 ghost use Rattle.dom_base.specs.declared.Fault.TheVariants.{Memory};
-ghost use Rattle.dom_isolation.specs.Bounds.{HasBounds};
-ghost use Rattle.dom_isolation.specs.Tables.{HasEnds};
+ghost use Rattle.dom_worlds.specs.Bounds.{HasBounds};
+ghost use Rattle.dom_worlds.specs.Tables.{HasEnds};
 ghost use Rattle.dom_model.specs.Changes.{in_turn, removing, observed};
 ghost use Rattle.dom_model.specs.Effects.{plan_of_range};
 ghost use Rattle.dom_model.specs.Extract.{is_in_one_data, new_place};

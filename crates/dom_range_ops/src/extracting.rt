@@ -3,8 +3,8 @@ ghost use Rattle.std.specs.Prelude.{◌≡◌, ◌⊎◌, suc, ◌<◌, ◌++◌
 ghost use Rattle.std.specs.List.{AllByRecursion};
 ghost use Rattle.std.specs.Option.{option_map, ForSome};
 ghost use Rattle.dom_base.specs.declared.Refusal.{Refusal as RefusalOf};
-ghost use Rattle.dom_isolation.specs.Bounds.{HasBounds};
-ghost use Rattle.dom_isolation.specs.Tables.{HasEnds};
+ghost use Rattle.dom_worlds.specs.Bounds.{HasBounds};
+ghost use Rattle.dom_worlds.specs.Tables.{HasEnds};
 ghost use Rattle.dom_model.specs.Changes.{doing};
 ghost use Rattle.dom_model.specs.CommandRefusals.{limit_on, of_range, past_limit};
 ghost use Rattle.dom_model.specs.Effects.{plan_of_range};

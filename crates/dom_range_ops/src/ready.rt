@@ -2,8 +2,8 @@
 ghost use Rattle.std.specs.Prelude.{ℕ};
 ghost use Rattle.std.specs.Option.{ForSome};
 ghost use Rattle.dom_base.specs.declared.Owner.{Owner as OwnerOf};
-ghost use Rattle.dom_isolation.specs.Bounds.{HasBounds};
-ghost use Rattle.dom_isolation.specs.Tables.{HasEnds};
+ghost use Rattle.dom_worlds.specs.Bounds.{HasBounds};
+ghost use Rattle.dom_worlds.specs.Tables.{HasEnds};
 ghost use Rattle.dom_model.specs.Part.{range_at};
 ghost use Rattle.dom_model.specs.World.{part_of};
 ghost use Rattle.dom_mutation.specs.Doc.{DocState};

@@ -1,8 +1,8 @@
 //! The text of a live range (DOM Standard, 5.5: stringification behavior).
 ghost use Rattle.std.specs.Prelude.{◌≡◌, ◌<◌, ◌++◌, length, true, false, is_some, slice_range, IfOk, OnOk};
 ghost use Rattle.std.specs.Option.{ForSome};
-ghost use Rattle.dom_isolation.specs.Bounds.{HasBounds};
-ghost use Rattle.dom_isolation.specs.Tables.{HasEnds};
+ghost use Rattle.dom_worlds.specs.Bounds.{HasBounds};
+ghost use Rattle.dom_worlds.specs.Tables.{HasEnds};
 ghost use Rattle.dom_model.specs.Part.{range_at};
 ghost use Rattle.dom_model.specs.Place.{is_before};
 ghost use Rattle.dom_model.specs.RangeOps.{range_text_of, text_part as spec_text_part};

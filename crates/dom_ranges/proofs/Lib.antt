@@ -16,3 +16,4 @@ pub mod OwnOrder
 mod Inside
 mod Siblings
 mod Leaving
+mod Staying

@@ -6,3 +6,4 @@ pub mod Climbs
 pub mod Settings
 pub mod Naming
 pub mod Listed
+pub mod Staying

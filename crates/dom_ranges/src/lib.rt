@@ -13,6 +13,6 @@ mod removing;
 mod setting;
 mod table;
 
-pub use laws::law_keys_stand_for_names;
+pub use laws::{law_ends_stay, law_keys_stand_for_names};
 pub use order::is_before;
 pub use table::{Points, RangeTable};

@@ -21,4 +21,6 @@ mod Parents
 mod Aback
 mod ReachingBack
 mod BeginningBack
+mod Fewer
+mod Rest
 pub mod Removal

@@ -1,8 +1,8 @@
 -- What a contract sees of an `Iter`: a node iterator with keys in place of names.
-use Rattle.std.specs.Prelude.{◌≡◌, ℕ, ◌<◌, Bool, false, List, length, Option, Some, None}
+use Rattle.std.specs.Prelude.{◌≡◌, ℕ, ◌<◌, Bool, false, List, filter, length, Option, Some, None}
 use Rattle.dom_base.specs.declared.NodeName.{NodeName}
 use Rattle.dom_model.specs.Command.{Filter}
-use Rattle.dom_model.specs.Traversal.{Iterator}
+use Rattle.dom_model.specs.Traversal.{Iterator, nodes_ahead, accepts}
 use Rattle.dom_model.specs.Tree.{is_inclusive_ancestor}
 use Rattle.dom_model.specs.TreeChanges.{taken_out}
 use Rattle.dom_tree.specs.Forest.{NamedTrees, name_at}
@@ -28,6 +28,14 @@ pub record IsIteratorOf (f : NamedTrees) (i : KeyedIterator) : Type 0 where
 abbrev pub iterator_at : KeyedIterator → Bool → Option ℕ → KeyedIterator
 iterator_at i before None = i
 iterator_at i before (Some k) = record i { reference = k; before = before }
+
+-- the accepted nodes of the root's tree behind the iterator
+abbrev pub iterator_rest : NamedTrees → KeyedIterator → List NodeName
+iterator_rest f i = filter (accepts f.trees i.filter) (nodes_ahead f.trees (iterator_view f.names i))
+
+-- how many nodes of the root's tree stand behind the iterator
+abbrev pub iterator_left : NamedTrees → KeyedIterator → ℕ
+iterator_left f i = length (nodes_ahead f.trees (iterator_view f.names i))
 
 -- its reference is not in a node's tree, unless its root is
 abbrev pub HasLeft : NamedTrees → KeyedIterator → ℕ → Type 0

@@ -9,7 +9,7 @@ use Rattle.dom_model.specs.Names.{name_eq, is_in}
 use Rattle.dom_model.specs.Traversal.{Walker, answer_at, accepts, skips, rejects, sibling_top}
 use Rattle.dom_model.specs.Tree.{Trees, ancestors, is_inclusive_ancestor}
 use Rattle.dom_tree.specs.Forest.{NamedTrees, name_at}
-use Rattle.dom_traversal.specs.Within.{ahead_of, from_node, up_to_tree, StandsIn, StandsBelow}
+use Rattle.dom_traversal.specs.Within.{ahead_of, behind, from_node, up_to_tree, StandsIn, StandsBelow}
 
 -- a walker by keys
 pub record KeyedWalker : Type 0 where
@@ -30,6 +30,14 @@ pub record IsWalkerOf (f : NamedTrees) (w : KeyedWalker) : Type 0 where
 abbrev pub walker_at : KeyedWalker → Option ℕ → KeyedWalker
 walker_at w None = w
 walker_at w (Some k) = record w { current = k }
+
+-- the accepted nodes of the root's tree behind the current one
+abbrev pub walker_rest : NamedTrees → KeyedWalker → List NodeName
+walker_rest f w = filter (accepts f.trees w.filter) (behind f.trees (name_at f.names w.root) (name_at f.names w.current))
+
+-- how many nodes of the root's tree stand behind the current one
+abbrev pub walker_left : NamedTrees → KeyedWalker → ℕ
+walker_left f w = length (behind f.trees (name_at f.names w.root) (name_at f.names w.current))
 
 -- whether a node is not rejected, or stands above the current node
 abbrev pub is_passable : Trees → Walker → NodeName → Bool

@@ -6,7 +6,7 @@ ghost use Rattle.dom_model.specs.Traversal.{nodes_ahead, nodes_passed, iterator_
 ghost use Rattle.dom_model.specs.Tree.{nodes, is_inclusive_ancestor};
 ghost use Rattle.dom_tree.specs.Forest.{NamedTrees, name_at};
 ghost use Rattle.dom_traversal.specs.Filters.{filter_of};
-ghost use Rattle.dom_traversal.specs.Iterators.{KeyedIterator, iterator_view, IsIteratorOf, iterator_at, HasLeft, with_taken_out};
+ghost use Rattle.dom_traversal.specs.Iterators.{KeyedIterator, iterator_view, IsIteratorOf, iterator_at, iterator_left, HasLeft, with_taken_out};
 ghost use Rattle.dom_traversal.specs.Within.{from_node, up_to_node, StandsIn};
 
 use crate::filter::Filter;
@@ -65,7 +65,10 @@ impl Iter {
         ensures value { option_map (name_at forest.now.names) result ≡ iterator_next_node forest.now.trees (iterator_view forest.now.names self.old) }
         ensures state { self.new ≡ iterator_at self.old false result }
         ensures kept { IsIteratorOf forest.now self.new }
+        // So a loop over the nodes ends.
+        ensures fewer { ForSome result (λ _. iterator_left forest.now self.new < iterator_left forest.now self.old) }
     {
+        forest.nodes_stand_once();
         let found = self
             .filter
             .first_from(forest, self.ahead(forest), self.root)?;

@@ -3,10 +3,12 @@
 
 mod filter;
 mod iter;
+mod laws;
 mod search;
 mod siblings;
 mod walker;
 
 pub use filter::Filter;
 pub use iter::{Iter, iterators_stay};
+pub use laws::law_rest;
 pub use walker::Walker;

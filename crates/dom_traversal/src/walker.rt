@@ -6,7 +6,7 @@ ghost use Rattle.dom_model.specs.Names.{first_of, last_of};
 ghost use Rattle.dom_model.specs.Traversal.{walker_move, walker_nodes};
 ghost use Rattle.dom_tree.specs.Forest.{name_at};
 ghost use Rattle.dom_traversal.specs.Filters.{filter_of};
-ghost use Rattle.dom_traversal.specs.Walkers.{walker_view, IsWalkerOf, walker_at, is_reached, stop_of, BeginsForward, ComesBack, BeginsBackward, is_candidate};
+ghost use Rattle.dom_traversal.specs.Walkers.{walker_view, IsWalkerOf, walker_at, walker_left, is_reached, stop_of, BeginsForward, ComesBack, BeginsBackward, is_candidate};
 ghost use Rattle.dom_traversal.specs.Within.{ahead_of, from_node, up_to_node, up_to_tree};
 
 use crate::filter::Filter;
@@ -68,7 +68,10 @@ impl Walker {
         ensures value { option_map (name_at forest.now.names) result ≡ walker_move forest.now.trees (walker_view forest.now.names self.old) moves.Next }
         ensures state { self.new ≡ walker_at self.old result }
         ensures kept { IsWalkerOf forest.now self.new }
+        // So a loop over the nodes ends.
+        ensures fewer { ForSome result (λ _. walker_left forest.now self.new < walker_left forest.now self.old) }
     {
+        forest.nodes_stand_once();
         let found = self.next_node(forest)?;
         self.current = found;
         Some(found)

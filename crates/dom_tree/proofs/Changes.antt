@@ -100,7 +100,7 @@ contains-put_before (x ∷ xs) c b k = elim (cases_Bool (eqb x b)) [
   | inr e ↦ rw (e, contains-put_before xs c b k) (or_turned (eqb x k) (eqb c k) (contains xs k))
 ]
 
-contains-insert_before : (xs : List ℕ) (c : ℕ) (before : Option ℕ) (k : ℕ) → contains (insert_before xs c before) k ≡ (eqb c k || contains xs k)
+pub contains-insert_before : (xs : List ℕ) (c : ℕ) (before : Option ℕ) (k : ℕ) → contains (insert_before xs c before) k ≡ (eqb c k || contains xs k)
 contains-insert_before xs c None k = contains-append xs (c ∷ []) k ∙ turned (contains xs k) (eqb c k)
   where
     turned : (x y : Bool) → (x || (y || false)) ≡ (y || x)

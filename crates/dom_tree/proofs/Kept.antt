@@ -122,7 +122,7 @@ IsKept-lists a lists keys kept sound = record {
 
 -- ---- the nodes above a node, in the lists and in the trees
 
-ancestors_nodes : (lists : List (List ℕ)) → IsForest lists → (d x a : ℕ) → length (ancestors_of lists x) ≤ d →
+pub ancestors_nodes : (lists : List (List ℕ)) → IsForest lists → (d x a : ℕ) → length (ancestors_of lists x) ≤ d →
     contains (ancestors_of lists x) a ≡ true → a < length lists
 ancestors_nodes lists forest zero x a deep found = elim (cases_Option (parent_of lists x)) [
   | inl e ↦ absurd (true≢false (sym (ap (λ ys. contains ys a) (sym (ancestors_of-root lists x e)) ∙ found)))

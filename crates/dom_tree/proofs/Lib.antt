@@ -24,3 +24,4 @@ pub mod OwnPlacings
 mod EachNode
 mod Ordered
 mod OwnNames
+mod Stays

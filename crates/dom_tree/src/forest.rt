@@ -1,9 +1,9 @@
 //! The nodes of all owners, and the trees in which they stand.
-ghost use Rattle.std.specs.Prelude.{◌≡◌, ℕ, ◌<◌, ◌↔◌, ◌++◌, ◌∷◌, [], length, true, count_by, Some, is_some, slice_get, IfOk, IfErr, OnOk, OnErr, ◌⊎◌};
+ghost use Rattle.std.specs.Prelude.{◌≡◌, ℕ, ◌<◌, ◌↔◌, ◌++◌, ◌∷◌, [], length, true, false, count_by, Some, None, is_some, slice_get, IfOk, IfErr, OnOk, OnErr, ◌⊎◌};
 ghost use Rattle.std.specs.Option.{ForSome};
 ghost use Rattle.dom_base.specs.declared.NodeName.{NodeName as Name};
 ghost use Rattle.dom_model.specs.Names.{name_eq, is_in};
-ghost use Rattle.dom_model.specs.Tree.{none, nodes, has_node, inclusive_descendants, is_inclusive_ancestor};
+ghost use Rattle.dom_model.specs.Tree.{none, nodes, has_node, inclusive_descendants, inclusive_ancestors, is_inclusive_ancestor, parent_of, children_of};
 ghost use Rattle.dom_tree.specs.Owners.{AreInOrder};
 ghost use Rattle.dom_model.specs.TreeChanges.{with_node};
 ghost use Rattle.dom_tree.specs.Forest.{name_at, next_name, count_of, node_from};
@@ -62,6 +62,13 @@ impl Forest {
         ensures key { IfOk result (λ key. key ≡ length self.old.names) }
         ensures names { OnOk result (self.new.names ≡ self.old.names ++ next_name owner self.old.names ∷ []) }
         ensures trees { OnOk result (self.new.trees ≡ with_node (node_from self.old.names (next_name owner self.old.names) node) self.old.trees) }
+        ensures unlinked { IfOk result (λ key. parent_of self.new.trees (name_at self.new.names key) ≡ None) }
+        ensures childless { IfOk result (λ key. children_of self.new.trees (name_at self.new.names key) ≡ []) }
+        ensures above_none { IfOk result (λ key. (k : ℕ) → k < length self.old.names →
+            is_inclusive_ancestor self.new.trees (name_at self.new.names key) (name_at self.new.names k) ≡ false) }
+        ensures named { OnOk result ((k : ℕ) → k < length self.old.names → name_at self.new.names k ≡ name_at self.old.names k) }
+        ensures above { OnOk result ((k : ℕ) → k < length self.old.names →
+            inclusive_ancestors self.new.trees (name_at self.old.names k) ≡ inclusive_ancestors self.old.trees (name_at self.old.names k)) }
 
         // An owner's nodes are at most 1,000,000. Nothing else but memory stops one more.
         ensures limit { (result ≡ Err (Fault.Refused Refusal.Limit)) ↔ (count_of owner self.old.names ≡ MAX_NODES) }

@@ -2,7 +2,7 @@ use Rattle.std.proofs.Common.{refl}
 use Rattle.dom_isolation.proofs.PagePaths.{views-page}
 use Rattle.dom_isolation.proofs.Dispatches.{dispatch-page}
 use Rattle.dom_isolation.proofs.ComponentCommands.{component_dispatch-agrees}
-use Rattle.dom_isolation.proofs.Visits.{fold-skips_components}
+use Rattle.dom_isolation.proofs.PageVisits.{fold-skips_components}
 use Rattle.dom_isolation.proofs.ComponentEvents.{page_visits-agree, outward_visits-agree}
 use Rattle.dom_isolation.proofs.one_dispatch.Goals as goal
 

@@ -5,7 +5,7 @@ ghost use Rattle.dom_model.specs.Tree.{kind_of, has_data};
 ghost use Rattle.dom_model.specs.TextChanges.{replacing_data, replacing_all_data};
 ghost use Rattle.dom_model.specs.World.{part_of};
 ghost use Rattle.dom_model.specs.CommandRefusals.{past_end};
-ghost use Rattle.dom_isolation.specs.Bounds.{HasBounds};
+ghost use Rattle.dom_worlds.specs.Bounds.{HasBounds};
 ghost use Rattle.dom_mutation.specs.Doc.{made, planned, name_in, owner_in, trees_in};
 ghost use Rattle.dom_mutation.specs.Ready.{IsReady};
 

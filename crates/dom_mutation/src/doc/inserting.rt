@@ -7,7 +7,7 @@ ghost use Rattle.dom_model.specs.Changes.{pre_inserting, reference_for, insertin
 ghost use Rattle.dom_base.specs.declared.Refusal.{Refusal as RefusalOf};
 ghost use Rattle.dom_model.specs.Validity.{insertion_refusal};
 ghost use Rattle.dom_model.specs.World.{part_of};
-ghost use Rattle.dom_isolation.specs.Bounds.{HasBounds};
+ghost use Rattle.dom_worlds.specs.Bounds.{HasBounds};
 ghost use Rattle.dom_tree.specs.Forest.{err_of};
 ghost use Rattle.dom_mutation.specs.Doc.{made, planned, name_in, owner_in, trees_in, MayMove, IsChild};
 ghost use Rattle.dom_mutation.specs.Ready.{IsReady};

@@ -2,7 +2,7 @@
 ghost use Rattle.std.specs.Prelude.{◌≡◌, ◌<◌, length, OnOk};
 ghost use Rattle.dom_model.specs.TextChanges.{normalizing};
 ghost use Rattle.dom_model.specs.World.{part_of};
-ghost use Rattle.dom_isolation.specs.Bounds.{HasBounds};
+ghost use Rattle.dom_worlds.specs.Bounds.{HasBounds};
 ghost use Rattle.dom_mutation.specs.Doc.{made, name_in, owner_in};
 ghost use Rattle.dom_mutation.specs.Ready.{IsReady};
 

@@ -7,7 +7,7 @@ ghost use Rattle.dom_base.specs.declared.NodeName.{NodeName as Name};
 ghost use Rattle.dom_base.specs.declared.Owner.{Owner as OwnerOf};
 ghost use Rattle.dom_model.specs.World.{part_of, is_there, is_connected};
 ghost use Rattle.dom_model.specs.CommandRefusals.{past_limit};
-ghost use Rattle.dom_isolation.specs.Worlds.{IsPart};
+ghost use Rattle.dom_worlds.specs.Worlds.{IsPart};
 ghost use Rattle.dom_mutation.specs.Doc.{name_in, owner_in, trees_in};
 ghost use Rattle.dom_mutation.specs.Hosting.{IsAlone};
 

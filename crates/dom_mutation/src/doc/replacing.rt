@@ -4,7 +4,7 @@ ghost use Rattle.dom_base.specs.declared.Refusal.{Refusal as RefusalOf};
 ghost use Rattle.dom_model.specs.Changes.{replacing};
 ghost use Rattle.dom_model.specs.Validity.{replacement_refusal};
 ghost use Rattle.dom_model.specs.World.{part_of};
-ghost use Rattle.dom_isolation.specs.Bounds.{HasBounds};
+ghost use Rattle.dom_worlds.specs.Bounds.{HasBounds};
 ghost use Rattle.dom_mutation.specs.Doc.{made, name_in, owner_in, trees_in};
 ghost use Rattle.dom_mutation.specs.Ready.{IsReady};
 

@@ -7,7 +7,7 @@ ghost use Rattle.dom_model.specs.Steps.{make_room, place, take_out, set_attribut
 ghost use Rattle.dom_model.specs.Changes.{steps_of};
 ghost use Rattle.dom_model.specs.TextChanges.{joins};
 ghost use Rattle.dom_model.specs.World.{part_of};
-ghost use Rattle.dom_isolation.specs.Bounds.{HasBounds};
+ghost use Rattle.dom_worlds.specs.Bounds.{HasBounds};
 ghost use Rattle.dom_parts.specs.Doc.{name_in, owner_in, trees_in, stepped, planned, IsChild, IsOwnNode, MayCome, JoinsFit};
 ghost use Rattle.dom_model.specs.TreeChanges.{replaced};
 

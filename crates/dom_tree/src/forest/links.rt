@@ -1,8 +1,8 @@
 //! How nodes stand in their trees, and how a tree is put into another one or taken out.
-ghost use Rattle.std.specs.Prelude.{◌≡◌, ◌<◌, length, false, Some, None};
+ghost use Rattle.std.specs.Prelude.{◌≡◌, ◌<◌, ℕ, length, false, Some, None};
 ghost use Rattle.std.specs.Option.{option_map, ForSome};
 ghost use Rattle.dom_model.specs.Names.{first_of, last_of};
-ghost use Rattle.dom_model.specs.Tree.{parent_of, children_of, next_sibling, previous_sibling, is_inclusive_ancestor, root_of};
+ghost use Rattle.dom_model.specs.Tree.{parent_of, children_of, next_sibling, previous_sibling, inclusive_ancestors, is_inclusive_ancestor, root_of};
 ghost use Rattle.dom_model.specs.TreeChanges.{placed, taken_out};
 ghost use Rattle.dom_tree.specs.Forest.{name_at};
 
@@ -68,6 +68,11 @@ impl Forest {
         ensures names { self.new.names ≡ self.old.names }
         ensures trees { self.new.trees ≡ placed (name_at self.old.names child) (name_at self.old.names parent)
             (option_map (name_at self.old.names) before) self.old.trees }
+        ensures linked { parent_of self.new.trees (name_at self.old.names child) ≡ Some (name_at self.old.names parent) }
+        // What is not below the child keeps all that is above it.
+        ensures above { (k : ℕ) → k < length self.old.names →
+            is_inclusive_ancestor self.old.trees (name_at self.old.names child) (name_at self.old.names k) ≡ false →
+            inclusive_ancestors self.new.trees (name_at self.old.names k) ≡ inclusive_ancestors self.old.trees (name_at self.old.names k) }
     {
         self.arena.link_before(parent, child, before);
     }
@@ -78,6 +83,11 @@ impl Forest {
         requires { key < length self.old.names }
         ensures names { self.new.names ≡ self.old.names }
         ensures trees { self.new.trees ≡ taken_out (name_at self.old.names key) self.old.trees }
+        ensures unlinked { parent_of self.new.trees (name_at self.old.names key) ≡ None }
+        // What is not below the node keeps all that is above it.
+        ensures above { (k : ℕ) → k < length self.old.names →
+            is_inclusive_ancestor self.old.trees (name_at self.old.names key) (name_at self.old.names k) ≡ false →
+            inclusive_ancestors self.new.trees (name_at self.old.names k) ≡ inclusive_ancestors self.old.trees (name_at self.old.names k) }
     {
         self.arena.unlink(key);
     }

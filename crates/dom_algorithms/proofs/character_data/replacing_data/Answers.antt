@@ -1,7 +1,7 @@
 use Rattle.std.proofs.Common.{◌≡◌, [], ◌∷◌, ℕ, List, length, Some, subst, sym, ap, ◌∙◌, arith}
 use Rattle.dom_base.specs.declared.NodeName.{NodeName}
-use Rattle.dom_isolation.specs.Bounds.{HasBounds}
-use Rattle.dom_isolation.specs.Worlds.{IsPart}
+use Rattle.dom_worlds.specs.Bounds.{HasBounds}
+use Rattle.dom_worlds.specs.Worlds.{IsPart}
 use Rattle.dom_model.specs.Names.{DomString}
 use Rattle.dom_model.specs.Output.{Change, character_data}
 use Rattle.dom_model.specs.Part.{Part}

@@ -1,5 +1,5 @@
 use Rattle.std.proofs.Common.{arith}
-use Rattle.dom_isolation.proofs.KindLines.{has_node-times}
+use Rattle.dom_worlds.proofs.KindLines.{has_node-times}
 use Rattle.dom_parts.specs.Doc.{name_in, trees_in}
 use Rattle.dom_parts.proofs.OwnParts.{times_same}
 use Rattle.dom_algorithms.proofs.Joined.{stands_there}

@@ -1,5 +1,5 @@
 use Rattle.std.proofs.Common.{ap, subst, ◌∙◌, arith}
-use Rattle.dom_isolation.specs.Bounds.{HasBounds}
+use Rattle.dom_worlds.specs.Bounds.{HasBounds}
 use Rattle.dom_model.specs.Tree.{index_of}
 use Rattle.dom_model.specs.World.{part_of}
 use Rattle.dom_parts.specs.Doc.{name_in, owner_in}

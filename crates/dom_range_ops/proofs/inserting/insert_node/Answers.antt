@@ -15,7 +15,7 @@ use Rattle.dom_range_ops.proofs.DocTexts.{some-of, read-points, within-at}
 use Rattle.dom_range_ops.proofs.InsertedTests.{steps-at, tests-at, refusal-at}
 use Rattle.dom_base.specs.declared.NodeName.{NodeName}
 use Rattle.dom_model.specs.Ranges.{Range}
-use Rattle.dom_isolation.specs.Worlds.{IsPart}
+use Rattle.dom_worlds.specs.Worlds.{IsPart}
 use Rattle.dom_mutation.specs.Ready.{IsReadyPart}
 use Rattle.dom_mutation.proofs.ReadyCalls.{HasLaws, stands-in, ready-planned}
 use Rattle.dom_mutation.proofs.ReadyPlans.{ready-inserting_into_range}

@@ -1,7 +1,7 @@
 use Rattle.std.proofs.Common.{◌≡◌, ◌<◌, ◌≤◌, length, true, false, arith, subst, sym}
 use Rattle.std.specs.Prelude.{count_by}
 use Rattle.dom_model.specs.Names.{name_eq}
-use Rattle.dom_isolation.specs.Worlds.{IsPart}
+use Rattle.dom_worlds.specs.Worlds.{IsPart}
 use Rattle.dom_model.specs.Tree.{Node, Trees, nodes, has_node}
 use Rattle.dom_model.specs.World.{part_of, is_there}
 use Rattle.dom_tree.specs.Owners.{trees_of_owner, AreOf}

@@ -1,6 +1,6 @@
 use Rattle.std.proofs.Common.{◌≡◌, ◌||◌, not, true, sym, ◌∙◌}
 use Rattle.std.specs.Prelude.{nat_eq}
-use Rattle.dom_isolation.proofs.Tests.{or-first, or-second}
+use Rattle.dom_worlds.proofs.Tests.{or-first, or-second}
 use Rattle.dom_path.proofs.Steps.{up-host}
 use Rattle.dom_path.proofs.stand.Stand.above.Goals as goal
 use Rattle.dom_path.proofs.stand.Stand.above.Goals.{then-composed-via-then-composed, then-composed-via-else-composed+then-ne}

@@ -1,10 +1,13 @@
 use Rattle.std.proofs.Common.{rules, ℕ, ◌^◌, ◌<◌, ap, sym, ◌∙◌, arith, subst, length}
-use Rattle.std.proofs.lemmas.List.{length-map}
+use Rattle.std.proofs.lemmas.List.{length-map, length_push}
 use Rattle.dom_model.specs.TreeChanges.{with_node}
+use Rattle.node_arena.specs.Nodes.{Nodes}
+use Rattle.dom_tree.specs.declared.data.Stored.{Stored}
 use Rattle.dom_tree.specs.Table.{keys_of}
 use Rattle.dom_tree.specs.Forest.{NamedTrees, next_name, node_from}
 use Rattle.dom_tree.proofs.Kept.{kept_with}
 use Rattle.dom_tree.proofs.Adding.{Adds, adds_from, IsKept-keys, IsKept-add, trees_of-add}
+use Rattle.dom_tree.proofs.Stays.{added_root, added_childless, added_above_none, added_named, added_above}
 use Rattle.dom_tree.proofs.forest.Forest.add.Goals as goal
 
 pub invariant_of-self-in_err-key : goal.invariant_of-self-in_err-key
@@ -36,7 +39,27 @@ adds c = adds_from c.self.inside.arena.payloads c.self.inside.arena.children (ke
 pub invariant_of-self-2 : goal.invariant_of-self-2
 invariant_of-self-2 c = IsKept-add _ _ _ _ _ _ (adds c) c.add.new.self c.add.ensures.sound (ap (λ a. a.payloads) c.in_ok-key.ensures.ok)
 
+key_within : (c : goal.After-push) → c.in_ok-key.key < length c.add.new.self.payloads
+key_within c =
+    let long = ap (λ (a : Nodes Stored). length a.payloads) c.in_ok-key.ensures.ok ∙ length_push c.self.inside.arena.payloads _ in
+    omega (arith, long, c.in_ok-key.ensures.key)
+
 pub returns-clause-trees : goal.returns-clause-trees
 returns-clause-trees c =
     trees_of-add _ _ _ _ _ _ (adds c) c.add.new.self c.add.ensures.sound c.in_ok-key.ensures.ok
     ∙ ap (λ f. with_node (node_from f.names (next_name c.args.owner f.names) c.args.node) f.trees) c.self.view_is
+
+pub returns-clause-unlinked : goal.returns-clause-unlinked
+returns-clause-unlinked c = added_root (invariant_of-self-2 c) c.in_ok-key.key (key_within c) c.in_ok-key.ensures.unlinked
+
+pub returns-clause-childless : goal.returns-clause-childless
+returns-clause-childless c = added_childless (invariant_of-self-2 c) c.in_ok-key.key (key_within c) c.in_ok-key.ensures.childless
+
+pub returns-clause-above_none : goal.returns-clause-above_none
+returns-clause-above_none c = added_above_none _ c.self.view_is c.self.invariant (invariant_of-self-2 c) c.in_ok-key.ensures.ok c.in_ok-key.key c.in_ok-key.ensures.key
+
+pub returns-clause-named : goal.returns-clause-named
+returns-clause-named c = added_named _ c.self.view_is c.self.invariant c.in_ok-key.ensures.ok
+
+pub returns-clause-above : goal.returns-clause-above
+returns-clause-above c = added_above _ c.self.view_is c.self.invariant (invariant_of-self-2 c) c.in_ok-key.ensures.ok

@@ -1,6 +1,10 @@
-use Rattle.std.proofs.Common.{ap}
+use Rattle.std.proofs.Common.{◌≡◌, ◌<◌, ℕ, List, Some, length, ap, subst, sym, ◌∙◌, arith}
 use Rattle.std.proofs.lemmas.Bool.{both_ways}
-use Rattle.dom_tree.proofs.Kept.{link_asked, link_done, kept_with}
+use Rattle.node_arena.specs.Nodes.{Nodes, IsForest, parent_of}
+use Rattle.dom_tree.specs.declared.data.Stored.{Stored}
+use Rattle.dom_tree.proofs.Changes.{linked}
+use Rattle.dom_tree.proofs.Kept.{link_asked, link_done, kept_with, within}
+use Rattle.dom_tree.proofs.Stays.{AreSameBut, moved_above, parent_shown, linked_apart, linked_parent}
 use Rattle.dom_tree.proofs.forest.Forest.link_before.Goals as goal
 
 pub link_before-requires-clause-unlinked : goal.link_before-requires-clause-unlinked
@@ -55,3 +59,24 @@ returns-clause-trees c = ap (λ g. g.trees)
       before_is_child = c.requires.before_is_child;
     })
     c.link_before.ensures.linked c.link_before.ensures.sound)
+
+parent_inside : (c : goal.After-link_before) → c.args.parent < length c.self.inside.arena.children
+parent_inside c = let inside = within c.self.view_is c.self.invariant c.args.parent c.requires.parent_is_node in omega (arith, c.self.invariant.paired)
+
+children_are : (c : goal.After-link_before) → c.link_before.new.self.children ≡ linked c.self.inside.arena.children c.args.parent c.args.child c.args.before
+children_are c = ap (λ (a : Nodes Stored). a.children) c.link_before.ensures.linked
+
+pub returns-clause-linked : goal.returns-clause-linked
+returns-clause-linked c =
+    parent_shown c.self.view_is c.self.invariant (ap (λ a. a.payloads) c.link_before.ensures.linked) c.link_before.ensures.sound c.args.child
+    c.requires.child_is_node (Some c.args.parent)
+    (ap (λ ks. parent_of ks c.args.child) (children_are c)
+    ∙ linked_parent c.self.inside.arena.children c.args.parent c.args.child c.args.before (parent_inside c)
+    (subst (λ (ks : List (List ℕ)). IsForest ks) (children_are c) c.link_before.ensures.sound.forest))
+
+pub returns-clause-above : goal.returns-clause-above
+returns-clause-above c =
+    moved_above c.self.view_is c.self.invariant c.args.child c.requires.child_is_node (ap (λ a. a.payloads) c.link_before.ensures.linked)
+    (subst (λ (ks : List (List ℕ)). AreSameBut c.args.child c.self.inside.arena.children ks) (sym (children_are c))
+    (linked_apart c.self.inside.arena.children c.args.parent c.args.child c.args.before (parent_inside c)))
+    c.link_before.ensures.sound

@@ -1,8 +1,0 @@
-use Rattle.dom_isolation.proofs.Sights.{hidden-by_roots, retarget-by_roots}
-use Rattle.dom_isolation.proofs.sights_go_by_roots.Goals as goal
-
-pub returns-clause-hidden : goal.returns-clause-hidden
-returns-clause-hidden c = hidden-by_roots
-
-pub returns-clause-retargeted : goal.returns-clause-retargeted
-returns-clause-retargeted c = retarget-by_roots

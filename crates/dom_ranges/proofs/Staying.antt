@@ -1,0 +1,184 @@
+-- The ends of a table's ranges stay at nodes, and below a bound.
+use Rattle.std.proofs.Common.{◌≡◌, inl, inr, ℕ, zero, suc, ◌+◌, ◌-◌, Bool, true, false, not, cond, List, [], ◌∷◌, ◌++◌, eqb, nat_lt}
+use Rattle.std.proofs.Common.{nat_le, Option, Some, None, refl, sym, subst, arith, true≢false}
+use Rattle.std.specs.Prelude.{slice_get, slice_set, ◌&&◌, ◌||◌}
+use Rattle.std.specs.Option.{option_map, option_flatten}
+use Rattle.std.proofs.lemmas.Bool.{eqb-true, leb-false, or_parts}
+use Rattle.std.proofs.lemmas.Option.{same_Some, none-some}
+use Rattle.dom_base.specs.declared.Owner.{Owner}
+use Rattle.dom_base.specs.declared.NodeName.{NodeName}
+use Rattle.dom_model.specs.Names.{owner_eq}
+use Rattle.dom_model.specs.Place.{Boundary}
+use Rattle.dom_model.specs.Ranges.{Range, at, from_to, boundary_eq, after_insert, after_removal, after_replace_data, after_split, after_join}
+use Rattle.node_arena.proofs.Numbers.{slice_get-set}
+use Rattle.dom_ranges.specs.Rules.{is_inside}
+use Rattle.dom_ranges.specs.Settings.{have_one_root, is_key_before, start_set, end_set}
+use Rattle.dom_ranges.specs.Staying.{IsWithin, HasRanges, Brings, NoneWithin, SameWithin, MoreWithin, WithinAtNodes}
+use Rattle.dom_ranges.specs.Staying.{MadeWithin, RemovedWithin, StartWithin, EndWithin, CollapsedWithin}
+use Rattle.dom_ranges.specs.Staying.{InsertWithin, RemovalWithin, ReplaceDataWithin, SplitWithin, JoinWithin}
+use Rattle.dom_ranges.specs.Tables.{RangeList, RangeLists, EachRange, BothEnds, ranges_of, range_in, collapsed_range}
+use Rattle.dom_ranges.proofs.Naming.{EachRange-ends}
+
+-- ---- lists of ranges
+
+each_none : (P : Range ℕ → Type 0) → EachRange P []
+each_none P k r e = absurd (none-some _ e)
+
+each_push : (P : Range ℕ → Type 0) (rs : RangeList) (r : Range ℕ) → EachRange P rs → P r → EachRange P (rs ++ Some r ∷ [])
+each_push P [] r each here zero s e = subst P (same_Some r s (same_Some _ _ e)) here
+each_push P [] r each here (suc k) s e = absurd (none-some _ e)
+each_push P (q ∷ rs) r each here zero s e = each 0 s e
+each_push P (q ∷ rs) r each here (suc k) s e = each_push P rs r (λ j t f. each (suc j) t f) here k s e
+
+each_set : (P : Range ℕ → Type 0) (rs : RangeList) (number : ℕ) (o : Option (Range ℕ)) → EachRange P rs → ((r : Range ℕ) → o ≡ Some r → P r) →
+    EachRange P (slice_set rs number o)
+each_set P rs number o each here k r e = elim (slice_get-set rs number k o (Some r) e) [
+  | inl h ↦ here r (sym h.1)
+  | inr h ↦ each k r h
+]
+
+-- a range that f rewrites
+each_rewritten : (P : Range ℕ → Type 0) (rs : RangeList) (number : ℕ) (f : Range ℕ → Range ℕ) → EachRange P rs → ((r : Range ℕ) → P r → P (f r)) →
+    EachRange P (slice_set rs number (option_map f (range_in rs number)))
+each_rewritten P rs number f each step =
+    each_set P rs number (option_map f (range_in rs number)) each (by (slice_get rs number) refl)
+  where
+    by : (o : Option (Option (Range ℕ))) → slice_get rs number ≡ o → (r : Range ℕ) → option_map f (option_flatten o) ≡ Some r → P r
+    by None e r g = absurd (none-some r g)
+    by (Some None) e r g = absurd (none-some r g)
+    by (Some (Some q)) e r g = subst P (same_Some (f q) r g) (step q (each number q e))
+
+-- ---- tables
+
+each_owner : (P : Range ℕ → Type 0) (was now : RangeLists) (owner : Owner) (rs : RangeList) → HasRanges owner rs was now →
+    ((o : Owner) → EachRange P (ranges_of was o)) → EachRange P rs → (o : Owner) → EachRange P (ranges_of now o)
+each_owner P was now owner rs is each here o =
+    subst (λ (qs : RangeList). EachRange P qs) (sym (is o)) (by (owner_eq owner o))
+  where
+    by : (b : Bool) → EachRange P (cond b rs (ranges_of was o))
+    by true = here
+    by false = each o
+
+brings : (names : List NodeName) (most more : ℕ) (f : Boundary ℕ → Boundary ℕ) →
+    ((b : Boundary ℕ) → IsWithin names most b → IsWithin names more (f b)) → Brings names most more f
+brings names most more f step was within = (
+  λ less o k r e.
+      let both = within o k r e in
+      let first = (step r.start both.0).1 in
+      let second = (step r.end both.1).1 in
+      (omega (arith, first, less), omega (arith, second, less)),
+  λ now moved o.
+      subst (λ (rs : RangeList). EachRange (BothEnds (IsWithin names more)) rs) (sym (moved o))
+      (EachRange-ends (IsWithin names most) (IsWithin names more) f step (ranges_of was o) (within o)),
+)
+
+-- ---- what a caller takes from it, and gives
+
+pub none-within : NoneWithin
+none-within names most t none o = subst (λ (rs : RangeList). EachRange (BothEnds (IsWithin names most)) rs) (sym (none o)) (each_none (BothEnds (IsWithin names most)))
+
+pub same-within : SameWithin
+same-within names most was now same within o =
+    subst (λ (rs : RangeList). EachRange (BothEnds (IsWithin names most)) rs) (sym (same o)) (within o)
+
+pub more-within : MoreWithin
+more-within names more most greater t longer up within o k r e =
+    let both = within o k r e in
+    let first = both.0 in
+    let second = both.1 in
+    ((omega (arith, first.0, longer), omega (arith, first.1, up)), (omega (arith, second.0, longer), omega (arith, second.1, up)))
+
+pub within-at_nodes : WithinAtNodes
+within-at_nodes names most t within o k r e = let both = within o k r e in (both.0.0, both.1.0)
+
+-- ---- the calls on one range
+
+pub made-within : MadeWithin
+made-within names most was now owner node there is within =
+    let here : IsWithin names most (at node 0) = (there, omega arith) in
+    each_owner (BothEnds (IsWithin names most)) was now owner _ is within
+    (each_push (BothEnds (IsWithin names most)) (ranges_of was owner) (from_to (at node 0) (at node 0)) (within owner) (here, here))
+
+pub removed-within : RemovedWithin
+removed-within names most was now owner number is within =
+    each_owner (BothEnds (IsWithin names most)) was now owner _ is within
+    (each_set (BothEnds (IsWithin names most)) (ranges_of was owner) number None (within owner) (λ r e. absurd (none-some r e)))
+
+-- a choice of ranges
+both_if : (P : Range ℕ → Type 0) (c : Bool) (q r : Range ℕ) → P q → P r → P (cond c q r)
+both_if P true q r p s = p
+both_if P false q r p s = s
+
+pub start-within : StartWithin
+start-within f most was now owner number node offset there small is within =
+    let P = BothEnds (IsWithin f.names most) in
+    let b = at node offset in
+    each_owner P was now owner _ is within
+    (each_rewritten P (ranges_of was owner) number (start_set f b) (within owner)
+    (λ r both. both_if P (have_one_root f b r.end && not (is_key_before f r.end b)) (from_to b r.end) (from_to b b) ((there, small), both.1)
+    ((there, small), (there, small))))
+
+pub end-within : EndWithin
+end-within f most was now owner number node offset there small is within =
+    let P = BothEnds (IsWithin f.names most) in
+    let b = at node offset in
+    each_owner P was now owner _ is within
+    (each_rewritten P (ranges_of was owner) number (end_set f b) (within owner)
+    (λ r both. both_if P (have_one_root f b r.start && not (is_key_before f b r.start)) (from_to r.start b) (from_to b b) (both.0, (there, small))
+    ((there, small), (there, small))))
+
+pub collapsed-within : CollapsedWithin
+collapsed-within names most was now owner number to_start is within =
+    each_owner (BothEnds (IsWithin names most)) was now owner _ is within
+    (each_rewritten (BothEnds (IsWithin names most)) (ranges_of was owner) number (collapsed_range to_start) (within owner) (by to_start))
+  where
+    by : (b : Bool) (r : Range ℕ) → BothEnds (IsWithin names most) r → BothEnds (IsWithin names most) (collapsed_range b r)
+    by true r both = (both.0, both.0)
+    by false r both = (both.1, both.1)
+
+-- ---- the steps of a change
+
+-- a choice of boundary points
+point_if : (P : Boundary ℕ → Type 0) (c : Bool) (x y : Boundary ℕ) → (c ≡ true → P x) → (c ≡ false → P y) → P (cond c x y)
+point_if P true x y p q = p refl
+point_if P false x y p q = q refl
+
+second : (x y : Bool) → (x && y) ≡ true → y ≡ true
+second true y e = e
+second false y e = absurd (true≢false (sym e))
+
+pub insert-within : InsertWithin
+insert-within names most parent index count there =
+    brings names most (most + count) (after_insert eqb parent index count) (λ b p.
+    point_if (IsWithin names (most + count)) (eqb b.node parent && nat_lt index b.offset) (at parent (b.offset + count)) b
+    (λ _. (there, omega (arith, p.1))) (λ _. (p.0, omega (arith, p.1))))
+
+pub removal-within : RemovalWithin
+removal-within f most node parent index there small =
+    brings f.names most most (after_removal eqb (is_inside f node) parent index) (λ b p.
+    point_if (IsWithin f.names most) (is_inside f node b.node) (at parent index) _ (λ _. (there, small)) (λ _.
+    point_if (IsWithin f.names most) (eqb b.node parent && nat_lt index b.offset) (at parent (b.offset - 1)) b
+    (λ _. (there, omega (arith, p.1))) (λ _. p)))
+
+pub replace_data-within : ReplaceDataWithin
+replace_data-within names most node offset count size there =
+    brings names most (most + size) (after_replace_data eqb node offset count size) (λ b p.
+    point_if (IsWithin names (most + size)) (not (eqb b.node node) || nat_le b.offset offset) b _ (λ _. (p.0, omega (arith, p.1))) (λ off.
+    let past = leb-false b.offset offset (or_parts (not (eqb b.node node)) (nat_le b.offset offset) off).1 in
+    point_if (IsWithin names (most + size)) (nat_le b.offset (offset + count)) (at node offset) (at node (b.offset + size - count))
+    (λ _. (there, omega (arith, p.1, past))) (λ _. (there, omega (arith, p.1)))))
+
+pub split-within : SplitWithin
+split-within names most node offset new parent index fresh above =
+    brings names most (most + 1) (after_split eqb node offset new parent index) (λ b p.
+    point_if (IsWithin names (most + 1)) (eqb b.node node && nat_lt offset b.offset) (at new (b.offset - offset)) _ (λ _. (fresh, omega (arith, p.1))) (λ _.
+    point_if (IsWithin names (most + 1)) (boundary_eq eqb b (at parent (index + 1))) (at parent (index + 2)) b
+    (λ same. let is = eqb-true b.offset (index + 1) (second (eqb b.node parent) _ same) in (above, omega (arith, p.1, is)))
+    (λ _. (p.0, omega (arith, p.1)))))
+
+pub join-within : JoinWithin
+join-within names most first size next parent index there =
+    brings names most (most + size) (after_join eqb first size next parent index) (λ b p.
+    point_if (IsWithin names (most + size)) (eqb b.node next) (at first (b.offset + size)) _ (λ _. (there, omega (arith, p.1))) (λ _.
+    point_if (IsWithin names (most + size)) (boundary_eq eqb b (at parent index)) (at first size) b (λ _. (there, omega arith))
+    (λ _. (p.0, omega (arith, p.1)))))

@@ -1,0 +1,249 @@
+-- Commands and lines keep the ends of ranges within their nodes.
+use Rattle.std.proofs.Common.{zero, suc, ◌≡◌, ℕ, ◌+◌, Bool, true, false, not, ◌&&◌, List, [], ◌∷◌, filter, drop, Option, Some, None, option_map, refl}
+use Rattle.std.proofs.Common.{sym, arith, true≢false, subst}
+use Rattle.std.specs.Prelude.{⊤, slice_get}
+use Rattle.std.specs.List.{AllByRecursion}
+use Rattle.std.specs.Option.{option_map_or, option_flatten}
+use Rattle.std.proofs.lemmas.Bool.{and_parts, not-false, ltb-false}
+use Rattle.dom_base.specs.declared.Kind.{Kind}
+use Rattle.dom_base.specs.declared.Kind.TheVariants.{Document, Fragment, Shadow, Element, Text, Comment}
+use Rattle.dom_base.specs.declared.NodeName.{NodeName}
+use Rattle.dom_base.specs.declared.Refusal.TheVariants.{Hierarchy, IndexSize}
+use Rattle.dom_model.specs.Changes.{observed}
+use Rattle.dom_model.specs.Command.{Command}
+use Rattle.dom_model.specs.CommandNames.{named}
+use Rattle.dom_model.specs.CommandRefusals.{part_refusal, past_end, of_range}
+use Rattle.dom_model.specs.Effects.{Effect, tables, changes, effect, answers, moves_iterator, sets_walker, node_or_null, with_range, collapsed_to}
+use Rattle.dom_model.specs.Effects.{new_node, new_document_of}
+use Rattle.dom_model.specs.Extract.{both_at}
+use Rattle.dom_model.specs.Names.{name_eq}
+use Rattle.dom_model.specs.Output.{Value, nothing, a_node, a_string, boundaries, reference}
+use Rattle.dom_model.specs.Part.{Part, first_node, range_at}
+use Rattle.dom_model.specs.Place.{Boundary, same_root, is_before}
+use Rattle.dom_model.specs.RangeOps.{range_text_of}
+use Rattle.dom_model.specs.Ranges.{Range, at, from_to, with_start, with_end}
+use Rattle.dom_model.specs.Steps.{Step, after}
+use Rattle.dom_model.specs.Traversal.{Iterator, Walker, iterator_next_node, iterator_previous_node, walker_move}
+use Rattle.dom_model.specs.Tree.{Trees, Node, node_in, kind_of, has_data, is_text, child_nodes, is_inclusive_ancestor, length_of, parent_of}
+use Rattle.dom_model.specs.Validity.{first_refusal, has_parent, may_be_parent, placing_tests, insertion_refusal, replacement_refusal}
+use Rattle.dom_worlds.specs.Worlds.{IsPart}
+use Rattle.dom_worlds.proofs.Acceptance.{next-test, part-accepted}
+use Rattle.dom_worlds.proofs.Bounds.{Under, RangeUnder, reach, nowhere, HasRoom, room-make}
+use Rattle.dom_worlds.proofs.Lists.{all-append}
+use Rattle.dom_worlds.proofs.PlanBounds.{room-removing, room-adopting, room-inserting, room-replacing, room-setting_attribute}
+use Rattle.dom_worlds.proofs.PlanBounds.{room-unsetting_attribute, room-replacing_data}
+use Rattle.dom_worlds.proofs.TableCommands.{named-may, insertion-apart, replacement-apart, exists-first, exists-second}
+use Rattle.dom_worlds.proofs.TableSteps.{all-set}
+use Rattle.dom_worlds.proofs.Tests.{either_way}
+use Rattle.dom_worlds.proofs.TextBounds.{text-data, room-splitting, room-normalizing, room-setting_text}
+
+-- what an effect leaves
+abbrev pub Roomy : Part → Effect → Type 0
+Roomy p (tables q lines v) = HasRoom nowhere q
+Roomy p (changes steps v) = HasRoom nowhere (after p steps)
+
+-- The parent of an accepted insertion is open.
+parent-open : (k : Kind) → may_be_parent k ≡ true → has_data k ≡ false
+parent-open Text h = absurd (true≢false (sym h))
+parent-open Comment h = absurd (true≢false (sym h))
+parent-open Document h = refl
+parent-open Fragment h = refl
+parent-open Shadow h = refl
+parent-open Element h = refl
+
+-- by the first of the tests
+tested-open : (ts : Trees) (parent node : NodeName) (is_lost : Bool) (others : List Node) →
+    first_refusal (placing_tests ts parent node is_lost others) ≡ None → has_data (kind_of ts parent) ≡ false
+tested-open ts parent node is_lost others h =
+    parent-open (kind_of ts parent) (not-false (may_be_parent (kind_of ts parent))
+    (next-test (not (may_be_parent (kind_of ts parent))) Hierarchy (drop 1 (placing_tests ts parent node is_lost others)) h).0)
+
+-- of an insertion
+pub insertion-open : (ts : Trees) (parent node : NodeName) (child : Option NodeName) → insertion_refusal ts parent node child ≡ None →
+    has_data (kind_of ts parent) ≡ false
+insertion-open ts parent node child h = tested-open ts parent node (option_map_or (λ c. not (has_parent ts parent c)) child false) (child_nodes ts parent) h
+
+-- of a replacement
+replacement-open : (ts : Trees) (parent node child : NodeName) → replacement_refusal ts parent node child ≡ None → has_data (kind_of ts parent) ≡ false
+replacement-open ts parent node child h =
+    tested-open ts parent node (not (has_parent ts parent child)) (filter (λ (n : Node). not (name_eq n.name child)) (child_nodes ts parent)) h
+
+-- the first node that a command names fits
+fits-first : (b rest : Bool) → (b && rest) ≡ true → b ≡ true
+fits-first b rest h = (and_parts b rest h).0
+
+-- Ranges that are written.
+room-range : (p : Part) (k : ℕ) (r : Option (Range NodeName)) → HasRoom nowhere p → RangeUnder (reach nowhere p) r → HasRoom nowhere (with_range p k r)
+room-range p k r h u = record { bounds = all-set (RangeUnder (reach nowhere p)) p.ranges k r h.bounds u; leaves = h.leaves }
+
+-- a range that is looked up
+pub under-at : (p : Part) (k : ℕ) → HasRoom nowhere p → RangeUnder (reach nowhere p) (range_at p k)
+under-at p k h = each p.ranges k h.bounds
+  where
+    each : (rs : List (Option (Range NodeName))) (k : ℕ) → AllByRecursion (RangeUnder (reach nowhere p)) rs →
+        RangeUnder (reach nowhere p) (option_flatten (slice_get rs k))
+    each [] k g = tt
+    each (None ∷ rs) zero g = tt
+    each (Some r ∷ rs) zero g = g.0
+    each (r ∷ rs) (suc k) g = each rs k g.1
+
+-- with other ends
+under-mapped : (c : NodeName → ℕ) (f : Range NodeName → Range NodeName) →
+    ((r : Range NodeName) → Under c r.start → Under c r.end → Under c (f r).start × Under c (f r).end) → (o : Option (Range NodeName)) →
+    RangeUnder c o → RangeUnder c (option_map f o)
+under-mapped c f g None h = tt
+under-mapped c f g (Some r) h = g r h.0 h.1
+
+-- another start
+under-start : (c : NodeName → ℕ) (ts : Trees) (b : Boundary NodeName) → Under c b → (r : Range NodeName) → Under c r.start → Under c r.end →
+    Under c (with_start ts b r).start × Under c (with_start ts b r).end
+under-start c ts b u r s e = either_way (λ (q : Range NodeName). Under c q.start × Under c q.end)
+    (same_root ts b.node r.end.node && not (is_before ts r.end b)) (from_to b r.end) (from_to b b) (u, e) (u, u)
+
+-- another end
+under-end : (c : NodeName → ℕ) (ts : Trees) (b : Boundary NodeName) → Under c b → (r : Range NodeName) → Under c r.start → Under c r.end →
+    Under c (with_end ts b r).start × Under c (with_end ts b r).end
+under-end c ts b u r s e = either_way (λ (q : Range NodeName). Under c q.start × Under c q.end)
+    (same_root ts b.node r.start.node && not (is_before ts b r.start)) (from_to r.start b) (from_to b b) (s, u) (u, u)
+
+-- both at one of them
+under-collapsed : (c : NodeName → ℕ) (to_start : Bool) (r : Range NodeName) → Under c r.start → Under c r.end →
+    Under c (collapsed_to to_start r).start × Under c (collapsed_to to_start r).end
+under-collapsed c true r s e = (s, s)
+under-collapsed c false r s e = (e, e)
+
+-- an accepted offset
+accepted-offset : (p : Part) (x : NodeName) (i : ℕ) → first_refusal ((past_end p x i, IndexSize) ∷ []) ≡ None → Under (reach nowhere p) (at x i)
+accepted-offset p x i h = let low = ltb-false (length_of p.trees x) i (next-test (past_end p x i) IndexSize [] h).0 in omega arith
+
+-- what changes no range and no tree
+pub room-same : (p q : Part) → q.trees ≡ p.trees → q.ranges ≡ p.ranges → HasRoom nowhere p → HasRoom nowhere q
+room-same p q t r h =
+    record {
+      bounds = subst (AllByRecursion (RangeUnder (reach nowhere q))) (sym r)
+          (subst (λ ts. AllByRecursion (RangeUnder (λ y. length_of ts y + 0)) p.ranges) (sym t) h.bounds);
+      leaves = subst (λ ts. (y : NodeName) → has_data (kind_of ts y) ≡ true → Rattle.dom_worlds.proofs.Kids.kids ts y ≡ 0) (sym t) h.leaves;
+    }
+
+-- of a thing that may not be there
+some-room : {X : Type 0} (p : Part) (o : Option X) (f : X → Effect) (d : Effect) → ((x : X) → Roomy p (f x)) → Roomy p d → Roomy p (option_map_or f o d)
+some-room p None f d h g = g
+some-room p (Some x) f d h g = h x
+
+-- a walker that is set
+room-walker : (p : Part) (k : ℕ) (w : Walker) (o : Option NodeName) (v : Value) → HasRoom nowhere p → Roomy p (sets_walker p k w o v)
+room-walker p k w None v h = h
+room-walker p k w (Some x) v h = room-same p _ refl refl h
+
+-- a plan for a range
+pub range-room : (p : Part) (k : ℕ) (f : Range NodeName → List Step) → HasRoom nowhere p →
+    ((range : Range NodeName) → range_at p k ≡ Some range → HasRoom nowhere (after p (f range))) → HasRoom nowhere (after p (of_range p k [] f))
+range-room p k f h g = from (range_at p k) refl
+  where
+    from : (o : Option (Range NodeName)) → range_at p k ≡ o → HasRoom nowhere (after p (of_range p k [] f))
+    from None e = subst (λ o. HasRoom nowhere (after p (option_map_or f o []))) (sym e) h
+    from (Some range) e = subst (λ o. HasRoom nowhere (after p (option_map_or f o []))) (sym e) (g range e)
+
+-- What is shown elsewhere of the commands that take or fill the contents of a range.
+abbrev pub ForRanges : Part → Command → Type 0
+ForRanges p (Command.extract k) = HasRoom nowhere p → Roomy p (effect p (Command.extract k))
+ForRanges p (Command.delete k) = HasRoom nowhere p → Roomy p (effect p (Command.delete k))
+ForRanges p (Command.insert_node k x) = HasRoom nowhere p → Roomy p (effect p (Command.insert_node k x))
+ForRanges p c = ⊤
+
+-- Every accepted command.
+pub room-effect : (p : Part) → IsPart p → HasRoom nowhere p → (c : Command) → part_refusal p c ≡ None → ForRanges p c → Roomy p (effect p c)
+room-effect p i h (Command.new_element a) r s = room-make nowhere p (new_node p Element a [] (new_document_of p)) i h
+room-effect p i h (Command.new_text a) r s = room-make nowhere p (new_node p Text [] a (new_document_of p)) i h
+room-effect p i h (Command.new_comment a) r s = room-make nowhere p (new_node p Comment [] a (new_document_of p)) i h
+room-effect p i h Command.new_fragment r s = room-make nowhere p (new_node p Fragment [] [] (new_document_of p)) i h
+room-effect p i h Command.new_document r s = room-make nowhere p (new_node p Document [] [] None) i h
+room-effect p i h (Command.append a x) r s =
+    let k = part-accepted p (Command.append a x) r in
+    room-inserting observed (named p x) (named p a) None p i
+    (named-may p x (named p a) i (exists-second p a x true true k.exist)
+    (exists-first p a (Rattle.dom_model.specs.Tree.has_node p.trees (named p x) && true) true k.exist)
+    (insertion-apart p.trees (named p a) (named p x) None k.own)) (insertion-open p.trees (named p a) (named p x) None k.own) h
+room-effect p i h (Command.insert a x c) r s =
+    let k = part-accepted p (Command.insert a x c) r in
+    let rest = Rattle.dom_model.specs.Tree.has_node p.trees (named p c) && true in
+    room-inserting observed (named p x) (named p a) _ p i
+    (named-may p x (named p a) i (exists-second p a x rest true k.exist)
+    (exists-first p a (Rattle.dom_model.specs.Tree.has_node p.trees (named p x) && rest) true k.exist)
+    (insertion-apart p.trees (named p a) (named p x) (Some (named p c)) k.own))
+    (insertion-open p.trees (named p a) (named p x) (Some (named p c)) k.own) h
+room-effect p i h (Command.replace a x c) r s =
+    let k = part-accepted p (Command.replace a x c) r in
+    let rest = Rattle.dom_model.specs.Tree.has_node p.trees (named p c) && true in
+    room-replacing (named p a) (named p x) (named p c) p i
+    (named-may p x (named p a) i (exists-second p a x rest true k.exist)
+    (exists-first p a (Rattle.dom_model.specs.Tree.has_node p.trees (named p x) && rest) true k.exist)
+    (replacement-apart p.trees (named p a) (named p x) (named p c) k.own)) (replacement-open p.trees (named p a) (named p x) (named p c) k.own) h
+room-effect p i h (Command.remove x) r s = room-removing nowhere observed (named p x) p i h
+room-effect p i h (Command.adopt d x) r s = room-adopting nowhere (named p d) (named p x) p i h
+room-effect p i h (Command.normalize x) r s = room-normalizing (named p x) p i h
+room-effect p i h (Command.set_attribute x a v) r s = room-setting_attribute (named p x) a v p i h
+room-effect p i h (Command.unset_attribute x a) r s = room-unsetting_attribute (named p x) a p i h
+room-effect p i h (Command.set_data x t) r s =
+    let k = part-accepted p (Command.set_data x t) r in
+    room-replacing_data (named p x) 0 (length_of p.trees (named p x)) t p i (fits-first (has_data (kind_of p.trees (named p x))) true k.fit) h
+room-effect p i h (Command.replace_data x j n t) r s =
+    let k = part-accepted p (Command.replace_data x j n t) r in
+    room-replacing_data (named p x) j n t p i (fits-first (has_data (kind_of p.trees (named p x))) true k.fit) h
+room-effect p i h (Command.split x j) r s =
+    let k = part-accepted p (Command.split x j) r in
+    room-splitting (named p x) j p i (exists-first p x true true k.exist)
+    (text-data (kind_of p.trees (named p x)) (fits-first (is_text (kind_of p.trees (named p x))) true k.fit)) h
+room-effect p i h (Command.set_text x t) r s =
+    let k = part-accepted p (Command.set_text x t) r in
+    room-setting_text (named p x) t p i (exists-first p x true true k.exist) h
+room-effect p i h Command.range_new r s =
+    record {
+      bounds = all-append (RangeUnder (reach nowhere p)) p.ranges (Some (both_at (at (first_node p) 0)) ∷ []) h.bounds
+          ((omega arith, omega arith), tt);
+      leaves = h.leaves;
+    }
+room-effect p i h (Command.range_start k x j) r s =
+    let a = part-accepted p (Command.range_start k x j) r in
+    let b = at (named p x) j in
+    room-range p k _ h (under-mapped (reach nowhere p) (with_start p.trees b)
+    (under-start (reach nowhere p) p.trees b (accepted-offset p (named p x) j a.own)) (range_at p k) (under-at p k h))
+room-effect p i h (Command.range_end k x j) r s =
+    let a = part-accepted p (Command.range_end k x j) r in
+    let b = at (named p x) j in
+    room-range p k _ h (under-mapped (reach nowhere p) (with_end p.trees b)
+    (under-end (reach nowhere p) p.trees b (accepted-offset p (named p x) j a.own)) (range_at p k) (under-at p k h))
+room-effect p i h (Command.range_collapse k t) r s =
+    room-range p k _ h (under-mapped (reach nowhere p) (collapsed_to t) (under-collapsed (reach nowhere p) t) (range_at p k) (under-at p k h))
+room-effect p i h (Command.range_drop k) r s = room-range p k None h tt
+room-effect p i h (Command.range_get k) r s =
+    some-room p (range_at p k) (λ (r : Range NodeName). answers p (boundaries r.start r.end)) (answers p nothing) (λ x. h) h
+room-effect p i h (Command.range_text k) r s =
+    some-room p (range_at p k) (λ (r : Range NodeName). answers p (a_string (range_text_of p.trees r))) (answers p nothing) (λ x. h) h
+room-effect p i h (Command.extract k) r s = s h
+room-effect p i h (Command.delete k) r s = s h
+room-effect p i h (Command.insert_node k x) r s = s h
+room-effect p i h (Command.iterator_new x w) r s = room-same p _ refl refl h
+room-effect p i h (Command.walker_new x w) r s = room-same p _ refl refl h
+room-effect p i h (Command.iterator_next k) r s =
+    some-room p (slice_get p.iterators k) (λ i. moves_iterator p k false i (iterator_next_node p.trees i)) (answers p nothing)
+    (λ i. room-same p _ refl refl h) h
+room-effect p i h (Command.iterator_previous k) r s =
+    some-room p (slice_get p.iterators k) (λ i. moves_iterator p k true i (iterator_previous_node p.trees i)) (answers p nothing)
+    (λ i. room-same p _ refl refl h) h
+room-effect p i h (Command.iterator_at k) r s =
+    some-room p (slice_get p.iterators k) (λ (i : Iterator). answers p (reference i.reference i.before)) (answers p nothing) (λ i. h) h
+room-effect p i h (Command.walk k m) r s =
+    some-room p (slice_get p.walkers k) (λ w. sets_walker p k w (walker_move p.trees w m) (node_or_null (walker_move p.trees w m)))
+    (answers p nothing) (λ w. room-walker p k w (walker_move p.trees w m) (node_or_null (walker_move p.trees w m)) h) h
+room-effect p i h (Command.walker_at k) r s = some-room p (slice_get p.walkers k) (λ (w : Walker). answers p (a_node w.current)) (answers p nothing) (λ w. h) h
+room-effect p i h (Command.walker_set k x) r s =
+    some-room p (slice_get p.walkers k) (λ w. sets_walker p k w (Some (named p x)) nothing) (answers p nothing)
+    (λ w. room-walker p k w (Some (named p x)) nothing h) h
+room-effect p i h (Command.listen x w) r s = room-same p _ refl refl h
+room-effect p i h (Command.unlisten x e l c) r s = room-same p _ refl refl h
+room-effect p i h Command.observer r s = room-same p _ refl refl h
+room-effect p i h (Command.observe k x w) r s = room-same p _ refl refl h
+room-effect p i h (Command.disconnect k) r s = room-same p _ refl refl h
+room-effect p i h (Command.take k) r s = room-same p _ refl refl h
+room-effect p i h c r s = h

@@ -1,0 +1,202 @@
+-- What holds of the worlds holds of the first one, and attaching keeps it.
+use Rattle.std.proofs.Common.{◌≡◌, ◌≢◌, ℕ, zero, suc, ◌≤◌, ◌<◌, Bool, true, false, ◌||◌, List, [], ◌∷◌, ◌++◌, length, Option, Some, None, refl, sym}
+use Rattle.std.proofs.Common.{ap, ◌∙◌, arith, true≢false, subst}
+use Rattle.std.specs.Prelude.{IsTrue, is_some, slice_get}
+use Rattle.std.specs.List.{AllByRecursion}
+use Rattle.std.specs.Option.{option_and_then}
+use Rattle.dom_base.specs.declared.Owner.{Owner}
+use Rattle.dom_base.specs.declared.Owner.TheVariants.{Page, Component}
+use Rattle.dom_base.specs.declared.NodeName.{NodeName}
+use Rattle.dom_base.specs.declared.Kind.{Kind}
+use Rattle.dom_base.specs.declared.Kind.TheVariants.{Document, Shadow}
+use Rattle.dom_model.specs.Names.{owner_eq, name_eq, node_of}
+use Rattle.dom_model.specs.Tree.{none, tree, node_in}
+use Rattle.dom_model.specs.Part.{Part, empty_part}
+use Rattle.dom_model.specs.World.{World, part_of, with_part, is_there, host_of, component_made, MayAttach, shadow_root_of}
+use Rattle.dom_model.specs.DocumentMachine.{first_world, new_root, part_with_root, attaching}
+use Rattle.dom_model.proofs.OwnerLaws.{owner_eq-true, owner_eq-false, name_eq-same, made_by-is, component_made-other}
+use Rattle.dom_model.proofs.PartLaws.{part_of-with_part, part_of-with_part-other, owner-part_of}
+use Rattle.dom_worlds.specs.Reached.{IsSound}
+use Rattle.dom_worlds.specs.Worlds.{times_in, IsPart, IsRoot, IsOf, OnlyLogs}
+use Rattle.dom_worlds.proofs.Lists.{all-append}
+use Rattle.dom_worlds.proofs.Makers.{hosted}
+use Rattle.dom_worlds.proofs.Tests.{by_cases}
+use Rattle.dom_worlds.proofs.Trees.{name_eq-true, times-here, times-elsewhere}
+use Rattle.dom_worlds.proofs.Alike.{there-with_part}
+
+-- A part with a root alone.
+part-root : (o : Owner) (k : Kind) (d : Option NodeName) → IsPart (part_with_root o k d)
+part-root o k d =
+    let n = new_root (node_of o 0) k d in
+    let is : (x : NodeName) → 1 ≤ times_in (tree n none none) x → n.name ≡ x =
+    λ x h. by_cases (name_eq n.name x) (λ e. name_eq-true n.name x e) (λ e. absurd (let g = times-elsewhere n none none x e in omega arith)) in
+    record {
+      unique = λ x. by_cases (name_eq n.name x) (λ e. let g = times-here n none none x e in omega arith)
+          (λ e. let g = times-elsewhere n none none x e in omega arith);
+      owned = λ x h. ap (λ (y : NodeName). y.owner) (sym (is x h));
+      numbered = λ x h. let same : 0 ≡ x.number = ap (λ (y : NodeName). y.number) (is x h) in omega arith;
+    }
+
+-- a part without nodes
+part-empty : (o : Owner) → IsPart (empty_part o)
+part-empty o = record { unique = λ x. omega arith; owned = λ x h. absurd (omega arith); numbered = λ x h. absurd (omega arith) }
+
+-- The first world.
+first-parts : (o : Owner) → IsPart (part_of first_world o)
+first-parts Page = part-root Page Document None
+first-parts (Component k) = part-empty (Component k)
+
+-- nobody has hosts
+first-no_hosts : (o : Owner) → (part_of first_world o).attached ≡ []
+first-no_hosts Page = refl
+first-no_hosts (Component k) = refl
+
+-- so no component is attached
+first-roots : (o : Owner) → IsTrue (is_some (host_of first_world o)) → IsRoot (part_of first_world o).trees (shadow_root_of o)
+first-roots o h = from (host_of first_world o) refl h
+  where
+    from : (m : Option NodeName) → host_of first_world o ≡ m → is_some m ≡ true → IsRoot (part_of first_world o).trees (shadow_root_of o)
+    from None e g = absurd (true≢false (sym g))
+    from (Some x) e g =
+        let k = hosted first_world o x e in
+        let none_at : slice_get (part_of first_world k.maker).attached k.number ≡ None = ap (λ hs. slice_get hs k.number) (first-no_hosts k.maker) in
+        let both : None ≡ Some x = sym none_at ∙ k.found in
+        cc
+
+-- no listener is there
+first-logs : (o : Owner) → o ≢ Page → AllByRecursion OnlyLogs (part_of first_world o).listeners
+first-logs Page f = absurd (f refl)
+first-logs (Component k) f = tt
+
+module _ {only_log : Bool} where
+  -- the first world is as it should be
+  pub quiet-first : IsSound only_log first_world
+  quiet-first =
+      record {
+        world = record {
+          page = refl;
+          parts = first-parts;
+          hosts = λ o. subst (AllByRecursion (IsOf o)) (sym (first-no_hosts o)) tt;
+          makers = λ o h. let none_at = ap length (first-no_hosts o) in absurd (omega (arith, h, none_at));
+          shadow_roots = first-roots;
+          signalled = tt;
+          tasks = λ h. refl;
+        };
+        logs = λ y. first-logs;
+      }
+
+-- Attaching.
+get-push : {P : Type 0} (xs : List NodeName) (x : NodeName) (k : ℕ) → is_some (slice_get (xs ++ x ∷ []) k) ≡ true → (k ≡ length xs → P) →
+    (is_some (slice_get xs k) ≡ true → P) → P
+get-push [] x zero h f g = f refl
+get-push [] x (suc k) h f g = absurd (true≢false (sym h))
+get-push (y ∷ xs) x zero h f g = g refl
+get-push (y ∷ xs) x (suc k) h f g = get-push xs x k h (λ e. f (ap suc e)) g
+
+-- by whether an owner is the one or the other of two, or a third
+pub by_owner : (P : Owner → Type 0) (o c : Owner) → P o → P c → ((a : Owner) → a ≢ o → c ≢ a → P a) → (a : Owner) → P a
+by_owner P o c f g h a =
+    by_cases (owner_eq o a) (λ e. subst P (owner_eq-true o a e) f)
+    (λ e. by_cases (owner_eq c a) (λ k. subst P (owner_eq-true c a k) g) (λ k. h a (λ s. owner_eq-false o a e (sym s)) (owner_eq-false c a k)))
+
+-- a new shadow root
+root-new : (o : Owner) (d : Option NodeName) → IsRoot (part_with_root o Shadow d).trees (shadow_root_of o)
+root-new o d = record { alone = ap (λ b. b || false) (name_eq-same (node_of o 0)); shadow = ((λ e. refl), tt, tt) }
+
+module _ (w : World) (o : Owner) (x : NodeName) (may : MayAttach o) where
+  -- its maker's part has one host more,
+  pub attached-maker : part_of (attaching w o x).0 o ≡ record (part_of w o) { attached = (part_of w o).attached ++ x ∷ [] }
+  attached-maker =
+      let p = part_of w o in
+      let more : Part = record p { attached = p.attached ++ x ∷ [] } in
+      let c = component_made o (length p.attached) in
+      part_of-with_part-other (with_part w more) (part_with_root c Shadow (node_in p.trees x).document) o (component_made-other o (length p.attached))
+      ∙ part_of-with_part w more o (owner-part_of w o)
+
+  -- the component has its shadow root,
+  pub attached-new : part_of (attaching w o x).0 (component_made o (length (part_of w o).attached))
+      ≡ part_with_root (component_made o (length (part_of w o).attached)) Shadow (node_in (part_of w o).trees x).document
+  attached-new =
+      let p = part_of w o in
+      let c = component_made o (length p.attached) in
+      part_of-with_part (with_part w (record p { attached = p.attached ++ x ∷ [] })) (part_with_root c Shadow (node_in p.trees x).document) c refl
+
+  -- and nothing happens to others
+  pub attached-other : (a : Owner) → a ≢ o → component_made o (length (part_of w o).attached) ≢ a → part_of (attaching w o x).0 a ≡ part_of w a
+  attached-other a f g =
+      let p = part_of w o in
+      let more : Part = record p { attached = p.attached ++ x ∷ [] } in
+      part_of-with_part-other (with_part w more) (part_with_root (component_made o (length p.attached)) Shadow (node_in p.trees x).document) a g
+      ∙ part_of-with_part-other w more a (λ e. f (sym (sym (owner-part_of w o) ∙ e)))
+
+  -- who is there stays there
+  pub attached-there : (a : Owner) → is_there w a ≡ true → is_there (attaching w o x).0 a ≡ true
+  attached-there a h =
+      let p = part_of w o in
+      let more : Part = record p { attached = p.attached ++ x ∷ [] } in
+      there-with_part (with_part w more) (part_with_root (component_made o (length p.attached)) Shadow (node_in p.trees x).document) a
+      (there-with_part w more a h)
+
+  -- who is hosted then, and is not new, was so before
+  host-older : (a : Owner) → component_made o (length (part_of w o).attached) ≢ a → IsTrue (is_some (host_of (attaching w o x).0 a)) →
+      IsTrue (is_some (host_of w a))
+  host-older a g h = from (host_of (attaching w o x).0 a) refl h
+    where
+      from : (m : Option NodeName) → host_of (attaching w o x).0 a ≡ m → is_some m ≡ true → is_some (host_of w a) ≡ true
+      from None e t = absurd (true≢false (sym t))
+      from (Some y) e t =
+          let k = hosted (attaching w o x).0 a y e in
+          let c = component_made o (length (part_of w o).attached) in
+          let got : is_some (slice_get (part_of (attaching w o x).0 k.maker).attached k.number) ≡ true = ap is_some k.found in
+          let was : is_some (slice_get (part_of w k.maker).attached k.number) ≡ true =
+          by_owner (λ m. k.maker ≡ m → is_some (slice_get (part_of w m).attached k.number) ≡ true) o c
+          (λ s. get-push (part_of w o).attached x k.number (subst (λ (hs : List NodeName). is_some (slice_get hs k.number) ≡ true)
+          (ap (λ m. (part_of (attaching w o x).0 m).attached) s ∙ ap (λ (q : Part). q.attached) attached-maker) got)
+          (λ last. absurd (g (ap (component_made o) (sym last) ∙ ap (λ m. component_made m k.number) (sym s) ∙ made_by-is a k.maker k.number k.named)))
+          (λ r. r))
+          (λ s. absurd (true≢false (sym got ∙ ap (λ (hs : List NodeName). is_some (slice_get hs k.number))
+          (ap (λ m. (part_of (attaching w o x).0 m).attached) s ∙ ap (λ (q : Part). q.attached) attached-new))))
+          (λ m f n s. sym (ap (λ (q : Part). is_some (slice_get q.attached k.number)) (ap (part_of (attaching w o x).0) s ∙ attached-other m f n)) ∙ got)
+          k.maker refl in
+          ap is_some (ap (option_and_then (λ (m : Owner × ℕ). slice_get (part_of w m.0).attached m.1)) k.named) ∙ was
+
+module _ {only_log : Bool} where
+  -- attaching keeps what holds
+  pub quiet-attaching : (w : World) (o : Owner) (x : NodeName) → MayAttach o → x.owner ≡ o → IsSound only_log w → IsSound only_log (attaching w o x).0
+  quiet-attaching w o x may h q =
+      let p = part_of w o in
+      let i = q.world in
+      let c = component_made o (length p.attached) in
+      let d = (node_in p.trees x).document in
+      let v = (attaching w o x).0 in
+      let mine = attached-maker w o x may in
+      let new = attached-new w o x may in
+      let other = attached-other w o x may in
+      let older = host-older w o x may in
+      record {
+        world = record {
+          page = attached-there w o x may Page i.page;
+          parts = by_owner (λ a. IsPart (part_of v a)) o c
+              (subst IsPart (sym mine) (record { unique = (i.parts o).unique; owned = (i.parts o).owned; numbered = (i.parts o).numbered }))
+              (subst IsPart (sym new) (part-root c Shadow d))
+              (λ a f g. subst IsPart (sym (other a f g)) (i.parts a));
+          hosts = by_owner (λ a. AllByRecursion (IsOf a) (part_of v a).attached) o c
+              (subst (λ (q : Part). AllByRecursion (IsOf o) q.attached) (sym mine) (all-append (IsOf o) p.attached (x ∷ []) (i.hosts o) (h, tt)))
+              (subst (λ (q : Part). AllByRecursion (IsOf c) q.attached) (sym new) tt)
+              (λ a f g. subst (λ (q : Part). AllByRecursion (IsOf a) q.attached) (sym (other a f g)) (i.hosts a));
+          makers = by_owner (λ a. 0 < length (part_of v a).attached → MayAttach a) o c (λ e. may)
+              (λ e. let none_at = ap (λ (q : Part). length q.attached) new in absurd (omega (arith, e, none_at)))
+              (λ a f g e. i.makers a (subst (λ (q : Part). 0 < length q.attached) (other a f g) e));
+          shadow_roots = by_owner (λ a. IsTrue (is_some (host_of v a)) → IsRoot (part_of v a).trees (shadow_root_of a)) o c
+              (λ e. subst (λ (q : Part). IsRoot q.trees (shadow_root_of o)) (sym mine)
+              (i.shadow_roots o (older o (component_made-other o (length p.attached)) e)))
+              (λ e. subst (λ (q : Part). IsRoot q.trees (shadow_root_of c)) (sym new) (root-new c d))
+              (λ a f g e. subst (λ (q : Part). IsRoot q.trees (shadow_root_of a)) (sym (other a f g)) (i.shadow_roots a (older a g e)));
+          signalled = i.signalled;
+          tasks = i.tasks;
+        };
+        logs = λ y. by_owner (λ a. a ≢ Page → AllByRecursion OnlyLogs (part_of v a).listeners) o c
+            (λ f. subst (λ (q : Part). AllByRecursion OnlyLogs q.listeners) (sym mine) (q.logs y o f))
+            (λ f. subst (λ (q : Part). AllByRecursion OnlyLogs q.listeners) (sym new) tt)
+            (λ a f g n. subst (λ (q : Part). AllByRecursion OnlyLogs q.listeners) (sym (other a f g)) (q.logs y a n));
+      }

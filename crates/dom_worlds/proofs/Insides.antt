@@ -1,0 +1,242 @@
+-- Which nodes stand in the tree of another one, how elementary changes shrink that, and that they lose no node.
+use Rattle.std.proofs.Common.{◌≡◌, ℕ, ◌+◌, ◌≤◌, true, false, Option, refl, ap, ◌∙◌, arith}
+use Rattle.std.specs.Prelude.{if◌then◌else◌}
+use Rattle.std.proofs.lemmas.Bool.{cond-true, cond-false}
+use Rattle.dom_base.specs.declared.NodeName.{NodeName}
+use Rattle.dom_model.specs.Names.{name_eq}
+use Rattle.dom_model.specs.Tree.{Trees, none, tree, Node, subtree, or_else}
+use Rattle.dom_model.specs.TreeChanges.{followed_by, without, put_before, put_below, put_root, taken_out, placed, with_node, map_nodes}
+use Rattle.dom_model.proofs.OwnerLaws.{name_eq-same}
+use Rattle.dom_worlds.specs.Worlds.{times_in}
+use Rattle.dom_worlds.proofs.Tests.{by_cases}
+use Rattle.dom_worlds.proofs.Trees.{IsUnique, by_times, times-here, times-elsewhere, times-more, times-parts, times-or_else}
+use Rattle.dom_worlds.proofs.Trees.{subtree-absent}
+use Rattle.dom_worlds.proofs.TreeChangeLaws.{put_where, where-here, where-later, put_before-where, put_root-where, without-here, without-elsewhere}
+use Rattle.dom_worlds.proofs.TreeChangeLaws.{subtree-here, subtree-elsewhere, put_below-here, put_below-elsewhere, put_below-absent}
+use Rattle.dom_worlds.proofs.TreeChangeLaws.{times-put_root, times-put_before, times-without, times-map_nodes}
+
+-- how often z stands in the trees of nodes named a
+abbrev pub inside : Trees → NodeName → NodeName → ℕ
+inside none a z = 0
+inside (tree n c r) a z = (if name_eq n.name a then times_in (tree n c none) z else inside c a z) + inside r a z
+
+-- at the first root, and elsewhere
+pub inside-here : (n : Node) (c r : Trees) (a z : NodeName) → name_eq n.name a ≡ true → inside (tree n c r) a z ≡ times_in (tree n c none) z + inside r a z
+inside-here n c r a z e = ap (λ k. k + inside r a z) (cond-true (name_eq n.name a) (times_in (tree n c none) z) (inside c a z) e)
+
+-- at another root
+pub inside-elsewhere : (n : Node) (c r : Trees) (a z : NodeName) → name_eq n.name a ≡ false → inside (tree n c r) a z ≡ inside c a z + inside r a z
+inside-elsewhere n c r a z e = ap (λ k. k + inside r a z) (cond-false (name_eq n.name a) (times_in (tree n c none) z) (inside c a z) e)
+
+-- there are no more than in all
+pub inside-times : (ts : Trees) (a z : NodeName) → inside ts a z ≤ times_in ts z
+inside-times none a z = omega arith
+inside-times (tree n c r) a z =
+    let below = inside-times c a z in
+    let behind = inside-times r a z in
+    let parts = times-parts n c r z in
+    let more = times-more n c none z in
+    by_cases (name_eq n.name a) (λ e. let g = inside-here n c r a z e in omega arith)
+    (λ e. let g = inside-elsewhere n c r a z e in let m = times-more n c r z in omega arith)
+
+-- in the tree of a node that is not there stands none
+pub inside-absent : (ts : Trees) (a z : NodeName) → times_in ts a ≡ 0 → inside ts a z ≡ 0
+inside-absent none a z h = refl
+inside-absent (tree n c r) a z h =
+    by_cases (name_eq n.name a) (λ e. absurd (let g = times-here n c r a e in omega arith))
+    (λ e. let g = times-elsewhere n c r a e in let k = inside-elsewhere n c r a z e in
+    let below = inside-absent c a z (omega arith) in let behind = inside-absent r a z (omega arith) in omega arith)
+
+-- the tree of a node that is there holds it
+pub inside-itself : (ts : Trees) (a : NodeName) → 1 ≤ times_in ts a → 1 ≤ inside ts a a
+inside-itself none a h = absurd (omega arith)
+inside-itself (tree n c r) a h =
+    by_cases (name_eq n.name a) (λ e. let g = times-here n c none a e in let k = inside-here n c r a a e in omega arith)
+    (λ e. let g = times-elsewhere n c r a e in let k = inside-elsewhere n c r a a e in
+    by_times (times_in c a) (λ z. let behind = inside-itself r a (omega arith) in omega arith) (λ z. let below = inside-itself c a z in omega arith))
+
+-- the tree of a node, read alone
+pub times-inside : (ts : Trees) (a z : NodeName) → times_in (subtree ts a) z ≤ inside ts a z
+times-inside none a z = omega arith
+times-inside (tree n c r) a z =
+    by_cases (name_eq n.name a)
+    (λ e. let g = inside-here n c r a z e in let s = ap (λ t. times_in t z) (subtree-here n c r a e) in omega arith)
+    (λ e. let g = inside-elsewhere n c r a z e in let s = ap (λ t. times_in t z) (subtree-elsewhere n c r a e) in
+    let o = times-or_else (subtree c a) (subtree r a) z in let below = times-inside c a z in let behind = times-inside r a z in omega arith)
+
+-- Two lists, and trees put into a list.
+inside-followed : (ts us : Trees) (a z : NodeName) → inside (followed_by ts us) a z ≡ inside ts a z + inside us a z
+inside-followed none us a z = omega arith
+inside-followed (tree n c r) us a z = let h = inside-followed r us a z in omega arith
+
+-- all that was put in and all that was there
+inside-where : (test : NodeName → _) (new ts : Trees) (a z : NodeName) → inside (put_where test new ts) a z ≡ inside new a z + inside ts a z
+inside-where test new none a z = omega arith
+inside-where test new (tree n c r) a z =
+    by_cases (test n.name) (λ e. ap (λ t. inside t a z) (where-here test new n c r e) ∙ inside-followed new (tree n c r) a z)
+    (λ e. let s = ap (λ t. inside t a z) (where-later test new n c r e) in let h = inside-where test new r a z in omega arith)
+
+-- by the order of names
+pub inside-put_root : (y : NodeName) (new ts : Trees) (a z : NodeName) → inside (put_root y new ts) a z ≡ inside new a z + inside ts a z
+inside-put_root y new ts a z = ap (λ t. inside t a z) (put_root-where y new ts) ∙ inside-where (Rattle.dom_model.specs.Names.name_before y) new ts a z
+
+-- before the node given
+pub inside-put_before : (before : Option NodeName) (new ts : Trees) (a z : NodeName) → inside (put_before before new ts) a z ≡ inside new a z + inside ts a z
+inside-put_before before new ts a z = ap (λ t. inside t a z) (put_before-where before new ts) ∙
+    inside-where (Rattle.dom_model.specs.TreeChanges.is_given before) new ts a z
+
+-- of the first list that is there
+inside-or_else : (ts us : Trees) (a z : NodeName) → inside (or_else ts us) a z ≤ inside ts a z + inside us a z
+inside-or_else none us a z = omega arith
+inside-or_else (tree n c r) us a z = omega arith
+
+-- what is taken out and what is left hold no more than all
+pub inside-without : (ts : Trees) (y a z : NodeName) → inside (without y ts) a z + inside (subtree ts y) a z ≤ inside ts a z
+inside-without none y a z = omega arith
+inside-without (tree n c r) y a z =
+    by_cases (name_eq n.name y)
+    (λ e. let s = ap (λ t. inside t a z) (without-here n c r y e) in let t = ap (λ t. inside t a z) (subtree-here n c r y e) in
+    let behind = inside-without r y a z in omega arith)
+    (λ e. let s = ap (λ t. inside t a z) (without-elsewhere n c r y e) in let t = ap (λ t. inside t a z) (subtree-elsewhere n c r y e) in
+    let o = inside-or_else (subtree c y) (subtree r y) a z in
+    let below = inside-without c y a z in let behind = inside-without r y a z in
+    by_cases (name_eq n.name a)
+    (λ f. let k = inside-here n c r a z f in let l = inside-here n (without y c) (without y r) a z f in
+    let w = times-without c y z in let v = inside-times (subtree c y) a z in
+    let p = times-parts n c none z in let q = times-parts n (without y c) none z in omega arith)
+    (λ f. let k = inside-elsewhere n c r a z f in let l = inside-elsewhere n (without y c) (without y r) a z f in omega arith))
+
+-- Elementary changes.
+pub inside-taken_out : (ts : Trees) (y a z : NodeName) → inside (taken_out y ts) a z ≤ inside ts a z
+inside-taken_out ts y a z = let p = inside-put_root y (subtree ts y) (without y ts) a z in let w = inside-without ts y a z in omega arith
+
+-- what is put below a node that does not stand in the tree of a
+inside-put_below : (parent : NodeName) (before : Option NodeName) (new ts : Trees) (a z : NodeName) → times_in ts parent ≤ 1 →
+    inside ts a parent ≡ 0 → inside (put_below parent before new ts) a z ≤ inside new a z + inside ts a z
+inside-put_below parent before new none a z u h = omega arith
+inside-put_below parent before new (tree n c r) a z u h =
+    by_cases (name_eq n.name parent)
+    (λ e. let s = ap (λ t. inside t a z) (put_below-here parent before new n c r e) in
+    let g = times-here n c r parent e in
+    let d = ap (λ t. inside (put_before before new t) a z) (put_below-absent parent before new c (omega arith)) in
+    let f = ap (λ t. inside t a z) (put_below-absent parent before new r (omega arith)) in
+    let b = inside-put_before before new c a z in
+    by_cases (name_eq n.name a)
+    (λ k. absurd (let i = inside-here n c r a parent k in let j = times-here n c none parent e in omega arith))
+    (λ k. let i = inside-elsewhere n c r a z k in let j = inside-elsewhere n (put_before before new (put_below parent before new c))
+    (put_below parent before new r) a z k in omega arith))
+    (λ e. let s = ap (λ t. inside t a z) (put_below-elsewhere parent before new n c r e) in
+    let g = times-elsewhere n c r parent e in
+    by_cases (name_eq n.name a)
+    (λ k. let i = inside-here n c r a parent k in let j = times-more n c none parent in
+    let d = put_below-absent parent before new c (omega arith) in
+    let q = inside-here n (put_below parent before new c) (put_below parent before new r) a z k in
+    let w = ap (λ t. times_in (tree n t none) z) d in
+    let v = inside-here n c r a z k in
+    let behind = inside-put_below parent before new r a z (omega arith) (omega arith) in omega arith)
+    (λ k. let i = inside-elsewhere n c r a parent k in
+    let q = inside-elsewhere n (put_below parent before new c) (put_below parent before new r) a z k in
+    let v = inside-elsewhere n c r a z k in
+    by_times (times_in c parent)
+    (λ t. let d = ap (λ t. inside t a z) (put_below-absent parent before new c t) in let behind = inside-put_below parent before new r a z
+    (omega arith) (omega arith) in omega arith)
+    (λ t. let d = ap (λ t. inside t a z) (put_below-absent parent before new r (omega arith)) in let below = inside-put_below parent before new c
+    a z (omega arith) (omega arith) in omega arith)))
+
+-- a node that is placed
+pub inside-placed : (ts : Trees) (y parent : NodeName) (before : Option NodeName) (a z : NodeName) → IsUnique ts → inside ts a parent ≡ 0 →
+    inside (placed y parent before ts) a z ≤ inside ts a z
+inside-placed ts y parent before a z u h =
+    let once = u parent in
+    let w = times-without ts y parent in
+    let v = inside-without ts y a parent in
+    let p = inside-put_below parent before (subtree ts y) (without y ts) a z (omega arith) (omega arith) in
+    let q = inside-without ts y a z in omega arith
+
+-- a new node
+pub inside-with_node : (n : Node) (ts : Trees) (a z : NodeName) → name_eq n.name a ≡ false → inside (with_node n ts) a z ≡ inside ts a z
+inside-with_node n ts a z e = let p = inside-put_root n.name (tree n none none) ts a z in let q = inside-elsewhere n none none a z e in omega arith
+
+-- in the tree of a new node stands nothing else
+pub inside-new : (n : Node) (ts : Trees) (z : NodeName) → times_in ts n.name ≡ 0 → name_eq n.name z ≡ false → inside (with_node n ts) n.name z ≡ 0
+inside-new n ts z h e =
+    let p = inside-put_root n.name (tree n none none) ts n.name z in let q = inside-here n none none n.name z (name_eq-same n.name) in
+    let k = times-elsewhere n none none z e in let a = inside-absent ts n.name z h in omega arith
+
+-- nodes with other contents
+pub inside-map_nodes : (f : Node → Node) → ((n : Node) → (f n).name ≡ n.name) → (ts : Trees) (a z : NodeName) → inside (map_nodes f ts) a z ≡ inside ts a z
+inside-map_nodes f h none a z = refl
+inside-map_nodes f h (tree n c r) a z =
+    let g = h n in
+    let t = times-map_nodes f h (tree n c none) z in
+    let below = inside-map_nodes f h c a z in let behind = inside-map_nodes f h r a z in
+    by_cases (name_eq n.name a)
+    (λ e. let i = inside-here n c r a z e in let j = inside-here (f n) (map_nodes f c) (map_nodes f r) a z (ap (λ y. name_eq y a) g ∙ e) in omega arith)
+    (λ e. let i = inside-elsewhere n c r a z e in let j = inside-elsewhere (f n) (map_nodes f c) (map_nodes f r) a z
+    (ap (λ y. name_eq y a) g ∙ e) in omega arith)
+
+-- No node is lost.
+pub without-absent : (ts : Trees) (y : NodeName) → times_in ts y ≡ 0 → without y ts ≡ ts
+without-absent none y h = refl
+without-absent (tree n c r) y h =
+    by_cases (name_eq n.name y) (λ e. absurd (let g = times-here n c r y e in omega arith))
+    (λ e. let g = times-elsewhere n c r y e in
+    without-elsewhere n c r y e ∙ ap (λ t. tree n t (without y r)) (without-absent c y (omega arith)) ∙ ap (tree n c) (without-absent r y (omega arith)))
+
+-- these trees, or none
+pub or_else-none : (ts : Trees) → or_else ts none ≡ ts
+or_else-none none = refl
+or_else-none (tree n c r) = refl
+
+-- what is taken out and what is left are all
+pub times-parted : (ts : Trees) (y x : NodeName) → IsUnique ts → times_in (without y ts) x + times_in (subtree ts y) x ≡ times_in ts x
+times-parted none y x u = refl
+times-parted (tree n c r) y x u =
+    let once = u y in
+    by_cases (name_eq n.name y)
+    (λ e. let g = times-here n c r y e in
+    let s = ap (λ t. times_in t x) (without-here n c r y e ∙ without-absent r y (omega arith)) in let t = ap (λ t. times_in t x) (subtree-here n c r y e) in
+    let p = times-parts n c r x in omega arith)
+    (λ e. let g = times-elsewhere n c r y e in
+    let s = ap (λ t. times_in t x) (without-elsewhere n c r y e) in
+    let uc : IsUnique c = λ k. let o = u k in let m = times-more n c r k in omega arith in
+    let ur : IsUnique r = λ k. let o = u k in let m = times-more n c r k in omega arith in
+    by_times (times_in c y)
+    (λ z. let t = ap (λ t. times_in t x) (subtree-elsewhere n c r y e ∙ ap (λ t. or_else t (subtree r y)) (subtree-absent c y z)) in
+    let w = ap (λ t. times_in t x) (without-absent c y z) in let behind = times-parted r y x ur in omega arith)
+    (λ z. let t = ap (λ t. times_in t x)
+    (subtree-elsewhere n c r y e ∙ ap (or_else (subtree c y)) (subtree-absent r y (omega arith)) ∙ or_else-none (subtree c y)) in
+    let w = ap (λ t. times_in t x) (without-absent r y (omega arith)) in let below = times-parted c y x uc in omega arith))
+
+-- a node that leaves its parent
+pub times-taken_out_all : (ts : Trees) (y x : NodeName) → IsUnique ts → times_in (taken_out y ts) x ≡ times_in ts x
+times-taken_out_all ts y x u = let p = times-put_root y (subtree ts y) (without y ts) x in let w = times-parted ts y x u in omega arith
+
+-- all that is put below a node
+pub times-put_below_all : (parent : NodeName) (before : Option NodeName) (new ts : Trees) (x : NodeName) → times_in ts parent ≡ 1 →
+    times_in (put_below parent before new ts) x ≡ times_in new x + times_in ts x
+times-put_below_all parent before new none x h = absurd (omega arith)
+times-put_below_all parent before new (tree n c r) x h =
+    by_cases (name_eq n.name parent)
+    (λ e. let a = ap (λ t. times_in t x) (put_below-here parent before new n c r e) in
+    let g = times-here n c r parent e in
+    let b = times-put_before before new (put_below parent before new c) x in
+    let d = ap (λ t. times_in t x) (put_below-absent parent before new c (omega arith)) in
+    let f = ap (λ t. times_in t x) (put_below-absent parent before new r (omega arith)) in omega arith)
+    (λ e. let a = ap (λ t. times_in t x) (put_below-elsewhere parent before new n c r e) in
+    let g = times-elsewhere n c r parent e in
+    by_times (times_in c parent)
+    (λ z. let b = ap (λ t. times_in t x) (put_below-absent parent before new c z) in let d = times-put_below_all parent before new r x
+    (omega arith) in omega arith)
+    (λ z. let b = ap (λ t. times_in t x) (put_below-absent parent before new r (omega arith)) in let d = times-put_below_all parent before new c x
+    (omega arith) in omega arith))
+
+-- a node that is placed below one that does not stand in its tree
+pub times-placed_all : (ts : Trees) (y parent : NodeName) (before : Option NodeName) (x : NodeName) → IsUnique ts → 1 ≤ times_in ts parent →
+    inside ts y parent ≡ 0 → times_in (placed y parent before ts) x ≡ times_in ts x
+times-placed_all ts y parent before x u t h =
+    let once = u parent in
+    let s = times-inside ts y parent in
+    let w = times-parted ts y parent u in
+    let p = times-put_below_all parent before (subtree ts y) (without y ts) x (omega arith) in
+    let v = times-parted ts y x u in omega arith

@@ -1,0 +1,362 @@
+-- How many children nodes have, and what the elementary changes do to that and to the nodes themselves.
+use Rattle.std.proofs.Common.{◌≡◌, ℕ, ◌+◌, ◌≤◌, ◌<◌, Bool, true, false, List, [], ◌∷◌, ◌++◌, length, Option, Some, None, refl, sym, ap, ◌∙◌, arith}
+use Rattle.std.proofs.Common.{true≢false, subst, drop}
+use Rattle.std.specs.Prelude.{if◌then◌else◌}
+use Rattle.std.specs.Option.{option_map_or}
+use Rattle.std.proofs.lemmas.Bool.{cond-true, cond-false}
+use Rattle.dom_base.specs.declared.NodeName.{NodeName}
+use Rattle.dom_model.specs.Names.{name_eq, is_in, items_before, first_of}
+use Rattle.dom_model.specs.Tree.{Trees, none, tree, Node, names_of, roots, subtree, or_else, trees_below, children_of, parent_of, index_of}
+use Rattle.dom_model.specs.Tree.{inclusive_ancestors, on_top}
+use Rattle.dom_model.specs.TreeChanges.{followed_by, without, put_before, put_below, put_root, taken_out, placed, with_node, map_nodes}
+use Rattle.dom_model.proofs.OwnerLaws.{name_eq-same}
+use Rattle.dom_worlds.specs.Worlds.{times_in}
+use Rattle.dom_worlds.proofs.Insides.{inside, times-inside, times-parted, without-absent, or_else-none}
+use Rattle.dom_worlds.proofs.InsideAncestors.{parent-there, no_parent-root}
+use Rattle.dom_worlds.proofs.Tests.{by_cases, or-later}
+use Rattle.dom_worlds.proofs.TreeChangeLaws.{put_where, where-here, where-later, put_before-where, put_root-where, HasRoot, without-here}
+use Rattle.dom_worlds.proofs.TreeChangeLaws.{without-elsewhere, subtree-here, subtree-elsewhere, put_below-here, put_below-elsewhere}
+use Rattle.dom_worlds.proofs.TreeChangeLaws.{put_below-absent}
+use Rattle.dom_worlds.proofs.Trees.{IsUnique, by_times, times-here, times-elsewhere, times-more, subtree-absent, name_eq-sym, name_eq-true}
+use Rattle.dom_worlds.proofs.Trees.{root-there, ancestors-absent, ancestors-present}
+
+-- how many roots there are
+abbrev pub rooted : Trees → ℕ
+rooted none = 0
+rooted (tree n c r) = 1 + rooted r
+
+-- how many children the nodes of a name have
+abbrev pub kids : Trees → NodeName → ℕ
+kids none y = 0
+kids (tree n c r) y = (if name_eq n.name y then rooted c else 0) + kids c y + kids r y
+
+-- at the first root, and elsewhere
+kids-here : (n : Node) (c r : Trees) (y : NodeName) → name_eq n.name y ≡ true → kids (tree n c r) y ≡ rooted c + kids c y + kids r y
+kids-here n c r y e = ap (λ k. k + kids c y + kids r y) (cond-true (name_eq n.name y) (rooted c) 0 e)
+
+-- at another root
+kids-elsewhere : (n : Node) (c r : Trees) (y : NodeName) → name_eq n.name y ≡ false → kids (tree n c r) y ≡ kids c y + kids r y
+kids-elsewhere n c r y e = let g = ap (λ k. k + kids c y + kids r y) (cond-false (name_eq n.name y) (rooted c) 0 e) in omega arith
+
+-- a name without a node has none
+pub kids-absent : (ts : Trees) (y : NodeName) → times_in ts y ≡ 0 → kids ts y ≡ 0
+kids-absent none y h = refl
+kids-absent (tree n c r) y h =
+    by_cases (name_eq n.name y) (λ e. absurd (let g = times-here n c r y e in omega arith))
+    (λ e. let g = times-elsewhere n c r y e in let k = kids-elsewhere n c r y e in let a = kids-absent c y (omega arith) in let b = kids-absent r
+    y (omega arith) in omega arith)
+
+-- roots, read as a list
+length-roots : (ts : Trees) → length (names_of (roots ts)) ≡ rooted ts
+length-roots none = refl
+length-roots (tree n c r) = let h = length-roots r in omega arith
+
+-- the children of a node, read alone
+pub kids-below : (ts : Trees) (y : NodeName) → IsUnique ts → rooted (trees_below (subtree ts y)) ≡ kids ts y
+kids-below none y u = refl
+kids-below (tree n c r) y u =
+    let once = u y in
+    let uc : IsUnique c = λ k. let o = u k in let m = times-more n c r k in omega arith in
+    let ur : IsUnique r = λ k. let o = u k in let m = times-more n c r k in omega arith in
+    by_cases (name_eq n.name y)
+    (λ e. let g = times-here n c r y e in let s = ap (λ t. rooted (trees_below t)) (subtree-here n c r y e) in
+    let k = kids-here n c r y e in let a = kids-absent c y (omega arith) in let b = kids-absent r y (omega arith) in omega arith)
+    (λ e. let g = times-elsewhere n c r y e in let k = kids-elsewhere n c r y e in
+    by_times (times_in c y)
+    (λ z. let s = ap (λ t. rooted (trees_below t)) (subtree-elsewhere n c r y e ∙ ap (λ t. or_else t (subtree r y)) (subtree-absent c y z)) in
+    let a = kids-absent c y z in let b = kids-below r y ur in omega arith)
+    (λ z. let s = ap (λ t. rooted (trees_below t))
+    (subtree-elsewhere n c r y e ∙ ap (or_else (subtree c y)) (subtree-absent r y (omega arith)) ∙ or_else-none (subtree c y)) in
+    let a = kids-absent r y (omega arith) in let b = kids-below c y uc in omega arith))
+
+-- so the list of children has that length
+pub length-children : (ts : Trees) (y : NodeName) → IsUnique ts → length (children_of ts y) ≡ kids ts y
+length-children ts y u = length-roots (trees_below (subtree ts y)) ∙ kids-below ts y u
+
+-- Trees put into a list.
+rooted-followed : (a b : Trees) → rooted (followed_by a b) ≡ rooted a + rooted b
+rooted-followed none b = omega arith
+rooted-followed (tree n c r) b = let h = rooted-followed r b in omega arith
+
+-- children of two lists
+kids-followed : (a b : Trees) (y : NodeName) → kids (followed_by a b) y ≡ kids a y + kids b y
+kids-followed none b y = omega arith
+kids-followed (tree n c r) b y = let h = kids-followed r b y in omega arith
+
+-- roots
+rooted-where : (test : NodeName → Bool) (new ts : Trees) → rooted (put_where test new ts) ≡ rooted new + rooted ts
+rooted-where test new none = omega arith
+rooted-where test new (tree n c r) =
+    by_cases (test n.name) (λ e. ap rooted (where-here test new n c r e) ∙ rooted-followed new (tree n c r))
+    (λ e. let s = ap rooted (where-later test new n c r e) in let h = rooted-where test new r in omega arith)
+
+-- children
+kids-where : (test : NodeName → Bool) (new ts : Trees) (y : NodeName) → kids (put_where test new ts) y ≡ kids new y + kids ts y
+kids-where test new none y = omega arith
+kids-where test new (tree n c r) y =
+    by_cases (test n.name) (λ e. ap (λ t. kids t y) (where-here test new n c r e) ∙ kids-followed new (tree n c r) y)
+    (λ e. let s = ap (λ t. kids t y) (where-later test new n c r e) in let h = kids-where test new r y in omega arith)
+
+-- before the node given
+rooted-put_before : (before : Option NodeName) (new ts : Trees) → rooted (put_before before new ts) ≡ rooted new + rooted ts
+rooted-put_before before new ts = ap rooted (put_before-where before new ts) ∙ rooted-where (Rattle.dom_model.specs.TreeChanges.is_given before) new ts
+
+-- their children
+kids-put_before : (before : Option NodeName) (new ts : Trees) (y : NodeName) → kids (put_before before new ts) y ≡ kids new y + kids ts y
+kids-put_before before new ts y = ap (λ t. kids t y) (put_before-where before new ts) ∙ kids-where (Rattle.dom_model.specs.TreeChanges.is_given before) new ts y
+
+-- by the order of names
+kids-put_root : (x : NodeName) (new ts : Trees) (y : NodeName) → kids (put_root x new ts) y ≡ kids new y + kids ts y
+kids-put_root x new ts y = ap (λ t. kids t y) (put_root-where x new ts) ∙ kids-where (Rattle.dom_model.specs.Names.name_before x) new ts y
+
+-- one more, at a node
+abbrev pub one_at : NodeName → NodeName → ℕ
+one_at x y = if name_eq x y then 1 else 0
+
+-- what is put below a node
+kids-put_below : (parent : NodeName) (before : Option NodeName) (new ts : Trees) (y : NodeName) → times_in ts parent ≡ 1 →
+    kids (put_below parent before new ts) y ≡ kids new y + kids ts y + (if name_eq parent y then rooted new else 0)
+kids-put_below parent before new none y h = absurd (omega arith)
+kids-put_below parent before new (tree n c r) y h =
+    by_cases (name_eq n.name parent)
+    (λ e. let s = ap (λ t. kids t y) (put_below-here parent before new n c r e) in
+    let g = times-here n c r parent e in
+    let dc = put_below-absent parent before new c (omega arith) in
+    let d = ap (λ t. kids (put_before before new t) y) dc in
+    let dr = ap (λ t. rooted (put_before before new t)) dc in
+    let f = ap (λ t. kids t y) (put_below-absent parent before new r (omega arith)) in
+    let b = kids-put_before before new c y in
+    let br = rooted-put_before before new c in
+    let same = name_eq-true n.name parent e in
+    by_cases (name_eq n.name y)
+    (λ k. let i = kids-here n c r y k in let j = kids-here n (put_before before new (put_below parent before new c)) (put_below parent before new r) y k in
+    let l = cond-true (name_eq parent y) (rooted new) 0 (sym (ap (λ z. name_eq z y) same) ∙ k) in omega arith)
+    (λ k. let i = kids-elsewhere n c r y k in let j = kids-elsewhere n (put_before before new (put_below parent before new c))
+    (put_below parent before new r) y k in
+    let l = cond-false (name_eq parent y) (rooted new) 0 (sym (ap (λ z. name_eq z y) same) ∙ k) in omega arith))
+    (λ e. let s = ap (λ t. kids t y) (put_below-elsewhere parent before new n c r e) in
+    let g = times-elsewhere n c r parent e in
+    by_times (times_in c parent)
+    (λ t. let dc = put_below-absent parent before new c t in
+    let d = ap (λ t. kids t y) dc in let dr = ap rooted dc in
+    let behind = kids-put_below parent before new r y (omega arith) in
+    by_cases (name_eq n.name y)
+    (λ k. let i = kids-here n c r y k in let j = kids-here n (put_below parent before new c) (put_below parent before new r) y k in omega arith)
+    (λ k. let i = kids-elsewhere n c r y k in let j = kids-elsewhere n (put_below parent before new c) (put_below parent before new r) y k in omega arith))
+    (λ t. let d = ap (λ t. kids t y) (put_below-absent parent before new r (omega arith)) in
+    let below = kids-put_below parent before new c y (omega arith) in
+    let same = rooted-put_below parent before new c in
+    by_cases (name_eq n.name y)
+    (λ k. let i = kids-here n c r y k in let j = kids-here n (put_below parent before new c) (put_below parent before new r) y k in omega arith)
+    (λ k. let i = kids-elsewhere n c r y k in let j = kids-elsewhere n (put_below parent before new c) (put_below parent before new r) y k in omega arith)))
+  where
+    rooted-put_below : (parent : NodeName) (before : Option NodeName) (new ts : Trees) → rooted (put_below parent before new ts) ≡ rooted ts
+    rooted-put_below parent before new none = refl
+    rooted-put_below parent before new (tree n c r) = let h = rooted-put_below parent before new r in omega arith
+
+-- A root that is taken out of a list.
+rooted-without : (ts : Trees) (x : NodeName) → IsUnique ts → HasRoot ts x → 1 + rooted (without x ts) ≡ rooted ts
+rooted-without none x u h = absurd (true≢false (sym h))
+rooted-without (tree n c r) x u h =
+    let once = u x in
+    by_cases (name_eq n.name x)
+    (λ e. let g = times-here n c r x e in let s = ap rooted (without-here n c r x e ∙ without-absent r x (omega arith)) in omega arith)
+    (λ e. let s = ap rooted (without-elsewhere n c r x e) in
+    let later = or-later (name_eq x n.name) (is_in name_eq x (names_of (roots r))) (name_eq-sym x n.name ∙ e) h in
+    let b = rooted-without r x (λ k. let o = u k in let m = times-more n c r k in omega arith) later in omega arith)
+
+-- and its children, and all others
+kids-parted : (ts : Trees) (x y : NodeName) → IsUnique ts → HasRoot ts x → kids (without x ts) y + kids (subtree ts x) y ≡ kids ts y
+kids-parted none x y u h = absurd (true≢false (sym h))
+kids-parted (tree n c r) x y u h =
+    let once = u x in
+    by_cases (name_eq n.name x)
+    (λ e. let g = times-here n c r x e in
+    let s = ap (λ t. kids t y) (without-here n c r x e ∙ without-absent r x (omega arith)) in let t =
+    ap (λ t. kids t y) (subtree-here n c r x e) in omega arith)
+    (λ e. let g = times-elsewhere n c r x e in
+    let later = or-later (name_eq x n.name) (is_in name_eq x (names_of (roots r))) (name_eq-sym x n.name ∙ e) h in
+    let there = root-there r x later in
+    let s = ap (λ t. kids t y) (without-elsewhere n c r x e ∙ ap (λ t. tree n t (without x r)) (without-absent c x (omega arith))) in
+    let t = ap (λ t. kids t y) (subtree-elsewhere n c r x e ∙ ap (λ t. or_else t (subtree r x)) (subtree-absent c x (omega arith))) in
+    let b = kids-parted r x y (λ k. let o = u k in let m = times-more n c r k in omega arith) later in omega arith)
+
+-- the parent in the trees below a root
+below-parent : (n : Node) (c r : Trees) (x : NodeName) (path : List NodeName) → name_eq n.name x ≡ false → inclusive_ancestors c x ≡ x ∷ path →
+    parent_of (tree n c r) x ≡ first_of (path ++ n.name ∷ [])
+below-parent n c r x path e h =
+    ap (λ p. first_of (drop 1 p)) (cond-false (name_eq n.name x) (x ∷ []) (on_top (inclusive_ancestors c x) n.name (inclusive_ancestors r x)) e ∙
+    ap (λ p. on_top p n.name (inclusive_ancestors r x)) h)
+
+-- A child that is taken out of its tree: one less of its parent's.
+kids-taken : (ts : Trees) (x parent y : NodeName) → IsUnique ts → parent_of ts x ≡ Some parent →
+    (kids (without x ts) y + kids (subtree ts x) y + one_at parent y ≡ kids ts y) × (rooted (without x ts) ≡ rooted ts)
+kids-taken none x parent y u h = cc
+kids-taken (tree n c r) x parent y u h =
+    let once = u x in
+    let uc : IsUnique c = λ k. let o = u k in let m = times-more n c r k in omega arith in
+    let ur : IsUnique r = λ k. let o = u k in let m = times-more n c r k in omega arith in
+    by_cases (name_eq n.name x)
+    (λ e. let is : first_of (drop 1 (x ∷ [])) ≡ Some parent = sym
+    (ap (λ p. first_of (drop 1 p)) (cond-true (name_eq n.name x) (x ∷ []) (on_top (inclusive_ancestors c x) n.name (inclusive_ancestors r x))
+    e)) ∙ h in cc)
+    (λ e. let g = times-elsewhere n c r x e in
+    let s = without-elsewhere n c r x e in
+    by_times (times_in c x)
+    (λ z. let up : parent_of r x ≡ Some parent = sym
+    (ap (λ p. first_of (drop 1 p)) (cond-false (name_eq n.name x) (x ∷ []) (on_top (inclusive_ancestors c x) n.name (inclusive_ancestors r x))
+    e ∙ ap (λ p. on_top p n.name (inclusive_ancestors r x)) (ancestors-absent c x z))) ∙ h in
+    let b = kids-taken r x parent y ur up in
+    let b0 = b.0 in let b1 = b.1 in
+    let whole = s ∙ ap (λ t. tree n t (without x r)) (without-absent c x z) in
+    let w = ap (λ t. kids t y) whole in
+    let t = ap (λ t. kids t y) (subtree-elsewhere n c r x e ∙ ap (λ t. or_else t (subtree r x)) (subtree-absent c x z)) in
+    ((omega arith), (let v = ap rooted whole in omega arith)))
+    (λ z. let at = ancestors-present c x z in
+    let up = sym (below-parent n c r x at.0 e at.1) ∙ h in
+    let whole = s ∙ ap (tree n (without x c)) (without-absent r x (omega arith)) in
+    let w = ap (λ t. kids t y) whole in
+    let t = ap (λ t. kids t y) (subtree-elsewhere n c r x e ∙ ap (or_else (subtree c x)) (subtree-absent r x (omega arith)) ∙ or_else-none (subtree c x)) in
+    let v = ap rooted whole in
+    from (λ e. kids-taken c x parent y uc e) at.0 up at.1 uc z w t v))
+  where
+    from : (parent_of c x ≡ Some parent → (kids (without x c) y + kids (subtree c x) y + one_at parent y ≡ kids c y) × (rooted (without x c) ≡ rooted c)) →
+        (path : List NodeName) → first_of (path ++ n.name ∷ []) ≡ Some parent → inclusive_ancestors c x ≡ x ∷ path → IsUnique c → 1 ≤ times_in c x →
+        kids (without x (tree n c r)) y ≡ kids (tree n (without x c) r) y → kids (subtree (tree n c r) x) y ≡ kids (subtree c x) y →
+        rooted (without x (tree n c r)) ≡ rooted (tree n (without x c) r) →
+        (kids (without x (tree n c r)) y + kids (subtree (tree n c r) x) y + one_at parent y ≡ kids (tree n c r) y) ×
+        (rooted (without x (tree n c r)) ≡ rooted (tree n c r))
+    from f [] up path uc z w t v =
+        let both : Some n.name ≡ Some parent = up in
+        let same : n.name ≡ parent = cc in
+        let alone : parent_of c x ≡ None = ap (λ p. first_of (drop 1 p)) path in
+        let root = no_parent-root c x z alone in
+        let a = rooted-without c x uc root in
+        let b = kids-parted c x y uc root in
+        let o : one_at parent y ≡ one_at n.name y = ap (λ q. one_at q y) (sym same) in (
+          by_cases (name_eq n.name y)
+              (λ k. let i = kids-here n c r y k in let j = kids-here n (without x c) r y k in let l : one_at n.name y ≡ 1 = cond-true
+              (name_eq n.name y) 1 0 k in omega arith)
+              (λ k. let i = kids-elsewhere n c r y k in let j = kids-elsewhere n (without x c) r y k in let l : one_at n.name y ≡ 0 = cond-false
+              (name_eq n.name y) 1 0 k in omega arith),
+          omega arith,
+        )
+    from f (q ∷ path) up h uc z w t v =
+        let inner : parent_of c x ≡ Some parent = ap (λ p. first_of (drop 1 p)) h ∙ up in
+        let b = f inner in
+        let b0 = b.0 in let b1 = b.1 in (
+          by_cases (name_eq n.name y)
+              (λ k. let i = kids-here n c r y k in let j = kids-here n (without x c) r y k in omega arith)
+              (λ k. let i = kids-elsewhere n c r y k in let j = kids-elsewhere n (without x c) r y k in omega arith),
+          omega arith,
+        )
+
+-- Elementary changes.
+pub kids-taken_out : (ts : Trees) (x parent y : NodeName) → IsUnique ts → parent_of ts x ≡ Some parent → kids (taken_out x ts) y + one_at parent y ≡ kids ts y
+kids-taken_out ts x parent y u h = let p = kids-put_root x (subtree ts x) (without x ts) y in let t = (kids-taken ts x parent y u h).0 in omega arith
+
+-- of a tree alone there is one root
+rooted-subtree : (ts : Trees) (x : NodeName) → 1 ≤ times_in ts x → rooted (subtree ts x) ≡ 1
+rooted-subtree none x h = absurd (omega arith)
+rooted-subtree (tree n c r) x h =
+    by_cases (name_eq n.name x) (λ e. ap rooted (subtree-here n c r x e))
+    (λ e. let g = times-elsewhere n c r x e in
+    by_times (times_in c x)
+    (λ z. ap rooted (subtree-elsewhere n c r x e ∙ ap (λ t. or_else t (subtree r x)) (subtree-absent c x z)) ∙ rooted-subtree r x (omega arith))
+    (λ z. let b = rooted-subtree c x z in ap rooted (subtree-elsewhere n c r x e) ∙ left (subtree c x) (subtree r x) b))
+  where
+    left : (a b : Trees) → rooted a ≡ 1 → rooted (or_else a b) ≡ 1
+    left none b h = absurd (omega arith)
+    left (tree n c r) b h = h
+
+-- a root that is placed
+pub kids-placed : (ts : Trees) (x parent : NodeName) (before : Option NodeName) (y : NodeName) → IsUnique ts → 1 ≤ times_in ts parent →
+    inside ts x parent ≡ 0 → HasRoot ts x → kids (placed x parent before ts) y ≡ kids ts y + one_at parent y
+kids-placed ts x parent before y u t h k =
+    let once = u parent in
+    let s = times-inside ts x parent in
+    let w = times-parted ts x parent u in
+    let p = kids-put_below parent before (subtree ts x) (without x ts) y (omega arith) in
+    let q = kids-parted ts x y u k in
+    let one = ap (λ m. if name_eq parent y then m else 0) (rooted-subtree ts x (root-there ts x k)) in omega arith
+
+-- a new node
+pub kids-with_node : (n : Node) (ts : Trees) (y : NodeName) → kids (with_node n ts) y ≡ kids ts y
+kids-with_node n ts y =
+    let p = kids-put_root n.name (tree n none none) ts y in
+    by_cases (name_eq n.name y) (λ e. let k = kids-here n none none y e in omega arith) (λ e. let k = kids-elsewhere n none none y e in omega arith)
+
+-- nodes with other contents
+pub kids-map_nodes : (f : Node → Node) → ((n : Node) → (f n).name ≡ n.name) → (ts : Trees) (y : NodeName) → kids (map_nodes f ts) y ≡ kids ts y
+kids-map_nodes f h none y = refl
+kids-map_nodes f h (tree n c r) y =
+    let g = h n in
+    let a = kids-map_nodes f h c y in let b = kids-map_nodes f h r y in
+    let q = rooted-map c in
+    by_cases (name_eq n.name y)
+    (λ e. let i = kids-here n c r y e in let j = kids-here (f n) (map_nodes f c) (map_nodes f r) y (ap (λ z. name_eq z y) g ∙ e) in omega arith)
+    (λ e. let i = kids-elsewhere n c r y e in let j = kids-elsewhere (f n) (map_nodes f c) (map_nodes f r) y (ap (λ z. name_eq z y) g ∙ e) in omega arith)
+  where
+    rooted-map : (ts : Trees) → rooted (map_nodes f ts) ≡ rooted ts
+    rooted-map none = refl
+    rooted-map (tree n c r) = let h = rooted-map r in omega arith
+
+-- A child among the children of its parent, and its index.
+pub root-below : (ts : Trees) (x parent : NodeName) → IsUnique ts → parent_of ts x ≡ Some parent → HasRoot (trees_below (subtree ts parent)) x
+root-below none x parent u h = cc
+root-below (tree n c r) x parent u h =
+    let once = u x in
+    let once_p = u parent in
+    let uc : IsUnique c = λ k. let o = u k in let m = times-more n c r k in omega arith in
+    let ur : IsUnique r = λ k. let o = u k in let m = times-more n c r k in omega arith in
+    by_cases (name_eq n.name x)
+    (λ e. let is : first_of (drop 1 (x ∷ [])) ≡ Some parent = sym
+    (ap (λ p. first_of (drop 1 p)) (cond-true (name_eq n.name x) (x ∷ []) (on_top (inclusive_ancestors c x) n.name (inclusive_ancestors r x))
+    e)) ∙ h in cc)
+    (λ e. let g = times-elsewhere n c r x e in
+    by_times (times_in c x)
+    (λ z. let up : parent_of r x ≡ Some parent = sym
+    (ap (λ p. first_of (drop 1 p)) (cond-false (name_eq n.name x) (x ∷ []) (on_top (inclusive_ancestors c x) n.name (inclusive_ancestors r x))
+    e ∙ ap (λ p. on_top p n.name (inclusive_ancestors r x)) (ancestors-absent c x z))) ∙ h in
+    let there = parent-there r x parent up in
+    let other : name_eq n.name parent ≡ false = by_cases (name_eq n.name parent) (λ k. absurd (let q = times-here n c r parent k in omega arith)) (λ k. k) in
+    let m = times-elsewhere n c r parent other in
+    subst (λ t. HasRoot (trees_below t) x)
+    (sym (subtree-elsewhere n c r parent other ∙ ap (λ t. or_else t (subtree r parent)) (subtree-absent c parent (omega arith))))
+    (root-below r x parent ur up))
+    (λ z. let at = ancestors-present c x z in from (λ e. root-below c x parent uc e) at.0 (sym (below-parent n c r x at.0 e at.1) ∙ h) at.1 uc z once_p))
+  where
+    from : (parent_of c x ≡ Some parent → HasRoot (trees_below (subtree c parent)) x) → (path : List NodeName) →
+        first_of (path ++ n.name ∷ []) ≡ Some parent → inclusive_ancestors c x ≡ x ∷ path → IsUnique c → 1 ≤ times_in c x →
+        times_in (tree n c r) parent ≤ 1 → HasRoot (trees_below (subtree (tree n c r) parent)) x
+    from f [] up path uc z once =
+        let both : Some n.name ≡ Some parent = up in
+        let same : n.name ≡ parent = cc in
+        let alone : parent_of c x ≡ None = ap (λ p. first_of (drop 1 p)) path in
+        subst (λ t. HasRoot (trees_below t) x) (sym (subtree-here n c r parent (ap (λ q. name_eq n.name q) (sym same) ∙ name_eq-same n.name)))
+        (no_parent-root c x z alone)
+    from f (q ∷ path) up h uc z once =
+        let inner : parent_of c x ≡ Some parent = ap (λ p. first_of (drop 1 p)) h ∙ up in
+        let there = parent-there c x parent inner in
+        let other : name_eq n.name parent ≡ false =
+        by_cases (name_eq n.name parent) (λ k. absurd (let q = times-here n c r parent k in omega arith)) (λ k. k) in
+        let m = times-elsewhere n c r parent other in
+        subst (λ t. HasRoot (trees_below t) x)
+        (sym (subtree-elsewhere n c r parent other ∙ ap (or_else (subtree c parent)) (subtree-absent r parent (omega arith)) ∙
+        or_else-none (subtree c parent))) (f inner)
+
+-- what comes before an item that is there is shorter
+before-shorter : (x : NodeName) (xs : List NodeName) → is_in name_eq x xs ≡ true → length (items_before name_eq x xs) < length xs
+before-shorter x [] h = absurd (true≢false (sym h))
+before-shorter x (y ∷ xs) h =
+    by_cases (name_eq x y) (λ e. let g = ap length (cond-true (name_eq x y) [] (y ∷ items_before name_eq x xs) e) in omega arith)
+    (λ e. let g = ap length (cond-false (name_eq x y) [] (y ∷ items_before name_eq x xs) e) in let b = before-shorter x xs
+    (or-later (name_eq x y) (is_in name_eq x xs) e h) in omega arith)
+
+-- an index is below the number of children
+pub index-below : (ts : Trees) (x parent : NodeName) → IsUnique ts → parent_of ts x ≡ Some parent → index_of ts x < kids ts parent
+index-below ts x parent u h =
+    let same : index_of ts x ≡ length (items_before name_eq x (children_of ts parent)) =
+    ap (λ (o : Option NodeName). length (items_before name_eq x (option_map_or (children_of ts) o (x ∷ [])))) h in
+    let b = before-shorter x (children_of ts parent) (root-below ts x parent u h) in
+    let c = length-children ts parent u in omega arith

@@ -1,0 +1,152 @@
+-- Facts on lists.
+use Rattle.std.proofs.Common.{◌≡◌, ℕ, zero, ◌<◌, Some, length, true≢false, Bool, true, false, not, List, [], ◌∷◌, ◌++◌, filter, map, flat_map}
+use Rattle.std.proofs.Common.{take_while, reverse, refl, sym, ap, ◌∙◌, arith, append-nil, take, drop, subst, suc, ◌+◌}
+use Rattle.std.proofs.lemmas.Bool.{cond-true, cond-false}
+use Rattle.std.proofs.lemmas.List.{reverse-append}
+use Rattle.std.specs.Prelude.{is_some, slice_get}
+use Rattle.std.specs.List.{AllByRecursion, prefix_len}
+use Rattle.std.proofs.lemmas.List.Elements.{filter-append}
+use Rattle.dom_model.specs.Names.{distinct}
+use Rattle.dom_worlds.proofs.Tests.{by_cases}
+
+module _ {X : Type 0} where
+  -- all of two lists
+  pub all-append : (P : X → Type 0) (xs ys : List X) → AllByRecursion P xs → AllByRecursion P ys → AllByRecursion P (xs ++ ys)
+  all-append P [] ys h g = g
+  all-append P (x ∷ xs) ys h g = (h.0, all-append P xs ys h.1 g)
+
+  -- all that pass a test
+  pub all-filter : (P : X → Type 0) (test : X → Bool) (xs : List X) → AllByRecursion P xs → AllByRecursion P (filter test xs)
+  all-filter P test [] h = tt
+  all-filter P test (x ∷ xs) h = by_cases (test x) (λ e. rw e (h.0, all-filter P test xs h.1)) (λ e. rw e (all-filter P test xs h.1))
+
+  -- what passes a test, where the test says it
+  pub all-passed : (P : X → Type 0) (test : X → Bool) → ((x : X) → test x ≡ true → P x) → (xs : List X) → AllByRecursion P (filter test xs)
+  all-passed P test f [] = tt
+  all-passed P test f (x ∷ xs) = by_cases (test x) (λ e. rw e (f x e, all-passed P test f xs)) (λ e. rw e (all-passed P test f xs))
+
+  -- all, each once
+  pub all-distinct : (P : X → Type 0) (same : X → X → Bool) (xs : List X) → AllByRecursion P xs → AllByRecursion P (distinct same xs)
+  all-distinct P same [] h = tt
+  all-distinct P same (x ∷ xs) h = (h.0, all-filter P (λ y. not (same x y)) (distinct same xs) (all-distinct P same xs h.1))
+
+  -- what holds of each item
+  pub all-from : (P : X → Type 0) → ((x : X) → P x) → (xs : List X) → AllByRecursion P xs
+  all-from P f [] = tt
+  all-from P f (x ∷ xs) = (f x, all-from P f xs)
+
+  -- what follows from what holds of each
+  pub all-then : (P Q : X → Type 0) → ((x : X) → P x → Q x) → (xs : List X) → AllByRecursion P xs → AllByRecursion Q xs
+  all-then P Q f [] h = tt
+  all-then P Q f (x ∷ xs) h = (f x h.0, all-then P Q f xs h.1)
+
+  -- where each item passes, all are kept
+  pub filter_all : (test : X → Bool) (xs : List X) → AllByRecursion (λ x. test x ≡ true) xs → filter test xs ≡ xs
+  filter_all test [] h = refl
+  filter_all test (x ∷ xs) h = rw h.0 (ap (λ ys. x ∷ ys) (filter_all test xs h.1))
+
+  -- where none does, none is
+  pub filter_none : (test : X → Bool) (xs : List X) → AllByRecursion (λ x. test x ≡ false) xs → filter test xs ≡ []
+  filter_none test [] h = refl
+  filter_none test (x ∷ xs) h = rw h.0 (filter_none test xs h.1)
+
+  -- two tests in either order
+  pub filter-filter : (p q : X → Bool) (xs : List X) → filter p (filter q xs) ≡ filter q (filter p xs)
+  filter-filter p q [] = refl
+  filter-filter p q (x ∷ xs) =
+      by_cases (p x)
+      (λ a. by_cases (q x) (λ b. rw (a, b, a) (ap (λ ys. x ∷ ys) (filter-filter p q xs))) (λ b. rw (a, b) (filter-filter p q xs)))
+      (λ a. by_cases (q x) (λ b. rw (a, b, a) (filter-filter p q xs)) (λ b. rw (a, b) (filter-filter p q xs)))
+
+  -- a test of what is made of items
+  pub filter-map : {Y : Type 0} (test : Y → Bool) (f : X → Y) (xs : List X) → filter test (map f xs) ≡ map f (filter (λ x. test (f x)) xs)
+  filter-map test f [] = refl
+  filter-map test f (x ∷ xs) = by_cases (test (f x)) (λ e. rw e (ap (λ ys. f x ∷ ys) (filter-map test f xs))) (λ e. rw e (filter-map test f xs))
+
+  -- two functions that agree on the items
+  pub map_same : {Y : Type 0} (f g : X → Y) (xs : List X) → AllByRecursion (λ x. f x ≡ g x) xs → map f xs ≡ map g xs
+  map_same f g [] h = refl
+  map_same f g (x ∷ xs) h = rw (h.0, map_same f g xs h.1)
+
+  -- a test on the items in the other order
+  pub filter-reverse : (test : X → Bool) (xs : List X) → filter test (reverse xs) ≡ reverse (filter test xs)
+  filter-reverse test [] = refl
+  filter-reverse test (x ∷ xs) =
+      ap (filter test) (reverse-append (x ∷ []) xs) ∙ filter-append test (reverse xs) (x ∷ [])
+      ∙ by_cases (test x) (λ e. rw (e, filter-reverse test xs) (sym (reverse-append (x ∷ []) (filter test xs))))
+      (λ e. rw (e, filter-reverse test xs) (append-nil (reverse (filter test xs))))
+
+  -- two tests that agree on the items
+  pub filter_same : (p q : X → Bool) (xs : List X) → AllByRecursion (λ x. p x ≡ q x) xs → filter p xs ≡ filter q xs
+  filter_same p q [] h = refl
+  filter_same p q (x ∷ xs) h = rw (h.0, filter_same p q xs h.1) refl
+
+  -- a first item that passes is taken
+  pub take_while-yes : (p : X → Bool) (x : X) (xs : List X) → p x ≡ true → take_while p (x ∷ xs) ≡ x ∷ take_while p xs
+  take_while-yes p x xs h =
+      let more : 1 + prefix_len p xs ≡ suc (prefix_len p xs) = omega arith in
+      ap (λ k. take k (x ∷ xs)) (cond-true (p x) (1 + prefix_len p xs) 0 h ∙ more)
+
+  -- one that does not ends the list
+  pub take_while-no : (p : X → Bool) (x : X) (xs : List X) → p x ≡ false → take_while p (x ∷ xs) ≡ []
+  take_while-no p x xs h = ap (λ k. take k (x ∷ xs)) (cond-false (p x) (1 + prefix_len p xs) 0 h)
+
+  -- where each item passes, all are taken
+  pub take_while_all : (p : X → Bool) (xs : List X) → AllByRecursion (λ x. p x ≡ true) xs → take_while p xs ≡ xs
+  take_while_all p [] h = refl
+  take_while_all p (x ∷ xs) h = take_while-yes p x xs h.0 ∙ ap (λ ys. x ∷ ys) (take_while_all p xs h.1)
+
+  -- all of a front
+  pub all-take_while : (P : X → Type 0) (p : X → Bool) (xs : List X) → AllByRecursion P xs → AllByRecursion P (take_while p xs)
+  all-take_while P p [] h = tt
+  all-take_while P p (x ∷ xs) h =
+      by_cases (p x) (λ e. subst (AllByRecursion P) (sym (take_while-yes p x xs e)) (h.0, all-take_while P p xs h.1))
+      (λ e. subst (AllByRecursion P) (sym (take_while-no p x xs e)) tt)
+
+  -- all but the first
+  pub all-dropped : (P : X → Type 0) (xs : List X) → AllByRecursion P xs → AllByRecursion P (drop 1 xs)
+  all-dropped P [] h = tt
+  all-dropped P (x ∷ xs) h = h.1
+
+  -- what stands before an item that fails
+  pub all-before : (P : X → Type 0) (p : X → Bool) (xs : List X) (y : X) (ys : List X) → p y ≡ false → AllByRecursion P xs →
+      AllByRecursion P (take_while p (xs ++ y ∷ ys))
+  all-before P p [] y ys e h = subst (AllByRecursion P) (sym (take_while-no p y ys e)) tt
+  all-before P p (x ∷ xs) y ys e h =
+      by_cases (p x) (λ t. subst (AllByRecursion P) (sym (take_while-yes p x (xs ++ y ∷ ys) t)) (h.0, all-before P p xs y ys e h.1))
+      (λ t. subst (AllByRecursion P) (sym (take_while-no p x (xs ++ y ∷ ys) t)) tt)
+
+-- all of what is made of each item
+pub all-flat_map : {X Y : Type 0} (P : Y → Type 0) (f : X → List Y) (xs : List X) → AllByRecursion (λ x. AllByRecursion P (f x)) xs →
+    AllByRecursion P (flat_map f xs)
+all-flat_map P f [] h = tt
+all-flat_map P f (x ∷ xs) h = all-append P (f x) (flat_map f xs) h.0 (all-flat_map P f xs h.1)
+
+-- all that is made of the items
+pub all-map : {X Y : Type 0} (P : Y → Type 0) (f : X → Y) (xs : List X) → AllByRecursion (λ x. P (f x)) xs → AllByRecursion P (map f xs)
+all-map P f [] h = tt
+all-map P f (x ∷ xs) h = (h.0, all-map P f xs h.1)
+
+-- the items in the other order
+pub all-reverse : {X : Type 0} (P : X → Type 0) (xs : List X) → AllByRecursion P xs → AllByRecursion P (reverse xs)
+all-reverse P [] h = tt
+all-reverse P (x ∷ xs) h = subst (AllByRecursion P) (sym (reverse-append (x ∷ []) xs)) (all-append P (reverse xs) (x ∷ []) (all-reverse P xs h.1) (h.0, tt))
+
+module _ {X : Type 0} where
+  -- an item that is there has a place below the length
+  pub get-below : (xs : List X) (k : ℕ) → is_some (slice_get xs k) ≡ true → k < length xs
+  get-below [] k h = absurd (true≢false (sym h))
+  get-below (x ∷ xs) zero h = omega arith
+  get-below (x ∷ xs) (suc k) h = let g = get-below xs k h in omega arith
+
+  -- and at a place below the length is an item
+  pub get-there : (xs : List X) (k : ℕ) → k < length xs → is_some (slice_get xs k) ≡ true
+  get-there [] k h = absurd (omega arith)
+  get-there (x ∷ xs) zero h = refl
+  get-there (x ∷ xs) (suc k) h = get-there xs k (omega arith)
+
+  -- of which holds what holds of all
+  pub get-all : (P : X → Type 0) (xs : List X) (k : ℕ) (x : X) → AllByRecursion P xs → slice_get xs k ≡ Some x → P x
+  get-all P [] k x h e = cc
+  get-all P (y ∷ xs) zero x h e = let same : y ≡ x = cc in subst P same h.0
+  get-all P (y ∷ xs) (suc k) x h e = get-all P xs k x h.1 e

@@ -1,0 +1,241 @@
+-- Whose parts are there: the page's and the attached components'. Writing a part that is there, signalling slots that are
+-- there, and dispatches keep that.
+use Rattle.std.proofs.Common.{◌≡◌, ◌≢◌, ℕ, zero, suc, ◌<◌, ◌≤◌, Bool, true, false, ◌||◌, List, [], ◌∷◌, ◌++◌, length, map, filter, Option, Some, None}
+use Rattle.std.proofs.Common.{unwrap_or, refl, sym, ap, ◌∙◌, arith, true≢false, subst}
+use Rattle.std.specs.Prelude.{⊤, is_some, is_none}
+use Rattle.std.specs.List.{list_any}
+use Rattle.std.specs.Option.{option_map_or}
+use Rattle.std.proofs.lemmas.Bool.{cond-true, cond-false, false_from_ne_true}
+use Rattle.dom_base.specs.declared.Owner.{Owner}
+use Rattle.dom_base.specs.declared.Owner.TheVariants.{Page}
+use Rattle.dom_base.specs.declared.NodeName.{NodeName}
+use Rattle.dom_model.specs.Names.{owner_eq, first_of}
+use Rattle.dom_model.specs.Part.{Part, empty_part}
+use Rattle.dom_model.specs.World.{World, find_part, put_part, part_of, is_there, host_of, component_made, made_by, MayAttach}
+use Rattle.dom_model.proofs.OwnerLaws.{owner_eq-same, owner_eq-true, owner_eq-false, ne-owner_eq, made_by-is, component_made-number, component_made-no_page}
+use Rattle.dom_worlds.specs.Worlds.{times_in, components_of, is_made_by, is_unmade, owners_in, IsThere, HasMakers, HasOwners}
+use Rattle.dom_worlds.proofs.Lists.{get-below, get-there}
+use Rattle.dom_worlds.proofs.Makers.{hosted, host_of-made}
+use Rattle.dom_worlds.proofs.Tests.{by_cases, which_way, or-later, or-first, or-second, or-neither, or-earlier}
+use Rattle.dom_model.specs.Command.{Spelled, own, foreign}
+use Rattle.dom_model.specs.CommandNames.{named}
+
+-- whether a list of owners has one
+abbrev pub has_owner : List Owner → Owner → Bool
+has_owner os o = list_any (λ a. owner_eq a o) os
+
+-- an owner is there where it is among the owners of parts
+pub there-listed : (ps : List Part) (o : Owner) → is_some (find_part ps o) ≡ has_owner (map (λ (p : Part). p.owner) ps) o
+there-listed [] o = refl
+there-listed (p ∷ ps) o =
+    by_cases (owner_eq p.owner o)
+    (λ e. ap is_some (cond-true (owner_eq p.owner o) (Some p) (find_part ps o) e) ∙ sym (ap (λ b. b || has_owner (map (λ (p : Part). p.owner) ps) o) e))
+    (λ e. ap is_some (cond-false (owner_eq p.owner o) (Some p) (find_part ps o) e) ∙ there-listed ps o ∙
+    sym (ap (λ b. b || has_owner (map (λ (p : Part). p.owner) ps) o) e))
+
+-- the same owners are there
+pub there-same : (v w : World) → owners_in v ≡ owners_in w → (o : Owner) → is_there v o ≡ is_there w o
+there-same v w e o = there-listed v.parts o ∙ ap (λ os. has_owner os o) e ∙ sym (there-listed w.parts o)
+
+-- a part that is written where there is one, and where there is none
+pub owners-put : (ps : List Part) (p : Part) → is_some (find_part ps p.owner) ≡ true →
+    map (λ (p : Part). p.owner) (put_part ps p) ≡ map (λ (p : Part). p.owner) ps
+owners-put [] p h = absurd (true≢false (sym h))
+owners-put (q ∷ qs) p h =
+    let owners : List Part → List Owner = map (λ (p : Part). p.owner) in
+    by_cases (owner_eq q.owner p.owner)
+    (λ e. ap owners (cond-true (owner_eq q.owner p.owner) (p ∷ qs) (q ∷ put_part qs p) e) ∙ ap (λ o. o ∷ owners qs) (sym (owner_eq-true q.owner p.owner e)))
+    (λ e. ap owners (cond-false (owner_eq q.owner p.owner) (p ∷ qs) (q ∷ put_part qs p) e)
+    ∙ ap (λ os. q.owner ∷ os) (owners-put qs p (sym (ap is_some (cond-false (owner_eq q.owner p.owner) (Some q) (find_part qs p.owner) e)) ∙ h)))
+
+-- a part of a new owner comes last
+pub owners-put_new : (ps : List Part) (p : Part) → has_owner (map (λ (p : Part). p.owner) ps) p.owner ≡ false →
+    map (λ (p : Part). p.owner) (put_part ps p) ≡ map (λ (p : Part). p.owner) ps ++ p.owner ∷ []
+owners-put_new [] p h = refl
+owners-put_new (q ∷ qs) p h =
+    let owners : List Part → List Owner = map (λ (p : Part). p.owner) in
+    by_cases (owner_eq q.owner p.owner) (λ e. absurd (true≢false (sym (ap (λ b. b || has_owner (owners qs) p.owner) e) ∙ h)))
+    (λ e. ap owners (cond-false (owner_eq q.owner p.owner) (p ∷ qs) (q ∷ put_part qs p) e)
+    ∙ ap (λ os. q.owner ∷ os) (owners-put_new qs p (sym (ap (λ b. b || has_owner (owners qs) p.owner) e) ∙ h)))
+
+-- who is not there has nothing
+pub absent-part : (w : World) (o : Owner) → (IsThere w o → ⊥) → part_of w o ≡ empty_part o
+absent-part w o h = from (find_part w.parts o) refl
+  where
+    from : (q : Option Part) → find_part w.parts o ≡ q → unwrap_or q (empty_part o) ≡ empty_part o
+    from None e = refl
+    from (Some q) e = absurd (h (ap is_some e))
+
+-- who has a node is there
+pub node-there : (w : World) (o : Owner) (y : NodeName) → 1 ≤ times_in (part_of w o).trees y → IsThere w o
+node-there w o y h = from (find_part w.parts o) h
+  where
+    from : (p : Option Part) → 1 ≤ times_in (unwrap_or p (empty_part o)).trees y → is_some p ≡ true
+    from None g = absurd (omega arith)
+    from (Some p) g = refl
+
+-- Lists of owners. One of two lists:
+has-append : (xs ys : List Owner) (o : Owner) → has_owner (xs ++ ys) o ≡ (has_owner xs o || has_owner ys o)
+has-append [] ys o = refl
+has-append (x ∷ xs) ys o = by_cases (owner_eq x o) (λ e. rw e refl) (λ e. rw e (has-append xs ys o))
+
+-- the first one
+has-first : (os : List Owner) (o : Owner) → first_of os ≡ Some o → has_owner os o ≡ true
+has-first [] o e = cc
+has-first (p ∷ os) o e = let same : p ≡ o = cc in or-first (owner_eq p o) (has_owner os o) (ap (λ q. owner_eq q o) same ∙ owner_eq-same o)
+
+-- one that passes a test
+has-passed : (f : Owner → Bool) (os : List Owner) (o : Owner) → has_owner os o ≡ true → f o ≡ true → has_owner (filter f os) o ≡ true
+has-passed f [] o h g = absurd (true≢false (sym h))
+has-passed f (p ∷ os) o h g =
+    let deeper : owner_eq p o ≡ false → has_owner (filter f os) o ≡ true = λ e. has-passed f os o (or-later (owner_eq p o) (has_owner os o) e h) g in
+    which_way (λ xs. has_owner xs o ≡ true) (f p) (p ∷ filter f os) (filter f os)
+    (λ t. by_cases (owner_eq p o) (or-first (owner_eq p o) (has_owner (filter f os) o)) (λ e. or-second (owner_eq p o) (has_owner (filter f os) o) (deeper e)))
+    (λ t. deeper (false_from_ne_true (owner_eq p o) (λ e. true≢false (sym g ∙ ap f (sym (owner_eq-true p o e)) ∙ t))))
+
+-- is among all
+has-filtered : (f : Owner → Bool) (os : List Owner) (o : Owner) → has_owner (filter f os) o ≡ true → has_owner os o ≡ true
+has-filtered f [] o h = absurd (true≢false (sym h))
+has-filtered f (p ∷ os) o h =
+    by_cases (owner_eq p o) (or-first (owner_eq p o) (has_owner os o))
+    (λ e. or-second (owner_eq p o) (has_owner os o) (has-filtered f os o
+    (by_cases (f p) (λ t. or-later (owner_eq p o) (has_owner (filter f os) o) e
+    (sym (ap (λ xs. has_owner xs o) (cond-true (f p) (p ∷ filter f os) (filter f os) t)) ∙ h))
+    (λ t. sym (ap (λ xs. has_owner xs o) (cond-false (f p) (p ∷ filter f os) (filter f os) t)) ∙ h))))
+
+-- The components of an owner's attaches: each is among them,
+components-has : (o : Owner) (n k : ℕ) → k < n → has_owner (components_of o n) (component_made o k) ≡ true
+components-has o zero k h = absurd (omega arith)
+components-has o (suc n) k h =
+    let last = component_made o n in
+    let c = component_made o k in
+    has-append (components_of o n) (last ∷ []) c
+    ∙ by_cases (owner_eq last c) (λ e. or-second (has_owner (components_of o n) c) (owner_eq last c || false) (or-first (owner_eq last c) false e))
+    (λ e. or-first (has_owner (components_of o n) c) (owner_eq last c || false)
+    (components-has o n k (let ne : (n ≢ k) = λ s. owner_eq-false last c e (ap (component_made o) s) in omega (arith, ne))))
+
+-- and nobody else
+components-only : (o : Owner) (n : ℕ) (c : Owner) → has_owner (components_of o n) c ≡ true → (k : ℕ) × (k < n) × (component_made o k ≡ c)
+components-only o zero c h = absurd (true≢false (sym h))
+components-only o (suc n) c h =
+    let last = component_made o n in
+    by_cases (owner_eq last c) (λ e. (n, omega arith, owner_eq-true last c e))
+    (λ e. let before = or-earlier (has_owner (components_of o n) c) (owner_eq last c || false) (or-neither (owner_eq last c) false e refl)
+    (sym (has-append (components_of o n) (last ∷ []) c) ∙ h) in
+    let at = components-only o n c before in (at.0, (let below = at.1 in omega arith), at.2))
+
+-- who was made by an owner is told so
+pub made_by-told : (o m : Owner) (k : ℕ) → made_by o ≡ Some (m, k) → is_made_by m o ≡ true
+made_by-told o m k e = ap (λ x. option_map_or (λ (y : Owner × ℕ). owner_eq y.0 m) x false) e ∙ owner_eq-same m
+
+-- Who has a host is there.
+pub hosted-there : (w : World) → HasOwners w → (o : Owner) → is_some (host_of w o) ≡ true → IsThere w o
+hosted-there w i o h = from (host_of w o) refl h
+  where
+    from : (m : Option NodeName) → host_of w o ≡ m → is_some m ≡ true → IsThere w o
+    from None e g = absurd (true≢false (sym g))
+    from (Some x) e g =
+        let k = hosted w o x e in
+        let hosts = (part_of w k.maker).attached in
+        let made : has_owner (components_of k.maker (length hosts)) o ≡ true =
+        subst (λ c. has_owner (components_of k.maker (length hosts)) c ≡ true) (made_by-is o k.maker k.number k.named)
+        (components-has k.maker (length hosts) k.number (get-below hosts k.number (ap is_some k.found))) in
+        there-listed w.parts o ∙ has-filtered (is_made_by k.maker) (owners_in w) o (ap (λ os. has_owner os o) (i.made k.maker) ∙ made)
+
+-- the page is there
+pub page-there : (w : World) → HasOwners w → IsThere w Page
+page-there w i = there-listed w.parts Page ∙ has-first (owners_in w) Page i.first
+
+-- who is there, but for the page, has a host
+pub there-hosted : (w : World) → HasMakers w → HasOwners w → (o : Owner) → o ≢ Page → IsThere w o → is_some (host_of w o) ≡ true
+there-hosted w makers i o f h = from (made_by o) refl
+  where
+    passed : (p : Owner → Bool) → p o ≡ true → has_owner (filter p (owners_in w)) o ≡ true
+    passed p e = has-passed p (owners_in w) o (sym (there-listed w.parts o) ∙ h) e
+
+    from : (m : Option (Owner × ℕ)) → made_by o ≡ m → is_some (host_of w o) ≡ true
+    from None e =
+        let page : (owner_eq Page o || false) ≡ true = sym (ap (λ os. has_owner os o) i.unmade) ∙ passed is_unmade (ap is_none e) in
+        absurd (f (sym (owner_eq-true Page o (or-earlier (owner_eq Page o) false refl page))))
+    from (Some m) e =
+        let hosts = (part_of w m.0).attached in
+        let at = components-only m.0 (length hosts) o (sym (ap (λ os. has_owner os o) (i.made m.0)) ∙ passed (is_made_by m.0) (made_by-told o m.0 m.1 e)) in
+        let may = makers m.0 (let below = at.1 in omega (arith, below)) in
+        subst (λ c. is_some (host_of w c) ≡ true) at.2 (ap is_some (host_of-made w m.0 at.0 may) ∙ get-there hosts at.0 at.1)
+
+-- An owner's next component is not there.
+pub next-absent : (w : World) → HasMakers w → HasOwners w → (o : Owner) → MayAttach o → IsThere w (component_made o (length (part_of w o).attached)) → ⊥
+next-absent w makers i o may h =
+    let hosts = (part_of w o).attached in
+    let hosted = there-hosted w makers i (component_made o (length hosts)) (component_made-no_page o (length hosts)) h in
+    let below = get-below hosts (length hosts) (sym (ap is_some (host_of-made w o (length hosts) may)) ∙ hosted) in
+    omega (arith, below)
+
+-- Each owner's part stands once.
+abbrev pub AreOnce : List Owner → Type 0
+AreOnce [] = ⊤
+AreOnce (o ∷ os) = (has_owner os o ≡ false) × AreOnce os
+
+-- one more
+once-behind : (os : List Owner) (o : Owner) → AreOnce os → has_owner os o ≡ false → AreOnce (os ++ o ∷ [])
+once-behind [] o once off = (refl, tt)
+once-behind (p ∷ os) o once off =
+    let first : owner_eq p o ≡ false = false_from_ne_true (owner_eq p o) (λ e. true≢false (sym (or-first (owner_eq p o) (has_owner os o) e) ∙ off)) in
+    let later : has_owner os o ≡ false = false_from_ne_true (has_owner os o) (λ e. true≢false (sym (or-second (owner_eq p o) (has_owner os o) e) ∙ off)) in
+    let other : owner_eq o p ≡ false = ne-owner_eq o p (λ e. owner_eq-false p o first (sym e)) in (
+      has-append os (o ∷ []) p ∙ or-neither (has_owner os p) (owner_eq o p || false) once.0
+          (or-neither (owner_eq o p) false other refl),
+      once-behind os o once.1 later,
+    )
+
+-- one owner's components
+components-once : (o : Owner) → MayAttach o → (n : ℕ) → AreOnce (components_of o n)
+components-once o may zero = tt
+components-once o may (suc n) =
+    once-behind (components_of o n) (component_made o n) (components-once o may n)
+    (false_from_ne_true (has_owner (components_of o n) (component_made o n)) (λ h. let at = components-only o n (component_made o n) h in
+    let same = component_made-number o at.0 n may at.2 in let below = at.1 in absurd (omega (arith, same, below))))
+
+-- those whom one owner made, or nobody
+abbrev is_of_maker : Option Owner → Owner → Bool
+is_of_maker None o = is_unmade o
+is_of_maker (Some m) o = is_made_by m o
+
+-- each owner is of some
+maker-found : (o : Owner) → (m : Option Owner) × (is_of_maker m o ≡ true)
+maker-found o = from (made_by o) refl
+  where
+    from : (m : Option (Owner × ℕ)) → made_by o ≡ m → (m : Option Owner) × (is_of_maker m o ≡ true)
+    from None e = (None, ap is_none e)
+    from (Some m) e = (Some m.0, made_by-told o m.0 m.1 e)
+
+-- owners stand once where those of each maker do
+once-of : (os : List Owner) → ((m : Option Owner) → AreOnce (filter (is_of_maker m) os)) → AreOnce os
+once-of [] h = tt
+once-of (o ∷ os) h =
+    let c = maker-found o in
+    let f = is_of_maker c.0 in
+    let here : AreOnce (o ∷ filter f os) = subst AreOnce (cond-true (f o) (o ∷ filter f os) (filter f os) c.1) (h c.0) in
+    (false_from_ne_true (has_owner os o) (λ e. true≢false (sym (has-passed f os o e c.1) ∙ here.0)), once-of os (λ m. once-rest (is_of_maker m) (h m)))
+  where
+    once-rest : (g : Owner → Bool) → AreOnce (filter g (o ∷ os)) → AreOnce (filter g os)
+    once-rest g k =
+        by_cases (g o) (λ t. let both : AreOnce (o ∷ filter g os) = subst AreOnce (cond-true (g o) (o ∷ filter g os) (filter g os) t) k in both.1)
+        (λ t. subst AreOnce (cond-false (g o) (o ∷ filter g os) (filter g os) t) k)
+
+-- those of a world do
+pub once-in : (w : World) → HasMakers w → HasOwners w → AreOnce (owners_in w)
+once-in w makers i = once-of (owners_in w) by_maker
+  where
+    made : (o : Owner) (n : ℕ) → length (part_of w o).attached ≡ n → AreOnce (components_of o n)
+    made o zero e = tt
+    made o (suc n) e = components-once o (makers o (omega (arith, e))) (suc n)
+
+    by_maker : (m : Option Owner) → AreOnce (filter (is_of_maker m) (owners_in w))
+    by_maker None = subst AreOnce (sym i.unmade) (refl, tt)
+    by_maker (Some o) = subst AreOnce (sym (i.made o)) (made o (length (part_of w o).attached) refl)
+
+-- a node that is named is the owner's
+pub owner-named : (p : Part) (x : Spelled) → (named p x).owner ≡ p.owner
+owner-named p (own k) = refl
+owner-named p foreign = refl

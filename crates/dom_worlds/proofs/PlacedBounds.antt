@@ -1,0 +1,270 @@
+-- Texts stay where no data are replaced, and a root that is placed is one child more for its parent.
+use Rattle.std.proofs.Common.{◌≡◌, ℕ, ◌+◌, Bool, true, false, not, List, [], ◌∷◌, ◌++◌, drop, length, Option, Some, None, refl, sym, ap}
+use Rattle.std.proofs.Common.{◌∙◌, arith, true≢false, subst}
+use Rattle.std.specs.Prelude.{if◌then◌else◌, ⊤}
+use Rattle.std.specs.List.{AllByRecursion}
+use Rattle.std.specs.Option.{option_map_or}
+use Rattle.std.proofs.lemmas.Bool.{cond-true, cond-false}
+use Rattle.dom_base.specs.declared.NodeName.{NodeName}
+use Rattle.dom_model.specs.Names.{name_eq, is_in, is_empty}
+use Rattle.dom_model.specs.Tree.{Trees, Node, node_in, kind_of, is_fragment, children_of, parent_of}
+use Rattle.dom_model.specs.Tree.{inclusive_descendants, roots}
+use Rattle.dom_model.specs.TreeChanges.{with_document}
+use Rattle.dom_model.specs.Output.{child_list}
+use Rattle.dom_model.specs.Part.{Part}
+use Rattle.dom_model.specs.Steps.{Step, place, take_out, set_document, queue_record, part_step, after}
+use Rattle.dom_model.specs.Changes.{Plan, in_turn, steps_of, Observing, observed, suppressed, telling, removal_record, removing}
+use Rattle.dom_model.specs.Changes.{removing_from, has_document, changing_document, adopting, document_below, placed_nodes, emptying, making_room}
+use Rattle.dom_model.specs.Changes.{placing, sibling_before, inserting_nodes, inserting}
+use Rattle.dom_model.proofs.OwnerLaws.{name_eq-same}
+use Rattle.dom_worlds.specs.Worlds.{IsPart}
+use Rattle.dom_worlds.proofs.Kids.{kids, one_at, kids-placed, kids-map_nodes}
+use Rattle.dom_worlds.proofs.NodesRead.{node-taken_out, node-placed, node-map_nodes}
+use Rattle.dom_worlds.proofs.Lists.{all-then}
+use Rattle.dom_worlds.proofs.PartSteps.{some-keeps}
+use Rattle.dom_worlds.proofs.PlanChildren.{documented}
+use Rattle.dom_worlds.proofs.PlanPlaces.{MayGo, may-still, still, taken-step, telling-trees, root-adopting, after-append}
+use Rattle.dom_worlds.proofs.PlanPlaces.{emptied_of, leads-then, leads-eased, leads-each, leads-removing, leads-adopting, leads-placing}
+use Rattle.dom_worlds.proofs.PlanPlaces.{leads-emptied, leads-making_room, placed-may}
+use Rattle.dom_worlds.proofs.ReachedFacts.{root-alone}
+use Rattle.dom_worlds.proofs.TableSteps.{There}
+use Rattle.dom_worlds.proofs.Tests.{either_way}
+use Rattle.dom_worlds.proofs.TreeChangeLaws.{HasRoot, root-placed, root-map_nodes}
+use Rattle.dom_worlds.proofs.Trees.{all-both}
+
+-- Texts stay where no data are replaced.
+abbrev pub SameTexts : Part → Part → Type 0
+SameTexts p q = (y : NodeName) → There p y → (node_in q.trees y).text ≡ (node_in p.trees y).text
+
+-- of removals
+texts-removing : (how : Observing) (x : NodeName) (p : Part) → IsPart p → SameTexts p (after p (removing how x p))
+texts-removing how x p i y t = from (parent_of p.trees x) refl
+  where
+    from : (o : Option NodeName) → parent_of p.trees x ≡ o →
+        (node_in (after p (option_map_or (removing_from how x p.trees) o [])).trees y).text ≡ (node_in p.trees y).text
+    from None e = refl
+    from (Some parent) e =
+        ap (λ ts. (node_in ts y).text) (telling-trees how (removal_record p.trees parent x) (part_step p (take_out x)) ∙
+        ap (λ (q : Part). q.trees) (taken-step p x parent e))
+        ∙ ap (λ (n : Node). n.text) (node-taken_out p.trees x y i.unique t)
+
+-- of one after another
+texts-then : (p : Part) (xs ys : List Step) → ((y : NodeName) → There p y → There (after p xs) y) → SameTexts p (after p xs) →
+    SameTexts (after p xs) (after (after p xs) ys) → SameTexts p (after p (xs ++ ys))
+texts-then p xs ys s a b y t = ap (λ (q : Part). (node_in q.trees y).text) (after-append p xs ys) ∙ b y (s y t) ∙ a y t
+
+-- of an adoption
+texts-adopting : (d x : NodeName) (p : Part) → IsPart p → SameTexts p (after p (adopting d x p))
+texts-adopting d x p i =
+    let first = leads-removing observed x p i in
+    let q = after p (removing observed x p) in
+    texts-then p (removing observed x p) (changing_document d x q) (λ y. still first.changed y) (texts-removing observed x p i)
+    (λ y t. either_way (λ steps. (node_in (after q steps).trees y).text ≡ (node_in q.trees y).text) (not (has_document q.trees d x)) (set_document x d ∷ []) []
+    (ap (λ (n : Node). n.text) (node-map_nodes (λ n. if is_in name_eq n.name (inclusive_descendants q.trees x) then with_document d n else n)
+    (λ n. (some-keeps (λ (n : Node). is_in name_eq n.name (inclusive_descendants q.trees x)) (with_document d) (λ n. (refl, refl)) n).0)
+    q.trees y t)
+    ∙ either_way (λ (m : Node). m.text ≡ (node_in q.trees y).text) (is_in name_eq (node_in q.trees y).name (inclusive_descendants q.trees x))
+    (with_document d (node_in q.trees y)) (node_in q.trees y) refl refl) refl)
+
+-- Roots that are placed: one child more for each. Each of a list is another.
+abbrev pub Distinct : List NodeName → Type 0
+Distinct [] = ⊤
+Distinct (x ∷ xs) = AllByRecursion (λ y. name_eq x y ≡ false) xs × Distinct xs
+
+-- a root has no parent
+root-parent : (p : Part) (x : NodeName) → IsPart p → HasRoot p.trees x → parent_of p.trees x ≡ None
+root-parent p x i h = ap (λ path. Rattle.dom_model.specs.Names.first_of (drop 1 path)) (root-alone p.trees i.unique x h)
+
+-- so nothing is removed
+root-stays : (how : Observing) (x : NodeName) (p : Part) → IsPart p → HasRoot p.trees x → removing how x p ≡ []
+root-stays how x p i h = ap (λ o. option_map_or (removing_from how x p.trees) o []) (root-parent p x i h)
+
+-- the adoption of a root leaves children and roots
+root-adopted : (d x : NodeName) (p : Part) → IsPart p → HasRoot p.trees x → (P : Trees → Type 0) → P p.trees →
+    P (part_step p (set_document x d)).trees → P (after p (adopting d x p)).trees
+root-adopted d x p i h P a b =
+    let steps = removing observed x p in
+    let none_made = root-stays observed x p i h in
+    let q = after p steps in
+    let same : q ≡ p = ap (after p) none_made in
+    subst (λ (r : Part). P r.trees) (sym (after-append p steps (changing_document d x q)))
+    (documented d x q P (subst (λ (r : Part). P r.trees) (sym same) a)
+    (subst (λ (r : Part). P (part_step r (set_document x d)).trees) (sym same) b))
+
+-- children
+kids-root_adopted : (d x y : NodeName) (p : Part) → IsPart p → HasRoot p.trees x → kids (after p (adopting d x p)).trees y ≡ kids p.trees y
+kids-root_adopted d x y p i h =
+    root-adopted d x p i h (λ ts. kids ts y ≡ kids p.trees y) refl
+    (kids-map_nodes (λ n. if is_in name_eq n.name (inclusive_descendants p.trees x) then with_document d n else n)
+    (λ n. (some-keeps (λ (n : Node). is_in name_eq n.name (inclusive_descendants p.trees x)) (with_document d) (λ n. (refl, refl)) n).0)
+    p.trees y)
+
+-- other roots
+roots-root_adopted : (d x y : NodeName) (p : Part) → IsPart p → HasRoot p.trees x → HasRoot p.trees y → HasRoot (after p (adopting d x p)).trees y
+roots-root_adopted d x y p i h r =
+    root-adopted d x p i h (λ ts. HasRoot ts y) r
+    (root-map_nodes (λ n. if is_in name_eq n.name (inclusive_descendants p.trees x) then with_document d n else n)
+    (λ n. (some-keeps (λ (n : Node). is_in name_eq n.name (inclusive_descendants p.trees x)) (with_document d) (λ n. (refl, refl)) n).0)
+    p.trees y r)
+
+-- a root that is placed
+kids-root_placed : (parent : NodeName) (before : Option NodeName) (p : Part) (x : NodeName) → IsPart p → MayGo parent p x → HasRoot p.trees x →
+    (y : NodeName) → kids (after p (placing parent before x p)).trees y ≡ kids p.trees y + one_at parent y
+kids-root_placed parent before p x i m h y =
+    let doc = document_below p.trees parent in
+    let steps = adopting doc x p in
+    let q = after p steps in
+    let first = leads-eased (Some parent) p steps (leads-adopting doc x p i m.owner) in
+    let n = may-still parent p q x first.changed m in
+    let a = kids-root_adopted doc x y p i h in
+    let b = kids-placed q.trees x parent before y first.changed.part.unique n.below n.apart (root-adopting doc x p m.there) in
+    let c = ap (λ (r : Part). kids r.trees y) (after-append p steps (place x parent before ∷ [])) in omega arith
+
+-- leaves other roots
+roots-root_placed : (parent : NodeName) (before : Option NodeName) (p : Part) (x : NodeName) → IsPart p → HasRoot p.trees x → (y : NodeName) →
+    name_eq x y ≡ false → HasRoot p.trees y → HasRoot (after p (placing parent before x p)).trees y
+roots-root_placed parent before p x i h y e r =
+    let doc = document_below p.trees parent in
+    let steps = adopting doc x p in
+    subst (λ (q : Part). HasRoot q.trees y) (sym (after-append p steps (place x parent before ∷ [])))
+    (root-placed x parent before (after p steps).trees y e (roots-root_adopted doc x y p i h r))
+
+-- all of them
+kids-roots_placed : (parent : NodeName) (before : Option NodeName) (xs : List NodeName) (p : Part) → IsPart p →
+    AllByRecursion (MayGo parent p) xs → AllByRecursion (HasRoot p.trees) xs → Distinct xs →
+    kids (after p (in_turn (placing parent before) xs p)).trees parent ≡ kids p.trees parent + length xs
+kids-roots_placed parent before [] p i m r d = omega arith
+kids-roots_placed parent before (x ∷ xs) p i m r d =
+    let steps = placing parent before x p in
+    let q = after p steps in
+    let c = (leads-placing parent before p x i m.0).changed in
+    let a = kids-root_placed parent before p x i m.0 r.0 parent in
+    let o : one_at parent parent ≡ 1 = cond-true (name_eq parent parent) 1 0 (name_eq-same parent) in
+    let b = kids-roots_placed parent before xs q c.part (all-then (MayGo parent p) (MayGo parent q) (λ y. may-still parent p q y c) xs m.1)
+    (all-then (λ y. HasRoot p.trees y × (name_eq x y ≡ false)) (HasRoot q.trees)
+    (λ y h. let h1 = h.1 in roots-root_placed parent before p x i r.0 y h.1 h.0) xs
+    (all-both (HasRoot p.trees) (λ y. name_eq x y ≡ false) xs r.1 d.0)) d.1 in
+    let e = ap (λ (s : Part). kids s.trees parent) (after-append p steps (in_turn (placing parent before) xs q)) in omega arith
+
+-- An insertion, by what is placed: the children of its parent are that many more.
+pub kids-inserted : (how : Observing) (node parent : NodeName) (before : Option NodeName) (p : Part) → IsPart p → MayGo parent p node →
+    let moved = placed_nodes p.trees node in let q = after p (emptied_of p node p) in
+    AllByRecursion (HasRoot q.trees) moved → Distinct moved → kids q.trees parent ≡ kids p.trees parent →
+    kids (after p (inserting how node parent before p)).trees parent ≡ kids p.trees parent + length moved
+kids-inserted how node parent before p i m roots distinct same =
+    let spot = Some parent in
+    let moved = placed_nodes p.trees node in
+    let told = telling how (child_list parent moved [] (sibling_before p.trees parent before) before) in
+    let one = emptied_of p node p in
+    let a = leads-eased spot p one (leads-emptied node p i) in
+    let q = after p one in
+    let two = making_room parent before (length moved) q in
+    let r = after p (one ++ two) in
+    let r_trees : r.trees ≡ q.trees = ap (λ (s : Part). s.trees) (after-append p one two) ∙ unmoved before (length moved) q in
+    let ab = leads-then spot p one two a (leads-eased spot q two (leads-making_room parent before (length moved) q a.changed.part)) in
+    let three = in_turn (placing parent before) moved r in
+    let placed_all = kids-roots_placed parent before moved r ab.changed.part
+    (all-then (MayGo parent p) (MayGo parent r) (λ y. may-still parent p r y ab.changed) moved (placed-may parent p node i m))
+    (subst (λ ts. AllByRecursion (HasRoot ts) moved) (sym r_trees) roots) distinct in
+    let s = after p ((one ++ two) ++ three) in
+    let s_trees = ap (λ (t : Part). kids t.trees parent) (after-append p (one ++ two) three) in
+    let end = ap (λ (t : Part). kids t.trees parent) (after-append p ((one ++ two) ++ three) told) in
+    let quiet = ap (λ ts. kids ts parent) (telling-trees how (child_list parent moved [] (sibling_before p.trees parent before) before) s) in
+    let before_all = ap (λ ts. kids ts parent) r_trees in
+    from (is_empty moved) moved refl (inserting_nodes how node moved parent before p) (omega arith)
+  where
+    unmoved : (before : Option NodeName) (count : ℕ) (q : Part) → (after q (making_room parent before count q)).trees ≡ q.trees
+    unmoved None count q = refl
+    unmoved (Some child) count q = refl
+
+    from : (b : Bool) (moved : List NodeName) → is_empty moved ≡ b → (steps : List Step) →
+        kids (after p steps).trees parent ≡ kids p.trees parent + length moved →
+        kids (after p (if b then [] else steps)).trees parent ≡ kids p.trees parent + length moved
+    from false moved e steps h = h
+    from true [] e steps h = omega arith
+    from true (x ∷ moved) e steps h = absurd (true≢false (sym e))
+
+-- of a root that is no fragment
+pub kids-plain : (how : Observing) (node parent : NodeName) (before : Option NodeName) (p : Part) → IsPart p → MayGo parent p node →
+    HasRoot p.trees node → is_fragment (kind_of p.trees node) ≡ false →
+    kids (after p (inserting how node parent before p)).trees parent ≡ kids p.trees parent + 1
+kids-plain how node parent before p i m h k =
+    let moved = placed_nodes p.trees node in
+    let alone : moved ≡ node ∷ [] = cond-false (is_fragment (kind_of p.trees node)) (children_of p.trees node) (node ∷ []) k in
+    let none_made : emptied_of p node p ≡ [] = ap (λ (f : Plan). f p) (cond-false (is_fragment (kind_of p.trees node)) (emptying node moved) (steps_of []) k) in
+    let same : after p (emptied_of p node p) ≡ p = ap (after p) none_made in
+    let size = ap length alone in
+    let g = kids-inserted how node parent before p i m
+    (subst (λ (q : Part). AllByRecursion (HasRoot q.trees) moved) (sym same)
+    (subst (AllByRecursion (HasRoot p.trees)) (sym alone) (h, tt))) (subst Distinct (sym alone) (tt, tt))
+    (ap (λ (q : Part). kids q.trees parent) same) in omega arith
+
+-- Texts, through insertions.
+texts-placing : (parent : NodeName) (before : Option NodeName) (p : Part) (x : NodeName) → IsPart p → MayGo parent p x →
+    SameTexts p (after p (placing parent before x p))
+texts-placing parent before p x i m =
+    let doc = document_below p.trees parent in
+    let steps = adopting doc x p in
+    let q = after p steps in
+    let first = leads-eased (Some parent) p steps (leads-adopting doc x p i m.owner) in
+    let n = may-still parent p q x first.changed m in
+    texts-then p steps (place x parent before ∷ []) (λ y. still first.changed y) (texts-adopting doc x p i)
+    (λ y t. ap (λ (n : Node). n.text) (node-placed q.trees x parent before y first.changed.part.unique n.below n.apart t))
+
+-- of all that are placed
+texts-each : (parent : NodeName) (before : Option NodeName) (xs : List NodeName) (p : Part) → IsPart p → AllByRecursion (MayGo parent p) xs →
+    SameTexts p (after p (in_turn (placing parent before) xs p))
+texts-each parent before [] p i m = λ y t. refl
+texts-each parent before (x ∷ xs) p i m =
+    let steps = placing parent before x p in
+    let q = after p steps in
+    let c = (leads-placing parent before p x i m.0).changed in
+    texts-then p steps (in_turn (placing parent before) xs q) (λ y. still c y) (texts-placing parent before p x i m.0)
+    (texts-each parent before xs q c.part (all-then (MayGo parent p) (MayGo parent q) (λ y. may-still parent p q y c) xs m.1))
+
+-- of removals
+texts-removals : (how : Observing) (xs : List NodeName) (p : Part) → IsPart p → SameTexts p (after p (in_turn (removing how) xs p))
+texts-removals how [] p i = λ y t. refl
+texts-removals how (x ∷ xs) p i =
+    let first = leads-removing how x p i in
+    texts-then p (removing how x p) (in_turn (removing how) xs (after p (removing how x p))) (λ y. still first.changed y)
+    (texts-removing how x p i) (texts-removals how xs (after p (removing how x p)) first.changed.part)
+
+-- of an insertion
+pub texts-inserting : (how : Observing) (node parent : NodeName) (before : Option NodeName) (p : Part) → IsPart p → MayGo parent p node →
+    SameTexts p (after p (inserting how node parent before p))
+texts-inserting how node parent before p i m =
+    let spot = Some parent in
+    let moved = placed_nodes p.trees node in
+    let told = telling how (child_list parent moved [] (sibling_before p.trees parent before) before) in
+    let one = emptied_of p node p in
+    let a = leads-eased spot p one (leads-emptied node p i) in
+    let q = after p one in
+    let two = making_room parent before (length moved) q in
+    let b = leads-eased spot q two (leads-making_room parent before (length moved) q a.changed.part) in
+    let ab = leads-then spot p one two a b in
+    let r = after p (one ++ two) in
+    let three = in_turn (placing parent before) moved r in
+    let n = all-then (MayGo parent p) (MayGo parent r) (λ y. may-still parent p r y ab.changed) moved (placed-may parent p node i m) in
+    let c = leads-each spot (MayGo parent) (placing parent before) (leads-placing parent before) (may-still parent) moved r ab.changed.part n in
+    let abc = leads-then spot p (one ++ two) three ab c in
+    let s = after p ((one ++ two) ++ three) in
+    either_way (λ steps. (y : NodeName) → There p y → (node_in (after p steps).trees y).text ≡ (node_in p.trees y).text) (is_empty moved) []
+    (inserting_nodes how node moved parent before p) (λ y t. refl)
+    (texts-then p ((one ++ two) ++ three) told (λ y. still abc.changed y)
+    (texts-then p (one ++ two) three (λ y. still ab.changed y)
+    (texts-then p one two (λ y. still a.changed y) (emptied (is_fragment (kind_of p.trees node)) moved)
+    (λ y t. ap (λ ts. (node_in ts y).text) (unmoved before (length moved) q))) (texts-each parent before moved r ab.changed.part n))
+    (λ y t. ap (λ ts. (node_in ts y).text) (telling-trees how (child_list parent moved [] (sibling_before p.trees parent before) before) s)))
+  where
+    unmoved : (before : Option NodeName) (count : ℕ) (q : Part) → (after q (making_room parent before count q)).trees ≡ q.trees
+    unmoved None count q = refl
+    unmoved (Some child) count q = refl
+
+    emptied : (b : Bool) (moved : List NodeName) → (y : NodeName) → There p y →
+        (node_in (after p ((if b then emptying node moved else steps_of []) p)).trees y).text ≡ (node_in p.trees y).text
+    emptied false moved y t = refl
+    emptied true moved y t =
+        ap (λ (q : Part). (node_in q.trees y).text)
+        (after-append p (in_turn (removing suppressed) moved p) (queue_record (child_list node [] moved None None) ∷ [])) ∙
+        texts-removals suppressed moved p i y t

@@ -1,0 +1,212 @@
+-- Plans leave the children of nodes that they do not name, and what an insertion places is a child.
+use Rattle.std.proofs.Common.{◌≡◌, ◌≤◌, ℕ, ◌-◌, Bool, true, false, not, List, [], ◌∷◌, ◌++◌, length, Option, Some, None, refl, sym, ap, ◌∙◌, arith}
+use Rattle.std.proofs.Common.{true≢false, subst}
+use Rattle.std.specs.Prelude.{if◌then◌else◌, min}
+use Rattle.std.specs.List.{AllByRecursion}
+use Rattle.std.specs.Option.{option_map_or}
+use Rattle.dom_base.specs.declared.NodeName.{NodeName}
+use Rattle.dom_model.specs.Names.{DomString, name_eq, is_in, is_empty}
+use Rattle.dom_model.specs.Tree.{Trees, Node, node_in, kind_of, is_fragment, children_of, parent_of, inclusive_descendants}
+use Rattle.dom_model.specs.TreeChanges.{with_name, with_document, with_data_replaced}
+use Rattle.dom_model.specs.Output.{child_list}
+use Rattle.dom_model.specs.Part.{Part, next_name}
+use Rattle.dom_model.specs.Steps.{Step, make, place, take_out, set_document, queue_record, part_step, after}
+use Rattle.dom_model.specs.Changes.{in_turn, steps_of, Observing, observed, suppressed, telling, removal_record, removing, removing_from}
+use Rattle.dom_model.specs.Changes.{has_document, changing_document, adopting, document_below, placed_nodes, emptying, making_room, placing}
+use Rattle.dom_model.specs.Changes.{sibling_before, inserting_nodes, inserting}
+use Rattle.dom_model.specs.TextChanges.{replacing_data}
+use Rattle.dom_model.proofs.OwnerLaws.{name_eq-same}
+use Rattle.dom_worlds.specs.Worlds.{IsPart}
+use Rattle.dom_worlds.proofs.Childs.{childs, childs-taken_out, childs-placed, child-placed, childs-with_node, childs-map_nodes, childs-parent}
+use Rattle.dom_worlds.proofs.Childs.{children-childs}
+use Rattle.dom_worlds.proofs.Kids.{root-below}
+use Rattle.dom_worlds.proofs.Lists.{all-then}
+use Rattle.dom_worlds.proofs.PartSteps.{some-keeps}
+use Rattle.dom_worlds.proofs.PlanPlaces.{MayGo, may-still, taken-step, telling-trees, after-append, emptied_of, leads-then, leads-eased}
+use Rattle.dom_worlds.proofs.PlanPlaces.{leads-removing, leads-adopting, leads-placing, leads-emptied, leads-making_room, placed-may}
+use Rattle.dom_worlds.proofs.Tests.{by_cases, either_way}
+use Rattle.dom_worlds.proofs.Trees.{name_eq-true, all-in}
+
+-- The trees with another node document
+pub documented : (d x : NodeName) (q : Part) (P : Trees → Type 0) → P q.trees → P (part_step q (set_document x d)).trees →
+    P (after q (changing_document d x q)).trees
+documented d x q P a b = either_way (λ steps. P (after q steps).trees) (not (has_document q.trees d x)) (set_document x d ∷ []) [] b a
+
+-- x is a child of y.
+abbrev pub IsChild : NodeName → NodeName → Part → Type 0
+IsChild x y p = 1 ≤ childs p.trees x y
+
+-- other nodes
+abbrev pub IsNot : NodeName → NodeName → Type 0
+IsNot x z = name_eq z x ≡ false
+
+-- It stays a child where others leave.
+pub child-removing : (x y : NodeName) (how : Observing) (z : NodeName) (p : Part) → IsPart p → IsNot x z → IsChild x y p →
+    IsChild x y (after p (removing how z p))
+child-removing x y how z p i d h = from (parent_of p.trees z) refl
+  where
+    from : (o : Option NodeName) → parent_of p.trees z ≡ o → IsChild x y (after p (option_map_or (removing_from how z p.trees) o []))
+    from None e = h
+    from (Some parent) e =
+        subst (λ ts. 1 ≤ childs ts x y) (sym
+        (telling-trees how (removal_record p.trees parent z) (part_step p (take_out z)) ∙ ap (λ (q : Part). q.trees) (taken-step p z parent e)))
+        (let s = childs-taken_out p.trees z x y i.unique d in omega arith)
+
+-- steps after steps
+pub child-then : (x y : NodeName) (p : Part) (xs ys : List Step) → IsChild x y (after (after p xs) ys) → IsChild x y (after p (xs ++ ys))
+child-then x y p xs ys h = subst (IsChild x y) (sym (after-append p xs ys)) h
+
+-- many that leave
+pub child-removals : (x y : NodeName) (how : Observing) (zs : List NodeName) (p : Part) → IsPart p → AllByRecursion (IsNot x) zs → IsChild x y p →
+    IsChild x y (after p (in_turn (removing how) zs p))
+child-removals x y how [] p i d h = h
+child-removals x y how (z ∷ zs) p i d h =
+    let q = after p (removing how z p) in
+    child-then x y p (removing how z p) (in_turn (removing how) zs q)
+    (child-removals x y how zs q (leads-removing how z p i).changed.part d.1 (child-removing x y how z p i d.0 h))
+
+-- an adoption
+child-adopting : (x y d z : NodeName) (p : Part) → IsPart p → IsNot x z → IsChild x y p → IsChild x y (after p (adopting d z p))
+child-adopting x y d z p i n h =
+    let q = after p (removing observed z p) in
+    let g = child-removing x y observed z p i n h in
+    child-then x y p (removing observed z p) (changing_document d z q)
+    (documented d z q (λ ts. 1 ≤ childs ts x y) g
+    (let s = childs-map_nodes (λ n. if is_in name_eq n.name (inclusive_descendants q.trees z) then with_document d n else n)
+    (λ n. (some-keeps (λ (n : Node). is_in name_eq n.name (inclusive_descendants q.trees z)) (with_document d) (λ n. (refl, refl)) n).0)
+    q.trees x y in omega arith))
+
+-- another one that is placed
+child-placing : (x y parent : NodeName) (before : Option NodeName) (p : Part) (z : NodeName) → IsPart p → MayGo parent p z → IsNot x z →
+    IsChild x y p → IsChild x y (after p (placing parent before z p))
+child-placing x y parent before p z i m n h =
+    let doc = document_below p.trees parent in
+    let steps = adopting doc z p in
+    let q = after p steps in
+    let first = leads-eased (Some parent) p steps (leads-adopting doc z p i m.owner) in
+    let k = may-still parent p q z first.changed m in
+    let g = child-adopting x y doc z p i n h in
+    child-then x y p steps (place z parent before ∷ [])
+    (let s = childs-placed q.trees z parent before x y first.changed.part.unique k.below k.apart n in omega arith)
+
+-- all others that are placed
+child-each : (x y parent : NodeName) (before : Option NodeName) (zs : List NodeName) (p : Part) → IsPart p → AllByRecursion (MayGo parent p) zs →
+    AllByRecursion (IsNot x) zs → IsChild x y p → IsChild x y (after p (in_turn (placing parent before) zs p))
+child-each x y parent before [] p i m d h = h
+child-each x y parent before (z ∷ zs) p i m d h =
+    let steps = placing parent before z p in
+    let q = after p steps in
+    let c = (leads-placing parent before p z i m.0).changed in
+    child-then x y p steps (in_turn (placing parent before) zs q)
+    (child-each x y parent before zs q c.part (all-then (MayGo parent p) (MayGo parent q) (λ a. may-still parent p q a c) zs m.1) d.1
+    (child-placing x y parent before p z i m.0 d.0 h))
+
+-- what is placed is another one, where neither x nor its parent is inserted
+others-placed : (x y node : NodeName) (p : Part) → IsPart p → IsNot x node → IsNot y node → IsChild x y p → AllByRecursion (IsNot x) (placed_nodes p.trees node)
+others-placed x y node p i a b h =
+    either_way (AllByRecursion (IsNot x)) (is_fragment (kind_of p.trees node)) (children_of p.trees node) (node ∷ [])
+    (all-then (λ z. 1 ≤ childs p.trees z node) (IsNot x)
+    (λ z g. by_cases (name_eq z x)
+    (λ e. let same = name_eq-true z x e in
+    let one = childs-parent p.trees x node i.unique (subst (λ n. 1 ≤ childs p.trees n node) same g) in
+    let two = childs-parent p.trees x y i.unique h in
+    let both : Some node ≡ Some y = sym one ∙ two in let is : node ≡ y = cc in
+    absurd (true≢false (sym (name_eq-same node) ∙ ap (name_eq node) is ∙ b)))
+    (λ e. e)) (children_of p.trees node) (children-childs p.trees node)) (a, tt)
+
+-- an insertion
+pub child-inserting : (x y : NodeName) (how : Observing) (node parent : NodeName) (before : Option NodeName) (p : Part) → IsPart p →
+    MayGo parent p node → IsNot x node → IsNot y node → IsChild x y p → IsChild x y (after p (inserting how node parent before p))
+child-inserting x y how node parent before p i m a b h =
+    let spot = Some parent in
+    let moved = placed_nodes p.trees node in
+    let told = telling how (child_list parent moved [] (sibling_before p.trees parent before) before) in
+    let one = emptied_of p node p in
+    let l = leads-eased spot p one (leads-emptied node p i) in
+    let q = after p one in
+    let two = making_room parent before (length moved) q in
+    let lb = leads-eased spot q two (leads-making_room parent before (length moved) q l.changed.part) in
+    let ab = leads-then spot p one two l lb in
+    let r = after p (one ++ two) in
+    let three = in_turn (placing parent before) moved r in
+    let others = others-placed x y node p i a b h in
+    let n = all-then (MayGo parent p) (MayGo parent r) (λ z. may-still parent p r z ab.changed) moved (placed-may parent p node i m) in
+    let s = after p ((one ++ two) ++ three) in
+    either_way (λ steps. IsChild x y (after p steps)) (is_empty moved) [] (inserting_nodes how node moved parent before p) h
+    (child-then x y p ((one ++ two) ++ three) told
+    (subst (λ ts. 1 ≤ childs ts x y) (sym (telling-trees how (child_list parent moved [] (sibling_before p.trees parent before) before) s))
+    (child-then x y p (one ++ two) three (child-each x y parent before moved r ab.changed.part n others
+    (child-then x y p one two (unmoved before (length moved) q (emptied (is_fragment (kind_of p.trees node)) moved others)))))))
+  where
+    unmoved : (before : Option NodeName) (count : ℕ) (q : Part) → IsChild x y q → IsChild x y (after q (making_room parent before count q))
+    unmoved None count q g = g
+    unmoved (Some child) count q g = g
+
+    emptied : (t : Bool) (moved : List NodeName) → AllByRecursion (IsNot x) moved → IsChild x y (after p ((if t then emptying node moved else steps_of []) p))
+    emptied false moved others = h
+    emptied true moved others = child-then x y p (in_turn (removing suppressed) moved p) (queue_record (child_list node [] moved None None) ∷ [])
+        (child-removals x y suppressed moved p i others h)
+
+-- data
+pub child-replacing_data : (x y z : NodeName) (offset count : ℕ) (new : DomString) (p : Part) → IsChild x y p →
+    IsChild x y (after p (replacing_data z offset count new p))
+child-replacing_data x y z offset count new p h =
+    let few = min count (length (node_in p.trees z).text - offset) in
+    let s = childs-map_nodes (λ n. if name_eq n.name z then with_data_replaced offset few new n else n)
+    (λ n. (some-keeps (λ (n : Node). name_eq n.name z) (with_data_replaced offset few new) (λ n. (refl, refl)) n).0) p.trees x y in omega
+    arith
+
+-- a new node
+pub child-make : (x y : NodeName) (n : Node) (p : Part) → IsChild x y p → IsChild x y (part_step p (make n))
+child-make x y n p h = let s = childs-with_node (with_name (next_name p) n) p.trees x y in omega arith
+
+-- A child, by its parent.
+pub parent-child : (p : Part) (x y : NodeName) → IsPart p → parent_of p.trees x ≡ Some y → IsChild x y p
+parent-child p x y i e = all-in (λ z. 1 ≤ childs p.trees z y) x (children_of p.trees y) (children-childs p.trees y) (root-below p.trees x y i.unique e)
+
+-- and back
+pub child-parent : (p : Part) (x y : NodeName) → IsPart p → IsChild x y p → parent_of p.trees x ≡ Some y
+child-parent p x y i h = childs-parent p.trees x y i.unique h
+
+-- What is placed is a child.
+child-placing_it : (x parent : NodeName) (before : Option NodeName) (p : Part) → IsPart p → MayGo parent p x →
+    IsChild x parent (after p (placing parent before x p))
+child-placing_it x parent before p i m =
+    let steps = adopting (document_below p.trees parent) x p in
+    let q = after p steps in
+    let first = leads-eased (Some parent) p steps (leads-adopting (document_below p.trees parent) x p i m.owner) in
+    let k = may-still parent p q x first.changed m in
+    child-then x parent p steps (place x parent before ∷ []) (child-placed q.trees x parent before first.changed.part.unique k.below k.apart k.there)
+
+-- by an insertion of a node that is no fragment
+pub child-inserted : (how : Observing) (node parent : NodeName) (before : Option NodeName) (p : Part) → IsPart p → MayGo parent p node →
+    is_fragment (kind_of p.trees node) ≡ false → IsChild node parent (after p (inserting how node parent before p))
+child-inserted how node parent before p i m k =
+    from (is_fragment (kind_of p.trees node)) k
+  where
+    told : List NodeName → List Step
+    told moved = telling how (child_list parent moved [] (sibling_before p.trees parent before) before)
+
+    alone : IsChild node parent (after p
+        (((making_room parent before 1 p) ++ in_turn (placing parent before) (node ∷ []) (after p (making_room parent before 1 p))) ++
+        told (node ∷ [])))
+    alone =
+        let one = making_room parent before 1 p in
+        let l = leads-making_room parent before 1 p i in
+        let q = after p one in
+        let two = in_turn (placing parent before) (node ∷ []) q in
+        let put = child-placing_it node parent before q l.changed.part (may-still parent p q node (leads-eased (Some parent) p one l).changed m) in
+        let r = after p (one ++ two) in
+        child-then node parent p (one ++ two) (told (node ∷ []))
+        (subst (λ ts. 1 ≤ childs ts node parent) (sym (telling-trees how (child_list parent (node ∷ []) [] (sibling_before p.trees parent before) before) r))
+        (child-then node parent p one two (child-then node parent q (placing parent before node q) [] put)))
+
+    from : (t : Bool) → t ≡ false → let moved : List NodeName = if t then children_of p.trees node else node ∷ [] in
+        IsChild node parent (after p (if is_empty moved then [] else
+        ((((if t then emptying node moved else steps_of []) p ++ making_room parent before (length moved)
+        (after p ((if t then emptying node moved else steps_of []) p))) ++
+        in_turn (placing parent before) moved
+        (after p ((if t then emptying node moved else steps_of []) p ++ making_room parent before (length moved)
+        (after p ((if t then emptying node moved else steps_of []) p))))) ++ told moved)))
+    from true e = absurd (true≢false e)
+    from false e = alone

@@ -1,0 +1,337 @@
+-- The steps of the plans of extractions, deletions and insertions into ranges fit where they are made.
+use Rattle.std.proofs.Common.{zero, suc, ◌≡◌, ◌≤◌, ℕ, ◌+◌, ◌-◌, Bool, true, false, not, List, [], ◌∷◌, ◌++◌, filter, Option, Some, None, unwrap_or}
+use Rattle.std.proofs.Common.{refl, sym, ap, ◌∙◌, arith, subst}
+use Rattle.std.specs.Prelude.{if◌then◌else◌, slice_get}
+use Rattle.std.specs.List.{AllByRecursion}
+use Rattle.std.specs.Option.{option_map_or, option_and_then, option_flatten}
+use Rattle.std.proofs.lemmas.Bool.{cond-true, cond-false}
+use Rattle.dom_base.specs.declared.NodeName.{NodeName}
+use Rattle.dom_model.specs.Names.{name_eq, last_of}
+use Rattle.dom_model.specs.Tree.{Trees, Node, node_in, kind_of, is_text, is_fragment, has_data, subtree, children_of, parent_of, root_of, index_of}
+use Rattle.dom_model.specs.Tree.{length_of, inclusive_ancestors, is_inclusive_ancestor}
+use Rattle.dom_model.specs.TreeChanges.{with_name}
+use Rattle.dom_model.specs.Part.{Part, next_name, range_at}
+use Rattle.dom_model.specs.Place.{Boundary}
+use Rattle.dom_model.specs.Ranges.{Range, at, from_to, is_collapsed}
+use Rattle.dom_model.specs.Steps.{Step, make, set_range, part_step, after}
+use Rattle.dom_model.specs.Changes.{◌and_then◌, in_turn, doing, steps_of, observed, removing, inserting, reference_for, pre_inserting}
+use Rattle.dom_model.specs.TextChanges.{replacing_data, splitting}
+use Rattle.dom_model.specs.Extract.{Pieces, nothing, whole, cut, clone, cut_start, cut_end, pieces_of, common_ancestor, is_in_one_data, clone_part}
+use Rattle.dom_model.specs.Extract.{making_below, taking, new_fragment_node, own_document, new_place, behind_node, both_at, extracting}
+use Rattle.dom_model.specs.RangeOps.{cutting_data, outermost_contained, deleting_contents, deleting, insertion_parent, start_reference, ending_at}
+use Rattle.dom_model.specs.RangeOps.{inserting_before, inserting_at, inserting_into_range}
+use Rattle.dom_worlds.specs.Worlds.{times_in, IsPart}
+use Rattle.dom_worlds.specs.Tables.{EndsIn, HasEnds, HasTables}
+use Rattle.dom_worlds.proofs.Lists.{all-filter}
+use Rattle.dom_worlds.proofs.Tests.{by_cases, either_way}
+use Rattle.dom_worlds.proofs.Trees.{by_times, times-subtree, ancestors-there}
+use Rattle.dom_worlds.proofs.TreeChangeLaws.{times-below, nodes-named}
+use Rattle.dom_worlds.proofs.PartSteps.{next-absent}
+use Rattle.dom_worlds.proofs.KindLines.{has_node-times}
+use Rattle.dom_worlds.proofs.Plans.{AllWhole}
+use Rattle.dom_worlds.proofs.FitPieces.{fit-then, common_below, whole-pieces}
+use Rattle.dom_worlds.proofs.TableSteps.{There}
+use Rattle.dom_worlds.proofs.TableRecords.{IfSome, last-all, tables-after, all-get}
+use Rattle.dom_worlds.proofs.Insides.{inside, inside-times}
+use Rattle.dom_worlds.proofs.InsideAncestors.{parent-there}
+use Rattle.dom_worlds.proofs.PlanPlaces.{Changed, Leads, MayGo, may-still, still, after-append, made-append, leads-then, leads-eased}
+use Rattle.dom_worlds.proofs.PlanPlaces.{leads-nothing, leads-one, leads-if, leads-removing, leads-inserting}
+use Rattle.dom_worlds.proofs.PlanChildren.{IsChild, child-parent}
+use Rattle.dom_worlds.proofs.PlanRoots.{StartsBy, SparesAll, starts-after, spares-removing, spares-inserting, spares-splitting}
+use Rattle.dom_worlds.proofs.Roots.{root-parent_of}
+use Rattle.dom_worlds.proofs.Childs.{children-childs}
+use Rattle.dom_worlds.proofs.PlanTexts.{leads-plan, leads-replacing_data, new-there, new-may, leads-splitting, leads-removals}
+
+-- Extraction. A node from before, in whose tree no newer node stands.
+pub record OldIn (count : ℕ) (p : Part) (x : NodeName) : Type 0 where
+  pub there : There p x
+  pub alone : (z : NodeName) → count ≤ z.number → inside p.trees x z ≡ 0
+
+-- below a newer node it may go
+pub old-may : (count : ℕ) (p : Part) (x into : NodeName) → IsPart p → OldIn count p x → There p into → count ≤ into.number → MayGo into p x
+old-may count p x into i o t c = record { there = o.there; owner = i.owned x o.there; below = t; apart = o.alone into c }
+
+-- it stays such where others are placed below a newer node
+pub old-still : (count : ℕ) (into : NodeName) (p q : Part) → count ≤ into.number → Changed (Some into) p q → (x : NodeName) → OldIn count p x → OldIn count q x
+old-still count into p q h c x o = record { there = still c x o.there; alone = λ z k. c.apart x z o.there (o.alone into h) (o.alone z k) }
+
+-- of all pieces
+pub whole-then : (P Q : NodeName → Type 0) → ((x : NodeName) → P x → Q x) → (pieces : Pieces) → AllWhole P pieces → AllWhole Q pieces
+whole-then P Q f pieces h = fit-then P P P Q Q Q f f f pieces h
+
+-- what is placed below a new node that itself went below another one
+pub changed-inner : (into new : NodeName) (p q r : Part) → times_in p.trees new ≡ 0 → Changed (Some into) p q → Changed (Some new) q r → Changed (Some into) p r
+changed-inner into new p q r absent c d =
+    record {
+      owner = d.owner ∙ c.owner;
+      part = d.part;
+      count = let a = c.count in let b = d.count in omega arith;
+      there = λ y. let a = c.there y in let b = d.there y in omega arith;
+      apart = λ a z t h k. d.apart a z (still c a t) (c.apart a new t h (let b = inside-times p.trees a new in omega arith)) (c.apart a z t h k);
+      kinds = λ y t. d.kinds y (still c y t) ∙ c.kinds y t;
+    }
+
+-- a new node below another one
+pub leads-making_below : (into : NodeName) (n : Node) (p : Part) → n.name ≡ next_name p → IsPart p → There p into → Leads (Some into) p (making_below into n p)
+leads-making_below into n p e i t =
+    let spot = Some into in
+    let first = leads-one p (make n) i tt in
+    leads-then spot p (make n ∷ []) (inserting observed n.name into None (part_step p (make n))) (leads-eased spot p (make n ∷ []) first)
+    (leads-inserting observed n.name into None (part_step p (make n)) first.changed.part
+    (subst (MayGo into (part_step p (make n))) (sym e) (new-may p n into i t)))
+
+-- pieces that are taken into a newer node
+pub leads-taking : (count : ℕ) (pieces : Pieces) (into : NodeName) (p : Part) → IsPart p → count ≤ p.node_count → There p into →
+    count ≤ into.number → AllWhole (OldIn count p) pieces → Leads (Some into) p (taking into pieces p)
+leads-taking count nothing into p i k t h o = leads-nothing (Some into) p i
+leads-taking count (whole x rest) into p i k t h o =
+    leads-plan (Some into) (inserting observed x into None) (taking into rest) p (leads-inserting observed x into None p i (old-may count p x into i o.0 t h))
+    (λ q c. leads-taking count rest into q c.part (let a = c.count in omega arith) (still c into t) h
+    (whole-then (OldIn count p) (OldIn count q) (old-still count into p q h c) rest o.1))
+leads-taking count (cut x from to rest) into p i k t h o =
+    let n = clone_part (next_name p) from to (node_in p.trees x) in
+    leads-plan (Some into) (making_below into n and_then replacing_data x from (to - from) []) (taking into rest) p
+    (leads-plan (Some into) (making_below into n) (replacing_data x from (to - from) []) p (leads-making_below into n p refl i t)
+    (λ q c. leads-eased (Some into) q (replacing_data x from (to - from) [] q) (leads-replacing_data x from (to - from) [] q c.part)))
+    (λ q c. leads-taking count rest into q c.part (let a = c.count in omega arith) (still c into t) h
+    (whole-then (OldIn count p) (OldIn count q) (old-still count into p q h c) rest o.1))
+leads-taking count (clone x inner rest) into p i k t h o =
+    let new = next_name p in
+    let n = with_name new (node_in p.trees x) in
+    let one = making_below into n p in
+    let a = leads-making_below into n p refl i t in
+    let q = after p one in
+    let two = taking new inner q in
+    let new_there : There q new = new-made in
+    let b = leads-taking count inner new q a.changed.part (let g = a.changed.count in omega arith) new_there k
+    (whole-then (OldIn count p) (OldIn count q) (old-still count into p q h a.changed) inner o.1) in
+    let both = leads-both into new p one two (next-absent p i) a b in
+    let r = after p (one ++ two) in
+    leads-then (Some into) p (one ++ two) (taking into rest r) both
+    (leads-taking count rest into r both.changed.part (let g = both.changed.count in omega arith) (still both.changed into t) h
+    (whole-then (OldIn count p) (OldIn count r) (old-still count into p r h both.changed) rest o.2))
+  where
+    new-made : There (after p (making_below into (with_name (next_name p) (node_in p.trees x)) p)) (next_name p)
+    new-made =
+        let n = with_name (next_name p) (node_in p.trees x) in
+        let first = leads-one p (make n) i tt in
+        still (leads-inserting observed n.name into None (part_step p (make n)) first.changed.part (new-may p n into i t)).changed (next_name p) (new-there p n)
+
+    leads-both : (into new : NodeName) (p : Part) (one two : List Step) → times_in p.trees new ≡ 0 → Leads (Some into) p one →
+        Leads (Some new) (after p one) two → Leads (Some into) p (one ++ two)
+    leads-both into new p one two absent a b =
+        record {
+          made = made-append p one two a.made b.made;
+          changed = subst (Changed (Some into) p) (sym (after-append p one two))
+              (changed-inner into new p (after p one) (after (after p one) two) absent a.changed b.changed);
+        }
+
+-- nodes that are there are old
+pub old-there : (p : Part) → IsPart p → (x : NodeName) → There p x → OldIn p.node_count p x
+old-there p i x t =
+    record {
+      there = t;
+      alone = λ z h. let a = inside-times p.trees x z in by_times (times_in p.trees z) (λ e. omega arith)
+          (λ e. absurd (let b = i.numbered z e in omega arith));
+    }
+
+-- the pieces of a range
+pub pieces-there : (p : Part) (range : Range NodeName) → There p range.start.node → AllWhole (There p) (pieces_of p.trees range)
+pieces-there p range t =
+    let ts = p.trees in
+    let top = subtree ts (common_ancestor ts range) in
+    whole-pieces (There p) ts range (λ e. t)
+    (nodes-named (There p) (common_below ts range)
+    (λ y h. let a = times-below top y in let b = times-subtree ts (common_ancestor ts range) y in omega arith))
+
+-- a node, or another one
+or-there : (p : Part) (o : Option NodeName) (x : NodeName) → IfSome (There p) o → There p x → There p (unwrap_or o x)
+or-there p None x h g = g
+or-there p (Some y) x h g = h
+
+-- a parent, if there is one
+pub parent-if : (p : Part) (x : NodeName) → IfSome (There p) (parent_of p.trees x)
+parent-if p x = from (parent_of p.trees x) refl
+  where
+    from : (o : Option NodeName) → parent_of p.trees x ≡ o → IfSome (There p) o
+    from None e = tt
+    from (Some y) e = parent-there p.trees x y e
+
+-- where a range stands afterwards
+pub place-there : (p : Part) (range : Range NodeName) → There p range.start.node → There p (new_place p.trees range).node
+place-there p range t =
+    let ts = p.trees in
+    let above = filter (λ a. not (is_inclusive_ancestor ts a range.end.node)) (inclusive_ancestors ts range.start.node) in
+    let x = unwrap_or (last_of above) range.start.node in
+    let there : There p x = or-there p (last_of above) range.start.node
+    (last-all (There p) above (all-filter (There p) (λ a. not (is_inclusive_ancestor ts a range.end.node))
+    (inclusive_ancestors ts range.start.node) (ancestors-there ts range.start.node))) t in
+    either_way (λ (b : Boundary NodeName). There p b.node) (is_inclusive_ancestor ts range.start.node range.end.node) range.start
+    (behind_node ts x) t (or-there p (parent_of ts x) x (parent-if p x) there)
+
+-- an extraction
+pub leads-extracting : (k : ℕ) (range : Range NodeName) (p : Part) → IsPart p → There p range.start.node → Leads (Some (next_name p)) p (extracting k range p)
+leads-extracting k range p i t =
+    let into = next_name p in
+    let spot = Some into in
+    let fragment = new_fragment_node into (own_document p.trees range.start.node) in
+    let last = set_range k (both_at (new_place p.trees range)) in
+    let first = leads-one p (make fragment) i tt in
+    let q = part_step p (make fragment) in
+    leads-plan spot (doing (make fragment) and_then taking into (pieces_of p.trees range)) (doing last) p
+    (leads-then spot p (make fragment ∷ []) (taking into (pieces_of p.trees range) q) (leads-eased spot p (make fragment ∷ []) first)
+    (leads-taking p.node_count (pieces_of p.trees range) into q first.changed.part first.changed.count (new-there p fragment) (omega arith)
+    (whole-then (There p) (OldIn p.node_count q) (λ x h. old-eased p q first.changed x (old-there p i x h)) (pieces_of p.trees range)
+    (pieces-there p range t))))
+    (λ r c. let there = still c (new_place p.trees range).node (place-there p range t) in leads-eased spot r (last ∷ [])
+    (leads-one r last c.part (there, there, refl)))
+  where
+    old-eased : (p q : Part) → Changed None p q → (x : NodeName) → OldIn p.node_count p x → OldIn p.node_count q x
+    old-eased p q c x o = record { there = still c x o.there; alone = λ z h. c.apart x z o.there tt (o.alone z h) }
+
+-- Deletion.
+pub leads-cutting : (ts : Trees) (range : Range NodeName) (x : NodeName) (p : Part) → IsPart p → Leads None p (cutting_data ts range x p)
+leads-cutting ts range x p i = from (has_data (kind_of ts x))
+  where
+    from : (b : Bool) → Leads None p ((if b then replacing_data x (cut_start range x) (cut_end ts range x - cut_start range x) [] else steps_of []) p)
+    from true = leads-replacing_data x (cut_start range x) (cut_end ts range x - cut_start range x) [] p i
+    from false = leads-nothing None p i
+
+-- the contents of a range
+pub leads-contents : (ts : Trees) (range : Range NodeName) (p : Part) → IsPart p → Leads None p (deleting_contents ts range p)
+leads-contents ts range p i = from (is_in_one_data ts range)
+  where
+    from : (b : Bool) → Leads None p ((if b then cutting_data ts range range.start.node else
+        (cutting_data ts range range.start.node and_then in_turn (removing observed) (outermost_contained ts range) and_then cutting_data ts range
+        range.end.node)) p)
+    from true = leads-cutting ts range range.start.node p i
+    from false =
+        leads-plan None (cutting_data ts range range.start.node and_then in_turn (removing observed) (outermost_contained ts range))
+        (cutting_data ts range range.end.node) p
+        (leads-plan None (cutting_data ts range range.start.node) (in_turn (removing observed) (outermost_contained ts range)) p
+        (leads-cutting ts range range.start.node p i) (λ q c. leads-removals observed (outermost_contained ts range) q c.part))
+        (λ q c. leads-cutting ts range range.end.node q c.part)
+
+-- a deletion
+pub leads-deleting : (k : ℕ) (range : Range NodeName) (p : Part) → IsPart p → There p range.start.node → Leads None p (deleting k range p)
+leads-deleting k range p i t =
+    let last = set_range k (both_at (new_place p.trees range)) in
+    leads-if None p (is_collapsed name_eq range) [] ((deleting_contents p.trees range and_then doing last) p) (leads-nothing None p i)
+    (leads-plan None (deleting_contents p.trees range) (doing last) p (leads-contents p.trees range p i)
+    (λ q c. let there = still c (new_place p.trees range).node (place-there p range t) in leads-one q last c.part (there, there, refl)))
+
+-- Insertion into a range: its ends are there in the part in which it is looked up.
+pub range-ends : (p : Part) (k : ℕ) → HasTables p → (range : Range NodeName) → range_at p k ≡ Some range → There p range.start.node × There p range.end.node
+range-ends p k h range e = each p.ranges k h.ranges e
+  where
+    each : (rs : List (Option (Range NodeName))) (k : ℕ) → AllByRecursion (EndsIn p.trees) rs → option_flatten (slice_get rs k) ≡ Some range →
+        There p range.start.node × There p range.end.node
+    each [] k g e = cc
+    each (None ∷ rs) zero g e = cc
+    each (Some r ∷ rs) zero g e =
+        let one : Some r ≡ Some range = e in let same : r ≡ range = cc in
+        let ends : HasEnds p.trees range =
+        subst (HasEnds p.trees) same g.0 in
+        (has_node-times p.trees range.start.node ends.start, has_node-times p.trees range.end.node ends.end)
+    each (r ∷ rs) (suc k) g e = each rs k g.1 e
+
+-- a collapsed range that gets its end
+leads-ending_at : (k : ℕ) (b : Boundary NodeName) (p : Part) → IsPart p → HasTables p → There p b.node → StartsBy k b.node p → Leads None p (ending_at k b p)
+leads-ending_at k b p i h t s = from (range_at p k) refl s
+  where
+    from : (a : Option (Range NodeName)) → range_at p k ≡ a →
+        IfSome (λ (r : Range NodeName). root_of p.trees r.start.node ≡ root_of p.trees b.node) a →
+        Leads None p (option_map_or (λ (q : Range NodeName). if is_collapsed name_eq q then set_range k (from_to q.start b) ∷ [] else []) a [])
+    from None e g = leads-nothing None p i
+    from (Some q) e g = leads-if None p (is_collapsed name_eq q) (set_range k (from_to q.start b) ∷ []) []
+        (leads-one p (set_range k (from_to q.start b)) i ((range-ends p k h q e).0, t, g)) (leads-nothing None p i)
+
+-- a node before the reference
+leads-inserting_before : (k : ℕ) (node parent : NodeName) (reference : Option NodeName) (p : Part) → IsPart p → HasTables p →
+    StartsBy k parent p → MayGo parent p node → Leads (Some parent) p (inserting_before k node parent reference p)
+leads-inserting_before k node parent reference p i h s m =
+    let ts = p.trees in
+    let end = at parent (option_map_or (index_of ts) reference (length_of ts parent) + (if is_fragment (kind_of ts node) then length_of ts node else 1)) in
+    let first = leads-inserting observed node parent (reference_for ts node reference) p i m in
+    let q = after p (pre_inserting node parent reference p) in
+    leads-then (Some parent) p (pre_inserting node parent reference p) (ending_at k end q) first
+    (leads-eased (Some parent) q (ending_at k end q)
+    (leads-ending_at k end q first.changed.part (tables-after p (pre_inserting node parent reference p) i first.made h)
+    (still first.changed parent m.below)
+    (starts-after k parent p (pre_inserting node parent reference p) i first.made
+    (spares-inserting observed node parent (reference_for ts node reference) p i m) m.below h s)))
+
+-- a node that left its parent first
+leads-inserting_at : (k : ℕ) (node parent : NodeName) (child : Option NodeName) (p : Part) → IsPart p → HasTables p → StartsBy k parent p →
+    MayGo parent p node → Leads (Some parent) p (inserting_at k node parent child p)
+leads-inserting_at k node parent child p i h s m =
+    let spot = Some parent in
+    let first = leads-eased spot p (removing observed node p) (leads-removing observed node p i) in
+    let q = after p (removing observed node p) in
+    leads-then spot p (removing observed node p) (inserting_before k node parent (reference_for p.trees node child) q) first
+    (leads-inserting_before k node parent (reference_for p.trees node child) q first.changed.part (tables-after p (removing observed node p) i first.made h)
+    (starts-after k parent p (removing observed node p) i first.made (spares-removing parent observed node p m.apart) m.below h s)
+    (may-still parent p q node first.changed m))
+
+-- the parent of an insertion into a range has the root of its start
+parent-root : (p : Part) (range : Range NodeName) → IsPart p → root_of p.trees (insertion_parent p.trees range) ≡ root_of p.trees range.start.node
+parent-root p range i =
+    let start = range.start.node in
+    let listed = all-get (λ x. IsChild x start p) (children_of p.trees start) range.start.offset (children-childs p.trees start) in
+    either_way (λ o. IfSome (λ x. root_of p.trees x ≡ root_of p.trees start) o →
+    root_of p.trees (unwrap_or (option_and_then (parent_of p.trees) o) start) ≡ root_of p.trees start) (is_text (kind_of p.trees start))
+    (Some start) (slice_get (children_of p.trees start) range.start.offset)
+    (above (Some start)) (above (slice_get (children_of p.trees start) range.start.offset))
+    (either_way (IfSome (λ x. root_of p.trees x ≡ root_of p.trees start)) (is_text (kind_of p.trees start)) (Some start)
+    (slice_get (children_of p.trees start) range.start.offset) refl
+    (if-child (slice_get (children_of p.trees start) range.start.offset) listed))
+  where
+    if-child : (o : Option NodeName) → IfSome (λ x. IsChild x range.start.node p) o → IfSome (λ x. root_of p.trees x ≡ root_of p.trees range.start.node) o
+    if-child None h = tt
+    if-child (Some x) h = sym (root-parent_of p.trees i.unique x range.start.node (child-parent p x range.start.node i h))
+
+    above : (o : Option NodeName) → IfSome (λ x. root_of p.trees x ≡ root_of p.trees range.start.node) o →
+        root_of p.trees (unwrap_or (option_and_then (parent_of p.trees) o) range.start.node) ≡ root_of p.trees range.start.node
+    above None h = refl
+    above (Some x) h = up (parent_of p.trees x) refl
+      where
+        up : (o : Option NodeName) → parent_of p.trees x ≡ o → root_of p.trees (unwrap_or o range.start.node) ≡ root_of p.trees range.start.node
+        up None e = refl
+        up (Some y) e = root-parent_of p.trees i.unique x y e ∙ h
+
+-- an insertion into a range
+pub leads-inserting_into_range : (k : ℕ) (range : Range NodeName) (node : NodeName) (p : Part) → IsPart p → HasTables p →
+    range_at p k ≡ Some range → MayGo (insertion_parent p.trees range) p node →
+    Leads (Some (insertion_parent p.trees range)) p (inserting_into_range k range node p)
+leads-inserting_into_range k range node p i h at_k m =
+    let starts : StartsBy k (insertion_parent p.trees range) p =
+    subst (IfSome (λ (r : Range NodeName). root_of p.trees r.start.node ≡ root_of p.trees (insertion_parent p.trees range))) (sym at_k)
+    (sym (parent-root p range i)) in
+    let there = (range-ends p k h range at_k).0 in
+    let start = range.start.node in
+    let parent = insertion_parent p.trees range in
+    let spot = Some parent in
+    let new = Some (next_name p) in
+    let split = (splitting start range.start.offset and_then inserting_at k node parent new) p in
+    let plain = inserting_at k node parent (start_reference p.trees range) p in
+    by_cases (is_text (kind_of p.trees start))
+    (λ e. subst (Leads spot p) (sym (cond-true (is_text (kind_of p.trees start)) split plain e))
+    (let same : parent ≡ unwrap_or (parent_of p.trees start) start = ap
+    (λ (o : Option NodeName). unwrap_or (option_and_then (parent_of p.trees) o) start)
+    (cond-true (is_text (kind_of p.trees start)) (Some start) (slice_get (children_of p.trees start) range.start.offset) e) in
+    let first : Leads spot p (splitting start range.start.offset p) =
+    subst (λ x. Leads (Some x) p (splitting start range.start.offset p)) (sym same)
+    (some-spot (parent_of p.trees start) start p (splitting start range.start.offset p) (leads-splitting start range.start.offset p i)) in
+    let q = after p (splitting start range.start.offset p) in
+    leads-then spot p (splitting start range.start.offset p) (inserting_at k node parent new q) first
+    (leads-inserting_at k node parent new q first.changed.part (tables-after p (splitting start range.start.offset p) i first.made h)
+    (starts-after k parent p (splitting start range.start.offset p) i first.made
+    (subst (λ x. SparesAll x p (splitting start range.start.offset p)) (sym same) (spares-splitting start range.start.offset p i there))
+    m.below h starts)
+    (may-still parent p q node first.changed m))))
+    (λ e. subst (Leads spot p) (sym (cond-false (is_text (kind_of p.trees start)) split plain e))
+    (leads-inserting_at k node parent (start_reference p.trees range) p i h starts m))
+  where
+    some-spot : (o : Option NodeName) (x : NodeName) (p : Part) (steps : List Step) → Leads o p steps → Leads (Some (unwrap_or o x)) p steps
+    some-spot None x p steps a = leads-eased (Some x) p steps a
+    some-spot (Some y) x p steps a = a

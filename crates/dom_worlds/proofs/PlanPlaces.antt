@@ -1,0 +1,341 @@
+-- The steps of plans fit where they are made: what is placed, is placed below a node that does not stand in its tree.
+use Rattle.std.proofs.Common.{◌≡◌, ◌≤◌, ℕ, Bool, true, false, not, List, [], ◌∷◌, ◌++◌, length, Option, Some, None, refl, sym, ap, ◌∙◌, arith, subst}
+use Rattle.std.specs.Prelude.{if◌then◌else◌, ⊤}
+use Rattle.std.specs.List.{AllByRecursion}
+use Rattle.std.specs.Option.{option_map_or}
+use Rattle.dom_base.specs.declared.NodeName.{NodeName}
+use Rattle.dom_model.specs.Names.{name_eq, is_in, is_empty}
+use Rattle.dom_model.specs.Tree.{Trees, Node, node_in, kind_of, is_fragment, subtree, children_of, parent_of, index_of, inclusive_descendants}
+use Rattle.dom_model.specs.TreeChanges.{without, map_nodes, with_name, with_document, with_data_replaced, with_attribute}
+use Rattle.dom_model.specs.Output.{Change, child_list}
+use Rattle.dom_model.specs.Part.{Part, next_name}
+use Rattle.dom_model.specs.Steps.{Step, make, make_room, place, take_out, set_document, set_attribute, replace_data, queue_record, part_step, leave, after}
+use Rattle.dom_model.specs.Changes.{Plan, in_turn, steps_of, Observing, observed, suppressed, telling, removal_record, removing, removing_from}
+use Rattle.dom_model.specs.Changes.{has_document, changing_document, adopting, document_below, placed_nodes, emptying, making_room, placing}
+use Rattle.dom_model.specs.Changes.{sibling_before, inserting_nodes, inserting}
+use Rattle.dom_model.proofs.StepLaws.{owner-part_step}
+use Rattle.dom_worlds.specs.Worlds.{times_in, IsPart}
+use Rattle.dom_worlds.proofs.NodesRead.{node-taken_out, node-placed, node-with_node, node-map_nodes}
+use Rattle.dom_worlds.proofs.Lists.{all-then, all-from}
+use Rattle.dom_worlds.proofs.Tests.{by_cases, either_way}
+use Rattle.dom_worlds.proofs.TreeChangeLaws.{HasRoot, root-put_root_new, root-subtree, root-map_nodes}
+use Rattle.dom_worlds.proofs.Trees.{times-subtree, name_eq-true}
+use Rattle.dom_worlds.proofs.PartSteps.{KeepsNames, some-keeps, attribute-keeps, part-step, next-absent}
+use Rattle.dom_worlds.proofs.NodeKinds.{count-grows}
+use Rattle.dom_worlds.proofs.TableSteps.{There, Fits, MadeIn, stays-step}
+use Rattle.dom_worlds.proofs.Insides.{inside, inside-taken_out, inside-placed, inside-with_node, inside-map_nodes, times-inside}
+use Rattle.dom_worlds.proofs.InsideAncestors.{inside-nested}
+use Rattle.dom_worlds.proofs.InsideAncestors.{children-inside, no_parent-root}
+
+-- Nodes of the tree of a do not come from a place outside of it.
+abbrev pub ApartFrom : Option NodeName → Part → NodeName → Type 0
+ApartFrom None p a = ⊤
+ApartFrom (Some x) p a = inside p.trees a x ≡ 0
+
+-- What changes keep: no node is lost, numbers are given once, and trees get others only where something is placed: below
+-- the node given, if one is.
+pub record Changed (spot : Option NodeName) (p q : Part) : Type 0 where
+  pub owner : q.owner ≡ p.owner
+  pub part : IsPart q
+  pub count : p.node_count ≤ q.node_count
+  pub there : (y : NodeName) → times_in p.trees y ≤ times_in q.trees y
+  pub apart : (a z : NodeName) → There p a → ApartFrom spot p a → inside p.trees a z ≡ 0 → inside q.trees a z ≡ 0
+  pub kinds : (y : NodeName) → There p y → kind_of q.trees y ≡ kind_of p.trees y
+
+-- what is apart from the place stays so
+stays-apart : (spot : Option NodeName) (p q : Part) → Changed spot p q → (a : NodeName) → There p a → ApartFrom spot p a → ApartFrom spot q a
+stays-apart None p q c a t h = tt
+stays-apart (Some x) p q c a t h = c.apart a x t h h
+
+-- a node that is there stays there
+pub still : {spot : Option NodeName} {p q : Part} → Changed spot p q → (a : NodeName) → There p a → There q a
+still c a h = let t = c.there a in omega arith
+
+-- no change, and one change after another
+pub changed-same : (spot : Option NodeName) (p : Part) → IsPart p → Changed spot p p
+changed-same spot p i = record { owner = refl; part = i; count = omega arith; there = λ y. omega arith; apart = λ a z t h k. k; kinds = λ y t. refl }
+
+-- one after another
+pub changed-then : (spot : Option NodeName) (p q r : Part) → Changed spot p q → Changed spot q r → Changed spot p r
+changed-then spot p q r c d =
+    record {
+      owner = d.owner ∙ c.owner;
+      part = d.part;
+      count = let a = c.count in let b = d.count in omega arith;
+      there = λ y. let a = c.there y in let b = d.there y in omega arith;
+      apart = λ a z t h k. d.apart a z (still c a t) (stays-apart spot p q c a t h) (c.apart a z t h k);
+      kinds = λ y t. d.kinds y (still c y t) ∙ c.kinds y t;
+    }
+
+-- a change that places nothing
+pub changed-eased : (spot : Option NodeName) (p q : Part) → Changed None p q → Changed spot p q
+changed-eased spot p q c = record { owner = c.owner; part = c.part; count = c.count; there = c.there; apart = λ a z t h k. c.apart a z t tt k; kinds = c.kinds }
+
+-- where a step places something
+abbrev pub spot_of : Step → Option NodeName
+spot_of (place x parent before) = Some parent
+spot_of s = None
+
+-- nodes with other contents
+mapped-apart : (f : Node → Node) → KeepsNames f → (ts : Trees) (a z : NodeName) → inside ts a z ≡ 0 → inside (map_nodes f ts) a z ≡ 0
+mapped-apart f h ts a z e = inside-map_nodes f (λ n. (h n).0) ts a z ∙ e
+
+-- a step
+apart-step : (p : Part) (s : Step) → IsPart p → (a z : NodeName) → There p a → ApartFrom (spot_of s) p a → inside p.trees a z ≡ 0 →
+    inside (part_step p s).trees a z ≡ 0
+apart-step p (make n) i a z t h e =
+    by_cases (name_eq (next_name p) a)
+    (λ k. absurd (let b = next-absent p i in let same = ap (times_in p.trees) (name_eq-true (next_name p) a k) in omega arith))
+    (λ k. inside-with_node (with_name (next_name p) n) p.trees a z k ∙ e)
+apart-step p (place x parent before) i a z t h e = let b = inside-placed p.trees x parent before a z i.unique h in omega arith
+apart-step p (take_out x) i a z t h e = from (parent_of p.trees x)
+  where
+    from : (o : Option NodeName) → inside (option_map_or (leave p x) o p).trees a z ≡ 0
+    from None = e
+    from (Some parent) = let b = inside-taken_out p.trees x a z in omega arith
+apart-step p (set_document x d) i a z t h e =
+    mapped-apart (λ n. if is_in name_eq n.name (inclusive_descendants p.trees x) then with_document d n else n)
+    (some-keeps (λ (n : Node). is_in name_eq n.name (inclusive_descendants p.trees x)) (with_document d) (λ n. (refl, refl))) p.trees a z e
+apart-step p (set_attribute x b v) i a z t h e =
+    mapped-apart (λ n. if name_eq n.name x then with_attribute b v n else n)
+    (some-keeps (λ (n : Node). name_eq n.name x) (with_attribute b v) (attribute-keeps b v)) p.trees a z e
+apart-step p (replace_data x offset count new) i a z t h e =
+    mapped-apart (λ n. if name_eq n.name x then with_data_replaced offset count new n else n)
+    (some-keeps (λ (n : Node). name_eq n.name x) (with_data_replaced offset count new) (λ n. (refl, refl))) p.trees a z e
+apart-step p s i a z t h e = e
+
+-- kinds stay
+mapped-kind : (f : Node → Node) → KeepsNames f → (ts : Trees) (y : NodeName) → 1 ≤ times_in ts y → kind_of (map_nodes f ts) y ≡ kind_of ts y
+mapped-kind f h ts y t = ap (λ (n : Node). n.kind) (node-map_nodes f (λ n. (h n).0) ts y t) ∙ (h (node_in ts y)).1
+
+-- under a step
+kind-step : (p : Part) (s : Step) → IsPart p → Fits p s → (y : NodeName) → There p y → kind_of (part_step p s).trees y ≡ kind_of p.trees y
+kind-step p (make n) i h y t =
+    by_cases (name_eq (next_name p) y)
+    (λ k. absurd (let b = next-absent p i in let same = ap (times_in p.trees) (name_eq-true (next_name p) y k) in omega arith))
+    (λ k. ap (λ (n : Node). n.kind) (node-with_node (with_name (next_name p) n) p.trees y i.unique t k))
+kind-step p (place x parent before) i h y t = ap (λ (n : Node). n.kind) (node-placed p.trees x parent before y i.unique h.0 h.1 t)
+kind-step p (take_out x) i h y t = from (parent_of p.trees x)
+  where
+    from : (o : Option NodeName) → kind_of (option_map_or (leave p x) o p).trees y ≡ kind_of p.trees y
+    from None = refl
+    from (Some parent) = ap (λ (n : Node). n.kind) (node-taken_out p.trees x y i.unique t)
+kind-step p (set_document x d) i h y t =
+    mapped-kind (λ n. if is_in name_eq n.name (inclusive_descendants p.trees x) then with_document d n else n)
+    (some-keeps (λ (n : Node). is_in name_eq n.name (inclusive_descendants p.trees x)) (with_document d) (λ n. (refl, refl))) p.trees y t
+kind-step p (set_attribute x b v) i h y t =
+    mapped-kind (λ n. if name_eq n.name x then with_attribute b v n else n)
+    (some-keeps (λ (n : Node). name_eq n.name x) (with_attribute b v) (attribute-keeps b v)) p.trees y t
+kind-step p (replace_data x offset count new) i h y t =
+    mapped-kind (λ n. if name_eq n.name x then with_data_replaced offset count new n else n)
+    (some-keeps (λ (n : Node). name_eq n.name x) (with_data_replaced offset count new) (λ n. (refl, refl))) p.trees y t
+kind-step p s i h y t = refl
+
+-- is such a change
+pub changed-step : (p : Part) (s : Step) → IsPart p → Fits p s → Changed (spot_of s) p (part_step p s)
+changed-step p s i f =
+    record {
+      owner = owner-part_step p s;
+      part = part-step p s i;
+      count = count-grows p s;
+      there = stays-step p s i f;
+      apart = apart-step p s i;
+      kinds = kind-step p s i f;
+    }
+
+-- Steps that fit, and what they change.
+pub record Leads (spot : Option NodeName) (p : Part) (steps : List Step) : Type 0 where
+  pub made : MadeIn p steps
+  pub changed : Changed spot p (after p steps)
+
+-- steps after steps
+pub made-append : (p : Part) (xs ys : List Step) → MadeIn p xs → MadeIn (after p xs) ys → MadeIn p (xs ++ ys)
+made-append p [] ys h g = g
+made-append p (x ∷ xs) ys h g = (h.0, made-append (part_step p x) xs ys h.1 g)
+
+-- the part after all of them
+pub after-append : (p : Part) (xs ys : List Step) → after p (xs ++ ys) ≡ after (after p xs) ys
+after-append p [] ys = refl
+after-append p (x ∷ xs) ys = after-append (part_step p x) xs ys
+
+-- both
+pub leads-then : (spot : Option NodeName) (p : Part) (xs ys : List Step) → Leads spot p xs → Leads spot (after p xs) ys → Leads spot p (xs ++ ys)
+leads-then spot p xs ys a b =
+    record {
+      made = made-append p xs ys a.made b.made;
+      changed = subst (Changed spot p) (sym (after-append p xs ys)) (changed-then spot p (after p xs) (after (after p xs) ys) a.changed b.changed);
+    }
+
+-- steps that place nothing
+pub leads-eased : (spot : Option NodeName) (p : Part) (xs : List Step) → Leads None p xs → Leads spot p xs
+leads-eased spot p xs a = record { made = a.made; changed = changed-eased spot p (after p xs) a.changed }
+
+-- no step
+pub leads-nothing : (spot : Option NodeName) (p : Part) → IsPart p → Leads spot p []
+leads-nothing spot p i = record { made = tt; changed = changed-same spot p i }
+
+-- one step
+pub leads-one : (p : Part) (s : Step) → IsPart p → Fits p s → Leads (spot_of s) p (s ∷ [])
+leads-one p s i f = record { made = (f, tt); changed = changed-step p s i f }
+
+-- a plan for each item, each of which keeps what the others need
+pub leads-each : {A : Type 0} (spot : Option NodeName) (P : Part → A → Type 0) (f : A → Plan) →
+    ((p : Part) (x : A) → IsPart p → P p x → Leads spot p (f x p)) → ((p q : Part) (x : A) → Changed spot p q → P p x → P q x) →
+    (xs : List A) (p : Part) → IsPart p → AllByRecursion (P p) xs → Leads spot p (in_turn f xs p)
+leads-each spot P f h k [] p i g = leads-nothing spot p i
+leads-each spot P f h k (x ∷ xs) p i g =
+    let first = h p x i g.0 in
+    let q = after p (f x p) in
+    leads-then spot p (f x p) (in_turn f xs q) first
+    (leads-each spot P f h k xs q first.changed.part (all-then (P p) (P q) (λ y. k p q y first.changed) xs g.1))
+
+-- one of two lists of steps
+pub leads-if : (spot : Option NodeName) (p : Part) (b : Bool) (xs ys : List Step) → Leads spot p xs → Leads spot p ys → Leads spot p (if b then xs else ys)
+leads-if spot p true xs ys a c = a
+leads-if spot p false xs ys a c = c
+
+-- Removals and adoptions.
+pub leads-telling : (how : Observing) (c : Change NodeName) (p : Part) → IsPart p → Leads None p (telling how c)
+leads-telling observed c p i = leads-one p (queue_record c) i tt
+leads-telling suppressed c p i = leads-nothing None p i
+
+-- a removal
+pub leads-removing : (how : Observing) (x : NodeName) (p : Part) → IsPart p → Leads None p (removing how x p)
+leads-removing how x p i = from (parent_of p.trees x)
+  where
+    from : (o : Option NodeName) → Leads None p (option_map_or (removing_from how x p.trees) o [])
+    from None = leads-nothing None p i
+    from (Some parent) =
+        let first = leads-one p (take_out x) i tt in
+        leads-then None p (take_out x ∷ []) (telling how (removal_record p.trees parent x)) first
+        (leads-telling how (removal_record p.trees parent x) (part_step p (take_out x)) first.changed.part)
+
+-- an adoption
+pub leads-adopting : (d x : NodeName) (p : Part) → IsPart p → x.owner ≡ p.owner → Leads None p (adopting d x p)
+leads-adopting d x p i e =
+    let first = leads-removing observed x p i in
+    let q = after p (removing observed x p) in
+    leads-then None p (removing observed x p) (changing_document d x q) first
+    (leads-if None q (not (has_document q.trees d x)) (set_document x d ∷ []) []
+    (leads-one q (set_document x d) first.changed.part (e ∙ sym first.changed.owner)) (leads-nothing None q first.changed.part))
+
+-- What may be placed below a node.
+pub record MayGo (parent : NodeName) (p : Part) (x : NodeName) : Type 0 where
+  pub there : There p x
+  pub owner : x.owner ≡ p.owner
+  pub below : There p parent
+  pub apart : inside p.trees x parent ≡ 0
+
+-- it still may after other changes
+pub may-still : (parent : NodeName) (p q : Part) (x : NodeName) → Changed (Some parent) p q → MayGo parent p x → MayGo parent q x
+may-still parent p q x c m =
+    record { there = still c x m.there; owner = m.owner ∙ sym c.owner; below = still c parent m.below; apart = c.apart x parent m.there m.apart m.apart }
+
+-- A node that was removed is a root.
+pub taken-step : (p : Part) (x parent : NodeName) → parent_of p.trees x ≡ Some parent → part_step p (take_out x) ≡ leave p x parent
+taken-step p x parent e = ap (λ o. option_map_or (leave p x) o p) e
+
+-- records change no trees
+pub telling-trees : (how : Observing) (c : Change NodeName) (p : Part) → (after p (telling how c)).trees ≡ p.trees
+telling-trees observed c p = refl
+telling-trees suppressed c p = refl
+
+-- one that leaves its parent becomes one
+pub root-removing : (how : Observing) (x : NodeName) (p : Part) → There p x → HasRoot (after p (removing how x p)).trees x
+root-removing how x p t = from (parent_of p.trees x) refl
+  where
+    from : (o : Option NodeName) → parent_of p.trees x ≡ o → HasRoot (after p (option_map_or (removing_from how x p.trees) o [])).trees x
+    from None e = no_parent-root p.trees x t e
+    from (Some parent) e =
+        subst (λ ts. HasRoot ts x) (sym (telling-trees how (removal_record p.trees parent x) (part_step p (take_out x)) ∙
+        ap (λ (q : Part). q.trees) (taken-step p x parent e)))
+        (root-put_root_new x (subtree p.trees x) (without x p.trees) x (root-subtree p.trees x t))
+
+-- and stays one under another node document
+pub root-adopting : (d x : NodeName) (p : Part) → There p x → HasRoot (after p (adopting d x p)).trees x
+root-adopting d x p t =
+    let q = after p (removing observed x p) in
+    let rooted = root-removing observed x p t in
+    subst (λ (r : Part). HasRoot r.trees x) (sym (after-append p (removing observed x p) (changing_document d x q)))
+    (either_way (λ steps. HasRoot (after q steps).trees x) (not (has_document q.trees d x)) (set_document x d ∷ []) []
+    (root-map_nodes (λ n. if is_in name_eq n.name (inclusive_descendants q.trees x) then with_document d n else n)
+    (λ n. (some-keeps (λ (n : Node). is_in name_eq n.name (inclusive_descendants q.trees x)) (with_document d) (λ n. (refl, refl)) n).0)
+    q.trees x rooted) rooted)
+
+-- a node is adopted and placed
+pub leads-placing : (parent : NodeName) (before : Option NodeName) (p : Part) (x : NodeName) → IsPart p → MayGo parent p x →
+    Leads (Some parent) p (placing parent before x p)
+leads-placing parent before p x i m =
+    let d = document_below p.trees parent in
+    let q = after p (adopting d x p) in
+    let first = leads-eased (Some parent) p (adopting d x p) (leads-adopting d x p i m.owner) in
+    let n = may-still parent p q x first.changed m in
+    leads-then (Some parent) p (adopting d x p) (place x parent before ∷ []) first
+    (leads-one q (place x parent before) first.changed.part (n.below, n.apart, root-adopting d x p m.there))
+
+-- Insertions.
+leads-emptying : (node : NodeName) (children : List NodeName) (p : Part) → IsPart p → Leads None p (emptying node children p)
+leads-emptying node children p i =
+    let first = leads-each None (λ q (y : NodeName). ⊤) (removing suppressed) (λ q y j t. leads-removing suppressed y q j) (λ q r y c t. tt)
+    children p i (all-from (λ y. ⊤) (λ y. tt) children) in
+    leads-then None p (in_turn (removing suppressed) children p) (queue_record (child_list node [] children None None) ∷ []) first
+    (leads-one (after p (in_turn (removing suppressed) children p)) (queue_record (child_list node [] children None None)) first.changed.part tt)
+
+-- offsets that grow
+pub leads-making_room : (parent : NodeName) (before : Option NodeName) (count : ℕ) (p : Part) → IsPart p → Leads None p (making_room parent before count p)
+leads-making_room parent None count p i = leads-nothing None p i
+leads-making_room parent (Some child) count p i = leads-one p (make_room parent (index_of p.trees child) count) i tt
+
+-- the children of a node may go where it may
+pub children-may : (parent : NodeName) (p : Part) (x : NodeName) → IsPart p → MayGo parent p x → AllByRecursion (MayGo parent p) (children_of p.trees x)
+children-may parent p x i m =
+    let ts = p.trees in
+    all-then (λ y. 1 ≤ times_in (subtree ts x) y) (MayGo parent p)
+    (λ y h. let there : 1 ≤ times_in ts y = let s = times-subtree ts x y in omega arith in
+    record {
+      there = there;
+      owner = i.owned y there;
+      below = m.below;
+      apart = let a = m.apart in let b = inside-nested ts x y parent i.unique h in let c = times-inside ts x parent in omega arith;
+    }) (children_of ts x) (children-inside ts x)
+
+-- the nodes that an insertion places
+pub placed-may : (parent : NodeName) (p : Part) (x : NodeName) → IsPart p → MayGo parent p x → AllByRecursion (MayGo parent p) (placed_nodes p.trees x)
+placed-may parent p x i m = either_way (AllByRecursion (MayGo parent p)) (is_fragment (kind_of p.trees x)) (children_of p.trees x) (x ∷ [])
+    (children-may parent p x i m) (m, tt)
+
+-- the fragment, if it is one, is emptied
+abbrev pub emptied_of : Part → NodeName → Plan
+emptied_of p node = if is_fragment (kind_of p.trees node) then emptying node (placed_nodes p.trees node) else steps_of []
+
+-- what comes before the placing
+pub leads-emptied : (node : NodeName) (p : Part) → IsPart p → Leads None p (emptied_of p node p)
+leads-emptied node p i = from (is_fragment (kind_of p.trees node))
+  where
+    from : (b : Bool) → Leads None p ((if b then emptying node (placed_nodes p.trees node) else steps_of []) p)
+    from true = leads-emptying node (placed_nodes p.trees node) p i
+    from false = leads-nothing None p i
+
+-- an insertion
+pub leads-inserting : (how : Observing) (node parent : NodeName) (before : Option NodeName) (p : Part) → IsPart p → MayGo parent p node →
+    Leads (Some parent) p (inserting how node parent before p)
+leads-inserting how node parent before p i m =
+    let spot = Some parent in
+    let moved = placed_nodes p.trees node in
+    let told = telling how (child_list parent moved [] (sibling_before p.trees parent before) before) in
+    let one = emptied_of p node p in
+    let a = leads-eased spot p one (leads-emptied node p i) in
+    let q = after p one in
+    let two = making_room parent before (length moved) q in
+    let b = leads-eased spot q two (leads-making_room parent before (length moved) q a.changed.part) in
+    let ab = leads-then spot p one two a b in
+    let r = after p (one ++ two) in
+    let three = in_turn (placing parent before) moved r in
+    let c = leads-each spot (MayGo parent) (placing parent before) (leads-placing parent before) (may-still parent) moved r ab.changed.part
+    (all-then (MayGo parent p) (MayGo parent r) (λ y. may-still parent p r y ab.changed) moved (placed-may parent p node i m)) in
+    let abc = leads-then spot p (one ++ two) three ab c in
+    let d = leads-eased spot (after p ((one ++ two) ++ three)) told
+    (leads-telling how (child_list parent moved [] (sibling_before p.trees parent before) before) (after p ((one ++ two) ++ three))
+    abc.changed.part) in
+    leads-if spot p (is_empty moved) [] (inserting_nodes how node moved parent before p) (leads-nothing spot p i)
+    (leads-then spot p ((one ++ two) ++ three) told abc d)

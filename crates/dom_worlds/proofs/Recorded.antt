@@ -1,0 +1,317 @@
+-- The records of plans name nodes that are there where they are queued, and steps keep that of all records.
+use Rattle.std.proofs.Common.{◌≡◌, ◌≤◌, ℕ, Bool, true, false, not, ◌&&◌, List, [], ◌∷◌, ◌++◌, fold, length, Option, Some, None, unwrap_or, refl, arith}
+use Rattle.std.specs.Prelude.{if◌then◌else◌, ⊤, slice_get, slice_set, ◌==◌}
+use Rattle.std.specs.List.{AllByRecursion, list_any}
+use Rattle.std.specs.Option.{option_map_or}
+use Rattle.dom_base.specs.declared.NodeName.{NodeName}
+use Rattle.dom_model.specs.Names.{Word, DomString, name_eq, is_empty, items_before, items_after}
+use Rattle.dom_model.specs.Tree.{Trees, node_in, kind_of, is_fragment, subtree, children_of, parent_of, siblings, previous_sibling, next_sibling}
+use Rattle.dom_model.specs.Tree.{attribute_value, inclusive_ancestors}
+use Rattle.dom_model.specs.Observers.{target_of, fitting, without_old, asks_for_old}
+use Rattle.dom_model.specs.Output.{Change, child_list, attributes, character_data}
+use Rattle.dom_model.specs.Part.{Part, queue_of}
+use Rattle.dom_model.specs.Steps.{Step, make, place, take_out, set_document, set_attribute, replace_data, queue_record, part_step, leave}
+use Rattle.dom_model.specs.Steps.{interested_in, record_in, after}
+use Rattle.dom_model.specs.Changes.{Plan, ◌and_then◌, in_turn, doing, steps_of, Observing, observed, suppressed, telling, removal_record, removing}
+use Rattle.dom_model.specs.Changes.{removing_from, has_document, changing_document, adopting, document_below, placed_nodes, emptying, making_room}
+use Rattle.dom_model.specs.Changes.{placing, sibling_before, inserting_nodes, inserting, reference_for, replacing, setting_attribute}
+use Rattle.dom_model.specs.Changes.{unsetting_attribute}
+use Rattle.dom_model.specs.TextChanges.{replacing_data}
+use Rattle.dom_worlds.specs.Worlds.{times_in, IsPart}
+use Rattle.dom_worlds.specs.Tables.{IsNodeIn, IsNodeIf, IsRecordIn, HasRecords}
+use Rattle.dom_worlds.proofs.Insides.{times-taken_out_all}
+use Rattle.dom_worlds.proofs.InsideAncestors.{children-inside, child-there, parent-there, times-has_node}
+use Rattle.dom_worlds.proofs.Lists.{all-then, all-append, all-from}
+use Rattle.dom_worlds.proofs.PlanPlaces.{Changed, Leads, MayGo, may-still, still, emptied_of, leads-then, leads-eased, leads-one, leads-each}
+use Rattle.dom_worlds.proofs.PlanPlaces.{leads-removing, leads-placing, leads-emptied, leads-making_room, leads-inserting, placed-may}
+use Rattle.dom_worlds.proofs.PlanTexts.{leads-plan, leads-removals}
+use Rattle.dom_worlds.proofs.TableSteps.{There, Fits, Grows, grows-step, grows-times, all-set}
+use Rattle.dom_worlds.proofs.TableRecords.{IfSome, first-all, last-all, before-all, after-all, all-get}
+use Rattle.dom_worlds.proofs.Tests.{either_way}
+use Rattle.dom_worlds.proofs.Trees.{times-subtree}
+
+-- What a step records is there.
+abbrev pub Tells : Part → Step → Type 0
+Tells p (queue_record c) = IsRecordIn p.trees c
+Tells p s = ⊤
+
+-- of steps, each where it is made
+abbrev pub TellsIn : Part → List Step → Type 0
+TellsIn p [] = ⊤
+TellsIn p (s ∷ steps) = Tells p s × TellsIn (part_step p s) steps
+
+-- Records where there are more nodes.
+if-grows : (ts us : Trees) → Grows ts us → (o : Option NodeName) → IsNodeIf ts o → IsNodeIf us o
+if-grows ts us g None h = tt
+if-grows ts us g (Some x) h = g x h
+
+-- one record
+record-grows : (ts us : Trees) → Grows ts us → (c : Change NodeName) → IsRecordIn ts c → IsRecordIn us c
+record-grows ts us g (child_list x added removed before behind) h = (
+  g x h.0,
+  all-then (IsNodeIn ts) (IsNodeIn us) g added h.1,
+  all-then (IsNodeIn ts) (IsNodeIn us) g removed h.2,
+  if-grows ts us g before h.3,
+  if-grows ts us g behind h.4,
+)
+record-grows ts us g (attributes x a old) h = g x h
+record-grows ts us g (character_data x old) h = g x h
+
+-- all of them
+pub records-grow : (ts us : Trees) → Grows ts us → (qs : List (List (Change NodeName))) → AllByRecursion (AllByRecursion (IsRecordIn ts)) qs →
+    AllByRecursion (AllByRecursion (IsRecordIn us)) qs
+records-grow ts us g qs h = all-then (AllByRecursion (IsRecordIn ts)) (AllByRecursion (IsRecordIn us))
+    (λ q k. all-then (IsRecordIn ts) (IsRecordIn us) (record-grows ts us g) q k) qs h
+
+-- without the old value
+record-without_old : (ts : Trees) (c : Change NodeName) → IsRecordIn ts c → IsRecordIn ts (without_old c)
+record-without_old ts (child_list x added removed before behind) h = h
+record-without_old ts (attributes x a old) h = h
+record-without_old ts (character_data x old) h = h
+
+-- what is found, or none
+or-all : {X : Type 0} (P : List X → Type 0) (o : Option (List X)) → IfSome P o → P [] → P (unwrap_or o [])
+or-all P None h e = e
+or-all P (Some x) h e = h
+
+-- the records of those that are told
+records-told : (p : Part) (c : Change NodeName) → IsRecordIn p.trees c → (ks : List ℕ) (qs : List (List (Change NodeName))) →
+    AllByRecursion (AllByRecursion (IsRecordIn p.trees)) qs →
+    AllByRecursion (AllByRecursion (IsRecordIn p.trees)) (fold (λ queues k. slice_set queues k (queue_of queues k ++ record_in p c k ∷ [])) qs ks)
+records-told p c r [] qs h = h
+records-told p c r (k ∷ ks) qs h =
+    let R = IsRecordIn p.trees in
+    let path = inclusive_ancestors p.trees (target_of c) in
+    let mine : R (record_in p c k) = either_way R
+    (list_any (λ r. (r.observer == k) && asks_for_old r.options c) (fitting name_eq path p.registrations c)) c (without_old c) r
+    (record-without_old p.trees c r) in
+    records-told p c r ks (slice_set qs k (queue_of qs k ++ record_in p c k ∷ []))
+    (all-set (AllByRecursion R) qs k (queue_of qs k ++ record_in p c k ∷ []) h
+    (all-append R (queue_of qs k) (record_in p c k ∷ []) (or-all (AllByRecursion R) (slice_get qs k) (all-get (AllByRecursion R) qs k h) tt)
+    (mine, tt)))
+
+-- queues that are emptied
+pub records-emptied : (P : Change NodeName → Type 0) (ks : List ℕ) (qs : List (List (Change NodeName))) → AllByRecursion (AllByRecursion P) qs →
+    AllByRecursion (AllByRecursion P) (fold (λ queues k. slice_set queues k []) qs ks)
+records-emptied P [] qs h = h
+records-emptied P (k ∷ ks) qs h = records-emptied P ks (slice_set qs k []) (all-set (AllByRecursion P) qs k [] h tt)
+
+-- A step keeps all records.
+pub records-step : (p : Part) (s : Step) → IsPart p → Fits p s → Tells p s → HasRecords p → HasRecords (part_step p s)
+records-step p (make n) i f t h = records-grow p.trees (part_step p (make n)).trees (grows-step p (make n) i f) p.record_queues h
+records-step p (place x parent before) i f t h =
+    records-grow p.trees (part_step p (place x parent before)).trees (grows-step p (place x parent before) i f) p.record_queues h
+records-step p (take_out x) i f t h = from (parent_of p.trees x)
+  where
+    from : (o : Option NodeName) → HasRecords (option_map_or (leave p x) o p)
+    from None = h
+    from (Some parent) = records-grow p.trees (leave p x parent).trees
+        (grows-times p.trees (leave p x parent).trees (λ y. let a = times-taken_out_all p.trees x y i.unique in omega arith)) p.record_queues h
+records-step p (set_document x d) i f t h = records-grow p.trees (part_step p (set_document x d)).trees (grows-step p (set_document x d) i f) p.record_queues h
+records-step p (set_attribute x a v) i f t h =
+    records-grow p.trees (part_step p (set_attribute x a v)).trees (grows-step p (set_attribute x a v) i f) p.record_queues h
+records-step p (replace_data x offset count new) i f t h =
+    records-grow p.trees (part_step p (replace_data x offset count new)).trees (grows-step p (replace_data x offset count new) i f) p.record_queues h
+records-step p (queue_record c) i f t h = records-told p c t (interested_in p c) p.record_queues h
+records-step p s i f t h = h
+
+-- Steps after steps.
+pub tells-append : (p : Part) (xs ys : List Step) → TellsIn p xs → TellsIn (after p xs) ys → TellsIn p (xs ++ ys)
+tells-append p [] ys h g = g
+tells-append p (x ∷ xs) ys h g = (h.0, tells-append (part_step p x) xs ys h.1 g)
+
+-- one plan and then another
+pub tells-plan : (spot : Option NodeName) (f g : Plan) (p : Part) → Leads spot p (f p) → TellsIn p (f p) →
+    ((q : Part) → Changed spot p q → TellsIn q (g q)) → TellsIn p ((f and_then g) p)
+tells-plan spot f g p l a b = tells-append p (f p) (g (after p (f p))) a (b (after p (f p)) l.changed)
+
+-- a plan for each item
+pub tells-each : {A : Type 0} (spot : Option NodeName) (P : Part → A → Type 0) (f : A → Plan) →
+    ((p : Part) (x : A) → IsPart p → P p x → Leads spot p (f x p)) → ((p : Part) (x : A) → IsPart p → P p x → TellsIn p (f x p)) →
+    ((p q : Part) (x : A) → Changed spot p q → P p x → P q x) → (xs : List A) (p : Part) → IsPart p → AllByRecursion (P p) xs → TellsIn p (in_turn f xs p)
+tells-each spot P f l h k [] p i g = tt
+tells-each spot P f l h k (x ∷ xs) p i g =
+    let first = l p x i g.0 in
+    let q = after p (f x p) in
+    tells-append p (f x p) (in_turn f xs q) (h p x i g.0)
+    (tells-each spot P f l h k xs q first.changed.part (all-then (P p) (P q) (λ y. k p q y first.changed) xs g.1))
+
+-- Nodes that are there stay there.
+pub still-all : {spot : Option NodeName} {p q : Part} → Changed spot p q → (xs : List NodeName) → AllByRecursion (There p) xs → AllByRecursion (There q) xs
+still-all {p = p} {q = q} c xs h = all-then (There p) (There q) (λ x. still c x) xs h
+
+-- one, if there is one
+pub still-if : {spot : Option NodeName} {p q : Part} → Changed spot p q → (o : Option NodeName) → IfSome (There p) o → IfSome (There q) o
+still-if c None h = tt
+still-if c (Some x) h = still c x h
+
+-- as a record has it
+node_if : (p : Part) (o : Option NodeName) → IfSome (There p) o → IsNodeIf p.trees o
+node_if p None h = tt
+node_if p (Some x) h = times-has_node p.trees x h
+
+-- a record of children
+pub children-recorded : (p : Part) (x : NodeName) (added removed : List NodeName) (before behind : Option NodeName) → There p x →
+    AllByRecursion (There p) added → AllByRecursion (There p) removed → IfSome (There p) before → IfSome (There p) behind →
+    IsRecordIn p.trees (child_list x added removed before behind)
+children-recorded p x added removed before behind t a r b c =
+    let each = λ (xs : List NodeName) (h : AllByRecursion (There p) xs). all-then (There p) (IsNodeIn p.trees) (times-has_node p.trees) xs h in
+    (times-has_node p.trees x t, each added a, each removed r, node_if p before b, node_if p behind c)
+
+-- Children and siblings are there.
+pub children-there : (p : Part) (y : NodeName) → AllByRecursion (There p) (children_of p.trees y)
+children-there p y = all-then (λ z. 1 ≤ times_in (subtree p.trees y) z) (There p) (λ z h. let s = times-subtree p.trees y z in omega arith)
+    (children_of p.trees y) (children-inside p.trees y)
+
+-- siblings
+siblings-there : (p : Part) (x : NodeName) → There p x → AllByRecursion (There p) (siblings p.trees x)
+siblings-there p x t = from (parent_of p.trees x)
+  where
+    from : (o : Option NodeName) → AllByRecursion (There p) (option_map_or (children_of p.trees) o (x ∷ []))
+    from None = (t, tt)
+    from (Some y) = children-there p y
+
+-- the one before
+previous-there : (p : Part) (x : NodeName) → There p x → IfSome (There p) (previous_sibling p.trees x)
+previous-there p x t = last-all (There p) (items_before name_eq x (siblings p.trees x)) (before-all (There p) x (siblings p.trees x) (siblings-there p x t))
+
+-- the one behind
+pub next-there : (p : Part) (x : NodeName) → There p x → IfSome (There p) (next_sibling p.trees x)
+next-there p x t = first-all (There p) (items_after name_eq x (siblings p.trees x)) (after-all (There p) x (siblings p.trees x) (siblings-there p x t))
+
+-- a reference
+pub reference-there : (p : Part) (node : NodeName) (o : Option NodeName) → There p node → IfSome (There p) o → IfSome (There p) (reference_for p.trees node o)
+reference-there p node None t h = tt
+reference-there p node (Some c) t h = either_way (IfSome (There p)) (name_eq c node) (next_sibling p.trees node) (Some c) (next-there p node t) h
+
+-- the one in front of what is inserted
+front-there : (p : Part) (parent : NodeName) (o : Option NodeName) → IfSome (There p) o → IfSome (There p) (sibling_before p.trees parent o)
+front-there p parent None h = last-all (There p) (children_of p.trees parent) (children-there p parent)
+front-there p parent (Some c) h = previous-there p c h
+
+-- Removals.
+tells-telling : (how : Observing) (c : Change NodeName) (p : Part) → IsRecordIn p.trees c → TellsIn p (telling how c)
+tells-telling observed c p h = (h, tt)
+tells-telling suppressed c p h = tt
+
+-- a removal
+pub tells-removing : (how : Observing) (x : NodeName) (p : Part) → IsPart p → TellsIn p (removing how x p)
+tells-removing how x p i = from (parent_of p.trees x) refl
+  where
+    from : (o : Option NodeName) → parent_of p.trees x ≡ o → TellsIn p (option_map_or (removing_from how x p.trees) o [])
+    from None e = tt
+    from (Some parent) e =
+        let q = part_step p (take_out x) in
+        let c = (leads-one p (take_out x) i tt).changed in
+        let t = child-there p.trees x parent e in
+        let before = previous_sibling p.trees x in
+        let behind = next_sibling p.trees x in (
+          tt,
+          tells-telling how (removal_record p.trees parent x) q
+              (children-recorded q parent [] (x ∷ []) before behind (still c parent (parent-there p.trees x parent e)) tt (still c x t, tt)
+              (still-if c before (previous-there p x t)) (still-if c behind (next-there p x t))),
+        )
+
+-- an adoption
+pub tells-adopting : (d x : NodeName) (p : Part) → IsPart p → TellsIn p (adopting d x p)
+tells-adopting d x p i =
+    let q = after p (removing observed x p) in
+    tells-append p (removing observed x p) (changing_document d x q) (tells-removing observed x p i)
+    (either_way (TellsIn q) (not (has_document q.trees d x)) (set_document x d ∷ []) [] (tt, tt) tt)
+
+-- a node that is placed
+tells-placing : (parent : NodeName) (before : Option NodeName) (p : Part) (x : NodeName) → IsPart p → MayGo parent p x → TellsIn p (placing parent before x p)
+tells-placing parent before p x i m = let d =
+    document_below p.trees parent in tells-append p (adopting d x p) (place x parent before ∷ []) (tells-adopting d x p i) (tt, tt)
+
+-- removals
+pub tells-removals : (how : Observing) (xs : List NodeName) (p : Part) → IsPart p → TellsIn p (in_turn (removing how) xs p)
+tells-removals how xs p i = tells-each None (λ q (y : NodeName). ⊤) (removing how) (λ q y j t. leads-removing how y q j)
+    (λ q y j t. tells-removing how y q j) (λ q r y c t. tt) xs p i (all-from (λ y. ⊤) (λ y. tt) xs)
+
+-- what is placed is there
+placed-there : (p : Part) (node : NodeName) → There p node → AllByRecursion (There p) (placed_nodes p.trees node)
+placed-there p node t = either_way (AllByRecursion (There p)) (is_fragment (kind_of p.trees node)) (children_of p.trees node) (node ∷ [])
+    (children-there p node) (t, tt)
+
+-- a fragment that is emptied
+tells-emptied : (node : NodeName) (p : Part) → IsPart p → There p node → TellsIn p (emptied_of p node p)
+tells-emptied node p i t = from (is_fragment (kind_of p.trees node)) (placed_nodes p.trees node) (placed-there p node t)
+  where
+    from : (b : Bool) (moved : List NodeName) → AllByRecursion (There p) moved → TellsIn p ((if b then emptying node moved else steps_of []) p)
+    from false moved h = tt
+    from true moved h =
+        let gone = in_turn (removing suppressed) moved p in
+        let c = (leads-removals suppressed moved p i).changed in
+        tells-append p gone (queue_record (child_list node [] moved None None) ∷ []) (tells-removals suppressed moved p i)
+        (children-recorded (after p gone) node [] moved None None (still c node t) tt (still-all c moved h) tt tt, tt)
+
+-- An insertion, before a node that is there.
+pub tells-inserting : (how : Observing) (node parent : NodeName) (before : Option NodeName) (p : Part) → IsPart p → MayGo parent p node →
+    IfSome (There p) before → TellsIn p (inserting how node parent before p)
+tells-inserting how node parent before p i m b =
+    let spot = Some parent in
+    let moved = placed_nodes p.trees node in
+    let front = sibling_before p.trees parent before in
+    let change = child_list parent moved [] front before in
+    let one = emptied_of p node p in
+    let a = leads-eased spot p one (leads-emptied node p i) in
+    let q = after p one in
+    let two = making_room parent before (length moved) q in
+    let ab = leads-then spot p one two a (leads-eased spot q two (leads-making_room parent before (length moved) q a.changed.part)) in
+    let r = after p (one ++ two) in
+    let three = in_turn (placing parent before) moved r in
+    let may = all-then (MayGo parent p) (MayGo parent r) (λ y. may-still parent p r y ab.changed) moved (placed-may parent p node i m) in
+    let abc = leads-then spot p (one ++ two) three ab
+    (leads-each spot (MayGo parent) (placing parent before) (leads-placing parent before) (may-still parent) moved r ab.changed.part may) in
+    let c = abc.changed in
+    let s = after p ((one ++ two) ++ three) in
+    either_way (TellsIn p) (is_empty moved) [] (inserting_nodes how node moved parent before p) tt
+    (tells-append p ((one ++ two) ++ three) (telling how change)
+    (tells-append p (one ++ two) three (tells-append p one two (tells-emptied node p i m.there) (roomy before (length moved) q))
+    (tells-each spot (MayGo parent) (placing parent before) (leads-placing parent before) (tells-placing parent before) (may-still parent) moved r
+    ab.changed.part may))
+    (tells-telling how change s (children-recorded s parent moved [] front before (still c parent m.below)
+    (still-all c moved (placed-there p node m.there)) tt (still-if c front (front-there p parent before b)) (still-if c before b))))
+  where
+    roomy : (before : Option NodeName) (count : ℕ) (q : Part) → TellsIn q (making_room parent before count q)
+    roomy None count q = tt
+    roomy (Some child) count q = (tt, tt)
+
+-- a replacement
+pub tells-replacing : (parent node child : NodeName) (p : Part) → IsPart p → MayGo parent p node → There p child → TellsIn p (replacing parent node child p)
+tells-replacing parent node child p i m t =
+    let spot = Some parent in
+    let reference = reference_for p.trees node (next_sibling p.trees child) in
+    let there = reference-there p node (next_sibling p.trees child) m.there (next-there p child t) in
+    let front = previous_sibling p.trees child in
+    let moved = placed_nodes p.trees node in
+    let gone = leads-eased spot p (removing suppressed child p) (leads-removing suppressed child p i) in
+    tells-plan spot (removing suppressed child and_then inserting suppressed node parent reference)
+    (doing (queue_record (child_list parent moved (child ∷ []) front reference))) p
+    (leads-plan spot (removing suppressed child) (inserting suppressed node parent reference) p gone
+    (λ q c. leads-inserting suppressed node parent reference q c.part (may-still parent p q node c m)))
+    (tells-plan spot (removing suppressed child) (inserting suppressed node parent reference) p gone (tells-removing suppressed child p i)
+    (λ q c. tells-inserting suppressed node parent reference q c.part (may-still parent p q node c m) (still-if c reference there)))
+    (λ q c. (
+      children-recorded q parent moved (child ∷ []) front reference (still c parent m.below)
+          (still-all c moved (placed-there p node m.there)) (still c child t, tt) (still-if c front (previous-there p child t))
+          (still-if c reference there),
+      tt,
+    ))
+
+-- Attributes and data.
+pub tells-setting_attribute : (x : NodeName) (a : Word) (v : DomString) (p : Part) → There p x → TellsIn p (setting_attribute x a v p)
+tells-setting_attribute x a v p t = (times-has_node p.trees x t, (tt, tt))
+
+-- an attribute that goes
+pub tells-unsetting_attribute : (x : NodeName) (a : Word) (p : Part) → There p x → TellsIn p (unsetting_attribute x a p)
+tells-unsetting_attribute x a p t = from (attribute_value (node_in p.trees x) a)
+  where
+    from : (v : Option DomString) → TellsIn p (option_map_or (λ old. queue_record (attributes x a (Some old)) ∷ set_attribute x a None ∷ []) v [])
+    from None = tt
+    from (Some old) = (times-has_node p.trees x t, (tt, tt))
+
+-- data
+pub tells-replacing_data : (x : NodeName) (offset count : ℕ) (new : DomString) (p : Part) → There p x → TellsIn p (replacing_data x offset count new p)
+tells-replacing_data x offset count new p t = (times-has_node p.trees x t, (tt, tt))

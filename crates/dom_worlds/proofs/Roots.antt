@@ -1,0 +1,165 @@
+-- The roots of trees: which nodes have one root, and how that stays.
+use Rattle.std.proofs.Common.{◌≡◌, ◌≤◌, true, false, List, [], ◌∷◌, ◌++◌, drop, Some, None, unwrap_or, sym, ap, ◌∙◌, arith, subst}
+use Rattle.std.specs.List.{last_or}
+use Rattle.std.proofs.lemmas.Bool.{cond-true, cond-false}
+use Rattle.dom_base.specs.declared.NodeName.{NodeName}
+use Rattle.dom_model.specs.Names.{name_eq, is_in, first_of}
+use Rattle.dom_model.specs.Place.{same_root}
+use Rattle.dom_model.specs.Tree.{Trees, none, tree, inclusive_ancestors, is_inclusive_ancestor, on_top, parent_of, root_of, subtree}
+use Rattle.dom_model.specs.TreeChanges.{taken_out, without}
+use Rattle.dom_model.proofs.OwnerLaws.{name_eq-same}
+use Rattle.dom_worlds.specs.Worlds.{times_in}
+use Rattle.dom_worlds.proofs.Descents.{ancestor-inside, inside-ancestor, inside-left}
+use Rattle.dom_worlds.proofs.Insides.{inside, inside-absent, inside-elsewhere, inside-times, inside-put_root}
+use Rattle.dom_worlds.proofs.InsideAncestors.{parent-there}
+use Rattle.dom_worlds.proofs.Tests.{by_cases, or-first, or-second, or-later}
+use Rattle.dom_worlds.proofs.Trees.{IsUnique, all-in, last_from, last-is, last-in, by_times, times-here, times-elsewhere, times-more, name_eq-true}
+use Rattle.dom_worlds.proofs.Trees.{ancestors-absent, ancestors-present, ancestors-root}
+
+-- Ancestors: a node's are it and its parent's.
+pub ancestors-step : (ts : Trees) (x y : NodeName) → IsUnique ts → parent_of ts x ≡ Some y → inclusive_ancestors ts x ≡ x ∷ inclusive_ancestors ts y
+ancestors-step none x y u h = cc
+ancestors-step (tree n c r) x y u h =
+    let uc : IsUnique c = λ k. let o = u k in let m = times-more n c r k in omega arith in
+    let ur : IsUnique r = λ k. let o = u k in let m = times-more n c r k in omega arith in
+    let once = u x in
+    let once_y = u y in
+    let top = on_top (inclusive_ancestors c x) n.name (inclusive_ancestors r x) in
+    let top_y = on_top (inclusive_ancestors c y) n.name (inclusive_ancestors r y) in
+    by_cases (name_eq n.name x)
+    (λ e. let is : first_of (drop 1 (x ∷ [])) ≡ Some y = sym (ap (λ p. first_of (drop 1 p)) (cond-true (name_eq n.name x) (x ∷ []) top e)) ∙ h in cc)
+    (λ e. let g = times-elsewhere n c r x e in
+    let here = cond-false (name_eq n.name x) (x ∷ []) top e in
+    by_times (times_in c x)
+    (λ z. let all : inclusive_ancestors (tree n c r) x ≡ inclusive_ancestors r x = here ∙ ap (λ p. on_top p n.name (inclusive_ancestors r x))
+    (ancestors-absent c x z) in
+    let up : parent_of r x ≡ Some y = sym (ap (λ p. first_of (drop 1 p)) all) ∙ h in
+    let there = parent-there r x y up in
+    let other : name_eq n.name y ≡ false = by_cases (name_eq n.name y) (λ k. absurd (let q = times-here n c r y k in omega arith)) (λ k. k) in
+    let gy = times-elsewhere n c r y other in
+    all ∙ ancestors-step r x y ur up ∙ ap (λ p. x ∷ p)
+    (sym (cond-false (name_eq n.name y) (y ∷ []) top_y other ∙ ap (λ p. on_top p n.name (inclusive_ancestors r y))
+    (ancestors-absent c y (omega arith)))))
+    (λ z. let at = ancestors-present c x z in
+    let all : inclusive_ancestors (tree n c r) x ≡ (x ∷ at.0) ++ n.name ∷ [] = here ∙ ap (λ p. on_top p n.name (inclusive_ancestors r x)) at.1 in
+    from (λ e. ancestors-step c x y uc e) at.0 at.1 all (sym (ap (λ p. first_of (drop 1 p)) all) ∙ h) once_y))
+  where
+    from : (parent_of c x ≡ Some y → inclusive_ancestors c x ≡ x ∷ inclusive_ancestors c y) → (path : List NodeName) →
+        inclusive_ancestors c x ≡ x ∷ path → inclusive_ancestors (tree n c r) x ≡ (x ∷ path) ++ n.name ∷ [] →
+        first_of (path ++ n.name ∷ []) ≡ Some y → times_in (tree n c r) y ≤ 1 →
+        inclusive_ancestors (tree n c r) x ≡ x ∷ inclusive_ancestors (tree n c r) y
+    from f [] at all up once =
+        let both : Some n.name ≡ Some y = up in
+        let same : n.name ≡ y = cc in
+        all ∙ ap (λ p. x ∷ p) (ap (λ z. z ∷ []) same ∙
+        sym (cond-true (name_eq n.name y) (y ∷ []) (on_top (inclusive_ancestors c y) n.name (inclusive_ancestors r y))
+        (ap (name_eq n.name) (sym same) ∙ name_eq-same n.name)))
+    from f (q ∷ path) at all up once =
+        let inner : parent_of c x ≡ Some y = ap (λ p. first_of (drop 1 p)) at ∙ up in
+        let there = parent-there c x y inner in
+        let other : name_eq n.name y ≡ false = by_cases (name_eq n.name y) (λ k. absurd (let g = times-here n c r y k in omega arith)) (λ k. k) in
+        let rest = ancestors-present c y there in
+        let behind : x ∷ q ∷ path ≡ x ∷ y ∷ rest.0 = sym at ∙ f inner ∙ ap (λ p. x ∷ p) rest.1 in
+        all ∙ ap (λ p. p ++ n.name ∷ []) behind
+        ∙ ap (λ p. x ∷ p) (sym (cond-false (name_eq n.name y) (y ∷ []) (on_top (inclusive_ancestors c y) n.name (inclusive_ancestors r y)) other ∙
+        ap (λ p. on_top p n.name (inclusive_ancestors r y)) rest.1))
+
+-- a node is an inclusive ancestor of itself
+pub self-above : (ts : Trees) (x : NodeName) → 1 ≤ times_in ts x → is_inclusive_ancestor ts x x ≡ true
+self-above ts x t = let at = ancestors-present ts x t in ap (is_in name_eq x) at.1 ∙ or-first (name_eq x x) (is_in name_eq x at.0) (name_eq-same x)
+
+-- a parent is one of its child
+pub parent-above : (ts : Trees) (x y : NodeName) → IsUnique ts → parent_of ts x ≡ Some y → is_inclusive_ancestor ts y x ≡ true
+parent-above ts x y u h = ap (is_in name_eq y) (ancestors-step ts x y u h) ∙ or-second (name_eq y x) (is_inclusive_ancestor ts y y)
+    (self-above ts y (parent-there ts x y h))
+
+-- an ancestor of a child is an inclusive ancestor of its parent
+pub above-parent : (ts : Trees) (a x y : NodeName) → IsUnique ts → parent_of ts x ≡ Some y → is_inclusive_ancestor ts a x ≡ true →
+    name_eq a x ≡ false → is_inclusive_ancestor ts a y ≡ true
+above-parent ts a x y u h k d = or-later (name_eq a x) (is_inclusive_ancestor ts a y) d (sym (ap (is_in name_eq a) (ancestors-step ts x y u h)) ∙ k)
+
+-- a parent does not stand in its child's tree
+pub parent-apart : (ts : Trees) (x y : NodeName) → IsUnique ts → parent_of ts x ≡ Some y → inside ts x y ≡ 0
+parent-apart none x y u h = cc
+parent-apart (tree n c r) x y u h =
+    let uc : IsUnique c = λ k. let o = u k in let m = times-more n c r k in omega arith in
+    let ur : IsUnique r = λ k. let o = u k in let m = times-more n c r k in omega arith in
+    let once = u x in
+    let top = on_top (inclusive_ancestors c x) n.name (inclusive_ancestors r x) in
+    by_cases (name_eq n.name x)
+    (λ e. let is : first_of (drop 1 (x ∷ [])) ≡ Some y = sym (ap (λ p. first_of (drop 1 p)) (cond-true (name_eq n.name x) (x ∷ []) top e)) ∙ h in cc)
+    (λ e. let g = times-elsewhere n c r x e in
+    let i = inside-elsewhere n c r x y e in
+    let here = cond-false (name_eq n.name x) (x ∷ []) top e in
+    by_times (times_in c x)
+    (λ z. let all : inclusive_ancestors (tree n c r) x ≡ inclusive_ancestors r x = here ∙ ap (λ p. on_top p n.name (inclusive_ancestors r x))
+    (ancestors-absent c x z) in
+    let behind = parent-apart r x y ur (sym (ap (λ p. first_of (drop 1 p)) all) ∙ h) in
+    let below = inside-absent c x y z in omega arith)
+    (λ z. let at = ancestors-present c x z in
+    let all : inclusive_ancestors (tree n c r) x ≡ (x ∷ at.0) ++ n.name ∷ [] = here ∙ ap (λ p. on_top p n.name (inclusive_ancestors r x)) at.1 in
+    let behind = inside-absent r x y (omega arith) in
+    let below = from (λ up. parent-apart c x y uc up) at.0 at.1 (sym (ap (λ p. first_of (drop 1 p)) all) ∙ h) (u y) in omega arith))
+  where
+    from : (parent_of c x ≡ Some y → inside c x y ≡ 0) → (path : List NodeName) → inclusive_ancestors c x ≡ x ∷ path →
+        first_of (path ++ n.name ∷ []) ≡ Some y → times_in (tree n c r) y ≤ 1 → inside c x y ≡ 0
+    from f [] at up once =
+        let both : Some n.name ≡ Some y = up in
+        let same : n.name ≡ y = cc in
+        let g = times-here n c r y (ap (name_eq n.name) (sym same) ∙ name_eq-same n.name) in
+        let i = inside-times c x y in omega arith
+    from f (q ∷ path) at up once = f (ap (λ p. first_of (drop 1 p)) at ∙ up)
+
+-- Roots: that of a node that is there is above it.
+pub root-above : (ts : Trees) (z : NodeName) → 1 ≤ times_in ts z → is_inclusive_ancestor ts (root_of ts z) z ≡ true
+root-above ts z t =
+    let up = ancestors-present ts z t in
+    let root : root_of ts z ≡ last_from z up.0 = ap (λ p. unwrap_or (last_or None p) z) up.1 ∙ ap (λ o. unwrap_or o z) (last-is z up.0) in
+    ap (λ p. is_in name_eq (root_of ts z) p) up.1 ∙ ap (λ y. is_in name_eq y (z ∷ up.0)) root ∙ last-in z up.0
+
+-- a node has the root of what is above it
+pub root-one : (ts : Trees) → IsUnique ts → (a z : NodeName) → is_inclusive_ancestor ts a z ≡ true → root_of ts a ≡ root_of ts z
+root-one ts u a z h = all-in (λ y. root_of ts y ≡ root_of ts z) a (inclusive_ancestors ts z) (ancestors-root ts u z) h
+
+-- so a child has its parent's
+pub root-parent_of : (ts : Trees) → IsUnique ts → (x y : NodeName) → parent_of ts x ≡ Some y → root_of ts y ≡ root_of ts x
+root-parent_of ts u x y h = root-one ts u y x (parent-above ts x y u h)
+
+-- one root, as the model tests it
+pub roots-equal : (ts : Trees) (a b : NodeName) → same_root ts a b ≡ true → root_of ts a ≡ root_of ts b
+roots-equal ts a b h = name_eq-true (root_of ts a) (root_of ts b) h
+
+-- and back
+pub roots-same : (ts : Trees) (a b : NodeName) → root_of ts a ≡ root_of ts b → same_root ts a b ≡ true
+roots-same ts a b e = ap (name_eq (root_of ts a)) (sym e) ∙ name_eq-same (root_of ts a)
+
+-- Nodes of one tree are still in one.
+abbrev pub KeepsRoots : Trees → Trees → Type 0
+KeepsRoots ts us = (a b : NodeName) → 1 ≤ times_in ts a → 1 ≤ times_in ts b → root_of ts a ≡ root_of ts b → root_of us a ≡ root_of us b
+
+-- by the root above both
+root-kept : (ts us : Trees) → IsUnique us → (a b : NodeName) → 1 ≤ times_in ts a → 1 ≤ times_in ts b →
+    ((x : NodeName) → is_inclusive_ancestor ts x a ≡ true → is_inclusive_ancestor us x a ≡ true) →
+    ((x : NodeName) → is_inclusive_ancestor ts x b ≡ true → is_inclusive_ancestor us x b ≡ true) →
+    root_of ts a ≡ root_of ts b → root_of us a ≡ root_of us b
+root-kept ts us u a b s t f g e =
+    let x = root_of ts a in
+    let first = root-one us u x a (f x (root-above ts a s)) in
+    let second = root-one us u x b (g x (subst (λ y. is_inclusive_ancestor ts y b ≡ true) (sym e) (root-above ts b t))) in
+    sym first ∙ second
+
+-- where ancestors stay
+pub roots-stay : (ts us : Trees) → IsUnique us → ((a z : NodeName) → is_inclusive_ancestor ts a z ≡ true → is_inclusive_ancestor us a z ≡ true) →
+    KeepsRoots ts us
+roots-stay ts us u k a b s t e = root-kept ts us u a b s t (λ x. k x a) (λ x. k x b) e
+
+-- where a node leaves: of two nodes that do not stand in its tree
+pub roots-left : (ts : Trees) (x : NodeName) → IsUnique ts → IsUnique (taken_out x ts) → (a b : NodeName) → 1 ≤ times_in ts a →
+    1 ≤ times_in ts b → inside ts x a ≡ 0 → inside ts x b ≡ 0 → root_of ts a ≡ root_of ts b → root_of (taken_out x ts) a ≡ root_of (taken_out x ts) b
+roots-left ts x u v a b s t p q e = root-kept ts (taken_out x ts) v a b s t (left a p) (left b q) e
+  where
+    left : (z : NodeName) → inside ts x z ≡ 0 → (y : NodeName) → is_inclusive_ancestor ts y z ≡ true → is_inclusive_ancestor (taken_out x ts) y z ≡ true
+    left z h y k =
+        inside-ancestor (taken_out x ts) y z v
+        (let g = ancestor-inside ts y z k in let l = inside-left ts x y z u h in let p = inside-put_root x (subtree ts x) (without x ts) y
+        z in omega arith)

@@ -1,0 +1,191 @@
+-- An accepted command of a component places no shadow root.
+use Rattle.std.proofs.Common.{◌≡◌, ℕ, ◌≤◌, Bool, true, false, not, ◌&&◌, List, [], ◌∷◌, ◌++◌, find, filter, drop, unwrap_or, Option, Some, None, refl}
+use Rattle.std.proofs.Common.{sym, ap, ◌∙◌, arith, true≢false}
+use Rattle.std.specs.Prelude.{if◌then◌else◌}
+use Rattle.std.specs.List.{AllByRecursion}
+use Rattle.std.specs.Option.{option_map_or, option_or}
+use Rattle.std.proofs.lemmas.Bool.{cond-true, cond-false, and_parts, not-false}
+use Rattle.dom_base.specs.declared.NodeName.{NodeName}
+use Rattle.dom_base.specs.declared.Kind.TheVariants.{Shadow}
+use Rattle.dom_base.specs.declared.Refusal.{Refusal}
+use Rattle.dom_base.specs.declared.Refusal.TheVariants.{Hierarchy, NotFound}
+use Rattle.dom_model.specs.Names.{name_eq}
+use Rattle.dom_model.specs.Tree.{Trees, none, tree, Node, nodes, names_of, roots, no_node, kind_of, has_data, is_inclusive_ancestor, child_nodes}
+use Rattle.dom_model.specs.Tree.{subtree, trees_below}
+use Rattle.dom_model.specs.Command.{Command, Spelled}
+use Rattle.dom_model.specs.Part.{Part, range_at}
+use Rattle.dom_model.specs.Ranges.{Range}
+use Rattle.dom_model.specs.Validity.{first_refusal, has_parent, may_be_parent, may_be_inserted, placing_tests, insertion_refusal, replacement_refusal}
+use Rattle.dom_model.specs.CommandNames.{named}
+use Rattle.dom_model.specs.CommandRefusals.{own_refusal, limit_on, made_by_insert_node}
+use Rattle.dom_model.specs.RangeOps.{cannot_take_node, insert_node_refusal, insertion_parent, start_reference}
+use Rattle.dom_model.specs.Extract.{pieces_of, common_ancestor}
+use Rattle.dom_model.specs.Effects.{Effect, effect}
+use Rattle.std.proofs.lemmas.List.Folds.{find-append}
+use Rattle.dom_worlds.specs.Worlds.{times_in, IsShadowAt}
+use Rattle.dom_worlds.proofs.Tests.{by_cases}
+use Rattle.dom_worlds.proofs.Trees.{name_eq-true, root-there, times-here, times-elsewhere, times-more, by_times}
+use Rattle.dom_worlds.proofs.TreeChangeLaws.{nodes-listed, nodes-named, root-below_none}
+use Rattle.dom_worlds.proofs.PartSteps.{Allowed, IsOwn, own-step, next-other}
+use Rattle.dom_worlds.proofs.Plans.{AllWhole, IsKept}
+use Rattle.dom_worlds.proofs.FitPieces.{common_below, whole-pieces}
+use Rattle.dom_worlds.proofs.Acceptance.{or-none, next-test}
+use Rattle.dom_worlds.proofs.PlanCommands.{Makes, MayDo, made-effect}
+
+-- a node that is not r
+abbrev pub IsOther : NodeName → NodeName → Type 0
+IsOther r x = name_eq x r ≡ false
+
+-- A shadow root has its kind.
+pub found-absent : (ts : Trees) (x : NodeName) → times_in ts x ≡ 0 → find (λ n. name_eq n.name x) (nodes ts) ≡ None
+found-absent none x h = refl
+found-absent (tree n c r) x h =
+    by_cases (name_eq n.name x) (λ e. absurd (let g = times-here n c r x e in omega arith))
+    (λ e. let g = times-elsewhere n c r x e in
+    cond-false (name_eq n.name x) (Some n) (find (λ n. name_eq n.name x) (nodes c ++ nodes r)) e ∙ find-append (λ (n : Node). name_eq n.name x)
+    (nodes c) (nodes r)
+    ∙ ap (λ o. option_or o (find (λ n. name_eq n.name x) (nodes r))) (found-absent c x (omega arith)) ∙ found-absent r x (omega arith))
+
+-- a node that is there is found
+pub found-there : (ts : Trees) (x : NodeName) → 1 ≤ times_in ts x → (m : Node) × (find (λ n. name_eq n.name x) (nodes ts) ≡ Some m)
+found-there none x h = absurd (omega arith)
+found-there (tree n c r) x h =
+    by_cases (name_eq n.name x) (λ e. (n, cond-true (name_eq n.name x) (Some n) (find (λ n. name_eq n.name x) (nodes c ++ nodes r)) e))
+    (λ e. let g = times-elsewhere n c r x e in
+    let skip = cond-false (name_eq n.name x) (Some n) (find (λ n. name_eq n.name x) (nodes c ++ nodes r)) e ∙
+    find-append (λ (n : Node). name_eq n.name x) (nodes c) (nodes r) in
+    by_times (times_in c x)
+    (λ z. let at = found-there r x (omega arith) in (at.0, skip ∙ ap (λ o. option_or o (find (λ n. name_eq n.name x) (nodes r))) (found-absent c x z) ∙ at.1))
+    (λ z. let at = found-there c x z in (at.0, skip ∙ ap (λ o. option_or o (find (λ n. name_eq n.name x) (nodes r))) at.1)))
+
+-- what is found under the root's name is a shadow root
+found-is : (x : NodeName) (ns : List Node) (m : Node) → AllByRecursion (IsShadowAt x) ns → find (λ n. name_eq n.name x) ns ≡ Some m → m.kind ≡ Shadow
+found-is x [] m h e = cc
+found-is x (n ∷ ns) m h e =
+    by_cases (name_eq n.name x) (λ t. let same : Some n ≡ Some m = sym
+    (cond-true (name_eq n.name x) (Some n) (find (λ n. name_eq n.name x) ns) t) ∙ e in let is : n ≡ m =
+    cc in ap (λ (k : Node). k.kind) (sym is) ∙ h.0 t)
+    (λ t. found-is x ns m h.1 (sym (cond-false (name_eq n.name x) (Some n) (find (λ n. name_eq n.name x) ns) t) ∙ e))
+
+-- so it is in a part with its shadow root
+pub kind-root : (r : NodeName) (p : Part) → IsOwn r p → kind_of p.trees r ≡ Shadow
+kind-root r p o =
+    let at = found-there p.trees r (root-there p.trees r o.root.alone) in
+    ap (λ (m : Option Node). (unwrap_or m (no_node r)).kind) at.1 ∙ found-is r (nodes p.trees) at.0 (nodes-listed (IsShadowAt r) p.trees o.root.shadow) at.1
+
+-- so what may be inserted is another node
+inserted-other : (r : NodeName) (p : Part) → IsOwn r p → (node : NodeName) → may_be_inserted (kind_of p.trees node) ≡ true → IsOther r node
+inserted-other r p o node h =
+    by_cases (name_eq node r) (λ e. absurd
+    (true≢false (sym h ∙ ap (λ x. may_be_inserted (kind_of p.trees x)) (name_eq-true node r e) ∙ ap may_be_inserted (kind-root r p o)))) (λ e. e)
+
+-- what passed the tests of a placing
+tested : (ts : Trees) (parent node : NodeName) (is_lost : Bool) (others : List Node) →
+    first_refusal (placing_tests ts parent node is_lost others) ≡ None → may_be_inserted (kind_of ts node) ≡ true
+tested ts parent node is_lost others h =
+    let tests = placing_tests ts parent node is_lost others in
+    let a = next-test (not (may_be_parent (kind_of ts parent))) Hierarchy (drop 1 tests) h in
+    let b = next-test (is_inclusive_ancestor ts node parent) Hierarchy (drop 2 tests) a.1 in
+    let c = next-test is_lost NotFound (drop 3 tests) b.1 in
+    not-false (may_be_inserted (kind_of ts node)) (next-test (not (may_be_inserted (kind_of ts node))) Hierarchy (drop 4 tests) c.1).0
+
+-- of an insertion
+insertion-tested : (ts : Trees) (parent node : NodeName) (child : Option NodeName) → insertion_refusal ts parent node child ≡ None →
+    may_be_inserted (kind_of ts node) ≡ true
+insertion-tested ts parent node child h = tested ts parent node (option_map_or (λ c. not (has_parent ts parent c)) child false) (child_nodes ts parent) h
+
+-- of a replacement
+replacement-tested : (ts : Trees) (parent node child : NodeName) → replacement_refusal ts parent node child ≡ None → may_be_inserted (kind_of ts node) ≡ true
+replacement-tested ts parent node child h =
+    tested ts parent node (not (has_parent ts parent child)) (filter (λ (n : Node). not (name_eq n.name child)) (child_nodes ts parent)) h
+
+-- no refusal at once
+pub not_taken : (b : Bool) (r : Option Refusal) → (if b then Some Hierarchy else r) ≡ None → r ≡ None
+not_taken true r h = cc
+not_taken false r h = h
+
+-- the node of an accepted `insert-node`
+insert_node-other : (r : NodeName) (p : Part) → IsOwn r p → (k : ℕ) (x : Spelled) → own_refusal p (Command.insert_node k x) ≡ None →
+    (range : Range NodeName) → range_at p k ≡ Some range → IsOther r (named p x)
+insert_node-other r p o k x h range e =
+    let tests = λ (q : Range NodeName). option_or (insert_node_refusal p.trees q (named p x)) (limit_on p.node_count (made_by_insert_node p q)) in
+    let here : tests range ≡ None = sym (ap (λ a. option_map_or tests a None) e) ∙ h in
+    let first = or-none (insert_node_refusal p.trees range (named p x)) (limit_on p.node_count (made_by_insert_node p range)) here in
+    let valid = not_taken (cannot_take_node p.trees range (named p x))
+    (insertion_refusal p.trees (insertion_parent p.trees range) (named p x) (start_reference p.trees range)) first.0 in
+    inserted-other r p o (named p x) (insertion-tested p.trees (insertion_parent p.trees range) (named p x) (start_reference p.trees range) valid)
+
+-- both ends of a range are in one Text or Comment
+abbrev is_in_data : Part → NodeName → NodeName → Bool
+is_in_data p x y = name_eq x y && has_data (kind_of p.trees x)
+
+-- What is below a shadow root's part is no shadow root.
+module _ (r : NodeName) where
+  -- roots among which r is not
+  absent-other : (ts : Trees) → times_in ts r ≡ 0 → AllByRecursion (IsOther r) (names_of (roots ts))
+  absent-other none h = tt
+  absent-other (tree n c rest) h = (
+    by_cases (name_eq n.name r) (λ e. absurd (let g = times-here n c rest r e in omega arith)) (λ e. e),
+    absent-other rest
+        (let g = times-more n c rest r in omega arith),
+  )
+
+  -- a Text or a Comment is no shadow root
+  data-other : (p : Part) → IsOwn r p → (x y : NodeName) → is_in_data p x y ≡ true → IsOther r x
+  data-other p o x y h =
+      let data_kind = (and_parts (name_eq x y) (has_data (kind_of p.trees x)) h).1 in
+      by_cases (name_eq x r) (λ e. absurd
+      (true≢false (sym data_kind ∙ ap (λ z. has_data (kind_of p.trees z)) (name_eq-true x r e) ∙ ap has_data (kind-root r p o)))) (λ e. e)
+
+  -- the pieces of a range
+  whole-of : (p : Part) → IsOwn r p → (range : Range NodeName) → AllWhole (IsOther r) (pieces_of p.trees range)
+  whole-of p o range =
+      let ts = p.trees in
+      let below = common_below ts range in
+      let absent : times_in below r ≡ 0 = root-below_none ts o.part.unique r o.root.alone (common_ancestor ts range) in
+      whole-pieces (IsOther r) ts range (data-other p o range.start.node range.end.node)
+      (nodes-named (IsOther r) below (λ y h. by_cases (name_eq y r)
+      (λ e. absurd (let same = ap (times_in below) (name_eq-true y r e) in omega arith)) (λ e. e)))
+
+  -- The rules of plans, for a part with its shadow root r, which no step places.
+  pub shadow-rules : IsKept (IsOwn r) (Allowed r) (IsOther r)
+  shadow-rules =
+      record {
+        step = own-step r;
+        placing = λ x parent before h. h;
+        making_room = λ parent index count. tt;
+        taking_out = λ x. tt;
+        document = λ x d. tt;
+        data_replaced = λ x offset count new. tt;
+        split = λ x offset new parent index. tt;
+        join = λ x size next parent index. tt;
+        range = λ k range. tt;
+        children_told = λ x added removed previous next. tt;
+        data_told = λ x old. tt;
+        new_text = λ x d text. tt;
+        new_fragment = λ x d. tt;
+        clone = λ p x y i m. tt;
+        clone_part = λ p x y from to i m. tt;
+        new_node = next-other r;
+        children = λ p o x. absent-other (trees_below (subtree p.trees x)) (root-below_none p.trees o.part.unique r o.root.alone x);
+        wholes = whole-of;
+      }
+
+-- What an accepted command places is no shadow root.
+pub may-do : (r : NodeName) (p : Part) → IsOwn r p → (c : Command) → own_refusal p c ≡ None → MayDo (Allowed r) (IsOther r) p c
+may-do r p o (Command.new_element a) h = tt
+may-do r p o (Command.append a b) h = inserted-other r p o (named p b) (insertion-tested p.trees (named p a) (named p b) None h)
+may-do r p o (Command.insert a b c) h = inserted-other r p o (named p b) (insertion-tested p.trees (named p a) (named p b) (Some (named p c)) h)
+may-do r p o (Command.replace a b c) h = inserted-other r p o (named p b) (replacement-tested p.trees (named p a) (named p b) (named p c) h)
+may-do r p o (Command.insert_node a b) h = insert_node-other r p o a b h
+may-do r p o (Command.set_attribute a b c) h = ((λ old. tt), tt)
+may-do r p o (Command.unset_attribute a b) h = ((λ old. tt), tt)
+may-do r p o c h = tt
+
+-- the steps of an accepted command place no shadow root
+abbrev pub SafeEffect : NodeName → Effect → Type 0
+SafeEffect r e = Makes (Allowed r) e
+
+-- no accepted command places a shadow root
+pub safe-effect : (r : NodeName) (p : Part) → IsOwn r p → (c : Command) → own_refusal p c ≡ None → SafeEffect r (effect p c)
+safe-effect r p o c h = made-effect (shadow-rules r) p o c (may-do r p o c h)

@@ -1,0 +1,323 @@
+-- Listeners and observers keep to nodes that are there, and so does what an accepted command does to tables.
+use Rattle.std.proofs.Common.{◌≡◌, ◌≤◌, ◌<◌, ℕ, true, false, not, ◌&&◌, List, [], ◌∷◌, ◌++◌, map, filter, length, Option, Some}
+use Rattle.std.proofs.Common.{None, refl, sym, ap, ◌∙◌, arith, subst, length-append}
+use Rattle.std.specs.Prelude.{⊤, slice_get, slice_set, is_some, ◌==◌}
+use Rattle.std.specs.List.{AllByRecursion, list_any}
+use Rattle.std.specs.Option.{option_map_or, option_or}
+use Rattle.std.proofs.lemmas.Bool.{and_parts}
+use Rattle.std.proofs.lemmas.List.{length-set}
+use Rattle.dom_base.specs.declared.NodeName.{NodeName}
+use Rattle.dom_model.specs.Changes.{observed}
+use Rattle.dom_model.specs.Command.{Command, Spelled, ObserveWords, ListenerWords}
+use Rattle.dom_model.specs.CommandNames.{named, has_range}
+use Rattle.dom_model.specs.CommandRefusals.{part_refusal, own_refusal, of_range, limit_on, made_by_insert_node}
+use Rattle.dom_model.specs.Effects.{effect, answers, moves_iterator, sets_walker, node_or_null, collapsed_to}
+use Rattle.dom_model.specs.Effects.{new_iterator, new_walker}
+use Rattle.dom_model.specs.Extract.{both_at}
+use Rattle.dom_model.specs.Listeners.{Listener, listened, is_listener}
+use Rattle.dom_model.specs.Names.{name_eq}
+use Rattle.dom_model.specs.Observers.{Registration, asked_for, with_registration, with_options, is_asked_for, stems_from, options_of}
+use Rattle.dom_model.specs.Output.{nothing, a_node, a_string, boundaries, reference}
+use Rattle.dom_model.specs.Part.{Part, first_node, range_at}
+use Rattle.dom_model.specs.RangeOps.{cannot_take_node, insert_node_refusal, insertion_parent, start_reference, range_text_of, inserting_into_range, deleting}
+use Rattle.dom_model.specs.Ranges.{Range, at, with_start, with_end}
+use Rattle.dom_model.specs.Extract.{extracting}
+use Rattle.dom_model.specs.Steps.{Step}
+use Rattle.dom_model.specs.Traversal.{Iterator, Walker, iterator_next_node, iterator_previous_node, walker_move}
+use Rattle.dom_model.specs.Tree.{Trees, has_node}
+use Rattle.dom_model.specs.Tree.{parent_of, length_of}
+use Rattle.dom_model.specs.Validity.{insertion_refusal}
+use Rattle.dom_worlds.specs.Worlds.{IsPart}
+use Rattle.dom_worlds.specs.Tables.{IsNodeIn, EndsIn, IsIteratorIn, IsWalkerIn, IsRegistrationIn, IsListenerIn, HasTables}
+use Rattle.dom_worlds.proofs.Acceptance.{or-none, part-accepted}
+use Rattle.dom_worlds.proofs.Descents.{inside-ancestor}
+use Rattle.dom_worlds.proofs.Insides.{inside-itself}
+use Rattle.dom_worlds.proofs.InsideAncestors.{times-has_node, parent-there}
+use Rattle.dom_worlds.proofs.KindLines.{has_node-times}
+use Rattle.dom_worlds.proofs.Lists.{all-append, all-then, all-filter, all-map, get-below}
+use Rattle.dom_worlds.proofs.Owners.{owner-named}
+use Rattle.dom_worlds.proofs.PlanPlaces.{MayGo, leads-removing, leads-adopting, leads-inserting}
+use Rattle.dom_worlds.proofs.PlanTexts.{leads-replacing, leads-setting_attribute, leads-unsetting_attribute, leads-replacing_data, leads-splitting}
+use Rattle.dom_worlds.proofs.PlanTexts.{leads-normalizing, leads-setting_text}
+use Rattle.dom_worlds.proofs.PlanContents.{range-ends, leads-extracting, leads-deleting, leads-inserting_into_range}
+use Rattle.dom_worlds.proofs.ShadowRoots.{not_taken}
+use Rattle.dom_worlds.proofs.TableSteps.{There, MadeIn}
+use Rattle.dom_worlds.proofs.PlanRoots.{ends-at}
+use Rattle.dom_worlds.proofs.TableRecords.{IfSome, all-get}
+use Rattle.dom_worlds.proofs.Roots.{roots-same}
+use Rattle.dom_worlds.proofs.Tests.{either_way}
+use Rattle.dom_worlds.proofs.TableCommands.{Holds, insertion-apart, replacement-apart, named-may, exists-first, exists-second, some-holds}
+use Rattle.dom_worlds.proofs.TableCommands.{tables-range, ends-mapped, ends-with_start, ends-with_end, ends-collapsed}
+use Rattle.dom_worlds.proofs.TableCursors.{iterator-next, iterator-previous, tables-iterator, walker-moved, tables-walker}
+
+-- Listeners.
+pub all-heard : (P : Listener NodeName → Type 0) (x : NodeName) (w : ListenerWords) (ls : List (Listener NodeName)) →
+    P (record { node = x; words = w }) → AllByRecursion P ls → AllByRecursion P (listened name_eq x w ls)
+all-heard P x w ls g h =
+    let one : Listener NodeName = record { node = x; words = w } in
+    either_way (AllByRecursion P) (list_any (is_listener name_eq x w.event w.label w.capture) ls) ls (ls ++ one ∷ []) h (all-append P ls (one ∷ []) h (g, tt))
+
+-- with other listeners
+tables-listeners : (p : Part) (ls : List (Listener NodeName)) → HasTables p → AllByRecursion (IsListenerIn p.trees) ls → HasTables (record p { listeners = ls })
+tables-listeners p ls h g = record {
+  hosts = h.hosts;
+  ranges = h.ranges;
+  iterators = h.iterators;
+  walkers = h.walkers;
+  registrations = h.registrations;
+  pending = h.pending;
+  listeners = g;
+}
+
+-- Observers.
+all-registered_with : (P : Registration NodeName → Type 0) (k : ℕ) (x : NodeName) (o : ObserveWords) (rs : List (Registration NodeName)) →
+    ((r : Registration NodeName) → P r → P (record r { options = o })) → P (record { node = x; observer = k; options = o; source = asked_for }) →
+    AllByRecursion P rs → AllByRecursion P (with_registration name_eq k x o rs)
+all-registered_with P k x o rs f g h =
+    let left = filter (λ (r : Registration NodeName). not ((r.observer == k) && stems_from name_eq x r.source)) rs in
+    let one : Registration NodeName = record { node = x; observer = k; options = o; source = asked_for } in
+    either_way (AllByRecursion P) (list_any (is_asked_for name_eq k x) rs) (map (with_options name_eq k x o) left) (rs ++ one ∷ [])
+    (all-map P (with_options name_eq k x o) left
+    (all-then P (λ r. P (with_options name_eq k x o r)) (λ r m. either_way P (is_asked_for name_eq k x r) (record r { options = o }) r (f r m) m)
+    left (all-filter P (λ (r : Registration NodeName). not ((r.observer == k) && stems_from name_eq x r.source)) rs h)))
+    (all-append P rs (one ∷ []) h (g, tt))
+
+-- with other queues and registrations
+tables-observers : (p : Part) (queues : _) (rs : List (Registration NodeName)) (ks : List ℕ) → HasTables p →
+    AllByRecursion (IsRegistrationIn p.trees (length queues)) rs → AllByRecursion (λ k. k < length queues) ks →
+    HasTables (record p { record_queues = queues; registrations = rs; pending = ks })
+tables-observers p queues rs ks h g m = record {
+  hosts = h.hosts;
+  ranges = h.ranges;
+  iterators = h.iterators;
+  walkers = h.walkers;
+  registrations = g;
+  pending = m;
+  listeners = h.listeners;
+}
+
+-- of more observers
+pub more-registered : (ts : Trees) (j k : ℕ) → j ≤ k → (rs : List (Registration NodeName)) → AllByRecursion (IsRegistrationIn ts j) rs →
+    AllByRecursion (IsRegistrationIn ts k) rs
+more-registered ts j k e rs h = all-then (IsRegistrationIn ts j) (IsRegistrationIn ts k)
+    (λ r i. record { node = i.node; observer = let o = i.observer in omega arith; source = i.source }) rs h
+
+-- and more pending
+pub more-pending : (j k : ℕ) → j ≤ k → (ks : List ℕ) → AllByRecursion (λ i. i < j) ks → AllByRecursion (λ i. i < k) ks
+more-pending j k e ks h = all-then (λ i. i < j) (λ i. i < k) (λ i o. omega arith) ks h
+
+-- Ranges that plans are for.
+range-made : (p : Part) (k : ℕ) (f : Range NodeName → List Step) → ((range : Range NodeName) → range_at p k ≡ Some range → MadeIn p (f range)) →
+    MadeIn p (of_range p k [] f)
+range-made p k f h = from (range_at p k) refl
+  where
+    from : (o : Option (Range NodeName)) → range_at p k ≡ o → MadeIn p (of_range p k [] f)
+    from None e = subst (λ o. MadeIn p (option_map_or f o [])) (sym e) tt
+    from (Some range) e = subst (λ o. MadeIn p (option_map_or f o [])) (sym e) (h range e)
+
+-- the parent into which a node goes is there
+pub parent-of_range : (p : Part) (range : Range NodeName) → There p range.start.node → There p (insertion_parent p.trees range)
+parent-of_range p range t = from (start_reference p.trees range)
+  where
+    of : (o : Option NodeName) → IfSome (There p) o → There p (Rattle.std.specs.Prelude.unwrap_or o range.start.node)
+    of None h = t
+    of (Some x) h = h
+
+    up : (x : NodeName) (o : Option NodeName) → parent_of p.trees x ≡ o → IfSome (There p) o
+    up x None e = tt
+    up x (Some y) e = parent-there p.trees x y e
+
+    from : (o : Option NodeName) → There p (Rattle.std.specs.Prelude.unwrap_or (Rattle.std.specs.Option.option_and_then (parent_of p.trees) o) range.start.node)
+    from None = t
+    from (Some x) = of (parent_of p.trees x) (up x (parent_of p.trees x) refl)
+
+-- an accepted `insert-node` is valid
+pub insert_node-valid : (p : Part) (k : ℕ) (x : Spelled) → own_refusal p (Command.insert_node k x) ≡ None → (range : Range NodeName) →
+    range_at p k ≡ Some range → insert_node_refusal p.trees range (named p x) ≡ None
+insert_node-valid p k x r range e =
+    let tests = λ (q : Range NodeName). option_or (insert_node_refusal p.trees q (named p x)) (limit_on p.node_count (made_by_insert_node p q)) in
+    let here : tests range ≡ None = sym (ap (λ a. option_map_or tests a None) e) ∙ r in
+    (or-none (insert_node_refusal p.trees range (named p x)) (limit_on p.node_count (made_by_insert_node p range)) here).0
+
+-- so its node may go there
+pub insert_node-may : (p : Part) (k : ℕ) (x : Spelled) → IsPart p → HasTables p → There p (named p x) →
+    own_refusal p (Command.insert_node k x) ≡ None → (range : Range NodeName) → range_at p k ≡ Some range →
+    MayGo (insertion_parent p.trees range) p (named p x)
+insert_node-may p k x i h t r range e =
+    let valid = not_taken (cannot_take_node p.trees range (named p x))
+    (insertion_refusal p.trees (insertion_parent p.trees range) (named p x) (start_reference p.trees range))
+    (insert_node-valid p k x r range e) in
+    named-may p x (insertion_parent p.trees range) i t (parent-of_range p range (range-ends p k h range e).0)
+    (insertion-apart p.trees (insertion_parent p.trees range) (named p x) (start_reference p.trees range) valid)
+
+-- Every accepted command.
+pub holds-effect : (p : Part) → IsPart p → HasTables p → IsNodeIn p.trees (first_node p) → (c : Command) → part_refusal p c ≡ None → Holds p (effect p c)
+holds-effect p i h f (Command.new_element a) r = (tt, tt)
+holds-effect p i h f (Command.new_text a) r = (tt, tt)
+holds-effect p i h f (Command.new_comment a) r = (tt, tt)
+holds-effect p i h f Command.new_fragment r = (tt, tt)
+holds-effect p i h f Command.new_document r = (tt, tt)
+holds-effect p i h f (Command.append a x) r =
+    let k = part-accepted p (Command.append a x) r in
+    (leads-inserting observed (named p x) (named p a) None p i
+    (named-may p x (named p a) i (exists-second p a x true true k.exist)
+    (exists-first p a (has_node p.trees (named p x) && true) true k.exist) (insertion-apart p.trees (named p a) (named p x) None k.own))).made
+holds-effect p i h f (Command.insert a x c) r =
+    let k = part-accepted p (Command.insert a x c) r in
+    (leads-inserting observed (named p x) (named p a) _ p i
+    (named-may p x (named p a) i (exists-second p a x (has_node p.trees (named p c) && true) true k.exist)
+    (exists-first p a (has_node p.trees (named p x) && (has_node p.trees (named p c) && true)) true k.exist)
+    (insertion-apart p.trees (named p a) (named p x) (Some (named p c)) k.own))).made
+holds-effect p i h f (Command.replace a x c) r =
+    let k = part-accepted p (Command.replace a x c) r in
+    (leads-replacing (named p a) (named p x) (named p c) p i
+    (named-may p x (named p a) i (exists-second p a x (has_node p.trees (named p c) && true) true k.exist)
+    (exists-first p a (has_node p.trees (named p x) && (has_node p.trees (named p c) && true)) true k.exist)
+    (replacement-apart p.trees (named p a) (named p x) (named p c) k.own))).made
+holds-effect p i h f (Command.remove x) r = (leads-removing observed (named p x) p i).made
+holds-effect p i h f (Command.adopt d x) r = (leads-adopting (named p d) (named p x) p i (owner-named p x)).made
+holds-effect p i h f (Command.normalize x) r = (leads-normalizing (named p x) p i).made
+holds-effect p i h f (Command.set_attribute x a v) r = (leads-setting_attribute (named p x) a v p i).made
+holds-effect p i h f (Command.unset_attribute x a) r = (leads-unsetting_attribute (named p x) a p i).made
+holds-effect p i h f (Command.set_data x s) r = (leads-replacing_data (named p x) 0 (length_of p.trees (named p x)) s p i).made
+holds-effect p i h f (Command.replace_data x j n s) r = (leads-replacing_data (named p x) j n s p i).made
+holds-effect p i h f (Command.split x j) r = (leads-splitting (named p x) j p i).made
+holds-effect p i h f (Command.set_text x s) r =
+    let k = part-accepted p (Command.set_text x s) r in
+    (leads-setting_text (named p x) s p i (exists-first p x true true k.exist)).made
+holds-effect p i h f Command.range_new r =
+    record {
+      hosts = h.hosts;
+      ranges = all-append (EndsIn p.trees) p.ranges (Some (both_at (at (first_node p) 0)) ∷ []) h.ranges
+          (record { start = f; end = f; one_root = roots-same p.trees (first_node p) (first_node p) refl }, tt);
+      iterators = h.iterators;
+      walkers = h.walkers;
+      registrations = h.registrations;
+      pending = h.pending;
+      listeners = h.listeners;
+    }
+holds-effect p i h f (Command.range_start k x j) r =
+    let a = part-accepted p (Command.range_start k x j) r in
+    let b = at (named p x) j in
+    let t = times-has_node p.trees (named p x) (exists-first p x true (has_range p k) a.exist) in
+    tables-range p k _ h (ends-mapped p.trees (with_start p.trees b) (ends-with_start p.trees b t) (range_at p k) (ends-at p k h))
+holds-effect p i h f (Command.range_end k x j) r =
+    let a = part-accepted p (Command.range_end k x j) r in
+    let b = at (named p x) j in
+    let t = times-has_node p.trees (named p x) (exists-first p x true (has_range p k) a.exist) in
+    tables-range p k _ h (ends-mapped p.trees (with_end p.trees b) (ends-with_end p.trees b t) (range_at p k) (ends-at p k h))
+holds-effect p i h f (Command.range_collapse k s) r =
+    tables-range p k _ h (ends-mapped p.trees (collapsed_to s) (ends-collapsed p.trees s) (range_at p k) (ends-at p k h))
+holds-effect p i h f (Command.range_drop k) r = tables-range p k None h tt
+holds-effect p i h f (Command.range_get k) r =
+    some-holds (λ x. ⊤) p (range_at p k) (λ (r : Range NodeName). answers p (boundaries r.start r.end)) (answers p nothing)
+    (some-any (range_at p k)) (λ x t. h) h
+  where
+    some-any : {X : Type 0} (o : Option X) → IfSome (λ x. ⊤) o
+    some-any None = tt
+    some-any (Some x) = tt
+holds-effect p i h f (Command.range_text k) r =
+    some-holds (λ x. ⊤) p (range_at p k) (λ (r : Range NodeName). answers p (a_string (range_text_of p.trees r))) (answers p nothing)
+    (some-any (range_at p k)) (λ x t. h) h
+  where
+    some-any : {X : Type 0} (o : Option X) → IfSome (λ x. ⊤) o
+    some-any None = tt
+    some-any (Some x) = tt
+holds-effect p i h f (Command.extract k) r =
+    range-made p k (λ range. extracting k range p) (λ range e. (leads-extracting k range p i (range-ends p k h range e).0).made)
+holds-effect p i h f (Command.delete k) r =
+    range-made p k (λ range. deleting k range p) (λ range e. (leads-deleting k range p i (range-ends p k h range e).0).made)
+holds-effect p i h f (Command.insert_node k x) r =
+    let a = part-accepted p (Command.insert_node k x) r in
+    range-made p k (λ range. inserting_into_range k range (named p x) p)
+    (λ range e. (leads-inserting_into_range k range (named p x) p i h e
+    (insert_node-may p k x i h (exists-first p x true (has_range p k) a.exist) a.own range e)).made)
+holds-effect p i h f (Command.iterator_new x w) r =
+    let a = part-accepted p (Command.iterator_new x w) r in
+    let t = times-has_node p.trees (named p x) (exists-first p x true true a.exist) in
+    record {
+      hosts = h.hosts;
+      ranges = h.ranges;
+      iterators = all-append (IsIteratorIn p.trees) p.iterators (new_iterator (named p x) w ∷ []) h.iterators (
+        record {
+          root = t;
+          reference = t;
+          within = inside-ancestor p.trees (named p x) (named p x) i.unique
+              (inside-itself p.trees (named p x) (has_node-times p.trees (named p x) t));
+        },
+        tt,
+      );
+      walkers = h.walkers;
+      registrations = h.registrations;
+      pending = h.pending;
+      listeners = h.listeners;
+    }
+holds-effect p i h f (Command.walker_new x w) r =
+    let a = part-accepted p (Command.walker_new x w) r in
+    let t = times-has_node p.trees (named p x) (exists-first p x true true a.exist) in
+    record {
+      hosts = h.hosts;
+      ranges = h.ranges;
+      iterators = h.iterators;
+      walkers = all-append (IsWalkerIn p.trees) p.walkers (new_walker (named p x) w ∷ []) h.walkers (record { root = t; current = t }, tt);
+      registrations = h.registrations;
+      pending = h.pending;
+      listeners = h.listeners;
+    }
+holds-effect p i h f (Command.iterator_next k) r =
+    some-holds (IsIteratorIn p.trees) p (slice_get p.iterators k) (λ i. moves_iterator p k false i (iterator_next_node p.trees i))
+    (answers p nothing) (all-get (IsIteratorIn p.trees) p.iterators k h.iterators)
+    (λ j g. tables-iterator p k false j (iterator_next_node p.trees j) h g (iterator-next p.trees j i.unique g)) h
+holds-effect p i h f (Command.iterator_previous k) r =
+    some-holds (IsIteratorIn p.trees) p (slice_get p.iterators k) (λ i. moves_iterator p k true i (iterator_previous_node p.trees i))
+    (answers p nothing) (all-get (IsIteratorIn p.trees) p.iterators k h.iterators)
+    (λ j g. tables-iterator p k true j (iterator_previous_node p.trees j) h g (iterator-previous p.trees j i.unique g)) h
+holds-effect p i h f (Command.iterator_at k) r =
+    some-holds (IsIteratorIn p.trees) p (slice_get p.iterators k) (λ (i : Iterator). answers p (reference i.reference i.before))
+    (answers p nothing) (all-get (IsIteratorIn p.trees) p.iterators k h.iterators) (λ j g. h) h
+holds-effect p i h f (Command.walk k m) r =
+    some-holds (IsWalkerIn p.trees) p (slice_get p.walkers k)
+    (λ w. sets_walker p k w (walker_move p.trees w m) (node_or_null (walker_move p.trees w m))) (answers p nothing)
+    (all-get (IsWalkerIn p.trees) p.walkers k h.walkers) (λ w g. tables-walker p k w (walker_move p.trees w m) _ h g (walker-moved p.trees w m)) h
+holds-effect p i h f (Command.walker_at k) r =
+    some-holds (IsWalkerIn p.trees) p (slice_get p.walkers k) (λ (w : Walker). answers p (a_node w.current)) (answers p nothing)
+    (all-get (IsWalkerIn p.trees) p.walkers k h.walkers) (λ j g. h) h
+holds-effect p i h f (Command.walker_set k x) r =
+    let a = part-accepted p (Command.walker_set k x) r in
+    let t = times-has_node p.trees (named p x) (exists-first p x true (is_some (slice_get p.walkers k)) a.exist) in
+    some-holds (IsWalkerIn p.trees) p (slice_get p.walkers k) (λ w. sets_walker p k w (Some (named p x)) nothing) (answers p nothing)
+    (all-get (IsWalkerIn p.trees) p.walkers k h.walkers) (λ w g. tables-walker p k w (Some (named p x)) nothing h g t) h
+holds-effect p i h f (Command.listen x w) r =
+    let a = part-accepted p (Command.listen x w) r in
+    tables-listeners p _ h (all-heard (IsListenerIn p.trees) (named p x) w p.listeners
+    (times-has_node p.trees (named p x) (exists-first p x true true a.exist)) h.listeners)
+holds-effect p i h f (Command.unlisten x e l c) r =
+    tables-listeners p _ h (all-filter (IsListenerIn p.trees) (λ m. not (is_listener name_eq (named p x) e l c m)) p.listeners h.listeners)
+holds-effect p i h f Command.observer r =
+    let more : length p.record_queues ≤ length (p.record_queues ++ [] ∷ []) = let e = length-append p.record_queues ([] ∷ []) in omega arith in
+    tables-observers p (p.record_queues ++ [] ∷ []) p.registrations p.pending h
+    (more-registered p.trees (length p.record_queues) (length (p.record_queues ++ [] ∷ [])) more p.registrations h.registrations)
+    (more-pending (length p.record_queues) (length (p.record_queues ++ [] ∷ [])) more p.pending h.pending)
+holds-effect p i h f (Command.observe k x w) r =
+    let a = part-accepted p (Command.observe k x w) r in
+    let t = times-has_node p.trees (named p x) (exists-first p x true (is_some (slice_get p.record_queues k)) a.exist) in
+    let below = get-below p.record_queues k (and_parts (has_node p.trees (named p x) && true) (is_some (slice_get p.record_queues k)) a.exist).1 in
+    let P = IsRegistrationIn p.trees (length p.record_queues) in
+    tables-observers p p.record_queues (with_registration name_eq k (named p x) (options_of w) p.registrations) p.pending h
+    (all-registered_with P k (named p x) (options_of w) p.registrations
+    (λ r m. record { node = m.node; observer = m.observer; source = m.source }) (record { node = t; observer = below; source = tt })
+    h.registrations) h.pending
+holds-effect p i h f (Command.disconnect k) r =
+    let same : length p.record_queues ≤ length (slice_set p.record_queues k []) = let e = length-set p.record_queues k [] in omega arith in
+    let left = filter (λ (r : Registration NodeName). not (r.observer == k)) p.registrations in
+    tables-observers p (slice_set p.record_queues k []) left p.pending h
+    (more-registered p.trees (length p.record_queues) (length (slice_set p.record_queues k [])) same left
+    (all-filter (IsRegistrationIn p.trees (length p.record_queues)) (λ (r : Registration NodeName). not (r.observer == k)) p.registrations
+    h.registrations))
+    (more-pending (length p.record_queues) (length (slice_set p.record_queues k [])) same p.pending h.pending)
+holds-effect p i h f (Command.take k) r =
+    let same : length p.record_queues ≤ length (slice_set p.record_queues k []) = let e = length-set p.record_queues k [] in omega arith in
+    tables-observers p (slice_set p.record_queues k []) p.registrations p.pending h
+    (more-registered p.trees (length p.record_queues) (length (slice_set p.record_queues k [])) same p.registrations h.registrations)
+    (more-pending (length p.record_queues) (length (slice_set p.record_queues k [])) same p.pending h.pending)
+holds-effect p i h f c r = h

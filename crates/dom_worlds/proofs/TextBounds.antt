@@ -1,0 +1,399 @@
+-- The plans of texts keep the ends of ranges within their nodes.
+use Rattle.std.proofs.Common.{◌≡◌, ◌≤◌, ℕ, ◌+◌, ◌-◌, Bool, true, false, not, ◌&&◌, List, [], ◌∷◌, ◌++◌, map, filter, flat_map, drop, length}
+use Rattle.std.proofs.Common.{take_while, Option, Some, None, refl, sym, ap, ◌∙◌, arith, true≢false, subst, length-append, length-drop}
+use Rattle.std.specs.Prelude.{if◌then◌else◌, ◌==◌, min}
+use Rattle.std.specs.List.{AllByRecursion}
+use Rattle.std.specs.Option.{option_map_or}
+use Rattle.std.proofs.lemmas.Bool.{cond-true, cond-false}
+use Rattle.dom_base.specs.declared.NodeName.{NodeName}
+use Rattle.dom_base.specs.declared.Kind.{Kind}
+use Rattle.dom_base.specs.declared.Kind.TheVariants.{Document, Fragment, Shadow, Element, Text, Comment}
+use Rattle.dom_model.specs.Names.{DomString, name_eq, is_in, is_empty, items_after, first_of}
+use Rattle.dom_model.specs.Tree.{Trees, none, tree, Node, node_in, kind_of, is_text, is_document, is_fragment, has_data, subtree, trees_below}
+use Rattle.dom_model.specs.Tree.{children_of, parent_of, siblings, next_sibling, index_of, length_of, descendants, inclusive_descendants}
+use Rattle.dom_model.specs.Tree.{inclusive_ancestors, on_top, names_of, roots}
+use Rattle.dom_model.specs.TreeChanges.{followed_by, with_name, with_node, with_data_replaced}
+use Rattle.dom_model.specs.Output.{child_list, character_data}
+use Rattle.dom_model.specs.Part.{Part, next_name}
+use Rattle.dom_model.specs.Steps.{Step, make, split_at, join_at, replace_data, queue_record, part_step, after}
+use Rattle.dom_model.specs.Changes.{Plan, ◌and_then◌, in_turn, doing, steps_of, only_if, observed, suppressed, removing, document_below, inserting}
+use Rattle.dom_model.specs.TextChanges.{replacing_data, new_text_node, replacing_all_data, placing_tail, splitting, texts_after, joins, joining}
+use Rattle.dom_model.specs.TextChanges.{normalizing_text, normalizing, replacing_children, setting_text}
+use Rattle.dom_model.proofs.OwnerLaws.{name_eq-same}
+use Rattle.dom_worlds.specs.Worlds.{times_in, times_among, IsPart}
+use Rattle.dom_worlds.proofs.Bounds.{nowhere, HasRoom, room-make, room-record, room-split, room-join, length-replaced, length-like}
+use Rattle.dom_worlds.proofs.Kids.{kids, index-below}
+use Rattle.dom_worlds.proofs.NodesRead.{node-with_node, node-new, node-map_nodes, length-data, length-kids}
+use Rattle.dom_worlds.proofs.Lists.{all-dropped, all-then, all-from, all-filter, all-take_while, all-passed}
+use Rattle.dom_worlds.proofs.NodeKinds.{name-node_in}
+use Rattle.dom_worlds.proofs.PartSteps.{some-keeps, next-absent}
+use Rattle.dom_worlds.proofs.PlanBounds.{room-then, room-plan, room-removing, room-removals, room-inserting, room-replacing_data, IsOpen}
+use Rattle.dom_worlds.proofs.PlanBounds.{open-still}
+use Rattle.dom_worlds.proofs.PlacedBounds.{texts-inserting, kids-plain}
+use Rattle.dom_worlds.proofs.PlanPlaces.{Changed, Leads, MayGo, may-still, still, after-append, leads-then, leads-eased, leads-nothing, leads-one}
+use Rattle.dom_worlds.proofs.PlanPlaces.{leads-inserting}
+use Rattle.dom_worlds.proofs.PlanTexts.{MayFollow, may-follow, texts-beside, next-not, new-there, new-may, descend-there, leads-removals}
+use Rattle.dom_worlds.proofs.PlanTexts.{leads-tail, leads-joins, leads-replacing_data, leads-normalizing_text}
+use Rattle.dom_worlds.proofs.TableSteps.{There}
+use Rattle.dom_worlds.proofs.TableRecords.{all-kept}
+use Rattle.dom_worlds.proofs.Tests.{by_cases, either_way}
+use Rattle.dom_worlds.proofs.TreeChangeLaws.{HasRoot, put_where, where-here, where-later, put_root-where, root-put_root_new, root-first, times-below}
+use Rattle.dom_worlds.proofs.Trees.{times-here, times-elsewhere, times-more, times-subtree, name_eq-sym, ancestors-absent, all-both}
+
+-- A new node changes no ancestors.
+ancestors-followed : (new ts : Trees) (x : NodeName) → times_in new x ≡ 0 → inclusive_ancestors (followed_by new ts) x ≡ inclusive_ancestors ts x
+ancestors-followed none ts x h = refl
+ancestors-followed (tree n c r) ts x h =
+    by_cases (name_eq n.name x) (λ e. absurd (let g = times-here n c r x e in omega arith))
+    (λ e. let g = times-elsewhere n c r x e in
+    cond-false (name_eq n.name x) (x ∷ []) (on_top (inclusive_ancestors c x) n.name (inclusive_ancestors (followed_by r ts) x)) e
+    ∙ ap (λ p. on_top p n.name (inclusive_ancestors (followed_by r ts) x)) (ancestors-absent c x (omega arith)) ∙ ancestors-followed r ts x (omega arith))
+
+-- put into a list
+ancestors-where : (test : NodeName → Bool) (new ts : Trees) (x : NodeName) → times_in new x ≡ 0 →
+    inclusive_ancestors (put_where test new ts) x ≡ inclusive_ancestors ts x
+ancestors-where test new none x h = ancestors-absent new x h
+ancestors-where test new (tree n c r) x h =
+    by_cases (test n.name) (λ e. ap (λ t. inclusive_ancestors t x) (where-here test new n c r e) ∙ ancestors-followed new (tree n c r) x h)
+    (λ e. ap (λ t. inclusive_ancestors t x) (where-later test new n c r e) ∙
+    ap (λ p. if name_eq n.name x then x ∷ [] else on_top (inclusive_ancestors c x) n.name p) (ancestors-where test new r x h))
+
+-- beside a new node
+parent-with_node : (n : Node) (ts : Trees) (x : NodeName) → name_eq n.name x ≡ false → parent_of (with_node n ts) x ≡ parent_of ts x
+parent-with_node n ts x e =
+    let g = times-elsewhere n none none x e in
+    ap (λ path. first_of (drop 1 path)) (ap (λ t. inclusive_ancestors t x) (put_root-where n.name (tree n none none) ts) ∙
+    ancestors-where (Rattle.dom_model.specs.Names.name_before n.name) (tree n none none) ts x (omega arith))
+
+-- a Text has data
+pub text-data : (k : Kind) → is_text k ≡ true → has_data k ≡ true
+text-data Text h = refl
+text-data Document h = absurd (true≢false (sym h))
+text-data Fragment h = absurd (true≢false (sym h))
+text-data Shadow h = absurd (true≢false (sym h))
+text-data Element h = absurd (true≢false (sym h))
+text-data Comment h = absurd (true≢false (sym h))
+
+-- who has children is no Text
+pub kids-open : (p : Part) (x : NodeName) → HasRoom nowhere p → 1 ≤ kids p.trees x → IsOpen p x
+kids-open p x h k = by_cases (has_data (kind_of p.trees x)) (λ e. absurd (let z = h.leaves x e in omega arith)) (λ e. e)
+
+-- The tail of a split Text, in the part in which it was made.
+record IsTail (p : Part) (x : NodeName) (offset : ℕ) (q : Part) (new : NodeName) : Type 0 where
+  room : HasRoom nowhere q
+  part : IsPart q
+  there : There q x
+  text : has_data (kind_of q.trees x) ≡ true
+  new_there : There q new
+  new_text : has_data (kind_of q.trees new) ≡ true
+  plain : is_fragment (kind_of q.trees new) ≡ false
+  size : length (node_in q.trees x).text ≤ offset + length (node_in q.trees new).text
+  root : HasRoot q.trees new
+
+-- the steps that place it
+room-tail : (p : Part) (x : NodeName) (offset : ℕ) (q : Part) (new : NodeName) (o : Option NodeName) → parent_of q.trees x ≡ o →
+    IsTail p x offset q new → ((parent : NodeName) → o ≡ Some parent → MayFollow x parent q new) →
+    HasRoom nowhere (after q (placing_tail x offset new o q))
+room-tail p x offset q new None e t m = t.room
+room-tail p x offset q new (Some parent) e t m =
+    let index = index_of q.trees x in
+    let before = next_sibling q.trees x in
+    let steps = inserting observed new parent before q in
+    let r = after q steps in
+    let may = (m parent refl).may in
+    let below = index-below q.trees x parent t.part.unique e in
+    let opened = kids-open q parent t.room (omega arith) in
+    let c = (leads-inserting observed new parent before q t.part may).changed in
+    let more = kids-plain observed new parent before q t.part may t.root t.plain in
+    room-then nowhere q steps (split_at x offset new parent index ∷ [])
+    (room-split r x offset new parent index (sizes r steps c may)
+    (let size = lengths r c may opened in omega arith) (room-inserting observed new parent before q t.part may opened t.room))
+  where
+    sizes : (r : Part) (steps : List Step) → Changed (Some parent) q (after q (inserting observed new parent (next_sibling q.trees x) q)) →
+        MayGo parent q new → length_of (after q (inserting observed new parent (next_sibling q.trees x) q)).trees x ≤ offset + length_of
+        (after q (inserting observed new parent (next_sibling q.trees x) q)).trees new
+    sizes r steps c may =
+        let s = after q (inserting observed new parent (next_sibling q.trees x) q) in
+        let texts = texts-inserting observed new parent (next_sibling q.trees x) q t.part may in
+        let a = length-data s.trees x (ap has_data (c.kinds x t.there) ∙ t.text) in
+        let b = length-data s.trees new (ap has_data (c.kinds new t.new_there) ∙ t.new_text) in
+        let d = ap (λ (s : DomString). length s) (texts x t.there) in
+        let f = ap (λ (s : DomString). length s) (texts new t.new_there) in
+        let g = t.size in omega arith
+
+    lengths : (r : Part) → Changed (Some parent) q (after q (inserting observed new parent (next_sibling q.trees x) q)) → MayGo parent q new →
+        IsOpen q parent → length_of (after q (inserting observed new parent (next_sibling q.trees x) q)).trees parent ≡ kids
+        (after q (inserting observed new parent (next_sibling q.trees x) q)).trees parent
+    lengths r c may opened = length-kids (after q (inserting observed new parent (next_sibling q.trees x) q)).trees parent c.part.unique
+        (open-still c parent may.below opened)
+
+-- a split
+pub room-splitting : (x : NodeName) (offset : ℕ) (p : Part) → IsPart p → There p x → has_data (kind_of p.trees x) ≡ true → HasRoom nowhere p →
+    HasRoom nowhere (after p (splitting x offset p))
+room-splitting x offset p i t k h =
+    let old = node_in p.trees x in
+    let new = next_name p in
+    let tail = new_text_node new old.document (drop offset old.text) in
+    let spot = parent_of p.trees x in
+    let first = leads-one p (make tail) i tt in
+    let q = part_step p (make tail) in
+    let other = next-not p i x t in
+    let same : node_in q.trees x ≡ old = node-with_node (with_name new tail) p.trees x i.unique t other in
+    let made : node_in q.trees new ≡ with_name new tail = node-new (with_name new tail) p.trees (next-absent p i) in
+    let is : IsTail p x offset q new = record {
+      room = room-make nowhere p tail i h;
+      part = first.changed.part;
+      there = still first.changed x t;
+      text = ap (λ (n : Node). has_data n.kind) same ∙ k;
+      new_there = new-there p tail;
+      new_text = ap (λ (n : Node). has_data n.kind) made;
+      plain = ap (λ (n : Node). is_fragment n.kind) made;
+      size = let a = ap (λ (n : Node). length n.text) same in let b = ap (λ (n : Node). length n.text) made in let c =
+          length-drop offset old.text in omega arith;
+      root = root-put_root_new new (tree (with_name new tail) none none) p.trees new (root-first (with_name new tail) none none new (name_eq-same new));
+    } in
+    let may = λ (parent : NodeName) (e : spot ≡ Some parent). may-follow p tail x parent i refl e in
+    room-plan spot (doing (make tail) and_then placing_tail x offset new spot) (replacing_data x offset (length old.text - offset) []) p
+    (leads-then spot p (make tail ∷ []) (placing_tail x offset new spot q) (leads-eased spot p (make tail ∷ []) first)
+    (leads-tail x offset new spot q first.changed.part (new-there p tail) may))
+    (room-tail p x offset q new spot (parent-with_node (with_name new tail) p.trees x other) is may)
+    (λ r c g. room-replacing_data x offset (length old.text - offset) [] r c.part (ap has_data (c.kinds x t) ∙ k) g)
+
+-- Data that are replaced.
+pub replaced-here : (p : Part) (x : NodeName) (offset count : ℕ) (new : DomString) → There p x →
+    node_in (part_step p (replace_data x offset count new)).trees x ≡ with_data_replaced offset count new (node_in p.trees x)
+replaced-here p x offset count new t =
+    let f : Node → Node = λ n. if name_eq n.name x then with_data_replaced offset count new n else n in
+    node-map_nodes f (λ n. (some-keeps (λ (n : Node). name_eq n.name x) (with_data_replaced offset count new) (λ n. (refl, refl)) n).0) p.trees x t
+    ∙ cond-true (name_eq (node_in p.trees x).name x) (with_data_replaced offset count new (node_in p.trees x)) (node_in p.trees x)
+    (ap (λ z. name_eq z x) (name-node_in p.trees x) ∙ name_eq-same x)
+
+-- of another node they stay
+replaced-elsewhere : (p : Part) (x : NodeName) (offset count : ℕ) (new : DomString) (y : NodeName) → There p y → name_eq x y ≡ false →
+    node_in (part_step p (replace_data x offset count new)).trees y ≡ node_in p.trees y
+replaced-elsewhere p x offset count new y t e =
+    let f : Node → Node = λ n. if name_eq n.name x then with_data_replaced offset count new n else n in
+    node-map_nodes f (λ n. (some-keeps (λ (n : Node). name_eq n.name x) (with_data_replaced offset count new) (λ n. (refl, refl)) n).0) p.trees y t
+    ∙ cond-false (name_eq (node_in p.trees y).name x) (with_data_replaced offset count new (node_in p.trees y)) (node_in p.trees y)
+    (ap (λ z. name_eq z x) (name-node_in p.trees y) ∙ name_eq-sym y x ∙ e)
+
+-- Joins: of all lengths of some nodes.
+abbrev pub total : Trees → List NodeName → ℕ
+total ts [] = 0
+total ts (y ∷ ys) = length_of ts y + total ts ys
+
+-- their texts, one after another
+total-texts : (ts : Trees) (ys : List NodeName) → AllByRecursion (λ y. has_data (kind_of ts y) ≡ true) ys →
+    length (flat_map (λ y. (node_in ts y).text) ys) ≡ total ts ys
+total-texts ts [] h = refl
+total-texts ts (y ∷ ys) h =
+    let a = length-append (node_in ts y).text (flat_map (λ y. (node_in ts y).text) ys) in let b = length-data ts y h.0 in let c =
+    total-texts ts ys h.1 in omega arith
+
+-- joins into a Text that is long enough
+room-joins : (ts : Trees) (x parent : NodeName) (size : ℕ) (ys : List NodeName) (q : Part) → size + total ts ys ≤ length_of q.trees x →
+    AllByRecursion (λ y. length_of q.trees y ≡ length_of ts y) ys → HasRoom nowhere q → HasRoom nowhere (after q (joins ts x parent size ys))
+room-joins ts x parent size [] q a b h = h
+room-joins ts x parent size (y ∷ ys) q a b h =
+    room-joins ts x parent (size + length_of ts y) ys (part_step q (join_at x size y parent (index_of ts y))) (omega arith) b.1
+    (room-join q x size y parent (index_of ts y) (let b0 = b.0 in omega arith) h)
+
+-- a name that is not among some differs from each
+pub none-among : (x : NodeName) (xs : List NodeName) → times_among xs x ≡ 0 → AllByRecursion (λ y. name_eq x y ≡ false) xs
+none-among x [] h = tt
+none-among x (y ∷ xs) h =
+    by_cases (name_eq y x)
+    (λ e. absurd (let one : times_among (y ∷ xs) x ≡ 1 + times_among xs x = ap (λ k. k + times_among xs x) (cond-true (name_eq y x) 1 0 e) in omega arith))
+    (λ e. let zero_more : times_among (y ∷ xs) x ≡ 0 + times_among xs x = ap (λ k. k + times_among xs x) (cond-false (name_eq y x) 1 0 e) in
+    (name_eq-sym x y ∙ e, none-among x xs (omega arith)))
+
+-- what stands behind an item among others is another, where it is there once
+pub among-behind : (x : NodeName) (xs : List NodeName) → times_among xs x ≤ 1 → AllByRecursion (λ y. name_eq x y ≡ false) (items_after name_eq x xs)
+among-behind x [] h = tt
+among-behind x (y ∷ xs) h =
+    by_cases (name_eq x y)
+    (λ e. let one : times_among (y ∷ xs) x ≡ 1 + times_among xs x = ap (λ k. k + times_among xs x) (cond-true (name_eq y x) 1 0 (name_eq-sym y x ∙ e)) in
+    subst (AllByRecursion (λ z. name_eq x z ≡ false)) (sym (cond-true (name_eq x y) xs (items_after name_eq x xs) e)) (none-among x xs (omega arith)))
+    (λ e. let zero_more : times_among (y ∷ xs) x ≡ 0 + times_among xs x = ap (λ k. k + times_among xs x) (cond-false (name_eq y x) 1 0 (name_eq-sym y x ∙ e)) in
+    subst (AllByRecursion (λ z. name_eq x z ≡ false)) (sym (cond-false (name_eq x y) xs (items_after name_eq x xs) e)) (among-behind x xs (omega arith)))
+
+-- roots are there as often as nodes, or less
+roots-among : (ts : Trees) (x : NodeName) → times_among (names_of (roots ts)) x ≤ times_in ts x
+roots-among none x = omega arith
+roots-among (tree n c r) x = let h = roots-among r x in let m = times-more n c r x in
+    by_cases (name_eq n.name x)
+    (λ e. let a : times_among (n.name ∷ names_of (roots r)) x ≡ 1 + times_among (names_of (roots r)) x = ap
+    (λ k. k + times_among (names_of (roots r)) x) (cond-true (name_eq n.name x) 1 0 e) in let g = times-here n c r x e in omega arith)
+    (λ e. let a : times_among (n.name ∷ names_of (roots r)) x ≡ 0 + times_among (names_of (roots r)) x = ap
+    (λ k. k + times_among (names_of (roots r)) x) (cond-false (name_eq n.name x) 1 0 e) in omega arith)
+
+-- and so are children
+pub children-among : (ts : Trees) (y x : NodeName) → times_among (children_of ts y) x ≤ times_in ts x
+children-among ts y x =
+    let a = roots-among (trees_below (subtree ts y)) x in let b = times-below (subtree ts y) x in let c = times-subtree ts y x in omega arith
+
+-- The Texts after a Text that gets their data: it is long enough for them, and they stay as long as they are.
+pub joining-fits : (x parent : NodeName) (p : Part) → IsPart p → There p x → has_data (kind_of p.trees x) ≡ true → parent_of p.trees x ≡ Some parent →
+    let nexts = texts_after p.trees x in
+    let q = after p (replacing_data x (length_of p.trees x) 0 (flat_map (λ y. (node_in p.trees y).text) nexts) p) in
+    (length_of p.trees x + total p.trees nexts ≤ length_of q.trees x) × AllByRecursion (λ y. length_of q.trees y ≡ length_of p.trees y) nexts
+joining-fits x parent p i t k e =
+    let ts = p.trees in
+    let nexts = texts_after ts x in
+    let size = length_of ts x in
+    let old = (node_in ts x).text in
+    let all = flat_map (λ y. (node_in ts y).text) nexts in
+    let is = λ (y : NodeName). is_text (kind_of ts y) in
+    let texts : AllByRecursion (λ y. has_data (kind_of ts y) ≡ true) nexts =
+    all-then (λ y. is y ≡ true) (λ y. has_data (kind_of ts y) ≡ true) (λ y h. text-data (kind_of ts y) h) nexts
+    (taken is (items_after name_eq x (siblings ts x))) in
+    let others : AllByRecursion (λ y. name_eq x y ≡ false) nexts =
+    all-take_while (λ y. name_eq x y ≡ false) is (items_after name_eq x (siblings ts x))
+    (subst (λ (o : Option NodeName). AllByRecursion (λ y. name_eq x y ≡ false) (items_after name_eq x (option_map_or (children_of ts) o (x ∷ [])))) (sym e)
+    (among-behind x (children_of ts parent) (let a = children-among ts parent x in let b = i.unique x in omega arith))) in
+    let p1 = part_step p (queue_record (character_data x (Some old))) in
+    let few = min 0 (length old - size) in
+    let q = after p (replacing_data x size 0 all p) in
+    let was = length-data ts x k in
+    let now = replaced-here p1 x size few all t in
+    let is_now = length-data q.trees x (ap (λ (n : Node). has_data n.kind) now ∙ k) in
+    let text = ap (λ (n : Node). length n.text) now in
+    let sum = length-replaced size few all old in
+    let whole = total-texts ts nexts texts in (
+      omega arith,
+      all-then (λ y. (has_data (kind_of ts y) ≡ true) × (name_eq x y ≡ false)) (λ y. length_of q.trees y ≡ length_of ts y)
+          (λ y h. let n = replaced-elsewhere p1 x size few all y (Rattle.dom_worlds.proofs.Bounds.data-there ts y h.0) h.1 in
+          length-data q.trees y (ap (λ (n : Node). has_data n.kind) n ∙ h.0) ∙ ap (λ (n : Node). length n.text) n ∙ sym (length-data ts y h.0))
+          nexts (all-both (λ y. has_data (kind_of ts y) ≡ true) (λ y. name_eq x y ≡ false) nexts texts others),
+    )
+  where
+    taken : (test : NodeName → Bool) (xs : List NodeName) → AllByRecursion (λ y. test y ≡ true) (take_while test xs)
+    taken test [] = tt
+    taken test (y ∷ xs) =
+        by_cases (test y) (λ e. subst (AllByRecursion (λ z. test z ≡ true)) (sym (Rattle.dom_worlds.proofs.Lists.take_while-yes test y xs e))
+        (e, taken test xs))
+        (λ e. subst (AllByRecursion (λ z. test z ≡ true)) (sym (Rattle.dom_worlds.proofs.Lists.take_while-no test y xs e)) tt)
+
+-- Texts that are joined
+room-joining : (x parent : NodeName) (p : Part) → IsPart p → There p x → has_data (kind_of p.trees x) ≡ true → parent_of p.trees x ≡ Some parent →
+    HasRoom nowhere p → HasRoom nowhere (after p (joining x parent (texts_after p.trees x) p))
+room-joining x parent p i t k e h =
+    let ts = p.trees in
+    let nexts = texts_after ts x in
+    let size = length_of ts x in
+    let all = flat_map (λ y. (node_in ts y).text) nexts in
+    let q = after p (replacing_data x size 0 all p) in
+    let fits = joining-fits x parent p i t k e in
+    room-plan None (replacing_data x size 0 all and_then steps_of (joins ts x parent size nexts)) (in_turn (removing observed) nexts) p
+    (leads-then None p (replacing_data x size 0 all p) (joins ts x parent size nexts) (leads-replacing_data x size 0 all p i)
+    (leads-joins ts x parent size nexts q (leads-replacing_data x size 0 all p i).changed.part
+    (still (leads-replacing_data x size 0 all p i).changed x t) (texts-beside x parent size all p i e)))
+    (room-then nowhere p (replacing_data x size 0 all p) (joins ts x parent size nexts)
+    (room-joins ts x parent size nexts q fits.0 fits.1 (room-replacing_data x size 0 all p i k h)))
+    (λ r c g. room-removals nowhere observed nexts r c.part g)
+
+-- A plan for each item, each of which keeps room and what the others need.
+pub room-turns : {A : Type 0} (P : Part → A → Type 0) (f : A → Plan) →
+    ((p : Part) (x : A) → IsPart p → P p x → Leads None p (f x p)) →
+    ((p : Part) (x : A) → IsPart p → P p x → HasRoom nowhere p → HasRoom nowhere (after p (f x p))) →
+    ((p q : Part) (x : A) → Changed None p q → P p x → P q x) →
+    (xs : List A) (p : Part) → IsPart p → AllByRecursion (P p) xs → HasRoom nowhere p → HasRoom nowhere (after p (in_turn f xs p))
+room-turns P f l h k [] p i g r = r
+room-turns P f l h k (x ∷ xs) p i g r =
+    let first = l p x i g.0 in
+    let q = after p (f x p) in
+    room-then nowhere p (f x p) (in_turn f xs q)
+    (room-turns P f l h k xs q first.changed.part (all-then (P p) (P q) (λ y. k p q y first.changed) xs g.1) (h p x i g.0 r))
+
+-- a Text that is there
+abbrev pub TextIn : Part → NodeName → Type 0
+TextIn p x = There p x × (is_text (kind_of p.trees x) ≡ true)
+
+-- a Text that is normalized
+pub room-normalizing_text : (p : Part) (x : NodeName) → IsPart p → TextIn p x → HasRoom nowhere p → HasRoom nowhere (after p (normalizing_text x p))
+room-normalizing_text p x i t h =
+    either_way (λ steps. HasRoom nowhere (after p steps)) (length_of p.trees x == 0) (removing observed x p)
+    (option_map_or (λ parent. if is_empty (texts_after p.trees x) then [] else joining x parent (texts_after p.trees x) p)
+    (parent_of p.trees x) [])
+    (room-removing nowhere observed x p i h) (from (parent_of p.trees x) refl)
+  where
+    from : (a : Option NodeName) → parent_of p.trees x ≡ a →
+        HasRoom nowhere (after p (option_map_or
+        (λ parent. if is_empty (texts_after p.trees x) then [] else joining x parent (texts_after p.trees x) p) a []))
+    from None e = h
+    from (Some parent) e = either_way (λ steps. HasRoom nowhere (after p steps)) (is_empty (texts_after p.trees x)) []
+        (joining x parent (texts_after p.trees x) p) h (room-joining x parent p i t.0 (text-data (kind_of p.trees x) t.1) e h)
+
+-- all Texts below a node
+pub room-normalizing : (x : NodeName) (p : Part) → IsPart p → HasRoom nowhere p → HasRoom nowhere (after p (normalizing x p))
+room-normalizing x p i h =
+    let is = λ (y : NodeName). is_text (kind_of p.trees y) in
+    let texts = filter is (descendants p.trees x) in
+    room-turns TextIn normalizing_text (λ q y j t. leads-normalizing_text q y j t.0) room-normalizing_text
+    (λ q r y c t. (still c y t.0, ap is_text (c.kinds y t.0) ∙ t.1)) texts p i
+    (all-kept (There p) is (descendants p.trees x) (all-dropped (There p) (inclusive_descendants p.trees x) (descend-there p.trees x))) h
+
+-- Text content.
+room-replaced : (x : NodeName) (p : Part) (made told : List Step) (old added : List NodeName) → Leads (Some x) p made →
+    AllByRecursion (MayGo x (after p made)) added → There p x → IsOpen p x → HasRoom nowhere (after p made) →
+    ((q : Part) → HasRoom nowhere q → HasRoom nowhere (after q told)) →
+    HasRoom nowhere (after p ((steps_of made and_then in_turn (removing suppressed) old and_then in_turn (λ y. inserting suppressed y x None)
+    added and_then steps_of told) p))
+room-replaced x p made told old added a m t k h g =
+    let spot = Some x in
+    let q = after p made in
+    let gone = in_turn (removing suppressed) old q in
+    let b = leads-removals suppressed old q a.changed.part in
+    let r = after p (made ++ gone) in
+    let same : r ≡ after q gone = after-append p made gone in
+    let c : Changed spot q r = subst (Changed spot q) (sym same) (leads-eased spot q gone b).changed in
+    let there = still a.changed x t in
+    let room_r : HasRoom nowhere r = room-then nowhere p made gone (room-removals nowhere suppressed old q a.changed.part h) in
+    let put = room-each_in x added r c.part (all-then (MayGo x q) (MayGo x r) (λ y. may-still x q r y c) added m) (still c x there)
+    (open-still c x there (open-still a.changed x t k)) room_r in
+    let all = (made ++ gone) ++ in_turn (λ y. inserting suppressed y x None) added r in
+    room-then nowhere p all told (g (after p all) (room-then nowhere p (made ++ gone) (in_turn (λ y. inserting suppressed y x None) added r) put))
+  where
+    room-each_in : (x : NodeName) (ys : List NodeName) (q : Part) → IsPart q → AllByRecursion (MayGo x q) ys → There q x → IsOpen q x →
+        HasRoom nowhere q → HasRoom nowhere (after q (in_turn (λ y. inserting suppressed y x None) ys q))
+    room-each_in x [] q i m t k h = h
+    room-each_in x (y ∷ ys) q i m t k h =
+        let first = leads-inserting suppressed y x None q i m.0 in
+        let r = after q (inserting suppressed y x None q) in
+        room-then nowhere q (inserting suppressed y x None q) (in_turn (λ y. inserting suppressed y x None) ys r)
+        (room-each_in x ys r first.changed.part (all-then (MayGo x q) (MayGo x r) (λ z. may-still x q r z first.changed) ys m.1)
+        (still first.changed x t) (open-still first.changed x t k) (room-inserting suppressed y x None q i m.0 k h))
+
+-- children that give way to a Text
+room-replacing_children : (x : NodeName) (new : DomString) (p : Part) → IsPart p → There p x → IsOpen p x → HasRoom nowhere p →
+    HasRoom nowhere (after p (replacing_children x new p))
+room-replacing_children x new p i t k h =
+    let old = children_of p.trees x in
+    let added : List NodeName = if is_empty new then [] else next_name p ∷ [] in
+    let node = λ (y : NodeName). new_text_node y (Some (document_below p.trees x)) new in
+    let record_of = child_list x added old None None in
+    let told = only_if (not (is_empty old && is_empty new)) (queue_record record_of) in
+    let m = from node (is_empty new) in
+    room-replaced x p (map (λ y. make (node y)) added) told old added m.0 m.1 t k m.2
+    (λ q g. either_way (λ steps. HasRoom nowhere (after q steps)) (not (is_empty old && is_empty new)) (queue_record record_of ∷ []) []
+    (room-record nowhere q record_of g) g)
+  where
+    from : (node : NodeName → Node) (b : Bool) → let added : List NodeName =
+        if b then [] else next_name p ∷ [] in Leads (Some x) p (map (λ y. make (node y)) added) ×
+        AllByRecursion (MayGo x (after p (map (λ y. make (node y)) added))) added × HasRoom nowhere (after p (map (λ y. make (node y)) added))
+    from node true = (leads-nothing (Some x) p i, tt, h)
+    from node false = (
+      leads-eased (Some x) p (make (node (next_name p)) ∷ []) (leads-one p (make (node (next_name p))) i tt),
+      (new-may p (node (next_name p)) x i t, tt),
+      room-make nowhere p (node (next_name p)) i h,
+    )
+
+-- text content
+pub room-setting_text : (x : NodeName) (new : DomString) (p : Part) → IsPart p → There p x → HasRoom nowhere p →
+    HasRoom nowhere (after p (setting_text x new p))
+room-setting_text x new p i t h =
+    Rattle.dom_worlds.proofs.Tests.which_way (λ steps. HasRoom nowhere (after p steps)) (has_data (kind_of p.trees x))
+    (replacing_all_data x new p) (if is_document (kind_of p.trees x) then [] else replacing_children x new p)
+    (λ e. room-replacing_data x 0 (length_of p.trees x) new p i e h)
+    (λ e. either_way (λ steps. HasRoom nowhere (after p steps)) (is_document (kind_of p.trees x)) [] (replacing_children x new p) h
+    (room-replacing_children x new p i t e h))
