@@ -8,7 +8,7 @@ use Rattle.dom_base.specs.declared.Owner.{Owner}
 use Rattle.dom_base.specs.declared.Owner.TheVariants.{Page}
 use Rattle.dom_base.specs.declared.NodeName.{NodeName}
 use Rattle.dom_model.specs.Names.{name_eq, is_in, node_of}
-use Rattle.dom_model.specs.Command.{Spelled, own, foreign}
+use Rattle.dom_model.specs.Command.{NodeWord, own, foreign}
 use Rattle.dom_model.specs.CommandNames.{named}
 use Rattle.dom_model.specs.Part.{Part}
 use Rattle.dom_admission.specs.Refusals.{number_in}
@@ -38,16 +38,16 @@ pub record FindsNames (names : List NodeName) (ts : Trees) : Type 0 where
   pub once : (k : ℕ) → k < length names → count_by (λ n. name_eq n.name (name_at names k)) (nodes ts) ≡ 1
   pub only : (x : NodeName) → has_node ts x ≡ true → (k : ℕ) × (slice_get names k ≡ Some x)
 
-pub named-number_in : (p : Part) (s : Spelled) → named p s ≡ node_of p.owner (number_in s)
+pub named-number_in : (p : Part) (s : NodeWord) → named p s ≡ node_of p.owner (number_in s)
 named-number_in p (own k) = refl
 named-number_in p foreign = refl
 
 -- a node that an owner's line names is the owner's
-pub owner-named : (w : World) (o : Owner) (s : Spelled) → (named (part_of w o) s).owner ≡ o
+pub owner-named : (w : World) (o : Owner) (s : NodeWord) → (named (part_of w o) s).owner ≡ o
 owner-named w o s = ap (λ (y : NodeName). y.owner) (named-number_in (part_of w o) s) ∙ owner-part_of w o
 
 -- what is read of a node in the trees of all owners, where it is read so in its owner's trees
-pub read_at : {A : Type 0} (f : Trees → NodeName → A) (names : List NodeName) (ts : Trees) (w : World) (o : Owner) (s : Spelled) (key : ℕ) →
+pub read_at : {A : Type 0} (f : Trees → NodeName → A) (names : List NodeName) (ts : Trees) (w : World) (o : Owner) (s : NodeWord) (key : ℕ) →
     name_at names key ≡ named (part_of w o) s → ((p : Owner) → trees_of_owner p ts ≡ (part_of w p).trees) →
     f ts (named (part_of w o) s) ≡ f (trees_of_owner o ts) (named (part_of w o) s) → f ts (name_at names key) ≡ f (part_of w o).trees (named (part_of w o) s)
 read_at f names ts w o s key here own_trees same = ap (f ts) here ∙ same ∙ ap (λ (us : Trees). f us (named (part_of w o) s)) (own_trees o)
@@ -74,7 +74,7 @@ is_found names ts x None finds found kept = cases (has_node ts x) refl
 -- the same of an owner's own trees, for a node as a line of the owner spells it
 pub find_own : (names : List NodeName) (ts : Trees) (w : World) → FindsNames names ts → AreOwned ts →
     ((o : Owner) → trees_of_owner o ts ≡ (part_of w o).trees) →
-    (o : Owner) (s : Spelled) (n : ℕ) → n ≡ number_in s → (r : Option ℕ) → ForSome r (λ k. slice_get names k ≡ Some (node_of o n)) →
+    (o : Owner) (s : NodeWord) (n : ℕ) → n ≡ number_in s → (r : Option ℕ) → ForSome r (λ k. slice_get names k ≡ Some (node_of o n)) →
     ((k : ℕ) → slice_get names k ≡ Some (node_of o n) → r ≡ Some k) →
     ForSome r (λ k. (k < length names) × (name_at names k ≡ named (part_of w o) s)) × (is_some r ≡ has_node (part_of w o).trees (named (part_of w o) s))
 find_own names ts w finds owned own_trees o s n e r found kept =
@@ -85,7 +85,7 @@ find_own names ts w finds owned own_trees o s n e r found kept =
     rw spelled (found_node names x r found, is_found names ts x r finds found kept ∙ here)
 
 -- a node of an owner is the same in its own trees
-pub node_own : (ts : Trees) (w : World) → AreOwned ts → ((o : Owner) → trees_of_owner o ts ≡ (part_of w o).trees) → (o : Owner) (s : Spelled) →
+pub node_own : (ts : Trees) (w : World) → AreOwned ts → ((o : Owner) → trees_of_owner o ts ≡ (part_of w o).trees) → (o : Owner) (s : NodeWord) →
     node_in ts (named (part_of w o) s) ≡ node_in (part_of w o).trees (named (part_of w o) s)
 node_own ts w owned own_trees o s =
     let x = named (part_of w o) s in
@@ -119,9 +119,9 @@ name-found names x (Some k) found e = ap Some (found k refl).1
 name-found names x None found e = absurd cc
 
 -- the key of a node that is named
-abbrev pub IsKey : List NodeName → World → Owner → ℕ → Spelled → Type 0
+abbrev pub IsKey : List NodeName → World → Owner → ℕ → NodeWord → Type 0
 IsKey names w o key s = name_at names key ≡ named (part_of w o) s
 
 -- a node that is named, by the number of its name
-pub numbered : (p : Part) (s : Spelled) (x : NodeName) → x ≡ named p s → named p (own x.number) ≡ named p s
+pub numbered : (p : Part) (s : NodeWord) (x : NodeName) → x ≡ named p s → named p (own x.number) ≡ named p s
 numbered p s x is = ap (λ (y : NodeName). node_of p.owner y.number) (is ∙ named-number_in p s) ∙ sym (named-number_in p s)

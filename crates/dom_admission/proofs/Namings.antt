@@ -6,8 +6,8 @@ use Rattle.dom_base.specs.declared.Move.{Move}
 use Rattle.dom_model.specs.Names.{Word, DomString}
 use Rattle.dom_model.specs.Command.{Command, EventWords, Filter, ListenerWords, ObserveWords}
 use Rattle.dom_model.specs.Trace.{is_page}
-use Rattle.dom_reader.specs.declared.line.Spelled.{Spelled}
-use Rattle.dom_reader.specs.Views.{spelled_view}
+use Rattle.dom_reader.specs.declared.line.NodeWord.{NodeWord}
+use Rattle.dom_reader.specs.Views.{word_view}
 use Rattle.dom_admission.specs.declared.admission.Operand.TheVariants.{Any, Element, Text, Document, Data, Child, Parent, Slottable, Slot, Range}
 use Rattle.dom_admission.specs.declared.admission.Operand.TheVariants.{Iterator, Walker, Observer}
 use Rattle.dom_admission.proofs.Refusing.{IsNaming, IsNamingOf, by_owner, and_true, and_last}
@@ -27,70 +27,70 @@ naming-new_fragment = record { offered = by_owner _ refl (λ k. refl); foreign =
 pub naming-new_document : IsNaming Command.new_document []
 naming-new_document = record { offered = by_owner _ refl (λ k. refl); foreign = refl; exist = λ p. refl; fit = λ p. refl }
 
-pub naming-attach : (x : Spelled) → IsNaming (Command.attach (spelled_view x)) (Element x ∷ [])
+pub naming-attach : (x : NodeWord) → IsNaming (Command.attach (word_view x)) (Element x ∷ [])
 naming-attach x = record { offered = by_owner _ refl (λ k. refl); foreign = refl; exist = λ p. and_true _; fit = λ p. refl }
 
-pub naming-append : (a x : Spelled) → IsNaming (Command.append (spelled_view a) (spelled_view x)) (Any a ∷ Any x ∷ [])
+pub naming-append : (a x : NodeWord) → IsNaming (Command.append (word_view a) (word_view x)) (Any a ∷ Any x ∷ [])
 naming-append a x = record { offered = by_owner _ refl (λ k. refl); foreign = refl; exist = λ p. and_true _; fit = λ p. refl }
 
-pub naming-insert : (a x c : Spelled) → IsNaming (Command.insert (spelled_view a) (spelled_view x) (spelled_view c)) (Any a ∷ Any x ∷ Any c ∷ [])
+pub naming-insert : (a x c : NodeWord) → IsNaming (Command.insert (word_view a) (word_view x) (word_view c)) (Any a ∷ Any x ∷ Any c ∷ [])
 naming-insert a x c = record { offered = by_owner _ refl (λ k. refl); foreign = refl; exist = λ p. and_true _; fit = λ p. refl }
 
-pub naming-replace : (a x c : Spelled) → IsNaming (Command.replace (spelled_view a) (spelled_view x) (spelled_view c)) (Any a ∷ Any x ∷ Any c ∷ [])
+pub naming-replace : (a x c : NodeWord) → IsNaming (Command.replace (word_view a) (word_view x) (word_view c)) (Any a ∷ Any x ∷ Any c ∷ [])
 naming-replace a x c = record { offered = by_owner _ refl (λ k. refl); foreign = refl; exist = λ p. and_true _; fit = λ p. refl }
 
-pub naming-remove : (x : Spelled) → IsNaming (Command.remove (spelled_view x)) (Child x ∷ [])
+pub naming-remove : (x : NodeWord) → IsNaming (Command.remove (word_view x)) (Child x ∷ [])
 naming-remove x = record { offered = by_owner _ refl (λ k. refl); foreign = refl; exist = λ p. and_true _; fit = λ p. refl }
 
-pub naming-adopt : (d x : Spelled) → IsNaming (Command.adopt (spelled_view d) (spelled_view x)) (Document d ∷ Any x ∷ [])
+pub naming-adopt : (d x : NodeWord) → IsNaming (Command.adopt (word_view d) (word_view x)) (Document d ∷ Any x ∷ [])
 naming-adopt d x = record { offered = by_owner _ refl (λ k. refl); foreign = refl; exist = λ p. and_true _; fit = λ p. refl }
 
-pub naming-set_attribute : (x : Spelled) (a : Word) (s : DomString) → IsNaming (Command.set_attribute (spelled_view x) a s) (Element x ∷ [])
+pub naming-set_attribute : (x : NodeWord) (a : Word) (s : DomString) → IsNaming (Command.set_attribute (word_view x) a s) (Element x ∷ [])
 naming-set_attribute x a s = record { offered = by_owner _ refl (λ k. refl); foreign = refl; exist = λ p. and_true _; fit = λ p. refl }
 
-pub naming-unset_attribute : (x : Spelled) (a : Word) → IsNaming (Command.unset_attribute (spelled_view x) a) (Element x ∷ [])
+pub naming-unset_attribute : (x : NodeWord) (a : Word) → IsNaming (Command.unset_attribute (word_view x) a) (Element x ∷ [])
 naming-unset_attribute x a = record { offered = by_owner _ refl (λ k. refl); foreign = refl; exist = λ p. and_true _; fit = λ p. refl }
 
-pub naming-set_data : (x : Spelled) (s : DomString) → IsNaming (Command.set_data (spelled_view x) s) (Data x ∷ [])
+pub naming-set_data : (x : NodeWord) (s : DomString) → IsNaming (Command.set_data (word_view x) s) (Data x ∷ [])
 naming-set_data x s = record { offered = by_owner _ refl (λ k. refl); foreign = refl; exist = λ p. and_true _; fit = λ p. refl }
 
-pub naming-replace_data : (x : Spelled) (i n : ℕ) (s : DomString) → IsNaming (Command.replace_data (spelled_view x) i n s) (Data x ∷ [])
+pub naming-replace_data : (x : NodeWord) (i n : ℕ) (s : DomString) → IsNaming (Command.replace_data (word_view x) i n s) (Data x ∷ [])
 naming-replace_data x i n s = record { offered = by_owner _ refl (λ k. refl); foreign = refl; exist = λ p. and_true _; fit = λ p. refl }
 
-pub naming-split : (x : Spelled) (i : ℕ) → IsNaming (Command.split (spelled_view x) i) (Text x ∷ [])
+pub naming-split : (x : NodeWord) (i : ℕ) → IsNaming (Command.split (word_view x) i) (Text x ∷ [])
 naming-split x i = record { offered = by_owner _ refl (λ k. refl); foreign = refl; exist = λ p. and_true _; fit = λ p. refl }
 
-pub naming-set_text : (x : Spelled) (s : DomString) → IsNaming (Command.set_text (spelled_view x) s) (Any x ∷ [])
+pub naming-set_text : (x : NodeWord) (s : DomString) → IsNaming (Command.set_text (word_view x) s) (Any x ∷ [])
 naming-set_text x s = record { offered = by_owner _ refl (λ k. refl); foreign = refl; exist = λ p. and_true _; fit = λ p. refl }
 
-pub naming-normalize : (x : Spelled) → IsNaming (Command.normalize (spelled_view x)) (Any x ∷ [])
+pub naming-normalize : (x : NodeWord) → IsNaming (Command.normalize (word_view x)) (Any x ∷ [])
 naming-normalize x = record { offered = by_owner _ refl (λ k. refl); foreign = refl; exist = λ p. and_true _; fit = λ p. refl }
 
-pub naming-tree : (x : Spelled) → IsNaming (Command.tree (spelled_view x)) (Any x ∷ [])
+pub naming-tree : (x : NodeWord) → IsNaming (Command.tree (word_view x)) (Any x ∷ [])
 naming-tree x = record { offered = by_owner _ refl (λ k. refl); foreign = refl; exist = λ p. and_true _; fit = λ p. refl }
 
-pub naming-attribute : (x : Spelled) (a : Word) → IsNaming (Command.attribute (spelled_view x) a) (Element x ∷ [])
+pub naming-attribute : (x : NodeWord) (a : Word) → IsNaming (Command.attribute (word_view x) a) (Element x ∷ [])
 naming-attribute x a = record { offered = by_owner _ refl (λ k. refl); foreign = refl; exist = λ p. and_true _; fit = λ p. refl }
 
-pub naming-parent : (x : Spelled) → IsNaming (Command.parent (spelled_view x)) (Any x ∷ [])
+pub naming-parent : (x : NodeWord) → IsNaming (Command.parent (word_view x)) (Any x ∷ [])
 naming-parent x = record { offered = by_owner _ refl (λ k. refl); foreign = refl; exist = λ p. and_true _; fit = λ p. refl }
 
-pub naming-document_of : (x : Spelled) → IsNaming (Command.document_of (spelled_view x)) (Any x ∷ [])
+pub naming-document_of : (x : NodeWord) → IsNaming (Command.document_of (word_view x)) (Any x ∷ [])
 naming-document_of x = record { offered = by_owner _ refl (λ k. refl); foreign = refl; exist = λ p. and_true _; fit = λ p. refl }
 
-pub naming-children : (x : Spelled) → IsNaming (Command.children (spelled_view x)) (Any x ∷ [])
+pub naming-children : (x : NodeWord) → IsNaming (Command.children (word_view x)) (Any x ∷ [])
 naming-children x = record { offered = by_owner _ refl (λ k. refl); foreign = refl; exist = λ p. and_true _; fit = λ p. refl }
 
-pub naming-contains : (x y : Spelled) → IsNaming (Command.contains (spelled_view x) (spelled_view y)) (Any x ∷ Any y ∷ [])
+pub naming-contains : (x y : NodeWord) → IsNaming (Command.contains (word_view x) (word_view y)) (Any x ∷ Any y ∷ [])
 naming-contains x y = record { offered = by_owner _ refl (λ k. refl); foreign = refl; exist = λ p. and_true _; fit = λ p. refl }
 
 pub naming-range_new : IsNaming Command.range_new []
 naming-range_new = record { offered = by_owner _ refl (λ k. refl); foreign = refl; exist = λ p. refl; fit = λ p. refl }
 
-pub naming-range_start : (k : ℕ) (x : Spelled) (i : ℕ) → IsNaming (Command.range_start k (spelled_view x) i) (Any x ∷ Range k ∷ [])
+pub naming-range_start : (k : ℕ) (x : NodeWord) (i : ℕ) → IsNaming (Command.range_start k (word_view x) i) (Any x ∷ Range k ∷ [])
 naming-range_start k x i = record { offered = by_owner _ refl (λ k. refl); foreign = refl; exist = λ p. and_last _ _; fit = λ p. refl }
 
-pub naming-range_end : (k : ℕ) (x : Spelled) (i : ℕ) → IsNaming (Command.range_end k (spelled_view x) i) (Any x ∷ Range k ∷ [])
+pub naming-range_end : (k : ℕ) (x : NodeWord) (i : ℕ) → IsNaming (Command.range_end k (word_view x) i) (Any x ∷ Range k ∷ [])
 naming-range_end k x i = record { offered = by_owner _ refl (λ k. refl); foreign = refl; exist = λ p. and_last _ _; fit = λ p. refl }
 
 pub naming-range_collapse : (k : ℕ) (to_start : Bool) → IsNaming (Command.range_collapse k to_start) (Range k ∷ [])
@@ -111,10 +111,10 @@ naming-extract k = record { offered = by_owner _ refl (λ k. refl); foreign = re
 pub naming-delete : (k : ℕ) → IsNaming (Command.delete k) (Range k ∷ [])
 naming-delete k = record { offered = by_owner _ refl (λ k. refl); foreign = refl; exist = λ p. sym (and_true _); fit = λ p. refl }
 
-pub naming-insert_node : (k : ℕ) (x : Spelled) → IsNaming (Command.insert_node k (spelled_view x)) (Any x ∷ Range k ∷ [])
+pub naming-insert_node : (k : ℕ) (x : NodeWord) → IsNaming (Command.insert_node k (word_view x)) (Any x ∷ Range k ∷ [])
 naming-insert_node k x = record { offered = by_owner _ refl (λ k. refl); foreign = refl; exist = λ p. and_last _ _; fit = λ p. refl }
 
-pub naming-iterator_new : (x : Spelled) (f : Filter) → IsNaming (Command.iterator_new (spelled_view x) f) (Any x ∷ [])
+pub naming-iterator_new : (x : NodeWord) (f : Filter) → IsNaming (Command.iterator_new (word_view x) f) (Any x ∷ [])
 naming-iterator_new x f = record { offered = by_owner _ refl (λ k. refl); foreign = refl; exist = λ p. and_true _; fit = λ p. refl }
 
 pub naming-iterator_next : (i : ℕ) → IsNaming (Command.iterator_next i) (Iterator i ∷ [])
@@ -126,7 +126,7 @@ naming-iterator_previous i = record { offered = by_owner _ refl (λ k. refl); fo
 pub naming-iterator_at : (i : ℕ) → IsNaming (Command.iterator_at i) (Iterator i ∷ [])
 naming-iterator_at i = record { offered = by_owner _ refl (λ k. refl); foreign = refl; exist = λ p. sym (and_true _); fit = λ p. refl }
 
-pub naming-walker_new : (x : Spelled) (f : Filter) → IsNaming (Command.walker_new (spelled_view x) f) (Any x ∷ [])
+pub naming-walker_new : (x : NodeWord) (f : Filter) → IsNaming (Command.walker_new (word_view x) f) (Any x ∷ [])
 naming-walker_new x f = record { offered = by_owner _ refl (λ k. refl); foreign = refl; exist = λ p. and_true _; fit = λ p. refl }
 
 pub naming-walk : (w : ℕ) (m : Move) → IsNaming (Command.walk w m) (Walker w ∷ [])
@@ -135,33 +135,33 @@ naming-walk w m = record { offered = by_owner _ refl (λ k. refl); foreign = ref
 pub naming-walker_at : (w : ℕ) → IsNaming (Command.walker_at w) (Walker w ∷ [])
 naming-walker_at w = record { offered = by_owner _ refl (λ k. refl); foreign = refl; exist = λ p. sym (and_true _); fit = λ p. refl }
 
-pub naming-walker_set : (w : ℕ) (x : Spelled) → IsNaming (Command.walker_set w (spelled_view x)) (Any x ∷ Walker w ∷ [])
+pub naming-walker_set : (w : ℕ) (x : NodeWord) → IsNaming (Command.walker_set w (word_view x)) (Any x ∷ Walker w ∷ [])
 naming-walker_set w x = record { offered = by_owner _ refl (λ k. refl); foreign = refl; exist = λ p. and_last _ _; fit = λ p. refl }
 
-pub naming-query : (x : Spelled) (s : DomString) → IsNaming (Command.query (spelled_view x) s) (Parent x ∷ [])
+pub naming-query : (x : NodeWord) (s : DomString) → IsNaming (Command.query (word_view x) s) (Parent x ∷ [])
 naming-query x s = record { offered = by_owner _ refl (λ k. refl); foreign = refl; exist = λ p. and_true _; fit = λ p. refl }
 
-pub naming-matches : (x : Spelled) (s : DomString) → IsNaming (Command.matches (spelled_view x) s) (Element x ∷ [])
+pub naming-matches : (x : NodeWord) (s : DomString) → IsNaming (Command.matches (word_view x) s) (Element x ∷ [])
 naming-matches x s = record { offered = by_owner _ refl (λ k. refl); foreign = refl; exist = λ p. and_true _; fit = λ p. refl }
 
-pub naming-connected : (x : Spelled) → IsNaming (Command.connected (spelled_view x)) (Any x ∷ [])
+pub naming-connected : (x : NodeWord) → IsNaming (Command.connected (word_view x)) (Any x ∷ [])
 naming-connected x = record { offered = by_owner _ refl (λ k. refl); foreign = refl; exist = λ p. and_true _; fit = λ p. refl }
 
-pub naming-shadow_root : (x : Spelled) → IsNaming (Command.shadow_root (spelled_view x)) (Element x ∷ [])
+pub naming-shadow_root : (x : NodeWord) → IsNaming (Command.shadow_root (word_view x)) (Element x ∷ [])
 naming-shadow_root x = record { offered = by_owner _ refl (λ k. refl); foreign = refl; exist = λ p. and_true _; fit = λ p. refl }
 
-pub naming-slot_of : (x : Spelled) → IsNaming (Command.slot_of (spelled_view x)) (Slottable x ∷ [])
+pub naming-slot_of : (x : NodeWord) → IsNaming (Command.slot_of (word_view x)) (Slottable x ∷ [])
 naming-slot_of x = record { offered = by_owner _ refl (λ k. refl); foreign = refl; exist = λ p. and_true _; fit = λ p. refl }
 
 -- of components alone
-pub naming-assigned : (o : Owner) → is_page o ≡ false → (x : Spelled) → IsNamingOf o (Command.assigned (spelled_view x)) (Slot x ∷ [])
+pub naming-assigned : (o : Owner) → is_page o ≡ false → (x : NodeWord) → IsNamingOf o (Command.assigned (word_view x)) (Slot x ∷ [])
 naming-assigned Page h x = absurd cc
 naming-assigned (Component k) h x = record { mine = refl; foreign = refl; exist = λ p. and_true _; fit = λ p. refl }
 
 pub naming-observer : IsNaming Command.observer []
 naming-observer = record { offered = by_owner _ refl (λ k. refl); foreign = refl; exist = λ p. refl; fit = λ p. refl }
 
-pub naming-observe : (k : ℕ) (x : Spelled) (words : ObserveWords) → IsNaming (Command.observe k (spelled_view x) words) (Any x ∷ Observer k ∷ [])
+pub naming-observe : (k : ℕ) (x : NodeWord) (words : ObserveWords) → IsNaming (Command.observe k (word_view x) words) (Any x ∷ Observer k ∷ [])
 naming-observe k x words = record { offered = by_owner _ refl (λ k. refl); foreign = refl; exist = λ p. and_last _ _; fit = λ p. refl }
 
 pub naming-disconnect : (k : ℕ) → IsNaming (Command.disconnect k) (Observer k ∷ [])
@@ -176,14 +176,14 @@ naming-micro label = record { offered = by_owner _ refl (λ k. refl); foreign = 
 pub naming-end_turn : IsNaming Command.end_turn []
 naming-end_turn = record { offered = by_owner _ refl (λ k. refl); foreign = refl; exist = λ p. refl; fit = λ p. refl }
 
-pub naming-listen : (x : Spelled) (words : ListenerWords) → IsNaming (Command.listen (spelled_view x) words) (Any x ∷ [])
+pub naming-listen : (x : NodeWord) (words : ListenerWords) → IsNaming (Command.listen (word_view x) words) (Any x ∷ [])
 naming-listen x words = record { offered = by_owner _ refl (λ k. refl); foreign = refl; exist = λ p. and_true _; fit = λ p. refl }
 
-pub naming-unlisten : (x : Spelled) (event label : Word) (capture : Bool) → IsNaming (Command.unlisten (spelled_view x) event label capture) (Any x ∷ [])
+pub naming-unlisten : (x : NodeWord) (event label : Word) (capture : Bool) → IsNaming (Command.unlisten (word_view x) event label capture) (Any x ∷ [])
 naming-unlisten x event label capture = record { offered = by_owner _ refl (λ k. refl); foreign = refl; exist = λ p. and_true _; fit = λ p. refl }
 
-pub naming-dispatch : (x : Spelled) (e : EventWords) → IsNaming (Command.dispatch (spelled_view x) e None) (Any x ∷ [])
+pub naming-dispatch : (x : NodeWord) (e : EventWords) → IsNaming (Command.dispatch (word_view x) e None) (Any x ∷ [])
 naming-dispatch x e = record { offered = by_owner _ refl (λ k. refl); foreign = refl; exist = λ p. and_true _; fit = λ p. refl }
 
-pub naming-dispatch_related : (x y : Spelled) (e : EventWords) → IsNaming (Command.dispatch (spelled_view x) e (Some (spelled_view y))) (Any x ∷ Any y ∷ [])
+pub naming-dispatch_related : (x y : NodeWord) (e : EventWords) → IsNaming (Command.dispatch (word_view x) e (Some (word_view y))) (Any x ∷ Any y ∷ [])
 naming-dispatch_related x y e = record { offered = by_owner _ refl (λ k. refl); foreign = refl; exist = λ p. and_true _; fit = λ p. refl }

@@ -8,24 +8,24 @@ use Rattle.dom_base.specs.declared.Refusal.{Refusal}
 use Rattle.dom_base.specs.declared.Refusal.TheVariants.{Busy, Foreign, Unknown, WrongKind}
 use Rattle.dom_model.specs.Names.{Word, text_eq}
 use Rattle.dom_model.specs.Tree.{Node, node_in, has_node, is_element, is_text, is_document, has_data}
-use Rattle.dom_model.specs.Command.{Spelled, own, foreign}
+use Rattle.dom_model.specs.Command.{NodeWord, own, foreign}
 use Rattle.dom_model.specs.CommandNames.{named, is_foreign}
 use Rattle.dom_model.specs.Part.{Part, range_at}
 use Rattle.dom_model.specs.Validity.{first_refusal}
 use Rattle.dom_model.specs.World.{World, part_of, is_there}
 use Rattle.dom_model.specs.DocumentMachine.{is_busy}
-use Rattle.dom_reader.specs.declared.line.Spelled as line
-use Rattle.dom_reader.specs.Views.{spelled_view}
+use Rattle.dom_reader.specs.declared.line.NodeWord as line
+use Rattle.dom_reader.specs.Views.{word_view}
 use Rattle.dom_admission.specs.declared.admission.Operand.{Operand}
 use Rattle.dom_admission.specs.declared.admission.Operand.TheVariants as names
 
 -- the number of an owner's node as its line names it; a foreign name reads as that of the first node
-abbrev pub number_in : Spelled → ℕ
+abbrev pub number_in : NodeWord → ℕ
 number_in (own k) = k
 number_in foreign = 0
 
 -- the node that is named, if it is a node
-abbrev pub node_named : Operand → Option line.Spelled
+abbrev pub node_named : Operand → Option line.NodeWord
 node_named (names.Any x) = Some x
 node_named (names.Element x) = Some x
 node_named (names.Text x) = Some x
@@ -62,19 +62,19 @@ accepts_node n node = accepts n node.kind node.element
 
 -- whether a node is named that is spelled as another owner's
 abbrev pub is_others : Operand → Bool
-is_others n = option_map_or (λ x. is_foreign (spelled_view x)) (node_named n) false
+is_others n = option_map_or (λ x. is_foreign (word_view x)) (node_named n) false
 
 -- whether an owner's node, range, iterator, walker or observer is there
 abbrev pub is_there_as : Part → Operand → Bool
-is_there_as p (names.Any x) = has_node p.trees (named p (spelled_view x))
-is_there_as p (names.Element x) = has_node p.trees (named p (spelled_view x))
-is_there_as p (names.Text x) = has_node p.trees (named p (spelled_view x))
-is_there_as p (names.Document x) = has_node p.trees (named p (spelled_view x))
-is_there_as p (names.Data x) = has_node p.trees (named p (spelled_view x))
-is_there_as p (names.Child x) = has_node p.trees (named p (spelled_view x))
-is_there_as p (names.Parent x) = has_node p.trees (named p (spelled_view x))
-is_there_as p (names.Slottable x) = has_node p.trees (named p (spelled_view x))
-is_there_as p (names.Slot x) = has_node p.trees (named p (spelled_view x))
+is_there_as p (names.Any x) = has_node p.trees (named p (word_view x))
+is_there_as p (names.Element x) = has_node p.trees (named p (word_view x))
+is_there_as p (names.Text x) = has_node p.trees (named p (word_view x))
+is_there_as p (names.Document x) = has_node p.trees (named p (word_view x))
+is_there_as p (names.Data x) = has_node p.trees (named p (word_view x))
+is_there_as p (names.Child x) = has_node p.trees (named p (word_view x))
+is_there_as p (names.Parent x) = has_node p.trees (named p (word_view x))
+is_there_as p (names.Slottable x) = has_node p.trees (named p (word_view x))
+is_there_as p (names.Slot x) = has_node p.trees (named p (word_view x))
 is_there_as p (names.Range k) = is_some (range_at p k)
 is_there_as p (names.Iterator k) = is_some (slice_get p.iterators k)
 is_there_as p (names.Walker k) = is_some (slice_get p.walkers k)
@@ -82,7 +82,7 @@ is_there_as p (names.Observer k) = is_some (slice_get p.record_queues k)
 
 -- whether a node is of the kind that is asked for; a range, an iterator, a walker or an observer always is
 abbrev pub is_fit : Part → Operand → Bool
-is_fit p n = option_map_or (λ x. accepts_node n (node_in p.trees (named p (spelled_view x)))) (node_named n) true
+is_fit p n = option_map_or (λ x. accepts_node n (node_in p.trees (named p (word_view x)))) (node_named n) true
 
 -- whether one of the nodes is spelled as another owner's
 abbrev pub has_foreign : List Operand → Bool

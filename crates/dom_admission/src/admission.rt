@@ -3,31 +3,31 @@ ghost use Rattle.std.specs.Prelude.{◌≡◌};
 ghost use Rattle.dom_model.specs.CommandNames.{is_foreign};
 ghost use Rattle.dom_model.specs.World.{part_of};
 ghost use Rattle.dom_model.specs.Validity.{first_refusal};
-ghost use Rattle.dom_reader.specs.Views.{spelled_view};
+ghost use Rattle.dom_reader.specs.Views.{word_view};
 ghost use Rattle.dom_admission.specs.Handled.{let_pass};
 ghost use Rattle.dom_admission.specs.Refusals.{early_refusal, has_foreign, node_named, accepts, is_there_as, is_fit, are_there, are_fitting, is_others};
 
 use crate::state::State;
 use dom_base::{Fault, Kind, Owner, Refusal};
-use dom_reader::Spelled;
+use dom_reader::NodeWord;
 
 /// What a line names: a node with what is asked of its kind, or a range, an iterator, a walker or an observer by its number.
 #[derive(Clone, Copy)]
 pub enum Operand {
-    Any(Spelled),
-    Element(Spelled),
-    Text(Spelled),
-    Document(Spelled),
+    Any(NodeWord),
+    Element(NodeWord),
+    Text(NodeWord),
+    Document(NodeWord),
     /// A Text or a Comment.
-    Data(Spelled),
+    Data(NodeWord),
     /// An element, a Text or a Comment.
-    Child(Spelled),
+    Child(NodeWord),
     /// Any node but a Text or a Comment.
-    Parent(Spelled),
+    Parent(NodeWord),
     /// An element or a Text.
-    Slottable(Spelled),
+    Slottable(NodeWord),
     /// An element named `slot`.
-    Slot(Spelled),
+    Slot(NodeWord),
     Range(u32),
     Iterator(u32),
     Walker(u32),
@@ -36,7 +36,7 @@ pub enum Operand {
 
 impl Operand {
     /// The node that is named, if it is a node.
-    fn node(self) -> Option<Spelled>
+    fn node(self) -> Option<NodeWord>
         ensures { result ≡ node_named self }
     {
         match self {
@@ -177,8 +177,8 @@ fn is_others(named: Operand) -> bool
 }
 
 /// Whether a node is spelled as another owner's.
-fn is_foreign(node: Spelled) -> bool
-    ensures { result ≡ is_foreign (spelled_view node) }
+fn is_foreign(node: NodeWord) -> bool
+    ensures { result ≡ is_foreign (word_view node) }
 {
-    matches!(node, Spelled::Foreign)
+    matches!(node, NodeWord::Foreign)
 }

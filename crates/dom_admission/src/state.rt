@@ -13,12 +13,12 @@ ghost use Rattle.dom_tree.specs.Forest.{name_at};
 ghost use Rattle.dom_tree.specs.Owners.{trees_of_owner, AreOwned};
 ghost use Rattle.dom_slots.specs.Kept.{AreSlotsOf};
 ghost use Rattle.dom_slots.specs.Shadows.{shadows, IsShownBy};
-ghost use Rattle.dom_reader.specs.Views.{spelled_view};
+ghost use Rattle.dom_reader.specs.Views.{word_view};
 ghost use Rattle.dom_admission.specs.Refusals.{number_in};
 
 use dom_base::{Kind, NodeName, Owner};
 use dom_mutation::Doc;
-use dom_reader::Spelled;
+use dom_reader::NodeWord;
 use dom_slots::Slots;
 use dom_tree::Forest;
 use node_arena::Key;
@@ -113,10 +113,10 @@ impl State {
     }
 
     /// The node that an owner's line names, if it is there.
-    pub fn find(&self, owner: Owner, node: Spelled) -> Option<Key>
+    pub fn find(&self, owner: Owner, node: NodeWord) -> Option<Key>
         ensures found { ForSome result (λ key. (key < length self.now.names) ×
-            (name_at self.now.names key ≡ named (part_of self.now.world owner) (spelled_view node))) }
-        ensures presence { is_some result ≡ has_node (part_of self.now.world owner).trees (named (part_of self.now.world owner) (spelled_view node)) }
+            (name_at self.now.names key ≡ named (part_of self.now.world owner) (word_view node))) }
+        ensures presence { is_some result ≡ has_node (part_of self.now.world owner).trees (named (part_of self.now.world owner) (word_view node)) }
     {
         let number = number_in(node);
         let forest = self.doc.forest();
@@ -125,15 +125,15 @@ impl State {
     }
 
     /// Whether a node that an owner's line names is there.
-    pub fn has(&self, owner: Owner, node: Spelled) -> bool
-        ensures { result ≡ has_node (part_of self.now.world owner).trees (named (part_of self.now.world owner) (spelled_view node)) }
+    pub fn has(&self, owner: Owner, node: NodeWord) -> bool
+        ensures { result ≡ has_node (part_of self.now.world owner).trees (named (part_of self.now.world owner) (word_view node)) }
     {
         self.find(owner, node).is_some()
     }
 
     /// The kind of the node that an owner's line names; a name that no node has reads as a fragment.
-    pub fn kind(&self, owner: Owner, node: Spelled) -> Kind
-        ensures { result ≡ (node_in (part_of self.now.world owner).trees (named (part_of self.now.world owner) (spelled_view node))).kind }
+    pub fn kind(&self, owner: Owner, node: NodeWord) -> Kind
+        ensures { result ≡ (node_in (part_of self.now.world owner).trees (named (part_of self.now.world owner) (word_view node))).kind }
     {
         match self.find(owner, node) {
             Some(key) => self.doc.forest().kind(key),
@@ -142,8 +142,8 @@ impl State {
     }
 
     /// The local name of the element that an owner's line names; another node, and a name that no node has, read as empty.
-    pub fn element(&self, owner: Owner, node: Spelled) -> &str
-        ensures { result.now ≡ (node_in (part_of self.now.world owner).trees (named (part_of self.now.world owner) (spelled_view node))).element }
+    pub fn element(&self, owner: Owner, node: NodeWord) -> &str
+        ensures { result.now ≡ (node_in (part_of self.now.world owner).trees (named (part_of self.now.world owner) (word_view node))).element }
     {
         match self.find(owner, node) {
             Some(key) => self.doc.forest().element(key),
@@ -152,9 +152,9 @@ impl State {
     }
 
     /// The node document of the node that an owner's line names, if it has one.
-    pub fn document(&self, owner: Owner, node: Spelled) -> Option<Key>
+    pub fn document(&self, owner: Owner, node: NodeWord) -> Option<Key>
         ensures value { option_map (name_at self.now.names)
-            result ≡ (node_in (part_of self.now.world owner).trees (named (part_of self.now.world owner) (spelled_view node))).document }
+            result ≡ (node_in (part_of self.now.world owner).trees (named (part_of self.now.world owner) (word_view node))).document }
         ensures node { ForSome result (λ d. d < length self.now.names) }
     {
         match self.find(owner, node) {
@@ -164,21 +164,21 @@ impl State {
     }
 
     /// The node that an owner's line names, which is there.
-    pub fn key(&self, owner: Owner, node: Spelled) -> Key
-        requires { has_node (part_of self.now.world owner).trees (named (part_of self.now.world owner) (spelled_view node)) ≡ true }
+    pub fn key(&self, owner: Owner, node: NodeWord) -> Key
+        requires { has_node (part_of self.now.world owner).trees (named (part_of self.now.world owner) (word_view node)) ≡ true }
         ensures node { result < length self.now.names }
-        ensures name { name_at self.now.names result ≡ named (part_of self.now.world owner) (spelled_view node) }
+        ensures name { name_at self.now.names result ≡ named (part_of self.now.world owner) (word_view node) }
     {
         self.find(owner, node).unwrap()
     }
 }
 
 /// The number of an owner's node as its line names it; a foreign name reads as that of the first node.
-fn number_in(node: Spelled) -> u32
-    ensures { result ≡ number_in (spelled_view node) }
+fn number_in(node: NodeWord) -> u32
+    ensures { result ≡ number_in (word_view node) }
 {
     match node {
-        Spelled::Own(number) => number,
-        Spelled::Foreign => 0,
+        NodeWord::Own(number) => number,
+        NodeWord::Foreign => 0,
     }
 }

@@ -16,7 +16,7 @@ use Rattle.dom_worlds.specs.Worlds.{IsPart}
 use Rattle.dom_worlds.proofs.KindLines.{has_node-times}
 use Rattle.dom_worlds.proofs.TextBounds.{text-data, joining-fits}
 use Rattle.dom_tree_laws.proofs.Covering.{subtree_mapped}
-use Rattle.dom_tree_laws.proofs.Near.{path_mapped}
+use Rattle.dom_tree_laws.proofs.Relatives.{path_mapped}
 
 -- ---- children and indices, where nodes get other contents
 

@@ -21,7 +21,7 @@ use Rattle.dom_parts.specs.Doc.{DocState, planned, placed_all, name_in, owner_in
 use Rattle.dom_parts.specs.Hosting.{PlansOwn, IsAlone}
 use Rattle.dom_tree_laws.proofs.Paths.{Lacks, lacks_from, lacks_to}
 use Rattle.dom_tree_laws.proofs.Moves.{below_lacks}
-use Rattle.dom_tree_laws.proofs.Near.{Each, each_all, parent_path}
+use Rattle.dom_tree_laws.proofs.Relatives.{Each, each_all, parent_path}
 use Rattle.dom_parts.proofs.Made.{planned_then}
 use Rattle.dom_parts.proofs.OwnPlans.{plans_then, plans_turn, plans_each_own, plans_room, plans_placing, plans_emptying, children_own}
 use Rattle.dom_algorithms.proofs.Placed.{Counted, once_in, before_lacks}

@@ -25,7 +25,7 @@ use Rattle.dom_parts.specs.Doc.{DocState, planned, name_in, owner_in, trees_in, 
 use Rattle.dom_parts.specs.Hosting.{IsAlone}
 use Rattle.dom_tree_laws.proofs.Paths.{Lacks, swapped, IsOnce, path_none, path_gone, path_head}
 use Rattle.dom_tree_laws.proofs.Moves.{none_or_some}
-use Rattle.dom_tree_laws.proofs.Near.{NoTwice, children_once, next_child, once_subtree}
+use Rattle.dom_tree_laws.proofs.Relatives.{NoTwice, children_once, next_child, once_subtree}
 use Rattle.dom_tree_laws.proofs.Once.{names_once}
 use Rattle.dom_parts.proofs.Made.{planned_then}
 use Rattle.dom_parts.proofs.OwnPlans.{plans_then, plans_data, plans_joins}

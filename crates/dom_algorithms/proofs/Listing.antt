@@ -10,7 +10,7 @@ use Rattle.dom_model.specs.World.{part_of}
 use Rattle.dom_model.proofs.OwnerLaws.{name_eq-same}
 use Rattle.dom_tree.proofs.Names.{name_eq-true}
 use Rattle.dom_parts.specs.Doc.{DocState, name_in, owner_in, trees_in, IsOwnNode}
-use Rattle.dom_tree_laws.proofs.Near.{Each, children_parent, children_once, next_walked}
+use Rattle.dom_tree_laws.proofs.Relatives.{Each, children_parent, children_once, next_walked}
 use Rattle.dom_tree_laws.proofs.Covering.{walked, left, StandsIn, Walks, walks}
 use Rattle.dom_algorithms.proofs.Placed.{Counted, once_in}
 

@@ -18,7 +18,7 @@ use Rattle.dom_parts.specs.Hosting.{IsAlone}
 use Rattle.dom_tree_laws.proofs.Paths.{Lacks, lacks_from, IsOnce}
 use Rattle.dom_tree_laws.proofs.Once.{once_counted}
 use Rattle.dom_tree_laws.proofs.Moves.{path_taken, path_placed, parent_taken}
-use Rattle.dom_tree_laws.proofs.Near.{path_mapped, parent_path, next_child}
+use Rattle.dom_tree_laws.proofs.Relatives.{path_mapped, parent_path, next_child}
 use Rattle.dom_parts.proofs.Made.{after_append, trees_after, alone_made}
 use Rattle.dom_parts.proofs.OwnPlans.{plans_removing, plans_adopting}
 

@@ -14,7 +14,7 @@ use Rattle.dom_tree.proofs.Names.{name_eq-true}
 use Rattle.dom_parts.specs.Doc.{DocState, planned, stepped, name_in, owner_in, trees_in, IsChild}
 use Rattle.dom_parts.specs.Hosting.{IsAlone}
 use Rattle.dom_tree_laws.proofs.Paths.{Lacks, lacks_both, lacks_to, swapped, IsOnce, once_parts, path_here, path_after, path_below, path_lacks}
-use Rattle.dom_tree_laws.proofs.Near.{NoTwice, parent_path, children_once, next_child, next_walked, first_lacks}
+use Rattle.dom_tree_laws.proofs.Relatives.{NoTwice, parent_path, children_once, next_child, next_walked, first_lacks}
 use Rattle.dom_parts.proofs.Made.{planned_then}
 use Rattle.dom_parts.proofs.OwnPlans.{plans_then, plans_removing, plans_inserting}
 use Rattle.dom_algorithms.proofs.Placed.{Counted, once_in, removal_keeps}

@@ -11,7 +11,7 @@ use Rattle.dom_tree.proofs.Names.{name_eq-true}
 use Rattle.dom_parts.specs.Doc.{DocState, planned, stepped, name_in, owner_in, trees_in, MayMove, IsChild}
 use Rattle.dom_parts.specs.Hosting.{IsAlone}
 use Rattle.dom_tree_laws.proofs.Paths.{Lacks, lacks_from, lacks_to}
-use Rattle.dom_tree_laws.proofs.Near.{parent_path}
+use Rattle.dom_tree_laws.proofs.Relatives.{parent_path}
 use Rattle.dom_parts.proofs.Made.{planned_then}
 use Rattle.dom_parts.proofs.OwnPlans.{plans_inserting}
 use Rattle.dom_algorithms.proofs.Placed.{Counted, once_in}

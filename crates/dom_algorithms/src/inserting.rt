@@ -16,7 +16,7 @@ ghost use Rattle.dom_parts.specs.Doc.{AreNodes, IsNodeIf, made, planned, placed_
 ghost use Rattle.dom_algorithms.specs.Observing.{observing_of};
 
 use crate::documents::document_below;
-use crate::removing::{Telling, adopting, removing};
+use crate::removing::{SuppressObserversFlag, adopting, removing};
 use dom_base::{Fault, Kind};
 use dom_parts::Parts;
 use node_arena::Key;
@@ -53,7 +53,7 @@ pub fn pre_insert(
     }
     parts.laws();
     let before = reference_for(parts, parent, node, child);
-    inserting(parts, Telling::Observed, node, parent, before)?;
+    inserting(parts, SuppressObserversFlag::Observed, node, parent, before)?;
     Ok(())
 }
 
@@ -73,7 +73,7 @@ pub fn insert(
     ensures { OnOk result (parts.new ≡ planned (owner_in parts.old parent)
         (inserting observed (name_in parts.old node) (name_in parts.old parent) (option_map (name_in parts.old) child)) parts.old) }
 {
-    inserting(parts, Telling::Observed, node, parent, child)
+    inserting(parts, SuppressObserversFlag::Observed, node, parent, child)
 }
 
 /// The child before which a node is put: the one given, or the node's next sibling where that is the node itself (DOM
@@ -98,7 +98,7 @@ pub fn reference_for(parts: &Parts, parent: Key, node: Key, child: Option<Key>) 
 /// An insertion, of which observers are told or not.
 pub(crate) fn inserting(
     parts: &mut Parts,
-    how: Telling,
+    how: SuppressObserversFlag,
     node: Key,
     parent: Key,
     before: Option<Key>,
@@ -131,7 +131,7 @@ pub(crate) fn is_fragment(parts: &Parts, node: Key) -> bool
 /// The children of a fragment are inserted.
 fn insert_children(
     parts: &mut Parts,
-    how: Telling,
+    how: SuppressObserversFlag,
     fragment: Key,
     children: &[Key],
     parent: Key,
@@ -193,7 +193,7 @@ pub(crate) fn children(parts: &Parts, node: Key) -> Result<Vec<Key>, AllocError>
 /// of them.
 fn place_all(
     parts: &mut Parts,
-    how: Telling,
+    how: SuppressObserversFlag,
     moved: &[Key],
     parent: Key,
     before: Option<Key>,
@@ -234,7 +234,7 @@ fn room_before(parts: &mut Parts, parent: Key, before: Option<Key>, count: usize
 /// Observers are told of some nodes that were placed below a parent, unless that is suppressed.
 fn tell_placed(
     parts: &mut Parts,
-    how: Telling,
+    how: SuppressObserversFlag,
     moved: &[Key],
     parent: Key,
     prev: Option<Key>,
@@ -249,7 +249,7 @@ fn tell_placed(
         (child_list (name_in parts.old parent) (map (name_in parts.old) moved.now) [] (option_map (name_in parts.old) prev)
         (option_map (name_in parts.old) next)))) parts.old) }
 {
-    if matches!(how, Telling::Observed) {
+    if matches!(how, SuppressObserversFlag::Observed) {
         parts.tell_children(parent, moved, &[], prev, next)?;
     }
     Ok(())
@@ -286,14 +286,14 @@ fn empty(parts: &mut Parts, fragment: Key, children: &[Key]) -> Result<(), Alloc
         inclusive_ancestors (trees_in parts.new fragment) y ≡ inclusive_ancestors (trees_in parts.old fragment) y) }
 {
     parts.laws();
-    take_each(parts, Telling::Suppressed, fragment, children)?;
+    take_each(parts, SuppressObserversFlag::Suppressed, fragment, children)?;
     parts.tell_children(fragment, &[], children, None, None)
 }
 
 /// Some nodes are taken out, one after another, of which observers are told or not; `top` is one of their owner.
 pub(crate) fn take_each(
     parts: &mut Parts,
-    how: Telling,
+    how: SuppressObserversFlag,
     top: Key,
     children: &[Key],
 ) -> Result<(), AllocError>

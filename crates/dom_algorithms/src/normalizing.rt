@@ -12,7 +12,7 @@ ghost use Rattle.dom_parts.specs.Doc.{made, planned, name_in, owner_in, trees_in
 
 use crate::character_data::replacing_data;
 use crate::inserting::take_each;
-use crate::removing::{Telling, removing};
+use crate::removing::{SuppressObserversFlag, removing};
 use dom_base::{DomStr, Kind};
 use dom_parts::Parts;
 use node_arena::Key;
@@ -54,7 +54,7 @@ fn normalize_text(parts: &mut Parts, node: Key) -> Result<(), AllocError>
     ensures { OnOk result (parts.new ≡ planned (owner_in parts.old node) (normalizing_text (name_in parts.old node)) parts.old) }
 {
     if parts.length(node) == 0 {
-        return removing(parts, Telling::Observed, node);
+        return removing(parts, SuppressObserversFlag::Observed, node);
     }
     let Some(parent) = parts.parent(node) else {
         return Ok(());
@@ -84,7 +84,7 @@ fn joining(parts: &mut Parts, node: Key, parent: Key, nexts: &[Key]) -> Result<(
     let units = data_of(parts, node, nexts)?;
     replacing_data(parts, node, size, 0, units)?;
     parts.join_each(node, size, nexts, parent);
-    take_each(parts, Telling::Observed, node, nexts)
+    take_each(parts, SuppressObserversFlag::Observed, node, nexts)
 }
 
 /// The data of some Texts, one behind another; `top` is a node of their owner.

@@ -15,7 +15,7 @@ use std::alloc::AllocError;
 
 /// Whether observers are told of a removal or an insertion (DOM Standard, suppress observers flag).
 #[derive(Clone, Copy)]
-pub(crate) enum Telling {
+pub(crate) enum SuppressObserversFlag {
     Observed,
     Suppressed,
 }
@@ -27,7 +27,7 @@ pub fn remove(parts: &mut Parts, node: Key) -> Result<(), AllocError>
     ensures names { OnOk result (parts.new.names ≡ parts.old.names) }
     ensures world { OnOk result (parts.new.world ≡ made (owner_in parts.old node) (removing observed (name_in parts.old node)) parts.old.world) }
 {
-    removing(parts, Telling::Observed, node)
+    removing(parts, SuppressObserversFlag::Observed, node)
 }
 
 /// A node leaves its parent and gets a node document, with all below it (DOM Standard, adopt). A shadow root is refused
@@ -56,7 +56,11 @@ pub fn adopt(parts: &mut Parts, document: Key, node: Key) -> Result<(), Fault>
 }
 
 /// A removal, of which observers are told or not.
-pub(crate) fn removing(parts: &mut Parts, how: Telling, node: Key) -> Result<(), AllocError>
+pub(crate) fn removing(
+    parts: &mut Parts,
+    how: SuppressObserversFlag,
+    node: Key,
+) -> Result<(), AllocError>
     requires { node < length parts.old.names }
     ensures { OnOk result (parts.new ≡ planned (owner_in parts.old node) (removing (observing_of how) (name_in parts.old node)) parts.old) }
 {
@@ -66,7 +70,7 @@ pub(crate) fn removing(parts: &mut Parts, how: Telling, node: Key) -> Result<(),
     let prev = parts.prev(node);
     let next = parts.next(node);
     parts.take_out(node)?;
-    if matches!(how, Telling::Observed) {
+    if matches!(how, SuppressObserversFlag::Observed) {
         parts.tell_children(parent, &[], &[node], prev, next)?;
     }
     Ok(())
@@ -79,6 +83,6 @@ pub(crate) fn adopting(parts: &mut Parts, document: Key, node: Key) -> Result<()
     ensures { OnOk result (parts.new ≡ planned (owner_in parts.old node) (adopting (name_in parts.old document) (name_in parts.old node)) parts.old) }
 {
     parts.laws();
-    removing(parts, Telling::Observed, node)?;
+    removing(parts, SuppressObserversFlag::Observed, node)?;
     change_document(parts, document, node)
 }

@@ -9,7 +9,7 @@ ghost use Rattle.dom_worlds.specs.Bounds.{HasBounds};
 ghost use Rattle.dom_parts.specs.Doc.{AreNodes, made, planned, name_in, owner_in, trees_in, IsChild};
 
 use crate::inserting::{children, inserting, is_fragment, reference_for};
-use crate::removing::{Telling, removing};
+use crate::removing::{SuppressObserversFlag, removing};
 use dom_base::Fault;
 use dom_parts::Parts;
 use node_arena::Key;
@@ -59,9 +59,15 @@ fn replacing(parts: &mut Parts, parent: Key, node: Key, child: Key) -> Result<()
     let reference = reference_for(parts, parent, node, next);
     let prev = parts.prev(child);
     let added = placed_nodes(parts, node)?;
-    removing(parts, Telling::Suppressed, child)?;
+    removing(parts, SuppressObserversFlag::Suppressed, child)?;
     let before = reference;
-    inserting(parts, Telling::Suppressed, node, parent, before)?;
+    inserting(
+        parts,
+        SuppressObserversFlag::Suppressed,
+        node,
+        parent,
+        before,
+    )?;
     parts.tell_children(parent, added.as_slice(), &[child], prev, reference)
 }
 

@@ -15,7 +15,7 @@ ghost use Rattle.dom_parts.specs.Doc.{made, planned, name_in, owner_in, trees_in
 
 use crate::character_data::replacing_data;
 use crate::inserting::inserting;
-use crate::removing::Telling;
+use crate::removing::SuppressObserversFlag;
 use dom_base::{DomStr, Fault, Kind, Refusal};
 use dom_parts::Parts;
 use dom_tree::NodeData;
@@ -141,7 +141,7 @@ fn placing_tail(
     parts.laws();
     let index = parts.index(node);
     let next = parts.next(node);
-    inserting(parts, Telling::Observed, new, parent, next)?;
+    inserting(parts, SuppressObserversFlag::Observed, new, parent, next)?;
     parts.split_at(node, offset, new, parent, index);
     Ok(())
 }

@@ -12,7 +12,7 @@ ghost use Rattle.dom_parts.specs.Doc.{made, name_in, owner_in, trees_in, planned
 use crate::character_data::set_data;
 use crate::documents::document_below;
 use crate::inserting::{children, inserting, take_each};
-use crate::removing::Telling;
+use crate::removing::SuppressObserversFlag;
 use crate::splitting::make_text;
 use dom_base::{DomStr, Fault, Kind};
 use dom_parts::Parts;
@@ -77,7 +77,12 @@ fn clear(parts: &mut Parts, node: Key) -> Result<(), AllocError>
 {
     parts.laws();
     let children = children(parts, node)?;
-    take_each(parts, Telling::Suppressed, node, children.as_slice())?;
+    take_each(
+        parts,
+        SuppressObserversFlag::Suppressed,
+        node,
+        children.as_slice(),
+    )?;
     if children.as_slice().is_empty() {
         return Ok(());
     }
@@ -95,7 +100,12 @@ fn put_text(parts: &mut Parts, node: Key, text: Key) -> Result<(), AllocError>
 {
     parts.laws();
     let children = children(parts, node)?;
-    take_each(parts, Telling::Suppressed, node, children.as_slice())?;
-    inserting(parts, Telling::Suppressed, text, node, None)?;
+    take_each(
+        parts,
+        SuppressObserversFlag::Suppressed,
+        node,
+        children.as_slice(),
+    )?;
+    inserting(parts, SuppressObserversFlag::Suppressed, text, node, None)?;
     parts.tell_children(node, &[text], children.as_slice(), None, None)
 }

@@ -16,8 +16,8 @@ use Rattle.dom_model.specs.Part.{Part}
 use Rattle.dom_model.specs.Validity.{first_refusal}
 use Rattle.dom_model.specs.World.{World, part_of, is_there}
 use Rattle.dom_model.proofs.PartLaws.{owner-part_of}
-use Rattle.dom_reader.specs.declared.line.Spelled.{Spelled}
-use Rattle.dom_reader.specs.Views.{spelled_view}
+use Rattle.dom_reader.specs.declared.line.NodeWord.{NodeWord}
+use Rattle.dom_reader.specs.Views.{word_view}
 use Rattle.dom_admission.specs.declared.admission.Operand.{Operand}
 use Rattle.dom_admission.specs.declared.admission.Operand.TheVariants.{Any}
 use Rattle.dom_admission.specs.Handled.{IsHandled, let_pass}
@@ -53,24 +53,24 @@ or_none : (e : Option Refusal) → option_or e None ≡ e
 or_none None = refl
 or_none (Some r) = refl
 
-pub target_passes : (w : World) (o : Owner) (x : Spelled) (e : EventWords) →
-    early_refusal w o (Any x ∷ []) ≡ refusal w o (Command.dispatch (spelled_view x) e None)
+pub target_passes : (w : World) (o : Owner) (x : NodeWord) (e : EventWords) →
+    early_refusal w o (Any x ∷ []) ≡ refusal w o (Command.dispatch (word_view x) e None)
 target_passes w o x e =
     let early = early_refusal w o (Any x ∷ []) in
-    sym (refusal-of_names w o (Command.dispatch (spelled_view x) e None) (Any x ∷ []) (naming-dispatch x e) ∙
-    ap (option_or early) (no_related (part_of w o).owner (part_of w o) (named (part_of w o) (spelled_view x))) ∙ or_none early)
+    sym (refusal-of_names w o (Command.dispatch (word_view x) e None) (Any x ∷ []) (naming-dispatch x e) ∙
+    ap (option_or early) (no_related (part_of w o).owner (part_of w o) (named (part_of w o) (word_view x))) ∙ or_none early)
 
 -- with one
-pub related_passes : (w : World) (o : Owner) (x y : Spelled) (e : EventWords) (q : Option Refusal) → let_pass (early_refusal w o (Any x ∷ Any y ∷ [])) ≡ Ok tt →
-    q ≡ related_refusal o (part_of w o) (named (part_of w o) (spelled_view x)) (Some (spelled_view y)) →
-    let_pass q ≡ let_pass (refusal w o (Command.dispatch (spelled_view x) e (Some (spelled_view y))))
+pub related_passes : (w : World) (o : Owner) (x y : NodeWord) (e : EventWords) (q : Option Refusal) → let_pass (early_refusal w o (Any x ∷ Any y ∷ [])) ≡ Ok tt →
+    q ≡ related_refusal o (part_of w o) (named (part_of w o) (word_view x)) (Some (word_view y)) →
+    let_pass q ≡ let_pass (refusal w o (Command.dispatch (word_view x) e (Some (word_view y))))
 related_passes w o x y e q pass is =
-    passes w o (Command.dispatch (spelled_view x) e (Some (spelled_view y))) (Any x ∷ Any y ∷ []) q (naming-dispatch_related x y e) pass
-    (is ∙ ap (λ (a : Owner). related_refusal a (part_of w o) (named (part_of w o) (spelled_view x)) (Some (spelled_view y))) (sym (owner-part_of w o)))
+    passes w o (Command.dispatch (word_view x) e (Some (word_view y))) (Any x ∷ Any y ∷ []) q (naming-dispatch_related x y e) pass
+    (is ∙ ap (λ (a : Owner). related_refusal a (part_of w o) (named (part_of w o) (word_view x)) (Some (word_view y))) (sym (owner-part_of w o)))
 
-pub related_stops : (w : World) (o : Owner) (x y : Spelled) (e : EventWords) (f : Fault) → let_pass (early_refusal w o (Any x ∷ Any y ∷ [])) ≡ Err f →
-    Err f ≡ let_pass (refusal w o (Command.dispatch (spelled_view x) e (Some (spelled_view y))))
-related_stops w o x y e f h = stops w o (Command.dispatch (spelled_view x) e (Some (spelled_view y))) (Any x ∷ Any y ∷ []) f (naming-dispatch_related x y e) h
+pub related_stops : (w : World) (o : Owner) (x y : NodeWord) (e : EventWords) (f : Fault) → let_pass (early_refusal w o (Any x ∷ Any y ∷ [])) ≡ Err f →
+    Err f ≡ let_pass (refusal w o (Command.dispatch (word_view x) e (Some (word_view y))))
+related_stops w o x y e f h = stops w o (Command.dispatch (word_view x) e (Some (word_view y))) (Any x ∷ Any y ∷ []) f (naming-dispatch_related x y e) h
 
 -- ---- what is refused, and what is not
 

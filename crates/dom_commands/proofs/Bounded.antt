@@ -17,9 +17,9 @@ use Rattle.dom_worlds.specs.Bounds.{HasBounds, IsBounded}
 use Rattle.dom_worlds.specs.Tables.{IsNodeIn}
 use Rattle.dom_worlds.proofs.TableWorlds.{each-part}
 use Rattle.dom_worlds.proofs.Tests.{either_way}
-use Rattle.dom_commands.specs.Heard.{hearing, heard}
+use Rattle.dom_commands.specs.WithListeners.{hearing, heard}
 use Rattle.dom_range_commands.specs.RangeWorlds.{HasFirstNodes}
-use Rattle.dom_commands.proofs.Heard.{FitsIn, there-heard, part-heard}
+use Rattle.dom_commands.proofs.ListenerWorlds.{FitsIn, there-heard, part-heard}
 
 -- a part is written
 bounded-with_part : (w : World) (p : Part) (o : Owner) → p.owner ≡ o → HasBounds p → IsBounded w → IsBounded (with_part w p)

@@ -22,11 +22,11 @@ use Rattle.dom_worlds.proofs.TaskWorlds.{Stands, at_end-stands, told-stands, dis
 use Rattle.dom_text.specs.Text.{output_text}
 use Rattle.dom_tree.specs.Forest.{name_at}
 use Rattle.dom_mutation.specs.Doc.{DocState}
-use Rattle.dom_dispatch.specs.Named.{IsListenerAt}
-use Rattle.dom_commands.specs.Heard.{heard, own_listeners}
-use Rattle.dom_commands.specs.Machine.{MachineNow, machine_now, IsSound, AreAtNodes, AreThere}
+use Rattle.dom_dispatch.specs.ListenersByName.{IsListenerAt}
+use Rattle.dom_commands.specs.WithListeners.{heard, own_listeners}
+use Rattle.dom_commands.specs.Machine.{MachineNow, machine_now, IsAtRest, AreAtNodes, AreThere}
 use Rattle.dom_commands.proofs.Bounded.{bounded-dispatch, bounded-told}
-use Rattle.dom_commands.proofs.Heard.{FitsIn, part-heard, with_part-heard, there-heard}
+use Rattle.dom_commands.proofs.ListenerWorlds.{FitsIn, part-heard, with_part-heard, there-heard}
 use Rattle.dom_commands.proofs.Listening.{OwnersAreThere, fits-own}
 use Rattle.dom_commands.proofs.Machines.{seen_at}
 use Rattle.dom_text.proofs.OutputLaws.{output_text-append}
@@ -85,10 +85,10 @@ there_after w v t ts h e =
 
 -- ---- machines on the way
 
-stands : (m : MachineNow) → IsSound m → Stands m.world
+stands : (m : MachineNow) → IsAtRest m → Stands m.world
 stands m s = record { reached = s.reached; whole = s.whole }
 
-sound_from : (n : MachineNow) (w : World) → n.world ≡ w → AreAtNodes n → Stands w → IsBounded w → IsSound n
+sound_from : (n : MachineNow) (w : World) → n.world ≡ w → AreAtNodes n → Stands w → IsBounded w → IsAtRest n
 sound_from n w e at s b = record {
   listeners = at;
   reached = (subst Stands (sym e) s).reached;
@@ -97,12 +97,12 @@ sound_from n w e at s b = record {
 }
 
 -- with the tasks taken out
-pub taken_sound : (m n : MachineNow) → IsSound m → n.world ≡ record m.world { tasks = []; turn = None } → AreAtNodes n → IsSound n
+pub taken_sound : (m n : MachineNow) → IsAtRest m → n.world ≡ record m.world { tasks = []; turn = None } → AreAtNodes n → IsAtRest n
 taken_sound m n s e at = sound_from n (record m.world { tasks = []; turn = None }) e at (at_end-stands m.world (stands m s)) s.bounds
 
 -- with an owner's observers told
-pub told_sound : (m n : MachineNow) (o : Owner) → IsThere m.world o → IsSound m →
-    n.world ≡ with_part (without_signals m.world o) (notified (part_of m.world o)) → AreAtNodes n → IsSound n
+pub told_sound : (m n : MachineNow) (o : Owner) → IsThere m.world o → IsAtRest m →
+    n.world ≡ with_part (without_signals m.world o) (notified (part_of m.world o)) → AreAtNodes n → IsAtRest n
 told_sound m n o there s e at = sound_from n (with_part (without_signals m.world o) (notified (part_of m.world o))) e at
     (told-stands m.world o there (stands m s)) (bounded-told m.world o s.bounds)
 
@@ -111,7 +111,7 @@ abbrev pub named_event : Word → EventWords
 named_event n = record { event = n; bubbles = true; cancelable = false; composed = false }
 
 -- after an event
-pub fired_sound : (m n : MachineNow) (x : NodeName) → IsSound m → n.world ≡ (dispatch_in m.world x None slotchange).run.0 → AreAtNodes n → IsSound n
+pub fired_sound : (m n : MachineNow) (x : NodeName) → IsAtRest m → n.world ≡ (dispatch_in m.world x None slotchange).run.0 → AreAtNodes n → IsAtRest n
 fired_sound m n x s e at = sound_from n (dispatch_in m.world x None slotchange).run.0 e at
     (dispatch-stands m.world x None slotchange (stands m s)) (bounded-dispatch m.world x None slotchange s.bounds)
 
@@ -122,14 +122,14 @@ on_ok (Err e) p = tt
 
 -- ---- the tasks are taken out, in a world with listeners
 
-module _ (s t : DocState) (ls : List (Listener ℕ)) (m : MachineNow) (seen : machine_now s ls ≡ m) (sound : IsSound m) (names : t.names ≡ s.names)
+module _ (s t : DocState) (ls : List (Listener ℕ)) (m : MachineNow) (seen : machine_now s ls ≡ m) (sound : IsAtRest m) (names : t.names ≡ s.names)
     (world : t.world ≡ record s.world { tasks = []; turn = None }) where
   pub closed_world : (machine_now t ls).world ≡ record m.world { tasks = []; turn = None }
   closed_world =
       ap (λ (ns : List NodeName). heard (own_listeners ns ls) t.world) names ∙ ap (heard (own_listeners s.names ls)) world ∙
       ap (λ (n : MachineNow). record n.world { tasks = []; turn = None }) seen
 
-  pub closed_sound : IsSound (machine_now t ls)
+  pub closed_sound : IsAtRest (machine_now t ls)
   closed_sound = taken_sound m (machine_now t ls) sound closed_world
       (subst (λ (ns : List NodeName). AllByRecursion (IsListenerAt ns) ls) (sym names) (seen_at s ls m seen sound))
 
@@ -164,7 +164,7 @@ module _ (of : Owner → List (Listener NodeName)) (w : World) (fits : FitsIn of
   pub lines-heard : notified_lines (part_of w o) ≡ notified_lines (part_of (heard of w) o)
   lines-heard = ap notified_lines (sym (part-heard of w fits o))
 
-module _ (s t u : DocState) (ls : List (Listener ℕ)) (m : MachineNow) (seen : machine_now s ls ≡ m) (sound : IsSound m)
+module _ (s t u : DocState) (ls : List (Listener ℕ)) (m : MachineNow) (seen : machine_now s ls ≡ m) (sound : IsAtRest m)
     (there : OwnersAreThere s.names s.world) (o : Owner) (here : IsThere m.world o)
     (t_names : t.names ≡ s.names) (t_world : t.world ≡ without_signals s.world o) where
   -- the owner is there in the state behind
@@ -191,7 +191,7 @@ module _ (s t u : DocState) (ls : List (Listener ℕ)) (m : MachineNow) (seen : 
         ∙ told-heard of base (fits-own s.names s.world there ls (seen_at s ls m seen sound)) o
         ∙ ap (λ (n : MachineNow). with_part (without_signals n.world o) (notified (part_of n.world o))) seen
 
-    pub told_is_sound : IsSound (machine_now u ls)
+    pub told_is_sound : IsAtRest (machine_now u ls)
     told_is_sound =
         told_sound m (machine_now u ls) o here sound told_world
         (subst (λ (ns : List NodeName). AllByRecursion (IsListenerAt ns) ls) (sym (u_names ∙ t_names)) (seen_at s ls m seen sound))

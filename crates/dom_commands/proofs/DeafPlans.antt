@@ -23,8 +23,8 @@ use Rattle.dom_model.specs.TextChanges.{normalizing_text, normalizing, replacing
 use Rattle.dom_model.specs.Tree.{Trees, node_in, kind_of, is_fragment, is_text, is_document, has_data, children_of, parent_of, next_sibling}
 use Rattle.dom_model.specs.Tree.{previous_sibling, index_of, length_of, descendants}
 use Rattle.dom_model.specs.TreeChanges.{with_name}
-use Rattle.dom_commands.specs.Heard.{hearing}
-use Rattle.dom_commands.proofs.Heard.{step-hearing}
+use Rattle.dom_commands.specs.WithListeners.{hearing}
+use Rattle.dom_commands.proofs.ListenerWorlds.{step-hearing}
 
 module _ (of : Owner → List (Listener NodeName)) where
   -- steps

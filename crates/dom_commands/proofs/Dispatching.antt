@@ -18,8 +18,8 @@ use Rattle.dom_worlds.proofs.OwnerDispatches.{people-dispatch}
 use Rattle.dom_worlds.proofs.Owners.{AreOnce, owners-put, once-in}
 use Rattle.dom_worlds.proofs.Tests.{by_cases}
 use Rattle.dom_worlds.proofs.Visits.{rest-visits}
-use Rattle.dom_commands.specs.Heard.{heard}
-use Rattle.dom_commands.proofs.Heard.{FitsIn, part-heard, there-heard, owners-heard}
+use Rattle.dom_commands.specs.WithListeners.{heard}
+use Rattle.dom_commands.proofs.ListenerWorlds.{FitsIn, part-heard, there-heard, owners-heard}
 use Rattle.dom_commands.proofs.SameWorlds.{worlds-same}
 
 module _ (old new : Owner → List (Listener NodeName)) (w : World) (fits : FitsIn old w) (fits_now : FitsIn new w)

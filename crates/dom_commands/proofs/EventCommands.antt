@@ -8,7 +8,7 @@ use Rattle.dom_base.specs.declared.Fault.{Fault}
 use Rattle.dom_base.specs.declared.Fault.TheVariants.{Refused, Memory}
 use Rattle.dom_base.specs.declared.NodeName.{NodeName}
 use Rattle.dom_base.specs.declared.Owner.{Owner}
-use Rattle.dom_model.specs.Command.{Command, Spelled, own, foreign, ListenerWords}
+use Rattle.dom_model.specs.Command.{Command, NodeWord, own, foreign, ListenerWords}
 use Rattle.dom_model.specs.CommandNames.{named}
 use Rattle.dom_model.specs.CommandRefusals.{own_refusal}
 use Rattle.dom_model.specs.DocumentMachine.{refusal, accepted, effect_in}
@@ -26,15 +26,15 @@ use Rattle.dom_worlds.specs.Tables.{IsWhole}
 use Rattle.dom_worlds.proofs.Tests.{which_way, either_way}
 use Rattle.dom_text.specs.Text.{output_text}
 use Rattle.dom_tree.specs.Forest.{name_at}
-use Rattle.dom_dispatch.specs.Named.{TellApart, IsListenerAt}
+use Rattle.dom_dispatch.specs.ListenersByName.{TellApart, IsListenerAt}
 use Rattle.dom_admission.specs.declared.admission.Operand.{Operand}
 use Rattle.dom_admission.specs.Handled.{IsDone, IsHandled, let_pass}
-use Rattle.dom_commands.specs.Heard.{heard, own_listeners}
+use Rattle.dom_commands.specs.WithListeners.{heard, own_listeners}
 use Rattle.dom_admission.specs.Refusals.{early_refusal}
 use Rattle.dom_commands.proofs.Dispatching.{written-heard}
 use Rattle.dom_admission.proofs.Finding.{owner-named}
 use Rattle.dom_admission.proofs.Handling.{passed, admitted, opened-there}
-use Rattle.dom_commands.proofs.Heard.{FitsIn, part-heard, there-heard}
+use Rattle.dom_commands.proofs.ListenerWorlds.{FitsIn, part-heard, there-heard}
 use Rattle.dom_commands.proofs.HeardCommands.{refusal-heard, opening-heard, fits-opening}
 use Rattle.dom_commands.proofs.Listening.{OwnersAreThere, fits-own, own-listened, others-listened, own-unlistened, others-unlistened, at-listened}
 use Rattle.dom_commands.proofs.Listening.{at-unlistened}
@@ -130,14 +130,14 @@ module _ (names : List NodeName) (ls now : List (Listener ℕ)) (w : World) (the
       )
 
 -- an owner's parts read a spelling alike
-pub named_alike : (p q : Part) (x : Spelled) → p.owner ≡ q.owner → named p x ≡ named q x
+pub named_alike : (p q : Part) (x : NodeWord) → p.owner ≡ q.owner → named p x ≡ named q x
 named_alike p q (own k) e = ap (λ (o : Owner). node_of o k) e
 named_alike p q foreign e = ap (λ (o : Owner). node_of o 0) e
 
 -- The node of a key, in a state with listeners.
 module _ (names : List NodeName) (ls : List (Listener ℕ)) (w : World) (apart : TellApart names) (there : OwnersAreThere names w)
     (at : AllByRecursion (IsListenerAt names) ls)
-    (reached : IsReached false (heard (own_listeners names ls) w)) (o : Owner) (x : Spelled) (k : ℕ) (within : k < length names)
+    (reached : IsReached false (heard (own_listeners names ls) w)) (o : Owner) (x : NodeWord) (k : ℕ) (within : k < length names)
     (name : name_at names k ≡ named (part_of w o) x)
     (nodes : List Operand) (pass : let_pass (early_refusal w o nodes) ≡ Ok tt) where
   its_owner : (name_at names k).owner ≡ o

@@ -17,7 +17,7 @@ use Rattle.dom_worlds.proofs.Tests.{either_way}
 use Rattle.dom_path.specs.Items.{ShowsNodes}
 use Rattle.dom_dispatch.specs.declared.event.LogLine.{LogLine}
 use Rattle.dom_dispatch.specs.Dispatches.{line_in}
-use Rattle.dom_dispatch.specs.Named.{line_named}
+use Rattle.dom_dispatch.specs.ListenersByName.{line_named}
 use Rattle.dom_commands.specs.Machine.{NamesNodes, line_shown}
 
 -- what holds of each item

@@ -10,7 +10,7 @@ use Rattle.dom_model.specs.Listeners.{Listener, begun}
 use Rattle.dom_model.specs.World.{World, shadow_root_of}
 use Rattle.dom_worlds.specs.Reached.{IsReached}
 use Rattle.dom_worlds.specs.Tables.{IsWhole}
-use Rattle.dom_worlds.proofs.Alike.{host_of-same}
+use Rattle.dom_worlds.proofs.SameInvariant.{host_of-same}
 use Rattle.dom_tree.specs.Forest.{NamedTrees, name_at}
 use Rattle.dom_slots.specs.Hosts.{ShadowHost}
 use Rattle.dom_slots.specs.Shadows.{ShadowTrees, shadows, IsShownBy}
@@ -18,12 +18,12 @@ use Rattle.dom_mutation.specs.Doc.{DocState}
 use Rattle.dom_path.specs.Items.{IsWorldOf}
 use Rattle.dom_dispatch.specs.declared.event.Outcome.{Outcome}
 use Rattle.dom_dispatch.specs.Dispatches.{IsDispatched, IsDispatchedIn}
-use Rattle.dom_dispatch.specs.Named.{IsListenerAt}
-use Rattle.dom_commands.specs.Heard.{heard, own_listeners}
-use Rattle.dom_commands.specs.Machine.{MachineNow, machine_now, IsSound, line_shown}
+use Rattle.dom_dispatch.specs.ListenersByName.{IsListenerAt}
+use Rattle.dom_commands.specs.WithListeners.{heard, own_listeners}
+use Rattle.dom_commands.specs.Machine.{MachineNow, machine_now, IsAtRest, line_shown}
 use Rattle.dom_commands.proofs.Dispatching.{dispatched-heard}
 use Rattle.dom_commands.proofs.EventLines.{lines_shown}
-use Rattle.dom_commands.proofs.Heard.{FitsIn, part-heard, component-heard}
+use Rattle.dom_commands.proofs.ListenerWorlds.{FitsIn, part-heard, component-heard}
 use Rattle.dom_commands.proofs.Listening.{OwnersAreThere, fits-own, has-own, after-visits}
 
 -- a world with listeners has the same trees and hosts
@@ -67,21 +67,21 @@ Fires names t m now target related e outcome =
     (outcome.answer ≡ d.answer)
 
 -- in a machine that is seen so
-pub fired : (s : DocState) (ls now : List (Listener ℕ)) (m : MachineNow) → machine_now s ls ≡ m → IsSound m →
+pub fired : (s : DocState) (ls now : List (Listener ℕ)) (m : MachineNow) → machine_now s ls ≡ m → IsAtRest m →
     (f : NamedTrees) (hosts : List ShadowHost) → f.names ≡ s.names → OwnersAreThere s.names s.world →
     IsShownBy (shadows f hosts) s.world → (target : ℕ) (related : Option ℕ) (e : EventWords) (outcome : Outcome) →
     IsDispatched f hosts ls now target related e outcome →
     (AllByRecursion (IsListenerAt f.names) ls → IsDispatchedIn f hosts ls now target related e outcome) → Fires f.names s m now target related e outcome
 fired s ls now m seen sound f hosts ns there shown target related e outcome keys names =
     subst (λ (n : MachineNow). Fires f.names s n now target related e outcome) seen
-    (subst (λ (t : DocState). IsSound (machine_now t ls) → OwnersAreThere t.names t.world → IsShownBy (shadows f hosts) t.world →
+    (subst (λ (t : DocState). IsAtRest (machine_now t ls) → OwnersAreThere t.names t.world → IsShownBy (shadows f hosts) t.world →
     Fires f.names t (machine_now t ls) now target related e outcome)
-    (ap (λ (xs : List NodeName). state xs) ns) from (subst IsSound (sym seen) sound) there shown)
+    (ap (λ (xs : List NodeName). state xs) ns) from (subst IsAtRest (sym seen) sound) there shown)
   where
     state : List NodeName → DocState
     state xs = record { names = xs; world = s.world }
 
-    from : IsSound (machine_now (state f.names) ls) → OwnersAreThere f.names s.world → IsShownBy (shadows f hosts) s.world →
+    from : IsAtRest (machine_now (state f.names) ls) → OwnersAreThere f.names s.world → IsShownBy (shadows f hosts) s.world →
         Fires f.names (state f.names) (machine_now (state f.names) ls) now target related e outcome
     from sound there shown =
         let at = sound.listeners in

@@ -10,7 +10,7 @@ use Rattle.dom_base.specs.declared.Owner.{Owner}
 use Rattle.dom_base.specs.declared.Owner.TheVariants.{Page, Component}
 use Rattle.dom_base.specs.declared.Refusal.{Refusal}
 use Rattle.dom_base.specs.declared.Refusal.TheVariants.{Syntax, Busy, Foreign, Unknown, WrongKind}
-use Rattle.dom_model.specs.Command.{Command, Spelled}
+use Rattle.dom_model.specs.Command.{Command, NodeWord}
 use Rattle.dom_model.specs.CommandNames.{named, names_foreign, nodes_exist, thing_exists, nodes_fit}
 use Rattle.dom_model.specs.CommandRefusals.{is_command_of, part_refusal, of_range, related_refusal}
 use Rattle.dom_model.specs.DocumentMachine.{is_busy, refusal, effect_in, perform, accepted, part_with_root}
@@ -32,11 +32,11 @@ use Rattle.dom_model.specs.World.{World, part_of, with_part, is_there, component
 use Rattle.dom_model.specs.Slots.{assigned}
 use Rattle.dom_text.specs.Text.{output_text}
 use Rattle.dom_admission.specs.Handled.{IsHandled}
-use Rattle.dom_commands.specs.Heard.{hearing, heard}
+use Rattle.dom_commands.specs.WithListeners.{hearing, heard}
 use Rattle.dom_commands.specs.CommandGroups.{is_plain}
 use Rattle.dom_commands.proofs.DeafPlans.{deaf-pre_inserting, deaf-replacing, deaf-adopting, deaf-splitting, deaf-normalizing, deaf-setting_text}
 use Rattle.dom_commands.proofs.DeafPlans.{deaf-deleting, deaf-into_range, deaf-extracting}
-use Rattle.dom_commands.proofs.Heard.{FitsIn, there-heard, part-heard, with_part-heard, assigned-heard, connected-heard, after-heard}
+use Rattle.dom_commands.proofs.ListenerWorlds.{FitsIn, there-heard, part-heard, with_part-heard, assigned-heard, connected-heard, after-heard}
 
 -- an effect with listeners
 abbrev hearing_effect : (Owner → List (Listener NodeName)) → Effect → Effect
@@ -47,7 +47,7 @@ module _ (of : Owner → List (Listener NodeName)) where
   -- ---- in a part
 
   -- its refusals
-  related-hearing : (o : Owner) (p : Part) (x : NodeName) (related : Option Spelled) →
+  related-hearing : (o : Owner) (p : Part) (x : NodeName) (related : Option NodeWord) →
       related_refusal o (hearing of p) x related ≡ related_refusal o p x related
   related-hearing Page p x related = refl
   related-hearing (Component k) p x related = refl

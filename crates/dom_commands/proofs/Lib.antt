@@ -6,7 +6,7 @@ mod Dispatching
 mod EventCommands
 mod EventLines
 mod Firing
-mod Heard
+mod ListenerWorlds
 mod HeardCommands
 mod Listening
 mod Machines

@@ -26,12 +26,12 @@ use Rattle.dom_worlds.proofs.Trees.{name_eq-true}
 use Rattle.dom_worlds.proofs.Tests.{by_cases, either_way}
 use Rattle.dom_tree.specs.Forest.{name_at}
 use Rattle.dom_dispatch.specs.Kept.{is_of_owner, HasListeners}
-use Rattle.dom_dispatch.specs.Named.{TellApart, listener_named, IsListenerAt}
+use Rattle.dom_dispatch.specs.ListenersByName.{TellApart, listener_named, IsListenerAt}
 use Rattle.dom_dispatch.proofs.Naming.{listened-named, unlistened-named}
 use Rattle.dom_dispatch.proofs.Narrowing.{filter-swap, filter-wider}
 use Rattle.dom_admission.specs.Handled.{BeginsWith}
-use Rattle.dom_commands.specs.Heard.{heard, own_listeners}
-use Rattle.dom_commands.proofs.Heard.{FitsIn, part-heard}
+use Rattle.dom_commands.specs.WithListeners.{heard, own_listeners}
+use Rattle.dom_commands.proofs.ListenerWorlds.{FitsIn, part-heard}
 
 -- the owners of nodes are there
 abbrev pub OwnersAreThere : List NodeName → World → Type 0

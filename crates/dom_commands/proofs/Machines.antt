@@ -27,16 +27,16 @@ use Rattle.dom_worlds.proofs.Reached.{first-is_reached, step-keeps_reached}
 use Rattle.dom_worlds.proofs.ReachedFacts.{attached-are_there}
 use Rattle.dom_worlds.proofs.TableLines.{first-is_whole, step-keeps_whole}
 use Rattle.dom_mutation.specs.Doc.{DocState}
-use Rattle.dom_dispatch.specs.Named.{IsListenerAt}
+use Rattle.dom_dispatch.specs.ListenersByName.{IsListenerAt}
 use Rattle.dom_admission.specs.Handled.{IsHandled}
-use Rattle.dom_commands.specs.Heard.{heard, own_listeners}
-use Rattle.dom_commands.specs.Machine.{MachineNow, machine_now, IsSound, AreAtNodes, KeepsListeners}
+use Rattle.dom_commands.specs.WithListeners.{heard, own_listeners}
+use Rattle.dom_commands.specs.Machine.{MachineNow, machine_now, IsAtRest, AreAtNodes, KeepsListeners}
 use Rattle.dom_range_commands.specs.RangeWorlds.{HasFirstNodes, HasLoneShadowRoots, HasRangeEnds}
 use Rattle.dom_admission.specs.Handled.{BeginsWith, KeepsNames}
 use Rattle.dom_commands.specs.CommandGroups.{is_plain}
 use Rattle.dom_commands.proofs.Bounded.{bounded-unheard, first_nodes-unheard}
 use Rattle.dom_admission.proofs.Handling.{opened-part}
-use Rattle.dom_commands.proofs.Heard.{FitsIn, there-heard, part-heard}
+use Rattle.dom_commands.proofs.ListenerWorlds.{FitsIn, there-heard, part-heard}
 use Rattle.dom_commands.proofs.HeardCommands.{IsNew, handled-heard}
 use Rattle.dom_commands.proofs.Listening.{OwnersAreThere, fits-own, at-kept, own-kept}
 use Rattle.dom_commands.proofs.RangeLaws.{range_ends-unheard, shadow_roots-unheard}
@@ -96,35 +96,35 @@ module _ (s t : DocState) (ls : List (Listener ℕ)) (there : OwnersAreThere s.n
   kept_at (Err Memory) kept = tt
 
 -- what holds of the listeners of a machine that is seen so
-pub seen_at : (s : DocState) (ls : List (Listener ℕ)) (m : MachineNow) → machine_now s ls ≡ m → IsSound m → AllByRecursion (IsListenerAt s.names) ls
-seen_at s ls m seen sound = (subst IsSound (sym seen) sound).listeners
+pub seen_at : (s : DocState) (ls : List (Listener ℕ)) (m : MachineNow) → machine_now s ls ≡ m → IsAtRest m → AllByRecursion (IsListenerAt s.names) ls
+seen_at s ls m seen sound = (subst IsAtRest (sym seen) sound).listeners
 
 -- and of its world
-pub seen_reached : (s : DocState) (ls : List (Listener ℕ)) (m : MachineNow) → machine_now s ls ≡ m → IsSound m → IsReached false (machine_now s ls).world
-seen_reached s ls m seen sound = (subst IsSound (sym seen) sound).reached
+pub seen_reached : (s : DocState) (ls : List (Listener ℕ)) (m : MachineNow) → machine_now s ls ≡ m → IsAtRest m → IsReached false (machine_now s ls).world
+seen_reached s ls m seen sound = (subst IsAtRest (sym seen) sound).reached
 
 -- the ends of ranges are within their nodes in the world of its documents
-pub seen_bounds : (s : DocState) (ls : List (Listener ℕ)) (m : MachineNow) → machine_now s ls ≡ m → IsSound m → OwnersAreThere s.names s.world →
+pub seen_bounds : (s : DocState) (ls : List (Listener ℕ)) (m : MachineNow) → machine_now s ls ≡ m → IsAtRest m → OwnersAreThere s.names s.world →
     IsBounded s.world
 seen_bounds s ls m seen sound there =
-    bounded-unheard (own_listeners s.names ls) s.world (fits-own s.names s.world there ls (seen_at s ls m seen sound)) (subst IsSound (sym seen) sound).bounds
+    bounded-unheard (own_listeners s.names ls) s.world (fits-own s.names s.world there ls (seen_at s ls m seen sound)) (subst IsAtRest (sym seen) sound).bounds
 
 -- and each owner that is there has its first node
-pub seen_first_nodes : (s : DocState) (ls : List (Listener ℕ)) (m : MachineNow) → machine_now s ls ≡ m → IsSound m →
+pub seen_first_nodes : (s : DocState) (ls : List (Listener ℕ)) (m : MachineNow) → machine_now s ls ≡ m → IsAtRest m →
     OwnersAreThere s.names s.world → HasFirstNodes s.world
 seen_first_nodes s ls m seen sound there =
     first_nodes-unheard (own_listeners s.names ls) s.world (fits-own s.names s.world there ls (seen_at s ls m seen sound))
-    (subst IsSound (sym seen) sound).whole.first
+    (subst IsAtRest (sym seen) sound).whole.first
 
 -- and the ends of ranges are at nodes, both of a range in one tree
-pub seen_range_ends : (s : DocState) (ls : List (Listener ℕ)) (m : MachineNow) → machine_now s ls ≡ m → IsSound m →
+pub seen_range_ends : (s : DocState) (ls : List (Listener ℕ)) (m : MachineNow) → machine_now s ls ≡ m → IsAtRest m →
     OwnersAreThere s.names s.world → HasRangeEnds s.world
 seen_range_ends s ls m seen sound there =
     range_ends-unheard (own_listeners s.names ls) s.world (fits-own s.names s.world there ls (seen_at s ls m seen sound))
-    (λ o. ((subst IsSound (sym seen) sound).whole.tables o).ranges)
+    (λ o. ((subst IsAtRest (sym seen) sound).whole.tables o).ranges)
 
 -- and no shadow root has a parent
-pub seen_shadow_roots : (s : DocState) (ls : List (Listener ℕ)) (m : MachineNow) → machine_now s ls ≡ m → IsSound m →
+pub seen_shadow_roots : (s : DocState) (ls : List (Listener ℕ)) (m : MachineNow) → machine_now s ls ≡ m → IsAtRest m →
     OwnersAreThere s.names s.world → HasLoneShadowRoots s.world
 seen_shadow_roots s ls m seen sound there =
     shadow_roots-unheard (own_listeners s.names ls) s.world (fits-own s.names s.world there ls (seen_at s ls m seen sound)) (seen_reached s ls m seen sound)
@@ -132,7 +132,7 @@ seen_shadow_roots s ls m seen sound there =
 -- ---- lines
 
 -- a line
-pub line_sound : (m n : MachineNow) (l : Line) → IsSound m → n.world ≡ (step m.world l).0 → AreAtNodes n → IsSound n
+pub line_sound : (m n : MachineNow) (l : Line) → IsAtRest m → n.world ≡ (step m.world l).0 → AreAtNodes n → IsAtRest n
 line_sound m n l sound is at =
     record {
       listeners = at;
@@ -142,8 +142,8 @@ line_sound m n l sound is at =
     }
 
 -- the first machine
-pub first_sound : (s : DocState) → s ≡ record { names = node_of Page 0 ∷ []; world = first_world } → IsSound (machine_now s [])
-first_sound s is = subst (λ (t : DocState). IsSound (machine_now t [])) (sym is)
+pub first_sound : (s : DocState) → s ≡ record { names = node_of Page 0 ∷ []; world = first_world } → IsAtRest (machine_now s [])
+first_sound s is = subst (λ (t : DocState). IsAtRest (machine_now t [])) (sym is)
     (record { listeners = tt; reached = first-is_reached false; whole = first-is_whole; bounds = first-is_bounded })
 
 -- listeners that are at nodes are so however a command ends

@@ -4,7 +4,7 @@ use Rattle.std.specs.Option.{option_map}
 use Rattle.std.specs.List.{AllByRecursion}
 use Rattle.dom_base.specs.declared.NodeName.{NodeName}
 use Rattle.dom_base.specs.declared.Owner.{Owner}
-use Rattle.dom_model.specs.Command.{Command, Spelled, EventWords}
+use Rattle.dom_model.specs.Command.{Command, NodeWord, EventWords}
 use Rattle.dom_model.specs.CommandNames.{named}
 use Rattle.dom_model.specs.Dispatch.{Dispatched, dispatch_in}
 use Rattle.dom_model.specs.DocumentMachine.{refusal}
@@ -18,12 +18,12 @@ use Rattle.dom_worlds.specs.Reached.{IsReached}
 use Rattle.dom_worlds.specs.Tables.{IsWhole}
 use Rattle.dom_text.specs.Text.{output_text}
 use Rattle.dom_mutation.specs.Doc.{DocState}
-use Rattle.dom_reader.specs.declared.line.Spelled as line
-use Rattle.dom_reader.specs.Views.{spelled_view}
-use Rattle.dom_dispatch.specs.Named.{IsListenerAt}
+use Rattle.dom_reader.specs.declared.line.NodeWord as line
+use Rattle.dom_reader.specs.Views.{word_view}
+use Rattle.dom_dispatch.specs.ListenersByName.{IsListenerAt}
 use Rattle.dom_admission.specs.Handled.{IsHandled}
-use Rattle.dom_commands.specs.Heard.{heard, own_listeners}
-use Rattle.dom_commands.specs.Machine.{machine_now, IsSound}
+use Rattle.dom_commands.specs.WithListeners.{heard, own_listeners}
+use Rattle.dom_commands.specs.Machine.{machine_now, IsAtRest}
 use Rattle.dom_commands.proofs.Bounded.{bounded-opening}
 use Rattle.dom_commands.proofs.EventCommands.{named_alike, reached-opening, whole-opening}
 use Rattle.dom_commands.proofs.HeardCommands.{opening-heard}
@@ -31,7 +31,7 @@ use Rattle.dom_text.proofs.OutputLaws.{output_text-append}
 
 -- a machine stays sound when a turn is opened
 pub opened_sound : (s t : DocState) (ls : List (Listener ℕ)) (o : Owner) → t.names ≡ s.names → t.world ≡ opening_turn s.world o →
-    is_there (machine_now s ls).world o ≡ true → IsSound (machine_now s ls) → IsSound (machine_now t ls)
+    is_there (machine_now s ls).world o ≡ true → IsAtRest (machine_now s ls) → IsAtRest (machine_now t ls)
 opened_sound s t ls o names world there sound =
     let of = own_listeners s.names ls in
     let is : opening_turn (heard of s.world) o ≡ (machine_now t ls).world =
@@ -44,16 +44,16 @@ opened_sound s t ls o names world there sound =
     }
 
 -- spellings read alike when a turn is open
-pub opened_name : (w v : World) (o : Owner) (x : Spelled) → named (part_of w o) x ≡ named (part_of (opening_turn v o) o) x
+pub opened_name : (w v : World) (o : Owner) (x : NodeWord) → named (part_of w o) x ≡ named (part_of (opening_turn v o) o) x
 opened_name w v o x = named_alike (part_of w o) (part_of (opening_turn v o) o) x (owner-part_of w o ∙ sym (owner-part_of (opening_turn v o) o))
 
-pub opened_names : (w v : World) (o : Owner) (r : Option line.Spelled) →
-    option_map (λ x. named (part_of w o) (spelled_view x)) r ≡ option_map (named (part_of (opening_turn v o) o)) (option_map spelled_view r)
+pub opened_names : (w v : World) (o : Owner) (r : Option line.NodeWord) →
+    option_map (λ x. named (part_of w o) (word_view x)) r ≡ option_map (named (part_of (opening_turn v o) o)) (option_map word_view r)
 opened_names w v o None = refl
-opened_names w v o (Some x) = ap Some (opened_name w v o (spelled_view x))
+opened_names w v o (Some x) = ap Some (opened_name w v o (word_view x))
 
 -- what a dispatch does: its world, its lines, and then its answer
-pub dispatch_handled : (w : World) (o : Owner) (x : Spelled) (e : EventWords) (related : Option Spelled) (d : Dispatched World) →
+pub dispatch_handled : (w : World) (o : Owner) (x : NodeWord) (e : EventWords) (related : Option NodeWord) (d : Dispatched World) →
     refusal w o (Command.dispatch x e related) ≡ None →
     d ≡ dispatch_in (opening_turn w o) (named (part_of (opening_turn w o) o) x) (option_map (named (part_of (opening_turn w o) o)) related) e →
     (end : World) (before middle after : List ℕ) (answer : Bool) →

@@ -18,9 +18,9 @@ use Rattle.dom_worlds.proofs.Owners.{node-there, there-hosted}
 use Rattle.dom_worlds.proofs.ReachedFacts.{no_other_shadow_roots, shadow_roots-are_roots}
 use Rattle.dom_worlds.specs.Tables.{EndsIn}
 use Rattle.dom_range_ops.specs.Extractions.{ShadowRootsHaveNoParent}
-use Rattle.dom_commands.specs.Heard.{heard}
+use Rattle.dom_commands.specs.WithListeners.{heard}
 use Rattle.dom_range_commands.specs.RangeWorlds.{HasLoneShadowRoots, HasRangeEnds}
-use Rattle.dom_commands.proofs.Heard.{FitsIn, part-heard}
+use Rattle.dom_commands.proofs.ListenerWorlds.{FitsIn, part-heard}
 
 -- the ends of live ranges stand at nodes also where the listeners are left out
 pub range_ends-unheard : (of : Owner → List (Listener NodeName)) (w : World) → FitsIn of w → HasRangeEnds (heard of w) → HasRangeEnds w

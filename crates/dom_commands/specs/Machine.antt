@@ -16,8 +16,8 @@ use Rattle.dom_worlds.specs.Worlds.{IsThere, task_owner}
 use Rattle.dom_mutation.specs.Doc.{DocState}
 use Rattle.dom_dispatch.specs.declared.event.LogLine.{LogLine}
 use Rattle.dom_dispatch.specs.Dispatches.{line_in}
-use Rattle.dom_dispatch.specs.Named.{IsListenerAt, line_named}
-use Rattle.dom_commands.specs.Heard.{heard, own_listeners}
+use Rattle.dom_dispatch.specs.ListenersByName.{IsListenerAt, line_named}
+use Rattle.dom_commands.specs.WithListeners.{heard, own_listeners}
 
 -- the names of the nodes by their keys, the listeners by keys, and the world
 pub record MachineNow : Type 0 where
@@ -35,7 +35,7 @@ AreAtNodes m = AllByRecursion (IsListenerAt m.names) m.listeners
 
 -- What holds of a machine between two lines: its listeners are at nodes, and its world is one that the definitions reach, whose
 -- tables name what is there, and whose live ranges end within their nodes.
-pub record IsSound (m : MachineNow) : Type 0 where
+pub record IsAtRest (m : MachineNow) : Type 0 where
   pub listeners : AreAtNodes m
   pub reached : IsReached false m.world
   pub whole : IsWhole m.world

@@ -5,7 +5,7 @@ ghost use Rattle.dom_model.specs.DocumentMachine.{step, run_command};
 ghost use Rattle.dom_text.specs.Text.{output_text};
 ghost use Rattle.dom_reader.specs.Views.{command_view, line_view, refused_view};
 ghost use Rattle.dom_admission.specs.Handled.{IsHandled};
-ghost use Rattle.dom_commands.specs.Machine.{AreAtNodes, IsSound, KeepsListeners};
+ghost use Rattle.dom_commands.specs.Machine.{AreAtNodes, IsAtRest, KeepsListeners};
 ghost use Rattle.dom_commands.specs.CommandGroups.{is_plain};
 
 use crate::commands;
@@ -21,10 +21,10 @@ impl Machine {
         &mut self,
         read: Result<Line, (Option<Owner>, Refusal)>,
     ) -> Result<Vec<u8>, AllocError>
-        requires { IsSound self.old }
+        requires { IsAtRest self.old }
         ensures text { IfOk result (λ text. text.items ≡ output_text (step self.old.world (line_view read)).1) }
         ensures world { OnOk result (self.new.world ≡ (step self.old.world (line_view read)).0) }
-        ensures sound { OnOk result (IsSound self.new) }
+        ensures sound { OnOk result (IsAtRest self.new) }
     {
         let mut out = Vec::new(self.alloc);
         match read {
@@ -36,7 +36,7 @@ impl Machine {
 
     /// A line without a command: it is refused as such.
     fn no_command(&mut self, owner: Option<Owner>, out: &mut Vec<u8>) -> Result<(), AllocError>
-        requires { IsSound self.old }
+        requires { IsAtRest self.old }
         ensures text { OnOk result (out.new.items ≡ out.old.items ++ output_text (step self.old.world (refused_view owner)).1) }
         ensures world { OnOk result (self.new.world ≡ (step self.old.world (refused_view owner)).0) }
         ensures listeners { OnOk result (AreAtNodes self.new) }
@@ -54,7 +54,7 @@ impl Machine {
         command: Command,
         out: &mut Vec<u8>,
     ) -> Result<(), AllocError>
-        requires { IsSound self.old }
+        requires { IsAtRest self.old }
         ensures text { OnOk result (out.new.items ≡ out.old.items ++ output_text (step self.old.world (model_command owner (command_view command))).1) }
         ensures world { OnOk result (self.new.world ≡ (step self.old.world (model_command owner (command_view command))).0) }
         ensures listeners { OnOk result (AreAtNodes self.new) }
@@ -65,7 +65,7 @@ impl Machine {
 
     /// A command that may be made now: what it does, or its refusal.
     fn run(&mut self, owner: Owner, command: Command, out: &mut Vec<u8>) -> Result<(), AllocError>
-        requires sound { IsSound self.old }
+        requires sound { IsAtRest self.old }
         ensures text { OnOk result (out.new.items ≡ out.old.items ++ output_text (run_command owner (command_view command) self.old.world).1) }
         ensures world { OnOk result (self.new.world ≡ (run_command owner (command_view command) self.old.world).0) }
         ensures listeners { OnOk result (AreAtNodes self.new) }
@@ -79,7 +79,7 @@ impl Machine {
 
     /// A command, by its handler.
     fn perform(&mut self, owner: Owner, command: Command, out: &mut Vec<u8>) -> Result<(), Fault>
-        requires sound { IsSound self.old }
+        requires sound { IsAtRest self.old }
         ensures handled { IsHandled owner (command_view command) self.old.world self.new.world out.old.items out.new.items result }
         ensures listeners { KeepsListeners self.new result }
     {
@@ -104,7 +104,7 @@ impl Machine {
         out: &mut Vec<u8>,
     ) -> Result<(), Fault>
         requires plain { is_plain (command_view command) ≡ true }
-        requires sound { IsSound self.old }
+        requires sound { IsAtRest self.old }
         ensures handled { IsHandled owner (command_view command) self.old.world self.new.world out.old.items out.new.items result }
         ensures listeners { KeepsListeners self.new result }
     {

@@ -5,7 +5,7 @@ ghost use Rattle.dom_model.specs.Dispatch.{dispatch_in};
 ghost use Rattle.dom_text.specs.Text.{output_text};
 ghost use Rattle.dom_tree.specs.Forest.{name_at};
 ghost use Rattle.dom_dispatch.specs.Dispatches.{event_words, line_in, IsOwnLine};
-ghost use Rattle.dom_commands.specs.Machine.{AreAtNodes, IsSound, NamesNodes, line_shown};
+ghost use Rattle.dom_commands.specs.Machine.{AreAtNodes, IsAtRest, NamesNodes, line_shown};
 
 use crate::machine::Machine;
 use dom_admission::names_of;
@@ -24,7 +24,7 @@ impl Machine {
         event: EventInit,
         out: &mut Vec<u8>,
     ) -> Result<bool, AllocError>
-        requires sound { IsSound self.old }
+        requires sound { IsAtRest self.old }
         requires target_is_node { target < length self.old.names }
         requires related_is_node { ForSome event.related (λ k. k < length self.old.names) }
         ensures world { OnOk result (self.new.world ≡

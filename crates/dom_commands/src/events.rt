@@ -9,19 +9,19 @@ ghost use Rattle.dom_model.specs.Names.{name_eq};
 ghost use Rattle.dom_model.specs.Tree.{has_node, root_of};
 ghost use Rattle.dom_model.specs.Turns.{opening_turn};
 ghost use Rattle.dom_model.specs.World.{part_of, is_there};
-ghost use Rattle.dom_reader.specs.Views.{event_view, listener_view, spelled_view};
+ghost use Rattle.dom_reader.specs.Views.{event_view, listener_view, word_view};
 ghost use Rattle.dom_tree.specs.Forest.{name_at};
 ghost use Rattle.dom_dispatch.specs.Dispatches.{event_words};
 ghost use Rattle.dom_dispatch.specs.Entries.{words_of};
 ghost use Rattle.dom_admission.specs.Handled.{IsHandled, let_pass};
-ghost use Rattle.dom_commands.specs.Machine.{IsSound, KeepsListeners};
+ghost use Rattle.dom_commands.specs.Machine.{IsAtRest, KeepsListeners};
 
 use crate::machine::Machine;
 use dom_admission::{Operand, State};
 use dom_base::{Fault, Owner, Refusal};
 use dom_dispatch::{EventInit, ListenerInit};
 use dom_printer::{Value, put_reply};
-use dom_reader::{EventWords, ListenerWords, Spelled};
+use dom_reader::{EventWords, ListenerWords, NodeWord};
 use node_arena::Key;
 
 impl Machine {
@@ -30,12 +30,12 @@ impl Machine {
     pub(crate) fn listen(
         &mut self,
         owner: Owner,
-        node: Spelled,
+        node: NodeWord,
         words: ListenerWords,
         out: &mut Vec<u8>,
     ) -> Result<(), Fault>
-        requires { IsSound self.old }
-        ensures handled { IsHandled owner (listen (spelled_view node) (listener_view words)) self.old.world self.new.world out.old.items out.new.items result }
+        requires { IsAtRest self.old }
+        ensures handled { IsHandled owner (listen (word_view node) (listener_view words)) self.old.world self.new.world out.old.items out.new.items result }
         ensures listeners { KeepsListeners self.new result }
     {
         self.state.names_tell_nodes();
@@ -49,14 +49,14 @@ impl Machine {
     pub(crate) fn unlisten(
         &mut self,
         owner: Owner,
-        node: Spelled,
+        node: NodeWord,
         event: &str,
         label: &str,
         capture: bool,
         out: &mut Vec<u8>,
     ) -> Result<(), Fault>
-        requires { IsSound self.old }
-        ensures handled { IsHandled owner (unlisten (spelled_view node) event.now label.now capture) self.old.world self.new.world out.old.items
+        requires { IsAtRest self.old }
+        ensures handled { IsHandled owner (unlisten (word_view node) event.now label.now capture) self.old.world self.new.world out.old.items
             out.new.items result }
         ensures listeners { KeepsListeners self.new result }
     {
@@ -73,13 +73,13 @@ impl Machine {
     pub(crate) fn dispatch(
         &mut self,
         owner: Owner,
-        target: Spelled,
+        target: NodeWord,
         event: EventWords,
-        related: Option<Spelled>,
+        related: Option<NodeWord>,
         out: &mut Vec<u8>,
     ) -> Result<(), Fault>
-        requires { IsSound self.old }
-        ensures handled { IsHandled owner (dispatch (spelled_view target) (event_view event) (option_map spelled_view related)) self.old.world
+        requires { IsAtRest self.old }
+        ensures handled { IsHandled owner (dispatch (word_view target) (event_view event) (option_map word_view related)) self.old.world
             self.new.world out.old.items out.new.items result }
         ensures listeners { KeepsListeners self.new result }
     {
@@ -95,11 +95,11 @@ impl Machine {
 
     /// Opens an owner's turn, where none is open.
     fn open_turn(&mut self, owner: Owner)
-        requires sound { IsSound self.old }
+        requires sound { IsAtRest self.old }
         requires owner_is_there { is_there self.old.world owner ≡ true }
         ensures world { self.new.world ≡ opening_turn self.old.world owner }
         ensures names { self.new.names ≡ self.old.names }
-        ensures sound { IsSound self.new }
+        ensures sound { IsAtRest self.new }
     {
         self.state.open_turn(owner);
     }
@@ -109,13 +109,13 @@ impl Machine {
 fn admit_event(
     state: &State,
     owner: Owner,
-    target: Spelled,
-    related: Option<Spelled>,
+    target: NodeWord,
+    related: Option<NodeWord>,
 ) -> Result<(), Fault>
-    ensures refusal { (e : EventOf) → result ≡ let_pass (refusal state.now.world owner (dispatch (spelled_view target) e (option_map spelled_view related))) }
-    ensures target { OnOk result (has_node (part_of state.now.world owner).trees (named (part_of state.now.world owner) (spelled_view target)) ≡ true) }
+    ensures refusal { (e : EventOf) → result ≡ let_pass (refusal state.now.world owner (dispatch (word_view target) e (option_map word_view related))) }
+    ensures target { OnOk result (has_node (part_of state.now.world owner).trees (named (part_of state.now.world owner) (word_view target)) ≡ true) }
     ensures related { OnOk result (ForSome related
-        (λ r. has_node (part_of state.now.world owner).trees (named (part_of state.now.world owner) (spelled_view r)) ≡ true)) }
+        (λ r. has_node (part_of state.now.world owner).trees (named (part_of state.now.world owner) (word_view r)) ≡ true)) }
 {
     match related {
         None => state.admit(owner, &[Operand::Any(target)]),
@@ -127,12 +127,12 @@ fn admit_event(
 fn admit_related(
     state: &State,
     owner: Owner,
-    target: Spelled,
-    related: Spelled,
+    target: NodeWord,
+    related: NodeWord,
 ) -> Result<(), Fault>
-    ensures refusal { (e : EventOf) → result ≡ let_pass (refusal state.now.world owner (dispatch (spelled_view target) e (Some (spelled_view related)))) }
-    ensures target { OnOk result (has_node (part_of state.now.world owner).trees (named (part_of state.now.world owner) (spelled_view target)) ≡ true) }
-    ensures related { OnOk result (has_node (part_of state.now.world owner).trees (named (part_of state.now.world owner) (spelled_view related)) ≡ true) }
+    ensures refusal { (e : EventOf) → result ≡ let_pass (refusal state.now.world owner (dispatch (word_view target) e (Some (word_view related)))) }
+    ensures target { OnOk result (has_node (part_of state.now.world owner).trees (named (part_of state.now.world owner) (word_view target)) ≡ true) }
+    ensures related { OnOk result (has_node (part_of state.now.world owner).trees (named (part_of state.now.world owner) (word_view related)) ≡ true) }
 {
     state.admit(owner, &[Operand::Any(target), Operand::Any(related)])?;
     match related_refusal(state, owner, target, related) {
@@ -145,13 +145,13 @@ fn admit_related(
 fn related_refusal(
     state: &State,
     owner: Owner,
-    target: Spelled,
-    related: Spelled,
+    target: NodeWord,
+    related: NodeWord,
 ) -> Option<Refusal>
-    requires target_is_there { has_node (part_of state.now.world owner).trees (named (part_of state.now.world owner) (spelled_view target)) ≡ true }
-    requires related_is_there { has_node (part_of state.now.world owner).trees (named (part_of state.now.world owner) (spelled_view related)) ≡ true }
-    ensures { result ≡ related_refusal owner (part_of state.now.world owner) (named (part_of state.now.world owner) (spelled_view target))
-        (Some (spelled_view related)) }
+    requires target_is_there { has_node (part_of state.now.world owner).trees (named (part_of state.now.world owner) (word_view target)) ≡ true }
+    requires related_is_there { has_node (part_of state.now.world owner).trees (named (part_of state.now.world owner) (word_view related)) ≡ true }
+    ensures { result ≡ related_refusal owner (part_of state.now.world owner) (named (part_of state.now.world owner) (word_view target))
+        (Some (word_view related)) }
 {
     match owner {
         Owner::Page => None,
@@ -166,11 +166,11 @@ fn related_refusal(
 }
 
 /// Whether two nodes that are there have other roots.
-fn has_other_root(state: &State, owner: Owner, node: Spelled, other: Spelled) -> bool
-    requires node_is_there { has_node (part_of state.now.world owner).trees (named (part_of state.now.world owner) (spelled_view node)) ≡ true }
-    requires other_is_there { has_node (part_of state.now.world owner).trees (named (part_of state.now.world owner) (spelled_view other)) ≡ true }
-    ensures { result ≡ not (name_eq (root_of (part_of state.now.world owner).trees (named (part_of state.now.world owner) (spelled_view node)))
-        (root_of (part_of state.now.world owner).trees (named (part_of state.now.world owner) (spelled_view other)))) }
+fn has_other_root(state: &State, owner: Owner, node: NodeWord, other: NodeWord) -> bool
+    requires node_is_there { has_node (part_of state.now.world owner).trees (named (part_of state.now.world owner) (word_view node)) ≡ true }
+    requires other_is_there { has_node (part_of state.now.world owner).trees (named (part_of state.now.world owner) (word_view other)) ≡ true }
+    ensures { result ≡ not (name_eq (root_of (part_of state.now.world owner).trees (named (part_of state.now.world owner) (word_view node)))
+        (root_of (part_of state.now.world owner).trees (named (part_of state.now.world owner) (word_view other)))) }
 {
     let (node, other) = (state.key(owner, node), state.key(owner, other));
     let forest = state.doc.forest();
@@ -181,10 +181,10 @@ fn has_other_root(state: &State, owner: Owner, node: Spelled, other: Spelled) ->
 }
 
 /// The node that an owner's line names, if it names one, which is there.
-fn key_of(state: &State, owner: Owner, node: Option<Spelled>) -> Option<Key>
-    requires { ForSome node (λ r. has_node (part_of state.now.world owner).trees (named (part_of state.now.world owner) (spelled_view r)) ≡ true) }
+fn key_of(state: &State, owner: Owner, node: Option<NodeWord>) -> Option<Key>
+    requires { ForSome node (λ r. has_node (part_of state.now.world owner).trees (named (part_of state.now.world owner) (word_view r)) ≡ true) }
     ensures node { ForSome result (λ k. k < length state.now.names) }
-    ensures name { option_map (name_at state.now.names) result ≡ option_map (λ r. named (part_of state.now.world owner) (spelled_view r)) node }
+    ensures name { option_map (name_at state.now.names) result ≡ option_map (λ r. named (part_of state.now.world owner) (word_view r)) node }
 {
     match node {
         Some(node) => Some(state.key(owner, node)),

@@ -1,7 +1,7 @@
 //! The document machine: what a run holds between its lines.
 ghost use Rattle.std.specs.Prelude.{◌≡◌, IfOk};
 ghost use Rattle.dom_model.specs.DocumentMachine.{first_world};
-ghost use Rattle.dom_commands.specs.Machine.{IsSound};
+ghost use Rattle.dom_commands.specs.Machine.{IsAtRest};
 
 use dom_admission::State;
 use dom_dispatch::Listeners;
@@ -33,7 +33,7 @@ impl Machine {
     /// refused, and only then.
     pub fn new(alloc: Global) -> Result<Machine, AllocError>
         ensures world { IfOk result (λ machine. machine.world ≡ first_world) }
-        ensures sound { IfOk result (λ machine. IsSound machine) }
+        ensures sound { IfOk result (λ machine. IsAtRest machine) }
     {
         let state = State::new(alloc)?;
         Ok(Machine {

@@ -4,7 +4,7 @@ ghost use Rattle.dom_model.specs.Command.{end_turn};
 ghost use Rattle.dom_model.specs.Turns.{has_other_turn, ending_turn, ending_other_turn, ending_any_turn};
 ghost use Rattle.dom_text.specs.Text.{output_text};
 ghost use Rattle.dom_admission.specs.Handled.{IsHandled};
-ghost use Rattle.dom_commands.specs.Machine.{IsSound, KeepsListeners};
+ghost use Rattle.dom_commands.specs.Machine.{IsAtRest, KeepsListeners};
 
 use crate::machine::Machine;
 use dom_base::{Fault, Owner};
@@ -14,10 +14,10 @@ use std::alloc::AllocError;
 impl Machine {
     /// Ends the open turn, if there is one: the microtasks run, and their lines are put.
     fn close_turn(&mut self, out: &mut Vec<u8>) -> Result<(), AllocError>
-        requires { IsSound self.old }
+        requires { IsAtRest self.old }
         ensures text { OnOk result (out.new.items ≡ out.old.items ++ output_text (ending_turn self.old.world).1) }
         ensures world { OnOk result (self.new.world ≡ (ending_turn self.old.world).0) }
-        ensures sound { OnOk result (IsSound self.new) }
+        ensures sound { OnOk result (IsAtRest self.new) }
     {
         let tasks = self.state.take_tasks();
         self.run_tasks(tasks, out)
@@ -29,10 +29,10 @@ impl Machine {
         owner: Owner,
         out: &mut Vec<u8>,
     ) -> Result<(), AllocError>
-        requires { IsSound self.old }
+        requires { IsAtRest self.old }
         ensures text { OnOk result (out.new.items ≡ out.old.items ++ output_text (ending_other_turn self.old.world owner).1) }
         ensures world { OnOk result (self.new.world ≡ (ending_other_turn self.old.world owner).0) }
-        ensures sound { OnOk result (IsSound self.new) }
+        ensures sound { OnOk result (IsAtRest self.new) }
     {
         if self.state.has_other_turn(owner) {
             return self.close_turn(out);
@@ -42,10 +42,10 @@ impl Machine {
 
     /// Ends any open turn, at the end of input.
     pub fn close_any_turn(&mut self, out: &mut Vec<u8>) -> Result<(), AllocError>
-        requires { IsSound self.old }
+        requires { IsAtRest self.old }
         ensures text { OnOk result (out.new.items ≡ out.old.items ++ output_text (ending_any_turn self.old.world).1) }
         ensures world { OnOk result (self.new.world ≡ (ending_any_turn self.old.world).0) }
-        ensures sound { OnOk result (IsSound self.new) }
+        ensures sound { OnOk result (IsAtRest self.new) }
     {
         if self.state.has_turn() {
             return self.close_turn(out);
@@ -55,7 +55,7 @@ impl Machine {
 
     /// `.`: the end of a turn.
     pub(crate) fn end_turn(&mut self, owner: Owner, out: &mut Vec<u8>) -> Result<(), Fault>
-        requires { IsSound self.old }
+        requires { IsAtRest self.old }
         ensures handled { IsHandled owner end_turn self.old.world self.new.world out.old.items out.new.items result }
         ensures listeners { KeepsListeners self.new result }
     {

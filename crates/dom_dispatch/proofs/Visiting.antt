@@ -19,11 +19,11 @@ use Rattle.dom_slots.specs.Hosts.{ShadowHost}
 use Rattle.dom_path.specs.declared.item.Item.{Item}
 use Rattle.dom_path.specs.declared.trees.Tree.{Tree}
 use Rattle.dom_path.specs.Items.{ShowsNodes}
-use Rattle.dom_path.specs.Stands.{view_in}
+use Rattle.dom_path.specs.PathNodes.{view_in}
 use Rattle.dom_dispatch.specs.declared.event.Outcome.{Outcome}
 use Rattle.dom_dispatch.specs.Dispatches.{IsDispatched, IsDispatchedIn}
 use Rattle.dom_dispatch.specs.Kept.{is_of_owner}
-use Rattle.dom_dispatch.specs.Named.{TellApart, listener_named, line_named, IsListenerAt, IsViewOf}
+use Rattle.dom_dispatch.specs.ListenersByName.{TellApart, listener_named, line_named, IsListenerAt, IsViewOf}
 use Rattle.dom_dispatch.proofs.Among.{dispatched-along}
 
 -- one or none, mapped

@@ -21,7 +21,7 @@ use Rattle.dom_dispatch.specs.declared.event.Outcome.{Outcome}
 use Rattle.dom_dispatch.specs.declared.progress.Progress.{Progress}
 use Rattle.dom_dispatch.specs.declared.visit.Visit.{Visit}
 use Rattle.dom_dispatch.specs.Kept.{is_of_owner, HasListeners, dispatch_along}
-use Rattle.dom_dispatch.specs.Named.{listener_named, line_named}
+use Rattle.dom_dispatch.specs.ListenersByName.{listener_named, line_named}
 
 -- the words of an event, without its related node
 abbrev pub event_words : EventInit → EventWords

@@ -1,5 +1,5 @@
 -- Unmarked: own rules, about what the code holds and its contracts say.
-pub mod Named
+pub mod ListenersByName
 pub mod Kept
 pub mod Entries
 pub mod Dispatches

@@ -9,7 +9,7 @@ ghost use Rattle.dom_slots.specs.Kept.{AreSlotsOf};
 ghost use Rattle.dom_path.specs.Items.{HasNodes};
 ghost use Rattle.dom_dispatch.specs.Entries.{listener_of, listeners_in, hears_at};
 ghost use Rattle.dom_dispatch.specs.Dispatches.{event_words, visit_in, dispatching_in, IsOwnLine, KeepsOwners, IsDispatched, IsDispatchedIn};
-ghost use Rattle.dom_dispatch.specs.Named.{IsListenerAt};
+ghost use Rattle.dom_dispatch.specs.ListenersByName.{IsListenerAt};
 
 use crate::event::{EventInit, Outcome};
 use crate::listeners::{Entry, Listeners};

@@ -1,6 +1,6 @@
 //! Laws of listeners and dispatch, for callers that keep a world.
 ghost use Rattle.dom_dispatch.specs.Kept.{DispatchedAmong, DispatchedAlong};
-ghost use Rattle.dom_dispatch.specs.Named.{ListenedByNames, UnlistenedByNames, DispatchedByNames};
+ghost use Rattle.dom_dispatch.specs.ListenersByName.{ListenedByNames, UnlistenedByNames, DispatchedByNames};
 
 /// Holds of every forest, since names tell its nodes apart: what is done to listeners by keys, and what a dispatch along the views of
 /// a path by keys does, is what is done by names (DOM Standard, 2.7 and 2.9).

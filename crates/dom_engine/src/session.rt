@@ -2,7 +2,7 @@
 ghost use Rattle.std.specs.Prelude.{◌≡◌, true, false, IfOk, OnOk, OnErr};
 ghost use Rattle.dom_model.specs.DocumentMachine.{first_world, step, finish};
 ghost use Rattle.dom_text.specs.Text.{output_text};
-ghost use Rattle.dom_commands.specs.Machine.{IsSound};
+ghost use Rattle.dom_commands.specs.Machine.{IsAtRest};
 ghost use Rattle.dom_text.specs.Decode.{decode};
 
 use dom_commands::Machine;
@@ -32,9 +32,9 @@ impl Model for Session {
     ghost view = { λ s. record { world = s.machine.world; has_failed = s.has_failed } };
 
     ghost use Rattle.std.specs.Prelude.{◌≡◌, false};
-    ghost use Rattle.dom_commands.specs.Machine.{IsSound};
+    ghost use Rattle.dom_commands.specs.Machine.{IsAtRest};
 
-    ghost invariant = { λ s. s.has_failed ≡ false → IsSound s.machine };
+    ghost invariant = { λ s. s.has_failed ≡ false → IsAtRest s.machine };
 }
 
 impl Session {
@@ -85,10 +85,10 @@ impl Session {
 
 /// Ends an open turn, and gives its lines.
 fn end(machine: &mut Machine, alloc: Global) -> Result<Vec<u8>, AllocError>
-    requires { IsSound machine.old }
+    requires { IsAtRest machine.old }
     ensures text { IfOk result (λ text. text.items ≡ output_text (finish machine.old.world).1) }
     ensures world { OnOk result (machine.new.world ≡ (finish machine.old.world).0) }
-    ensures sound { OnOk result (IsSound machine.new) }
+    ensures sound { OnOk result (IsAtRest machine.new) }
 {
     let mut out = Vec::new(alloc);
     machine.close_any_turn(&mut out)?;
@@ -97,10 +97,10 @@ fn end(machine: &mut Machine, alloc: Global) -> Result<Vec<u8>, AllocError>
 
 /// What a line does, and the lines that answer it.
 fn answer(machine: &mut Machine, alloc: Global, line: &[u8]) -> Result<Vec<u8>, AllocError>
-    requires { IsSound machine.old }
+    requires { IsAtRest machine.old }
     ensures text { IfOk result (λ text. text.items ≡ output_text (step machine.old.world (decode line.now)).1) }
     ensures world { OnOk result (machine.new.world ≡ (step machine.old.world (decode line.now)).0) }
-    ensures sound { OnOk result (IsSound machine.new) }
+    ensures sound { OnOk result (IsAtRest machine.new) }
 {
     let read = parse_line(alloc, line)?;
     machine.answer(read)

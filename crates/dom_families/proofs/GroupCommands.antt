@@ -13,7 +13,7 @@ use Rattle.dom_base.specs.declared.Refusal.{Refusal}
 use Rattle.dom_base.specs.declared.Refusal.TheVariants.{Syntax, Busy, Foreign, Unknown}
 use Rattle.dom_model.specs.Names.{Word, owner_eq, last_of}
 use Rattle.dom_model.specs.Tree.{node_in, is_document, kind_of}
-use Rattle.dom_model.specs.Command.{Command, Spelled, EventWords}
+use Rattle.dom_model.specs.Command.{Command, NodeWord, EventWords}
 use Rattle.dom_model.specs.Output.{Value, says, replied, refused, nothing, a_component, a_list, a_truth}
 use Rattle.dom_model.specs.Part.{Part}
 use Rattle.dom_model.specs.Runs.{Run, run_then, answering, unless_refused}
@@ -148,12 +148,12 @@ module _ (g : Owner → Bool) (closed : KeepsFamilies g) where
       ∙ ap (λ r. group_run g (answering o (a_list (assigned v (named r a))) v)) (same-part g closed w v same o h)
   perform-in w v q p same o h (Command.dispatch a e r) =
       let x = part_of w o in
-      let mine : (s : Spelled) → in_node g (named x s) ≡ true = λ s. ap g (owner-named x s ∙ owner-part_of w o) ∙ h in
+      let mine : (s : NodeWord) → in_node g (named x s) ≡ true = λ s. ap g (owner-named x s ∙ owner-part_of w o) ∙ h in
       let done : Part → Run World = λ y. let d = dispatch_in v (named y a) (option_map (named y) r) e in run_then d.run (answering o (a_truth d.answer)) in
       dispatched-in w v q p same o (named x a) (option_map (named x) r) e (mine a) (near mine r)
       ∙ ap (λ y. group_run g (done y)) (same-part g closed w v same o h)
     where
-      near : ((s : Spelled) → in_node g (named (part_of w o) s) ≡ true) → (r : Option Spelled) →
+      near : ((s : NodeWord) → in_node g (named (part_of w o) s) ≡ true) → (r : Option NodeWord) →
           AllByRecursion (λ y. in_node g y ≡ true) (option_to_list (option_map (named (part_of w o)) r))
       near mine None = tt
       near mine (Some s) = (mine s, tt)

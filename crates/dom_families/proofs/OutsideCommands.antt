@@ -11,7 +11,7 @@ use Rattle.dom_base.specs.declared.Kind.TheVariants.{Shadow}
 use Rattle.dom_base.specs.declared.Refusal.{Refusal}
 use Rattle.dom_model.specs.Names.{ComponentName, owner_eq}
 use Rattle.dom_model.specs.Tree.{node_in, root_of}
-use Rattle.dom_model.specs.Command.{Command, Spelled, EventWords}
+use Rattle.dom_model.specs.Command.{Command, NodeWord, EventWords}
 use Rattle.dom_model.specs.Output.{Output, Said, Value, says, replied, refused, nothing, a_truth, a_component}
 use Rattle.dom_model.specs.Part.{Part}
 use Rattle.dom_model.specs.Runs.{Run, run_then, answering, unless_refused}
@@ -110,7 +110,7 @@ module _ (g : Owner → Bool) (closed : KeepsFamilies g) where
   Shows w r e = group_run g r ≡ group_run g (outward_run w e)
 
   -- A dispatch.
-  pub dispatched-out : (w : World) (k : ComponentName) → IsQuiet w → g (Component k) ≡ false → (x : Spelled) (e : EventWords) (r : Option Spelled) →
+  pub dispatched-out : (w : World) (k : ComponentName) → IsQuiet w → g (Component k) ≡ false → (x : NodeWord) (e : EventWords) (r : Option NodeWord) →
       part_refusal (part_of w (Component k)) (Command.dispatch x e r) ≡ None →
       Shows w (perform w (Component k) (Command.dispatch x e r)) (outward_dispatch w (Component k) (Command.dispatch x e r))
   dispatched-out w k q h x e r a =
@@ -129,7 +129,7 @@ module _ (g : Owner → Bool) (closed : KeepsFamilies g) where
           ∙ ap (λ ls. group_outputs g u.1 ++ ls) (filter-away test (says (Component k) (replied v)) [] h) ∙ append-nil (group_outputs g u.1))
           ∙ same
 
-      near : (r : Option Spelled) → part_refusal (part_of w (Component k)) (Command.dispatch x e r) ≡ None →
+      near : (r : Option NodeWord) → part_refusal (part_of w (Component k)) (Command.dispatch x e r) ≡ None →
           HasSameRoot w (named (part_of w (Component k)) x) (option_map (named (part_of w (Component k))) r)
       near None a = tt
       near (Some y) a =
@@ -145,7 +145,7 @@ module _ (g : Owner → Bool) (closed : KeepsFamilies g) where
             tt,
           )
 
-      same_event : (r : Option Spelled) → outward_at w (named (part_of w (Component k)) x) e
+      same_event : (r : Option NodeWord) → outward_at w (named (part_of w (Component k)) x) e
           (option_map (named (part_of w (Component k))) r) ≡ outward_dispatch w (Component k) (Command.dispatch x e r)
       same_event None = refl
       same_event (Some y) = refl

@@ -4,7 +4,7 @@ use Rattle.std.specs.Prelude.{◌≡◌, Bool, true, false, IsTrue, [], filter, 
 use Rattle.std.specs.List.{AllByRecursion}
 use Rattle.dom_base.specs.declared.Owner.{Owner}
 use Rattle.dom_base.specs.declared.NodeName.{NodeName}
-use Rattle.dom_model.specs.Command.{Command, Line, EventWords, Spelled}
+use Rattle.dom_model.specs.Command.{Command, Line, EventWords, NodeWord}
 use Rattle.dom_model.specs.CommandRefusals.{part_refusal}
 use Rattle.dom_model.specs.Dispatch.{dispatch_in}
 use Rattle.dom_model.specs.DocumentMachine.{step, perform, finish}
@@ -69,7 +69,7 @@ DispatchAgrees =
 abbrev pub OtherDispatchAgrees : Type 0
 OtherDispatchAgrees =
     (group : Owner → Bool) → KeepsFamilies group → (w : World) (o : Owner) → group o ≡ false → IsQuiet w →
-    (x : Spelled) (e : EventWords) (related : Option Spelled) →
+    (x : NodeWord) (e : EventWords) (related : Option NodeWord) →
     let c = Command.dispatch x e related in
     part_refusal (part_of w o) c ≡ None →
     group_run group (perform w o c) ≡ group_run group (run_each outward_in w (option_to_list (outward_dispatch w o c)))

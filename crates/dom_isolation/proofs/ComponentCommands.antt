@@ -12,7 +12,7 @@ use Rattle.dom_base.specs.declared.Refusal.{Refusal}
 use Rattle.dom_base.specs.declared.Refusal.TheVariants.{TypeFault}
 use Rattle.dom_model.specs.Names.{ComponentName, name_eq, owner_depth, last_of}
 use Rattle.dom_model.specs.Tree.{node_in, root_of}
-use Rattle.dom_model.specs.Command.{Command, Spelled, EventWords}
+use Rattle.dom_model.specs.Command.{Command, NodeWord, EventWords}
 use Rattle.dom_model.specs.Output.{says, nothing, a_truth}
 use Rattle.dom_model.specs.Part.{Part}
 use Rattle.dom_model.specs.Runs.{quiet, run_then, answering, unless_refused}
@@ -31,7 +31,7 @@ use Rattle.dom_model.proofs.StepLaws.{Component-IsNoPage}
 use Rattle.dom_isolation.specs.Laws.{ComponentDispatchAgrees, page_run}
 use Rattle.dom_worlds.specs.Reached.{IsQuiet}
 use Rattle.dom_worlds.proofs.Tests.{by_cases}
-use Rattle.dom_isolation.proofs.Squares.{run_then-square, same_page_of, outputs_for_page-other}
+use Rattle.dom_isolation.proofs.SeenRuns.{run_then-square, same_page_of, outputs_for_page-other}
 use Rattle.dom_isolation.proofs.PageSteps.{page_of-world_after-other}
 use Rattle.dom_worlds.proofs.Acceptance.{next-test, part-accepted, accepted-facts}
 use Rattle.dom_worlds.proofs.Trees.{name_eq-true}
@@ -54,7 +54,7 @@ effect-other w k (tables p lines v) h =
 effect-other w k (changes steps v) h = ap (λ s. quiet s) (page_of-world_after-other (Component k) (Component-IsNoPage k) w steps)
 
 -- What an accepted dispatch of a component is known to have.
-pub related-near : (p : Part) (k : ComponentName) (x : Spelled) (e : EventWords) (y : Spelled) → p.owner ≡ Component k →
+pub related-near : (p : Part) (k : ComponentName) (x : NodeWord) (e : EventWords) (y : NodeWord) → p.owner ≡ Component k →
     part_refusal p (Command.dispatch x e (Some y)) ≡ None → root_of p.trees (named p y) ≡ root_of p.trees (named p x)
 related-near p k x e y o h =
     let c = Command.dispatch x e (Some y) in
@@ -69,7 +69,7 @@ related-near p k x e y o h =
     from false g = absurd (true≢false g)
 
 -- A dispatch.
-dispatched-component : (w : World) (k : ComponentName) → IsQuiet w → (x : Spelled) (e : EventWords) (related : Option Spelled) →
+dispatched-component : (w : World) (k : ComponentName) → IsQuiet w → (x : NodeWord) (e : EventWords) (related : Option NodeWord) →
     part_refusal (part_of w (Component k)) (Command.dispatch x e related) ≡ None →
     page_run (perform w (Component k) (Command.dispatch x e related)) ≡ outward_run (page_of w)
     (outward_dispatch w (Component k) (Command.dispatch x e related))
@@ -84,7 +84,7 @@ dispatched-component w k q x e related h =
     ∙ ap (λ r. run_then r quiet) seen ∙ run_then-quiet_end (outward_run (page_of w) (outward_at w target e (option_map (named p) related)))
     ∙ ap (outward_run (page_of w)) (same_event related)
   where
-    near : (r : Option Spelled) → part_refusal (part_of w (Component k)) (Command.dispatch x e r) ≡ None →
+    near : (r : Option NodeWord) → part_refusal (part_of w (Component k)) (Command.dispatch x e r) ≡ None →
         HasSameRoot w (named (part_of w (Component k)) x) (option_map (named (part_of w (Component k))) r)
     near None g = tt
     near (Some y) g =
@@ -100,7 +100,7 @@ dispatched-component w k q x e related h =
           tt,
         )
 
-    same_event : (r : Option Spelled) → outward_at w (named (part_of w (Component k)) x) e
+    same_event : (r : Option NodeWord) → outward_at w (named (part_of w (Component k)) x) e
         (option_map (named (part_of w (Component k))) r) ≡ outward_dispatch w (Component k) (Command.dispatch x e r)
     same_event None = refl
     same_event (Some y) = refl

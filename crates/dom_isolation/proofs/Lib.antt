@@ -1,4 +1,4 @@
-mod Squares
+mod SeenRuns
 mod PageSteps
 mod PageVisits
 mod Dispatches

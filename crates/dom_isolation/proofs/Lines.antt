@@ -14,7 +14,7 @@ use Rattle.dom_model.specs.PageMachine.{PageState, page_of, page_line, page_comm
 use Rattle.dom_isolation.specs.Laws.{page_run}
 use Rattle.dom_worlds.specs.Reached.{IsQuiet}
 use Rattle.dom_worlds.proofs.Tests.{by_cases}
-use Rattle.dom_isolation.proofs.Squares.{run_then-square}
+use Rattle.dom_isolation.proofs.SeenRuns.{run_then-square}
 use Rattle.dom_isolation.proofs.PageTurns.{ending_other-quiet}
 use Rattle.dom_worlds.proofs.LineBegins.{quiet-ending_other, page_time}
 use Rattle.dom_isolation.proofs.PageCommands.{command-page}

@@ -12,7 +12,7 @@ use Rattle.dom_base.specs.declared.Refusal.{Refusal}
 use Rattle.dom_base.specs.declared.Refusal.TheVariants.{Syntax, Busy, Foreign, Unknown}
 use Rattle.dom_model.specs.Names.{last_of}
 use Rattle.dom_model.specs.Tree.{node_in, is_document, root_of, kind_of}
-use Rattle.dom_model.specs.Command.{Command, Spelled, EventWords}
+use Rattle.dom_model.specs.Command.{Command, NodeWord, EventWords}
 use Rattle.dom_model.specs.Output.{says, nothing, a_component, a_truth}
 use Rattle.dom_model.specs.Part.{Part}
 use Rattle.dom_model.specs.Runs.{run_then, answering, unless_refused}
@@ -31,7 +31,7 @@ use Rattle.dom_model.proofs.OwnerLaws.{component_made-no_page}
 use Rattle.dom_isolation.specs.Laws.{page_run}
 use Rattle.dom_worlds.specs.Reached.{IsQuiet}
 use Rattle.dom_worlds.specs.Worlds.{IsWorld, IsOf}
-use Rattle.dom_isolation.proofs.Squares.{run_then-square, outputs_for_page-says}
+use Rattle.dom_isolation.proofs.SeenRuns.{run_then-square, outputs_for_page-says}
 use Rattle.dom_isolation.proofs.PageSteps.{page_of-world_after}
 use Rattle.dom_worlds.proofs.ShadowTrees.{ancestors-owned}
 use Rattle.dom_isolation.proofs.Hiding.{shadow_including-page}
@@ -98,16 +98,16 @@ connected-page w i x h =
     ∙ ap (λ o. is_document (kind_of (part_of w Page).trees (root_of (part_of w o).trees x))) h
 
 -- of the page
-page_named : (w : World) (x : Spelled) → (named (part_of w Page) x).owner ≡ Page
+page_named : (w : World) (x : NodeWord) → (named (part_of w Page) x).owner ≡ Page
 page_named w x = owner-named (part_of w Page) x ∙ owner-part_of w Page
 
 -- and a related one too
-page_related : (w : World) (o : Option Spelled) → AllByRecursion (IsOf Page) (option_to_list (option_map (named (part_of w Page)) o))
+page_related : (w : World) (o : Option NodeWord) → AllByRecursion (IsOf Page) (option_to_list (option_map (named (part_of w Page)) o))
 page_related w None = tt
 page_related w (Some x) = (page_named w x, tt)
 
 -- a dispatch of the page
-pub dispatched-page : (w : World) → IsQuiet w → (x : Spelled) (e : EventWords) (related : Option Spelled) →
+pub dispatched-page : (w : World) → IsQuiet w → (x : NodeWord) (e : EventWords) (related : Option NodeWord) →
     page_run (perform w Page (Command.dispatch x e related)) ≡ page_perform (page_of w) (Command.dispatch x e related)
 dispatched-page w q x e related =
     let p = part_of w Page in

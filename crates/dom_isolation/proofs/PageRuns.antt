@@ -10,7 +10,7 @@ use Rattle.dom_model.specs.PageMachine.{first_page, PageState, page_of, step_pag
 use Rattle.dom_model.specs.Isolation.{PagePartAgrees, PageSeesItsTrace, SamePage}
 use Rattle.dom_isolation.specs.Laws.{page_run, PageRunAgrees, TraceGoesOn, PageOutputGoesOn, FirstLinesStopNothing}
 use Rattle.dom_worlds.specs.Reached.{IsQuiet}
-use Rattle.dom_isolation.proofs.Squares.{run_then-square}
+use Rattle.dom_isolation.proofs.SeenRuns.{run_then-square}
 use Rattle.dom_isolation.proofs.PageTurns.{ending_any-page}
 use Rattle.dom_isolation.proofs.Lines.{line-items}
 use Rattle.dom_worlds.proofs.FirstWorld.{quiet-first}

@@ -15,7 +15,7 @@ use Rattle.dom_model.specs.PageMachine.{page_of, is_page_task, page_step, page_n
 use Rattle.dom_model.proofs.StepLaws.{part_of-stepped, part_of-stepped-other, AllComponents, below-components}
 use Rattle.dom_worlds.specs.Worlds.{IsForeignTo}
 use Rattle.dom_worlds.proofs.Tests.{by_cases}
-use Rattle.dom_isolation.proofs.Squares.{same_page_of}
+use Rattle.dom_isolation.proofs.SeenRuns.{same_page_of}
 use Rattle.dom_worlds.proofs.ComponentSignals.{page_tasks-queued_other, signals-foreign}
 
 -- whether the page's notification is queued is seen among the page's tasks

@@ -25,7 +25,7 @@ use Rattle.dom_model.proofs.PartLaws.{part_of-with_part, part_of-with_part-other
 use Rattle.dom_model.proofs.StepLaws.{Component-IsNoPage}
 use Rattle.dom_worlds.specs.Worlds.{IsWorld, IsForeignTo}
 use Rattle.dom_worlds.proofs.Lists.{all-then, all-passed, filter_all, filter_none, all-append}
-use Rattle.dom_isolation.proofs.Squares.{run_then-square, run_then-quiet, same_page_of}
+use Rattle.dom_isolation.proofs.SeenRuns.{run_then-square, run_then-quiet, same_page_of}
 use Rattle.dom_isolation.proofs.Dispatches.{dispatch-nothing}
 use Rattle.dom_isolation.proofs.ComponentPaths.{views-kept_in}
 use Rattle.dom_worlds.proofs.TurnEndings.{quiet-dispatch, told_in, quiet-told, quiet-running, at_end, quiet-at_end}

@@ -5,7 +5,7 @@ use Rattle.std.specs.List.{AllByRecursion}
 use Rattle.dom_base.specs.declared.Owner.{Owner}
 use Rattle.dom_base.specs.declared.Owner.TheVariants.{Page}
 use Rattle.dom_base.specs.declared.NodeName.{NodeName}
-use Rattle.dom_model.specs.Command.{Command, Line, EventWords, Spelled}
+use Rattle.dom_model.specs.Command.{Command, Line, EventWords, NodeWord}
 use Rattle.dom_model.specs.Output.{Output, EventLine}
 use Rattle.dom_model.specs.Listeners.{Visit, Dispatching, visited}
 use Rattle.dom_model.specs.Names.{name_eq}
@@ -81,7 +81,7 @@ PageDispatchAgrees =
 -- one of a component
 abbrev pub ComponentDispatchAgrees : Type 0
 ComponentDispatchAgrees =
-    (w : World) (o : Owner) → o ≢ Page → IsQuiet w → (x : Spelled) (e : EventWords) (related : Option Spelled) →
+    (w : World) (o : Owner) → o ≢ Page → IsQuiet w → (x : NodeWord) (e : EventWords) (related : Option NodeWord) →
     let c = Command.dispatch x e related in
     part_refusal (part_of w o) c ≡ None →
     page_run (perform w o c) ≡ run_each page_outward (page_of w) (option_to_list (outward_dispatch w o c))

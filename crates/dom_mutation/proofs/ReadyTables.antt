@@ -8,7 +8,7 @@ use Rattle.std.proofs.lemmas.Bool.{and_parts, ltb-false}
 use Rattle.dom_base.specs.declared.Move.{Move}
 use Rattle.dom_base.specs.declared.NodeName.{NodeName}
 use Rattle.dom_base.specs.declared.Owner.{Owner}
-use Rattle.dom_model.specs.Command.{Command, Spelled, Filter, ObserveWords}
+use Rattle.dom_model.specs.Command.{Command, NodeWord, Filter, ObserveWords}
 use Rattle.dom_model.specs.CommandNames.{named}
 use Rattle.dom_model.specs.CommandRefusals.{past_end}
 use Rattle.dom_model.specs.Effects.{Effect, tables, changes, effect, answers, moves_iterator, sets_walker, node_or_null, with_range, collapsed_to}
@@ -77,10 +77,10 @@ module _ (p : Part) (h : IsReadyPart p) where
   walker-ready k w (Some x) v = ready-same p _ refl refl h
 
   -- iterators and walkers
-  pub iterator_new-ready : (x : Spelled) (f : Filter) → ReadyEffect (effect p (Command.iterator_new x f))
+  pub iterator_new-ready : (x : NodeWord) (f : Filter) → ReadyEffect (effect p (Command.iterator_new x f))
   iterator_new-ready x f = ready-same p _ refl refl h
 
-  pub walker_new-ready : (x : Spelled) (f : Filter) → ReadyEffect (effect p (Command.walker_new x f))
+  pub walker_new-ready : (x : NodeWord) (f : Filter) → ReadyEffect (effect p (Command.walker_new x f))
   walker_new-ready x f = ready-same p _ refl refl h
 
   pub iterator_next-ready : (k : ℕ) → ReadyEffect (effect p (Command.iterator_next k))
@@ -96,7 +96,7 @@ module _ (p : Part) (h : IsReadyPart p) where
       some-ready (slice_get p.walkers k) (λ w. sets_walker p k w (walker_move p.trees w m) (node_or_null (walker_move p.trees w m))) (answers p nothing)
       (λ w. walker-ready k w (walker_move p.trees w m) (node_or_null (walker_move p.trees w m))) h
 
-  pub walker_set-ready : (k : ℕ) (x : Spelled) → ReadyEffect (effect p (Command.walker_set k x))
+  pub walker_set-ready : (k : ℕ) (x : NodeWord) → ReadyEffect (effect p (Command.walker_set k x))
   walker_set-ready k x = some-ready (slice_get p.walkers k) (λ w. sets_walker p k w (Some (named p x)) nothing) (answers p nothing)
       (λ w. walker-ready k w (Some (named p x)) nothing) h
 
@@ -104,7 +104,7 @@ module _ (p : Part) (h : IsReadyPart p) where
   pub observer-ready : ReadyEffect (effect p Command.observer)
   observer-ready = ready-same p _ refl refl h
 
-  pub observe-ready : (k : ℕ) (x : Spelled) (w : ObserveWords) → ReadyEffect (effect p (Command.observe k x w))
+  pub observe-ready : (k : ℕ) (x : NodeWord) (w : ObserveWords) → ReadyEffect (effect p (Command.observe k x w))
   observe-ready k x w = ready-same p _ refl refl h
 
   pub disconnect-ready : (k : ℕ) → ReadyEffect (effect p (Command.disconnect k))
@@ -156,7 +156,7 @@ module _ (p : Part) (h : IsReadyPart p) where
       }
 
   -- another start, and another end
-  pub range_start-ready : (k : ℕ) (x : Spelled) (j : ℕ) → IsPart p → IsNodeIn p.trees (named p x) → past_end p (named p x) j ≡ false →
+  pub range_start-ready : (k : ℕ) (x : NodeWord) (j : ℕ) → IsPart p → IsNodeIn p.trees (named p x) → past_end p (named p x) j ≡ false →
       ReadyEffect (effect p (Command.range_start k x j))
   range_start-ready k x j i t low =
       let b = at (named p x) j in
@@ -174,7 +174,7 @@ module _ (p : Part) (h : IsReadyPart p) where
       ))
       (λ s. one-place b point))
 
-  pub range_end-ready : (k : ℕ) (x : Spelled) (j : ℕ) → IsPart p → IsNodeIn p.trees (named p x) → past_end p (named p x) j ≡ false →
+  pub range_end-ready : (k : ℕ) (x : NodeWord) (j : ℕ) → IsPart p → IsNodeIn p.trees (named p x) → past_end p (named p x) j ≡ false →
       ReadyEffect (effect p (Command.range_end k x j))
   range_end-ready k x j i t low =
       let b = at (named p x) j in

@@ -5,7 +5,7 @@ use Rattle.std.specs.Option.{option_flatten}
 use Rattle.dom_base.specs.declared.NodeName.{NodeName}
 use Rattle.dom_base.specs.declared.Owner.{Owner}
 use Rattle.dom_base.specs.declared.Owner.TheVariants.{Page}
-use Rattle.dom_model.specs.Command.{Command, Filter, Spelled}
+use Rattle.dom_model.specs.Command.{Command, Filter, NodeWord}
 use Rattle.dom_model.specs.CommandNames.{named}
 use Rattle.dom_model.specs.Effects.{Effect, tables, changes, new_iterator, new_walker}
 use Rattle.dom_model.specs.Extract.{both_at}
@@ -47,13 +47,13 @@ new-range was now o number m =
     let p = part_of was o in
     subst (λ (g : Effect). is_some (range_at (part_in g) (answer_in g)) ≡ true) m.0 (pushed-range p.ranges (both_at (at (first_node p) 0)))
 
-pub new-iterator : (was now : World) (o : Owner) (x : Spelled) (f : Filter) (number : ℕ) → Makes o (Command.iterator_new x f) (an_iterator number) was now →
+pub new-iterator : (was now : World) (o : Owner) (x : NodeWord) (f : Filter) (number : ℕ) → Makes o (Command.iterator_new x f) (an_iterator number) was now →
     is_some (slice_get (part_of now o).iterators number) ≡ true
 new-iterator was now o x f number m =
     let p = part_of was o in
     subst (λ (g : Effect). is_some (slice_get (part_in g).iterators (answer_in g)) ≡ true) m.0 (pushed p.iterators (new_iterator (named p x) f))
 
-pub new-walker : (was now : World) (o : Owner) (x : Spelled) (f : Filter) (number : ℕ) → Makes o (Command.walker_new x f) (a_walker number) was now →
+pub new-walker : (was now : World) (o : Owner) (x : NodeWord) (f : Filter) (number : ℕ) → Makes o (Command.walker_new x f) (a_walker number) was now →
     is_some (slice_get (part_of now o).walkers number) ≡ true
 new-walker was now o x f number m =
     let p = part_of was o in

@@ -3,7 +3,7 @@ ghost use Rattle.std.specs.Prelude.{◌≡◌, ◌<◌, ◌++◌, ◌∷◌, ℕ
 ghost use Rattle.dom_base.specs.declared.NodeName.{NodeName as Name};
 ghost use Rattle.dom_base.specs.declared.Owner.{Owner as OwnerOf};
 ghost use Rattle.dom_model.specs.Changes.{Plan};
-ghost use Rattle.dom_model.specs.Command.{Command, Filter, Spelled};
+ghost use Rattle.dom_model.specs.Command.{Command, Filter, NodeWord};
 ghost use Rattle.dom_model.specs.Names.{first_of};
 ghost use Rattle.dom_model.specs.Output.{Value, Said, a_range, an_iterator, a_walker, an_observer};
 ghost use Rattle.dom_model.specs.Part.{next_name, range_at};
@@ -46,9 +46,9 @@ pub fn law_new_node()
 pub fn law_newly_there()
     ensures range { (was now : World) (o : OwnerOf) (number : ℕ) → Makes o Command.range_new (a_range number) was now →
         is_some (range_at (part_of now o) number) ≡ true }
-    ensures iterator { (was now : World) (o : OwnerOf) (x : Spelled) (f : Filter) (number : ℕ) →
+    ensures iterator { (was now : World) (o : OwnerOf) (x : NodeWord) (f : Filter) (number : ℕ) →
         Makes o (Command.iterator_new x f) (an_iterator number) was now → is_some (slice_get (part_of now o).iterators number) ≡ true }
-    ensures walker { (was now : World) (o : OwnerOf) (x : Spelled) (f : Filter) (number : ℕ) →
+    ensures walker { (was now : World) (o : OwnerOf) (x : NodeWord) (f : Filter) (number : ℕ) →
         Makes o (Command.walker_new x f) (a_walker number) was now → is_some (slice_get (part_of now o).walkers number) ≡ true }
     ensures observer { (was now : World) (o : OwnerOf) (number : ℕ) → Makes o Command.observer (an_observer number) was now →
         is_some (slice_get (part_of now o).record_queues number) ≡ true }

@@ -6,7 +6,7 @@ use Rattle.dom_base.specs.declared.Fault.TheVariants.{Refused}
 use Rattle.dom_base.specs.declared.NodeName.{NodeName}
 use Rattle.dom_base.specs.declared.Owner.{Owner}
 use Rattle.dom_base.specs.declared.Refusal.{Refusal}
-use Rattle.dom_model.specs.Command.{Command, Spelled}
+use Rattle.dom_model.specs.Command.{Command, NodeWord}
 use Rattle.dom_model.specs.CommandNames.{named}
 use Rattle.dom_model.specs.CommandRefusals.{own_refusal}
 use Rattle.dom_model.specs.DocumentMachine.{accepted, attaching}
@@ -16,8 +16,8 @@ use Rattle.dom_model.specs.Runs.{Run}
 use Rattle.dom_model.specs.Slots.{assigned}
 use Rattle.dom_model.specs.Turns.{opening_turn}
 use Rattle.dom_model.specs.World.{World, part_of, component_made}
-use Rattle.dom_reader.specs.declared.line.Spelled as line
-use Rattle.dom_reader.specs.Views.{spelled_view}
+use Rattle.dom_reader.specs.declared.line.NodeWord as line
+use Rattle.dom_reader.specs.Views.{word_view}
 use Rattle.dom_tree.specs.Forest.{name_at}
 use Rattle.dom_mutation.specs.Doc.{DocState, attaching_refusal}
 use Rattle.dom_admission.specs.declared.admission.Operand.TheVariants.{Element}
@@ -28,14 +28,14 @@ use Rattle.dom_admission.proofs.Handling.{handled, faulted, finished, opened, op
 use Rattle.dom_admission.proofs.Namings.{naming-attach}
 
 -- In a state, a line of an owner that passes: it names this host.
-module _ (o : Owner) (t : Option Owner) (d s : DocState) (seen : turned t d ≡ s) (x : line.Spelled) (key : ℕ)
-    (host_is : name_at d.names key ≡ named (part_of d.world o) (spelled_view x))
+module _ (o : Owner) (t : Option Owner) (d s : DocState) (seen : turned t d ≡ s) (x : line.NodeWord) (key : ℕ)
+    (host_is : name_at d.names key ≡ named (part_of d.world o) (word_view x))
     (pass : let_pass (early_refusal s.world o (Element x ∷ [])) ≡ Ok tt) where
   abbrev y : NodeName
   y = name_at d.names key
 
   abbrev c : Command
-  c = Command.attach (spelled_view x)
+  c = Command.attach (word_view x)
 
   own_is : attaching_refusal (part_of d.world o) y ≡ own_refusal (part_of d.world o) c
   own_is = ap (attaching_refusal (part_of d.world o)) host_is
@@ -64,9 +64,9 @@ module _ (o : Owner) (t : Option Owner) (d s : DocState) (seen : turned t d ≡ 
       let run : World → Owner → Run World = λ u v. (opening_turn (with_turn t u) o, says o (replied (a_component v)) ∷ []) in
       let last : World → Run World = λ u. (u, says o (replied (a_component (component_made o (length (part_of d.world o).attached)))) ∷ []) in
       ap (λ (u : World). run u q) (e ∙ ap (λ (z : NodeName). (attaching d.world o z).0) host_is) ∙
-      ap (run (attaching d.world o (named (part_of d.world o) (spelled_view x))).0) is
-      ∙ ap last (opened t (attaching d.world o (named (part_of d.world o) (spelled_view x))).0 o)
-      ∙ sym (ap (λ (u : World). attaching u o (named (part_of u o) (spelled_view x))) (opened t d.world o))
+      ap (run (attaching d.world o (named (part_of d.world o) (word_view x))).0) is
+      ∙ ap last (opened t (attaching d.world o (named (part_of d.world o) (word_view x))).0 o)
+      ∙ sym (ap (λ (u : World). attaching u o (named (part_of u o) (word_view x))) (opened t d.world o))
 
   -- a component is made, and answered
   pub attach-done : (mid new : World) (q : Owner) (before after : List ℕ) (r : Result (Unit {0}) Fault) →
@@ -81,7 +81,7 @@ module _ (o : Owner) (t : Option Owner) (d s : DocState) (seen : turned t d ≡ 
       (sym own_is ∙ none) (attached mid q e is) ending)
 
 -- what is assigned to a slot that a line names, when its turn is open
-pub assigned-opened : (w : World) (o : Owner) (s : Spelled) →
+pub assigned-opened : (w : World) (o : Owner) (s : NodeWord) →
     assigned w (named (part_of w o) s) ≡ assigned (opening_turn w o) (named (part_of (opening_turn w o) o) s)
 assigned-opened w o s = cases w.turn ∙ ap (λ (p : Part). assigned (opening_turn w o) (named p s)) (opened-part w o)
   where

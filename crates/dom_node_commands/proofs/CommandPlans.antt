@@ -8,7 +8,7 @@ use Rattle.dom_base.specs.declared.Refusal.TheVariants.{Hierarchy, NotSupported}
 use Rattle.dom_base.specs.declared.Owner.{Owner}
 use Rattle.dom_base.specs.declared.NodeName.{NodeName}
 use Rattle.dom_model.specs.Tree.{kind_of, is_shadow, is_document, has_data}
-use Rattle.dom_model.specs.Command.{Command, Spelled}
+use Rattle.dom_model.specs.Command.{Command, NodeWord}
 use Rattle.dom_model.specs.CommandNames.{named}
 use Rattle.dom_model.specs.CommandRefusals.{own_refusal, past_end, past_limit, made_by_text, limit_on}
 use Rattle.dom_model.specs.Validity.{first_refusal, insertion_refusal, replacement_refusal}
@@ -30,42 +30,42 @@ use Rattle.dom_admission.specs.Refusals.{early_refusal}
 use Rattle.dom_admission.proofs.Refusing.{IsNaming}
 
 module _ (names : List NodeName) (w : World) (o : Owner) where
-  pub append-refused : (a x : Spelled) (parent node : ℕ) → IsKey names w o parent a → IsKey names w o node x →
+  pub append-refused : (a x : NodeWord) (parent node : ℕ) → IsKey names w o parent a → IsKey names w o node x →
       insertion_refusal (part_of w (name_at names parent).owner).trees (name_at names parent) (name_at names node) None ≡ own_refusal
       (part_of w o) (Command.append a x)
   append-refused a x parent node parent_is node_is = rw (parent_is, node_is, owner-named w o a) refl
 
-  pub append-made : (a x : Spelled) (parent node : ℕ) → IsKey names w o parent a → IsKey names w o node x → (new : World) →
+  pub append-made : (a x : NodeWord) (parent node : ℕ) → IsKey names w o parent a → IsKey names w o node x → (new : World) →
       new ≡ made (name_at names parent).owner (pre_inserting (name_at names node) (name_at names parent) None) w →
       new ≡ made o (λ p. pre_inserting (named p x) (named p a) None p) w
   append-made a x parent node parent_is node_is new e = rw (parent_is, node_is, owner-named w o a) at e
 
-  pub insert-refused : (a x b : Spelled) (parent node child : ℕ) → IsKey names w o parent a → IsKey names w o node x → IsKey names w o child b →
+  pub insert-refused : (a x b : NodeWord) (parent node child : ℕ) → IsKey names w o parent a → IsKey names w o node x → IsKey names w o child b →
       insertion_refusal (part_of w (name_at names parent).owner).trees (name_at names parent) (name_at names node)
       (Some (name_at names child)) ≡ own_refusal (part_of w o) (Command.insert a x b)
   insert-refused a x b parent node child parent_is node_is child_is = rw (parent_is, node_is, child_is, owner-named w o a) refl
 
-  pub insert-made : (a x b : Spelled) (parent node child : ℕ) → IsKey names w o parent a → IsKey names w o node x → IsKey names w o child b → (new : World) →
+  pub insert-made : (a x b : NodeWord) (parent node child : ℕ) → IsKey names w o parent a → IsKey names w o node x → IsKey names w o child b → (new : World) →
       new ≡ made (name_at names parent).owner (pre_inserting (name_at names node) (name_at names parent) (Some (name_at names child))) w →
       new ≡ made o (λ p. pre_inserting (named p x) (named p a) (Some (named p b)) p) w
   insert-made a x b parent node child parent_is node_is child_is new e = rw (parent_is, node_is, child_is, owner-named w o a) at e
 
-  pub replace-refused : (a x b : Spelled) (parent node child : ℕ) → IsKey names w o parent a → IsKey names w o node x → IsKey names w o child b →
+  pub replace-refused : (a x b : NodeWord) (parent node child : ℕ) → IsKey names w o parent a → IsKey names w o node x → IsKey names w o child b →
       replacement_refusal (part_of w (name_at names parent).owner).trees (name_at names parent) (name_at names node)
       (name_at names child) ≡ own_refusal (part_of w o) (Command.replace a x b)
   replace-refused a x b parent node child parent_is node_is child_is = rw (parent_is, node_is, child_is, owner-named w o a) refl
 
-  pub replace-made : (a x b : Spelled) (parent node child : ℕ) → IsKey names w o parent a → IsKey names w o node x → IsKey names w o child b → (new : World) →
+  pub replace-made : (a x b : NodeWord) (parent node child : ℕ) → IsKey names w o parent a → IsKey names w o node x → IsKey names w o child b → (new : World) →
       new ≡ made (name_at names parent).owner (replacing (name_at names parent) (name_at names node) (name_at names child)) w →
       new ≡ made o (λ p. replacing (named p a) (named p x) (named p b) p) w
   replace-made a x b parent node child parent_is node_is child_is new e = rw (parent_is, node_is, child_is, owner-named w o a) at e
 
   -- a plan for one node
-  pub node-made : (plan : NodeName → Plan) (x : Spelled) (node : ℕ) → IsKey names w o node x → (new : World) →
+  pub node-made : (plan : NodeName → Plan) (x : NodeWord) (node : ℕ) → IsKey names w o node x → (new : World) →
       new ≡ made (name_at names node).owner (plan (name_at names node)) w → new ≡ made o (λ p. plan (named p x) p) w
   node-made plan x node node_is new e = rw (node_is, owner-named w o x) at e
 
-  pub adopt-refused : (a x : Spelled) (node : ℕ) → IsKey names w o node x →
+  pub adopt-refused : (a x : NodeWord) (node : ℕ) → IsKey names w o node x →
       adoption_refusal (kind_of (part_of w (name_at names node).owner).trees (name_at names node)) ≡ own_refusal (part_of w o) (Command.adopt a x)
   adopt-refused a x node node_is = rw (node_is, owner-named w o x) (by (kind_of (part_of w o).trees (named (part_of w o) x)))
     where
@@ -77,7 +77,7 @@ module _ (names : List NodeName) (w : World) (o : Owner) where
       by Text = refl
       by Comment = refl
 
-  pub adopt-made : (a x : Spelled) (document node : ℕ) → IsKey names w o document a → IsKey names w o node x → (new : World) →
+  pub adopt-made : (a x : NodeWord) (document node : ℕ) → IsKey names w o document a → IsKey names w o node x → (new : World) →
       new ≡ made (name_at names node).owner (adopting (name_at names document) (name_at names node)) w →
       new ≡ made o (λ p. adopting (named p a) (named p x) p) w
   adopt-made a x document node document_is node_is new e =
@@ -86,28 +86,28 @@ module _ (names : List NodeName) (w : World) (o : Owner) where
       let second = subst (λ (y : NodeName). new ≡ made y.owner (adopting d y) w) node_is first in
       subst (λ (q : Owner). new ≡ made q (adopting d (named (part_of w o) x)) w) (owner-named w o x) second
 
-  pub has_data-key : (x : Spelled) (node : ℕ) → IsKey names w o node x →
+  pub has_data-key : (x : NodeWord) (node : ℕ) → IsKey names w o node x →
       has_data (kind_of (part_of w (name_at names node).owner).trees (name_at names node)) ≡ has_data
       (kind_of (part_of w o).trees (named (part_of w o) x))
   has_data-key x node node_is = rw (node_is, owner-named w o x) refl
 
-  pub past_end-key : (x : Spelled) (node offset : ℕ) → IsKey names w o node x →
+  pub past_end-key : (x : NodeWord) (node offset : ℕ) → IsKey names w o node x →
       past_end (part_of w (name_at names node).owner) (name_at names node) offset ≡ past_end (part_of w o) (named (part_of w o) x) offset
   past_end-key x node offset node_is = rw (node_is, owner-named w o x) refl
 
   -- the refusals of a split, and of a change of text
-  pub split-refused : (x : Spelled) (node offset : ℕ) → IsKey names w o node x →
+  pub split-refused : (x : NodeWord) (node offset : ℕ) → IsKey names w o node x →
       splitting_refusal (part_of w (name_at names node).owner) (name_at names node) offset ≡ own_refusal (part_of w o) (Command.split x offset)
   split-refused x node offset node_is = rw (node_is, owner-named w o x) refl
 
-  pub text-limit : (x : Spelled) (node : ℕ) (s : DomString) → IsKey names w o node x →
+  pub text-limit : (x : NodeWord) (node : ℕ) (s : DomString) → IsKey names w o node x →
       past_limit (part_of w (name_at names node).owner).node_count
       (made_by_text (part_of w (name_at names node).owner) (name_at names node) s) ≡ past_limit (part_of w o).node_count
       (made_by_text (part_of w o) (named (part_of w o) x) s)
   text-limit x node s node_is = rw (node_is, owner-named w o x) refl
 
   -- the owner's next name is that of a node made for one of its nodes
-  pub next-key : (x : Spelled) (node : ℕ) → IsKey names w o node x → next_name (part_of w (name_at names node).owner) ≡ next_name (part_of w o)
+  pub next-key : (x : NodeWord) (node : ℕ) → IsKey names w o node x → next_name (part_of w (name_at names node).owner) ≡ next_name (part_of w o)
   next-key x node node_is = ap (λ (y : NodeName). next_name (part_of w y.owner)) node_is ∙ ap (λ (p : Owner). next_name (part_of w p)) (owner-named w o x)
 
 -- the name of the node that was made last

@@ -6,24 +6,24 @@ ghost use Rattle.dom_model.specs.CommandNames.{named};
 ghost use Rattle.dom_model.specs.Effects.{string_or_null};
 ghost use Rattle.dom_model.specs.World.{part_of};
 ghost use Rattle.dom_printer.specs.Replies.{value_view};
-ghost use Rattle.dom_reader.specs.Views.{spelled_view};
+ghost use Rattle.dom_reader.specs.Views.{word_view};
 ghost use Rattle.dom_admission.specs.Handled.{KeepsNames, IsHandled};
 
 use dom_admission::{Operand, State};
 use dom_base::{DomStr, Fault, Owner};
 use dom_printer::{Value, put_reply};
-use dom_reader::Spelled;
+use dom_reader::NodeWord;
 
 /// `set E WORD STR`: an element's attribute gets a value; a new attribute goes last.
 pub fn set_attribute(
     state: &mut State,
     owner: Owner,
-    element: Spelled,
+    element: NodeWord,
     name: String,
     value: DomStr,
     out: &mut Vec<u8>,
 ) -> Result<(), Fault>
-    ensures handled { IsHandled owner (set_attribute (spelled_view element) (string_bytes name) value.items) state.old.world state.new.world
+    ensures handled { IsHandled owner (set_attribute (word_view element) (string_bytes name) value.items) state.old.world state.new.world
         out.old.items out.new.items result }
     ensures names { KeepsNames state.old.names state.new.names result }
 {
@@ -37,11 +37,11 @@ pub fn set_attribute(
 pub fn unset_attribute(
     state: &mut State,
     owner: Owner,
-    element: Spelled,
+    element: NodeWord,
     name: String,
     out: &mut Vec<u8>,
 ) -> Result<(), Fault>
-    ensures handled { IsHandled owner (unset_attribute (spelled_view element) (string_bytes name)) state.old.world state.new.world out.old.items
+    ensures handled { IsHandled owner (unset_attribute (word_view element) (string_bytes name)) state.old.world state.new.world out.old.items
         out.new.items result }
     ensures names { KeepsNames state.old.names state.new.names result }
 {
@@ -55,11 +55,11 @@ pub fn unset_attribute(
 pub fn attribute(
     state: &mut State,
     owner: Owner,
-    element: Spelled,
+    element: NodeWord,
     name: String,
     out: &mut Vec<u8>,
 ) -> Result<(), Fault>
-    ensures handled { IsHandled owner (attribute (spelled_view element) (string_bytes name)) state.old.world state.new.world out.old.items
+    ensures handled { IsHandled owner (attribute (word_view element) (string_bytes name)) state.old.world state.new.world out.old.items
         out.new.items result }
     ensures names { KeepsNames state.old.names state.new.names result }
 {
@@ -70,10 +70,10 @@ pub fn attribute(
 }
 
 /// The value of an attribute of a node that is there, for a reply.
-fn attribute_value<'a>(state: &'a State, owner: Owner, node: Spelled, name: &str) -> Value<'a>
-    requires { has_node (part_of state.now.world owner).trees (named (part_of state.now.world owner) (spelled_view node)) ≡ true }
+fn attribute_value<'a>(state: &'a State, owner: Owner, node: NodeWord, name: &str) -> Value<'a>
+    requires { has_node (part_of state.now.world owner).trees (named (part_of state.now.world owner) (word_view node)) ≡ true }
     ensures { value_view result ≡ string_or_null
-        (attribute_value (node_in (part_of state.now.world owner).trees (named (part_of state.now.world owner) (spelled_view node))) name.now) }
+        (attribute_value (node_in (part_of state.now.world owner).trees (named (part_of state.now.world owner) (word_view node))) name.now) }
 {
     match state.doc.forest().attr(state.key(owner, node), name) {
         Some(value) => Value::Str(value),

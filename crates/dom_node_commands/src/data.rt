@@ -1,24 +1,24 @@
 //! The commands on the data of Texts and Comments, and on the text below a node.
 ghost use Rattle.dom_model.specs.Command.{set_data, replace_data, split, set_text, normalize};
 ghost use Rattle.dom_worlds.specs.Bounds.{IsBounded};
-ghost use Rattle.dom_reader.specs.Views.{spelled_view};
+ghost use Rattle.dom_reader.specs.Views.{word_view};
 ghost use Rattle.dom_admission.specs.Handled.{KeepsNames, IsHandled};
 
 use dom_admission::{Operand, State};
 use dom_base::{DomStr, Fault, Owner};
 use dom_printer::Value;
-use dom_reader::Spelled;
+use dom_reader::NodeWord;
 
 /// `data T STR`: all data of a Text or a Comment give way to others.
 pub fn set_data(
     state: &mut State,
     owner: Owner,
-    node: Spelled,
+    node: NodeWord,
     text: DomStr,
     out: &mut Vec<u8>,
 ) -> Result<(), Fault>
     requires bounds { IsBounded state.old.world }
-    ensures handled { IsHandled owner (set_data (spelled_view node) text.items) state.old.world state.new.world out.old.items out.new.items result }
+    ensures handled { IsHandled owner (set_data (word_view node) text.items) state.old.world state.new.world out.old.items out.new.items result }
     ensures names { KeepsNames state.old.names state.new.names result }
 {
     state.admit(owner, &[Operand::Data(node)])?;
@@ -31,14 +31,14 @@ pub fn set_data(
 pub fn replace_data(
     state: &mut State,
     owner: Owner,
-    node: Spelled,
+    node: NodeWord,
     offset: u32,
     count: u32,
     text: DomStr,
     out: &mut Vec<u8>,
 ) -> Result<(), Fault>
     requires bounds { IsBounded state.old.world }
-    ensures handled { IsHandled owner (replace_data (spelled_view node) offset count text.items) state.old.world state.new.world out.old.items
+    ensures handled { IsHandled owner (replace_data (word_view node) offset count text.items) state.old.world state.new.world out.old.items
         out.new.items result }
     ensures names { KeepsNames state.old.names state.new.names result }
 {
@@ -54,12 +54,12 @@ pub fn replace_data(
 pub fn split(
     state: &mut State,
     owner: Owner,
-    node: Spelled,
+    node: NodeWord,
     offset: u32,
     out: &mut Vec<u8>,
 ) -> Result<(), Fault>
     requires bounds { IsBounded state.old.world }
-    ensures handled { IsHandled owner (split (spelled_view node) offset) state.old.world state.new.world out.old.items out.new.items result }
+    ensures handled { IsHandled owner (split (word_view node) offset) state.old.world state.new.world out.old.items out.new.items result }
     ensures names { KeepsNames state.old.names state.new.names result }
 {
     state.admit(owner, &[Operand::Text(node)])?;
@@ -74,12 +74,12 @@ pub fn split(
 pub fn set_text(
     state: &mut State,
     owner: Owner,
-    node: Spelled,
+    node: NodeWord,
     text: DomStr,
     out: &mut Vec<u8>,
 ) -> Result<(), Fault>
     requires bounds { IsBounded state.old.world }
-    ensures handled { IsHandled owner (set_text (spelled_view node) text.items) state.old.world state.new.world out.old.items out.new.items result }
+    ensures handled { IsHandled owner (set_text (word_view node) text.items) state.old.world state.new.world out.old.items out.new.items result }
     ensures names { KeepsNames state.old.names state.new.names result }
 {
     state.admit(owner, &[Operand::Any(node)])?;
@@ -92,11 +92,11 @@ pub fn set_text(
 pub fn normalize(
     state: &mut State,
     owner: Owner,
-    node: Spelled,
+    node: NodeWord,
     out: &mut Vec<u8>,
 ) -> Result<(), Fault>
     requires bounds { IsBounded state.old.world }
-    ensures handled { IsHandled owner (normalize (spelled_view node)) state.old.world state.new.world out.old.items out.new.items result }
+    ensures handled { IsHandled owner (normalize (word_view node)) state.old.world state.new.world out.old.items out.new.items result }
     ensures names { KeepsNames state.old.names state.new.names result }
 {
     state.admit(owner, &[Operand::Any(node)])?;

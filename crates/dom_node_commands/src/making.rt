@@ -14,7 +14,7 @@ use dom_admission::State;
 use dom_base::{DomStr, Fault, Kind, Owner, Refusal};
 use dom_mutation::is_name;
 use dom_printer::Value;
-use dom_reader::Spelled;
+use dom_reader::NodeWord;
 use dom_tree::NodeData;
 use indexmap::IndexMap;
 use node_arena::Key;
@@ -138,7 +138,7 @@ fn first_document(state: &State, owner: Owner) -> Option<Key>
     ensures value { option_map (name_at state.now.names) result ≡ new_document_of (part_of state.now.world owner) }
     ensures node { ForSome result (λ d. d < length state.now.names) }
 {
-    let first = Spelled::Own(0);
+    let first = NodeWord::Own(0);
     if is_document(state.kind(owner, first)) {
         state.find(owner, first)
     } else {

@@ -1,24 +1,24 @@
 //! The commands that move nodes.
 ghost use Rattle.dom_model.specs.Command.{append, insert, replace, remove, adopt};
 ghost use Rattle.dom_worlds.specs.Bounds.{IsBounded};
-ghost use Rattle.dom_reader.specs.Views.{spelled_view};
+ghost use Rattle.dom_reader.specs.Views.{word_view};
 ghost use Rattle.dom_admission.specs.Handled.{KeepsNames, IsHandled};
 
 use dom_admission::{Operand, State};
 use dom_base::{Fault, Owner};
 use dom_printer::Value;
-use dom_reader::Spelled;
+use dom_reader::NodeWord;
 
 /// `append P N`: a node becomes a parent's last child.
 pub fn append(
     state: &mut State,
     owner: Owner,
-    parent: Spelled,
-    node: Spelled,
+    parent: NodeWord,
+    node: NodeWord,
     out: &mut Vec<u8>,
 ) -> Result<(), Fault>
     requires bounds { IsBounded state.old.world }
-    ensures handled { IsHandled owner (append (spelled_view parent) (spelled_view node)) state.old.world state.new.world out.old.items out.new.items result }
+    ensures handled { IsHandled owner (append (word_view parent) (word_view node)) state.old.world state.new.world out.old.items out.new.items result }
     ensures names { KeepsNames state.old.names state.new.names result }
 {
     state.admit(owner, &[Operand::Any(parent), Operand::Any(node)])?;
@@ -31,13 +31,13 @@ pub fn append(
 pub fn insert(
     state: &mut State,
     owner: Owner,
-    parent: Spelled,
-    node: Spelled,
-    child: Spelled,
+    parent: NodeWord,
+    node: NodeWord,
+    child: NodeWord,
     out: &mut Vec<u8>,
 ) -> Result<(), Fault>
     requires bounds { IsBounded state.old.world }
-    ensures handled { IsHandled owner (insert (spelled_view parent) (spelled_view node) (spelled_view child)) state.old.world state.new.world
+    ensures handled { IsHandled owner (insert (word_view parent) (word_view node) (word_view child)) state.old.world state.new.world
         out.old.items out.new.items result }
     ensures names { KeepsNames state.old.names state.new.names result }
 {
@@ -57,13 +57,13 @@ pub fn insert(
 pub fn replace(
     state: &mut State,
     owner: Owner,
-    parent: Spelled,
-    node: Spelled,
-    child: Spelled,
+    parent: NodeWord,
+    node: NodeWord,
+    child: NodeWord,
     out: &mut Vec<u8>,
 ) -> Result<(), Fault>
     requires bounds { IsBounded state.old.world }
-    ensures handled { IsHandled owner (replace (spelled_view parent) (spelled_view node) (spelled_view child)) state.old.world state.new.world
+    ensures handled { IsHandled owner (replace (word_view parent) (word_view node) (word_view child)) state.old.world state.new.world
         out.old.items out.new.items result }
     ensures names { KeepsNames state.old.names state.new.names result }
 {
@@ -83,10 +83,10 @@ pub fn replace(
 pub fn remove(
     state: &mut State,
     owner: Owner,
-    node: Spelled,
+    node: NodeWord,
     out: &mut Vec<u8>,
 ) -> Result<(), Fault>
-    ensures handled { IsHandled owner (remove (spelled_view node)) state.old.world state.new.world out.old.items out.new.items result }
+    ensures handled { IsHandled owner (remove (word_view node)) state.old.world state.new.world out.old.items out.new.items result }
     ensures names { KeepsNames state.old.names state.new.names result }
 {
     state.admit(owner, &[Operand::Child(node)])?;
@@ -99,11 +99,11 @@ pub fn remove(
 pub fn adopt(
     state: &mut State,
     owner: Owner,
-    document: Spelled,
-    node: Spelled,
+    document: NodeWord,
+    node: NodeWord,
     out: &mut Vec<u8>,
 ) -> Result<(), Fault>
-    ensures handled { IsHandled owner (adopt (spelled_view document) (spelled_view node)) state.old.world state.new.world out.old.items out.new.items result }
+    ensures handled { IsHandled owner (adopt (word_view document) (word_view node)) state.old.world state.new.world out.old.items out.new.items result }
     ensures names { KeepsNames state.old.names state.new.names result }
 {
     state.admit(owner, &[Operand::Document(document), Operand::Any(node)])?;

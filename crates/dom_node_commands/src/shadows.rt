@@ -6,13 +6,13 @@ ghost use Rattle.dom_model.specs.CommandNames.{named};
 ghost use Rattle.dom_model.specs.Slots.{assigned};
 ghost use Rattle.dom_model.specs.Trace.{is_page};
 ghost use Rattle.dom_model.specs.World.{part_of};
-ghost use Rattle.dom_reader.specs.Views.{spelled_view};
+ghost use Rattle.dom_reader.specs.Views.{word_view};
 ghost use Rattle.dom_admission.specs.Handled.{KeepsNames, IsHandled};
 
 use dom_admission::{Operand, State, names_of};
 use dom_base::{Fault, NodeName, Owner, Refusal};
 use dom_printer::Value;
-use dom_reader::Spelled;
+use dom_reader::NodeWord;
 use dom_slots::slots_are_of_worlds;
 use std::alloc::AllocError;
 
@@ -21,10 +21,10 @@ use std::alloc::AllocError;
 pub fn attach(
     state: &mut State,
     owner: Owner,
-    host: Spelled,
+    host: NodeWord,
     out: &mut Vec<u8>,
 ) -> Result<(), Fault>
-    ensures handled { IsHandled owner (attach (spelled_view host)) state.old.world state.new.world out.old.items out.new.items result }
+    ensures handled { IsHandled owner (attach (word_view host)) state.old.world state.new.world out.old.items out.new.items result }
     ensures names { KeepsNames state.old.names state.new.names result }
 {
     state.admit(owner, &[Operand::Element(host)])?;
@@ -38,10 +38,10 @@ pub fn attach(
 pub fn shadow_root(
     state: &mut State,
     owner: Owner,
-    element: Spelled,
+    element: NodeWord,
     out: &mut Vec<u8>,
 ) -> Result<(), Fault>
-    ensures handled { IsHandled owner (shadow_root (spelled_view element)) state.old.world state.new.world out.old.items out.new.items result }
+    ensures handled { IsHandled owner (shadow_root (word_view element)) state.old.world state.new.world out.old.items out.new.items result }
     ensures names { KeepsNames state.old.names state.new.names result }
 {
     state.admit(owner, &[Operand::Element(element)])?;
@@ -52,10 +52,10 @@ pub fn shadow_root(
 pub fn slot_of(
     state: &mut State,
     owner: Owner,
-    node: Spelled,
+    node: NodeWord,
     out: &mut Vec<u8>,
 ) -> Result<(), Fault>
-    ensures handled { IsHandled owner (slot_of (spelled_view node)) state.old.world state.new.world out.old.items out.new.items result }
+    ensures handled { IsHandled owner (slot_of (word_view node)) state.old.world state.new.world out.old.items out.new.items result }
     ensures names { KeepsNames state.old.names state.new.names result }
 {
     state.admit(owner, &[Operand::Slottable(node)])?;
@@ -66,10 +66,10 @@ pub fn slot_of(
 pub fn assigned(
     state: &mut State,
     owner: Owner,
-    slot: Spelled,
+    slot: NodeWord,
     out: &mut Vec<u8>,
 ) -> Result<(), Fault>
-    ensures handled { IsHandled owner (assigned_command (spelled_view slot)) state.old.world state.new.world out.old.items out.new.items result }
+    ensures handled { IsHandled owner (assigned_command (word_view slot)) state.old.world state.new.world out.old.items out.new.items result }
     ensures names { KeepsNames state.old.names state.new.names result }
 {
     if is_page(owner) {
@@ -81,9 +81,9 @@ pub fn assigned(
 }
 
 /// The names of the nodes assigned to a slot that is there.
-fn assigned_to(state: &State, owner: Owner, slot: Spelled) -> Result<Vec<NodeName>, AllocError>
-    requires { has_node (part_of state.now.world owner).trees (named (part_of state.now.world owner) (spelled_view slot)) ≡ true }
-    ensures { IfOk result (λ names. names.items ≡ assigned state.now.world (named (part_of state.now.world owner) (spelled_view slot))) }
+fn assigned_to(state: &State, owner: Owner, slot: NodeWord) -> Result<Vec<NodeName>, AllocError>
+    requires { has_node (part_of state.now.world owner).trees (named (part_of state.now.world owner) (word_view slot)) ≡ true }
+    ensures { IfOk result (λ names. names.items ≡ assigned state.now.world (named (part_of state.now.world owner) (word_view slot))) }
 {
     slots_are_of_worlds();
     let slot = state.key(owner, slot);

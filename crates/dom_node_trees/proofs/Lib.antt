@@ -1,4 +1,4 @@
 -- Lemmas of slots that are signalled, and of node documents of whole trees.
-pub mod Named
+pub mod NamesByKey
 pub mod Signals
 mod Roots

@@ -14,7 +14,7 @@ use Rattle.dom_slots.specs.Hosts.{ShadowHost, HostsAreNodes, root_of_host, root_
 use Rattle.dom_slots.proofs.Hosted.{AreDistinct, root-named, root-node}
 use Rattle.dom_tree.specs.Forest.{NamedTrees, name_at}
 use Rattle.dom_tree_laws.proofs.Covering.{walked, left, StandsIn, Walks, walks, first_inside, above_inside}
-use Rattle.dom_tree_laws.proofs.Near.{once_subtree}
+use Rattle.dom_tree_laws.proofs.Relatives.{once_subtree}
 use Rattle.dom_tree_laws.proofs.Once.{names_once}
 use Rattle.dom_tree_laws.proofs.Paths.{IsOnce}
 use Rattle.dom_tree.proofs.Once.{times_in}

@@ -21,7 +21,7 @@ use Rattle.dom_slots.specs.declared.step.Step.{Step}
 use Rattle.dom_slots.proofs.Ended.{step-ends}
 use Rattle.dom_tree.specs.Forest.{NamedTrees, name_at}
 use Rattle.dom_node_trees.specs.Signalled.{SignalTables, signal_tables, AreNames, HasSignalled}
-use Rattle.dom_node_trees.proofs.Named.{are_named, key_of_name, names_signalled}
+use Rattle.dom_node_trees.proofs.NamesByKey.{are_named, key_of_name, names_signalled}
 
 -- the tasks with the notification of a slot's owner queued, and the slot among those that are signalled
 abbrev pub queued_by : List NodeName → List Task → ℕ → List Task

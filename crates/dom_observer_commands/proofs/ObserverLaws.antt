@@ -2,7 +2,7 @@
 use Rattle.std.proofs.Common.{◌≡◌, ℕ, List, map, sym, ap, ◌∙◌, [], ◌∷◌, ◌++◌, Option, Some, None, refl}
 use Rattle.dom_base.specs.declared.Owner.{Owner}
 use Rattle.dom_base.specs.declared.NodeName.{NodeName}
-use Rattle.dom_model.specs.Command.{Command, ObserveWords, Spelled, own}
+use Rattle.dom_model.specs.Command.{Command, ObserveWords, NodeWord, own}
 use Rattle.dom_model.specs.CommandNames.{named}
 use Rattle.dom_model.specs.Effects.{Effect, keeps}
 use Rattle.dom_model.specs.Names.{name_eq, Word}
@@ -20,7 +20,7 @@ use Rattle.dom_model.specs.Turns.{opening_turn}
 use Rattle.dom_admission.specs.Turned.{with_turn}
 
 -- a registration
-pub observe-made : (names : List NodeName) (w now : World) (o : Owner) (s : Spelled) (key : ℕ) → IsKey names w o key s →
+pub observe-made : (names : List NodeName) (w now : World) (o : Owner) (s : NodeWord) (key : ℕ) → IsKey names w o key s →
     (k : ℕ) (words said : ObserveWords) (v : Value) → words ≡ said →
     Makes o (Command.observe k (own (name_at names key).number) words) v w now → Makes o (Command.observe k s said) v w now
 observe-made names w now o s key is k words said v same h =

@@ -2,7 +2,7 @@
 ghost use Rattle.std.specs.Prelude.{◌≡◌};
 ghost use Rattle.dom_model.specs.Command.{observer, observe, disconnect, take};
 ghost use Rattle.dom_observers.specs.Views.{words_of};
-ghost use Rattle.dom_reader.specs.Views.{spelled_view, observe_view};
+ghost use Rattle.dom_reader.specs.Views.{word_view, observe_view};
 ghost use Rattle.dom_admission.specs.Handled.{KeepsNames, IsHandled};
 
 use crate::records::put_records;
@@ -10,7 +10,7 @@ use dom_admission::{Operand, State};
 use dom_base::{Fault, Owner};
 use dom_observers::Options;
 use dom_printer::Value;
-use dom_reader::{ObserveWords, Spelled};
+use dom_reader::{NodeWord, ObserveWords};
 
 /// `observer`: a new observer.
 pub fn new_observer(state: &mut State, owner: Owner, out: &mut Vec<u8>) -> Result<(), Fault>
@@ -27,11 +27,11 @@ pub fn observe(
     state: &mut State,
     owner: Owner,
     number: u32,
-    node: Spelled,
+    node: NodeWord,
     words: ObserveWords,
     out: &mut Vec<u8>,
 ) -> Result<(), Fault>
-    ensures handled { IsHandled owner (observe number (spelled_view node) (observe_view words)) state.old.world state.new.world out.old.items
+    ensures handled { IsHandled owner (observe number (word_view node) (observe_view words)) state.old.world state.new.world out.old.items
         out.new.items result }
     ensures names { KeepsNames state.old.names state.new.names result }
 {

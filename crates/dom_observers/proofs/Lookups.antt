@@ -11,7 +11,7 @@ use Rattle.dom_observers.specs.declared.observers.Observers.TheInside.{Inside}
 use Rattle.dom_observers.specs.declared.table.Table.{Table}
 use Rattle.dom_observers.specs.Tables.{TablesOf, no_tables}
 use Rattle.dom_observers.specs.TableView.{table_of}
-use Rattle.dom_observers.specs.AllTables.{AllTables}
+use Rattle.dom_observers.specs.TablesByOwner.{TablesByOwner}
 use Rattle.dom_observers.specs.Owners.{tables_of, all_tables, ChangesTables, KeepsTables}
 use Rattle.dom_model.proofs.OwnerLaws.{owner_eq-true}
 use Rattle.dom_model.proofs.OwnerTests.{same_owner}
@@ -66,11 +66,11 @@ written q r o t at p = by (OwnerImpl.ghosts.eq o p) refl
         ∙ sym (cond-false (owner_eq o p) (table_of t) (tables_of (all_tables q) p) (sym (same_owner o p) ∙ e))))
 
 -- tables under another name
-pub changes-same : (o : Owner) (t u : TablesOf ℕ) (old new : AllTables) → t ≡ u → ChangesTables o t old new → ChangesTables o u old new
+pub changes-same : (o : Owner) (t u : TablesOf ℕ) (old new : TablesByOwner) → t ≡ u → ChangesTables o t old new → ChangesTables o u old new
 changes-same o t u old new e h = subst (λ (v : TablesOf ℕ). ChangesTables o v old new) e h
 
 -- tables that stay as they are
-pub kept-changes : (o : Owner) (old new : AllTables) → KeepsTables old new → ChangesTables o (tables_of old o) old new
+pub kept-changes : (o : Owner) (old new : TablesByOwner) → KeepsTables old new → ChangesTables o (tables_of old o) old new
 kept-changes o old new kept p = by (owner_eq o p) refl
   where
     by : (b : Bool) → owner_eq o p ≡ b → tables_of new p ≡ cond (owner_eq o p) (tables_of old o) (tables_of old p)
@@ -80,7 +80,7 @@ kept-changes o old new kept p = by (owner_eq o p) refl
     by false e = kept p ∙ sym (cond-false (owner_eq o p) (tables_of old o) (tables_of old p) e)
 
 -- and where what is written is what was there
-pub changes-kept : (o : Owner) (old new : AllTables) → ChangesTables o (tables_of old o) old new → KeepsTables old new
+pub changes-kept : (o : Owner) (old new : TablesByOwner) → ChangesTables o (tables_of old o) old new → KeepsTables old new
 changes-kept o old new changes p = by (owner_eq o p) refl
   where
     by : (b : Bool) → owner_eq o p ≡ b → tables_of new p ≡ tables_of old p
@@ -88,31 +88,31 @@ changes-kept o old new changes p = by (owner_eq o p) refl
     by false e = changes p ∙ cond-false (owner_eq o p) (tables_of old o) (tables_of old p) e
 
 -- what a call on an owner's table does to all, where the owner has a table
-pub rewritten : (q r : Inside) (all : AllTables) (o : Owner) (t w : Table) (f : TablesOf ℕ → TablesOf ℕ) → all_tables q ≡ all →
+pub rewritten : (q r : Inside) (all : TablesByOwner) (o : Owner) (t w : Table) (f : TablesOf ℕ → TablesOf ℕ) → all_tables q ≡ all →
     Some t ≡ get OwnerImpl.ghosts.eq q.tables o
     → (IsSome (get OwnerImpl.ghosts.eq q.tables o) → (p : Owner) →
     get OwnerImpl.ghosts.eq r.tables p ≡ cond (OwnerImpl.ghosts.eq o p) (Some w) (get OwnerImpl.ghosts.eq q.tables p))
     → table_of w ≡ f (table_of t) → ChangesTables o (f (tables_of all o)) all (all_tables r)
 rewritten q r all o t w f view there at e =
-    subst (λ (old : AllTables). ChangesTables o (f (tables_of old o)) old (all_tables r)) view
+    subst (λ (old : TablesByOwner). ChangesTables o (f (tables_of old o)) old (all_tables r)) view
     (changes-same o (table_of w) (f (tables_of (all_tables q) o)) (all_tables q) (all_tables r)
     (e ∙ ap f (sym (tables_of-some q o t (sym there))))
     (written q r o w (at (subst IsSome there refl))))
 
 -- what is read of the owner's table
-pub had : (q : Inside) (all : AllTables) (o : Owner) (t : Table) → all_tables q ≡ all → Some t ≡ get OwnerImpl.ghosts.eq q.tables o →
+pub had : (q : Inside) (all : TablesByOwner) (o : Owner) (t : Table) → all_tables q ≡ all → Some t ≡ get OwnerImpl.ghosts.eq q.tables o →
     tables_of all o ≡ table_of t
-had q all o t view there = ap (λ (v : AllTables). tables_of v o) (sym view) ∙ tables_of-some q o t (sym there)
+had q all o t view there = ap (λ (v : TablesByOwner). tables_of v o) (sym view) ∙ tables_of-some q o t (sym there)
 
-pub had-none : (q : Inside) (all : AllTables) (o : Owner) → all_tables q ≡ all → None ≡ get OwnerImpl.ghosts.eq q.tables o → tables_of all o ≡ no_tables
-had-none q all o view off = ap (λ (v : AllTables). tables_of v o) (sym view) ∙ tables_of-none q o (sym off)
+pub had-none : (q : Inside) (all : TablesByOwner) (o : Owner) → all_tables q ≡ all → None ≡ get OwnerImpl.ghosts.eq q.tables o → tables_of all o ≡ no_tables
+had-none q all o view off = ap (λ (v : TablesByOwner). tables_of v o) (sym view) ∙ tables_of-none q o (sym off)
 
 -- a call that leaves the map as it is
-pub untouched : (q r : Inside) (all : AllTables) → all_tables q ≡ all → r.tables ≡ q.tables → KeepsTables all (all_tables r)
-untouched q r all view e p = ap (λ (v : AllTables). tables_of v p) (ap (λ m. map (λ d. (d.0, table_of d.1)) m.entries) e ∙ view)
+pub untouched : (q r : Inside) (all : TablesByOwner) → all_tables q ≡ all → r.tables ≡ q.tables → KeepsTables all (all_tables r)
+untouched q r all view e p = ap (λ (v : TablesByOwner). tables_of v p) (ap (λ m. map (λ d. (d.0, table_of d.1)) m.entries) e ∙ view)
 
 -- and does nothing to one who has nothing
-pub untouched-changes : (q r : Inside) (all : AllTables) (o : Owner) (f : TablesOf ℕ → TablesOf ℕ) → all_tables q ≡ all →
+pub untouched-changes : (q r : Inside) (all : TablesByOwner) (o : Owner) (f : TablesOf ℕ → TablesOf ℕ) → all_tables q ≡ all →
     None ≡ get OwnerImpl.ghosts.eq q.tables o → r.tables ≡ q.tables → f no_tables ≡ no_tables
     → ChangesTables o (f (tables_of all o)) all (all_tables r)
 untouched-changes q r all o f view off e stays =
@@ -127,12 +127,12 @@ lookup-get q o =
     is_some-map table_of (get OwnerImpl.ghosts.eq q.tables o)
 
 -- a new table says nothing new
-pub written-none : (q r : Inside) (all : AllTables) (o : Owner) (t : Table) → all_tables q ≡ all →
+pub written-none : (q r : Inside) (all : TablesByOwner) (o : Owner) (t : Table) → all_tables q ≡ all →
     is_some (get OwnerImpl.ghosts.eq q.tables o) ≡ false → table_of t ≡ no_tables
     → ((p : Owner) → get OwnerImpl.ghosts.eq r.tables p ≡ cond (OwnerImpl.ghosts.eq o p) (Some t) (get OwnerImpl.ghosts.eq q.tables p)) →
     KeepsTables all (all_tables r)
 written-none q r all o t view off new at =
-    subst (λ (old : AllTables). KeepsTables old (all_tables r)) view
+    subst (λ (old : TablesByOwner). KeepsTables old (all_tables r)) view
     (changes-kept o (all_tables q) (all_tables r)
     (changes-same o (table_of t) (tables_of (all_tables q) o) (all_tables q) (all_tables r)
     (new ∙ sym (tables_of-none q o (none_from (get OwnerImpl.ghosts.eq q.tables o) off))) (written q r o t at)))
@@ -142,7 +142,7 @@ pub below_none : (k : ℕ) → ltb k 0 ≡ false
 below_none k = false_from_ne_true (ltb k 0) (λ e. let h = ltb-true k 0 e in omega arith)
 
 -- what changes after a call that keeps all changes what was there before it
-pub changes-before : (o : Owner) (f : TablesOf ℕ → TablesOf ℕ) (old mid new : AllTables) → KeepsTables old mid →
+pub changes-before : (o : Owner) (f : TablesOf ℕ → TablesOf ℕ) (old mid new : TablesByOwner) → KeepsTables old mid →
     ChangesTables o (f (tables_of mid o)) mid new → ChangesTables o (f (tables_of old o)) old new
 changes-before o f old mid new kept h p =
     h p ∙ (ap (λ t. cond (owner_eq o p) (f t) (tables_of mid p)) (kept o) ∙ ap (cond (owner_eq o p) (f (tables_of old o))) (kept p))

@@ -5,7 +5,7 @@ pub mod Watching
 pub mod TableView
 pub mod Paths
 pub mod Taking
-pub mod Takers
-pub mod AllTables
+pub mod InterestedObservers
+pub mod TablesByOwner
 pub mod Owners
 pub mod Naming

@@ -6,20 +6,20 @@ use Rattle.dom_model.specs.Names.{owner_eq}
 use Rattle.dom_observers.specs.declared.observers.Observers.TheInside.{Inside}
 use Rattle.dom_observers.specs.Tables.{TablesOf, no_tables}
 use Rattle.dom_observers.specs.TableView.{table_of}
-use Rattle.dom_observers.specs.AllTables.{AllTables}
+use Rattle.dom_observers.specs.TablesByOwner.{TablesByOwner}
 
 -- an owner's tables; one that has none reads as one that has nothing
-abbrev pub tables_of : AllTables → Owner → TablesOf ℕ
+abbrev pub tables_of : TablesByOwner → Owner → TablesOf ℕ
 tables_of all o = unwrap_or (lookup (owner_eq o) all) no_tables
 
 -- what the code holds of them
-abbrev pub all_tables : Inside → AllTables
+abbrev pub all_tables : Inside → TablesByOwner
 all_tables o = map (λ e. (e.0, table_of e.1)) o.tables.entries
 
 -- one owner's tables are new, and each other owner's as they were
-abbrev pub ChangesTables : Owner → TablesOf ℕ → AllTables → AllTables → Type 0
+abbrev pub ChangesTables : Owner → TablesOf ℕ → TablesByOwner → TablesByOwner → Type 0
 ChangesTables o t old new = (p : Owner) → tables_of new p ≡ (if owner_eq o p then t else tables_of old p)
 
 -- each owner's tables are as they were
-abbrev pub KeepsTables : AllTables → AllTables → Type 0
+abbrev pub KeepsTables : TablesByOwner → TablesByOwner → Type 0
 KeepsTables old new = (p : Owner) → tables_of new p ≡ tables_of old p

@@ -4,6 +4,7 @@
 #![tactic(auto)]
 
 mod change;
+mod interested;
 mod laws;
 mod observers;
 mod options;
@@ -11,7 +12,6 @@ mod path;
 mod registered;
 mod registrations;
 mod table;
-mod takers;
 mod watched;
 
 pub use change::{Change, Record};

@@ -31,9 +31,9 @@ pub struct Observers {
 }
 
 impl Model for Observers {
-    ghost use Rattle.dom_observers.specs.AllTables.{AllTables};
+    ghost use Rattle.dom_observers.specs.TablesByOwner.{TablesByOwner};
 
-    ghost Value = { AllTables };
+    ghost Value = { TablesByOwner };
 
     ghost use Rattle.dom_observers.specs.Owners.{all_tables};
 

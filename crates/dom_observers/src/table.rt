@@ -9,13 +9,13 @@ ghost use Rattle.dom_observers.specs.Tables.{notices, notified};
 ghost use Rattle.dom_observers.specs.Views.{words_of, change_of, notice_of};
 ghost use Rattle.dom_observers.specs.TableView.{table_of};
 ghost use Rattle.dom_observers.specs.Paths.{path_keys};
-ghost use Rattle.dom_observers.specs.Takers.{record_of};
+ghost use Rattle.dom_observers.specs.InterestedObservers.{record_of};
 
 use crate::change::{Change, Record};
+use crate::interested::InterestedObservers;
 use crate::options::Options;
 use crate::path::inclusive_ancestors;
 use crate::registrations::Registrations;
-use crate::takers::Takers;
 use dom_base::{Fault, MAX_NODES, Refusal};
 use dom_tree::Forest;
 use indexmap::IndexSet;
@@ -145,12 +145,17 @@ impl Table {
             return Ok(false);
         }
         let path = inclusive_ancestors(self.alloc, forest, target)?;
-        let takers = Takers::of(self.alloc, &self.registrations, path.as_slice(), &change)?;
-        let Some((last, others)) = takers.observers.as_slice().split_last() else {
+        let interested = InterestedObservers::of(
+            self.alloc,
+            &self.registrations,
+            path.as_slice(),
+            &change,
+        )?;
+        let Some((last, others)) = interested.observers.as_slice().split_last() else {
             return Ok(false);
         };
-        self.give_copies(others, &takers, &change)?;
-        self.give(*last, change.recorded(takers.get_old(*last)))?;
+        self.give_copies(others, &interested, &change)?;
+        self.give(*last, change.recorded(interested.get_old(*last)))?;
         Ok(true)
     }
 
@@ -158,14 +163,14 @@ impl Table {
     fn give_copies(
         &mut self,
         observers: &[u32],
-        takers: &Takers,
+        interested: &InterestedObservers,
         change: &Change,
     ) -> Result<(), AllocError>
-        ensures { OnOk result (table_of self.new ≡ fold (λ t k. given (record_of takers.now (change_of change.now) k) t k) (table_of self.old) observers.now) }
+        ensures { OnOk result (table_of self.new ≡ fold (λ t k. given (record_of interested.now (change_of change.now) k) t k) (table_of self.old) observers.now) }
     {
         let alloc = self.alloc;
         for observer in observers {
-            let copy = change.copied(alloc, takers.get_old(*observer))?;
+            let copy = change.copied(alloc, interested.get_old(*observer))?;
             self.give(*observer, copy)?;
         }
         Ok(())

@@ -29,10 +29,10 @@ use Rattle.dom_tree.proofs.Owned.{read_own}
 use Rattle.dom_parts.specs.Contents.{part_in}
 use Rattle.dom_parts.specs.Hosting.{maker_of, hosts_of, host_names, attached_of, host_owners, AreMadeBehind}
 use Rattle.dom_parts.specs.AllTables.{AllTables}
-use Rattle.dom_parts.specs.Doc.{DocState, contents, world_from, state_from, IsHeld, name_in, owner_in, attaching_refusal}
+use Rattle.dom_parts.specs.Doc.{DocState, contents, world_from, state_from, IsDoc, name_in, owner_in, attaching_refusal}
 use Rattle.dom_parts.proofs.Attached.{HasOneHostMore, component_for, attached_held, attached_state}
 use Rattle.dom_parts.proofs.AttachedWorlds.{count_none, component_absent}
-use Rattle.dom_parts.proofs.Held.{are_hosts}
+use Rattle.dom_parts.proofs.DocInvariant.{are_hosts}
 use Rattle.dom_parts.proofs.HostsOfOwners.{count_hosts, own-host, other-host, owner_in as component_in_owners, few_hosts}
 use Rattle.dom_parts.proofs.Worlds.{In, part_at, there_in}
 
@@ -101,7 +101,7 @@ owner_word names earlier (h ∷ hosts) o made (inl e) =
 owner_word names earlier (h ∷ hosts) o made (inr i) = owner_word names (earlier ++ h ∷ []) hosts o made.1 i
 
 -- so has each owner that is there
-there_word : (f : NamedTrees) (was : AllTables) → IsHeld f.names f.trees was → (o : Owner) → is_there (world_from f.names f.trees was) o ≡ true →
+there_word : (f : NamedTrees) (was : AllTables) → IsDoc f.names f.trees was → (o : Owner) → is_there (world_from f.names f.trees was) o ≡ true →
     has_word o ≡ true
 there_word f was held o there = by (there_in (contents f.names f.trees was) o there)
   where
@@ -111,7 +111,7 @@ there_word f was held o there = by (there_in (contents f.names f.trees was) o th
 
 -- ---- how many components an owner has made
 
-module _ (f : NamedTrees) (was : AllTables) (held : IsHeld f.names f.trees was) (m : Owner) (may : MayAttach m) where
+module _ (f : NamedTrees) (was : AllTables) (held : IsDoc f.names f.trees was) (m : Owner) (may : MayAttach m) where
   abbrev made_already : ℕ
   made_already = count_hosts f.names was.slots.hosts m
 
@@ -151,7 +151,7 @@ module _ (f : NamedTrees) (was : AllTables) (held : IsHeld f.names f.trees was) 
 
 -- ---- the refusal
 
-module _ (f : NamedTrees) (was : AllTables) (held : IsHeld f.names f.trees was) (distinct : AreDistinct f.names) (d : DocState)
+module _ (f : NamedTrees) (was : AllTables) (held : IsDoc f.names f.trees was) (distinct : AreDistinct f.names) (d : DocState)
     (is_d : state_from f.names f.trees was ≡ d) (host : ℕ)
     (within : host < length d.names) where
   abbrev hosted : Bool
@@ -279,7 +279,7 @@ module _ (f : NamedTrees) (was : AllTables) (held : IsHeld f.names f.trees was) 
 
 -- ---- the new owner
 
-module _ (f : NamedTrees) (was : AllTables) (held : IsHeld f.names f.trees was) (host : ℕ) (may : MayAttach (name_at f.names host).owner)
+module _ (f : NamedTrees) (was : AllTables) (held : IsDoc f.names f.trees was) (host : ℕ) (may : MayAttach (name_at f.names host).owner)
     (new : Owner) (new_is : new ≡ component_for f was host) where
   uncounted : count_of (component_for f was host) f.names ≡ 0
   uncounted = no_nodes_of f was held (name_at f.names host).owner may (count_hosts f.names was.slots.hosts (name_at f.names host).owner) (omega arith)
@@ -315,7 +315,7 @@ module _ (f : NamedTrees) (was : AllTables) (held : IsHeld f.names f.trees was) 
     }
 
     pub held_then : host < length f.names → count_hosts f.names was.slots.hosts (name_at f.names host).owner < 1000 →
-        IsHeld g.names g.trees (record was { slots = slots })
+        IsDoc g.names g.trees (record was { slots = slots })
     held_then within few = attached_held f g was now host document held within may host_more few
 
     module _ (d : DocState) (is_d : state_from f.names f.trees was ≡ d) (within : host < length d.names) where

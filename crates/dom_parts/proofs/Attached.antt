@@ -6,7 +6,7 @@ use Rattle.std.specs.List.{AllByRecursion}
 use Rattle.std.proofs.lemmas.Bool.{cases_Bool, false_from_ne_true}
 use Rattle.std.proofs.lemmas.List.{length_push, map-append}
 use Rattle.dom_node_trees.specs.Signalled.{AreNames}
-use Rattle.dom_node_trees.proofs.Named.{names_grown}
+use Rattle.dom_node_trees.proofs.NamesByKey.{names_grown}
 use Rattle.std.proofs.Math.ListN.{get_or-append}
 use Rattle.std.proofs.Math.Nat.{eq-or-lt_of_le}
 use Rattle.std.proofs.Math.Seq.{get_or-append_seam}
@@ -34,9 +34,9 @@ use Rattle.dom_parts.specs.Ranging.{AreRangesOf}
 use Rattle.dom_cursors.specs.OwnTables.{KeyedTables, no_keyed_tables}
 use Rattle.dom_parts.specs.AllTables.{AllTables, tables_view, AreTablesOf}
 use Rattle.dom_parts.specs.Hosting.{maker_of, hosts_of, AreMadeBehind, host_names, host_owners, attached_of, AreHostsOf, IsAttached}
-use Rattle.dom_parts.specs.Doc.{named_trees, contents, world_from, IsHeld, IsDue}
+use Rattle.dom_parts.specs.Doc.{named_trees, contents, world_from, IsDoc, IsDue}
 use Rattle.dom_parts.proofs.AttachedWorlds.{count_none, counted_other, counted_new, component_new, attached_world, attached_hosts}
-use Rattle.dom_parts.proofs.Held.{are_hosts, due_kept}
+use Rattle.dom_parts.proofs.DocInvariant.{are_hosts, due_kept}
 use Rattle.dom_parts.proofs.HostsOfOwners.{count_hosts, own-pushed, other-pushed}
 use Rattle.dom_parts.proofs.HostedSteps.{KeepsNames, names_pushed, attached_renamed}
 use Rattle.dom_parts.proofs.Keeping.{tables_more, view_same, speaks_grown}
@@ -64,7 +64,7 @@ pub record HasOneHostMore (f g : NamedTrees) (was now : AllTables) (host : ℕ) 
   pub free : now.slots.begun ≡ None
   pub slots : AreSlotsOf g now.slots
 
-module _ (f g : NamedTrees) (was now : AllTables) (host : ℕ) (d : Option NodeName) (held : IsHeld f.names f.trees was) (within : host < length f.names)
+module _ (f g : NamedTrees) (was now : AllTables) (host : ℕ) (d : Option NodeName) (held : IsDoc f.names f.trees was) (within : host < length f.names)
     (may : MayAttach (name_at f.names host).owner) (more : HasOneHostMore f g was now host d) where
   abbrev m : Owner
   m = (name_at f.names host).owner
@@ -240,7 +240,7 @@ module _ (f g : NamedTrees) (was now : AllTables) (host : ℕ) (d : Option NodeN
       cc
 
   -- it is held
-  pub attached_held : count_hosts f.names was.slots.hosts (name_at f.names host).owner < 1000 → IsHeld g.names g.trees now
+  pub attached_held : count_hosts f.names was.slots.hosts (name_at f.names host).owner < 1000 → IsDoc g.names g.trees now
   attached_held room = record {
     owned = (hosts_after room).owned;
     present = present_after;

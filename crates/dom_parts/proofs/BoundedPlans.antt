@@ -15,7 +15,7 @@ use Rattle.dom_worlds.specs.Bounds.{HasBounds}
 use Rattle.dom_worlds.specs.Worlds.{IsPart}
 use Rattle.dom_worlds.proofs.Bounds.{nowhere}
 use Rattle.dom_worlds.proofs.InsideAncestors.{times-has_node}
-use Rattle.dom_worlds.proofs.Kids.{index-below, length-children}
+use Rattle.dom_worlds.proofs.ChildCounts.{index-below, length-children}
 use Rattle.dom_worlds.proofs.KeptOffsets.{room-of, bounds-of, queue_record-keeps}
 use Rattle.dom_worlds.proofs.KindLines.{has_node-times}
 use Rattle.dom_worlds.proofs.PlanBounds.{room-removals}

@@ -20,9 +20,9 @@ use Rattle.dom_tree.specs.Forest.{NamedTrees, name_at}
 use Rattle.dom_tree.proofs.Once.{times_in}
 use Rattle.dom_tree.proofs.Owned.{read_own, stays_own}
 use Rattle.dom_parts.specs.AllTables.{AllTables}
-use Rattle.dom_parts.specs.Doc.{IsHeld, contents, world_from}
+use Rattle.dom_parts.specs.Doc.{IsDoc, contents, world_from}
 use Rattle.dom_parts.specs.Hosting.{outermost_root}
-use Rattle.dom_parts.proofs.Held.{are_hosts}
+use Rattle.dom_parts.proofs.DocInvariant.{are_hosts}
 use Rattle.dom_parts.proofs.HostedWorlds.{world_shown}
 use Rattle.dom_tree_laws.proofs.Once.{times_count}
 use Rattle.dom_tree_laws.proofs.Paths.{path_gone}
@@ -161,7 +161,7 @@ host_is_node names (g ∷ hosts) nodes r h e = elim (cases_Bool (name_eq r (name
   | inr is ↦ host_is_node names hosts nodes.2 r h (rw is at e)
 ]
 
-pub connected_held : (f : NamedTrees) {tables : AllTables} → IsHeld f.names f.trees tables →
+pub connected_held : (f : NamedTrees) {tables : AllTables} → IsDoc f.names f.trees tables →
     ((k : ℕ) → k < length f.names → count_by (λ n. name_eq n.name (name_at f.names k)) (nodes f.trees) ≡ 1) → (x : NodeName) →
     is_connected (world_from f.names f.trees tables) x ≡ is_document (kind_of f.trees (outermost_root (shadows f tables.slots.hosts)
     (owner_depth x.owner) (root_of f.trees x)))

@@ -27,11 +27,11 @@ use Rattle.dom_parts.specs.Contents.{part_with, part_in}
 use Rattle.dom_cursors.specs.OwnTables.{KeyedTables, no_keyed_tables}
 use Rattle.dom_cursors.proofs.Owners.{with-own, with-other}
 use Rattle.dom_parts.specs.AllTables.{AreTablesOf, AllTables, with_table}
-use Rattle.dom_parts.specs.Doc.{named_trees, shown_tables, contents, world_from, IsHeld, Makes}
+use Rattle.dom_parts.specs.Doc.{named_trees, shown_tables, contents, world_from, IsDoc, Makes}
 use Rattle.dom_parts.proofs.Worlds.{part_at, part_off, there_same, changed}
 use Rattle.dom_parts.proofs.OwnNodes.{next_own, previous_own, move_own}
 use Rattle.dom_ranges.specs.Tables.{ranges_of}
-use Rattle.dom_parts.proofs.Held.{held_with, single_owners}
+use Rattle.dom_parts.proofs.DocInvariant.{held_with, single_owners}
 use Rattle.dom_parts.proofs.RangedKeeping.{ranges_stay}
 
 -- an item that is written where it stands
@@ -50,7 +50,7 @@ is_some_map f None = refl
 is_some_map f (Some x) = refl
 
 -- the part of an owner has its tables in names
-module _ (names : List NodeName) (ts : Trees) (tables : AllTables) (held : IsHeld names ts tables) (o : Owner) where
+module _ (names : List NodeName) (ts : Trees) (tables : AllTables) (held : IsDoc names ts tables) (o : Owner) where
   pub iterators_in : (part_of (world_from names ts tables) o).iterators ≡ map (iterator_view names) (tables.each o).iterators
   iterators_in = elim (cases_Bool (is_there (world_from names ts tables) o)) [
     | inl there ↦ ap (λ (p : Part). p.iterators) (part_at (contents names ts tables) o there)
@@ -93,7 +93,7 @@ module _ (names : List NodeName) (ts : Trees) (tables : AllTables) (held : IsHel
   pub there_walker : (k : ℕ) → is_some (slice_get (part_of (world_from names ts tables) o).walkers k) ≡ true → is_there (world_from names ts tables) o ≡ true
   there_walker k h = there_by (λ t. t.walkers) refl k (sym (has_walker k) ∙ h)
 
-module _ (names : List NodeName) (ts : Trees) (tables : AllTables) (held : IsHeld names ts tables) (o : Owner)
+module _ (names : List NodeName) (ts : Trees) (tables : AllTables) (held : IsDoc names ts tables) (o : Owner)
     (there : is_there (world_from names ts tables) o ≡ true) where
   abbrev t : KeyedTables
   t = tables.each o
@@ -120,7 +120,7 @@ module _ (names : List NodeName) (ts : Trees) (tables : AllTables) (held : IsHel
     set_tables = with_table tables o u
 
     -- what holds of the others
-    pub held_set : AreTablesOf (named_trees names ts) o u → IsHeld names ts (with_table tables o u)
+    pub held_set : AreTablesOf (named_trees names ts) o u → IsDoc names ts (with_table tables o u)
     held_set h =
         held_with names ts tables held o there names ts (with_table tables o u) refl held.owned
         (λ p other. refl) held.present held.limited

@@ -6,7 +6,7 @@ use Rattle.dom_base.specs.declared.NodeName.{NodeName}
 use Rattle.dom_model.specs.Names.{name_eq, name_before}
 use Rattle.dom_model.specs.Tree.{Trees, none, tree, Node, nodes, or_else, subtree}
 use Rattle.dom_model.specs.TreeChanges.{followed_by, without, is_given, put_before, put_below, put_root, placed, taken_out, map_nodes}
-use Rattle.dom_slots.proofs.Named.{InNodes}
+use Rattle.dom_slots.proofs.NamesOfNodes.{InNodes}
 
 -- each node
 abbrev pub EachNode : (Node → Type 0) → Trees → Type 0

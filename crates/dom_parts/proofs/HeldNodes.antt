@@ -35,15 +35,15 @@ use Rattle.dom_slots.specs.Kept.{AreSlotsOf, StandsOnce, HasOneMore}
 use Rattle.dom_slots.proofs.Added.{slots-more}
 use Rattle.dom_parts.proofs.HostedSteps.{names_pushed, made_renamed, attached_renamed, plain_step}
 use Rattle.std.proofs.lemmas.List.Elements.{All-nil}
-use Rattle.dom_node_trees.proofs.Named.{names_grown}
-use Rattle.dom_parts.specs.Doc.{DocState, named_trees, shown_tables, contents, world_from, state_from, IsHeld}
+use Rattle.dom_node_trees.proofs.NamesByKey.{names_grown}
+use Rattle.dom_parts.specs.Doc.{DocState, named_trees, shown_tables, contents, world_from, state_from, IsDoc}
 use Rattle.dom_parts.specs.Hosting.{attached_of}
 use Rattle.dom_parts.proofs.Worlds.{part_at}
 use Rattle.dom_parts.proofs.Keeping.{tables_more, view_same, speaks_grown}
 use Rattle.dom_parts.proofs.Numbers.{count_more, numbered_more}
 use Rattle.dom_parts.proofs.RangedKeeping.{ranges_grown, named_grown}
 use Rattle.dom_parts.proofs.RangedOwners.{ranges_none}
-use Rattle.dom_parts.proofs.Held.{no_cursors, are_hosts, held_with}
+use Rattle.dom_parts.proofs.DocInvariant.{no_cursors, are_hosts, held_with}
 
 -- ---- one node more
 
@@ -66,7 +66,7 @@ present_more names ts tables x there all k k< =
         (ap (λ j. name_at (names ++ x ∷ []) j) same ∙ get_or-append_seam names x [] (node_of Page 0)) ∙ there
     at (inr h) = ap (λ (y : NodeName). is_there (world_from names ts tables) y.owner) (get_or-append names (x ∷ []) (node_of Page 0) k h) ∙ all k h
 
-module _ (names : List NodeName) (ts : Trees) (tables : AllTables) (held : IsHeld names ts tables) (o : Owner)
+module _ (names : List NodeName) (ts : Trees) (tables : AllTables) (held : IsDoc names ts tables) (o : Owner)
     (there : is_there (world_from names ts tables) o ≡ true)
     (n : Node) (is : n.name ≡ next_name o names) (new : (k : ℕ) → k < length names → name_at names k ≢ next_name o names) where
   abbrev grown : List NodeName
@@ -76,7 +76,7 @@ module _ (names : List NodeName) (ts : Trees) (tables : AllTables) (held : IsHel
   own_change = added ts held.owned o n (ap (λ (x : NodeName). x.owner) is)
 
   pub held_more : count_of o names ≢ 1000000 → AreSlotsOf (named_trees (names ++ next_name o names ∷ []) (with_node n ts)) tables.slots →
-      IsHeld (names ++ next_name o names ∷ []) (with_node n ts) tables
+      IsDoc (names ++ next_name o names ∷ []) (with_node n ts) tables
   held_more room slots =
       held_with names ts tables held o there grown (with_node n ts) tables refl own_change.owned own_change.others
       (present_more names ts tables (next_name o names) there held.present)
@@ -155,7 +155,7 @@ Added g tables o n r d =
 abbrev pub TellApart : List NodeName → Type 0
 TellApart names = (j k : ℕ) → j < length names → k < length names → name_at names j ≡ name_at names k → j ≡ k
 
-module _ (f g : NamedTrees) {tables : AllTables} (held : IsHeld f.names f.trees tables) (o : Owner)
+module _ (f g : NamedTrees) {tables : AllTables} (held : IsDoc f.names f.trees tables) (o : Owner)
     (there : is_there (world_from f.names f.trees tables) o ≡ true)
     (n : List NodeName → NodeName → Node) (own_name : (ns : List NodeName) (x : NodeName) → (n ns x).name ≡ x) (apart : TellApart g.names)
     (stands : StandsOnce g) where
@@ -181,14 +181,14 @@ module _ (f g : NamedTrees) {tables : AllTables} (held : IsHeld f.names f.trees 
   added_at : {T : Type 0} (r : Result T Fault) → OnOk r (g.names ≡ f.names ++ next_name o f.names ∷ []) →
       OnOk r (g.trees ≡ with_node (n f.names (next_name o f.names)) f.trees)
       → ((r ≡ Err (Refused Limit)) ↔ (count_of o f.names ≡ 1000000)) → OnErr r (g ≡ f)
-      → IsHeld g.names g.trees tables × Added g tables o n r (state_from f.names f.trees tables)
+      → IsDoc g.names g.trees tables × Added g tables o n r (state_from f.names f.trees tables)
   added_at (Ok x) names trees limit same =
       let next = next_same f.names f.trees tables o there in
       let room : count_of o f.names ≢ 1000000 = λ full. let h = limit.1 full in cc in
       let new = new_name names in
       let both : g ≡ trees_named (f.names ++ next_name o f.names ∷ []) (with_node (n f.names (next_name o f.names)) f.trees) =
       ap (λ ns. trees_named ns g.trees) names ∙ ap (trees_named (f.names ++ next_name o f.names ∷ [])) trees in (
-        subst (λ (p : NamedTrees). IsHeld p.names p.trees tables) (sym both)
+        subst (λ (p : NamedTrees). IsDoc p.names p.trees tables) (sym both)
             (held_more f.names f.trees tables held o there (n f.names (next_name o f.names)) (own_name f.names (next_name o f.names)) new room
             (subst (λ (p : NamedTrees). AreSlotsOf p tables.slots) both
             (slots-more f g (n f.names (next_name o f.names)) (one_more names trees) tables.slots held.signals.slots))),
@@ -199,17 +199,17 @@ module _ (f g : NamedTrees) {tables : AllTables} (held : IsHeld f.names f.trees 
               ∙ ap (λ (y : NodeName). world_step o (world_from f.names f.trees tables) (make (n f.names y))) (sym next),
         ),
       )
-  added_at (Err e) names trees limit same = (subst (λ (p : NamedTrees). IsHeld p.names p.trees tables) (sym same) held, (tt, tt))
+  added_at (Err e) names trees limit same = (subst (λ (p : NamedTrees). IsDoc p.names p.trees tables) (sym same) held, (tt, tt))
 
-pub added_held : (f g : NamedTrees) {tables : AllTables} (d : DocState) → state_from f.names f.trees tables ≡ d → IsHeld f.names f.trees tables →
+pub added_held : (f g : NamedTrees) {tables : AllTables} (d : DocState) → state_from f.names f.trees tables ≡ d → IsDoc f.names f.trees tables →
     (o : Owner) → is_there d.world o ≡ true
     → (n : List NodeName → NodeName → Node) → ((ns : List NodeName) (x : NodeName) → (n ns x).name ≡ x) → TellApart g.names → StandsOnce g →
     {T : Type 0} (r : Result T Fault)
     → OnOk r (g.names ≡ f.names ++ next_name o f.names ∷ []) → OnOk r (g.trees ≡ with_node (n f.names (next_name o f.names)) f.trees)
     → ((r ≡ Err (Refused Limit)) ↔ (count_of o f.names ≡ 1000000)) → OnErr r (g ≡ f)
-    → IsHeld g.names g.trees tables × Added g tables o n r d
+    → IsDoc g.names g.trees tables × Added g tables o n r d
 added_held f g {tables} d is_d held o there n own_name apart stands r names trees limit same =
-    subst (λ (e : DocState). is_there e.world o ≡ true → IsHeld g.names g.trees tables × Added g tables o n r e) is_d
+    subst (λ (e : DocState). is_there e.world o ≡ true → IsDoc g.names g.trees tables × Added g tables o n r e) is_d
     (λ h. added_at f g held o h n own_name apart stands r names trees limit same) there
 
 -- where none is made nothing changes
@@ -225,7 +225,7 @@ no_slots_of : (f : NamedTrees) → AreSlotsOf f no_slots
 no_slots_of f = record { hosts = tt; table = record { nodes = λ k. All-nil (λ j. j < length f.names); lists = λ k within. refl; beyond = λ k far. refl } }
 
 -- without nodes, where the page alone is there
-pub empty_held : (rs : RangeLists) → ((o : Owner) → ranges_of rs o ≡ []) → IsHeld [] none (with_live first_tables rs)
+pub empty_held : (rs : RangeLists) → ((o : Owner) → ranges_of rs o ≡ []) → IsDoc [] none (with_live first_tables rs)
 empty_held rs empty = record {
   owned = record { owners = tt; order = tt };
   present = λ k k<. absurd (omega arith);
@@ -243,17 +243,17 @@ empty_held rs empty = record {
 }
 
 -- so is what was given up
-pub given_up : (g : NamedTrees) (tables : AllTables) → g ≡ record { names = []; trees = none } → AreFirst tables → IsHeld g.names g.trees tables
+pub given_up : (g : NamedTrees) (tables : AllTables) → g ≡ record { names = []; trees = none } → AreFirst tables → IsDoc g.names g.trees tables
 given_up g tables empty first =
-    subst (λ (p : NamedTrees). IsHeld p.names p.trees tables) (sym empty) (subst (IsHeld [] none) (sym first.all) (empty_held tables.ranges first.no_ranges))
+    subst (λ (p : NamedTrees). IsDoc p.names p.trees tables) (sym empty) (subst (IsDoc [] none) (sym first.all) (empty_held tables.ranges first.no_ranges))
 
 -- with the first one
 pub first_held : (g : NamedTrees) (tables : AllTables) (n : Node) → n.name ≡ node_of Page 0 → AreFirst tables → g.names ≡ node_of Page 0 ∷ [] →
-    g.trees ≡ with_node n none → IsHeld g.names g.trees tables
+    g.trees ≡ with_node n none → IsDoc g.names g.trees tables
 first_held g tables n is one names trees =
     let first = with_live first_tables tables.ranges in
-    subst (IsHeld g.names g.trees) (sym one.all)
-    (subst (λ ns. IsHeld ns g.trees first) (sym names)
-    (subst (λ ts. IsHeld (node_of Page 0 ∷ []) ts first) (sym trees)
+    subst (IsDoc g.names g.trees) (sym one.all)
+    (subst (λ ns. IsDoc ns g.trees first) (sym names)
+    (subst (λ ts. IsDoc (node_of Page 0 ∷ []) ts first) (sym trees)
     (held_more [] none first (empty_held tables.ranges one.no_ranges) Page refl n is (λ k less. absurd (omega arith)) (λ e. omega arith)
     (no_slots_of (named_trees (node_of Page 0 ∷ []) (with_node n none))))))

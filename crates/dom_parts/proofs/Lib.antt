@@ -6,7 +6,7 @@ pub mod BoundedPlans
 mod Connected
 mod Cursors
 mod EveryNode
-mod Held
+mod DocInvariant
 mod HeldNodes
 mod HostedDocuments
 mod HostedSteps
@@ -46,5 +46,5 @@ mod Spliced
 mod Steps
 mod Taking
 mod Tasks
-mod There
+mod OwnersOfNodes
 mod Worlds

@@ -12,7 +12,7 @@ use Rattle.dom_model.specs.Part.{Part}
 use Rattle.dom_model.specs.CommandRefusals.{past_limit}
 use Rattle.dom_tree.specs.Forest.{NamedTrees, count_of}
 use Rattle.dom_parts.specs.AllTables.{AllTables}
-use Rattle.dom_parts.specs.Doc.{DocState, contents, world_from, state_from, IsHeld}
+use Rattle.dom_parts.specs.Doc.{DocState, contents, world_from, state_from, IsDoc}
 use Rattle.dom_parts.proofs.Worlds.{part_at, part_off}
 
 pub limit_count : (n m : ℕ) → m ≡ n → n ≤ 1000000 → (n ≡ 1000000) ↔ (past_limit m 1 ≡ true)
@@ -22,7 +22,7 @@ limit_count n m same few = (
 )
 
 -- when there is no room for one node more
-limit_at : (names : List NodeName) (ts : Trees) (tables : AllTables) → IsHeld names ts tables → (o : Owner) → is_there (world_from names ts tables) o ≡ true
+limit_at : (names : List NodeName) (ts : Trees) (tables : AllTables) → IsDoc names ts tables → (o : Owner) → is_there (world_from names ts tables) o ≡ true
     → (count_of o names ≡ 1000000) ↔ (past_limit (part_of (world_from names ts tables) o).node_count 1 ≡ true)
 limit_at names ts tables held o there =
     let count : (part_of (world_from names ts tables) o).node_count ≡ count_of o names =
@@ -30,7 +30,7 @@ limit_at names ts tables held o there =
     limit_count (count_of o names) (part_of (world_from names ts tables) o).node_count count (held.limited o)
 
 -- no owner has more nodes than it may
-pub within_limit : (names : List NodeName) (ts : Trees) {tables : AllTables} → IsHeld names ts tables → (o : Owner) →
+pub within_limit : (names : List NodeName) (ts : Trees) {tables : AllTables} → IsDoc names ts tables → (o : Owner) →
     past_limit (part_of (world_from names ts tables) o).node_count 0 ≡ false
 within_limit names ts {tables} held o = elim (cases_Bool (is_there (world_from names ts tables) o)) [
   | inl there ↦
@@ -41,7 +41,7 @@ within_limit names ts {tables} held o = elim (cases_Bool (is_there (world_from n
   | inr off ↦ ap (λ (p : Part). past_limit p.node_count 0) (part_off (contents names ts tables) o off)
 ]
 
-pub limit_held : (f : NamedTrees) {tables : AllTables} (d : DocState) → state_from f.names f.trees tables ≡ d → IsHeld f.names f.trees tables →
+pub limit_held : (f : NamedTrees) {tables : AllTables} (d : DocState) → state_from f.names f.trees tables ≡ d → IsDoc f.names f.trees tables →
     (o : Owner) → is_there d.world o ≡ true
     → {P : Type 0} → (P ↔ (count_of o f.names ≡ 1000000)) → P ↔ (past_limit (part_of d.world o).node_count 1 ≡ true)
 limit_held f {tables} d is_d held o there {P} limit =

@@ -23,12 +23,12 @@ use Rattle.dom_ranges.specs.Settings.{named_ranges}
 use Rattle.dom_ranges.specs.Tables.{ranges_of}
 use Rattle.dom_parts.specs.Contents.{part_with}
 use Rattle.dom_parts.specs.AllTables.{tables_with, AllTables, with_observers}
-use Rattle.dom_parts.specs.Doc.{shown_tables, contents, world_from, IsHeld, MakesSaying}
+use Rattle.dom_parts.specs.Doc.{shown_tables, contents, world_from, IsDoc, MakesSaying}
 use Rattle.dom_parts.specs.Hosting.{attached_of}
 use Rattle.dom_parts.proofs.Worlds.{IsChangeOf, there_same, part_at, part_off, changed}
-use Rattle.dom_parts.proofs.Held.{held_observers, single_owners}
+use Rattle.dom_parts.proofs.DocInvariant.{held_observers, single_owners}
 
-module _ (names : List NodeName) (ts : Trees) (tables : AllTables) (held : IsHeld names ts tables) (o : Owner) where
+module _ (names : List NodeName) (ts : Trees) (tables : AllTables) (held : IsDoc names ts tables) (o : Owner) where
   -- the owner's part with these
   abbrev pub with_seen : TablesOf NodeName → Part
   with_seen r = part_with o (trees_of_owner o ts) (count_of o names)
@@ -85,7 +85,7 @@ module _ (names : List NodeName) (ts : Trees) (tables : AllTables) (held : IsHel
       ]
 
       -- what holds then
-      pub held_seen : SpeaksOf (IsKey names) r → IsHeld names ts (with_observers tables seen)
+      pub held_seen : SpeaksOf (IsKey names) r → IsDoc names ts (with_observers tables seen)
       held_seen h = held_observers names ts tables held seen (seen_speaks h) seen_off
 
       -- the change of the owner's part

@@ -28,8 +28,8 @@ use Rattle.dom_observers.specs.Views.{change_of, notice_of}
 use Rattle.dom_observers.specs.declared.change.Change.{Change as Record}
 use Rattle.dom_observers.proofs.Speaking.{speaks_none, speaks_made, speaks_observing, speaks_disconnected, speaks_emptied, speaks_notified, all_queued, all_got}
 use Rattle.dom_parts.specs.AllTables.{AllTables, with_observers}
-use Rattle.dom_parts.specs.Doc.{DocState, world_from, state_from, IsHeld, Makes, MakesSaying, NamesNodes, notice_in, notices_of}
-use Rattle.dom_parts.proofs.Held.{held_observers}
+use Rattle.dom_parts.specs.Doc.{DocState, world_from, state_from, IsDoc, Makes, MakesSaying, NamesNodes, notice_in, notices_of}
+use Rattle.dom_parts.proofs.DocInvariant.{held_observers}
 use Rattle.dom_parts.proofs.Observed.{with_seen, has_observer, there_observer, queues_in, part_seen, held_seen, makes_seen, seen_world}
 
 -- ---- lists
@@ -80,7 +80,7 @@ within {X} xs k h = by (slice_get xs k) refl h
     by None e h = cc
     by (Some x) e h = lt-ltb k (length xs) (slice_get_within xs k x e)
 
-module _ (f : NamedTrees) {tables : AllTables} (held : IsHeld f.names f.trees tables) {d : DocState}
+module _ (f : NamedTrees) {tables : AllTables} (held : IsDoc f.names f.trees tables) {d : DocState}
     (is_d : state_from f.names f.trees tables ≡ d) (o : Owner) where
   -- the observer of a number
   pub observer_is : (k : ℕ) → is_some (slice_get (tables.observers o).record_queues k) ≡ is_some (slice_get (part_of d.world o).record_queues k)
@@ -124,12 +124,12 @@ module _ (f : NamedTrees) {tables : AllTables} (held : IsHeld f.names f.trees ta
         by (Err e) unknown (inl is) = absurd (true≢false (sym known ∙ unknown.0 (ap Err is)))
         by (Err e) unknown (inr rest) = rest
 
-  pub same_held : (seen : Owner → TablesOf ℕ) → ((q : Owner) → seen q ≡ tables.observers q) → IsHeld f.names f.trees (with_observers tables seen)
+  pub same_held : (seen : Owner → TablesOf ℕ) → ((q : Owner) → seen q ≡ tables.observers q) → IsDoc f.names f.trees (with_observers tables seen)
   same_held seen same = held_observers f.names f.trees tables held seen (λ q. subst (SpeaksOf (IsKey f.names)) (sym (same q)) (held.speaks q))
       (λ q off. same q ∙ held.unobserved q off)
 
   -- without observers
-  pub none_held : (seen : Owner → TablesOf ℕ) → ((q : Owner) → seen q ≡ no_observers) → IsHeld f.names f.trees (with_observers tables seen)
+  pub none_held : (seen : Owner → TablesOf ℕ) → ((q : Owner) → seen q ≡ no_observers) → IsDoc f.names f.trees (with_observers tables seen)
   none_held seen none = held_observers f.names f.trees tables held seen
       (λ q. subst (SpeaksOf (IsKey f.names)) (sym (none q)) (speaks_none (IsKey f.names))) (λ q off. none q)
 
@@ -149,7 +149,7 @@ module _ (f : NamedTrees) {tables : AllTables} (held : IsHeld f.names f.trees ta
         subst (λ (e : DocState). MakesSaying o (c e.names) (lines e.names) v e.world (world_from f.names f.trees (with_observers tables seen))) is_d
         (makes_seen f.names f.trees tables held o there r seen is (c f.names) (lines f.names) v does)
 
-    pub held_then : SpeaksOf (IsKey f.names) r → IsHeld f.names f.trees (with_observers tables seen)
+    pub held_then : SpeaksOf (IsKey f.names) r → IsDoc f.names f.trees (with_observers tables seen)
     held_then = held_seen f.names f.trees tables held o there r seen is
 
   -- ---- the commands
@@ -158,12 +158,12 @@ module _ (f : NamedTrees) {tables : AllTables} (held : IsHeld f.names f.trees ta
     -- an observer more
     module _ (r : Result ℕ Fault) (was : OnErr r ((q : Owner) → seen q ≡ tables.observers q))
         (is : OnOk r ((q : Owner) → seen q ≡ (if owner_eq o q then with_observer (tables.observers o) else tables.observers q))) where
-      pub made_held : IsHeld f.names f.trees (with_observers tables seen)
+      pub made_held : IsDoc f.names f.trees (with_observers tables seen)
       made_held = by r was is
         where
           by : (r : Result ℕ Fault) → OnErr r ((q : Owner) → seen q ≡ tables.observers q) →
               OnOk r ((q : Owner) → seen q ≡ (if owner_eq o q then with_observer (tables.observers o) else tables.observers q)) →
-              IsHeld f.names f.trees (with_observers tables seen)
+              IsDoc f.names f.trees (with_observers tables seen)
           by (Ok n) was is = held_then there (with_observer (tables.observers o)) seen is (speaks_made (IsKey f.names) (tables.observers o) (held.speaks o))
           by (Err e) was is = same_held seen was
 
@@ -188,7 +188,7 @@ module _ (f : NamedTrees) {tables : AllTables} (held : IsHeld f.names f.trees ta
     module _ (k x : ℕ) (at_x : x < length f.names) (own_x : (name_at f.names x).owner ≡ o) (w : ObserveWords) {T : Type 0} where
       pub observed_held : (r : Result T Fault) → OnErr r ((q : Owner) → seen q ≡ tables.observers q) →
           OnOk r ((q : Owner) → seen q ≡ (if owner_eq o q then observing nat_eq k x w (tables.observers o) else tables.observers q))
-          → IsHeld f.names f.trees (with_observers tables seen)
+          → IsDoc f.names f.trees (with_observers tables seen)
       observed_held (Ok u) was is = held_then there (observing nat_eq k x w (tables.observers o)) seen is
           (speaks_observing (IsKey f.names) nat_eq k x w (tables.observers o) (held.speaks o) at_x)
       observed_held (Err e) was is = same_held seen was
@@ -212,7 +212,7 @@ module _ (f : NamedTrees) {tables : AllTables} (held : IsHeld f.names f.trees ta
       gone : (q : Owner) → seen q ≡ (if owner_eq o q then disconnected k (tables.observers o) else tables.observers q)
       gone q = is q ∙ ap (λ c. if owner_eq o q then (if c then disconnected k (tables.observers o) else tables.observers o) else tables.observers q) there_is
 
-      pub disconnected_held : IsHeld f.names f.trees (with_observers tables seen)
+      pub disconnected_held : IsDoc f.names f.trees (with_observers tables seen)
       disconnected_held = held_then there (disconnected k (tables.observers o)) seen gone
           (speaks_disconnected (IsKey f.names) k (tables.observers o) (held.speaks o))
 
@@ -224,7 +224,7 @@ module _ (f : NamedTrees) {tables : AllTables} (held : IsHeld f.names f.trees ta
     -- records that are taken
     module _ (k : ℕ) (rs : List Record) (got : Some (map change_of rs) ≡ slice_get (tables.observers o).record_queues k)
         (is : (q : Owner) → seen q ≡ (if owner_eq o q then emptied k (tables.observers o) else tables.observers q)) where
-      pub taken_held : IsHeld f.names f.trees (with_observers tables seen)
+      pub taken_held : IsDoc f.names f.trees (with_observers tables seen)
       taken_held = held_then there (emptied k (tables.observers o)) seen is (speaks_emptied (IsKey f.names) k (tables.observers o) (held.speaks o))
 
       records_named : queue_of (named_tables (name_at f.names) (tables.observers o)).record_queues k ≡ map
@@ -260,7 +260,7 @@ module _ (f : NamedTrees) {tables : AllTables} (held : IsHeld f.names f.trees ta
 
     -- a notification
     pub notified_held : ((q : Owner) → seen q ≡ (if owner_eq o q then keyed_notified (tables.observers o) else tables.observers q)) →
-        IsHeld f.names f.trees (with_observers tables seen)
+        IsDoc f.names f.trees (with_observers tables seen)
     notified_held is = held_then there (keyed_notified (tables.observers o)) seen is (speaks_notified (IsKey f.names) (tables.observers o) (held.speaks o))
 
     pub notified_world : ((q : Owner) → seen q ≡ (if owner_eq o q then keyed_notified (tables.observers o) else tables.observers q))

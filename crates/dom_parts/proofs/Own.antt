@@ -6,7 +6,7 @@ use Rattle.std.proofs.lemmas.Option.{none-some, same_Some}
 use Rattle.dom_base.specs.declared.NodeName.{NodeName}
 use Rattle.dom_model.specs.Names.{name_eq, items_before, items_after, first_of, last_of}
 use Rattle.dom_traversal.proofs.Lists.{In}
-use Rattle.dom_tree_laws.proofs.Near.{Each}
+use Rattle.dom_tree_laws.proofs.Relatives.{Each}
 
 -- ---- lists whose items two tests treat alike
 

@@ -11,7 +11,7 @@ use Rattle.dom_model.specs.Tree.{Trees, none, tree, Node, nodes, has_node, child
 use Rattle.dom_model.proofs.OwnerLaws.{name_eq-same}
 use Rattle.dom_worlds.specs.Worlds.{times_in, IsPart}
 use Rattle.dom_worlds.proofs.InsideAncestors.{times-has_node}
-use Rattle.dom_worlds.proofs.Kids.{kids, kids-absent, rooted, length-children}
+use Rattle.dom_worlds.proofs.ChildCounts.{kids, kids-absent, rooted, length-children}
 use Rattle.dom_tree.specs.Forest.{name_at, count_of}
 use Rattle.dom_tree.specs.Owners.{AreOf, AreOwned, trees_of_owner}
 use Rattle.dom_tree.proofs.Names.{name_eq-true}

@@ -23,7 +23,7 @@ use Rattle.dom_traversal.proofs.Counts.{StandOnce, above-itself}
 use Rattle.dom_cursors.specs.OwnTables.{KeyedTables, EachItem}
 use Rattle.dom_cursors.specs.Cursors.{with_cursors}
 use Rattle.dom_parts.specs.AllTables.{IsOwnIterator, IsOwnWalker, AreTablesOf, AllTables}
-use Rattle.dom_parts.specs.Doc.{DocState, world_from, state_from, IsHeld, Makes}
+use Rattle.dom_parts.specs.Doc.{DocState, world_from, state_from, IsDoc, Makes}
 use Rattle.dom_cursors.proofs.Items.{set_items, push_items}
 use Rattle.dom_tree.specs.Owners.{AreOwned}
 use Rattle.dom_parts.proofs.OwnNodes.{moved_own}
@@ -31,7 +31,7 @@ use Rattle.dom_parts.proofs.Limits.{limit_count}
 use Rattle.dom_parts.proofs.Cursors.{iterators_in, walkers_in, iterator_effect_new, walker_effect_new, has_iterator, has_walker, there_iterator}
 use Rattle.dom_parts.proofs.Cursors.{there_walker, with_own, makes_read, makes_set, held_set}
 
-module _ (f : NamedTrees) {tables : AllTables} (held : IsHeld f.names f.trees tables) {d : DocState}
+module _ (f : NamedTrees) {tables : AllTables} (held : IsDoc f.names f.trees tables) {d : DocState}
     (is_d : state_from f.names f.trees tables ≡ d) (o : Owner) where
   -- whoever has a cursor is there
   pub there_iter : (k : ℕ) → is_some (slice_get (part_of d.world o).iterators k) ≡ true → is_there (world_from f.names f.trees tables) o ≡ true
@@ -83,9 +83,9 @@ module _ (f : NamedTrees) {tables : AllTables} (held : IsHeld f.names f.trees ta
           (world_from f.names f.trees (record tables { each = x }))) (sym is_each)
           (makes_set f.names f.trees tables held o there w (c f.names) (v f.names) is))
 
-      pub held_written : AreTablesOf f o w → IsHeld f.names f.trees (record tables { each = each })
+      pub held_written : AreTablesOf f o w → IsDoc f.names f.trees (record tables { each = each })
       held_written h =
-          subst (λ (x : Owner → KeyedTables). IsHeld f.names f.trees (record tables { each = x })) (sym is_each) (held_set f.names f.trees tables held o there w h)
+          subst (λ (x : Owner → KeyedTables). IsDoc f.names f.trees (record tables { each = x })) (sym is_each) (held_set f.names f.trees tables held o there w h)
 
   -- ---- what holds of the tables written
 
@@ -163,7 +163,7 @@ one_iterator t root filter = record t { iterators = t.iterators ++ record { root
 abbrev pub one_walker : KeyedTables → ℕ → Filter → KeyedTables
 one_walker t root filter = record t { walkers = t.walkers ++ record { root = root; current = root; filter = filter } ∷ [] }
 
-module _ (f : NamedTrees) {tables : AllTables} (held : IsHeld f.names f.trees tables) {d : DocState}
+module _ (f : NamedTrees) {tables : AllTables} (held : IsDoc f.names f.trees tables) {d : DocState}
     (is_d : state_from f.names f.trees tables ≡ d) (o : Owner) (there : is_there (world_from f.names f.trees tables) o ≡ true) where
   full : (n m : ℕ) → m ≡ n → n ≤ 1000000 → {P : Type 0} → (P ↔ (n ≡ 1000000)) → P ↔ (past_limit m 1 ≡ true)
   full n m same few limit = let both = limit_count n m same few in (λ p. both.0 (limit.0 p), λ e. limit.1 (both.1 e))
@@ -185,7 +185,7 @@ module _ (f : NamedTrees) {tables : AllTables} (held : IsHeld f.names f.trees ta
   module _ (root : ℕ) (filter : Filter) (own_root : (name_at f.names root).owner ≡ o) where
     pub iter_made : root < length f.names → StandOnce f → (each : Owner → KeyedTables) (r : Result ℕ Fault) →
         OnOk r (each ≡ with_cursors tables.each o (one_iterator (tables.each o) root filter))
-        → ((r ≡ Err (Refused Limit)) ↔ (length (tables.each o).iterators ≡ 1000000)) → OnErr r (each ≡ tables.each) → IsHeld f.names f.trees (record tables { each = each })
+        → ((r ≡ Err (Refused Limit)) ↔ (length (tables.each o).iterators ≡ 1000000)) → OnErr r (each ≡ tables.each) → IsDoc f.names f.trees (record tables { each = each })
     iter_made node once each (Ok n) is limit same =
         held_written f held is_d o there each
         (one_iterator (tables.each o) root filter) is
@@ -198,18 +198,18 @@ module _ (f : NamedTrees) {tables : AllTables} (held : IsHeld f.names f.trees ta
           own = own_root;
         })
         (λ e. let h = limit.1 e in cc))
-    iter_made node once each (Err e) is limit same = subst (λ (x : Owner → KeyedTables). IsHeld f.names f.trees (record tables { each = x })) (sym same) held
+    iter_made node once each (Err e) is limit same = subst (λ (x : Owner → KeyedTables). IsDoc f.names f.trees (record tables { each = x })) (sym same) held
 
     pub walk_made : root < length f.names → (each : Owner → KeyedTables) (r : Result ℕ Fault) →
         OnOk r (each ≡ with_cursors tables.each o (one_walker (tables.each o) root filter))
-        → ((r ≡ Err (Refused Limit)) ↔ (length (tables.each o).walkers ≡ 1000000)) → OnErr r (each ≡ tables.each) → IsHeld f.names f.trees (record tables { each = each })
+        → ((r ≡ Err (Refused Limit)) ↔ (length (tables.each o).walkers ≡ 1000000)) → OnErr r (each ≡ tables.each) → IsDoc f.names f.trees (record tables { each = each })
     walk_made node each (Ok n) is limit same =
         held_written f held is_d o there each
         (one_walker (tables.each o) root filter) is
         (walk_pushed f held is_d o (record { root = root; current = root; filter = filter })
         (record { stands = record { root = node; current = node }; own = own_root; own_current = own_root })
         (λ e. let h = limit.1 e in cc))
-    walk_made node each (Err e) is limit same = subst (λ (x : Owner → KeyedTables). IsHeld f.names f.trees (record tables { each = x })) (sym same) held
+    walk_made node each (Err e) is limit same = subst (λ (x : Owner → KeyedTables). IsDoc f.names f.trees (record tables { each = x })) (sym same) held
 
     pub iter_made_writes : (each : Owner → KeyedTables) (r : Result ℕ Fault) →
         OnOk r (each ≡ with_cursors tables.each o (one_iterator (tables.each o) root filter)) →

@@ -14,10 +14,10 @@ use Rattle.dom_ranges.specs.Tables.{RangeList, RangeLists, EachRange, BothEnds, 
 use Rattle.dom_ranges.proofs.Naming.{rewritten-named}
 use Rattle.dom_tree.specs.Forest.{NamedTrees}
 use Rattle.dom_parts.specs.Contents.{Contents, part_in}
-use Rattle.dom_parts.specs.Doc.{DocState, contents, world_from, state_from, IsHeld, owner_in, stepped}
+use Rattle.dom_parts.specs.Doc.{DocState, contents, world_from, state_from, IsDoc, owner_in, stepped}
 use Rattle.dom_parts.specs.AllTables.{AllTables, with_live}
 use Rattle.dom_parts.specs.Ranging.{IsOwnPoint, ranged}
-use Rattle.dom_parts.proofs.Held.{single_owners}
+use Rattle.dom_parts.proofs.DocInvariant.{single_owners}
 use Rattle.dom_parts.proofs.RangedCalls.{set_change, rewritten_own, written_few}
 use Rattle.dom_parts.proofs.RangedPassing.{range_is, there_range, live_held}
 use Rattle.dom_parts.proofs.Worlds.{part_at, changed}
@@ -33,7 +33,7 @@ put_some : {X Y : Type 0} (y : Y) (m : Option X) → is_some m ≡ true → opti
 put_some y None h = cc
 put_some y (Some x) h = refl
 
-module _ (f : NamedTrees) {tables : AllTables} (held : IsHeld f.names f.trees tables) {d : DocState}
+module _ (f : NamedTrees) {tables : AllTables} (held : IsDoc f.names f.trees tables) {d : DocState}
     (is_d : state_from f.names f.trees tables ≡ d) (o : Owner) (k : ℕ) (known : is_some (range_at (part_of d.world o) k) ≡ true)
     (r : Range ℕ) (ends : BothEnds (IsPointOf d o) r) (u : RangeLists)
     (set : (q : Owner) → ranges_of u q ≡ with_ranges tables.ranges o (slice_set (ranges_of tables.ranges o) k (Some r)) q) where
@@ -57,7 +57,7 @@ module _ (f : NamedTrees) {tables : AllTables} (held : IsHeld f.names f.trees ta
   same = put_some r (range_in own k) (range_is f held is_d o k ∙ known)
 
   -- what is held is held
-  pub put_held : IsHeld f.names f.trees (with_live tables u)
+  pub put_held : IsDoc f.names f.trees (with_live tables u)
   put_held =
       live_held f held is_d o there_now u (slice_set own k (Some r)) set
       (subst (λ m. EachRange (BothEnds (IsOwnPoint f.names o)) (slice_set own k m)) same

@@ -8,7 +8,7 @@ use Rattle.std.proofs.lemmas.List.{length-map, length-set, length_push}
 use Rattle.std.proofs.lemmas.Option.{slice_get-map}
 use Rattle.dom_base.specs.declared.NodeName.{NodeName}
 use Rattle.dom_base.specs.declared.Owner.{Owner}
-use Rattle.dom_model.specs.Command.{Command, Spelled}
+use Rattle.dom_model.specs.Command.{Command, NodeWord}
 use Rattle.dom_model.specs.CommandRefusals.{past_limit}
 use Rattle.dom_model.specs.Effects.{Effect, effect, changes_range, collapsed_to}
 use Rattle.dom_model.specs.Extract.{both_at}
@@ -21,7 +21,7 @@ use Rattle.dom_model.proofs.OwnerLaws.{owner_eq-same, owner_eq-true, owner_eq-fa
 use Rattle.dom_ranges.specs.Settings.{named_boundary, named_range, named_ranges, start_set, end_set}
 use Rattle.dom_ranges.specs.Tables.{RangeList, RangeLists, EachRange, BothEnds, ranges_of, range_in, with_ranges, collapsed_range}
 use Rattle.dom_ranges.proofs.Naming.{made-named, removed-named, rewritten-named, start-named, end-named}
-use Rattle.dom_ranges.proofs.Standing.{stand-made, stand-cleared, stand-at, stand-rewritten}
+use Rattle.dom_ranges.proofs.EndsAfterCalls.{stand-made, stand-cleared, stand-at, stand-rewritten}
 use Rattle.dom_traversal.proofs.Counts.{StandOnce, StandAlone, Once-forest, Has-forest}
 use Rattle.dom_traversal.proofs.Shapes.{Once}
 use Rattle.dom_tree.specs.Forest.{NamedTrees, name_at}
@@ -183,7 +183,7 @@ module _ (c : Contents) (t : RangeLists) (ranges : AreRangesOf c t) (owned : Are
 
   -- a range gets another start
   pub start_effect : (k offset : ℕ)
-      → effect (part_in c o) (Command.range_start k (Spelled.own (name_at c.names node).number) offset)
+      → effect (part_in c o) (Command.range_start k (NodeWord.own (name_at c.names node).number) offset)
       ≡ Effect.tables (record (part_in c o) {
         ranges = named_ranges c.names
             (slice_set (ranges_of t o) k (option_map (start_set (named_trees c.names c.trees) (at node offset)) (range_in (ranges_of t o) k)));
@@ -201,7 +201,7 @@ module _ (c : Contents) (t : RangeLists) (ranges : AreRangesOf c t) (owned : Are
 
   -- or another end
   pub end_effect : (k offset : ℕ)
-      → effect (part_in c o) (Command.range_end k (Spelled.own (name_at c.names node).number) offset)
+      → effect (part_in c o) (Command.range_end k (NodeWord.own (name_at c.names node).number) offset)
       ≡ Effect.tables (record (part_in c o) {
         ranges = named_ranges c.names
             (slice_set (ranges_of t o) k (option_map (end_set (named_trees c.names c.trees) (at node offset)) (range_in (ranges_of t o) k)));

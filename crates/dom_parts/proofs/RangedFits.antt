@@ -17,7 +17,7 @@ use Rattle.dom_worlds.specs.Bounds.{EndsWithin, HasBounds}
 use Rattle.dom_ranges.specs.Rules.{Fits}
 use Rattle.dom_ranges.specs.Settings.{named_range, named_ranges}
 use Rattle.dom_ranges.specs.Tables.{RangeList, RangeLists, EachRange, BothEnds, ranges_of}
-use Rattle.dom_ranges.proofs.Standing.{EachRange-weaker, fits-split}
+use Rattle.dom_ranges.proofs.EndsAfterCalls.{EachRange-weaker, fits-split}
 use Rattle.dom_tree.specs.Forest.{name_at}
 use Rattle.dom_parts.specs.Contents.{Contents, part_in}
 use Rattle.dom_parts.specs.Ranging.{IsOwnPoint, AreRangesOf}

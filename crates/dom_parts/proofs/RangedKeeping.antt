@@ -6,7 +6,7 @@ use Rattle.dom_model.specs.Place.{Boundary}
 use Rattle.dom_ranges.specs.Settings.{named_ranges}
 use Rattle.dom_ranges.specs.Tables.{RangeLists, ranges_of}
 use Rattle.dom_ranges.proofs.Naming.{grown-named}
-use Rattle.dom_ranges.proofs.Standing.{EachRange-weaker}
+use Rattle.dom_ranges.proofs.EndsAfterCalls.{EachRange-weaker}
 use Rattle.dom_parts.specs.Contents.{Contents}
 use Rattle.dom_parts.specs.Ranging.{IsOwnPoint, AreOwnRanges, AreRangesOf}
 use Rattle.dom_parts.proofs.HostedSteps.{KeepsNames, names_pushed}

@@ -16,7 +16,7 @@ use Rattle.dom_ranges.specs.Settings.{named_boundary, named_range, named_ranges}
 use Rattle.dom_ranges.specs.Tables.{RangeList, RangeLists, EachRange, BothEnds, ends_by, ranges_of}
 use Rattle.dom_ranges.proofs.Lists.{cons_same}
 use Rattle.dom_ranges.proofs.Naming.{EachRange-ends}
-use Rattle.dom_ranges.proofs.Standing.{EachRange-weaker}
+use Rattle.dom_ranges.proofs.EndsAfterCalls.{EachRange-weaker}
 use Rattle.dom_parts.specs.Ranging.{IsOwnPoint, AreOwnRanges, IsRuleOf}
 
 -- ---- lists

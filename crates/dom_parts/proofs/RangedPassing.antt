@@ -10,7 +10,7 @@ use Rattle.dom_base.specs.declared.Refusal.{Refusal}
 use Rattle.dom_base.specs.declared.Refusal.TheVariants.{Limit, Unknown, IndexSize}
 use Rattle.dom_base.specs.declared.NodeName.{NodeName}
 use Rattle.dom_base.specs.declared.Owner.{Owner}
-use Rattle.dom_model.specs.Command.{Command, Spelled}
+use Rattle.dom_model.specs.Command.{Command, NodeWord}
 use Rattle.dom_model.specs.CommandRefusals.{past_limit, past_end}
 use Rattle.dom_model.specs.Effects.{Effect, effect}
 use Rattle.dom_model.specs.Names.{node_of, owner_eq}
@@ -22,14 +22,14 @@ use Rattle.dom_model.specs.Tree.{length_of}
 use Rattle.dom_model.specs.World.{part_of, is_there}
 use Rattle.dom_ranges.specs.Settings.{named_boundary, named_range, named_ranges, start_set, end_set, have_one_root, is_key_before}
 use Rattle.dom_ranges.specs.Tables.{RangeList, RangeLists, EachRange, BothEnds, ranges_of, range_in, with_ranges, collapsed_range}
-use Rattle.dom_ranges.proofs.Standing.{stand-at}
+use Rattle.dom_ranges.proofs.EndsAfterCalls.{stand-at}
 use Rattle.dom_traversal.proofs.Counts.{StandOnce, StandAlone}
 use Rattle.dom_tree.specs.Forest.{NamedTrees, name_at}
 use Rattle.dom_parts.specs.Contents.{Contents, part_in, world_of}
-use Rattle.dom_parts.specs.Doc.{DocState, contents, world_from, state_from, IsHeld, Makes, name_in, owner_in}
+use Rattle.dom_parts.specs.Doc.{DocState, contents, world_from, state_from, IsDoc, Makes, name_in, owner_in}
 use Rattle.dom_parts.specs.AllTables.{AllTables, with_live}
 use Rattle.dom_parts.specs.Ranging.{IsOwnPoint, AreRangesOf, ranged}
-use Rattle.dom_parts.proofs.Held.{single_owners}
+use Rattle.dom_parts.proofs.DocInvariant.{single_owners}
 use Rattle.dom_parts.proofs.RangedCalls.{set_makes, set_ranges, make_effect, drop_effect, collapse_effect, points_effect, start_effect, end_effect}
 use Rattle.dom_parts.proofs.RangedCalls.{range_read, made_own, made_few, dropped_own, rewritten_own, written_few}
 use Rattle.dom_parts.proofs.RangedRefusals.{limit_read, end_read}
@@ -49,7 +49,7 @@ pub some_of : {X Y : Type 0} (g : X → Y) (m : Option X) → is_some (option_ma
 some_of g None = refl
 some_of g (Some x) = refl
 
-module _ (f : NamedTrees) {tables : AllTables} (held : IsHeld f.names f.trees tables) {d : DocState}
+module _ (f : NamedTrees) {tables : AllTables} (held : IsDoc f.names f.trees tables) {d : DocState}
     (is_d : state_from f.names f.trees tables ≡ d) (o : Owner) where
   abbrev c : Contents
   c = contents f.names f.trees tables
@@ -81,7 +81,7 @@ module _ (f : NamedTrees) {tables : AllTables} (held : IsHeld f.names f.trees ta
       build : (Owner → RangeList) → DocState
       build rs = record { names = f.names; world = world_of (record c { tables = λ q. record (c.tables q) { ranges = named_ranges f.names (rs q) } }) }
 
-  pub same_held : (u : RangeLists) → ((q : Owner) → ranges_of u q ≡ ranges_of tables.ranges q) → IsHeld f.names f.trees (with_live tables u)
+  pub same_held : (u : RangeLists) → ((q : Owner) → ranges_of u q ≡ ranges_of tables.ranges q) → IsDoc f.names f.trees (with_live tables u)
   same_held u same = held_live f.names f.trees tables held u (ranges_equal c tables.ranges u same held.ranges)
 
   module _ (there : is_there (world_from f.names f.trees tables) o ≡ true) (u : RangeLists) where
@@ -94,7 +94,7 @@ module _ (f : NamedTrees) {tables : AllTables} (held : IsHeld f.names f.trees ta
           subst (λ (e : DocState). Makes o (command e.names) v e.world (world_from f.names f.trees (with_live tables u))) is_d
           (set_makes c tables.ranges u held.ranges o there rs set (single_owners f.names f.trees tables held) (command f.names) v is)
 
-      pub live_held : EachRange (BothEnds (IsOwnPoint f.names o)) rs → length rs ≤ 1000000 → IsHeld f.names f.trees (with_live tables u)
+      pub live_held : EachRange (BothEnds (IsOwnPoint f.names o)) rs → length rs ≤ 1000000 → IsDoc f.names f.trees (with_live tables u)
       live_held stand few = held_live f.names f.trees tables held u (set_ranges c tables.ranges u held.ranges o there rs set stand few)
 
     -- ---- a range is made
@@ -105,7 +105,7 @@ module _ (f : NamedTrees) {tables : AllTables} (held : IsHeld f.names f.trees ta
 
       pub make_held : (r : Result ℕ Fault) → OnOk r ((q : Owner) → ranges_of u q ≡ with_ranges tables.ranges o one_more q) →
           ((r ≡ Err (Refused Limit)) ↔ (past_limit (length own) 1 ≡ true))
-          → OnErr r ((q : Owner) → ranges_of u q ≡ ranges_of tables.ranges q) → IsHeld f.names f.trees (with_live tables u)
+          → OnErr r ((q : Owner) → ranges_of u q ≡ ranges_of tables.ranges q) → IsDoc f.names f.trees (with_live tables u)
       make_held (Ok n) set limit same =
           live_held one_more set (made_own c tables.ranges held.ranges o node at_node (ap (λ (x : NodeName). x.owner) first))
           (made_few c tables.ranges held.ranges o node (false_from_ne_true (past_limit (length own) 1) (λ h. let full = limit.1 h in cc)))
@@ -139,7 +139,7 @@ module _ (f : NamedTrees) {tables : AllTables} (held : IsHeld f.names f.trees ta
     there_now = there_range k known
 
     module _ (u : RangeLists) where
-      pub drop_held : ((q : Owner) → ranges_of u q ≡ with_ranges tables.ranges o (slice_set own k None) q) → IsHeld f.names f.trees (with_live tables u)
+      pub drop_held : ((q : Owner) → ranges_of u q ≡ with_ranges tables.ranges o (slice_set own k None) q) → IsDoc f.names f.trees (with_live tables u)
       drop_held set = live_held there_now u (slice_set own k None) set (dropped_own c tables.ranges held.ranges o k)
           (written_few c tables.ranges held.ranges o k None)
 
@@ -152,7 +152,7 @@ module _ (f : NamedTrees) {tables : AllTables} (held : IsHeld f.names f.trees ta
       collapsed to_start = slice_set own k (option_map (collapsed_range to_start) (range_in own k))
 
       pub collapse_held : (to_start : Bool) → ((q : Owner) → ranges_of u q ≡ with_ranges tables.ranges o (collapsed to_start) q) →
-          IsHeld f.names f.trees (with_live tables u)
+          IsDoc f.names f.trees (with_live tables u)
       collapse_held to_start set =
           live_held there_now u (collapsed to_start) set (rewritten_own c tables.ranges held.ranges o k (collapsed_range to_start) (λ r h. by to_start r h))
           (written_few c tables.ranges held.ranges o k (option_map (collapsed_range to_start) (range_in own k)))
@@ -220,7 +220,7 @@ module _ (f : NamedTrees) {tables : AllTables} (held : IsHeld f.names f.trees ta
       either false r s h g = g
 
       pub start_held : (r : Result ⊤ Refusal) → OnOk r ((q : Owner) → ranges_of u q ≡ with_ranges tables.ranges o started q) →
-          OnErr r ((q : Owner) → ranges_of u q ≡ ranges_of tables.ranges q) → IsHeld f.names f.trees (with_live tables u)
+          OnErr r ((q : Owner) → ranges_of u q ≡ ranges_of tables.ranges q) → IsDoc f.names f.trees (with_live tables u)
       start_held (Ok x) set same =
           live_held there_now u started set
           (rewritten_own c tables.ranges held.ranges o k (start_set f (at node offset))
@@ -230,15 +230,15 @@ module _ (f : NamedTrees) {tables : AllTables} (held : IsHeld f.names f.trees ta
       start_held (Err e) set same = same_held u same
 
       pub start_makes : (r : Result ⊤ Refusal) → OnOk r ((q : Owner) → ranges_of u q ≡ with_ranges tables.ranges o started q)
-          → OnOk r (Makes o (Command.range_start k (Spelled.own (name_in d node).number) offset) nothing d.world
+          → OnOk r (Makes o (Command.range_start k (NodeWord.own (name_in d node).number) offset) nothing d.world
           (world_from f.names f.trees (with_live tables u)))
       start_makes (Ok x) set =
-          live_makes there_now u started set (λ ns. Command.range_start k (Spelled.own (name_at ns node).number) offset) nothing
+          live_makes there_now u started set (λ ns. Command.range_start k (NodeWord.own (name_at ns node).number) offset) nothing
           (start_effect c tables.ranges held.ranges held.owned once only o node node_is node_own k offset)
       start_makes (Err e) set = tt
 
       pub end_held : (r : Result ⊤ Refusal) → OnOk r ((q : Owner) → ranges_of u q ≡ with_ranges tables.ranges o ended q) →
-          OnErr r ((q : Owner) → ranges_of u q ≡ ranges_of tables.ranges q) → IsHeld f.names f.trees (with_live tables u)
+          OnErr r ((q : Owner) → ranges_of u q ≡ ranges_of tables.ranges q) → IsDoc f.names f.trees (with_live tables u)
       end_held (Ok x) set same =
           live_held there_now u ended set
           (rewritten_own c tables.ranges held.ranges o k (end_set f (at node offset))
@@ -248,10 +248,10 @@ module _ (f : NamedTrees) {tables : AllTables} (held : IsHeld f.names f.trees ta
       end_held (Err e) set same = same_held u same
 
       pub end_makes : (r : Result ⊤ Refusal) → OnOk r ((q : Owner) → ranges_of u q ≡ with_ranges tables.ranges o ended q)
-          → OnOk r (Makes o (Command.range_end k (Spelled.own (name_in d node).number) offset) nothing d.world
+          → OnOk r (Makes o (Command.range_end k (NodeWord.own (name_in d node).number) offset) nothing d.world
           (world_from f.names f.trees (with_live tables u)))
       end_makes (Ok x) set =
-          live_makes there_now u ended set (λ ns. Command.range_end k (Spelled.own (name_at ns node).number) offset) nothing
+          live_makes there_now u ended set (λ ns. Command.range_end k (NodeWord.own (name_at ns node).number) offset) nothing
           (end_effect c tables.ranges held.ranges held.owned once only o node node_is node_own k offset)
       end_makes (Err e) set = tt
 

@@ -19,7 +19,7 @@ use Rattle.dom_model.specs.TextChanges.{joins}
 use Rattle.dom_worlds.specs.Bounds.{HasBounds}
 use Rattle.dom_worlds.specs.Worlds.{IsPart}
 use Rattle.dom_worlds.proofs.Bounds.{length-replaced}
-use Rattle.dom_worlds.proofs.Kids.{index-below, length-children}
+use Rattle.dom_worlds.proofs.ChildCounts.{index-below, length-children}
 use Rattle.dom_ranges.specs.Rules.{Fits}
 use Rattle.dom_ranges.specs.Tables.{RangeLists, EachRange, BothEnds, ends_by, ranges_of, range_in}
 use Rattle.dom_ranges.proofs.Vacant.{ends-none}
@@ -29,25 +29,25 @@ use Rattle.dom_tree.specs.Owners.{IsOwnChange}
 use Rattle.dom_tree.proofs.OwnPlacings.{changed_node}
 use Rattle.dom_slots.specs.Kept.{AreSlotsOf}
 use Rattle.dom_parts.specs.Contents.{part_in, part_with}
-use Rattle.dom_parts.specs.Doc.{DocState, named_trees, contents, state_from, world_from, IsHeld, name_in, owner_in, trees_in, stepped, planned}
+use Rattle.dom_parts.specs.Doc.{DocState, named_trees, contents, state_from, world_from, IsDoc, name_in, owner_in, trees_in, stepped, planned}
 use Rattle.dom_parts.specs.Doc.{IsChild, IsOwnNode, MayCome}
 use Rattle.dom_parts.specs.AllTables.{AllTables, with_live}
 use Rattle.dom_parts.specs.Ranging.{AreRangesOf}
 use Rattle.dom_parts.proofs.BoundedPlans.{length_few}
-use Rattle.dom_parts.proofs.Held.{are_hosts, held_changed, due_kept}
+use Rattle.dom_parts.proofs.DocInvariant.{are_hosts, held_changed, due_kept}
 use Rattle.dom_parts.proofs.HeldNodes.{TellApart}
 use Rattle.dom_parts.proofs.OwnParts.{own_part}
 use Rattle.dom_parts.proofs.RangedFits.{room_fits, data_fits, data_fits_shorter, join_fits}
 use Rattle.dom_parts.proofs.RangedSteps.{data_ranged}
 use Rattle.dom_parts.proofs.RangedWorlds.{data_told, join_told}
-use Rattle.dom_tree_laws.proofs.Standing.{keeps_changed}
+use Rattle.dom_tree_laws.proofs.KeptAncestors.{keeps_changed}
 use Rattle.dom_parts.proofs.Shown.{state_with, known, owner_there}
 use Rattle.dom_parts.proofs.Worlds.{part_at, part_off, there_same}
 
 -- ---- what holds with other live ranges
 
-pub held_live : (names : List NodeName) (ts : Trees) (tables : AllTables) → IsHeld names ts tables → (live : RangeLists) →
-    AreRangesOf (contents names ts (with_live tables live)) live → IsHeld names ts (with_live tables live)
+pub held_live : (names : List NodeName) (ts : Trees) (tables : AllTables) → IsDoc names ts tables → (live : RangeLists) →
+    AreRangesOf (contents names ts (with_live tables live)) live → IsDoc names ts (with_live tables live)
 held_live names ts tables held live stand = record {
   owned = held.owned;
   present = λ k k<. who (name_at names k).owner ∙ held.present k k<;
@@ -67,7 +67,7 @@ held_live names ts tables held live stand = record {
     who : (o : Owner) → is_there (world_from names ts (with_live tables live)) o ≡ is_there (world_from names ts tables) o
     who o = there_same (contents names ts (with_live tables live)) (contents names ts tables) refl o
 
-module _ (f : NamedTrees) {tables : AllTables} (held : IsHeld f.names f.trees tables) {d : DocState} (is_d : state_from f.names f.trees tables ≡ d) where
+module _ (f : NamedTrees) {tables : AllTables} (held : IsDoc f.names f.trees tables) {d : DocState} (is_d : state_from f.names f.trees tables ≡ d) where
   -- a step of a node's owner that changes live ranges alone
   pub live_done : (k : ℕ) (live : RangeLists) (s : List NodeName → Step)
       → world_from f.names f.trees (with_live tables live) ≡ world_step (name_at f.names k).owner (world_from f.names f.trees tables)
@@ -233,10 +233,10 @@ module _ (f : NamedTrees) {tables : AllTables} (held : IsHeld f.names f.trees ta
               EachRange (BothEnds (λ b. Fits (after_replace_data nat_eq node offset count n b))) (ranges_of tables.ranges q)) is_size data_asks)
 
           pub data_held : AreSlotsOf (named_trees f.names (change_node (with_data_replaced offset count new) (name_at f.names node) f.trees))
-              tables.slots → IsHeld g.names g.trees (with_live tables live)
+              tables.slots → IsDoc g.names g.trees (with_live tables live)
           data_held slots =
-              subst (λ (ns : List NodeName). IsHeld ns g.trees (with_live tables live)) (sym names)
-              (subst (λ (us : Trees). IsHeld f.names us (with_live tables live)) (sym trees)
+              subst (λ (ns : List NodeName). IsDoc ns g.trees (with_live tables live)) (sym names)
+              (subst (λ (us : Trees). IsDoc f.names us (with_live tables live)) (sym trees)
               (held_live f.names (h f.trees) tables
               (held_changed f.names f.trees tables held own (owner_there f held is_d node node<) h change
               (keeps_changed (with_data_replaced offset count new) (λ n. refl) (name_at f.names node) f.trees) slots) live stand))
@@ -252,7 +252,7 @@ module _ (f : NamedTrees) {tables : AllTables} (held : IsHeld f.names f.trees ta
               held.ranges apart own (owner_there f held is_d node node<) node offset count new node_is refl moved_new change)))
 
 -- each owner's part in the world, whoever is there
-pub part_everywhere : (f : NamedTrees) {tables : AllTables} → IsHeld f.names f.trees tables → StandOnce f → StandAlone f → (o : Owner) →
+pub part_everywhere : (f : NamedTrees) {tables : AllTables} → IsDoc f.names f.trees tables → StandOnce f → StandAlone f → (o : Owner) →
     IsPart (part_of (world_from f.names f.trees tables) o)
 part_everywhere f {tables} held once only o =
     let c = contents f.names f.trees tables in

@@ -23,10 +23,10 @@ use Rattle.dom_observers.proofs.Ascending.{path_keys-named}
 use Rattle.dom_observers.proofs.Speaking.{speaks_told}
 use Rattle.dom_parts.specs.Contents.{part_in}
 use Rattle.dom_parts.specs.AllTables.{AllTables, with_observers, with_queue}
-use Rattle.dom_parts.specs.Doc.{DocState, contents, world_from, state_from, IsHeld, IsDue, name_in, owner_in, stepped}
+use Rattle.dom_parts.specs.Doc.{DocState, contents, world_from, state_from, IsDoc, IsDue, name_in, owner_in, stepped}
 use Rattle.dom_parts.proofs.Worlds.{there_same}
 use Rattle.dom_parts.proofs.HostedSteps.{record_hosted}
-use Rattle.dom_parts.proofs.Held.{are_hosts, held_tasks}
+use Rattle.dom_parts.proofs.DocInvariant.{are_hosts, held_tasks}
 use Rattle.dom_parts.proofs.Tasks.{due_notified}
 use Rattle.dom_parts.proofs.Shown.{state_with}
 use Rattle.dom_parts.proofs.Observed.{with_seen, held_seen, change_seen}
@@ -48,7 +48,7 @@ pub all_by : {X : Type 0} (P : X → Type 0) (xs : List X) → AllByRecursion P 
 all_by P [] all = tt
 all_by P (x ∷ xs) all = (all.0, all_by P xs all.1)
 
-module _ (f : NamedTrees) {tables : AllTables} (held : IsHeld f.names f.trees tables) (once : StandOnce f) (only : StandAlone f)
+module _ (f : NamedTrees) {tables : AllTables} (held : IsDoc f.names f.trees tables) (once : StandOnce f) (only : StandAlone f)
     (apart : TellApart f.names) (c : Change ℕ) (speaks : IsChangeAt (IsKey f.names) c) where
   at_target : target_of c < length f.names
   at_target = target_at (IsKey f.names) c speaks
@@ -91,13 +91,13 @@ module _ (f : NamedTrees) {tables : AllTables} (held : IsHeld f.names f.trees ta
     -- what holds after it, with the notification queued or not
     pub record_held : (tasks : List Task) (t : Bool) →
         tasks ≡ (if t then queued_notify (name_at f.names (target_of c)).owner tables.tasks else tables.tasks) →
-        IsHeld f.names f.trees (with_queue (with_observers tables seen) tasks)
+        IsDoc f.names f.trees (with_queue (with_observers tables seen) tasks)
     unfolding then_told
     record_held tasks t same =
         held_tasks f.names f.trees (with_observers tables seen) h tasks
         (subst (AllByRecursion (IsDue (world_from f.names f.trees (with_observers tables seen)))) (sym same) (by t))
       where
-        h : IsHeld f.names f.trees (with_observers tables seen)
+        h : IsDoc f.names f.trees (with_observers tables seen)
         h = held_seen f.names f.trees tables held (name_at f.names (target_of c)).owner record_there then_told seen is
             (speaks_told (IsKey f.names) nat_eq (path_keys f (target_of c)) c (tables.observers (name_at f.names (target_of c)).owner)
             (held.speaks (name_at f.names (target_of c)).owner) speaks)
@@ -143,7 +143,7 @@ module _ (f : NamedTrees) {tables : AllTables} (held : IsHeld f.names f.trees ta
 
       -- where the notification is to be queued, which may fail
       pub notify_held : {T E : Type 0} (r : Result T E) → OnOk r (tasks ≡ queued_notify owner tables.tasks) → OnErr r (tasks ≡ tables.tasks) →
-          IsHeld f.names f.trees (with_queue (with_observers tables seen) tasks)
+          IsDoc f.names f.trees (with_queue (with_observers tables seen) tasks)
       notify_held (Ok x) is same = record_held tasks true (is ∙ ap (λ o. queued_notify o tables.tasks) is_owner)
       notify_held (Err e) is same = record_held tasks false same
 

@@ -10,14 +10,14 @@ use Rattle.dom_tree.specs.Forest.{NamedTrees, name_at}
 use Rattle.dom_tree.proofs.OwnPlacings.{changed_subtree}
 use Rattle.dom_slots.proofs.Recast.{keeps_if, slots-recast}
 use Rattle.dom_parts.specs.Contents.{Contents, world_of}
-use Rattle.dom_parts.specs.Doc.{DocState, named_trees, contents, world_from, state_from, IsHeld, name_in, owner_in, stepped}
+use Rattle.dom_parts.specs.Doc.{DocState, named_trees, contents, world_from, state_from, IsDoc, name_in, owner_in, stepped}
 use Rattle.dom_parts.specs.Hosting.{document_in, forest_in}
 use Rattle.dom_node_trees.specs.Documents.{under_each, roots_within}
 use Rattle.dom_parts.specs.AllTables.{AllTables}
-use Rattle.dom_parts.proofs.Held.{are_hosts, held_changed}
+use Rattle.dom_parts.proofs.DocInvariant.{are_hosts, held_changed}
 use Rattle.dom_parts.proofs.HostedDocuments.{documents_world}
 use Rattle.dom_parts.proofs.Shown.{known, owner_there, step_done}
-use Rattle.dom_tree_laws.proofs.Standing.{keeps_changed_below}
+use Rattle.dom_tree_laws.proofs.KeptAncestors.{keeps_changed_below}
 
 -- how many closed trees can lie in one another, as the code has it
 pub depth_is : max_depth ≡ 8
@@ -30,7 +30,7 @@ documents_trees d c [] = refl
 documents_trees d c (x ∷ xs) = documents_trees d (document_in d c x) xs
 
 module _ (names : List NodeName) (d : NodeName) (tables : AllTables) where
-  one_held : (ts : Trees) → IsHeld names ts tables → (k : ℕ) → k < length names → IsHeld names (under_each d ts (name_at names k)) tables
+  one_held : (ts : Trees) → IsDoc names ts tables → (k : ℕ) → k < length names → IsDoc names (under_each d ts (name_at names k)) tables
   one_held ts held k within =
       let x = name_at names k in
       held_changed names ts tables held x.owner (held.present k within) (change_subtree (with_document d) x)
@@ -39,23 +39,23 @@ module _ (names : List NodeName) (d : NodeName) (tables : AllTables) where
       (keeps_if (λ n. is_in name_eq n.name (inclusive_descendants ts x)) (with_document d)
       record { name = λ n. refl; kind = λ n. refl; element = λ n. refl; attributes = λ n. refl }) refl refl held.signals.slots)
 
-  each_held : (ks : List ℕ) (ts : Trees) → IsHeld names ts tables → All (λ k. k < length names) ks →
-      IsHeld names (fold (under_each d) ts (map (name_at names) ks)) tables
+  each_held : (ks : List ℕ) (ts : Trees) → IsDoc names ts tables → All (λ k. k < length names) ks →
+      IsDoc names (fold (under_each d) ts (map (name_at names) ks)) tables
   each_held [] ts held all = held
   each_held (k ∷ ks) ts held all = each_held ks (under_each d ts (name_at names k))
       (one_held ts held k (All-head (λ j. j < length names) k ks all)) (All-tail (λ j. j < length names) k ks all)
 
 -- the documents of a tree, and of the shadow trees of the hosts in it, at any depth
-module _ (f : NamedTrees) {tables : AllTables} (held : IsHeld f.names f.trees tables) {s : DocState}
+module _ (f : NamedTrees) {tables : AllTables} (held : IsDoc f.names f.trees tables) {s : DocState}
     (is_s : state_from f.names f.trees tables ≡ s) (k doc : ℕ) (k< : k < length s.names) (roots : List ℕ)
     (listed : map (name_at f.names) roots ≡ roots_within max_depth f tables.slots.hosts (name_at f.names k)) (nodes : All (λ j. j < length f.names) roots)
     (g : NamedTrees) (names : g.names ≡ f.names)
     (trees : g.trees ≡ fold (under_each (name_at f.names doc)) (under_each (name_at f.names doc) f.trees (name_at f.names k))
     (map (name_at f.names) roots)) where
-  pub documents_are_held : IsHeld g.names g.trees tables
+  pub documents_are_held : IsDoc g.names g.trees tables
   documents_are_held =
-      subst (λ (ns : List NodeName). IsHeld ns g.trees tables) (sym names)
-      (subst (λ (us : Trees). IsHeld f.names us tables) (sym trees)
+      subst (λ (ns : List NodeName). IsDoc ns g.trees tables) (sym names)
+      (subst (λ (us : Trees). IsDoc f.names us tables) (sym trees)
       (each_held f.names (name_at f.names doc) tables roots (under_each (name_at f.names doc) f.trees (name_at f.names k))
       (one_held f.names (name_at f.names doc) tables f.trees held k (known f held is_s (λ e. k < length e.names) k<)) nodes))
 

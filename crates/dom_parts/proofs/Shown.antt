@@ -14,18 +14,18 @@ use Rattle.dom_tree.specs.Forest.{NamedTrees, name_at}
 use Rattle.dom_tree.specs.Owners.{trees_of_owner, IsReadOwn, IsOwnChange}
 use Rattle.dom_tree.proofs.Owned.{read_own}
 use Rattle.dom_parts.specs.AllTables.{AllTables}
-use Rattle.dom_parts.specs.Doc.{DocState, named_trees, contents, state_from, world_from, IsHeld, name_in, owner_in, trees_in, stepped}
+use Rattle.dom_parts.specs.Doc.{DocState, named_trees, contents, state_from, world_from, IsDoc, name_in, owner_in, trees_in, stepped}
 use Rattle.dom_parts.proofs.Worlds.{part_at, part_off}
-use Rattle.dom_tree_laws.proofs.Standing.{KeepsAbove}
+use Rattle.dom_tree_laws.proofs.KeptAncestors.{KeepsAbove}
 use Rattle.dom_slots.specs.Kept.{AreSlotsOf}
-use Rattle.dom_parts.proofs.Held.{held_changed}
+use Rattle.dom_parts.proofs.DocInvariant.{held_changed}
 use Rattle.dom_parts.proofs.Steps.{record_world}
 
 abbrev pub state_with : List NodeName → World → DocState
 state_with ns w = record { names = ns; world = w }
 
 -- the trees of a part
-pub own_in_part : (names : List NodeName) (ts : Trees) {tables : AllTables} → IsHeld names ts tables → (o : Owner) →
+pub own_in_part : (names : List NodeName) (ts : Trees) {tables : AllTables} → IsDoc names ts tables → (o : Owner) →
     trees_of_owner o ts ≡ (part_of (world_from names ts tables) o).trees
 own_in_part names ts {tables} held o = elim (cases_Bool (is_there (world_from names ts tables) o)) [
   | inl there ↦ ap (λ (p : Part). p.trees) (sym (part_at (contents names ts tables) o there))
@@ -38,7 +38,7 @@ pub of_owner : (names : List NodeName) (o : Owner) (given : Option ℕ) → ForS
 of_owner names o None h x e = cc
 of_owner names o (Some k) h x e = let same : name_at names k ≡ x = cc in subst (λ (y : NodeName). y.owner ≡ o) same (h k refl)
 
-module _ (f : NamedTrees) {tables : AllTables} (held : IsHeld f.names f.trees tables) {d : DocState} (is_d : state_from f.names f.trees tables ≡ d) where
+module _ (f : NamedTrees) {tables : AllTables} (held : IsDoc f.names f.trees tables) {d : DocState} (is_d : state_from f.names f.trees tables ≡ d) where
   -- a read of one node
   pub shown : {R : Type 0} (read : Trees → NodeName → R) (value : List NodeName → R) (k : ℕ)
       → value f.names ≡ read f.trees (name_at f.names k)
@@ -70,10 +70,10 @@ module _ (f : NamedTrees) {tables : AllTables} (held : IsHeld f.names f.trees ta
   -- a change of a node's owner's trees: what holds after it, and that it is a step
   module _ (k : ℕ) (h : Trees → Trees) (g : NamedTrees) (names : g.names ≡ f.names) (trees : g.trees ≡ h f.trees) where
     pub step_held : k < length d.names → IsOwnChange (name_at f.names k).owner h f.trees → KeepsAbove f.trees (h f.trees) →
-        AreSlotsOf (named_trees f.names (h f.trees)) tables.slots → IsHeld g.names g.trees tables
+        AreSlotsOf (named_trees f.names (h f.trees)) tables.slots → IsDoc g.names g.trees tables
     step_held k< change keeps slots =
-        subst (λ (ns : List NodeName). IsHeld ns g.trees tables) (sym names)
-        (subst (λ (us : Trees). IsHeld f.names us tables) (sym trees)
+        subst (λ (ns : List NodeName). IsDoc ns g.trees tables) (sym names)
+        (subst (λ (us : Trees). IsDoc f.names us tables) (sym trees)
         (held_changed f.names f.trees tables held (name_at f.names k).owner (owner_there k k<) h change keeps slots))
 
     pub step_done : (s : List NodeName → Step) →

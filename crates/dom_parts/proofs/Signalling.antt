@@ -34,9 +34,9 @@ use Rattle.dom_cursors.specs.OwnTables.{KeyedTables, AreLeft, no_keyed_tables}
 use Rattle.dom_cursors.specs.Cursors.{with_cursors}
 use Rattle.dom_parts.specs.AllTables.{AllTables, AreTablesOf, AreFirst, signals_of, with_live, with_signals, with_observers}
 use Rattle.dom_parts.specs.Ranging.{AreRangesOf, ranged}
-use Rattle.dom_parts.specs.Doc.{DocState, named_trees, shown_tables, contents, world_from, state_from, IsHeld, IsDue, name_in, owner_in, stepped}
+use Rattle.dom_parts.specs.Doc.{DocState, named_trees, shown_tables, contents, world_from, state_from, IsDoc, IsDue, name_in, owner_in, stepped}
 use Rattle.dom_parts.proofs.BoundedPlans.{index_few}
-use Rattle.dom_parts.proofs.Held.{are_hosts, held_with}
+use Rattle.dom_parts.proofs.DocInvariant.{are_hosts, held_with}
 use Rattle.dom_parts.proofs.HeldNodes.{given_up}
 use Rattle.dom_parts.proofs.HostedSteps.{signalled_fields, removal_hosted}
 use Rattle.dom_parts.proofs.Keeping.{Stays, tables_kept}
@@ -47,11 +47,11 @@ use Rattle.dom_parts.proofs.RangedSteps.{removal_ranged}
 use Rattle.dom_parts.proofs.Shown.{state_with, owner_there}
 use Rattle.dom_node_trees.proofs.Signals.{all_appended, all_named}
 use Rattle.dom_parts.proofs.Tasks.{due_signalled}
-use Rattle.dom_tree_laws.proofs.Standing.{KeepsAbove}
+use Rattle.dom_tree_laws.proofs.KeptAncestors.{KeepsAbove}
 use Rattle.dom_parts.proofs.Steps.{left_own, left_idle, left_speaks, left_off, left_part, left_change}
 use Rattle.dom_parts.proofs.Worlds.{IsChangeOf}
 
-module _ (f : NamedTrees) {tables : AllTables} (held : IsHeld f.names f.trees tables) {d : DocState}
+module _ (f : NamedTrees) {tables : AllTables} (held : IsDoc f.names f.trees tables) {d : DocState}
     (is_d : state_from f.names f.trees tables ≡ d) (k : ℕ) (k< : k < length d.names)
     (each : Owner → KeyedTables) (h : Trees → Trees) (change : IsOwnChange (name_at f.names k).owner h f.trees)
     (own : (p : Owner) → AreTablesOf (named_trees f.names (h f.trees)) p (each p))
@@ -85,10 +85,10 @@ module _ (f : NamedTrees) {tables : AllTables} (held : IsHeld f.names f.trees ta
         (subst (AllByRecursion there) here.signalled (all_named there f.names held.present after.signalled here.held.nodes))).1
         tables.tasks held.due)
 
-    pub signalled_held : IsHeld m.names m.trees (with_signals next after)
+    pub signalled_held : IsDoc m.names m.trees (with_signals next after)
     signalled_held =
-        subst (λ (ns : List NodeName). IsHeld ns m.trees (with_signals next after)) (sym names)
-        (subst (λ (us : Trees). IsHeld f.names us (with_signals next after)) (sym trees)
+        subst (λ (ns : List NodeName). IsDoc ns m.trees (with_signals next after)) (sym names)
+        (subst (λ (us : Trees). IsDoc f.names us (with_signals next after)) (sym trees)
         (held_with f.names f.trees tables held (name_at f.names k).owner (owner_there f held is_d k k<) f.names (h f.trees)
         (with_signals next after) here.hosts change.owned change.others held.present held.limited own idle held.made
         record { free = here.held.free; slots = here.held.slots; nodes = here.held.nodes } speaks unobserved due_then
@@ -133,9 +133,9 @@ on_three (Err e) a b c f = tt
 
 module _ {T E : Type 0} (m g : NamedTrees) (mid last : AllTables) where
   pub settled_held : (r : Result T E) → OnOk r (g ≡ m) → OnOk r (last ≡ mid) → OnErr r (g ≡ record { names = []; trees = none }) →
-      OnErr r (AreFirst last) → OnOk r (IsHeld m.names m.trees mid) → IsHeld g.names g.trees last
+      OnErr r (AreFirst last) → OnOk r (IsDoc m.names m.trees mid) → IsDoc g.names g.trees last
   settled_held (Ok x) forest tables empty first held =
-      subst (λ (p : NamedTrees). IsHeld p.names p.trees last) (sym forest) (subst (IsHeld m.names m.trees) (sym tables) held)
+      subst (λ (p : NamedTrees). IsDoc p.names p.trees last) (sym forest) (subst (IsDoc m.names m.trees) (sym tables) held)
   settled_held (Err e) forest tables empty first held = given_up g last empty first
 
   pub settled_state : (d : DocState) (r q : Result T E) → q ≡ r → OnOk r (g ≡ m) → OnOk r (last ≡ mid) →
@@ -156,7 +156,7 @@ pub record Settled {T E : Type 0} (m g : NamedTrees) (mid last : AllTables) (r q
 
 -- ---- steps that change one owner's trees alone
 
-module _ (f : NamedTrees) {tables : AllTables} (held : IsHeld f.names f.trees tables) {d : DocState}
+module _ (f : NamedTrees) {tables : AllTables} (held : IsDoc f.names f.trees tables) {d : DocState}
     (is_d : state_from f.names f.trees tables ≡ d) (k : ℕ) (k< : k < length d.names)
     (h : Trees → Trees) (change : IsOwnChange (name_at f.names k).owner h f.trees) (keeps : KeepsAbove f.trees (h f.trees)) (s : Step)
     (m g : NamedTrees) (after : SignalTables) (last : AllTables) {T E : Type 0} (r q : Result T E)
@@ -169,7 +169,7 @@ module _ (f : NamedTrees) {tables : AllTables} (held : IsHeld f.names f.trees ta
   pub ranges_kept : AreRangesOf (contents f.names (h f.trees) tables) tables.ranges
   ranges_kept = ranges_stay (contents f.names f.trees tables) (contents f.names (h f.trees) tables) tables.ranges held.ranges refl refl (λ p. refl)
 
-  pub tree_held : IsHeld g.names g.trees last
+  pub tree_held : IsDoc g.names g.trees last
   tree_held =
       settled_held m g (with_signals tables after) last r settled.forest settled.tables settled.empty settled.first
       (on_three r names trees signals (λ ns us sig. signalled_held f held is_d k k< tables.each h change own_kept held.idle tables.observers
@@ -188,7 +188,7 @@ module _ (f : NamedTrees) {tables : AllTables} (held : IsHeld f.names f.trees ta
 
 -- ---- a removal
 
-module _ (f : NamedTrees) {tables : AllTables} (held : IsHeld f.names f.trees tables) {d : DocState}
+module _ (f : NamedTrees) {tables : AllTables} (held : IsDoc f.names f.trees tables) {d : DocState}
     (is_d : state_from f.names f.trees tables ≡ d) (k : ℕ) (k< : k < length d.names)
     (stay : Stays f) (once : StandOnce f) (only : StandAlone f) (apart : TellApart f.names) (parent : ℕ) (at_parent : parent < length f.names)
     (is_parent : Some (name_at f.names parent) ≡ parent_of f.trees (name_at f.names k))
@@ -278,7 +278,7 @@ module _ (f : NamedTrees) {tables : AllTables} (held : IsHeld f.names f.trees ta
       (removal_fits was tables.ranges held.ranges (name_at f.names k).owner (is_inside f k) parent (index_of f.trees (name_at f.names k)) small))
       refl refl (λ p. refl)
 
-  pub removal_held : IsHeld g.names g.trees last
+  pub removal_held : IsDoc g.names g.trees last
   removal_held =
       settled_held m g (with_signals (with_live (with_observers (record tables { each = each }) seen) live) after) last r settled.forest
       settled.tables settled.empty settled.first

@@ -35,16 +35,16 @@ use Rattle.dom_cursors.specs.OwnTables.{KeyedTables, AreLeft, no_keyed_tables}
 use Rattle.dom_cursors.specs.Cursors.{with_cursors}
 use Rattle.dom_cursors.proofs.Owners.{with-own, with-other}
 use Rattle.dom_parts.specs.AllTables.{tables_with, AreTablesOf, AllTables, with_table, with_observers}
-use Rattle.dom_parts.specs.Doc.{named_trees, shown_tables, contents, world_from, IsHeld}
+use Rattle.dom_parts.specs.Doc.{named_trees, shown_tables, contents, world_from, IsDoc}
 use Rattle.dom_parts.specs.Hosting.{attached_of}
 use Rattle.dom_parts.proofs.Worlds.{IsChangeOf}
 use Rattle.dom_parts.proofs.Quiet.{untaken, untold_part}
 use Rattle.dom_parts.proofs.HostedSteps.{record_hosted}
 use Rattle.dom_parts.proofs.Keeping.{Stays, views_left, tables_left, tables_apart}
-use Rattle.dom_parts.proofs.Held.{are_hosts}
+use Rattle.dom_parts.proofs.DocInvariant.{are_hosts}
 use Rattle.dom_parts.proofs.Observed.{seen_own, seen_other, seen_speaks, seen_off}
 
-module _ (names : List NodeName) (ts : Trees) (tables : AllTables) (held : IsHeld names ts tables) (o : Owner)
+module _ (names : List NodeName) (ts : Trees) (tables : AllTables) (held : IsDoc names ts tables) (o : Owner)
     (there : is_there (world_from names ts tables) o ≡ true) where
   abbrev now : Contents
   now = contents names ts tables
@@ -84,7 +84,7 @@ module _ (names : List NodeName) (ts : Trees) (tables : AllTables) (held : IsHel
 
 -- ---- a removal
 
-module _ (f : NamedTrees) {tables : AllTables} (held : IsHeld f.names f.trees tables) (stay : Stays f) (once : StandOnce f) (only : StandAlone f)
+module _ (f : NamedTrees) {tables : AllTables} (held : IsDoc f.names f.trees tables) (stay : Stays f) (once : StandOnce f) (only : StandAlone f)
     (apart : TellApart f.names)
     (node : ℕ) (at_node : node < length f.names) (o : Owner) (own : (name_at f.names node).owner ≡ o) (parent : ℕ)
     (at_parent : parent < length f.names) (is_parent : Some (name_at f.names parent) ≡ parent_of f.trees (name_at f.names node))

@@ -8,11 +8,11 @@ use Rattle.dom_model.specs.Turns.{is_owned_by, without_signals}
 use Rattle.dom_tree.specs.Forest.{NamedTrees, name_at}
 use Rattle.dom_parts.specs.AllTables.{AllTables}
 use Rattle.dom_node_trees.specs.Signalled.{AreNames}
-use Rattle.dom_parts.specs.Doc.{DocState, IsHeld, contents, world_from, state_from, name_in}
-use Rattle.dom_parts.proofs.Held.{due_kept}
+use Rattle.dom_parts.specs.Doc.{DocState, IsDoc, contents, world_from, state_from, name_in}
+use Rattle.dom_parts.proofs.DocInvariant.{due_kept}
 use Rattle.dom_parts.proofs.RangedKeeping.{ranges_stay}
 
-module _ (f : NamedTrees) {tables : AllTables} (held : IsHeld f.names f.trees tables) {d : DocState}
+module _ (f : NamedTrees) {tables : AllTables} (held : IsDoc f.names f.trees tables) {d : DocState}
     (is_d : state_from f.names f.trees tables ≡ d) (o : Owner) where
   pub taken_names : (keys : List ℕ) → map (name_at f.names) keys ≡ filter (is_owned_by o) tables.signalled →
       map (name_in d) keys ≡ filter (is_owned_by o) d.world.signalled
@@ -22,7 +22,7 @@ module _ (f : NamedTrees) {tables : AllTables} (held : IsHeld f.names f.trees ta
   taken_nodes keys all = subst (λ (e : DocState). All (λ k. k < length e.names) keys) is_d all
 
   module _ (rest : List NodeName) (is : rest ≡ filter (λ s. not (is_owned_by o s)) tables.signalled) where
-    pub rest_held : IsHeld f.names f.trees (record tables { signalled = rest })
+    pub rest_held : IsDoc f.names f.trees (record tables { signalled = rest })
     rest_held = record {
       owned = held.owned;
       present = held.present;

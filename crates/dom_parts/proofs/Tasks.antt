@@ -7,8 +7,8 @@ use Rattle.dom_base.specs.declared.Owner.{Owner}
 use Rattle.dom_model.specs.World.{World, Task, notify_task, is_there, is_notify_of, queued_notify}
 use Rattle.dom_tree.specs.Forest.{NamedTrees}
 use Rattle.dom_parts.specs.AllTables.{AllTables, with_queue}
-use Rattle.dom_parts.specs.Doc.{DocState, IsHeld, IsDue, world_from, state_from, with_tasks}
-use Rattle.dom_parts.proofs.Held.{held_tasks}
+use Rattle.dom_parts.specs.Doc.{DocState, IsDoc, IsDue, world_from, state_from, with_tasks}
+use Rattle.dom_parts.proofs.DocInvariant.{held_tasks}
 
 -- ---- tasks that are due
 
@@ -32,7 +32,7 @@ module _ (w : World) where
   due_signalled [] there ts all = all
   due_signalled (s ∷ slots) there ts all = due_signalled slots there.1 (queued_notify s.owner ts) (due_notified s.owner there.0 ts all)
 
-module _ (f : NamedTrees) {tables : AllTables} (held : IsHeld f.names f.trees tables) {d : DocState} (is_d : state_from f.names f.trees tables ≡ d) where
+module _ (f : NamedTrees) {tables : AllTables} (held : IsDoc f.names f.trees tables) {d : DocState} (is_d : state_from f.names f.trees tables ≡ d) where
   -- the tasks
   pub tasks_are : tables.tasks ≡ d.world.tasks
   tasks_are = ap (λ (e : DocState). e.world.tasks) is_d
@@ -56,7 +56,7 @@ module _ (f : NamedTrees) {tables : AllTables} (held : IsHeld f.names f.trees ta
     pushed_none (Err e) is = ap (λ ts. state_from f.names f.trees (with_queue tables ts)) is ∙ is_d
 
     pub held_pushed : (t : Task) → IsDue (world_from f.names f.trees tables) t → (r : Result T E) → OnOk r (tasks ≡ tables.tasks ++ t ∷ []) →
-        OnErr r (tasks ≡ tables.tasks) → IsHeld f.names f.trees (with_queue tables tasks)
+        OnErr r (tasks ≡ tables.tasks) → IsDoc f.names f.trees (with_queue tables tasks)
     held_pushed t due (Ok x) is same = held_tasks f.names f.trees tables held tasks
         (subst (AllByRecursion (IsDue (world_from f.names f.trees tables))) (sym is)
         (due_push (world_from f.names f.trees tables) tables.tasks t held.due due))

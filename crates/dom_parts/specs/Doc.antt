@@ -93,7 +93,7 @@ IsDue w (notify_task o) = is_there w o ≡ true
 -- which its maker made next; the slots are those of the trees, no step is begun, and signalled slots are
 -- nodes; registrations and records name nodes alone, who is not there has no iterators, walkers and observers, and the notifications that are
 -- queued are of owners that are there; live ranges are at their owner's nodes, and nodes are numbered below their count
-pub record IsHeld (names : List NodeName) (ts : Trees) (tables : AllTables) : Type 0 where
+pub record IsDoc (names : List NodeName) (ts : Trees) (tables : AllTables) : Type 0 where
   pub owned : AreOwned ts
   pub present : (k : ℕ) → k < length names → is_there (world_from names ts tables) (name_at names k).owner ≡ true
   pub absent : (o : Owner) → is_there (world_from names ts tables) o ≡ false → trees_of_owner o ts ≡ none

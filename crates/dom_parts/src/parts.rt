@@ -59,7 +59,7 @@ pub struct Parts {
 impl Model for Parts {
     ghost use Rattle.std.specs.Coded.{codes};
     ghost use Rattle.dom_model.specs.Codes.{trees_code};
-    ghost use Rattle.dom_parts.specs.Doc.{DocState, all_tables, state_from, IsHeld};
+    ghost use Rattle.dom_parts.specs.Doc.{DocState, all_tables, state_from, IsDoc};
 
     ghost Value = { DocState };
 
@@ -67,7 +67,7 @@ impl Model for Parts {
 
     ghost view = { λ d. state_from d.forest.names d.forest.trees (all_tables d) };
 
-    ghost invariant = { λ d. IsHeld d.forest.names d.forest.trees (all_tables d) };
+    ghost invariant = { λ d. IsDoc d.forest.names d.forest.trees (all_tables d) };
 }
 
 impl Parts {

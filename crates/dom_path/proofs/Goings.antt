@@ -9,12 +9,12 @@ use Rattle.dom_tree.specs.Forest.{NamedTrees, name_at}
 use Rattle.dom_tree.proofs.Changes.{slice_get-pushed}
 use Rattle.node_arena.proofs.Numbers.{slice_get-push}
 use Rattle.dom_slots.specs.Hosts.{ShadowHost}
-use Rattle.dom_path.specs.declared.stand.Stand.{Stand}
+use Rattle.dom_path.specs.declared.path_node.PathNode.{PathNode}
 use Rattle.dom_path.specs.declared.trees.Tree.{Tree}
 use Rattle.dom_path.specs.Hosted.{IsHosted}
 use Rattle.dom_path.specs.Nests.{IsNested, Grows}
 use Rattle.dom_path.specs.Outward.{IsAround, GoesOut}
-use Rattle.dom_path.specs.Stands.{IsTreeOf, HasTreeNodes, IsTree, AreTrees, IsStand}
+use Rattle.dom_path.specs.PathNodes.{IsTreeOf, HasTreeNodes, IsTree, AreTrees, IsPathNode}
 use Rattle.dom_path.proofs.Nesting.{nested-none, nested-more, kept-more, grows-longer, grows-twice}
 
 module _ (f : NamedTrees) (hosts : List ShadowHost) where
@@ -42,7 +42,7 @@ module _ (f : NamedTrees) (hosts : List ShadowHost) where
       from (Some t) e k = ap (option_map (λ (t : Tree). name_at f.names t.root)) (kept-more trees g.0 place t e) ∙ k
 
   -- so is a node's place
-  pub stand-kept : (trees new : List Tree) (x : Stand) → Grows trees new → IsStand f hosts trees x → IsStand f hosts new x
+  pub stand-kept : (trees new : List Tree) (x : PathNode) → Grows trees new → IsPathNode f hosts trees x → IsPathNode f hosts new x
   stand-kept trees new x g h = record {
     node = h.node;
     within = let longer = grows-longer trees new g in let w = h.within in omega (arith, longer, w);
@@ -51,10 +51,10 @@ module _ (f : NamedTrees) (hosts : List ShadowHost) where
   }
 
   -- a node's place, from its parts
-  pub stand-made : (trees : List Tree) (x : Stand) (node place : ℕ) → x.node ≡ node → x.tree ≡ place →
+  pub stand-made : (trees : List Tree) (x : PathNode) (node place : ℕ) → x.node ≡ node → x.tree ≡ place →
       x.is_shadow_root ≡ is_shadow (node_in f.trees (name_at f.names node)).kind
       → node < length f.names → place < length trees → ((depth : ℕ) → IsHosted f hosts depth → IsTreeOf f trees place (name_at f.names node)) →
-      IsStand f hosts trees x
+      IsPathNode f hosts trees x
   stand-made trees x node place e g shadow there within is = record {
     node = subst (λ k. k < length f.names) (sym e) there;
     within = subst (λ k. k < length trees) (sym g) within;

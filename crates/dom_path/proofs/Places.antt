@@ -15,7 +15,7 @@ use Rattle.dom_slots.proofs.Hosted.{AreDistinct, key-test, is_some-named}
 use Rattle.dom_path.specs.declared.trees.Tree.{Tree}
 use Rattle.dom_path.specs.Hosted.{IsHosted}
 use Rattle.dom_path.specs.Nests.{AreNested, roots_up, roots_around, hiding_host, outer_of, seen_up, seen_from}
-use Rattle.dom_path.specs.Stands.{IsTreeOf, AreTrees}
+use Rattle.dom_path.specs.PathNodes.{IsTreeOf, AreTrees}
 use Rattle.dom_path.specs.Ways.{EndsWithin, chain_at, host_above_at, is_hidden_at, seen_at}
 use Rattle.dom_path.proofs.Nesting.{hides, hiding-is, outer-is, outer-below}
 

@@ -17,7 +17,7 @@ use Rattle.dom_path.specs.Built.{IsItemOf, IsBuilt, GoesOn}
 use Rattle.dom_path.specs.Hosted.{IsHosted}
 use Rattle.dom_path.specs.Items.{HasNodes, ShowsNodes, item_named, view_named, AreInTrees}
 use Rattle.dom_path.specs.Paths.{item_at, items_at, view_of, GoesUp, IsPath, IsPathShown}
-use Rattle.dom_path.specs.Stands.{AreTrees, key_if, is_hidden_item, shown_nodes, view_in}
+use Rattle.dom_path.specs.PathNodes.{AreTrees, key_if, is_hidden_item, shown_nodes, view_in}
 use Rattle.dom_path.specs.Ways.{is_hidden_at}
 use Rattle.dom_path.proofs.Places.{hidden-named}
 

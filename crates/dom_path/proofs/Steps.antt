@@ -14,10 +14,10 @@ use Rattle.dom_slots.specs.Hosts.{ShadowHost, host_named, root_named}
 use Rattle.dom_slots.specs.Shadows.{shadows, slot_at}
 use Rattle.dom_slots.proofs.Hosted.{AreDistinct, key-test}
 use Rattle.dom_slots.proofs.Rooted.{root-alone, root-parent, root-below}
-use Rattle.dom_path.specs.declared.stand.Stand.{Stand}
+use Rattle.dom_path.specs.declared.path_node.PathNode.{PathNode}
 use Rattle.dom_path.specs.declared.trees.Tree.{Tree}
 use Rattle.dom_path.specs.Hosted.{IsHosted}
-use Rattle.dom_path.specs.Stands.{IsTreeOf, IsTree, AreTrees, IsStand}
+use Rattle.dom_path.specs.PathNodes.{IsTreeOf, IsTree, AreTrees, IsPathNode}
 use Rattle.dom_path.specs.Ways.{event_parent_at}
 
 -- a slot that is found stands in the trees
@@ -42,7 +42,7 @@ module _ (f : NamedTrees) (hosts : List ShadowHost) (once : Once f.trees) where
   name k = name_at f.names k
 
   -- the host of a shadow root stands in the tree around
-  pub tree-outside : (trees : List Tree) (x : Stand) (t : Tree) (host : ℕ) → AreTrees f hosts trees → IsStand f hosts trees x →
+  pub tree-outside : (trees : List Tree) (x : PathNode) (t : Tree) (host : ℕ) → AreTrees f hosts trees → IsPathNode f hosts trees x →
       Has f.trees (name x.node) → slice_get trees x.tree ≡ Some t
       → host_named f.names hosts (name x.node) ≡ Some (name host) → (depth : ℕ) → IsHosted f hosts depth → IsTreeOf f trees t.outer (name host)
   tree-outside trees x t host are stands has at is depth hosted = by t.host refl
@@ -95,8 +95,8 @@ module _ (f : NamedTrees) (hosts : List ShadowHost) (once : Once f.trees) where
 
 -- ---- the event parent
 
-module _ (f : NamedTrees) (hosts : List ShadowHost) (distinct : AreDistinct f.names) (composed : Bool) (top : ℕ) (trees : List Tree) (x : Stand)
-    (place : IsStand f hosts trees x)
+module _ (f : NamedTrees) (hosts : List ShadowHost) (distinct : AreDistinct f.names) (composed : Bool) (top : ℕ) (trees : List Tree) (x : PathNode)
+    (place : IsPathNode f hosts trees x)
     (top_node : top < length f.names) where
   abbrev named : NodeName
   named = name_at f.names x.node

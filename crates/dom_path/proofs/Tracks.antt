@@ -9,12 +9,12 @@ use Rattle.dom_tree.specs.Forest.{NamedTrees, name_at}
 use Rattle.dom_slots.specs.Hosts.{ShadowHost}
 use Rattle.dom_slots.specs.Shadows.{shadows, is_assigned_at}
 use Rattle.dom_path.specs.declared.item.Item.{Item}
-use Rattle.dom_path.specs.declared.stand.Stand.{Stand}
+use Rattle.dom_path.specs.declared.path_node.PathNode.{PathNode}
 use Rattle.dom_path.specs.declared.trees.Tree.{Tree}
 use Rattle.dom_path.specs.Built.{IsEvent, IsItemOf, IsWay, IsBuilt, GoesOn, next_name, related_name}
 use Rattle.dom_path.specs.Hosted.{IsHosted}
 use Rattle.dom_path.specs.Nests.{Grows}
-use Rattle.dom_path.specs.Stands.{AreTrees, IsStand}
+use Rattle.dom_path.specs.PathNodes.{AreTrees, IsPathNode}
 use Rattle.dom_path.specs.Ways.{is_empty_at}
 use Rattle.dom_path.proofs.Goings.{tree-kept, stand-kept}
 use Rattle.dom_path.proofs.Nesting.{grows-longer}
@@ -49,22 +49,22 @@ module _ (f : NamedTrees) (hosts : List ShadowHost) (t : NodeName) (r : Option N
 
   module _ (composed : Bool) where
     -- the items that come, where this is the place that is next
-    abbrev pub Comes : ℕ → Option Stand → List Item → Type 0
+    abbrev pub Comes : ℕ → Option PathNode → List Item → Type 0
     Comes depth None rest = rest ≡ []
     Comes depth (Some x) [] = ⊥
     Comes depth (Some x) (i ∷ rest) = (i.node ≡ x.node) × (i.slot_in_closed ≡ x.is_entered) × GoesOn f hosts t r depth composed (name_at f.names i.node) rest
 
     -- the items so far, and those that come, make up the path
-    pub record IsTrack (trees : List Tree) (items : List Item) (next : Option Stand) : Type 0 where
-      pub place : ForSome next (IsStand f hosts trees)
+    pub record IsTrack (trees : List Tree) (items : List Item) (next : Option PathNode) : Type 0 where
+      pub place : ForSome next (IsPathNode f hosts trees)
       pub each : AllByRecursion (IsItemOf f hosts t r trees) items
       pub way : (depth : ℕ) → IsHosted f hosts depth → (rest : List Item) → Comes depth next rest → IsWay f hosts t r depth composed (items ++ rest)
 
     -- as it begins
-    pub track-first : (trees : List Tree) (items : List Item) (x : Stand) → items ≡ [] → IsStand f hosts trees x → name_at f.names x.node ≡ t →
+    pub track-first : (trees : List Tree) (items : List Item) (x : PathNode) → items ≡ [] → IsPathNode f hosts trees x → name_at f.names x.node ≡ t →
         x.is_entered ≡ false → IsTrack trees items (Some x)
     track-first trees items x e place named off = subst (λ is. IsTrack trees is (Some x)) (sym e) (record {
-      place = λ y h. subst (IsStand f hosts trees) (let same : x ≡ y = cc in same) place;
+      place = λ y h. subst (IsPathNode f hosts trees) (let same : x ≡ y = cc in same) place;
       each = tt;
       way = λ depth hosted rest h. begins depth rest h;
     })
@@ -74,12 +74,12 @@ module _ (f : NamedTrees) (hosts : List ShadowHost) (t : NodeName) (r : Option N
         begins depth (i ∷ rest) h = (ap (name_at f.names) h.0 ∙ named, h.1 ∙ off, h.2)
 
     -- one item more, among more trees
-    pub track-more : (trees new : List Tree) (items : List Item) (x : Stand) (i : Item) (more : List Item) (next : Option Stand) →
+    pub track-more : (trees new : List Tree) (items : List Item) (x : PathNode) (i : Item) (more : List Item) (next : Option PathNode) →
         IsTrack trees items (Some x) → Grows trees new
         → more ≡ items ++ i ∷ [] → IsItemOf f hosts t r trees i → i.node ≡ x.node → i.slot_in_closed ≡ x.is_entered
-        → ForSome next (IsStand f hosts new)
+        → ForSome next (IsPathNode f hosts new)
         → ((depth : ℕ) → IsHosted f hosts depth →
-        option_map (λ (y : Stand). name_at f.names y.node) next ≡ next_name f hosts t r depth composed (name_at f.names x.node))
+        option_map (λ (y : PathNode). name_at f.names y.node) next ≡ next_name f hosts t r depth composed (name_at f.names x.node))
         → ForSome next (λ y. y.is_entered ≡ is_assigned_at (shadows f hosts) (name_at f.names y.node) (name_at f.names x.node))
         → IsTrack new more next
     track-more trees new items x i more next track g e item node entered place value behind = subst (λ is. IsTrack new is next) (sym e) (record {
@@ -93,8 +93,8 @@ module _ (f : NamedTrees) (hosts : List ShadowHost) (t : NodeName) (r : Option N
         at : name_at f.names x.node ≡ name_at f.names i.node
         at = ap (name_at f.names) (sym node)
 
-        goes : (depth : ℕ) (next : Option Stand) →
-            option_map (λ (y : Stand). name_at f.names y.node) next ≡ next_name f hosts t r depth composed (name_at f.names x.node)
+        goes : (depth : ℕ) (next : Option PathNode) →
+            option_map (λ (y : PathNode). name_at f.names y.node) next ≡ next_name f hosts t r depth composed (name_at f.names x.node)
             → ForSome next (λ y. y.is_entered ≡ is_assigned_at (shadows f hosts) (name_at f.names y.node) (name_at f.names x.node))
             → (rest : List Item) → Comes depth next rest → GoesOn f hosts t r depth composed (name_at f.names i.node) rest
         goes depth None v en rest h = subst (λ z. GoesOn f hosts t r depth composed z rest) at
@@ -106,13 +106,13 @@ module _ (f : NamedTrees) (hosts : List ShadowHost) (t : NodeName) (r : Option N
             (sym v ∙ ap Some same, h.1 ∙ en y refl ∙ ap (λ z. is_assigned_at (shadows f hosts) z (name_at f.names x.node)) same, h.2)
 
     -- as it ends
-    pub track-last : (trees : List Tree) (items : List Item) (next : Option Stand) → next ≡ None → IsTrack trees items next → (depth : ℕ) →
+    pub track-last : (trees : List Tree) (items : List Item) (next : Option PathNode) → next ≡ None → IsTrack trees items next → (depth : ℕ) →
         IsHosted f hosts depth → IsWay f hosts t r depth composed items
     track-last trees items next e track depth hosted =
         subst (IsWay f hosts t r depth composed) (append-nil items) (track.way depth hosted [] (subst (λ n. Comes depth n []) (sym e) refl))
 
 -- an event's places stay among more trees
-pub event-kept : (f : NamedTrees) (hosts : List ShadowHost) (trees new : List Tree) (target : Stand) (related : Option Stand) → Grows trees new →
+pub event-kept : (f : NamedTrees) (hosts : List ShadowHost) (trees new : List Tree) (target : PathNode) (related : Option PathNode) → Grows trees new →
     IsEvent f hosts trees target related → IsEvent f hosts new target related
 event-kept f hosts trees new target related g h = record {
   at_target = stand-kept f hosts trees new target g h.at_target;
@@ -121,8 +121,8 @@ event-kept f hosts trees new target related g h = record {
 }
 
 -- An event on its way: the items so far, and the trees.
-pub record IsOnWay (f : NamedTrees) (hosts : List ShadowHost) (target : Stand) (related : Option Stand) (composed : Bool) (trees : List Tree)
-    (items : List Item) (next : Option Stand) : Type 0 where
+pub record IsOnWay (f : NamedTrees) (hosts : List ShadowHost) (target : PathNode) (related : Option PathNode) (composed : Bool) (trees : List Tree)
+    (items : List Item) (next : Option PathNode) : Type 0 where
   pub track : IsTrack f hosts (name_at f.names target.node) (related_name f.names related) composed trees items next
   pub are : AreTrees f hosts trees
   pub event : IsEvent f hosts trees target related

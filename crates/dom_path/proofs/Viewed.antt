@@ -8,11 +8,11 @@ use Rattle.dom_tree.specs.Forest.{NamedTrees, name_at}
 use Rattle.dom_slots.specs.Hosts.{ShadowHost}
 use Rattle.dom_slots.specs.Shadows.{ShadowTrees, shadows}
 use Rattle.dom_slots.proofs.Hosted.{AreDistinct, key-test, found-test}
-use Rattle.dom_path.specs.declared.stand.Stand.{Stand}
+use Rattle.dom_path.specs.declared.path_node.PathNode.{PathNode}
 use Rattle.dom_path.specs.declared.trees.Tree.{Tree}
 use Rattle.dom_path.specs.Built.{IsEvent, IsItemOf, related_name}
 use Rattle.dom_path.specs.Hosted.{IsHosted}
-use Rattle.dom_path.specs.Stands.{AreTrees, IsStand, seen_of, related_from, is_key, ends_before, is_silent, item_from}
+use Rattle.dom_path.specs.PathNodes.{AreTrees, IsPathNode, seen_of, related_from, is_key, ends_before, is_silent, item_from}
 use Rattle.dom_path.specs.Ways.{seen_at, related_at, ends_at, is_empty_at}
 use Rattle.dom_path.proofs.Places.{seen-node, seen-named}
 
@@ -24,26 +24,26 @@ module _ (f : NamedTrees) (hosts : List ShadowHost) (distinct : AreDistinct f.na
   s = shadows f hosts
 
   -- what is seen of a node is a node
-  of-node : (viewer : ℕ) (a : Stand) → IsStand f hosts trees a → seen_of trees viewer a < length f.names
+  of-node : (viewer : ℕ) (a : PathNode) → IsPathNode f hosts trees a → seen_of trees viewer a < length f.names
   of-node viewer a h = seen-node f hosts trees are viewer a.node a.tree are.nested h.node
 
-  related-node : (viewer : ℕ) (r : Option Stand) → ForSome r (IsStand f hosts trees) → ForSome (related_from trees viewer r) (λ k. k < length f.names)
+  related-node : (viewer : ℕ) (r : Option PathNode) → ForSome r (IsPathNode f hosts trees) → ForSome (related_from trees viewer r) (λ k. k < length f.names)
   related-node viewer None h k e = cc
   related-node viewer (Some a) h k e = let same : seen_of trees viewer a ≡ k = cc in rw (← same) (of-node viewer a (h a refl))
 
   module _ (depth : ℕ) (hosted : IsHosted f hosts depth) where
     -- by names
-    of-named : (a x : Stand) → IsStand f hosts trees a → IsStand f hosts trees x → name (seen_of trees x.tree a) ≡ seen_at s depth (name x.node) (name a.node)
+    of-named : (a x : PathNode) → IsPathNode f hosts trees a → IsPathNode f hosts trees x → name (seen_of trees x.tree a) ≡ seen_at s depth (name x.node) (name a.node)
     of-named a x h g = seen-named f hosts distinct trees are.nested are depth hosted x.tree (name x.node) (g.tree depth hosted) a.node a.tree
         (h.tree depth hosted)
 
-    related-named : (r : Option Stand) (x : Stand) → ForSome r (IsStand f hosts trees) → IsStand f hosts trees x
+    related-named : (r : Option PathNode) (x : PathNode) → ForSome r (IsPathNode f hosts trees) → IsPathNode f hosts trees x
         → option_map (name_at f.names) (related_from trees x.tree r) ≡ related_at s depth (name x.node) (related_name f.names r)
     related-named None x h g = refl
     related-named (Some a) x h g = ap Some (of-named a x (h a refl) g)
 
     -- whether a path ends before a place
-    pub ends-named : (t : Stand) (r : Option Stand) (x : Stand) → IsStand f hosts trees t → ForSome r (IsStand f hosts trees) → IsStand f hosts trees x
+    pub ends-named : (t : PathNode) (r : Option PathNode) (x : PathNode) → IsPathNode f hosts trees t → ForSome r (IsPathNode f hosts trees) → IsPathNode f hosts trees x
         → ends_before trees t r x ≡ ends_at s depth (name t.node) (related_name f.names r) (name x.node)
     ends-named t r x ht hr hx =
         let test_node = key-test f.names distinct x.node t.node hx.node ht.node in
@@ -54,20 +54,20 @@ module _ (f : NamedTrees) (hosts : List ShadowHost) (distinct : AreDistinct f.na
         λ j. not (test_node j) && (test_seen j && test_related j)
 
     -- whether there is a path
-    pub silent-named : (t : Stand) (r : Option Stand) → IsStand f hosts trees t → ForSome r (IsStand f hosts trees)
+    pub silent-named : (t : PathNode) (r : Option PathNode) → IsPathNode f hosts trees t → ForSome r (IsPathNode f hosts trees)
         → is_silent trees t r ≡ is_empty_at s depth (name t.node) (related_name f.names r)
     silent-named t r ht hr =
         let test_related = found-test f.names distinct (related_from trees t.tree r) t.node (related-node t.tree r hr) ht.node
         ∙ ap (λ o. is_in name_eq (name t.node) (option_to_list o)) (related-named r t hr ht) in
         λ j. test_related j && not (is_related r hr j)
       where
-        is_related : (r : Option Stand) → ForSome r (IsStand f hosts trees) →
-            is_key (option_map (λ (a : Stand). a.node) r) t.node ≡ is_in name_eq (name t.node) (option_to_list (related_name f.names r))
+        is_related : (r : Option PathNode) → ForSome r (IsPathNode f hosts trees) →
+            is_key (option_map (λ (a : PathNode). a.node) r) t.node ≡ is_in name_eq (name t.node) (option_to_list (related_name f.names r))
         is_related None h = refl
         is_related (Some a) h = found-test f.names distinct (Some a.node) t.node (λ k e. let same : a.node ≡ k = cc in rw (← same) ((h a refl).node)) ht.node
 
   -- the item of a place
-  pub item-made : (t : Stand) (r : Option Stand) (x : Stand) → IsEvent f hosts trees t r → IsStand f hosts trees x
+  pub item-made : (t : PathNode) (r : Option PathNode) (x : PathNode) → IsEvent f hosts trees t r → IsPathNode f hosts trees x
       → IsItemOf f hosts (name t.node) (related_name f.names r) trees (item_from trees t r x)
   item-made t r x event at = record {
     node = at.node;
@@ -84,7 +84,7 @@ module _ (f : NamedTrees) (hosts : List ShadowHost) (distinct : AreDistinct f.na
   }
 
 -- a related node by its place is that by its key
-pub related-key : (names : List NodeName) (r : Option Stand) (k : Option ℕ) → option_map (λ (a : Stand). a.node) r ≡ k →
+pub related-key : (names : List NodeName) (r : Option PathNode) (k : Option ℕ) → option_map (λ (a : PathNode). a.node) r ≡ k →
     related_name names r ≡ option_map (name_at names) k
 related-key names None k e = ap (option_map (name_at names)) e
 related-key names (Some a) k e = ap (option_map (name_at names)) e

@@ -7,21 +7,21 @@ use Rattle.dom_tree.specs.Forest.{NamedTrees, name_at}
 use Rattle.dom_slots.specs.Hosts.{ShadowHost}
 use Rattle.dom_slots.specs.Shadows.{shadows, is_assigned_at}
 use Rattle.dom_path.specs.declared.item.Item.{Item}
-use Rattle.dom_path.specs.declared.stand.Stand.{Stand}
+use Rattle.dom_path.specs.declared.path_node.PathNode.{PathNode}
 use Rattle.dom_path.specs.declared.trees.Tree.{Tree}
 use Rattle.dom_path.specs.Hosted.{IsHosted}
-use Rattle.dom_path.specs.Stands.{IsStand, IsTreeOf, key_if}
+use Rattle.dom_path.specs.PathNodes.{IsPathNode, IsTreeOf, key_if}
 use Rattle.dom_path.specs.Ways.{is_empty_at, next_at, seen_at, related_at}
 
 -- the target and the related node have their places, and no slot was entered at the target
-pub record IsEvent (f : NamedTrees) (hosts : List ShadowHost) (trees : List Tree) (target : Stand) (related : Option Stand) : Type 0 where
-  pub at_target : IsStand f hosts trees target
-  pub at_related : ForSome related (IsStand f hosts trees)
+pub record IsEvent (f : NamedTrees) (hosts : List ShadowHost) (trees : List Tree) (target : PathNode) (related : Option PathNode) : Type 0 where
+  pub at_target : IsPathNode f hosts trees target
+  pub at_related : ForSome related (IsPathNode f hosts trees)
   pub begins : target.is_entered ≡ false
 
 -- the name of a related node by its place
-abbrev pub related_name : List NodeName → Option Stand → Option NodeName
-related_name names related = option_map (λ (a : Stand). name_at names a.node) related
+abbrev pub related_name : List NodeName → Option PathNode → Option NodeName
+related_name names related = option_map (λ (a : PathNode). name_at names a.node) related
 
 module _ (f : NamedTrees) (hosts : List ShadowHost) (target : NodeName) (related : Option NodeName) where
   -- an item of a node shows there what is seen in place of the target and of the related node

@@ -2,7 +2,7 @@
 pub mod Ways
 pub mod Hosted
 pub mod Nests
-pub mod Stands
+pub mod PathNodes
 pub mod Outward
 pub mod Built
 pub mod Items

@@ -5,7 +5,7 @@ use Rattle.dom_model.specs.Tree.{root_of}
 use Rattle.dom_tree.specs.Forest.{NamedTrees, name_at}
 use Rattle.dom_slots.specs.Hosts.{ShadowHost, host_named}
 use Rattle.dom_path.specs.declared.trees.Tree.{Tree}
-use Rattle.dom_path.specs.Stands.{HasTreeNodes}
+use Rattle.dom_path.specs.PathNodes.{HasTreeNodes}
 
 module _ (f : NamedTrees) (hosts : List ShadowHost) where
   -- a tree with its host is that of a node

@@ -8,12 +8,12 @@ ghost use Rattle.dom_slots.specs.Kept.{AreSlotsOf};
 ghost use Rattle.dom_slots.specs.Shadows.{shadows, is_assigned_at};
 ghost use Rattle.dom_path.specs.Hosted.{IsHosted};
 ghost use Rattle.dom_path.specs.Nests.{Grows};
-ghost use Rattle.dom_path.specs.Stands.{AreTrees, IsStand, item_from, ends_before, is_silent, related_from};
+ghost use Rattle.dom_path.specs.PathNodes.{AreTrees, IsPathNode, item_from, ends_before, is_silent, related_from};
 ghost use Rattle.dom_path.specs.Built.{IsEvent, IsItemOf, IsWay, IsBuilt, related_name};
 ghost use Rattle.dom_path.specs.Ways.{next_at};
 
 use crate::item::Item;
-use crate::stand::Stand;
+use crate::path_node::PathNode;
 use crate::trees::Trees;
 use dom_slots::Slots;
 use dom_tree::Forest;
@@ -24,8 +24,8 @@ use std::alloc::{AllocError, Global};
 /// The places of an event's target and of its related node, and whether it is composed.
 #[derive(Drop)]
 struct Event {
-    target: Stand,
-    related: Option<Stand>,
+    target: PathNode,
+    related: Option<PathNode>,
     composed: bool,
 }
 
@@ -53,8 +53,8 @@ pub(crate) fn items_of(
         items.items) }
 {
     forest.nodes_stand_once();
-    let target = Stand::of(trees, forest, slots, target)?;
-    let related = Stand::of_any(trees, forest, slots, related)?;
+    let target = PathNode::of(trees, forest, slots, target)?;
+    let related = PathNode::of_any(trees, forest, slots, related)?;
     let event = Event {
         target,
         related,
@@ -121,16 +121,16 @@ impl Event {
         trees: &mut Trees,
         forest: &Forest,
         slots: &Slots,
-        at: &Stand,
-    ) -> Result<Option<Stand>, AllocError>
+        at: &PathNode,
+    ) -> Result<Option<PathNode>, AllocError>
         requires trees { AreTrees forest.now slots.now.hosts trees.old }
         requires event { IsEvent forest.now slots.now.hosts trees.old self.now.target self.now.related }
-        requires stands { IsStand forest.now slots.now.hosts trees.old at.now }
+        requires stands { IsPathNode forest.now slots.now.hosts trees.old at.now }
         requires free { slots.now.begun ≡ None }
         requires slots { AreSlotsOf forest.now slots.now }
         ensures grown { OnOk result (Grows trees.old trees.new) }
         ensures trees { OnOk result (AreTrees forest.now slots.now.hosts trees.new) }
-        ensures stands { IfOk result (λ next. ForSome next (λ x. IsStand forest.now slots.now.hosts trees.new x)) }
+        ensures stands { IfOk result (λ next. ForSome next (λ x. IsPathNode forest.now slots.now.hosts trees.new x)) }
         ensures value { IfOk result (λ next. (depth : ℕ) → IsHosted forest.now slots.now.hosts depth →
             option_map (λ x. name_at forest.now.names x.node) next ≡ next_at (shadows forest.now slots.now.hosts) depth
             (name_at forest.now.names self.now.target.node) (related_name forest.now.names self.now.related) self.now.composed
@@ -152,7 +152,7 @@ impl Event {
 
     /// Whether the path ends before a node: it is not the target, and sees itself in the place of the target and in that of the
     /// related node (DOM Standard, concept: dispatch).
-    fn ends_before(&self, trees: &Trees, at: &Stand) -> bool
+    fn ends_before(&self, trees: &Trees, at: &PathNode) -> bool
         requires target { self.now.target.tree < length trees.now }
         requires related { ForSome self.now.related (λ x. x.tree < length trees.now) }
         requires at { at.now.tree < length trees.now }
@@ -176,7 +176,7 @@ impl Event {
     }
 
     /// The item of a node of the path.
-    fn item(&self, trees: &Trees, at: &Stand) -> Item
+    fn item(&self, trees: &Trees, at: &PathNode) -> Item
         requires target { self.now.target.tree < length trees.now }
         requires related { ForSome self.now.related (λ x. x.tree < length trees.now) }
         requires at { at.now.tree < length trees.now }

@@ -6,7 +6,7 @@ mod event;
 mod item;
 mod laws;
 mod path;
-mod stand;
+mod path_node;
 mod trees;
 
 pub use item::Item;

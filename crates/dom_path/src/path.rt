@@ -9,7 +9,7 @@ ghost use Rattle.dom_slots.specs.Kept.{AreSlotsOf};
 ghost use Rattle.dom_slots.specs.Shadows.{shadows};
 ghost use Rattle.dom_path.specs.Hosted.{IsHosted};
 ghost use Rattle.dom_path.specs.Paths.{IsPathShown};
-ghost use Rattle.dom_path.specs.Stands.{view_in};
+ghost use Rattle.dom_path.specs.PathNodes.{view_in};
 ghost use Rattle.dom_path.specs.Items.{IsWorldOf, HasNodes, ShowsNodes, item_named, view_named, path_items};
 
 use crate::event::items_of;
@@ -35,7 +35,7 @@ impl Model for Path {
 
     ghost Value = { PathNow };
 
-    ghost use Rattle.dom_path.specs.Stands.{view_in};
+    ghost use Rattle.dom_path.specs.PathNodes.{view_in};
     ghost use Rattle.std.specs.Prelude.{map};
 
     ghost view = { λ p. record { items = p.items.items; trees = p.trees; views = map (view_in p.trees p.items.items) p.items.items } };

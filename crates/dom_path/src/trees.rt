@@ -5,7 +5,7 @@ ghost use Rattle.dom_model.specs.Names.{is_in};
 ghost use Rattle.dom_tree.specs.Forest.{name_at};
 ghost use Rattle.dom_slots.specs.Hosts.{HostsAreNodes};
 ghost use Rattle.dom_path.specs.Nests.{IsNested, AreNested, Grows, roots_around, hiding_host, seen_from};
-ghost use Rattle.dom_path.specs.Stands.{AreTrees, IsTreeOf};
+ghost use Rattle.dom_path.specs.PathNodes.{AreTrees, IsTreeOf};
 ghost use Rattle.dom_path.specs.Outward.{GoesOut};
 
 use dom_slots::Slots;

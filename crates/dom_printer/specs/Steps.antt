@@ -6,8 +6,8 @@ use Rattle.dom_model.specs.Names.{Word, DomString}
 use Rattle.dom_model.specs.Tree as model
 use Rattle.dom_text.specs.Text as text
 use Rattle.dom_printer.specs.declared.trees.Attribute.{Attribute}
-use Rattle.dom_printer.specs.declared.trees.Words.{Words}
-use Rattle.dom_printer.specs.declared.trees.Words.TheVariants as words
+use Rattle.dom_printer.specs.declared.trees.NodeContent.{NodeContent}
+use Rattle.dom_printer.specs.declared.trees.NodeContent.TheVariants as words
 use Rattle.dom_printer.specs.declared.trees.Opening.{Opening}
 use Rattle.dom_printer.specs.declared.trees.TreeStep.{TreeStep}
 use Rattle.dom_printer.specs.declared.trees.TreeStep.TheVariants as steps
@@ -21,17 +21,17 @@ abbrev pub attributes_view : List Attribute → List model.Attribute
 attributes_view attributes = map attribute_view attributes
 
 -- the local name among the words: that of an element, and of anything else an empty one
-abbrev pub name_in : Words → Word
+abbrev pub name_in : NodeContent → Word
 name_in (words.Element name attributes) = name.now
 name_in _ = []
 
 -- the attributes among the words
-abbrev pub attributes_in : Words → List model.Attribute
+abbrev pub attributes_in : NodeContent → List model.Attribute
 attributes_in (words.Element name attributes) = attributes_view attributes.items
 attributes_in _ = []
 
 -- the data among the words
-abbrev pub data_in : Words → DomString
+abbrev pub data_in : NodeContent → DomString
 data_in (words.Data units) = units.now
 data_in _ = []
 

@@ -14,4 +14,4 @@ pub use names::put_owner_word;
 pub use records::{Change, Event, put_event, put_micro, put_record};
 pub use replies::{Boundary, Value, put_refusal, put_reply};
 pub use strings::put_string;
-pub use trees::{Attribute, Opening, TreeStep, Words, put_tree};
+pub use trees::{Attribute, NodeContent, Opening, TreeStep, put_tree};

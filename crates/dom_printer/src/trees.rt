@@ -24,7 +24,7 @@ pub struct Attribute<'a> {
 
 /// What a tree's text says of a node, beside its name and its kind.
 #[derive(Drop)]
-pub enum Words<'a> {
+pub enum NodeContent<'a> {
     None,
     /// An element's local name, and its attributes in order.
     Element {
@@ -41,7 +41,7 @@ pub enum Words<'a> {
 pub struct Opening<'a> {
     pub name: NodeName,
     pub kind: Kind,
-    pub words: Words<'a>,
+    pub words: NodeContent<'a>,
 }
 
 /// A place where a tree begins, or where the last tree that began ends.
@@ -169,7 +169,7 @@ fn put_attribute(out: &mut Vec<u8>, attribute: &Attribute<'_>) -> Result<(), All
     put_units(out, attribute.value)
 }
 
-impl<'a> Words<'a> {
+impl<'a> NodeContent<'a> {
     ghost use Rattle.dom_printer.specs.Steps.{name_in, attributes_in, data_in};
 
     /// An element's local name; an empty one for anything else.
@@ -177,7 +177,7 @@ impl<'a> Words<'a> {
         ensures { result.now ≡ name_in self.now }
     {
         match self {
-            Words::Element { name, .. } => name,
+            NodeContent::Element { name, .. } => name,
             _ => "",
         }
     }
@@ -187,7 +187,7 @@ impl<'a> Words<'a> {
         ensures { attributes_view result.now ≡ attributes_in self.now }
     {
         match self {
-            Words::Element { attributes, .. } => attributes,
+            NodeContent::Element { attributes, .. } => attributes,
             _ => &[],
         }
     }
@@ -197,7 +197,7 @@ impl<'a> Words<'a> {
         ensures { result.now ≡ data_in self.now }
     {
         match self {
-            Words::Data(units) => units,
+            NodeContent::Data(units) => units,
             _ => &[],
         }
     }

@@ -5,7 +5,7 @@ use Rattle.dom_base.specs.declared.Owner.{Owner}
 use Rattle.dom_base.specs.declared.NodeName.{NodeName}
 use Rattle.dom_model.specs.Names.{last_of, owner_depth}
 use Rattle.dom_model.specs.Tree.{is_document}
-use Rattle.dom_model.specs.Command.{Spelled}
+use Rattle.dom_model.specs.Command.{NodeWord}
 use Rattle.dom_model.specs.CommandNames.{named}
 use Rattle.dom_model.specs.Part.{Part}
 use Rattle.dom_model.specs.Turns.{opening_turn}
@@ -28,7 +28,7 @@ module _ (t : Option Owner) (w : World) where
       ap (λ (hosts : List NodeName). is_document (kind_at w (unwrap_or (last_of (flat_map (ancestors_at w) hosts)) x))) (hosts_turned (owner_depth x.owner) x)
 
 -- a node that a line names, when its turn is open
-pub connected-opened : (w : World) (o : Owner) (s : Spelled) →
+pub connected-opened : (w : World) (o : Owner) (s : NodeWord) →
     is_connected w (named (part_of w o) s) ≡ is_connected (opening_turn w o) (named (part_of (opening_turn w o) o) s)
 connected-opened w o s = cases w.turn ∙ ap (λ (p : Part). is_connected (opening_turn w o) (named p s)) (opened-part w o)
   where

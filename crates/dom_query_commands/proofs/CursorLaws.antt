@@ -2,7 +2,7 @@
 use Rattle.std.proofs.Common.{◌≡◌, ℕ, List, [], ◌∷◌, ◌++◌, length, Some, sym, ap, ◌∙◌}
 use Rattle.dom_base.specs.declared.Owner.{Owner}
 use Rattle.dom_base.specs.declared.NodeName.{NodeName}
-use Rattle.dom_model.specs.Command.{Command, Filter, Spelled, own}
+use Rattle.dom_model.specs.Command.{Command, Filter, NodeWord, own}
 use Rattle.dom_model.specs.CommandNames.{named}
 use Rattle.dom_model.specs.Effects.{Effect, keeps, new_iterator, new_walker, of_walker, sets_walker}
 use Rattle.dom_model.specs.Output.{Value, nothing, an_iterator, a_walker}
@@ -11,7 +11,7 @@ use Rattle.dom_tree.specs.Forest.{name_at}
 use Rattle.dom_mutation.specs.Doc.{Makes}
 use Rattle.dom_admission.proofs.Finding.{IsKey, numbered}
 
-module _ (names : List NodeName) (w now : World) (o : Owner) (s : Spelled) (key : ℕ) (is : IsKey names w o key s) where
+module _ (names : List NodeName) (w now : World) (o : Owner) (s : NodeWord) (key : ℕ) (is : IsKey names w o key s) where
   -- a new iterator
   pub new_iterator-made : (f g : Filter) (v : Value) → f ≡ g → Makes o (Command.iterator_new (own (name_at names key).number) f) v w now →
       Makes o (Command.iterator_new s g) v w now

@@ -5,4 +5,4 @@ mod SelectorLaws
 mod Siblings
 mod SpotReads
 mod Spots
-mod Standing
+mod UniqueNames

@@ -16,7 +16,7 @@ use Rattle.dom_query_commands.specs.declared.tree_text.Place.TheVariants as plac
 use Rattle.dom_query_commands.specs.TreeText.{NamedPlace, opening, closing, key_of, place_view, step_at, place_after}
 use Rattle.dom_query_commands.proofs.Spots.{Spot, spot_of, IsSpot, IsChild, closed, times, spot_of-spot, spot_there, child_spot, IsSpot-child}
 use Rattle.dom_query_commands.proofs.Spots.{next_spot, IsSpot-next, cases_root, above-root, after-root}
-use Rattle.dom_query_commands.proofs.Standing.{StandOnce, HaveKeys, times-key, IsUnique-forest}
+use Rattle.dom_query_commands.proofs.UniqueNames.{StandOnce, HaveKeys, times-key, IsUnique-forest}
 use Rattle.dom_query_commands.proofs.SpotReads.{IsUnique, subtree-spot, node_in-spot, ancestors-spot, children-spot, parent-spot, next-child}
 
 -- the name of the node of a place

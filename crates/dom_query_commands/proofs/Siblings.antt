@@ -7,7 +7,7 @@ use Rattle.dom_model.specs.Tree.{Trees, none, tree, names_of, roots, parent_of, 
 use Rattle.dom_query_commands.proofs.Spots.{Spot, spot_of, IsSpot, IsChild, spot_of-spot, spot_there, child_spot, IsSpot-child, next_spot}
 use Rattle.dom_query_commands.proofs.Spots.{IsSpot-next, cases_root, above-root}
 use Rattle.dom_tree.specs.Forest.{name_at}
-use Rattle.dom_query_commands.proofs.Standing.{StandOnce, HaveKeys, times-key, IsUnique-forest}
+use Rattle.dom_query_commands.proofs.UniqueNames.{StandOnce, HaveKeys, times-key, IsUnique-forest}
 use Rattle.dom_query_commands.proofs.SpotReads.{IsUnique, children-spot, parent-spot, next-child}
 
 -- a node and the siblings behind it

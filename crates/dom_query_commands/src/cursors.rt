@@ -1,7 +1,7 @@
 //! The commands on iterators and walkers.
 ghost use Rattle.std.specs.Prelude.{◌≡◌, ◌<◌, if◌then◌else◌};
 ghost use Rattle.dom_model.specs.Command.{iterator_new, iterator_next, iterator_previous, iterator_at, walker_new, walk, walker_at, walker_set};
-ghost use Rattle.dom_reader.specs.Views.{spelled_view, filter_view, show_view};
+ghost use Rattle.dom_reader.specs.Views.{word_view, filter_view, show_view};
 ghost use Rattle.dom_traversal.specs.Filters.{filter_of, show_of};
 ghost use Rattle.dom_admission.specs.Handled.{KeepsNames, IsHandled};
 
@@ -9,18 +9,18 @@ use crate::reads::node_or_null;
 use dom_admission::{Operand, State};
 use dom_base::{Fault, Move, Owner};
 use dom_printer::Value;
-use dom_reader::{Filter, Show, Spelled};
+use dom_reader::{Filter, NodeWord, Show};
 use dom_traversal::Filter as NodeFilter;
 
 /// `iter-new N SHOW [FILTER]`: a new iterator, before its root.
 pub fn new_iterator(
     state: &mut State,
     owner: Owner,
-    root: Spelled,
+    root: NodeWord,
     filter: Filter,
     out: &mut Vec<u8>,
 ) -> Result<(), Fault>
-    ensures handled { IsHandled owner (iterator_new (spelled_view root) (filter_view filter)) state.old.world state.new.world out.old.items
+    ensures handled { IsHandled owner (iterator_new (word_view root) (filter_view filter)) state.old.world state.new.world out.old.items
         out.new.items result }
     ensures names { KeepsNames state.old.names state.new.names result }
 {
@@ -82,11 +82,11 @@ pub fn place_of_iterator(
 pub fn new_walker(
     state: &mut State,
     owner: Owner,
-    root: Spelled,
+    root: NodeWord,
     filter: Filter,
     out: &mut Vec<u8>,
 ) -> Result<(), Fault>
-    ensures handled { IsHandled owner (walker_new (spelled_view root) (filter_view filter)) state.old.world state.new.world out.old.items out.new.items result }
+    ensures handled { IsHandled owner (walker_new (word_view root) (filter_view filter)) state.old.world state.new.world out.old.items out.new.items result }
     ensures names { KeepsNames state.old.names state.new.names result }
 {
     state.admit(owner, &[Operand::Any(root)])?;
@@ -133,10 +133,10 @@ pub fn set_walker(
     state: &mut State,
     owner: Owner,
     number: u32,
-    current: Spelled,
+    current: NodeWord,
     out: &mut Vec<u8>,
 ) -> Result<(), Fault>
-    ensures handled { IsHandled owner (walker_set number (spelled_view current)) state.old.world state.new.world out.old.items out.new.items result }
+    ensures handled { IsHandled owner (walker_set number (word_view current)) state.old.world state.new.world out.old.items out.new.items result }
     ensures names { KeepsNames state.old.names state.new.names result }
 {
     state.admit(owner, &[Operand::Any(current), Operand::Walker(number)])?;

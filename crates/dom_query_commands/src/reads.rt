@@ -9,7 +9,7 @@ ghost use Rattle.dom_model.specs.Output.{says, replied, a_tree};
 ghost use Rattle.dom_model.specs.World.{part_of};
 ghost use Rattle.dom_text.specs.Text.{output_text};
 ghost use Rattle.dom_printer.specs.Replies.{value_view};
-ghost use Rattle.dom_reader.specs.Views.{spelled_view};
+ghost use Rattle.dom_reader.specs.Views.{word_view};
 ghost use Rattle.dom_tree.specs.Forest.{name_at};
 ghost use Rattle.dom_admission.specs.Handled.{KeepsNames, IsHandled};
 
@@ -17,14 +17,14 @@ use crate::tree_text::tree_steps;
 use dom_admission::{Operand, State};
 use dom_base::{Fault, NodeName, Owner};
 use dom_printer::{Value, put_tree};
-use dom_reader::Spelled;
+use dom_reader::NodeWord;
 use dom_tree::Forest;
 use node_arena::Key;
 use std::alloc::{AllocError, Global};
 
 /// `tree N`: the text of a node's tree.
-pub fn tree(state: &mut State, owner: Owner, node: Spelled, out: &mut Vec<u8>) -> Result<(), Fault>
-    ensures handled { IsHandled owner (tree (spelled_view node)) state.old.world state.new.world out.old.items out.new.items result }
+pub fn tree(state: &mut State, owner: Owner, node: NodeWord, out: &mut Vec<u8>) -> Result<(), Fault>
+    ensures handled { IsHandled owner (tree (word_view node)) state.old.world state.new.world out.old.items out.new.items result }
     ensures names { KeepsNames state.old.names state.new.names result }
 {
     state.admit(owner, &[Operand::Any(node)])?;
@@ -37,10 +37,10 @@ pub fn tree(state: &mut State, owner: Owner, node: Spelled, out: &mut Vec<u8>) -
 pub fn parent(
     state: &mut State,
     owner: Owner,
-    node: Spelled,
+    node: NodeWord,
     out: &mut Vec<u8>,
 ) -> Result<(), Fault>
-    ensures handled { IsHandled owner (parent (spelled_view node)) state.old.world state.new.world out.old.items out.new.items result }
+    ensures handled { IsHandled owner (parent (word_view node)) state.old.world state.new.world out.old.items out.new.items result }
     ensures names { KeepsNames state.old.names state.new.names result }
 {
     state.admit(owner, &[Operand::Any(node)])?;
@@ -52,10 +52,10 @@ pub fn parent(
 pub fn document_of(
     state: &mut State,
     owner: Owner,
-    node: Spelled,
+    node: NodeWord,
     out: &mut Vec<u8>,
 ) -> Result<(), Fault>
-    ensures handled { IsHandled owner (document_of (spelled_view node)) state.old.world state.new.world out.old.items out.new.items result }
+    ensures handled { IsHandled owner (document_of (word_view node)) state.old.world state.new.world out.old.items out.new.items result }
     ensures names { KeepsNames state.old.names state.new.names result }
 {
     state.admit(owner, &[Operand::Any(node)])?;
@@ -67,10 +67,10 @@ pub fn document_of(
 pub fn children(
     state: &mut State,
     owner: Owner,
-    node: Spelled,
+    node: NodeWord,
     out: &mut Vec<u8>,
 ) -> Result<(), Fault>
-    ensures handled { IsHandled owner (children (spelled_view node)) state.old.world state.new.world out.old.items out.new.items result }
+    ensures handled { IsHandled owner (children (word_view node)) state.old.world state.new.world out.old.items out.new.items result }
     ensures names { KeepsNames state.old.names state.new.names result }
 {
     state.admit(owner, &[Operand::Any(node)])?;
@@ -82,11 +82,11 @@ pub fn children(
 pub fn contains(
     state: &mut State,
     owner: Owner,
-    above: Spelled,
-    node: Spelled,
+    above: NodeWord,
+    node: NodeWord,
     out: &mut Vec<u8>,
 ) -> Result<(), Fault>
-    ensures handled { IsHandled owner (contains (spelled_view above) (spelled_view node)) state.old.world state.new.world out.old.items out.new.items result }
+    ensures handled { IsHandled owner (contains (word_view above) (word_view node)) state.old.world state.new.world out.old.items out.new.items result }
     ensures names { KeepsNames state.old.names state.new.names result }
 {
     state.admit(owner, &[Operand::Any(above), Operand::Any(node)])?;
@@ -98,10 +98,10 @@ pub fn contains(
 pub fn connected(
     state: &mut State,
     owner: Owner,
-    node: Spelled,
+    node: NodeWord,
     out: &mut Vec<u8>,
 ) -> Result<(), Fault>
-    ensures handled { IsHandled owner (connected (spelled_view node)) state.old.world state.new.world out.old.items out.new.items result }
+    ensures handled { IsHandled owner (connected (word_view node)) state.old.world state.new.world out.old.items out.new.items result }
     ensures names { KeepsNames state.old.names state.new.names result }
 {
     state.admit(owner, &[Operand::Any(node)])?;
@@ -113,13 +113,13 @@ pub fn connected(
 fn reply_tree(
     state: &State,
     owner: Owner,
-    node: Spelled,
+    node: NodeWord,
     out: &mut Vec<u8>,
 ) -> Result<(), AllocError>
-    requires { has_node (part_of state.now.world owner).trees (named (part_of state.now.world owner) (spelled_view node)) ≡ true }
+    requires { has_node (part_of state.now.world owner).trees (named (part_of state.now.world owner) (word_view node)) ≡ true }
     ensures { OnOk result (out.new.items ≡ out.old.items ++
         output_text (says owner (replied
-        (a_tree (subtree (part_of state.now.world owner).trees (named (part_of state.now.world owner) (spelled_view node))))) ∷ [])) }
+        (a_tree (subtree (part_of state.now.world owner).trees (named (part_of state.now.world owner) (word_view node))))) ∷ [])) }
 {
     let key = state.key(owner, node);
     let forest = state.doc.forest();
@@ -139,10 +139,10 @@ pub(crate) fn node_or_null(state: &State, node: Option<Key>) -> Value<'static>
 }
 
 /// The parent of a node that is there.
-fn parent_of(state: &State, owner: Owner, node: Spelled) -> Option<Key>
-    requires { has_node (part_of state.now.world owner).trees (named (part_of state.now.world owner) (spelled_view node)) ≡ true }
+fn parent_of(state: &State, owner: Owner, node: NodeWord) -> Option<Key>
+    requires { has_node (part_of state.now.world owner).trees (named (part_of state.now.world owner) (word_view node)) ≡ true }
     ensures value { option_map (name_at state.now.names) result ≡ parent_of (part_of state.now.world owner).trees
-        (named (part_of state.now.world owner) (spelled_view node)) }
+        (named (part_of state.now.world owner) (word_view node)) }
     ensures node { ForSome result (λ k. k < length state.now.names) }
 {
     let key = state.key(owner, node);
@@ -150,21 +150,21 @@ fn parent_of(state: &State, owner: Owner, node: Spelled) -> Option<Key>
 }
 
 /// The names of the children of a node that is there.
-fn children_of(state: &State, owner: Owner, node: Spelled) -> Result<Vec<NodeName>, AllocError>
-    requires { has_node (part_of state.now.world owner).trees (named (part_of state.now.world owner) (spelled_view node)) ≡ true }
+fn children_of(state: &State, owner: Owner, node: NodeWord) -> Result<Vec<NodeName>, AllocError>
+    requires { has_node (part_of state.now.world owner).trees (named (part_of state.now.world owner) (word_view node)) ≡ true }
     ensures { IfOk result (λ names. names.items ≡ children_of (part_of state.now.world owner).trees
-        (named (part_of state.now.world owner) (spelled_view node))) }
+        (named (part_of state.now.world owner) (word_view node))) }
 {
     let key = state.key(owner, node);
     child_names(state.alloc, state.doc.forest(), key)
 }
 
 /// Whether a node that is there is another one or stands above it.
-fn is_above(state: &State, owner: Owner, above: Spelled, node: Spelled) -> bool
-    requires above_is_there { has_node (part_of state.now.world owner).trees (named (part_of state.now.world owner) (spelled_view above)) ≡ true }
-    requires node_is_there { has_node (part_of state.now.world owner).trees (named (part_of state.now.world owner) (spelled_view node)) ≡ true }
-    ensures { result ≡ is_inclusive_ancestor (part_of state.now.world owner).trees (named (part_of state.now.world owner) (spelled_view above))
-        (named (part_of state.now.world owner) (spelled_view node)) }
+fn is_above(state: &State, owner: Owner, above: NodeWord, node: NodeWord) -> bool
+    requires above_is_there { has_node (part_of state.now.world owner).trees (named (part_of state.now.world owner) (word_view above)) ≡ true }
+    requires node_is_there { has_node (part_of state.now.world owner).trees (named (part_of state.now.world owner) (word_view node)) ≡ true }
+    ensures { result ≡ is_inclusive_ancestor (part_of state.now.world owner).trees (named (part_of state.now.world owner) (word_view above))
+        (named (part_of state.now.world owner) (word_view node)) }
 {
     let (above, node) = (state.key(owner, above), state.key(owner, node));
     state.doc.forest().is_inclusive_ancestor(above, node)

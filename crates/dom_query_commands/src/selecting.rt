@@ -5,14 +5,14 @@ ghost use Rattle.dom_model.specs.Command.{query, matches};
 ghost use Rattle.dom_model.specs.CommandNames.{named};
 ghost use Rattle.dom_model.specs.Selectors.{query_all, selector_matches};
 ghost use Rattle.dom_model.specs.World.{part_of};
-ghost use Rattle.dom_reader.specs.Views.{spelled_view};
+ghost use Rattle.dom_reader.specs.Views.{word_view};
 ghost use Rattle.dom_selectors.specs.Views.{selector_view};
 ghost use Rattle.dom_admission.specs.Handled.{KeepsNames, IsHandled};
 
 use dom_admission::{Operand, State, names_of};
 use dom_base::{DomStr, Fault, NodeName, Owner};
 use dom_printer::Value;
-use dom_reader::Spelled;
+use dom_reader::NodeWord;
 use dom_selectors::Selector;
 use std::alloc::AllocError;
 
@@ -20,11 +20,11 @@ use std::alloc::AllocError;
 pub fn query(
     state: &mut State,
     owner: Owner,
-    node: Spelled,
+    node: NodeWord,
     text: DomStr,
     out: &mut Vec<u8>,
 ) -> Result<(), Fault>
-    ensures handled { IsHandled owner (query (spelled_view node) text.items) state.old.world state.new.world out.old.items out.new.items result }
+    ensures handled { IsHandled owner (query (word_view node) text.items) state.old.world state.new.world out.old.items out.new.items result }
     ensures names { KeepsNames state.old.names state.new.names result }
 {
     state.admit(owner, &[Operand::Parent(node)])?;
@@ -37,11 +37,11 @@ pub fn query(
 pub fn matches(
     state: &mut State,
     owner: Owner,
-    element: Spelled,
+    element: NodeWord,
     text: DomStr,
     out: &mut Vec<u8>,
 ) -> Result<(), Fault>
-    ensures handled { IsHandled owner (matches (spelled_view element) text.items) state.old.world state.new.world out.old.items out.new.items result }
+    ensures handled { IsHandled owner (matches (word_view element) text.items) state.old.world state.new.world out.old.items out.new.items result }
     ensures names { KeepsNames state.old.names state.new.names result }
 {
     state.admit(owner, &[Operand::Element(element)])?;
@@ -54,12 +54,12 @@ pub fn matches(
 fn selected(
     state: &State,
     owner: Owner,
-    node: Spelled,
+    node: NodeWord,
     selector: &Selector,
 ) -> Result<Vec<NodeName>, AllocError>
-    requires { has_node (part_of state.now.world owner).trees (named (part_of state.now.world owner) (spelled_view node)) ≡ true }
+    requires { has_node (part_of state.now.world owner).trees (named (part_of state.now.world owner) (word_view node)) ≡ true }
     ensures { IfOk result (λ names. names.items ≡ query_all (part_of state.now.world owner).trees (selector_view selector.now)
-        (named (part_of state.now.world owner) (spelled_view node))) }
+        (named (part_of state.now.world owner) (word_view node))) }
 {
     let key = state.key(owner, node);
     let forest = state.doc.forest();
@@ -68,10 +68,10 @@ fn selected(
 }
 
 /// Whether a node that is there matches a selector.
-fn is_selected(state: &State, owner: Owner, node: Spelled, selector: &Selector) -> bool
-    requires { has_node (part_of state.now.world owner).trees (named (part_of state.now.world owner) (spelled_view node)) ≡ true }
+fn is_selected(state: &State, owner: Owner, node: NodeWord, selector: &Selector) -> bool
+    requires { has_node (part_of state.now.world owner).trees (named (part_of state.now.world owner) (word_view node)) ≡ true }
     ensures { result ≡ selector_matches (part_of state.now.world owner).trees (selector_view selector.now)
-        (named (part_of state.now.world owner) (spelled_view node)) }
+        (named (part_of state.now.world owner) (word_view node)) }
 {
     let key = state.key(owner, node);
     selector.matches(state.doc.forest(), key)

@@ -7,7 +7,7 @@ ghost use Rattle.dom_printer.specs.Steps.{attributes_view, opening_view, step_vi
 ghost use Rattle.dom_query_commands.specs.TreeText.{place_view, key_of, place_after, step_at};
 
 use dom_base::Kind;
-use dom_printer::{Attribute, Opening, TreeStep, Words};
+use dom_printer::{Attribute, NodeContent, Opening, TreeStep};
 use dom_tree::Forest;
 use node_arena::Key;
 use std::alloc::{AllocError, Global};
@@ -86,12 +86,12 @@ fn opening<'a>(alloc: Global, forest: &'a Forest, key: Key) -> Result<Opening<'a
 {
     let kind = forest.kind(key);
     let words = match kind {
-        Kind::Element => Words::Element {
+        Kind::Element => NodeContent::Element {
             name: forest.element(key),
             attributes: attributes(alloc, forest, key)?,
         },
-        Kind::Text | Kind::Comment => Words::Data(forest.text(key)),
-        Kind::Document | Kind::Fragment | Kind::Shadow => Words::None,
+        Kind::Text | Kind::Comment => NodeContent::Data(forest.text(key)),
+        Kind::Document | Kind::Fragment | Kind::Shadow => NodeContent::None,
     };
     Ok(Opening {
         name: forest.name(key),

@@ -8,7 +8,7 @@ use Rattle.dom_base.specs.declared.Fault.TheVariants.{Refused, Memory}
 use Rattle.dom_base.specs.declared.NodeName.{NodeName}
 use Rattle.dom_base.specs.declared.Owner.{Owner}
 use Rattle.dom_base.specs.declared.Owner.TheVariants.{Page}
-use Rattle.dom_model.specs.Command.{Command, Spelled}
+use Rattle.dom_model.specs.Command.{Command, NodeWord}
 use Rattle.dom_model.specs.CommandNames.{named}
 use Rattle.dom_model.specs.CommandRefusals.{own_refusal}
 use Rattle.dom_model.specs.Effects.{answers}
@@ -77,7 +77,7 @@ module _ (names more : List NodeName) (w : World) (o : Owner) (k : ℕ) (known :
       front [] ys = refl
       front (x ∷ xs) ys = ap (λ zs. x ∷ zs) (front xs ys)
 
-module _ (names : List NodeName) (w : World) (o : Owner) (k : ℕ) (x : Spelled) (node : ℕ) (node_is : IsKey names w o node x) where
+module _ (names : List NodeName) (w : World) (o : Owner) (k : ℕ) (x : NodeWord) (node : ℕ) (node_is : IsKey names w o node x) where
   -- the node that is inserted is the owner's
   pub inserted-own : (name_at names node).owner ≡ o
   inserted-own = ap (λ (y : NodeName). y.owner) node_is ∙ owner-named w o x

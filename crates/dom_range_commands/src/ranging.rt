@@ -6,7 +6,7 @@ ghost use Rattle.dom_model.specs.Ranges.{at};
 ghost use Rattle.dom_worlds.specs.Bounds.{IsBounded};
 ghost use Rattle.dom_tree.specs.Forest.{name_at};
 ghost use Rattle.dom_printer.specs.Replies.{boundary_view};
-ghost use Rattle.dom_reader.specs.Views.{command_view, spelled_view};
+ghost use Rattle.dom_reader.specs.Views.{command_view, word_view};
 ghost use Rattle.dom_range_commands.specs.RangeWorlds.{HasFirstNodes, HasLoneShadowRoots, HasRangeEnds};
 ghost use Rattle.dom_admission.specs.Handled.{KeepsNames, IsHandled};
 ghost use Rattle.dom_range_commands.specs.RangeCommands.{is_range};
@@ -15,7 +15,7 @@ use dom_admission::{Operand, State};
 use dom_base::{Fault, Owner};
 use dom_printer::{Boundary, Value};
 use dom_range_ops::range_text;
-use dom_reader::{Command, Spelled};
+use dom_reader::{Command, NodeWord};
 use node_arena::Key;
 
 /// A command on live ranges, by its handler.
@@ -61,7 +61,7 @@ fn new_range(state: &mut State, owner: Owner, out: &mut Vec<u8>) -> Result<(), F
     ensures names { KeepsNames state.old.names state.new.names result }
 {
     state.admit(owner, &[])?;
-    let first = state.key(owner, Spelled::Own(0));
+    let first = state.key(owner, NodeWord::Own(0));
     let number = state.doc.range_make(owner, first)?;
     state.accept(owner, &Value::Range(number), out)
 }
@@ -71,11 +71,11 @@ fn set_range_start(
     state: &mut State,
     owner: Owner,
     number: u32,
-    node: Spelled,
+    node: NodeWord,
     offset: u32,
     out: &mut Vec<u8>,
 ) -> Result<(), Fault>
-    ensures handled { IsHandled owner (range_start number (spelled_view node) offset) state.old.world state.new.world out.old.items out.new.items result }
+    ensures handled { IsHandled owner (range_start number (word_view node) offset) state.old.world state.new.world out.old.items out.new.items result }
     ensures names { KeepsNames state.old.names state.new.names result }
 {
     state.admit(owner, &[Operand::Any(node), Operand::Range(number)])?;
@@ -94,11 +94,11 @@ fn set_range_end(
     state: &mut State,
     owner: Owner,
     number: u32,
-    node: Spelled,
+    node: NodeWord,
     offset: u32,
     out: &mut Vec<u8>,
 ) -> Result<(), Fault>
-    ensures handled { IsHandled owner (range_end number (spelled_view node) offset) state.old.world state.new.world out.old.items out.new.items result }
+    ensures handled { IsHandled owner (range_end number (word_view node) offset) state.old.world state.new.world out.old.items out.new.items result }
     ensures names { KeepsNames state.old.names state.new.names result }
 {
     state.admit(owner, &[Operand::Any(node), Operand::Range(number)])?;
@@ -207,12 +207,12 @@ fn insert_node(
     state: &mut State,
     owner: Owner,
     number: u32,
-    node: Spelled,
+    node: NodeWord,
     out: &mut Vec<u8>,
 ) -> Result<(), Fault>
     requires bounds { IsBounded state.old.world }
     requires ends { HasRangeEnds state.old.world }
-    ensures handled { IsHandled owner (insert_node_command number (spelled_view node)) state.old.world state.new.world out.old.items out.new.items result }
+    ensures handled { IsHandled owner (insert_node_command number (word_view node)) state.old.world state.new.world out.old.items out.new.items result }
     ensures names { KeepsNames state.old.names state.new.names result }
 {
     state.admit(owner, &[Operand::Any(node), Operand::Range(number)])?;

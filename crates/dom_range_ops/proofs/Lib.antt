@@ -5,7 +5,7 @@ mod DocTexts
 mod Parting
 mod Sides
 mod Between
-mod Kids
+mod ChildWalks
 mod AfterPoint
 mod KeyedWalks
 mod InsertedRanges

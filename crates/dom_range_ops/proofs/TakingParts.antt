@@ -16,7 +16,7 @@ use Rattle.dom_worlds.proofs.PartSteps.{next-absent}
 use Rattle.dom_worlds.proofs.PlanContents.{OldIn, old-may, old-still, leads-making_below}
 use Rattle.dom_worlds.proofs.PlanPlaces.{Changed, MayGo, Leads, still, after-append, leads-then, leads-eased, leads-nothing, leads-one, leads-inserting}
 use Rattle.dom_worlds.proofs.PlanTexts.{new-there, new-may, leads-replacing_data}
-use Rattle.dom_worlds.proofs.TableSteps.{There}
+use Rattle.dom_worlds.proofs.TableSteps.{HasNode}
 use Rattle.dom_worlds.proofs.Tests.{by_cases}
 use Rattle.dom_model.specs.Changes.{observed, inserting}
 use Rattle.dom_model.specs.Extract.{clone_part, making_below}
@@ -80,7 +80,7 @@ record Leaves (into : NodeName) (clones : List NodeName) (p : Part) (steps : Lis
 record IsPutBelow (into top : NodeName) (p : Part) (n : Node) : Type 0 where
   leads : Leads (Some top) p (making_below top n p)
   bounds : HasBounds (after p (making_below top n p))
-  there : There (after p (making_below top n p)) (next_name p)
+  there : HasNode (after p (making_below top n p)) (next_name p)
   kind : kind_of (after p (making_below top n p)).trees (next_name p) ≡ n.kind
 
 put-below : (into top : NodeName) (p : Part) (n : Node) → n.name ≡ next_name p → IsPart p → HasBounds p → IsTaker into p.trees top → IsPutBelow into top p n

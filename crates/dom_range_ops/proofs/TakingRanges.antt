@@ -18,7 +18,7 @@ use Rattle.dom_worlds.proofs.PlanPlaces.{Changed, still, leads-one}
 use Rattle.dom_worlds.proofs.PlanTexts.{new-there}
 use Rattle.dom_worlds.proofs.Plans.{AreFit, AllWhole}
 use Rattle.dom_worlds.proofs.ExtractionPlans.{common-read}
-use Rattle.dom_worlds.proofs.TableSteps.{There}
+use Rattle.dom_worlds.proofs.TableSteps.{HasNode}
 use Rattle.dom_worlds.proofs.Tests.{by_cases}
 use Rattle.dom_worlds.proofs.TreeChangeLaws.{nodes-named, nodes-then, root-below_none, times-below}
 use Rattle.dom_worlds.proofs.Trees.{times-subtree}
@@ -37,23 +37,23 @@ use Rattle.dom_range_ops.specs.Takings.{MayBeTaken, MayTake}
 
 -- What is known of an item before the fragment is made.
 abbrev pub IsItemIn : Part → Item → Type 0
-IsItemIn p (whole_item x) = There p x
-IsItemIn p (cut_item x from to) = There p x × (has_data (kind_of p.trees x) ≡ true)
-IsItemIn p (clone_item x) = There p x × (has_data (kind_of p.trees x) ≡ false) × (is_shadow (kind_of p.trees x) ≡ false)
+IsItemIn p (whole_item x) = HasNode p x
+IsItemIn p (cut_item x from to) = HasNode p x × (has_data (kind_of p.trees x) ≡ true)
+IsItemIn p (clone_item x) = HasNode p x × (has_data (kind_of p.trees x) ≡ false) × (is_shadow (kind_of p.trees x) ≡ false)
 IsItemIn p end_item = Unit {0}
 
 module _ (p : Part) (r : Range NodeName) (part : IsPart p) (ends : HasEnds p.trees r) (shadows : ShadowRootsHaveNoParent p.trees) where
-  start-there : There p r.start.node
+  start-there : HasNode p r.start.node
   start-there = has_node-times p.trees r.start.node ends.start
 
   -- a node that is there, of which a clone may be made where it is no Text and no Comment
   abbrev IsLower : NodeName → Type 0
-  IsLower x = There p x × (has_data (kind_of p.trees x) ≡ false → is_shadow (kind_of p.trees x) ≡ false)
+  IsLower x = HasNode p x × (has_data (kind_of p.trees x) ≡ false → is_shadow (kind_of p.trees x) ≡ false)
 
   -- what is below a node is so: a shadow root is below none
   below-lower : (a x : NodeName) → 1 ≤ times_in (trees_below (subtree p.trees a)) x → IsLower x
   below-lower a x m =
-      let t : There p x = let b = times-below (subtree p.trees a) x in let c = times-subtree p.trees a x in omega arith in (
+      let t : HasNode p x = let b = times-below (subtree p.trees a) x in let c = times-subtree p.trees a x in omega arith in (
         t,
         λ k. by_cases (is_shadow (kind_of p.trees x))
             (λ s. absurd (let off = root-below_none p.trees part.unique x (no_parent-root p.trees x t (shadows x s)) a in omega arith)) (λ s. s),
@@ -105,7 +105,7 @@ module _ (p : Part) (r : Range NodeName) (part : IsPart p) (ends : HasEnds p.tre
     changed : Changed None p (part_step p (make n))
     changed = (leads-one p (make n) part tt).changed
 
-    old : (x : NodeName) → There p x → OldIn p.node_count (part_step p (make n)) x
+    old : (x : NodeName) → HasNode p x → OldIn p.node_count (part_step p (make n)) x
     old x t = let o = old-there p part x t in record { there = still changed x o.there; alone = λ z h. changed.apart x z o.there tt (o.alone z h) }
 
     item-may : (item : Item) → IsItemIn p item → MayBeTaken (next_name p) (part_step p (make n)).trees item

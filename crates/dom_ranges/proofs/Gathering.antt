@@ -11,7 +11,7 @@ use Rattle.std.proofs.lemmas.Bool.{cases_eq, cases_lt, cases_order, le-leb, lt-l
 use Rattle.std.proofs.lemmas.List.{append-nil, drop_at, take_all, get_or-take, get_or-drop, length-drop, length-append, length-set, get_or-set_same}
 use Rattle.std.proofs.lemmas.List.{get_or-set_other, take-set-le, drop-set-lt, get_or_append_left, get_or-append_right, length-take-le}
 use Rattle.dom_ranges.specs.declared.ends.RangeEnd.{RangeEnd}
-use Rattle.dom_ranges.specs.declared.ends.Part.{Part}
+use Rattle.dom_ranges.specs.declared.ends.Span.{Span}
 use Rattle.dom_ranges.specs.Listed.{AreAt, IsFirm, IsSortedBeside, IsSortedByNode, IsSortedIn, IsTurned, HasChanged, is_in}
 
 -- an equal node is as great
@@ -260,7 +260,7 @@ module _ (es now : List RangeEnd) (first high node : ℕ) (order : first ≤ hig
       (λ i j d f g h k. omega (arith, gathered i d f g, next j d h k))
 
 -- a place between two is in the part
-pub is_in-between : (part : Part) (k : ℕ) → part.first ≤ k → k < part.behind → is_in part k ≡ true
+pub is_in-between : (part : Span) (k : ℕ) → part.first ≤ k → k < part.behind → is_in part k ≡ true
 is_in-between part k l m = rw (le-leb part.first k l) (lt-ltb k part.behind m)
 
 -- one end more is at the node

@@ -11,7 +11,7 @@ use Rattle.dom_model.proofs.OwnerTests.{same_owner}
 use Rattle.dom_ranges.specs.declared.numbers.Numbers.{Numbers}
 use Rattle.dom_ranges.specs.declared.table.Points.{Points}
 use Rattle.dom_ranges.specs.Tables.{list_of, ranges_of}
-use Rattle.dom_ranges.specs.Held.{slots_of, lists_of, range_kept, shown}
+use Rattle.dom_ranges.specs.RangeSlots.{slots_of, lists_of, range_kept, shown}
 
 -- the list of an owner among lists that were rewritten
 list_of-map : {X Y : Type 0} (f : X → Y) (es : List (Owner × List X)) (o : Owner) → list_of (map (λ e. (e.0, map f e.1)) es) o ≡ map f (list_of es o)

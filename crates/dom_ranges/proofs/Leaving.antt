@@ -13,13 +13,13 @@ use Rattle.dom_ranges.specs.declared.numbers.Numbers.{Numbers}
 use Rattle.dom_ranges.specs.declared.table.Points.{Points}
 use Rattle.dom_ranges.specs.declared.ends.RangeEnd.{RangeEnd}
 use Rattle.dom_ranges.specs.Tables.{RangeLists, RangeList, EachRange, BothEnds, ranges_of, range_from, ends_by}
-use Rattle.dom_ranges.specs.Held.{IsHeld, range_kept, slots_of}
+use Rattle.dom_ranges.specs.RangeSlots.{HaveNumbers, range_kept, slots_of}
 use Rattle.dom_ranges.specs.Listed.{IsListed, IsSortedByNode, point_at, end_of, end_in, node_of}
 use Rattle.dom_ranges.specs.Rules.{IsUpTo, IsNear, after_leaving, after_closing}
 use Rattle.dom_ranges.proofs.Lists.{cons_same}
 use Rattle.dom_ranges.proofs.Listing.{listed-once}
 use Rattle.dom_ranges.proofs.Moved.{both_same}
-use Rattle.dom_ranges.proofs.Writing.{Shows, range-standing, IsHeld-same, HoldSame-moved}
+use Rattle.dom_ranges.proofs.Writing.{Shows, range-standing, HaveNumbers-same, HoldSame-moved}
 
 -- a rule moves the ends of all ranges
 abbrev pub Moves : (Boundary ℕ → Boundary ℕ) → Slab Points → Slab Points → Type 0
@@ -87,7 +87,7 @@ each-listed P live es listed holds slot p there = (one false, one true)
 
 module _ (P : Boundary ℕ → Type 0) (live : Slab Points) (n : Numbers) (v : RangeLists) (shows : Shows live n v) where
   -- of the ranges that are held, where it holds of those that are shown
-  pub each-held : IsHeld live n → ((o : Owner) → EachRange (BothEnds P) (ranges_of v o)) → OfEach P live
+  pub each-held : HaveNumbers live n → ((o : Owner) → EachRange (BothEnds P) (ranges_of v o)) → OfEach P live
   each-held held each slot p e =
       let w = held.used slot (ap is_some e) in
       each w.0 w.1 (range_from p) (range-standing live n v shows slot w.1 w.0 p w.2 e)
@@ -181,10 +181,10 @@ module _ (inside : ℕ → Bool) (parent index : ℕ) where
 
 -- what a table keeps
 pub kept-moved : (rule : Boundary ℕ → Boundary ℕ) (live after : Slab Points) (n : Numbers) (es now : List RangeEnd) → Moves rule live after →
-    IsHeld live n → IsListed after now → IsSortedByNode now → es ≡ now
-    → IsHeld after n × IsListed after es × IsSortedByNode es
+    HaveNumbers live n → IsListed after now → IsSortedByNode now → es ≡ now
+    → HaveNumbers after n × IsListed after es × IsSortedByNode es
 kept-moved rule live after n es now moved held listed sorted same = (
-  IsHeld-same live after n n (HoldSame-moved (map_ends rule) live after moved) (λ o. refl) held,
+  HaveNumbers-same live after n n (HoldSame-moved (map_ends rule) live after moved) (λ o. refl) held,
   subst (IsListed after) (sym same) listed,
   subst IsSortedByNode (sym same) sorted,
 )

@@ -6,7 +6,7 @@ pub mod Places
 pub mod Before
 pub mod Climbing
 pub mod Naming
-pub mod Standing
+pub mod EndsAfterCalls
 pub mod Vacant
 mod Gathering
 mod Listing

@@ -11,7 +11,7 @@ use Rattle.dom_model.specs.Ranges.{at, from_to, map_ends}
 use Rattle.dom_ranges.specs.Tables.{range_from}
 use Rattle.dom_ranges.specs.declared.table.Points.{Points}
 use Rattle.dom_ranges.specs.declared.ends.RangeEnd.{RangeEnd}
-use Rattle.dom_ranges.specs.declared.ends.Part.{Part}
+use Rattle.dom_ranges.specs.declared.ends.Span.{Span}
 use Rattle.dom_ranges.specs.Listed.{is_end_of, point_at, end_of, end_in, IsListed, IsMovedPart, IsSortedBeside, IsSortedByNode, IsFirm, AreAllIn}
 use Rattle.dom_ranges.specs.Listed.{is_in, is_chosen}
 use Rattle.dom_ranges.proofs.Listing.{is_end_of-same, is_end_of-true, is_end_of-alike, counts-listed, places-once, times-same}
@@ -23,7 +23,7 @@ pub both_same : (a b c d : Boundary ℕ) → a ≡ c → b ≡ d → from_to a b
 both_same a b c d e f = ap (λ x. from_to x b) e ∙ ap (from_to c) f
 
 -- no place
-abbrev pub nowhere : Part
+abbrev pub nowhere : Span
 nowhere = record { first = 0; behind = 0 }
 
 -- the list after a part was moved
@@ -54,7 +54,7 @@ holds-point Q (Some p) true x h e = subst Q (same_Some _ _ e) (h p refl).1
 holds-point Q (Some p) false x h e = subst Q (same_Some _ _ e) (h p refl).0
 
 -- an end outside the first part stands where it stood
-pub stays-outside : (rule : Boundary ℕ → Boundary ℕ) (target : ℕ) (start mid : Slab Points) (es now : List RangeEnd) (one : Part) →
+pub stays-outside : (rule : Boundary ℕ → Boundary ℕ) (target : ℕ) (start mid : Slab Points) (es now : List RangeEnd) (one : Span) →
     IsListed start es → IsMovedPart rule target start mid es now (is_chosen one nowhere)
     → (k : ℕ) (d : RangeEnd) → k < length now → is_in one k ≡ false →
     point_at mid (get_or now k d).slot (get_or now k d).is_end ≡ point_at start (get_or es k d).slot (get_or es k d).is_end
@@ -68,7 +68,7 @@ stays-outside rule target start mid es now one listed first k d l out =
     (subst (λ (x : RangeEnd). is_end_of e.slot e.is_end x ≡ true) (get_or_default es k d f within) (is_end_of-same e)) in
     true≢false (sym (is_in-between one j w.0 w.1) ∙ (ap (is_in one) same ∙ out))))
 
-module _ (rule : Boundary ℕ → Boundary ℕ) (target : ℕ) (start mid after : Slab Points) (es now last : List RangeEnd) (one two : Part)
+module _ (rule : Boundary ℕ → Boundary ℕ) (target : ℕ) (start mid after : Slab Points) (es now last : List RangeEnd) (one two : Span)
     (listed : IsListed start es)
     (first : IsMovedPart rule target start mid es now (is_chosen one nowhere))
     (second : IsMovedPart rule target mid after now last (is_chosen two one)) (all : AreAllIn rule es one two) where
@@ -76,7 +76,7 @@ module _ (rule : Boundary ℕ → Boundary ℕ) (target : ℕ) (start mid after 
   in_one : (k : ℕ) → is_in one k ≡ true → is_chosen one nowhere k ≡ true
   in_one k e = rw (e, outside-part nowhere k (inr (omega arith))) refl
 
-  chosen_in : (part skipped : Part) (k : ℕ) → is_chosen part skipped k ≡ true → is_in part k ≡ true
+  chosen_in : (part skipped : Span) (k : ℕ) → is_chosen part skipped k ≡ true → is_in part k ≡ true
   chosen_in part skipped k e = let w = chosen-true part skipped k e in is_in-between part k w.0 w.1
 
   pub listed-first : IsListed mid now
@@ -141,7 +141,7 @@ module _ (rule : Boundary ℕ → Boundary ℕ) (target : ℕ) (start mid after 
       let w = counts-listed slot b es (omega (arith, listed.counted slot b, ap {B = ℕ} (λ t. cond t 1 0) there)) in
       moved_once slot b w.0 w.1 w.2)
 
-  module _ (sorted : IsSortedByNode es) (here there : Part)
+  module _ (sorted : IsSortedByNode es) (here there : Span)
       (nodes_first : (k : ℕ) (d : RangeEnd) → (k < here.first) ⊎ (here.behind ≤ k) → (get_or now k d).node ≡ (get_or es k d).node)
       (nodes_second : (k : ℕ) (d : RangeEnd) → (k < there.first) ⊎ (there.behind ≤ k) → (get_or last k d).node ≡ (get_or now k d).node)
       (low high : ℕ) (is_low : low ≡ min here.first there.first) (is_high : high ≡ max here.behind there.behind) where

@@ -9,16 +9,16 @@ use Rattle.slab.specs.Slab.{Slab, get}
 use Rattle.dom_model.specs.Place.{Boundary}
 use Rattle.dom_ranges.specs.declared.table.Points.{Points}
 use Rattle.dom_ranges.specs.declared.ends.RangeEnd.{RangeEnd}
-use Rattle.dom_ranges.specs.declared.ends.Part.{Part}
+use Rattle.dom_ranges.specs.declared.ends.Span.{Span}
 use Rattle.dom_ranges.specs.Listed.{is_end_of, point_at, end_of, Stands, IsListed, IsMovedPart, is_in, is_chosen, at_node}
 use Rattle.dom_ranges.proofs.Listing.{is_end_of-same, places-once}
 
 -- the part up to a place
-abbrev pub up_to : ℕ → ℕ → Part
+abbrev pub up_to : ℕ → ℕ → Span
 up_to first i = record { first = first; behind = i }
 
 -- what is chosen
-pub chosen-true : (part skipped : Part) (k : ℕ) → is_chosen part skipped k ≡ true → (part.first ≤ k) × (k < part.behind) × (is_in skipped k ≡ false)
+pub chosen-true : (part skipped : Span) (k : ℕ) → is_chosen part skipped k ≡ true → (part.first ≤ k) × (k < part.behind) × (is_in skipped k ≡ false)
 chosen-true part skipped k e = by (leb part.first k) (ltb k part.behind) (is_in skipped k) refl refl refl e
   where
     by : (a b c : Bool) → leb part.first k ≡ a → ltb k part.behind ≡ b → is_in skipped k ≡ c → (a && b) && not c ≡ true → (part.first ≤ k) ×
@@ -28,11 +28,11 @@ chosen-true part skipped k e = by (leb part.first k) (ltb k part.behind) (is_in 
     by true false c f g h i = cc
     by false b c f g h i = cc
 
-pub chosen-made : (part skipped : Part) (k : ℕ) → part.first ≤ k → k < part.behind → is_in skipped k ≡ false → is_chosen part skipped k ≡ true
+pub chosen-made : (part skipped : Span) (k : ℕ) → part.first ≤ k → k < part.behind → is_in skipped k ≡ false → is_chosen part skipped k ≡ true
 chosen-made part skipped k l m e = rw (le-leb part.first k l, lt-ltb k part.behind m, e) refl
 
 -- a place outside a part
-pub outside-part : (part : Part) (k : ℕ) → (k < part.first) ⊎ (part.behind ≤ k) → is_in part k ≡ false
+pub outside-part : (part : Span) (k : ℕ) → (k < part.first) ⊎ (part.behind ≤ k) → is_in part k ≡ false
 outside-part part k p = by (is_in part k) refl
   where
     by : (b : Bool) → is_in part k ≡ b → is_in part k ≡ false
@@ -45,7 +45,7 @@ outside-part part k p = by (is_in part k) refl
         inside false c f g h = cc
 
 -- nothing is moved at first
-pub IsMovedPart-none : (rule : Boundary ℕ → Boundary ℕ) (target : ℕ) (live : Slab Points) (es : List RangeEnd) (first : ℕ) (skipped : Part) →
+pub IsMovedPart-none : (rule : Boundary ℕ → Boundary ℕ) (target : ℕ) (live : Slab Points) (es : List RangeEnd) (first : ℕ) (skipped : Span) →
     IsListed live es → IsMovedPart rule target live live es es (is_chosen (up_to first first) skipped)
 IsMovedPart-none rule target live es first skipped listed =
     record {
@@ -78,7 +78,7 @@ IsMovedPart-same rule target start live es now P Q to back m =
     }
 
 -- a part up to its end is the part
-pub IsMovedPart-whole : (rule : Boundary ℕ → Boundary ℕ) (target : ℕ) (start live : Slab Points) (es now : List RangeEnd) (part skipped : Part)
+pub IsMovedPart-whole : (rule : Boundary ℕ → Boundary ℕ) (target : ℕ) (start live : Slab Points) (es now : List RangeEnd) (part skipped : Span)
     (i : ℕ) → (i ≡ part.first) ⊎ (i ≤ part.behind) → part.behind ≤ i
     → IsMovedPart rule target start live es now (is_chosen (up_to part.first i) skipped) → IsMovedPart rule target start live es now (is_chosen part skipped)
 IsMovedPart-whole rule target start live es now part skipped i p l =
@@ -97,7 +97,7 @@ pub there_is : (m : Option Points) (is_end : Bool) (b : Boundary ℕ) → option
 there_is None is_end b e = cc
 there_is (Some p) is_end b e = refl
 
-module _ (rule : Boundary ℕ → Boundary ℕ) (target : ℕ) (start live : Slab Points) (es now : List RangeEnd) (first i : ℕ) (skipped : Part)
+module _ (rule : Boundary ℕ → Boundary ℕ) (target : ℕ) (start live : Slab Points) (es now : List RangeEnd) (first i : ℕ) (skipped : Span)
     (listed : IsListed start es) (within : i < length es) (from : first ≤ i)
     (so_far : IsMovedPart rule target start live es now (is_chosen (up_to first i) skipped)) where
   -- a place that is chosen then was, or is this one

@@ -12,7 +12,7 @@ use Rattle.dom_model.specs.Names.{owner_eq}
 use Rattle.dom_model.proofs.OwnerLaws.{ne-owner_eq}
 use Rattle.dom_tree.proofs.OwnerLists.{had, written-same}
 use Rattle.dom_ranges.specs.declared.numbers.Numbers.{Numbers}
-use Rattle.dom_ranges.specs.Held.{slots_of, HasRoom}
+use Rattle.dom_ranges.specs.RangeSlots.{slots_of, HasRoom}
 
 -- a component's list is rewritten
 pub slots-written : (n r : Numbers) (owner : Owner) (f : List (Option ℕ) → List (Option ℕ)) → owner ≢ Page → r.page ≡ n.page →

@@ -6,7 +6,7 @@ use Rattle.std.proofs.lemmas.List.Sums.{sum_by-cons}
 use Rattle.slab.specs.Slab.{Slab, slab_len}
 use Rattle.dom_model.specs.Place.{Boundary}
 use Rattle.dom_ranges.specs.declared.table.Points.{Points}
-use Rattle.dom_ranges.specs.Held.{range_kept}
+use Rattle.dom_ranges.specs.RangeSlots.{range_kept}
 use Rattle.dom_ranges.specs.Tables.{RangeList, range_in, range_from, ends_by}
 
 -- no rule rewrites anything

@@ -14,7 +14,7 @@ use Rattle.dom_model.specs.Ranges.{Range}
 use Rattle.dom_ranges.specs.declared.numbers.Numbers.{Numbers}
 use Rattle.dom_ranges.specs.declared.table.Points.{Points}
 use Rattle.dom_ranges.specs.Tables.{RangeLists, ranges_of, range_in, range_from, with_ranges}
-use Rattle.dom_ranges.specs.Held.{slots_of, range_kept, shown, StandsUnder, IsHeld}
+use Rattle.dom_ranges.specs.RangeSlots.{slots_of, range_kept, shown, StandsUnder, HaveNumbers}
 use Rattle.dom_ranges.proofs.Holding.{ranges_of-shown}
 use Rattle.dom_ranges.proofs.Lists.{map_kept, map_twice, map_set, set_over, set-at, set-absent, set-other, append-cases, append-kept, append-last}
 
@@ -27,8 +27,8 @@ abbrev pub SameLists : Numbers → Numbers → Type 0
 SameLists n m = (o : Owner) → slots_of m o ≡ slots_of n o
 
 -- what holds stays where slots and lists do
-pub IsHeld-same : (live after : Slab Points) (n m : Numbers) → HoldSame live after → SameLists n m → IsHeld live n → IsHeld after m
-IsHeld-same live after n m hold same h =
+pub HaveNumbers-same : (live after : Slab Points) (n m : Numbers) → HoldSame live after → SameLists n m → HaveNumbers live n → HaveNumbers after m
+HaveNumbers-same live after n m hold same h =
     let back = λ (o : Owner) (k slot : ℕ) (e : StandsUnder m slot o k). ap (λ (ss : List (Option ℕ)). slice_get ss k) (sym (same o)) ∙ e in
     record {
       held = λ o k slot e. (hold slot).1 (h.held o k slot (back o k slot e));
@@ -113,7 +113,7 @@ not_there v owner k e o = sym (ap (λ rs. with_ranges v owner rs o) (set-absent 
 
 -- the table after a range was written
 pub ranges-written : (live after : Slab Points) (n : Numbers) (v : RangeLists) (slot k : ℕ) (owner : Owner) (q : Points) → Shows live n v →
-    IsHeld live n → StandsUnder n slot owner k → Updates live after slot (Some q)
+    HaveNumbers live n → StandsUnder n slot owner k → Updates live after slot (Some q)
     → (o : Owner) → ranges_of (shown after n) o ≡ with_ranges v owner (slice_set (ranges_of v owner) k (Some (range_from q))) o
 ranges-written live after n v slot k owner q shows h at u o = ranges_of-shown after n o ∙ by (owner_eq owner o) refl
   where
@@ -166,7 +166,7 @@ HoldSame-moved f live after moved s = by (get after s) (get live s) (moved s)
 
 -- ---- a slot more
 
-module _ (live after : Slab Points) (n m : Numbers) (slot : ℕ) (owner : Owner) (q : Points) (h : IsHeld live n) (free : get live slot ≡ None)
+module _ (live after : Slab Points) (n m : Numbers) (slot : ℕ) (owner : Owner) (q : Points) (h : HaveNumbers live n) (free : get live slot ≡ None)
     (u : Updates live after slot (Some q))
     (lists : (o : Owner) → slots_of m o ≡ (if owner_eq owner o then slots_of n o ++ Some slot ∷ [] else slots_of n o)) where
   -- the new slot stood nowhere
@@ -210,8 +210,8 @@ module _ (live after : Slab Points) (n m : Numbers) (slot : ℕ) (owner : Owner)
   other_slot : (o : Owner) (k s : ℕ) → StandsUnder n s o k → s ≢ slot
   other_slot o k s e f = stood_nowhere o k (subst (λ t. StandsUnder n t o k) f e)
 
-  pub IsHeld-pushed : IsHeld after m
-  IsHeld-pushed =
+  pub HaveNumbers-pushed : HaveNumbers after m
+  HaveNumbers-pushed =
       record {
         held = λ o k s e. elim (under-cases o k s e) [
           | inl f ↦ subst IsSome (sym (u.others s (other_slot o k s f))) (h.held o k s f)
@@ -254,7 +254,7 @@ module _ (live after : Slab Points) (n m : Numbers) (slot : ℕ) (owner : Owner)
 
 -- ---- a slot emptied
 
-module _ (live after : Slab Points) (n m : Numbers) (slot k : ℕ) (owner : Owner) (h : IsHeld live n) (at : StandsUnder n slot owner k)
+module _ (live after : Slab Points) (n m : Numbers) (slot k : ℕ) (owner : Owner) (h : HaveNumbers live n) (at : StandsUnder n slot owner k)
     (u : Updates live after slot None)
     (lists : (o : Owner) → slots_of m o ≡ (if owner_eq owner o then slice_set (slots_of n o) k None else slots_of n o)) where
   -- the owner's list without it
@@ -294,8 +294,8 @@ module _ (live after : Slab Points) (n m : Numbers) (slot k : ℕ) (owner : Owne
     | inr f ↦ ap (λ (ss : List (Option ℕ)). slice_get ss j) (left-other o f) ∙ e
   ]
 
-  pub IsHeld-cleared : IsHeld after m
-  IsHeld-cleared =
+  pub HaveNumbers-cleared : HaveNumbers after m
+  HaveNumbers-cleared =
       record {
         held = λ o j s e. let w = under-left o j s e in subst IsSome (sym (u.others s w.1)) (h.held o j s w.0);
         apart = λ o p i j s e f. h.apart o p i j s (under-left o i s e).0 (under-left p j s f).0;

@@ -1,6 +1,6 @@
 -- Unmarked: own rules, about what the code holds and its contracts say.
 pub mod Tables
-pub mod Held
+pub mod RangeSlots
 pub mod Rules
 pub mod Climbs
 pub mod Settings

@@ -7,7 +7,7 @@ use Rattle.dom_model.specs.Place.{Boundary}
 use Rattle.dom_model.specs.Ranges.{at}
 use Rattle.dom_ranges.specs.declared.table.Points.{Points}
 use Rattle.dom_ranges.specs.declared.ends.RangeEnd.{RangeEnd}
-use Rattle.dom_ranges.specs.declared.ends.Part.{Part}
+use Rattle.dom_ranges.specs.declared.ends.Span.{Span}
 
 -- the node of a listed end
 abbrev pub node_of : RangeEnd → ℕ
@@ -50,7 +50,7 @@ abbrev pub IsSortedByNode : List RangeEnd → Type 0
 IsSortedByNode es = IsNonDecreasingBy node_of es
 
 -- a part of the ends is
-abbrev pub IsSortedIn : List RangeEnd → Part → Type 0
+abbrev pub IsSortedIn : List RangeEnd → Span → Type 0
 IsSortedIn es part =
     (i j : ℕ) (d : RangeEnd) → part.first ≤ i → i ≤ j → j < part.behind → (slice_index_or es i d).node ≤ (slice_index_or es j d).node
 
@@ -75,11 +75,11 @@ pub record IsTurned (es now : List RangeEnd) (first middle behind : ℕ) : Type 
   pub first_part : (k : ℕ) (d : RangeEnd) → k < behind → behind + first ≤ k + middle → slice_index_or now k d ≡ slice_index_or es (k + middle - behind) d
 
 -- a place is in a part of a list
-abbrev pub is_in : Part → ℕ → Bool
+abbrev pub is_in : Span → ℕ → Bool
 is_in part k = nat_le part.first k && nat_lt k part.behind
 
 -- a place is in a part, and not in the one that is skipped
-abbrev pub is_chosen : Part → Part → ℕ → Bool
+abbrev pub is_chosen : Span → Span → ℕ → Bool
 is_chosen part skipped k = is_in part k && not (is_in skipped k)
 
 -- the ends that are listed at the places within were moved by a rule, and the list says where they stand then
@@ -99,7 +99,7 @@ pub record IsMovedPart (rule : Boundary ℕ → Boundary ℕ) (target : ℕ) (li
   pub standing : (k : ℕ) (d : RangeEnd) → k < length es → Stands after (slice_index_or now k d)
 
 -- no end outside two parts is moved by a rule
-abbrev pub AreAllIn : (Boundary ℕ → Boundary ℕ) → List RangeEnd → Part → Part → Type 0
+abbrev pub AreAllIn : (Boundary ℕ → Boundary ℕ) → List RangeEnd → Span → Span → Type 0
 AreAllIn rule es one two =
     (k : ℕ) (d : RangeEnd) (i : ℕ) → k < length es → is_in one k ≡ false → is_in two k ≡ false →
     rule (at (slice_index_or es k d).node i) ≡ at (slice_index_or es k d).node i

@@ -17,12 +17,12 @@ pub(crate) struct RangeEnd {
 
 /// The places of a list from one up to another.
 #[derive(Clone, Copy)]
-pub(crate) struct Part {
+pub(crate) struct Span {
     pub(crate) first: usize,
     pub(crate) behind: usize,
 }
 
-impl Part {
+impl Span {
     /// Whether a place is in the part.
     pub(crate) fn has(self, place: usize) -> bool
         ensures { result ≡ is_in self place }
@@ -38,7 +38,7 @@ impl Part {
     }
 
     /// The places from the first to the last of two parts.
-    pub(crate) fn around(self, other: Part) -> Part
+    pub(crate) fn around(self, other: Span) -> Span
         ensures first { (k : ℕ) → is_in self k ≡ true → is_in result k ≡ true }
         ensures second { (k : ℕ) → is_in other k ≡ true → is_in result k ≡ true }
         ensures within { (n : ℕ) → self.behind ≤ n → other.behind ≤ n → result.behind ≤ n }
@@ -46,7 +46,7 @@ impl Part {
         if other.behind <= other.first {
             return self;
         }
-        Part {
+        Span {
             first: self.first.min(other.first),
             behind: self.behind.max(other.behind),
         }
@@ -54,7 +54,7 @@ impl Part {
 }
 
 /// Where the ends at a node are at their end, or would be, in a part of a list that is sorted there.
-fn place_in(ends: &[RangeEnd], part: Part, node: Key) -> usize
+fn place_in(ends: &[RangeEnd], part: Span, node: Key) -> usize
     requires order { part.first ≤ part.behind }
     requires within { part.behind ≤ length ends.now }
     requires sorted { IsSortedIn ends.now part }
@@ -77,12 +77,12 @@ fn place_in(ends: &[RangeEnd], part: Part, node: Key) -> usize
 }
 
 /// The places of the ends at a node in a sorted list.
-pub(crate) fn part_of(ends: &[RangeEnd], node: Key) -> Part
+pub(crate) fn part_of(ends: &[RangeEnd], node: Key) -> Span
     requires { IsSortedByNode ends.now }
     ensures within { result.behind ≤ length ends.now }
     ensures all { (k : ℕ) (d : RangeEnd) → k < length ends.now → (slice_index_or ends.now k d).node ≡ node → is_in result k ≡ true }
 {
-    Part {
+    Span {
         first: ends.partition_point(|end| end.node < node),
         behind: ends.partition_point(|end| end.node <= node),
     }
@@ -130,7 +130,7 @@ pub(crate) fn settle(ends: &mut [RangeEnd], low: usize, high: usize, node: Key)
     ensures sorted { IsSortedByNode ends.new }
 {
     let first = gather(ends, low, high, node);
-    let front = Part {
+    let front = Span {
         first: 0,
         behind: first,
     };
@@ -139,7 +139,7 @@ pub(crate) fn settle(ends: &mut [RangeEnd], low: usize, high: usize, node: Key)
         turn(ends, before, first, high);
         return;
     }
-    let back = Part {
+    let back = Span {
         first: high,
         behind: ends.len(),
     };

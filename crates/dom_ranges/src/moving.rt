@@ -7,7 +7,7 @@ ghost use Rattle.dom_ranges.specs.Tables.{BothEnds, range_from};
 ghost use Rattle.dom_ranges.specs.Listed.{IsListed, IsSortedByNode, IsMovedPart, AreAllIn, is_chosen, point_at, with_end_at};
 
 use crate::change::Change;
-use crate::ends::{Part, RangeEnd, bring, drop_end, settle};
+use crate::ends::{RangeEnd, Span, bring, drop_end, settle};
 use crate::table::Points;
 use node_arena::Key;
 use slab::Slab;
@@ -41,9 +41,9 @@ fn move_part<C: Change>(
     live: &mut Slab<Points>,
     ends: &mut [RangeEnd],
     change: &C,
-    part: Part,
-    skipped: Part,
-) -> Part
+    part: Span,
+    skipped: Span,
+) -> Span
     requires within { part.behind ≤ length ends.old }
     requires listed { IsListed live.old ends.old }
     requires can_move { (k : ℕ) (d : RangeEnd) → k < length ends.old → is_chosen part skipped k ≡ true →
@@ -53,7 +53,7 @@ fn move_part<C: Change>(
     ensures nodes { (k : ℕ) (d : RangeEnd) → (k < result.first) ⊎ (result.behind ≤ k) →
         (slice_index_or ends.new k d).node ≡ (slice_index_or ends.old k d).node }
 {
-    let mut changed = Part {
+    let mut changed = Span {
         first: usize::MAX,
         behind: 0,
     };
@@ -77,8 +77,8 @@ pub(crate) fn move_ends<C: Change>(
     live: &mut Slab<Points>,
     ends: &mut [RangeEnd],
     change: &C,
-    one: Part,
-    two: Part,
+    one: Span,
+    two: Span,
 )
     requires listed { IsListed live.old ends.old }
     requires sorted { IsSortedByNode ends.old }
@@ -90,7 +90,7 @@ pub(crate) fn move_ends<C: Change>(
     ensures listed { IsListed live.new ends.new }
     ensures sorted { IsSortedByNode ends.new }
 {
-    let nothing = Part {
+    let nothing = Span {
         first: 0,
         behind: 0,
     };

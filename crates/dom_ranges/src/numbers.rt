@@ -4,7 +4,7 @@ ghost use Rattle.std.specs.Option.{option_flatten};
 ghost use Rattle.dom_base.specs.declared.Owner.{Owner as Owners};
 ghost use Rattle.dom_base.specs.declared.Owner.TheVariants.{Page};
 ghost use Rattle.dom_model.specs.Names.{owner_eq};
-ghost use Rattle.dom_ranges.specs.Held.{slots_of, HasRoom, HasList};
+ghost use Rattle.dom_ranges.specs.RangeSlots.{slots_of, HasRoom, HasList};
 
 use dom_base::Owner;
 use std::alloc::{AllocError, Global};

@@ -10,7 +10,7 @@ ghost use Rattle.dom_ranges.specs.Listed.{IsListed, IsSortedByNode, is_in};
 ghost use Rattle.dom_ranges.specs.Rules.{IsAtNode, is_inside, after_closing};
 
 use crate::change::{Closing, Leaving};
-use crate::ends::{Part, RangeEnd, part_of};
+use crate::ends::{RangeEnd, Span, part_of};
 use crate::indexes::index_before_ends;
 use crate::moving::move_ends;
 use crate::table::Points;
@@ -46,7 +46,7 @@ pub(crate) fn move_out(
         return;
     }
     let index = forest.index(node);
-    let nothing = Part {
+    let nothing = Span {
         first: 0,
         behind: 0,
     };
@@ -70,7 +70,7 @@ fn close(live: &mut Slab<Points>, ends: &mut [RangeEnd], parent: Key, index: usi
     ensures sorted { IsSortedByNode ends.new }
 {
     let there = part_of(ends, parent);
-    let nothing = Part {
+    let nothing = Span {
         first: 0,
         behind: 0,
     };
@@ -80,7 +80,7 @@ fn close(live: &mut Slab<Points>, ends: &mut [RangeEnd], parent: Key, index: usi
 /// The places from the first to the last of the ends that are at nodes in the tree of `top`. Each node of the tree costs
 /// two binary searches in the list. Where the tree has more nodes than the list has ends, the walk stops after as many:
 /// to test each end is less then.
-fn part_inside(forest: &Forest, top: Key, ends: &[RangeEnd]) -> Part
+fn part_inside(forest: &Forest, top: Key, ends: &[RangeEnd]) -> Span
     requires sorted { IsSortedByNode ends.now }
     requires nodes { (k : ℕ) (d : RangeEnd) → k < length ends.now → (top < length forest.now.names) ×
         ((slice_index_or ends.now k d).node < length forest.now.names) }
@@ -88,7 +88,7 @@ fn part_inside(forest: &Forest, top: Key, ends: &[RangeEnd]) -> Part
     ensures all { (k : ℕ) (d : RangeEnd) → k < length ends.now → is_in result k ≡ false → is_inside forest.now top (slice_index_or ends.now k d).node ≡ false }
 {
     forest.nodes_stand_once();
-    let mut part = Part {
+    let mut part = Span {
         first: ends.len(),
         behind: 0,
     };
@@ -106,19 +106,19 @@ fn part_inside(forest: &Forest, top: Key, ends: &[RangeEnd]) -> Part
 }
 
 /// The same places, where each end is tested by going up from its node.
-fn part_tested(forest: &Forest, top: Key, ends: &[RangeEnd]) -> Part
+fn part_tested(forest: &Forest, top: Key, ends: &[RangeEnd]) -> Span
     requires nodes { (k : ℕ) (d : RangeEnd) → k < length ends.now → (top < length forest.now.names) ×
         ((slice_index_or ends.now k d).node < length forest.now.names) }
     ensures within { result.behind ≤ length ends.now }
     ensures all { (k : ℕ) (d : RangeEnd) → k < length ends.now → is_in result k ≡ false → is_inside forest.now top (slice_index_or ends.now k d).node ≡ false }
 {
-    let mut part = Part {
+    let mut part = Span {
         first: ends.len(),
         behind: 0,
     };
     for i in 0..ends.len() {
         if forest.is_inclusive_ancestor(top, ends[i].node) {
-            part = part.around(Part {
+            part = part.around(Span {
                 first: i,
                 behind: i + 1,
             });

@@ -15,7 +15,7 @@ ghost use Rattle.dom_ranges.specs.Settings.{start_set, end_set, named_ranges, wi
 ghost use Rattle.dom_ranges.specs.Tables.{ranges_of, range_in, with_ranges, range_from, ends_by, EachRange, BothEnds, collapsed_range};
 
 use crate::change::{Change, Insertion, Join, Replacement, Split};
-use crate::ends::{Part, RangeEnd, list_range, part_of};
+use crate::ends::{RangeEnd, Span, list_range, part_of};
 use crate::indexes::{index_among_ends, index_before_ends};
 use crate::moving::{drop_range, move_ends, put_end};
 use crate::numbers::Numbers;
@@ -49,12 +49,12 @@ impl Model for RangeTable {
 
     ghost Value = { RangeLists };
 
-    ghost use Rattle.dom_ranges.specs.Held.{shown, IsHeld};
+    ghost use Rattle.dom_ranges.specs.RangeSlots.{shown, HaveNumbers};
     ghost use Rattle.dom_ranges.specs.Listed.{IsListed, IsSortedByNode};
 
     ghost view = { λ t. shown t.live t.numbers };
 
-    ghost invariant = { λ t. IsHeld t.live t.numbers × IsListed t.live t.ends.items × IsSortedByNode t.ends.items };
+    ghost invariant = { λ t. HaveNumbers t.live t.numbers × IsListed t.live t.ends.items × IsSortedByNode t.ends.items };
 }
 
 impl RangeTable {
@@ -387,7 +387,7 @@ impl RangeTable {
         let ends = self.ends.as_mut_slice();
         let here = part_of(ends, one);
         let there = if one == two {
-            Part {
+            Span {
                 first: 0,
                 behind: 0,
             }

@@ -4,7 +4,7 @@ use Rattle.std.specs.List.{slice_split}
 use Rattle.std.specs.Borrow.{Bor}
 use Rattle.dom_model.specs.Names.{Word, is_name}
 use Rattle.dom_base.specs.declared.Owner.{Owner}
-use Rattle.dom_model.specs.Command.{Spelled, Filter}
+use Rattle.dom_model.specs.Command.{NodeWord, Filter}
 use Rattle.dom_text.specs.Readers.{◌>>=◌, only_if, behind, next_as, last_as, show_of, name_filter_of}
 use Rattle.dom_text.specs.Decode.{node_at}
 
@@ -18,7 +18,7 @@ abbrev pub name_behind : List ℕ → Word → Option Word
 name_behind front word = behind front word >>= λ name. only_if (is_name name) name
 
 -- the words of an iterator or a walker: a root, what is shown, and perhaps a name
-abbrev pub filtered : Owner → List ℕ → Option (Spelled × Filter)
+abbrev pub filtered : Owner → List ℕ → Option (NodeWord × Filter)
 filtered owner bytes =
     node_at owner bytes >>= λ root. next_as show_of root.1 >>= λ shown. last_as name_filter_of shown.1 >>= λ named.
     Some (root.0, record { shown = shown.0; named = named })

@@ -16,13 +16,13 @@ use crate::line::Command;
 use crate::lookup::keyword_of;
 use cursors::{cursor_command, range_command};
 use dom_base::Owner;
-use dom_words::{NotRead, Words};
+use dom_words::{NotRead, WordReader};
 use events::{event_command, observer_command};
 use nodes::{content_command, making_command, question_command, tree_command};
 use std::alloc::Global;
 
 /// The command, at the end of its line.
-fn ended(command: Command, words: &Words) -> Result<Command, NotRead>
+fn ended(command: Command, words: &WordReader) -> Result<Command, NotRead>
     ensures { Gives command_view result (at_end (command_view command) words.now) }
 {
     words.end()?;
@@ -34,7 +34,7 @@ fn command_behind(
     alloc: Global,
     keyword: Keyword,
     owner: Owner,
-    words: &mut Words,
+    words: &mut WordReader,
 ) -> Result<Command, NotRead>
     ensures { Gives command_view result (spec_command_behind (keyword_view keyword) owner words.old) }
 {
@@ -54,7 +54,7 @@ fn command_behind(
 pub fn command_at(alloc: Global, owner: Owner, bytes: &[u8]) -> Result<Command, NotRead>
     ensures { Gives command_view result (spec_command_at owner bytes.now) }
 {
-    let mut words = Words::new(bytes);
+    let mut words = WordReader::new(bytes);
     let word = words.word()?;
     let keyword = keyword_of(word).ok_or(NotRead::Syntax)?;
     command_behind(alloc, keyword, owner, &mut words)

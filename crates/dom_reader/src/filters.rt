@@ -14,7 +14,7 @@ use crate::line::{NameFilter, Show};
 use crate::nodes::behind;
 use crate::separated::first_part;
 use dom_base::Verdict;
-use dom_words::{NotRead, Words, is_name, text_of};
+use dom_words::{NotRead, WordReader, is_name, text_of};
 use std::alloc::Global;
 
 /// Whether the name comes first among the parts, and the parts behind it where it does.
@@ -135,7 +135,10 @@ fn attribute_filter_of(alloc: Global, word: &[u8]) -> Result<Vec<String>, NotRea
 }
 
 /// `skip=NAME` or `reject=NAME` as the line's last word, where there is one more.
-pub fn last_name_filter(alloc: Global, words: &mut Words) -> Result<Option<NameFilter>, NotRead>
+pub fn last_name_filter(
+    alloc: Global,
+    words: &mut WordReader,
+) -> Result<Option<NameFilter>, NotRead>
     ensures { Gives (option_map name_filter_view) result (last_as spec_name_filter_of words.old) }
 {
     if words.is_at_end() {
@@ -150,7 +153,7 @@ pub fn last_name_filter(alloc: Global, words: &mut Words) -> Result<Option<NameF
 /// `filter=NAME,..` as the line's last word, where there is one more.
 pub fn last_attribute_filter(
     alloc: Global,
-    words: &mut Words,
+    words: &mut WordReader,
 ) -> Result<Option<Vec<String>>, NotRead>
     ensures { Gives (option_map (λ names. map string_bytes names.items)) result (last_as spec_attribute_filter_of words.old) }
 {

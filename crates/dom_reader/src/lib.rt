@@ -23,7 +23,7 @@ use dom_base::{MAX_LINE, Owner, Refusal};
 use dom_words::NotRead;
 pub use laws::law_pieces;
 pub use line::{
-    Command, EventWords, Filter, Line, ListenerWords, NameFilter, ObserveWords, Show, Spelled,
+    Command, EventWords, Filter, Line, ListenerWords, NameFilter, NodeWord, ObserveWords, Show,
 };
 pub use nodes::owner_of;
 pub use splitter::Splitter;

@@ -8,7 +8,7 @@ use dom_base::{Action, DomStr, Move, Owner, Verdict};
 /// For the page `nJ` is its own, and `mJ` and `cK:mJ` are foreign; for a component `mJ` is its own, and `nJ` and every
 /// `cK:mJ` are foreign.
 #[derive(Clone, Copy)]
-pub enum Spelled {
+pub enum NodeWord {
     Own(u32),
     Foreign,
 }
@@ -84,57 +84,57 @@ pub enum Command {
     /// `document`
     NewDocument,
     /// `attach E`
-    Attach(Spelled),
+    Attach(NodeWord),
     /// `append P N`
-    Append(Spelled, Spelled),
+    Append(NodeWord, NodeWord),
     /// `insert P N C`
-    Insert(Spelled, Spelled, Spelled),
+    Insert(NodeWord, NodeWord, NodeWord),
     /// `replace P N C`
-    Replace(Spelled, Spelled, Spelled),
+    Replace(NodeWord, NodeWord, NodeWord),
     /// `remove N`
-    Remove(Spelled),
+    Remove(NodeWord),
     /// `adopt D N`
-    Adopt(Spelled, Spelled),
+    Adopt(NodeWord, NodeWord),
     /// `normalize N`
-    Normalize(Spelled),
+    Normalize(NodeWord),
     /// `set E WORD STR`
-    SetAttribute(Spelled, String, DomStr),
+    SetAttribute(NodeWord, String, DomStr),
     /// `unset E WORD`
-    UnsetAttribute(Spelled, String),
+    UnsetAttribute(NodeWord, String),
     /// `data T STR`
-    SetData(Spelled, DomStr),
+    SetData(NodeWord, DomStr),
     /// `replace-data T OFFSET COUNT STR`
-    ReplaceData(Spelled, u32, u32, DomStr),
+    ReplaceData(NodeWord, u32, u32, DomStr),
     /// `split N OFFSET`
-    Split(Spelled, u32),
+    Split(NodeWord, u32),
     /// `text N STR`
-    SetText(Spelled, DomStr),
+    SetText(NodeWord, DomStr),
     /// `tree N`
-    Tree(Spelled),
+    Tree(NodeWord),
     /// `attr E WORD`
-    Attribute(Spelled, String),
+    Attribute(NodeWord, String),
     /// `parent N`
-    Parent(Spelled),
+    Parent(NodeWord),
     /// `docof N`
-    DocumentOf(Spelled),
+    DocumentOf(NodeWord),
     /// `children N`
-    Children(Spelled),
+    Children(NodeWord),
     /// `contains N N`
-    Contains(Spelled, Spelled),
+    Contains(NodeWord, NodeWord),
     /// `connected N`
-    Connected(Spelled),
+    Connected(NodeWord),
     /// `shadow-root E`
-    ShadowRoot(Spelled),
+    ShadowRoot(NodeWord),
     /// `slot-of N`
-    SlotOf(Spelled),
+    SlotOf(NodeWord),
     /// `assigned E`, of a component alone
-    Assigned(Spelled),
+    Assigned(NodeWord),
     /// `range-new`
     RangeNew,
     /// `range-start R N OFFSET`
-    RangeStart(u32, Spelled, u32),
+    RangeStart(u32, NodeWord, u32),
     /// `range-end R N OFFSET`
-    RangeEnd(u32, Spelled, u32),
+    RangeEnd(u32, NodeWord, u32),
     /// `range-collapse R start` (true) or `end` (false)
     RangeCollapse(u32, bool),
     /// `range-drop R`
@@ -148,11 +148,11 @@ pub enum Command {
     /// `delete R`
     Delete(u32),
     /// `insert-node R N`
-    InsertNode(u32, Spelled),
+    InsertNode(u32, NodeWord),
     /// `iter-new N SHOW [FILTER]`
-    IteratorNew(Spelled, Filter),
+    IteratorNew(NodeWord, Filter),
     /// `walk-new N SHOW [FILTER]`
-    WalkerNew(Spelled, Filter),
+    WalkerNew(NodeWord, Filter),
     /// `iter-next I`
     IteratorNext(u32),
     /// `iter-prev I`
@@ -164,21 +164,21 @@ pub enum Command {
     /// `walk-at W`
     WalkerAt(u32),
     /// `walk-set W N`
-    WalkerSet(u32, Spelled),
+    WalkerSet(u32, NodeWord),
     /// `query N STR`
-    Query(Spelled, DomStr),
+    Query(NodeWord, DomStr),
     /// `matches E STR`
-    Matches(Spelled, DomStr),
+    Matches(NodeWord, DomStr),
     /// `listen N TYPE LABEL ACTION [capture] [once] [passive]`
-    Listen(Spelled, ListenerWords),
+    Listen(NodeWord, ListenerWords),
     /// `unlisten N TYPE LABEL [capture]`: the type, then the label
-    Unlisten(Spelled, String, String, bool),
+    Unlisten(NodeWord, String, String, bool),
     /// `dispatch N TYPE [bubbles] [cancelable] [composed] [related N]`
-    Dispatch(Spelled, EventWords, Option<Spelled>),
+    Dispatch(NodeWord, EventWords, Option<NodeWord>),
     /// `observer`
     Observer,
     /// `observe O N ..`
-    Observe(u32, Spelled, ObserveWords),
+    Observe(u32, NodeWord, ObserveWords),
     /// `disconnect O`
     Disconnect(u32),
     /// `take O`

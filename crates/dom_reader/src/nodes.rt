@@ -6,15 +6,15 @@ ghost use Rattle.dom_base.specs.Owners.{no_path, longer_path};
 ghost use Rattle.dom_text.specs.Readers.{only_if, between_dots, path_onto};
 ghost use Rattle.dom_text.specs.Readers.{component_of as spec_component_of, owner_of as spec_owner_of, behind as spec_behind, is_no_colon};
 ghost use Rattle.dom_text.specs.Readers.{page_node as spec_page_node, inner_node as spec_inner_node, full_name_of as spec_full_name_of};
-ghost use Rattle.dom_text.specs.Readers.{spelled_of as spec_spelled_of};
+ghost use Rattle.dom_text.specs.Readers.{node_word_of as spec_spelled_of};
 ghost use Rattle.dom_text.specs.Decode.{before_space, node_at, owner_at as spec_owner_at};
 ghost use Rattle.dom_words.specs.Gives.{Takes};
-ghost use Rattle.dom_reader.specs.Views.{spelled_view};
+ghost use Rattle.dom_reader.specs.Views.{word_view};
 
-use crate::line::Spelled;
+use crate::line::NodeWord;
 use crate::separated::first_part;
 use dom_base::{MAX_DEPTH, Owner, OwnerPath};
-use dom_words::{NotRead, Words, number_of, positive_of, word_at};
+use dom_words::{NotRead, WordReader, number_of, positive_of, word_at};
 
 /// A path with one number more behind its own, where there is room for it.
 fn longer(path: OwnerPath, number: u32) -> Option<OwnerPath>
@@ -79,22 +79,22 @@ pub fn owner_at(line: &[u8]) -> Option<(Owner, &[u8])>
 }
 
 /// The node `nJ` in a line of the owner.
-fn page_node(owner: Owner, number: u32) -> Spelled
-    ensures { spelled_view result ≡ spec_page_node owner number }
+fn page_node(owner: Owner, number: u32) -> NodeWord
+    ensures { word_view result ≡ spec_page_node owner number }
 {
     match owner {
-        Owner::Page => Spelled::Own(number),
-        Owner::Component(_) => Spelled::Foreign,
+        Owner::Page => NodeWord::Own(number),
+        Owner::Component(_) => NodeWord::Foreign,
     }
 }
 
 /// The node `mJ` in a line of the owner.
-fn inner_node(owner: Owner, number: u32) -> Spelled
-    ensures { spelled_view result ≡ spec_inner_node owner number }
+fn inner_node(owner: Owner, number: u32) -> NodeWord
+    ensures { word_view result ≡ spec_inner_node owner number }
 {
     match owner {
-        Owner::Page => Spelled::Foreign,
-        Owner::Component(_) => Spelled::Own(number),
+        Owner::Page => NodeWord::Foreign,
+        Owner::Component(_) => NodeWord::Own(number),
     }
 }
 
@@ -117,18 +117,18 @@ pub fn behind<'a>(front: &[u8], text: &'a [u8]) -> Option<&'a [u8]>
 }
 
 /// A node by its full name: the component's word, and then `:mJ`.
-fn full_name_of(word: &[u8]) -> Option<Spelled>
-    ensures { option_map spelled_view result ≡ spec_full_name_of word.now }
+fn full_name_of(word: &[u8]) -> Option<NodeWord>
+    ensures { option_map word_view result ≡ spec_full_name_of word.now }
 {
     let (component, node) = word.split_at(front_len(word));
     component_of(component)?;
     number_of(behind(b":m", node)?)?;
-    Some(Spelled::Foreign)
+    Some(NodeWord::Foreign)
 }
 
 /// The node that the word names in a line of the owner.
-fn spelled_of(owner: Owner, word: &[u8]) -> Option<Spelled>
-    ensures { option_map spelled_view result ≡ spec_spelled_of owner word.now }
+fn node_word_of(owner: Owner, word: &[u8]) -> Option<NodeWord>
+    ensures { option_map word_view result ≡ spec_spelled_of owner word.now }
 {
     match word {
         [] => None,
@@ -141,9 +141,9 @@ fn spelled_of(owner: Owner, word: &[u8]) -> Option<Spelled>
 }
 
 /// The next word as a node, as a line of the owner names it.
-pub fn next_node(owner: Owner, words: &mut Words) -> Result<Spelled, NotRead>
-    ensures { Takes spelled_view result (node_at owner words.old) words.new }
+pub fn next_node(owner: Owner, words: &mut WordReader) -> Result<NodeWord, NotRead>
+    ensures { Takes word_view result (node_at owner words.old) words.new }
 {
     let word = words.word()?;
-    spelled_of(owner, word).ok_or(NotRead::Syntax)
+    node_word_of(owner, word).ok_or(NotRead::Syntax)
 }

@@ -10,7 +10,7 @@ use Rattle.dom_model.specs.Selectors.{alone, joined}
 use Rattle.dom_model.specs.SelectorText.{link}
 use Rattle.dom_model.specs.Tree.{Trees, ancestors, parent_of}
 use Rattle.dom_tree.specs.Forest.{NamedTrees, name_at}
-use Rattle.dom_selectors.specs.declared.selector.Part.{Part}
+use Rattle.dom_selectors.specs.declared.selector.CompoundPart.{CompoundPart}
 use Rattle.dom_selectors.specs.declared.selector.Link.{Link}
 use Rattle.dom_selectors.specs.Views.{compound_view, combinator_view, link_view, complex_from}
 use Rattle.dom_traversal.proofs.Counts.{StandOnce, StandAlone, Once-forest, Has-forest}
@@ -19,19 +19,19 @@ use Rattle.dom_traversal.proofs.Opening.{proper-parent}
 use Rattle.std.specs.Prelude.{drop}
 
 -- a last link is the outermost
-pub joined_last : (first : List Part) (left : List Link) (last : Link) →
+pub joined_last : (first : List CompoundPart) (left : List Link) (last : Link) →
     complex_from first (left ++ last ∷ []) ≡ link (complex_from first left) (link_view last)
 joined_last first left last =
     ap (fold link (alone (compound_view first))) (map-append link_view left (last ∷ [])) ∙ fold-append link (alone (compound_view first))
     (map link_view left) (link_view last ∷ [])
 
 -- the same of links of which it is the last
-pub last-joined : (first : List Part) (links left : List Link) (last : Link) → links ≡ left ++ last ∷ [] →
+pub last-joined : (first : List CompoundPart) (links left : List Link) (last : Link) → links ≡ left ++ last ∷ [] →
     complex_from first links ≡ joined (complex_from first left) (combinator_view last.combinator) (compound_view last.compound.items)
 last-joined first links left last e = ap (complex_from first) e ∙ joined_last first left last
 
 -- without links there is the first compound alone
-pub no-links : (first : List Part) (links : List Link) → length links ≡ 0 → complex_from first links ≡ alone (compound_view first)
+pub no-links : (first : List CompoundPart) (links : List Link) → length links ≡ 0 → complex_from first links ≡ alone (compound_view first)
 no-links first [] e = refl
 no-links first (l ∷ ls) e = absurd (omega (arith, e))
 

@@ -6,8 +6,8 @@ use Rattle.dom_selectors.specs.declared.selector.AttributeTest.{AttributeTest}
 use Rattle.dom_selectors.specs.declared.selector.AttributeTest.TheVariants.{Equals, HasWord, BeginsWithDash, Begins, Ends, Holds}
 use Rattle.dom_selectors.specs.declared.selector.Simple.{Simple}
 use Rattle.dom_selectors.specs.declared.selector.Simple.TheVariants.{OfType, OfAnyType, OfId, OfClass, WithAttribute, WithValue, FirstChild, LastChild}
-use Rattle.dom_selectors.specs.declared.selector.Part.{Part}
-use Rattle.dom_selectors.specs.declared.selector.Part.TheVariants.{Is, IsNot}
+use Rattle.dom_selectors.specs.declared.selector.CompoundPart.{CompoundPart}
+use Rattle.dom_selectors.specs.declared.selector.CompoundPart.TheVariants.{Is, IsNot}
 use Rattle.dom_selectors.specs.declared.selector.Combinator.{Combinator}
 use Rattle.dom_selectors.specs.declared.selector.Combinator.TheVariants.{Descendant, Child, Next, Later}
 use Rattle.dom_selectors.specs.declared.selector.Link.{Link}
@@ -35,12 +35,12 @@ simple_view FirstChild = model.first_child
 simple_view LastChild = model.last_child
 
 -- a part of a compound
-abbrev pub part_view : Part → model.CompoundPart
+abbrev pub part_view : CompoundPart → model.CompoundPart
 part_view (Is s) = model.simple (simple_view s)
 part_view (IsNot ss) = model.is_not (map simple_view ss.items)
 
 -- a compound (CSS Selectors Level 4, compound selector)
-abbrev pub compound_view : List Part → List model.CompoundPart
+abbrev pub compound_view : List CompoundPart → List model.CompoundPart
 compound_view ps = map part_view ps
 
 -- a combinator (CSS Selectors Level 4, combinator)
@@ -55,7 +55,7 @@ abbrev pub link_view : Link → model.Combinator × List model.CompoundPart
 link_view l = (combinator_view l.combinator, compound_view l.compound.items)
 
 -- a complex selector: a compound with what is joined to it on the right (CSS Selectors Level 4, complex selector)
-abbrev pub complex_from : List Part → List Link → model.Complex
+abbrev pub complex_from : List CompoundPart → List Link → model.Complex
 complex_from first links = fold link (model.alone (compound_view first)) (map link_view links)
 
 -- a complex selector

@@ -7,7 +7,7 @@ ghost use Rattle.dom_selectors.specs.Search.{ChainEnds, ChainIsBefore};
 ghost use Rattle.dom_selectors.specs.Views.{complex_from};
 
 use crate::matching::compound_matches;
-use crate::selector::{Combinator, Link, Part};
+use crate::selector::{Combinator, CompoundPart, Link};
 use crate::siblings::element_before;
 use dom_tree::Forest;
 use node_arena::Key;
@@ -23,7 +23,7 @@ pub(crate) struct Place<'a> {
 /// on the way does not match.
 pub(crate) fn chain_end<'a>(
     forest: &Forest,
-    first: &[Part],
+    first: &[CompoundPart],
     links: &'a [Link],
     key: Key,
 ) -> Option<Place<'a>>
@@ -67,7 +67,7 @@ pub(crate) fn chain_end<'a>(
 /// Where the chain ends from the nearest element before a node among its siblings at which it holds.
 pub(crate) fn chain_before<'a>(
     forest: &Forest,
-    first: &[Part],
+    first: &[CompoundPart],
     links: &'a [Link],
     key: Key,
 ) -> Option<Place<'a>>

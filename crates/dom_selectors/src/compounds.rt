@@ -13,7 +13,7 @@ ghost use Rattle.dom_selectors.specs.Grammar.{IsSelector};
 ghost use Rattle.dom_selectors.specs.Texts.{combinator_signs};
 ghost use Rattle.dom_selectors.specs.Views.{simple_view, part_view, compound_view, combinator_view, link_view, complex_view, selector_view};
 
-use crate::selector::{Combinator, Complex, Link, Part, Selector, Simple};
+use crate::selector::{Combinator, Complex, CompoundPart, Link, Selector, Simple};
 use crate::simples::{read_simple, read_type_name};
 use crate::tokens::{expect, skip_space};
 use dom_base::{Fault, Refusal};
@@ -65,7 +65,7 @@ fn read_simple_compound(
 }
 
 /// `:not(C)`.
-fn read_not(alloc: Global, units: &[u16]) -> Result<Option<(Part, &[u16])>, AllocError>
+fn read_not(alloc: Global, units: &[u16]) -> Result<Option<(CompoundPart, &[u16])>, AllocError>
     ensures { Reads (λ x. (part_view x.0, x.1.now)) result (spec_read_not units.now) }
 {
     let Some(rest) = expect(b":not(", units) else {
@@ -77,15 +77,15 @@ fn read_not(alloc: Global, units: &[u16]) -> Result<Option<(Part, &[u16])>, Allo
     let Some(rest) = expect(b")", skip_space(rest)) else {
         return Ok(None);
     };
-    Ok(Some((Part::IsNot(simples), rest)))
+    Ok(Some((CompoundPart::IsNot(simples), rest)))
 }
 
 /// A part of a compound.
-fn read_part(alloc: Global, units: &[u16]) -> Result<Option<(Part, &[u16])>, AllocError>
+fn read_part(alloc: Global, units: &[u16]) -> Result<Option<(CompoundPart, &[u16])>, AllocError>
     ensures { Reads (λ x. (part_view x.0, x.1.now)) result (spec_read_part units.now) }
 {
     if let Some((simple, rest)) = read_simple(alloc, units)? {
-        return Ok(Some((Part::Is(simple), rest)));
+        return Ok(Some((CompoundPart::Is(simple), rest)));
     }
     read_not(alloc, units)
 }
@@ -93,9 +93,9 @@ fn read_part(alloc: Global, units: &[u16]) -> Result<Option<(Part, &[u16])>, All
 /// More parts of a compound behind those that were read.
 fn read_parts(
     alloc: Global,
-    mut parts: Vec<Part>,
+    mut parts: Vec<CompoundPart>,
     units: &[u16],
-) -> Result<(Vec<Part>, &[u16]), AllocError>
+) -> Result<(Vec<CompoundPart>, &[u16]), AllocError>
     ensures { IfOk result (λ x. behind_list (compound_view parts.items) (read_all spec_read_part units.now) ≡ (compound_view x.0.items, x.1.now)) }
 {
     let mut rest = units;
@@ -107,13 +107,13 @@ fn read_parts(
 }
 
 /// The part of a compound that NAME or `*` is, if it stands here.
-fn read_type_part(alloc: Global, units: &[u16]) -> Result<(Vec<Part>, &[u16]), AllocError>
+fn read_type_part(alloc: Global, units: &[u16]) -> Result<(Vec<CompoundPart>, &[u16]), AllocError>
     ensures { IfOk result (λ x. as_parts (spec_read_type units.now) ≡ (compound_view x.0.items, x.1.now)) }
 {
     let mut parts = Vec::new(alloc);
     match read_type_name(alloc, units)? {
         Some((name, rest)) => {
-            parts.push(Part::Is(name))?;
+            parts.push(CompoundPart::Is(name))?;
             Ok((parts, rest))
         }
         None => Ok((parts, units)),
@@ -121,7 +121,10 @@ fn read_type_part(alloc: Global, units: &[u16]) -> Result<(Vec<Part>, &[u16]), A
 }
 
 /// A compound.
-fn read_compound(alloc: Global, units: &[u16]) -> Result<Option<(Vec<Part>, &[u16])>, AllocError>
+fn read_compound(
+    alloc: Global,
+    units: &[u16],
+) -> Result<Option<(Vec<CompoundPart>, &[u16])>, AllocError>
     ensures { Reads (λ x. (compound_view x.0.items, x.1.now)) result (spec_read_compound units.now) }
 {
     let (typed, rest) = read_type_part(alloc, units)?;

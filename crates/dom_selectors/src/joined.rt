@@ -10,7 +10,7 @@ ghost use Rattle.dom_selectors.specs.Search.{SegmentEnds, SegmentIsAbove};
 ghost use Rattle.dom_selectors.specs.Views.{complex_from, complex_view};
 
 use crate::chain::{Place, chain_before, chain_end};
-use crate::selector::{Combinator, Complex, Link, Part};
+use crate::selector::{Combinator, Complex, CompoundPart, Link};
 use dom_tree::Forest;
 use node_arena::Key;
 
@@ -18,7 +18,7 @@ use node_arena::Key;
 /// some chain holds at no element before.
 fn segment_end<'a>(
     forest: &Forest,
-    first: &[Part],
+    first: &[CompoundPart],
     links: &'a [Link],
     key: Key,
 ) -> Option<Place<'a>>
@@ -49,7 +49,7 @@ fn segment_end<'a>(
 /// Where the segment ends from the nearest ancestor of a node at which it holds.
 fn segment_above<'a>(
     forest: &Forest,
-    first: &[Part],
+    first: &[CompoundPart],
     links: &'a [Link],
     key: Key,
 ) -> Option<Place<'a>>

@@ -8,7 +8,7 @@ ghost use Rattle.dom_model.specs.Selectors.{part_matches as spec_part_matches, c
 ghost use Rattle.dom_tree.specs.Forest.{name_at};
 ghost use Rattle.dom_selectors.specs.Views.{test_view, simple_view, part_view, compound_view};
 
-use crate::selector::{AttributeTest, Part, Simple};
+use crate::selector::{AttributeTest, CompoundPart, Simple};
 use crate::siblings::{element_before, element_behind, is_element};
 use crate::values::value_passes;
 use dom_tree::Forest;
@@ -68,18 +68,18 @@ fn all_simple_match(forest: &Forest, simples: &[Simple], key: Key) -> bool
 }
 
 /// Whether an element matches a part of a compound.
-fn part_matches(forest: &Forest, part: &Part, key: Key) -> bool
+fn part_matches(forest: &Forest, part: &CompoundPart, key: Key) -> bool
     requires { key < length forest.now.names }
     ensures { result ≡ spec_part_matches forest.now.trees (name_at forest.now.names key) (part_view part.now) }
 {
     match part {
-        Part::Is(simple) => simple_matches(forest, simple, key),
-        Part::IsNot(simples) => !all_simple_match(forest, simples, key),
+        CompoundPart::Is(simple) => simple_matches(forest, simple, key),
+        CompoundPart::IsNot(simples) => !all_simple_match(forest, simples, key),
     }
 }
 
 /// Whether an element matches all of some parts of a compound.
-fn all_parts_match(forest: &Forest, parts: &[Part], key: Key) -> bool
+fn all_parts_match(forest: &Forest, parts: &[CompoundPart], key: Key) -> bool
     requires { key < length forest.now.names }
     ensures { result ≡ list_all (λ p. spec_part_matches forest.now.trees (name_at forest.now.names key) (part_view p)) parts.now }
 {
@@ -87,7 +87,7 @@ fn all_parts_match(forest: &Forest, parts: &[Part], key: Key) -> bool
 }
 
 /// Whether a node is an element that matches a compound.
-pub(crate) fn compound_matches(forest: &Forest, parts: &[Part], key: Key) -> bool
+pub(crate) fn compound_matches(forest: &Forest, parts: &[CompoundPart], key: Key) -> bool
     requires { key < length forest.now.names }
     ensures { result ≡ spec_compound_matches forest.now.trees (compound_view parts.now) (name_at forest.now.names key) }
 {

@@ -35,7 +35,7 @@ pub(crate) enum Simple {
 
 /// A part of a compound selector.
 #[derive(Drop)]
-pub(crate) enum Part {
+pub(crate) enum CompoundPart {
     /// A simple selector.
     Is(Simple),
     /// `:not(..)` of a compound of simple selectors.
@@ -59,13 +59,13 @@ pub(crate) enum Combinator {
 #[derive(Drop)]
 pub(crate) struct Link {
     pub(crate) combinator: Combinator,
-    pub(crate) compound: Vec<Part>,
+    pub(crate) compound: Vec<CompoundPart>,
 }
 
 /// A complex selector: a compound, and what is joined to it on the right.
 #[derive(Drop)]
 pub(crate) struct Complex {
-    pub(crate) first: Vec<Part>,
+    pub(crate) first: Vec<CompoundPart>,
     pub(crate) links: Vec<Link>,
 }
 

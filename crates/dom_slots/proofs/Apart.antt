@@ -27,7 +27,7 @@ use Rattle.dom_slots.specs.declared.step.Step.TheVariants.{Place, Removal, Attri
 use Rattle.dom_slots.proofs.Attributed.{parent-changed, changed-keeps, changed-stays}
 use Rattle.dom_slots.proofs.Choices.{third-fails}
 use Rattle.dom_slots.proofs.Ended.{told-signals, there-was, there-now, both-stand, not-own, none-own, but-for, others-among, renewed-table}
-use Rattle.dom_slots.proofs.Grafts.{Spot, grafted}
+use Rattle.dom_slots.proofs.PlacedTrees.{Spot, grafted}
 use Rattle.dom_slots.proofs.Hosted.{AreDistinct}
 use Rattle.dom_slots.proofs.Moved.{AreBoth, IsAside, Outside, root-aside, moved-keeps}
 use Rattle.dom_slots.proofs.OwnSignals.{own-signalled}

@@ -11,7 +11,7 @@ use Rattle.dom_tree.specs.Forest.{NamedTrees, name_at}
 use Rattle.dom_traversal.proofs.Lists.{In, is_in-not, name_eq-true, filter-none, filter-yes, filter-no, last_split, In-right}
 use Rattle.dom_traversal.proofs.Shapes.{Once, Has, Has-subtree, above-present, below-from_above}
 use Rattle.dom_traversal.proofs.Children.{In-names, Has-names}
-use Rattle.dom_slots.proofs.Named.{named-filter}
+use Rattle.dom_slots.proofs.NamesOfNodes.{named-filter}
 use Rattle.dom_slots.proofs.Entering.{NoneHas, unassigned}
 use Rattle.dom_slots.specs.Hosts.{ShadowHost, host_named, root_named}
 use Rattle.dom_slots.specs.Shadows.{ShadowTrees, shadow_trees, slot_at, assigned_at, assigned_under, is_assigned_at}

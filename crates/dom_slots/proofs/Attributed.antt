@@ -11,7 +11,7 @@ use Rattle.dom_traversal.proofs.Lists.{name_eq-true, name_eq-other}
 use Rattle.dom_traversal.proofs.Shapes.{Has, has_or_not}
 use Rattle.dom_slots.specs.Hosts.{ShadowHost, host_named}
 use Rattle.dom_slots.specs.Shadows.{shadow_trees, is_assigned_at, assigned_at}
-use Rattle.dom_slots.proofs.Grafts.{others}
+use Rattle.dom_slots.proofs.PlacedTrees.{others}
 use Rattle.dom_slots.proofs.Moved.{AreBoth, IsAside, root-aside}
 use Rattle.dom_slots.proofs.Recast.{nodes_recast, path_recast, subtree_recast, children_recast, found_recast}
 use Rattle.dom_slots.proofs.Rooted.{root-within}

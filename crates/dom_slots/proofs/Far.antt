@@ -18,11 +18,11 @@ use Rattle.dom_slots.specs.Shadows.{shadow_trees, is_assigned_at, assigned_at}
 use Rattle.dom_slots.proofs.Attaching.{in_filter, to_filter}
 use Rattle.dom_slots.proofs.Attributed as Attributed
 use Rattle.dom_slots.proofs.Entering.{NoneHas, unslotted}
-use Rattle.dom_slots.proofs.Grafts.{Spot, grafted, others}
+use Rattle.dom_slots.proofs.PlacedTrees.{Spot, grafted, others}
 use Rattle.dom_slots.proofs.Looks.{grafted-found, changed-slot, changed-found}
 use Rattle.dom_slots.proofs.Moved.{AreBoth}
 use Rattle.dom_slots.proofs.Moved as Moved
-use Rattle.dom_slots.proofs.Named.{named-filter}
+use Rattle.dom_slots.proofs.NamesOfNodes.{named-filter}
 use Rattle.dom_slots.proofs.Rooted.{root-within, in-tree_of_root}
 use Rattle.dom_slots.proofs.Settled.{IsSettled, KeepsBut, KeepsAssigned, assigned-found, assigned-unmoved, assigned-settled}
 

@@ -11,7 +11,7 @@ use Rattle.dom_model.specs.Tree.{Trees, Node, nodes, node_in, subtree, parent_of
 use Rattle.dom_traversal.proofs.Lists.{name_eq-true}
 use Rattle.dom_traversal.proofs.Shapes.{Once}
 use Rattle.dom_slots.specs.Shadows.{ShadowTrees, is_assigned_at, is_first_at, looks_for}
-use Rattle.dom_slots.proofs.Named.{InNodes, in_tree, node_in-self}
+use Rattle.dom_slots.proofs.NamesOfNodes.{InNodes, in_tree, node_in-self}
 
 -- texts that are the same one by one
 text_true : (xs ys : List ℕ) → text_eq xs ys ≡ true → xs ≡ ys

@@ -26,7 +26,7 @@ use Rattle.dom_slots.specs.declared.step.Step.{Step}
 use Rattle.dom_slots.specs.declared.step.Step.TheVariants.{Place, Removal, Attribute}
 use Rattle.dom_slots.proofs.Ended.{told-signals, there-was, there-now, both-stand, not-own, none-own, but-for, others-among, renewed-table}
 use Rattle.dom_slots.proofs.Far.{IsAway, IsFar, KeepsFar, slot-among, far-kept, alone-kept, changed-far, changed-still}
-use Rattle.dom_slots.proofs.Grafts.{Spot, grafted}
+use Rattle.dom_slots.proofs.PlacedTrees.{Spot, grafted}
 use Rattle.dom_slots.proofs.Hosted.{AreDistinct}
 use Rattle.dom_slots.proofs.Moved.{AreBoth}
 use Rattle.dom_slots.proofs.OwnSignals.{own-signalled}

@@ -1,7 +1,7 @@
 mod Kept
 mod Choices
 pub mod Shown
-pub mod Named
+pub mod NamesOfNodes
 mod Firsts
 pub mod Walks
 pub mod Hosted
@@ -18,7 +18,7 @@ mod Attaching
 pub mod Recast
 pub mod Added
 pub mod Rooted
-mod Grafts
+mod PlacedTrees
 mod Settled
 mod Moved
 mod Attributed

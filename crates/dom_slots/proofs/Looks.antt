@@ -13,8 +13,8 @@ use Rattle.dom_traversal.proofs.Lists.{name_eq-true, name_eq-other}
 use Rattle.dom_traversal.proofs.Shapes.{Has, Once, has_or_not, subtree-absent}
 use Rattle.dom_slots.proofs.Attaching.{no-slot_named}
 use Rattle.dom_slots.proofs.Attributed.{changed, changed_name}
-use Rattle.dom_slots.proofs.Grafts.{Spot, Before, Below, Behind, grafted, tree-own, Alike, Alike-others}
-use Rattle.dom_slots.proofs.Named.{InNodes, in_tree, node_in-self}
+use Rattle.dom_slots.proofs.PlacedTrees.{Spot, Before, Below, Behind, grafted, tree-own, ReadAlike, ReadAlike-others}
+use Rattle.dom_slots.proofs.NamesOfNodes.{InNodes, in_tree, node_in-self}
 use Rattle.dom_slots.proofs.Recast.{nodes_recast, subtree_recast, found_recast}
 
 -- the first slot of a name
@@ -83,10 +83,10 @@ module _ (m : Node) (d : Trees) (bare : slots_among (tree m d none) ≡ []) wher
     subtree_first (Below p) none r off = ap (λ (ts : Trees). first_slot a (nodes ts)) (subtree-absent (tree m d none) r off)
     subtree_first (Below p) (tree n c s) r off = elim (cases_Bool (name_eq n.name r)) [
       | inl e ↦ rw e (grafted_first (Below p) (tree n c none))
-      | inr e ↦ rw e (below (subtree (grafted m d p c) r) (subtree c r) (Alike-others m d p c r off) (subtree_first p c r off))
+      | inr e ↦ rw e (below (subtree (grafted m d p c) r) (subtree c r) (ReadAlike-others m d p c r off) (subtree_first p c r off))
     ]
       where
-        below : (ts us : Trees) → Alike m d ts us → first_slot a (nodes ts) ≡ first_slot a (nodes us) →
+        below : (ts us : Trees) → ReadAlike m d ts us → first_slot a (nodes ts) ≡ first_slot a (nodes us) →
             first_slot a (nodes (or_else ts (subtree s r))) ≡ first_slot a (nodes (or_else us (subtree s r)))
         below none none h same = refl
         below none (tree k b t) h same = absurd h

@@ -9,8 +9,8 @@ use Rattle.dom_traversal.proofs.Chains.{above-split}
 use Rattle.dom_traversal.proofs.Children.{parent-of_child}
 use Rattle.dom_traversal.proofs.Shapes.{Has, Once, has_or_not, subtree-here, subtree-present, above-from_below, above-parent}
 use Rattle.dom_slots.specs.Hosts.{ShadowHost, host_named}
-use Rattle.dom_slots.proofs.Grafts.{Spot, grafted, Has-grafted, others, above-others, tree-others, tree-own, Alike, Alike-others}
-use Rattle.dom_slots.proofs.Named.{InNodes, in_tree, node_in-self}
+use Rattle.dom_slots.proofs.PlacedTrees.{Spot, grafted, Has-grafted, others, above-others, tree-others, tree-own, ReadAlike, ReadAlike-others}
+use Rattle.dom_slots.proofs.NamesOfNodes.{InNodes, in_tree, node_in-self}
 use Rattle.dom_slots.proofs.Rooted.{root-alone, root-parent, root-below, root-of_root, in-tree_of_root, root-within}
 use Rattle.dom_slots.proofs.Settled.{IsSettled, KeepsHosts, KeepsAssigned, assigned-unhosted, assigned-settled}
 
@@ -82,7 +82,7 @@ module _ (names : List NodeName) (hosts : List ShadowHost) (m : Node) (d us : Tr
 
   -- ---- hosts
 
-  alike_children : (ts vs : Trees) → Alike m d ts vs → others x (names_of (roots (trees_below ts))) ≡ others x (names_of (roots (trees_below vs)))
+  alike_children : (ts vs : Trees) → ReadAlike m d ts vs → others x (names_of (roots (trees_below ts))) ≡ others x (names_of (roots (trees_below vs)))
   alike_children none none alike = refl
   alike_children none (tree k b s) alike = absurd alike
   alike_children (tree n c r) none alike = absurd alike
@@ -92,11 +92,11 @@ module _ (names : List NodeName) (hosts : List ShadowHost) (m : Node) (d us : Tr
   children_same h = elim (has_or_not (tree m d none) h) [
     | inl i ↦ let off : Has us h → ⊥ = λ j. apart h j i in ap (λ (ts : Trees). others x (names_of (roots (trees_below ts))))
         (tree-own m d p us h off ∙ sym (tree-own m d q us h off))
-    | inr off ↦ alike_children (subtree was h) (subtree us h) (Alike-others m d p us h off) ∙
-        sym (alike_children (subtree now h) (subtree us h) (Alike-others m d q us h off))
+    | inr off ↦ alike_children (subtree was h) (subtree us h) (ReadAlike-others m d p us h off) ∙
+        sym (alike_children (subtree now h) (subtree us h) (ReadAlike-others m d q us h off))
   ]
 
-  alike_roots : (n k : Node) (b c ts : Trees) → Alike m d (tree n b none) ts → Alike m d (tree k c none) ts → n ≡ k
+  alike_roots : (n k : Node) (b c ts : Trees) → ReadAlike m d (tree n b none) ts → ReadAlike m d (tree k c none) ts → n ≡ k
   alike_roots n k b c none e f = absurd e
   alike_roots n k b c (tree l a t) e f = e.0 ∙ sym f.0
 
@@ -108,8 +108,8 @@ module _ (names : List NodeName) (hosts : List ShadowHost) (m : Node) (d us : Tr
         | inl i ↦ root_of_both v.0 w.0 v.1 w.1
             (sym v.2 ∙ ((let off : Has us y → ⊥ = λ j. apart y j i in tree-own m d p us y off ∙ sym (tree-own m d q us y off)) ∙ w.2))
         | inr off ↦
-            alike_roots v.0 w.0 v.1 w.1 (subtree us y) (subst (λ (ts : Trees). Alike m d ts (subtree us y)) v.2 (Alike-others m d p us y off))
-            (subst (λ (ts : Trees). Alike m d ts (subtree us y)) w.2 (Alike-others m d q us y off))
+            alike_roots v.0 w.0 v.1 w.1 (subtree us y) (subst (λ (ts : Trees). ReadAlike m d ts (subtree us y)) v.2 (ReadAlike-others m d p us y off))
+            (subst (λ (ts : Trees). ReadAlike m d ts (subtree us y)) w.2 (ReadAlike-others m d q us y off))
       ] ∙ sym w.3)
     where
       first_root : Trees → Node

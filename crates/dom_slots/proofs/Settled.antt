@@ -12,7 +12,7 @@ use Rattle.dom_traversal.proofs.Shapes.{Has, Once, has_or_not, subtree-within}
 use Rattle.dom_slots.specs.Hosts.{ShadowHost, host_named, root_named}
 use Rattle.dom_slots.specs.Shadows.{ShadowTrees, shadow_trees, is_assigned_at, assigned_under, assigned_at}
 use Rattle.dom_slots.proofs.Assigned.{left-passes}
-use Rattle.dom_slots.proofs.Grafts.{others}
+use Rattle.dom_slots.proofs.PlacedTrees.{others}
 use Rattle.dom_slots.proofs.Shortened.{but-none}
 use Rattle.dom_slots.proofs.Rooted.{Has-root_of, in-same_tree}
 

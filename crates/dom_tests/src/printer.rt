@@ -1,7 +1,7 @@
 use dom_base::{Kind, NodeName, Owner, OwnerPath, Refusal};
 use dom_printer::{
-    Attribute, Boundary, Change, Event, Opening, TreeStep, Value, Words, put_event, put_micro,
-    put_record, put_refusal, put_reply, put_string, put_tree,
+    Attribute, Boundary, Change, Event, NodeContent, Opening, TreeStep, Value, put_event,
+    put_micro, put_record, put_refusal, put_reply, put_string, put_tree,
 };
 use std::alloc::{AllocError, Global};
 use std::test::Fail;
@@ -38,14 +38,18 @@ fn m(number: u32) -> NodeName {
     }
 }
 
-fn opens<'a>(name: NodeName, kind: Kind, words: Words<'a>) -> TreeStep<'a> {
+fn opens<'a>(name: NodeName, kind: Kind, words: NodeContent<'a>) -> TreeStep<'a> {
     TreeStep::Opens(Opening { name, kind, words })
 }
 
 // An element without attributes.
 fn element<'a>(alloc: Global, node: NodeName, name: &'a str) -> TreeStep<'a> {
     let attributes = Vec::new(alloc);
-    opens(node, Kind::Element, Words::Element { name, attributes })
+    opens(
+        node,
+        Kind::Element,
+        NodeContent::Element { name, attributes },
+    )
 }
 
 #[test]
@@ -203,16 +207,16 @@ fn documents(rt: HostRuntime) -> Result<(), Fail> {
         value: &[],
     };
     let attributes = vec![in alloc; id, class]?;
-    let words = Words::Element {
+    let words = NodeContent::Element {
         name: "div",
         attributes,
     };
     let steps = vec![in alloc;
-        opens(n(0), Kind::Document, Words::None),
+        opens(n(0), Kind::Document, NodeContent::None),
         opens(n(1), Kind::Element, words),
-        opens(n(2), Kind::Text, Words::Data(&[0x61, 0xD83D])),
+        opens(n(2), Kind::Text, NodeContent::Data(&[0x61, 0xD83D])),
         TreeStep::Closes,
-        opens(n(3), Kind::Comment, Words::Data(&[])),
+        opens(n(3), Kind::Comment, NodeContent::Data(&[])),
         TreeStep::Closes,
         TreeStep::Closes,
         TreeStep::Closes,
@@ -229,14 +233,17 @@ fn documents(rt: HostRuntime) -> Result<(), Fail> {
 fn shadows_and_fragments(rt: HostRuntime) -> Result<(), Fail> {
     let alloc = rt.alloc();
     let shadow = vec![in alloc;
-        opens(m(0), Kind::Shadow, Words::None),
+        opens(m(0), Kind::Shadow, NodeContent::None),
         element(alloc, m(1), "b"),
         TreeStep::Closes,
         element(alloc, m(2), "i"),
         TreeStep::Closes,
         TreeStep::Closes,
     ]?;
-    let fragment = vec![in alloc; opens(n(7), Kind::Fragment, Words::None), TreeStep::Closes]?;
+    let fragment = vec![in alloc;
+        opens(n(7), Kind::Fragment, NodeContent::None),
+        TreeStep::Closes,
+    ]?;
     let mut out = Vec::new(alloc);
     put_tree(&mut out, FIRST, &shadow)?;
     put_tree(&mut out, Owner::Page, &fragment)?;

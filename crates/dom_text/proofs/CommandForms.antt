@@ -7,13 +7,13 @@ use Rattle.dom_base.specs.declared.Kind.{Kind}
 use Rattle.dom_base.specs.declared.Kind.TheVariants as kinds
 use Rattle.dom_base.specs.declared.Action.{Action}
 use Rattle.dom_model.specs.Names.{Word}
-use Rattle.dom_model.specs.Command.{Spelled, Filter, ListenerWords, Command, new_element, new_text, new_comment, new_fragment, assigned}
+use Rattle.dom_model.specs.Command.{NodeWord, Filter, ListenerWords, Command, new_element, new_text, new_comment, new_fragment, assigned}
 use Rattle.dom_model.specs.Command.{listen, unlisten}
 use Rattle.dom_text.specs.declared.Keyword.{Keyword}
 use Rattle.dom_text.specs.declared.Keyword.TheVariants as keyword
 use Rattle.dom_text.specs.Words.{kind_word, new_kinds, keyword_word}
 use Rattle.dom_text.specs.Tokens.{IsWord, IsShow, IsNameFilter, IsAttributeFilter}
-use Rattle.dom_text.specs.Grammar.{Part, key, label, node, flag, perhaps, filter_parts, listener_parts, parts, MayUse, Spells}
+use Rattle.dom_text.specs.Grammar.{LinePart, key, label, node, flag, perhaps, filter_parts, listener_parts, parts, MayUse, Spells}
 use Rattle.dom_text.specs.Readers.{◌>>=◌, Reader, at_end, next_as, named, show_of, name_filter_of, attribute_filter_of, flag_at, last_as}
 use Rattle.dom_text.specs.Decode.{one, two, three, four, node_at, label_at, new_of, new_at, assigned_at, action_at, cursor_at, listen_end}
 use Rattle.dom_text.specs.Decode.{listen_at, unlisten_end, unlisten_at}
@@ -31,7 +31,7 @@ abbrev pub IsBehind : Keyword → Owner → List ℕ → Command → Type 0
 IsBehind k o bytes c = MayUse c o × Spells (parts o c) (32 ∷ keyword_word k ++ bytes)
 
 -- the keyword and the parts behind it
-abbrev pub Keyed : Keyword → List Part → List ℕ → Type 0
+abbrev pub Keyed : Keyword → List LinePart → List ℕ → Type 0
 Keyed k others bytes = Spells (key (keyword_word k) ∷ others) (32 ∷ keyword_word k ++ bytes)
 
 pub none_behind : (makes : Command) (k : Keyword) (o : Owner) (bytes : List ℕ) (c : Command) → (Keyed k [] bytes → IsBehind k o bytes makes) →
@@ -40,21 +40,21 @@ none_behind makes k o bytes c is e =
     let s = at_end_some makes c bytes e in
     subst (IsBehind k o bytes) s.0 (is (keyword_word k, bytes, refl, s.1, refl))
 
-pub one_behind : {A : Type 0} {first : Reader A} {P : A → Part} → ReadsPart first P →
+pub one_behind : {A : Type 0} {first : Reader A} {P : A → LinePart} → ReadsPart first P →
     (makes : A → Command) (k : Keyword) (o : Owner) (bytes : List ℕ) (c : Command) →
     ((a : A) → Keyed k (P a ∷ []) bytes → IsBehind k o bytes (makes a)) → one first makes bytes ≡ Some c → IsBehind k o bytes c
 one_behind reads makes k o bytes c is e =
     let s = one_sound reads makes bytes c e in
     subst (IsBehind k o bytes) s.1 (is s.0 (keyword_word k, bytes, refl, s.2, refl))
 
-pub two_behind : {A B : Type 0} {first : Reader A} {second : Reader B} {P : A → Part} {Q : B → Part} → ReadsPart first P → ReadsPart second Q →
+pub two_behind : {A B : Type 0} {first : Reader A} {second : Reader B} {P : A → LinePart} {Q : B → LinePart} → ReadsPart first P → ReadsPart second Q →
     (makes : A → B → Command) (k : Keyword) (o : Owner) (bytes : List ℕ) (c : Command) →
     ((a : A) (b : B) → Keyed k (P a ∷ Q b ∷ []) bytes → IsBehind k o bytes (makes a b)) → two first second makes bytes ≡ Some c → IsBehind k o bytes c
 two_behind reads₁ reads₂ makes k o bytes c is e =
     let s = two_sound reads₁ reads₂ makes bytes c e in
     subst (IsBehind k o bytes) s.2 (is s.0 s.1 (keyword_word k, bytes, refl, s.3, refl))
 
-pub three_behind : {A B D : Type 0} {first : Reader A} {second : Reader B} {third : Reader D} {P : A → Part} {Q : B → Part} {R : D → Part} →
+pub three_behind : {A B D : Type 0} {first : Reader A} {second : Reader B} {third : Reader D} {P : A → LinePart} {Q : B → LinePart} {R : D → LinePart} →
     ReadsPart first P → ReadsPart second Q → ReadsPart third R →
     (makes : A → B → D → Command) (k : Keyword) (o : Owner) (bytes : List ℕ) (c : Command) →
     ((a : A) (b : B) (d : D) → Keyed k (P a ∷ Q b ∷ R d ∷ []) bytes → IsBehind k o bytes (makes a b d)) →
@@ -63,8 +63,8 @@ three_behind reads₁ reads₂ reads₃ makes k o bytes c is e =
     let s = three_sound reads₁ reads₂ reads₃ makes bytes c e in
     subst (IsBehind k o bytes) s.3 (is s.0 s.1 s.2 (keyword_word k, bytes, refl, s.4, refl))
 
-pub four_behind : {A B D E : Type 0} {first : Reader A} {second : Reader B} {third : Reader D} {fourth : Reader E} {P : A → Part} {Q : B → Part}
-    {R : D → Part} {S : E → Part} →
+pub four_behind : {A B D E : Type 0} {first : Reader A} {second : Reader B} {third : Reader D} {fourth : Reader E} {P : A → LinePart} {Q : B → LinePart}
+    {R : D → LinePart} {S : E → LinePart} →
     ReadsPart first P → ReadsPart second Q → ReadsPart third R → ReadsPart fourth S →
     (makes : A → B → D → E → Command) (k : Keyword) (o : Owner) (bytes : List ℕ) (c : Command) →
     ((a : A) (b : B) (d : D) (e : E) → Keyed k (P a ∷ Q b ∷ R d ∷ S e ∷ []) bytes → IsBehind k o bytes (makes a b d e)) →
@@ -84,7 +84,7 @@ kind_is_word kinds.Text = word_by_test (codes "text") refl refl
 kind_is_word kinds.Comment = word_by_test (codes "comment") refl refl
 
 -- the word of a kind that `new` makes
-unfoldable pub new_kind : Kind → Part
+unfoldable pub new_kind : Kind → LinePart
 new_kind k text = (text ≡ kind_word k) × (named kind_word new_kinds text ≡ Some k)
 
 pub kind_reads : ReadsPart (next_as (named kind_word new_kinds)) new_kind
@@ -132,8 +132,8 @@ name_filter_reads = next_as_reads name_filter_says
 pub attribute_filter_reads : ReadsPart (next_as attribute_filter_of) IsAttributeFilter
 attribute_filter_reads = next_as_reads attribute_filter_says
 
-pub cursor_sound : (o : Owner) (makes : Spelled → Filter → Command) (bytes : List ℕ) (c : Command) → cursor_at o makes bytes ≡ Some c →
-    (root : Spelled) × (f : Filter) × (makes root f ≡ c) × Spells (node o root ∷ filter_parts f) bytes
+pub cursor_sound : (o : Owner) (makes : NodeWord → Filter → Command) (bytes : List ℕ) (c : Command) → cursor_at o makes bytes ≡ Some c →
+    (root : NodeWord) × (f : Filter) × (makes root f ≡ c) × Spells (node o root ∷ filter_parts f) bytes
 cursor_sound o makes bytes c e =
     bind_then (node_at o bytes) (λ root. next_as show_of root.1 >>= λ shown. last_as name_filter_of shown.1 >>= λ f. Some
     (makes root.0 (record { shown = shown.0; named = f }))) c e λ root h₁ k₁.
@@ -145,7 +145,7 @@ cursor_sound o makes bytes c e =
     let last = last_sound name_filter_of name_filter_reads shown.1 f h₃ in
     (root.0, record { shown = shown.0; named = f }, some_is k₃, (root_is.0, root.1, root_is.1, (shown_is.0, shown.1, shown_is.1, last, shown_is.2), root_is.2))
 
-pub cursor_complete : (o : Owner) (makes : Spelled → Filter → Command) (bytes : List ℕ) (root : Spelled) (f : Filter) →
+pub cursor_complete : (o : Owner) (makes : NodeWord → Filter → Command) (bytes : List ℕ) (root : NodeWord) (f : Filter) →
     Spells (node o root ∷ filter_parts f) bytes → cursor_at o makes bytes ≡ Some (makes root f)
 cursor_complete o makes bytes root f s =
     let e₁ : node_at o bytes ≡ Some (root, s.1) = rw (s.4) ((node_reads o).complete s.0 s.1 root s.2 (Spells-ends (filter_parts f) s.1 s.3)) in
@@ -156,10 +156,10 @@ cursor_complete o makes bytes root f s =
     rw (e₁, e₂, e₃) refl
 
 -- the flags of `listen`
-abbrev pub listener_flags : Bool → Bool → Bool → List Part
+abbrev pub listener_flags : Bool → Bool → Bool → List LinePart
 listener_flags capture once passive = flag capture (codes "capture") (flag once (codes "once") (flag passive (codes "passive") []))
 
-pub listen_end_sound : (n : Spelled) (event l : Word) (a : Action) (bytes : List ℕ) (c : Command) → listen_end n event l a bytes ≡ Some c →
+pub listen_end_sound : (n : NodeWord) (event l : Word) (a : Action) (bytes : List ℕ) (c : Command) → listen_end n event l a bytes ≡ Some c →
     (capture : Bool) × (once : Bool) × (passive : Bool) ×
     (listen n (record { event = event; label = l; action = a; capture = capture; once = once; passive = passive }) ≡ c) ×
     Spells (listener_flags capture once passive) bytes
@@ -177,7 +177,7 @@ listen_end_sound n event l a bytes c e =
           (flag_sound (codes "once") capture.1 (flag passive.0 (codes "passive") []) (flag_sound (codes "passive") once.1 [] end.1)),
     )
 
-pub listen_end_complete : (n : Spelled) (event l : Word) (a : Action) (capture once passive : Bool) (bytes : List ℕ) →
+pub listen_end_complete : (n : NodeWord) (event l : Word) (a : Action) (capture once passive : Bool) (bytes : List ℕ) →
     Spells (listener_flags capture once passive) bytes →
     listen_end n event l a bytes ≡ Some (listen n (record { event = event; label = l; action = a; capture = capture; once = once; passive = passive }))
 listen_end_complete n event l a capture once passive bytes s =
@@ -216,7 +216,7 @@ listen_sound o bytes c e =
       ),
     )
 
-pub listen_complete : (o : Owner) (n : Spelled) (l : ListenerWords) (bytes : List ℕ) → Spells (node o n ∷ listener_parts l) bytes →
+pub listen_complete : (o : Owner) (n : NodeWord) (l : ListenerWords) (bytes : List ℕ) → Spells (node o n ∷ listener_parts l) bytes →
     listen_at o bytes ≡ Some (listen n l)
 listen_complete o n l bytes s =
     let e₁ : node_at o bytes ≡ Some (n, s.1) = rw (s.4) ((node_reads o).complete s.0 s.1 n s.2 (Spells-ends (listener_parts l) s.1 s.3)) in
@@ -229,7 +229,7 @@ listen_complete o n l bytes s =
     rw (v.4) (action_reads.complete v.0 v.1 l.action v.2 (Spells-ends (listener_flags l.capture l.once l.passive) v.1 v.3)) in
     rw (e₁, e₂, e₃, e₄) (listen_end_complete n l.event l.label l.action l.capture l.once l.passive v.1 v.3)
 
-pub unlisten_end_sound : (n : Spelled) (event l : Word) (bytes : List ℕ) (c : Command) → unlisten_end n event l bytes ≡ Some c →
+pub unlisten_end_sound : (n : NodeWord) (event l : Word) (bytes : List ℕ) (c : Command) → unlisten_end n event l bytes ≡ Some c →
     (capture : Bool) × (unlisten n event l capture ≡ c) × Spells (flag capture (codes "capture") []) bytes
 unlisten_end_sound n event l bytes c e =
     let capture = flag_at (codes "capture") bytes in
@@ -256,7 +256,7 @@ unlisten_sound o bytes c e =
       ),
     )
 
-pub unlisten_complete : (o : Owner) (n : Spelled) (event l : Word) (capture : Bool) (bytes : List ℕ) →
+pub unlisten_complete : (o : Owner) (n : NodeWord) (event l : Word) (capture : Bool) (bytes : List ℕ) →
     Spells (node o n ∷ label event ∷ label l ∷ flag capture (codes "capture") []) bytes → unlisten_at o bytes ≡ Some (unlisten n event l capture)
 unlisten_complete o n event l capture bytes s =
     let flags = flag capture (codes "capture") [] in

@@ -13,7 +13,7 @@ use Rattle.dom_model.specs.Command.{unlisten, dispatch, observer, observe, disco
 use Rattle.dom_text.specs.declared.Keyword.{Keyword}
 use Rattle.dom_text.specs.declared.Keyword.TheVariants as keyword
 use Rattle.dom_text.specs.Words.{kind_word, new_kinds, keyword_word}
-use Rattle.dom_text.specs.Grammar.{Part, key, word, string, parts, MayUse, Spells}
+use Rattle.dom_text.specs.Grammar.{LinePart, key, word, string, parts, MayUse, Spells}
 use Rattle.dom_text.specs.Readers.{◌>>=◌, next_as, named}
 use Rattle.dom_text.specs.Decode.{new_of, new_at, command_behind, keyword_of, command_at}
 use Rattle.dom_text.proofs.PartLaws.{next_word_reads, next_as_reads, Spells-ends, at_end_complete, one_complete, two_complete, three_complete, four_complete}
@@ -90,18 +90,18 @@ command_sound keyword.End o bytes c e = none_behind end_turn keyword.End o bytes
 -- ---- each command is read
 
 -- the parts behind the keyword
-abbrev pub others : Owner → Command → List Part
+abbrev pub others : Owner → Command → List LinePart
 others o c = drop 1 (parts o c)
 
 -- a line with the keyword in front is read on behind it
-pub at : (k : Keyword) (o : Owner) (behind : List Part) (said : List ℕ) (s : Spells (key (keyword_word k) ∷ behind) said) →
+pub at : (k : Keyword) (o : Owner) (behind : List LinePart) (said : List ℕ) (s : Spells (key (keyword_word k) ∷ behind) said) →
     command_at o said ≡ command_behind k o s.1
 at k o behind said s =
     let read : next_as keyword_of said ≡ Some (k, s.1) = rw (s.4) ((next_as_reads keyword_says).complete s.0 s.1 k s.2 (Spells-ends behind s.1 s.3)) in
     ap (λ (x : Option (Keyword × List ℕ)). x >>= λ first. command_behind first.0 o first.1) read
 
 -- a line with the kind in front is read on behind it
-pub at_kind : (k : Kind) (behind : List Part) (bytes : List ℕ) (s : Spells (key (kind_word k) ∷ behind) bytes) →
+pub at_kind : (k : Kind) (behind : List LinePart) (bytes : List ℕ) (s : Spells (key (kind_word k) ∷ behind) bytes) →
     named kind_word new_kinds (kind_word k) ≡ Some k → new_at bytes ≡ new_of k s.1
 unfolding new_kind
 at_kind k behind bytes s found =

@@ -3,10 +3,10 @@ use Rattle.std.proofs.Common.{◌≡◌, ◌≢◌, ℕ, Bool, true, false, List
 use Rattle.std.specs.Prelude.{codes, bytes_eq}
 use Rattle.dom_base.specs.declared.Owner.{Owner}
 use Rattle.dom_model.specs.Names.{Word}
-use Rattle.dom_model.specs.Command.{Spelled, EventWords, ObserveWords, Command, dispatch, observe}
+use Rattle.dom_model.specs.Command.{NodeWord, EventWords, ObserveWords, Command, dispatch, observe}
 use Rattle.dom_text.specs.declared.Keyword.TheVariants as keyword
 use Rattle.dom_text.specs.Tokens.{IsAttributeFilter}
-use Rattle.dom_text.specs.Grammar.{Part, node, observed, flag, perhaps, event_parts, related_parts, observe_parts, Spells}
+use Rattle.dom_text.specs.Grammar.{LinePart, node, observed, flag, perhaps, event_parts, related_parts, observe_parts, Spells}
 use Rattle.dom_text.specs.Readers.{◌>>=◌, attribute_filter_of, flag_at, last_as}
 use Rattle.dom_text.specs.Decode.{node_at, observer_number_at, label_at, related_at, dispatch_end, dispatch_at, observe_end, observe_at}
 use Rattle.dom_text.proofs.WordLaws.{bind_then, some_is, at_end_some}
@@ -17,23 +17,23 @@ use Rattle.dom_text.proofs.CommandParts.{node_reads, observer_reads, label_reads
 use Rattle.dom_text.proofs.CommandForms.{IsBehind, attribute_filter_reads}
 
 -- the flags of `dispatch`, before other parts
-abbrev pub event_flags : Bool → Bool → Bool → List Part → List Part
+abbrev pub event_flags : Bool → Bool → Bool → List LinePart → List LinePart
 event_flags bubbles cancelable composed behind = flag bubbles (codes "bubbles") (flag cancelable (codes "cancelable") (flag composed (codes "composed") behind))
 
-pub related_sound : (o : Owner) (bytes : List ℕ) (r : Option Spelled) →
+pub related_sound : (o : Owner) (bytes : List ℕ) (r : Option NodeWord) →
     related_at o (flag_at (codes "related") bytes).0 (flag_at (codes "related") bytes).1 ≡ Some r → Spells (related_parts o r) bytes
 related_sound o bytes r e = go (flag_at (codes "related") bytes) e (λ behind s. flag_sound (codes "related") bytes behind s)
   where
     go : (f : Bool × List ℕ) → related_at o f.0 f.1 ≡ Some r →
-        ((behind : List Part) → Spells behind f.1 → Spells (flag f.0 (codes "related") behind) bytes) → Spells (related_parts o r) bytes
+        ((behind : List LinePart) → Spells behind f.1 → Spells (flag f.0 (codes "related") behind) bytes) → Spells (related_parts o r) bytes
     go (true, rest) k sound =
         let s = one_sound (node_reads o) Some rest r k in
-        subst (λ (x : Option Spelled). Spells (related_parts o x) bytes) s.1 (sound (node o s.0 ∷ []) s.2)
+        subst (λ (x : Option NodeWord). Spells (related_parts o x) bytes) s.1 (sound (node o s.0 ∷ []) s.2)
     go (false, rest) k sound =
         let end = at_end_some None r rest k in
-        subst (λ (x : Option Spelled). Spells (related_parts o x) bytes) end.0 (sound [] end.1)
+        subst (λ (x : Option NodeWord). Spells (related_parts o x) bytes) end.0 (sound [] end.1)
 
-pub related_complete : (o : Owner) (r : Option Spelled) (bytes : List ℕ) → Spells (related_parts o r) bytes →
+pub related_complete : (o : Owner) (r : Option NodeWord) (bytes : List ℕ) → Spells (related_parts o r) bytes →
     related_at o (flag_at (codes "related") bytes).0 (flag_at (codes "related") bytes).1 ≡ Some r
 related_complete o None bytes s =
     let f = flag_complete (codes "related") false [] bytes (word_by_test (codes "related") refl refl) (λ q. avoids_nothing (codes "related")) s in
@@ -43,12 +43,12 @@ related_complete o (Some n) bytes s =
     (λ q. absurd cc) s in
     rw (f.1) (one_complete (node_reads o) Some f.0 n f.2)
 
-pub avoids_related : (name : List ℕ) (o : Owner) (r : Option Spelled) → bytes_eq (codes "related") name ≡ false → Avoids name (related_parts o r)
+pub avoids_related : (name : List ℕ) (o : Owner) (r : Option NodeWord) → bytes_eq (codes "related") name ≡ false → Avoids name (related_parts o r)
 avoids_related name o None differs = avoids_nothing name
 avoids_related name o (Some n) differs = avoids_key name (codes "related") (node o n ∷ []) (word_by_test (codes "related") refl refl) differs
 
-pub dispatch_end_sound : (o : Owner) (n : Spelled) (event : Word) (bytes : List ℕ) (c : Command) → dispatch_end o n event bytes ≡ Some c →
-    (bubbles : Bool) × (cancelable : Bool) × (composed : Bool) × (r : Option Spelled) ×
+pub dispatch_end_sound : (o : Owner) (n : NodeWord) (event : Word) (bytes : List ℕ) (c : Command) → dispatch_end o n event bytes ≡ Some c →
+    (bubbles : Bool) × (cancelable : Bool) × (composed : Bool) × (r : Option NodeWord) ×
     (dispatch n (record { event = event; bubbles = bubbles; cancelable = cancelable; composed = composed }) r ≡ c) ×
     Spells (event_flags bubbles cancelable composed (related_parts o r)) bytes
 dispatch_end_sound o n event bytes c e =
@@ -68,7 +68,7 @@ dispatch_end_sound o n event bytes c e =
           (flag_sound (codes "composed") cancelable.1 (related_parts o r) (related_sound o composed.1 r h))),
     )
 
-pub dispatch_end_complete : (o : Owner) (n : Spelled) (event : Word) (bubbles cancelable composed : Bool) (r : Option Spelled) (bytes : List ℕ) →
+pub dispatch_end_complete : (o : Owner) (n : NodeWord) (event : Word) (bubbles cancelable composed : Bool) (r : Option NodeWord) (bytes : List ℕ) →
     Spells (event_flags bubbles cancelable composed (related_parts o r)) bytes →
     dispatch_end o n event bytes ≡ Some (dispatch n (record { event = event; bubbles = bubbles; cancelable = cancelable; composed = composed }) r)
 dispatch_end_complete o n event bubbles cancelable composed r bytes s =
@@ -96,7 +96,7 @@ dispatch_sound o bytes c e =
     subst (IsBehind keyword.Dispatch o bytes) end.4
     (tt, (codes "dispatch", bytes, refl, (n_is.0, n.1, n_is.1, (event_is.0, event.1, event_is.1, end.5, event_is.2), n_is.2), refl))
 
-pub dispatch_complete : (o : Owner) (n : Spelled) (e : EventWords) (r : Option Spelled) (bytes : List ℕ) →
+pub dispatch_complete : (o : Owner) (n : NodeWord) (e : EventWords) (r : Option NodeWord) (bytes : List ℕ) →
     Spells (node o n ∷ event_parts o e r) bytes → dispatch_at o bytes ≡ Some (dispatch n e r)
 dispatch_complete o n e r bytes s =
     let e₁ : node_at o bytes ≡ Some (n, s.1) = rw (s.4) ((node_reads o).complete s.0 s.1 n s.2 (Spells-ends (event_parts o e r) s.1 s.3)) in
@@ -110,7 +110,7 @@ avoids_attribute_filter name None differs = avoids_nothing name
 avoids_attribute_filter name (Some names) differs = avoids_word name (IsAttributeFilter names) [] λ text h.
     (attribute_filter_says.is_word text names h, λ e. differs (ap (λ (x : List ℕ). get_or x 0 0) (sym e ∙ h.2)))
 
-pub observe_end_sound : (k : ℕ) (n : Spelled) (bytes : List ℕ) (c : Command) → observe_end k n bytes ≡ Some c → (w : ObserveWords) ×
+pub observe_end_sound : (k : ℕ) (n : NodeWord) (bytes : List ℕ) (c : Command) → observe_end k n bytes ≡ Some c → (w : ObserveWords) ×
     (observe k n w ≡ c) × Spells (observe_parts w) bytes
 observe_end_sound k n bytes c e =
     let child_list = flag_at (codes "childList") bytes in
@@ -154,7 +154,7 @@ observe_end_sound k n bytes c e =
     let s0 = flag_sound (codes "childList") bytes s0_behind s1 in
     (words f, some_is same, s0)
 
-pub observe_end_complete : (k : ℕ) (n : Spelled) (w : ObserveWords) (bytes : List ℕ) → Spells (observe_parts w) bytes →
+pub observe_end_complete : (k : ℕ) (n : NodeWord) (w : ObserveWords) (bytes : List ℕ) → Spells (observe_parts w) bytes →
     observe_end k n bytes ≡ Some (observe k n w)
 observe_end_complete k n w bytes s =
     let behind0 = flag w.attributes (codes "attributes")
@@ -219,7 +219,7 @@ observe_sound o bytes c e =
     subst (IsBehind keyword.Observe o bytes) end.1
     (tt, (codes "observe", bytes, refl, (k_is.0, k.1, k_is.1, (n_is.0, n.1, n_is.1, end.2, n_is.2), k_is.2), refl))
 
-pub observe_complete : (o : Owner) (k : ℕ) (n : Spelled) (w : ObserveWords) (bytes : List ℕ) →
+pub observe_complete : (o : Owner) (k : ℕ) (n : NodeWord) (w : ObserveWords) (bytes : List ℕ) →
     Spells (observed k ∷ node o n ∷ observe_parts w) bytes → observe_at o bytes ≡ Some (observe k n w)
 observe_complete o k n w bytes s =
     let e₁ : observer_number_at bytes ≡ Some (k, s.1) = rw (s.4) (observer_reads.complete s.0 s.1 k s.2 (Spells-ends (node o n ∷ observe_parts w) s.1 s.3)) in

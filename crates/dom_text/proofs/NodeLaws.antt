@@ -7,17 +7,17 @@ use Rattle.std.proofs.lemmas.Bool.{eqb-true}
 use Rattle.dom_base.specs.declared.Owner.{Owner}
 use Rattle.dom_base.specs.declared.Owner.TheVariants.{Page, Component}
 use Rattle.dom_model.specs.Names.{ComponentName}
-use Rattle.dom_model.specs.Command.{Spelled, own, foreign}
+use Rattle.dom_model.specs.Command.{NodeWord, own, foreign}
 use Rattle.dom_text.specs.Tokens.{IsWordByte, IsWord, IsNumber, IsNumbered, IsComponent, IsFullName, IsNode, IsOwner}
 use Rattle.dom_text.specs.Grammar.{node}
-use Rattle.dom_text.specs.Readers.{◌>>=◌, at_end, number_of, behind, component_of, owner_of, page_node, inner_node, is_no_colon, full_name_of, spelled_of}
+use Rattle.dom_text.specs.Readers.{◌>>=◌, at_end, number_of, behind, component_of, owner_of, page_node, inner_node, is_no_colon, full_name_of, node_word_of}
 use Rattle.dom_text.proofs.WordLaws.{bind_then, some_is, at_end_some, run, behind_run, run_sound, run_complete, chosen}
 use Rattle.dom_text.proofs.PartLaws.{SaysPart}
 use Rattle.dom_text.proofs.NumberLaws.{number_sound, number_complete, IsNumber-word_bytes, word_from, longer_word, behind_sound}
 use Rattle.dom_text.proofs.ComponentLaws.{component_sound, component_complete, component_is_word, component_passes}
 
 -- a full name
-full_name_sound : (w : List ℕ) (s : Spelled) → full_name_of w ≡ Some s → (s ≡ foreign) × IsFullName w
+full_name_sound : (w : List ℕ) (s : NodeWord) → full_name_of w ≡ Some s → (s ≡ foreign) × IsFullName w
 full_name_sound w s e =
     let component = run is_no_colon w in
     let rest = behind_run is_no_colon w in
@@ -59,7 +59,7 @@ full_name_is : (o : Owner) (text : List ℕ) → IsFullName text → IsNode o fo
 full_name_is Page text h = inr h
 full_name_is (Component k) text h = inr h
 
-node_sound : (o : Owner) (w : List ℕ) (s : Spelled) → spelled_of o w ≡ Some s → IsNode o s w
+node_sound : (o : Owner) (w : List ℕ) (s : NodeWord) → node_word_of o w ≡ Some s → IsNode o s w
 node_sound o [] s e = absurd cc
 node_sound o (b ∷ text) s e =
     let others = cond (eqb b 109) (option_map (inner_node o) (number_of text)) (full_name_of (b ∷ text)) in
@@ -77,23 +77,23 @@ node_sound o (b ∷ text) s e =
       ]
     ]
 
-page_node_read : (o : Owner) (n : ℕ) (number' : List ℕ) → IsNumber n number' → spelled_of o (110 ∷ number') ≡ Some (page_node o n)
+page_node_read : (o : Owner) (n : ℕ) (number' : List ℕ) → IsNumber n number' → node_word_of o (110 ∷ number') ≡ Some (page_node o n)
 page_node_read o n number' h = ap (option_map (page_node o)) (number_complete number' n h)
 
-inner_node_read : (o : Owner) (n : ℕ) (number' : List ℕ) → IsNumber n number' → spelled_of o (109 ∷ number') ≡ Some (inner_node o n)
+inner_node_read : (o : Owner) (n : ℕ) (number' : List ℕ) → IsNumber n number' → node_word_of o (109 ∷ number') ≡ Some (inner_node o n)
 inner_node_read o n number' h = ap (option_map (inner_node o)) (number_complete number' n h)
 
-full_name_read : (o : Owner) (w : List ℕ) → IsFullName w → spelled_of o w ≡ Some foreign
+full_name_read : (o : Owner) (w : List ℕ) → IsFullName w → node_word_of o w ≡ Some foreign
 full_name_read o w h =
     let at : w ≡ 99 ∷ (join_with_byte 46 h.4.1 ++ codes ":m" ++ h.3) = h.6 ∙ ap (λ (x : List ℕ). x ++ codes ":m" ++ h.3) h.4.6 in
-    ap (spelled_of o) at ∙ ap full_name_of (sym at) ∙ full_name_complete w h
+    ap (node_word_of o) at ∙ ap full_name_of (sym at) ∙ full_name_complete w h
 
-node_complete : (o : Owner) (w : List ℕ) (s : Spelled) → IsNode o s w → spelled_of o w ≡ Some s
-node_complete Page w (own n) h = ap (spelled_of Page) h.2 ∙ page_node_read Page n h.0 h.1
-node_complete Page w foreign (inl h) = ap (spelled_of Page) h.1.2 ∙ inner_node_read Page h.0 h.1.0 h.1.1
+node_complete : (o : Owner) (w : List ℕ) (s : NodeWord) → IsNode o s w → node_word_of o w ≡ Some s
+node_complete Page w (own n) h = ap (node_word_of Page) h.2 ∙ page_node_read Page n h.0 h.1
+node_complete Page w foreign (inl h) = ap (node_word_of Page) h.1.2 ∙ inner_node_read Page h.0 h.1.0 h.1.1
 node_complete Page w foreign (inr h) = full_name_read Page w h
-node_complete (Component k) w (own n) h = ap (spelled_of (Component k)) h.2 ∙ inner_node_read (Component k) n h.0 h.1
-node_complete (Component k) w foreign (inl h) = ap (spelled_of (Component k)) h.1.2 ∙ page_node_read (Component k) h.0 h.1.0 h.1.1
+node_complete (Component k) w (own n) h = ap (node_word_of (Component k)) h.2 ∙ inner_node_read (Component k) n h.0 h.1
+node_complete (Component k) w foreign (inl h) = ap (node_word_of (Component k)) h.1.2 ∙ page_node_read (Component k) h.0 h.1.0 h.1.1
 node_complete (Component k) w foreign (inr h) = full_name_read (Component k) w h
 
 numbered_word : (letter : ℕ) → IsInRange 35 126 letter → (n : ℕ) (w : List ℕ) → IsNumbered (letter ∷ []) n w → IsWord w
@@ -105,7 +105,7 @@ full_name_word w h =
     let front = longer_word h.2 (codes ":m") (component_is_word h.0 h.2 h.4) middle in
     rw (h.6) (longer_word (h.2 ++ codes ":m") h.3 front (IsNumber-word_bytes h.1 h.3 h.5))
 
-node_word : (o : Owner) (w : List ℕ) (s : Spelled) → IsNode o s w → IsWord w
+node_word : (o : Owner) (w : List ℕ) (s : NodeWord) → IsNode o s w → IsWord w
 node_word Page w (own n) h = numbered_word 110 (omega arith, omega arith) n w h
 node_word Page w foreign (inl h) = numbered_word 109 (omega arith, omega arith) h.0 w h.1
 node_word Page w foreign (inr h) = full_name_word w h
@@ -113,7 +113,7 @@ node_word (Component k) w (own n) h = numbered_word 109 (omega arith, omega arit
 node_word (Component k) w foreign (inl h) = numbered_word 110 (omega arith, omega arith) h.0 w h.1
 node_word (Component k) w foreign (inr h) = full_name_word w h
 
-pub node_says : (o : Owner) → SaysPart (spelled_of o) (node o)
+pub node_says : (o : Owner) → SaysPart (node_word_of o) (node o)
 node_says o = record { sound = node_sound o; complete = node_complete o; is_word = node_word o }
 
 -- ---- owners

@@ -9,7 +9,7 @@ use Rattle.dom_base.specs.declared.Owner.{Owner}
 use Rattle.dom_base.specs.declared.Move.{Move}
 use Rattle.dom_base.specs.declared.Action.{Action}
 use Rattle.dom_model.specs.Names.{Word}
-use Rattle.dom_model.specs.Command.{Spelled, Filter, ListenerWords, EventWords, ObserveWords, Command, new_element, new_text, new_comment}
+use Rattle.dom_model.specs.Command.{NodeWord, Filter, ListenerWords, EventWords, ObserveWords, Command, new_element, new_text, new_comment}
 use Rattle.dom_model.specs.Command.{new_fragment, new_document, attach, append, insert, replace, remove, adopt, normalize, set_attribute}
 use Rattle.dom_model.specs.Command.{unset_attribute, set_data, replace_data, split, set_text, tree, attribute, parent, document_of, children}
 use Rattle.dom_model.specs.Command.{contains, connected, shadow_root, slot_of, assigned, range_new, range_start, range_end, range_collapse}
@@ -18,7 +18,7 @@ use Rattle.dom_model.specs.Command.{iterator_previous, iterator_at, walk, walker
 use Rattle.dom_model.specs.Command.{observe, disconnect, take, micro, end_turn}
 use Rattle.dom_text.specs.Words.{end_word, move_word, action_word}
 use Rattle.dom_text.specs.Tokens.{IsWord, IsItem, itself, quote, backslash, by_digits, AreItems, IsNameFilter, IsAttributeFilter}
-use Rattle.dom_text.specs.Grammar.{Part, key, word, label, string, number, node, range, iterator, walker, observed, flag, perhaps, filter_parts}
+use Rattle.dom_text.specs.Grammar.{LinePart, key, word, label, string, number, node, range, iterator, walker, observed, flag, perhaps, filter_parts}
 use Rattle.dom_text.specs.Grammar.{listener_parts, related_parts, event_parts, observe_parts, parts, Spells, IsLine}
 use Rattle.dom_text.proofs.WordLaws.{in_range_is, each_from, list_all_each}
 use Rattle.dom_text.proofs.NumberLaws.{each-append, number_says, numbered_says}
@@ -31,11 +31,11 @@ abbrev pub IsPrintable : List ℕ → Type 0
 IsPrintable bytes = AllByRecursion (IsInRange 0x20 0x7E) bytes
 
 -- the texts that may stand for the part are text
-abbrev PrintablePart : Part → Type 0
+abbrev PrintablePart : LinePart → Type 0
 PrintablePart part = (text : List ℕ) → part text → IsPrintable text
 
 -- so are those of each of the parts
-abbrev PrintableParts : List Part → Type 0
+abbrev PrintableParts : List LinePart → Type 0
 PrintableParts [] = Unit {0}
 PrintableParts (part ∷ others) = PrintablePart part × PrintableParts others
 
@@ -55,7 +55,7 @@ printable_label name text h = word_printable text (label_says.is_word text name 
 printable_number : (n : ℕ) → PrintablePart (number n)
 printable_number n text h = word_printable text (number_says.is_word text n h)
 
-printable_node : (o : Owner) (n : Spelled) → PrintablePart (node o n)
+printable_node : (o : Owner) (n : NodeWord) → PrintablePart (node o n)
 printable_node o n text h = word_printable text ((node_says o).is_word text n h)
 
 printable_range : (n : ℕ) → PrintablePart (range n)
@@ -98,7 +98,7 @@ printable_string units text h =
     let quoted : IsPrintable (34 ∷ []) = ((omega arith, omega arith), tt) in
     rw (h.2) ((omega arith, omega arith), each-append (IsInRange 0x20 0x7E) h.0 (34 ∷ []) (items_printable units h.0 h.1) quoted)
 
-printable_flag : (b : Bool) (name : List ℕ) (others : List Part) → list_all (is_in_range 0x20 0x7E) name ≡ true → PrintableParts others →
+printable_flag : (b : Bool) (name : List ℕ) (others : List LinePart) → list_all (is_in_range 0x20 0x7E) name ≡ true → PrintableParts others →
     PrintableParts (flag b name others)
 printable_flag true name others h rest = (printable_key name h, rest)
 printable_flag false name others h rest = rest
@@ -122,11 +122,11 @@ printable_listener l = (
   ),
 )
 
-printable_related : (o : Owner) (r : Option Spelled) → PrintableParts (related_parts o r)
+printable_related : (o : Owner) (r : Option NodeWord) → PrintableParts (related_parts o r)
 printable_related o None = tt
 printable_related o (Some n) = (printable_key (codes "related") refl, (printable_node o n, tt))
 
-printable_event : (o : Owner) (e : EventWords) (r : Option Spelled) → PrintableParts (event_parts o e r)
+printable_event : (o : Owner) (e : EventWords) (r : Option NodeWord) → PrintableParts (event_parts o e r)
 printable_event o e r = (
   printable_label e.event,
   printable_flag e.bubbles (codes "bubbles") _ refl (printable_flag e.cancelable (codes "cancelable") _ refl
@@ -209,7 +209,7 @@ printable_parts o (take b) = (printable_key (codes "take") refl, (printable_obse
 printable_parts o (micro l) = (printable_key (codes "micro") refl, (printable_label l, tt))
 printable_parts o end_turn = (printable_key (codes ".") refl, tt)
 
-spelled_printable : (those : List Part) (text : List ℕ) → PrintableParts those → Spells those text → IsPrintable text
+spelled_printable : (those : List LinePart) (text : List ℕ) → PrintableParts those → Spells those text → IsPrintable text
 spelled_printable [] text h s = rw s tt
 spelled_printable (part ∷ others) text h s =
     rw (s.4) ((omega arith, omega arith), each-append (IsInRange 0x20 0x7E) s.0 s.1 (h.0 s.0 s.2) (spelled_printable others s.1 h.1 s.3))

@@ -14,7 +14,7 @@ use Rattle.dom_tree.proofs.Names.{name_eq-true, name_eq-turned}
 use Rattle.dom_tree.proofs.Once.{times_in, times_in-none, times_in-tree, one-false}
 use Rattle.std.proofs.lemmas.List.{map-append}
 use Rattle.dom_tree_laws.proofs.Paths.{path_gone, times_none, IsOnce, Lacks, lacks_from, lacks_to}
-use Rattle.dom_tree_laws.proofs.Near.{NoTwice, path_mapped, once_subtree}
+use Rattle.dom_tree_laws.proofs.Relatives.{NoTwice, path_mapped, once_subtree}
 use Rattle.dom_tree_laws.proofs.Moves.{path_below_none, none_or_some}
 use Rattle.dom_tree_laws.proofs.Once.{names_once, names_lack}
 

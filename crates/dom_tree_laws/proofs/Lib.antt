@@ -2,7 +2,7 @@
 pub mod Lists
 pub mod Paths
 pub mod Moves
-pub mod Near
+pub mod Relatives
 pub mod Once
 pub mod Covering
-pub mod Standing
+pub mod KeptAncestors

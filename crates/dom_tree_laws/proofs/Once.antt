@@ -15,7 +15,7 @@ use Rattle.dom_tree.specs.Owners.{trees_of_owner}
 use Rattle.dom_tree.proofs.Once.{times_in, times_in-none, times_in-tree, one-true, one-false, count-append, one}
 use Rattle.dom_tree.proofs.Reach.{reaches, has_node-reaches}
 use Rattle.dom_tree_laws.proofs.Paths.{IsOnce, Lacks, swapped, once_parts, times_none}
-use Rattle.dom_tree_laws.proofs.Near.{NoTwice, Each, each_all}
+use Rattle.dom_tree_laws.proofs.Relatives.{NoTwice, Each, each_all}
 
 -- how often a name stands in trees, as a clause says it
 pub times_count : (ts : Trees) (x : NodeName) → times_in ts x ≡ count_by (λ n. name_eq n.name x) (nodes ts)

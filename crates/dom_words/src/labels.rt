@@ -8,7 +8,7 @@ ghost use Rattle.dom_text.specs.Decode.{label_at};
 ghost use Rattle.dom_words.specs.Gives.{Takes};
 
 use crate::not_read::NotRead;
-use crate::words::{Words, text_of};
+use crate::words::{WordReader, text_of};
 use std::alloc::Global;
 
 /// Whether a name may begin with the byte: a letter or `_`.
@@ -63,7 +63,7 @@ fn is_label(text: &[u8]) -> bool
     !text.is_empty() && (text.len() <= 64 && all_label_bytes(text))
 }
 
-impl Words<'_> {
+impl WordReader<'_> {
     /// The next word as the type of an event, or a label: 1 to 64 letters, digits, `-`, `_`, `.` and `:`.
     pub fn label(&mut self, alloc: Global) -> Result<String, NotRead>
         ensures { Takes string_bytes result (label_at self.old) self.new }

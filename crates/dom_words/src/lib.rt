@@ -12,4 +12,4 @@ mod words;
 pub use labels::is_name;
 pub use not_read::NotRead;
 pub use numbers::{number_of, positive_of};
-pub use words::{Words, text_of, word_at};
+pub use words::{WordReader, text_of, word_at};

@@ -12,7 +12,7 @@ ghost use Rattle.dom_words.specs.declared.not_read.NotRead.TheVariants.{Syntax};
 ghost use Rattle.dom_words.specs.Gives.{Takes};
 
 use crate::not_read::NotRead;
-use crate::words::Words;
+use crate::words::WordReader;
 
 /// Whether each byte is a digit.
 fn all_digits(bytes: &[u8]) -> bool
@@ -93,7 +93,7 @@ fn numbered(letter: u8, word: &[u8]) -> Option<u32>
     }
 }
 
-impl Words<'_> {
+impl WordReader<'_> {
     /// The next word as a number.
     pub fn number(&mut self) -> Result<u32, NotRead>
         ensures read { Takes (λ n. n) result (number_at self.old) self.new }

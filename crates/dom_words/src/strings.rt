@@ -8,7 +8,7 @@ ghost use Rattle.dom_words.specs.Gives.{Gives, Takes};
 ghost use Rattle.dom_words.specs.Strings.{place_view, read_view, DigitsFit, PlaceFits, ReadFits};
 
 use crate::not_read::NotRead;
-use crate::words::{Words, behind_space};
+use crate::words::{WordReader, behind_space};
 use dom_base::DomStr;
 use std::alloc::Global;
 
@@ -123,14 +123,14 @@ fn string_at(alloc: Global, bytes: &[u8]) -> Result<(DomStr, &[u8]), NotRead>
     }
 }
 
-impl Words<'_> {
+impl WordReader<'_> {
     /// The next string, behind a space: items between two quotes, each of which is one code unit.
     pub fn string(&mut self, alloc: Global) -> Result<DomStr, NotRead>
         ensures { Takes (λ x. x.items) result (next_string self.old) self.new }
     {
         let bytes = behind_space(self.rest()).ok_or(NotRead::Syntax)?;
         let (units, rest) = string_at(alloc, bytes)?;
-        *self = Words::new(rest);
+        *self = WordReader::new(rest);
         Ok(units)
     }
 }

@@ -8,7 +8,7 @@ ghost use Rattle.dom_words.specs.declared.not_read.NotRead.TheVariants.{Syntax};
 ghost use Rattle.dom_words.specs.Gives.{Takes};
 
 use crate::not_read::NotRead;
-use crate::words::Words;
+use crate::words::WordReader;
 use dom_base::{Action, Kind, Move};
 
 /// Whether the word is this text.
@@ -101,7 +101,7 @@ fn to_start_of(word: &[u8]) -> Option<bool>
     }
 }
 
-impl Words<'_> {
+impl WordReader<'_> {
     /// The next word as what a listener does: `log`, `stop`, `stop-now` or `cancel`.
     pub fn action(&mut self) -> Result<Action, NotRead>
         ensures read { Takes (λ a. a) result (action_at self.old) self.new }

@@ -81,22 +81,22 @@ pub fn text_of(alloc: Global, word: &[u8]) -> Result<String, AllocError>
 /// answers `NotRead::Syntax`; one that makes a text or a string may answer `NotRead::Memory` in place of either. After an
 /// error nothing is said of the bytes that are left.
 #[derive(Drop)]
-pub struct Words<'a> {
+pub struct WordReader<'a> {
     rest: &'a [u8],
 }
 
-impl<'a> Model for Words<'a> {
+impl<'a> Model for WordReader<'a> {
     ghost Value = { List ℕ };
 
     ghost view = { λ w. w.rest.now };
 }
 
-impl<'a> Words<'a> {
+impl<'a> WordReader<'a> {
     /// All words of these bytes.
-    pub fn new(rest: &'a [u8]) -> Words<'a>
+    pub fn new(rest: &'a [u8]) -> WordReader<'a>
         ensures { result ≡ rest.now }
     {
-        Words { rest }
+        WordReader { rest }
     }
 
     /// The bytes that are still to be read.

@@ -8,7 +8,7 @@ use Rattle.dom_base.specs.declared.TheConstants.{MAX_COMPONENTS}
 use Rattle.dom_base.specs.Owners.{may_attach}
 use Rattle.dom_base.specs.declared.Refusal.{Refusal}
 use Rattle.dom_base.specs.declared.Refusal.TheVariants.{Syntax, Busy, Foreign, Unknown, WrongKind, NotSupported, Limit}
-use Rattle.dom_model.specs.Command.{Command, Spelled}
+use Rattle.dom_model.specs.Command.{Command, NodeWord}
 use Rattle.dom_model.specs.Names.{name_eq, is_in}
 use Rattle.dom_model.specs.Tree.{node_in}
 use Rattle.dom_model.specs.CommandNames.{named, names_foreign, nodes_exist, thing_exists, nodes_fit}
@@ -44,7 +44,7 @@ part-accepted p c h =
     record { exist = not-false (nodes_exist p c && thing_exists p c) exist.0; fit = not-false (nodes_fit p c) fit.0; own = both.1 }
 
 -- Whoever attaches may: that there is room for one number more is one of the tests.
-pub attach-may : (w : World) (o : Owner) (x : Spelled) → part_refusal (part_of w o) (Command.attach x) ≡ None → MayAttach o
+pub attach-may : (w : World) (o : Owner) (x : NodeWord) → part_refusal (part_of w o) (Command.attach x) ≡ None → MayAttach o
 unfolding MayAttach
 attach-may w o x h =
     let p = part_of w o in

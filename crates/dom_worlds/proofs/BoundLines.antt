@@ -122,7 +122,7 @@ room-same p q t r h =
     record {
       bounds = subst (AllByRecursion (RangeUnder (reach nowhere q))) (sym r)
           (subst (λ ts. AllByRecursion (RangeUnder (λ y. length_of ts y + 0)) p.ranges) (sym t) h.bounds);
-      leaves = subst (λ ts. (y : NodeName) → has_data (kind_of ts y) ≡ true → Rattle.dom_worlds.proofs.Kids.kids ts y ≡ 0) (sym t) h.leaves;
+      leaves = subst (λ ts. (y : NodeName) → has_data (kind_of ts y) ≡ true → Rattle.dom_worlds.proofs.ChildCounts.kids ts y ≡ 0) (sym t) h.leaves;
     }
 
 -- of a thing that may not be there

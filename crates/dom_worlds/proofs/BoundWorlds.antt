@@ -40,7 +40,7 @@ use Rattle.dom_worlds.specs.Worlds.{IsPart}
 use Rattle.dom_worlds.proofs.Acceptance.{accepted-facts, part-accepted}
 use Rattle.dom_worlds.proofs.BoundLines.{Roomy, ForRanges, room-effect, room-same, range-room, under-at, insertion-open}
 use Rattle.dom_worlds.proofs.Bounds.{RangeUnder, reach, nowhere, HasRoom, room-document}
-use Rattle.dom_worlds.proofs.Kids.{kids}
+use Rattle.dom_worlds.proofs.ChildCounts.{kids}
 use Rattle.dom_worlds.proofs.KeptOffsets.{room-of, bounds-of, takes}
 use Rattle.dom_worlds.proofs.LineBegins.{part_of-opening}
 use Rattle.dom_worlds.proofs.Reached.{first-is_reached, ending-keeps_reached, step-keeps_reached, finish-keeps_reached}

@@ -17,13 +17,13 @@ use Rattle.dom_model.specs.Steps.{make, make_room, place, take_out, set_document
 use Rattle.dom_model.specs.Steps.{queue_record, part_step, leave}
 use Rattle.dom_worlds.specs.Worlds.{times_in, IsPart}
 use Rattle.dom_worlds.proofs.Insides.{times-taken_out_all}
-use Rattle.dom_worlds.proofs.Kids.{kids, kids-absent, one_at, kids-taken_out, kids-placed, kids-with_node, kids-map_nodes, index-below}
+use Rattle.dom_worlds.proofs.ChildCounts.{kids, kids-absent, one_at, kids-taken_out, kids-placed, kids-with_node, kids-map_nodes, index-below}
 use Rattle.dom_worlds.proofs.NodesRead.{node-taken_out, node-placed, node-with_node, node-map_nodes, length-data, length-kids, length-absent}
 use Rattle.dom_worlds.proofs.Lists.{all-then, all-map}
 use Rattle.dom_worlds.proofs.PartSteps.{KeepsNames, some-keeps, attribute-keeps, part-step}
 use Rattle.dom_worlds.proofs.PlanTexts.{next-not}
 use Rattle.dom_worlds.proofs.ShadowRoots.{found-absent}
-use Rattle.dom_worlds.proofs.TableSteps.{There, Fits, all-set}
+use Rattle.dom_worlds.proofs.TableSteps.{HasNode, Fits, all-set}
 use Rattle.dom_worlds.proofs.Tests.{by_cases, either_way, which_way}
 use Rattle.dom_worlds.proofs.Trees.{IsUnique, by_times, name_eq-true, name_eq-sym}
 
@@ -106,7 +106,7 @@ room-make e p n i h =
     let q = part_step p (make n) in
     let m = with_name (next_name p) n in
     let j = part-step p (make n) i in
-    let same = λ (y : NodeName) (t : There p y). node-with_node m p.trees y i.unique t (next-not p i y t) in
+    let same = λ (y : NodeName) (t : HasNode p y). node-with_node m p.trees y i.unique t (next-not p i y t) in
     room-trees e e p q.trees (suc p.node_count)
     (λ y. by_times (times_in p.trees y) (λ z. let a = length-absent p.trees y i.unique z in omega arith)
     (λ t. let a = length-like p.trees q.trees y i.unique j.unique (ap (λ (k : Node). k.kind) (same y t)) (ap (λ (k : Node). k.text) (same y t))
@@ -122,7 +122,7 @@ room-place d e p x parent before i f k m h =
     let ts = p.trees in
     let us = placed x parent before ts in
     let j = part-step p (place x parent before) i in
-    let same = λ (y : NodeName) (t : There p y). node-placed ts x parent before y i.unique f.0 f.1 t in
+    let same = λ (y : NodeName) (t : HasNode p y). node-placed ts x parent before y i.unique f.0 f.1 t in
     let count = λ (y : NodeName). kids-placed ts x parent before y i.unique f.0 f.1 f.2 in
     let elsewhere : (y : NodeName) → name_eq parent y ≡ false → kids us y ≡ kids ts y = λ y g. let a = count y in let b : one_at parent y ≡ 0 =
     cond-false (name_eq parent y) 1 0 g in omega arith in
@@ -130,7 +130,7 @@ room-place d e p x parent before i f k m h =
     (λ y. by_cases (name_eq parent y)
     (λ g. let is = name_eq-true parent y g in
     let here : has_data (kind_of ts y) ≡ false = ap (λ z. has_data (kind_of ts z)) (sym is) ∙ k in
-    let there : There p y = subst (There p) is f.0 in
+    let there : HasNode p y = subst (HasNode p) is f.0 in
     let now : has_data (kind_of us y) ≡ false = ap (λ (n : Node). has_data n.kind) (same y there) ∙ here in
     let a = length-kids ts y i.unique here in let b = length-kids us y j.unique now in let c = count y in let o = m y in omega arith)
     (λ g. by_times (times_in ts y)
@@ -152,7 +152,7 @@ room-mapped e p f k t i h =
     let us = map_nodes f ts in
     let named = λ (n : Node). (k n).0 in
     let v : IsUnique us = λ y. let o = i.unique y in let s = Rattle.dom_worlds.proofs.TreeChangeLaws.times-map_nodes f named ts y in omega arith in
-    let same = λ (y : NodeName) (g : There p y). node-map_nodes f named ts y g in
+    let same = λ (y : NodeName) (g : HasNode p y). node-map_nodes f named ts y g in
     room-trees e e p us p.node_count
     (λ y. by_times (times_in ts y) (λ z. let a = length-absent ts y i.unique z in omega arith)
     (λ g. let a = length-like ts us y i.unique v (ap (λ (n : Node). n.kind) (same y g) ∙ (k (node_in ts y)).1)
@@ -215,9 +215,9 @@ room-left e p x parent g i h =
     let v : IsUnique us = λ y. let o = i.unique y in let s = times-taken_out_all ts x y i.unique in omega arith in
     let index = index_of ts x in
     let below = index-below ts x parent i.unique g in
-    let there : There p parent = Rattle.dom_worlds.proofs.InsideAncestors.parent-there ts x parent g in
+    let there : HasNode p parent = Rattle.dom_worlds.proofs.InsideAncestors.parent-there ts x parent g in
     let count = λ (y : NodeName). kids-taken_out ts x parent y i.unique g in
-    let same = λ (y : NodeName) (t : There p y). node-taken_out ts x y i.unique t in
+    let same = λ (y : NodeName) (t : HasNode p y). node-taken_out ts x y i.unique t in
     let no_data : has_data (kind_of ts parent) ≡ false =
     by_cases (has_data (kind_of ts parent)) (λ k. absurd (let z = h.leaves parent k in omega arith)) (λ k. k) in
     let now_none : has_data (kind_of us parent) ≡ false = ap (λ (n : Node). has_data n.kind) (same parent there) ∙ no_data in
@@ -275,7 +275,7 @@ room-replace e p x offset count new k few i h =
     let kept : KeepsNames f = some-keeps (λ (n : Node). name_eq n.name x) (with_data_replaced offset count new) (λ n. (refl, refl)) in
     let named = λ (n : Node). (kept n).0 in
     let v : IsUnique us = λ y. let o = i.unique y in let s = Rattle.dom_worlds.proofs.TreeChangeLaws.times-map_nodes f named ts y in omega arith in
-    let same = λ (y : NodeName) (g : There p y). node-map_nodes f named ts y g in
+    let same = λ (y : NodeName) (g : HasNode p y). node-map_nodes f named ts y g in
     let there = data-there ts x k in
     let name = Rattle.dom_worlds.proofs.NodeKinds.name-node_in ts x in
     let now : node_in us x ≡ with_data_replaced offset count new (node_in ts x) =

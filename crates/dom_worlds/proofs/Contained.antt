@@ -16,7 +16,7 @@ use Rattle.dom_worlds.specs.Worlds.{times_in}
 use Rattle.dom_worlds.proofs.Descents.{ancestor-inside}
 use Rattle.dom_worlds.proofs.Insides.{or_else-none}
 use Rattle.dom_worlds.proofs.InsideAncestors.{parent-there}
-use Rattle.dom_worlds.proofs.Kids.{root-below}
+use Rattle.dom_worlds.proofs.ChildCounts.{root-below}
 use Rattle.dom_worlds.proofs.Lists.{all-then}
 use Rattle.dom_worlds.proofs.Roots.{self-above, parent-above}
 use Rattle.dom_worlds.proofs.TableRecords.{inside-alone, above-above}

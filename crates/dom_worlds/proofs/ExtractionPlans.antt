@@ -23,7 +23,7 @@ use Rattle.dom_worlds.proofs.Contained.{IsSpared}
 use Rattle.dom_worlds.proofs.Descents.{inside-ancestor, inside-below}
 use Rattle.dom_worlds.proofs.FitPieces.{IsClonable, common_below, fit-apart, fit-pieces}
 use Rattle.dom_worlds.proofs.Insides.{inside, inside-here, inside-without}
-use Rattle.dom_worlds.proofs.Kids.{kids}
+use Rattle.dom_worlds.proofs.ChildCounts.{kids}
 use Rattle.dom_worlds.proofs.Plans.{AreFit}
 use Rattle.dom_worlds.proofs.Roots.{above-parent}
 use Rattle.dom_worlds.proofs.TableRecords.{above-above}
@@ -38,7 +38,7 @@ use Rattle.dom_worlds.proofs.PlanContents.{OldIn, old-there, whole-then, leads-m
 use Rattle.dom_worlds.proofs.PlanChildren.{IsChild, IsNot, child-make, child-parent}
 use Rattle.dom_worlds.proofs.RangeBounds.{AreChildren, Misses, IsData, IsOpenIn, fits-still, room-taking}
 use Rattle.dom_worlds.proofs.RangeEnds.{room-at, above-kids, room-place_new}
-use Rattle.dom_worlds.proofs.TableSteps.{There}
+use Rattle.dom_worlds.proofs.TableSteps.{HasNode}
 use Rattle.dom_worlds.proofs.Tests.{by_cases, either_way, which_way}
 use Rattle.dom_worlds.proofs.TreeChangeLaws.{nodes-subtree, nodes-then, nodes-named}
 use Rattle.dom_worlds.proofs.Trees.{IsUnique, name_eq-true}
@@ -68,7 +68,7 @@ common-read ts r u =
     below-read Read (subtree ts a) (nodes-subtree Read ts a (all-read ts u))
 
 -- A node in a tree whose root is an inclusive ancestor of a range's end node, and not of its start node.
-record IsHeld (ts : Trees) (r : Range NodeName) (z : NodeName) : Type 0 where
+record IsOnEndSide (ts : Trees) (r : Range NodeName) (z : NodeName) : Type 0 where
   root : NodeName
   above : is_inclusive_ancestor ts root r.end.node ≡ true
   apart : is_inclusive_ancestor ts root r.start.node ≡ false
@@ -76,14 +76,14 @@ record IsHeld (ts : Trees) (r : Range NodeName) (z : NodeName) : Type 0 where
 
 -- so is each node of the tree that holds the end alone
 all-held : (ts : Trees) (r : Range NodeName) → IsUnique ts → (us : Trees) → ((a z : NodeName) → inside us a z ≤ inside ts a z) →
-    AllNodes (λ n. IsHeld ts r n.name) (tree_holding ts r.end.node r.start.node us)
+    AllNodes (λ n. IsOnEndSide ts r n.name) (tree_holding ts r.end.node r.start.node us)
 all-held ts r u none f = tt
 all-held ts r u (tree n c e) f =
     let has_end = is_inclusive_ancestor ts n.name r.end.node in
     let has_start = is_inclusive_ancestor ts n.name r.start.node in
-    which_way (AllNodes (λ m. IsHeld ts r m.name)) (has_end && not has_start) (tree n c none) (tree_holding ts r.end.node r.start.node e)
+    which_way (AllNodes (λ m. IsOnEndSide ts r m.name)) (has_end && not has_start) (tree n c none) (tree_holding ts r.end.node r.start.node e)
     (λ k. let both = and_parts has_end (not has_start) k in
-    nodes-named (IsHeld ts r) (tree n c none) (λ z m. record {
+    nodes-named (IsOnEndSide ts r) (tree n c none) (λ z m. record {
       root = n.name;
       above = both.0;
       apart = not-true has_start both.1;
@@ -93,7 +93,7 @@ all-held ts r u (tree n c e) f =
 
 -- where such a node is not above the end, it is none of the children of a node above the start, nor that node
 held-misses : (p : Part) (xs : List NodeName) (y : NodeName) (r : Range NodeName) → IsPart p → AreChildren xs y p →
-    is_inclusive_ancestor p.trees y r.start.node ≡ true → (z : NodeName) → IsHeld p.trees r z →
+    is_inclusive_ancestor p.trees y r.start.node ≡ true → (z : NodeName) → IsOnEndSide p.trees r z →
     is_inclusive_ancestor p.trees z r.end.node ≡ false → Misses xs y z
 held-misses p xs y r i c above z h g =
     let ts = p.trees in
@@ -113,7 +113,7 @@ held-misses p xs y r i c above z h g =
     )
 
 -- the pieces of a range
-fit-range : (p : Part) (xs : List NodeName) (y : NodeName) (r : Range NodeName) → IsPart p → There p r.start.node → IsSpared p.trees r y xs →
+fit-range : (p : Part) (xs : List NodeName) (y : NodeName) (r : Range NodeName) → IsPart p → HasNode p r.start.node → IsSpared p.trees r y xs →
     AreChildren xs y p → AreFit (Misses xs y) (IsData p) (IsOpenIn p) (pieces_of p.trees r)
 fit-range p xs y r i t s c =
     let ts = p.trees in
@@ -126,16 +126,16 @@ fit-range p xs y r i t s c =
     (common-read ts r i.unique) in
     let early = nodes-named (λ z. is_before ts r.start (at z 0) ≡ true → W z) below (λ z m k. early-not ts r z k (y ∷ xs) (s.parent, s.children)) in
     let held = all-held ts r i.unique below (λ x z. let b = inside-below (subtree ts a) x z in let w = inside-without ts a x z in omega arith) in
-    let last = nodes-then (λ n. IsHeld ts r n.name) (λ n. is_inclusive_ancestor ts n.name r.end.node ≡ false → W n.name)
+    let last = nodes-then (λ n. IsOnEndSide ts r n.name) (λ n. is_inclusive_ancestor ts n.name r.end.node ≡ false → W n.name)
     (λ n h. held-misses p xs y r i c s.above n.name h) (tree_holding ts r.end.node r.start.node below) held in
     fit-pieces W (IsData p) (IsOpenIn p) ts r (λ e. (t, (and_parts (name_eq r.start.node r.end.node) (has_data (kind_of ts r.start.node)) e).1))
     (fit-apart W (IsData p) (IsOpenIn p) ts r clonable early last)
 
 -- pieces that were there before a new node are old
-pieces-old : (p q : Part) → Changed None p q → IsPart p → (pieces : Pieces) → Rattle.dom_worlds.proofs.Plans.AllWhole (There p) pieces →
+pieces-old : (p q : Part) → Changed None p q → IsPart p → (pieces : Pieces) → Rattle.dom_worlds.proofs.Plans.AllWhole (HasNode p) pieces →
     Rattle.dom_worlds.proofs.Plans.AllWhole (OldIn p.node_count q) pieces
 pieces-old p q c i pieces h =
-    whole-then (There p) (OldIn p.node_count q)
+    whole-then (HasNode p) (OldIn p.node_count q)
     (λ x t. let o = old-there p i x t in record { there = still c x t; alone = λ z k. c.apart x z t tt (o.alone z k) }) pieces h
 
 -- a Text in a part with a new node
@@ -148,7 +148,7 @@ length-made p n x i k =
     sym (length-data p.trees x k)
 
 -- and where that went below another one
-length-below : (p : Part) (n : Node) (into x : NodeName) → n.name ≡ next_name p → IsPart p → There p into → has_data (kind_of p.trees x) ≡ true →
+length-below : (p : Part) (n : Node) (into x : NodeName) → n.name ≡ next_name p → IsPart p → HasNode p into → has_data (kind_of p.trees x) ≡ true →
     length_of (after p (making_below into n p)).trees x ≡ length_of p.trees x
 length-below p n into x e i t k =
     let q = part_step p (make n) in

@@ -16,13 +16,13 @@ use Rattle.dom_model.specs.World.{World, part_of, with_part, is_there, host_of, 
 use Rattle.dom_model.specs.DocumentMachine.{first_world, new_root, part_with_root, attaching}
 use Rattle.dom_model.proofs.OwnerLaws.{owner_eq-true, owner_eq-false, name_eq-same, made_by-is, component_made-other}
 use Rattle.dom_model.proofs.PartLaws.{part_of-with_part, part_of-with_part-other, owner-part_of}
-use Rattle.dom_worlds.specs.Reached.{IsSound}
+use Rattle.dom_worlds.specs.Reached.{Invariant}
 use Rattle.dom_worlds.specs.Worlds.{times_in, IsPart, IsRoot, IsOf, OnlyLogs}
 use Rattle.dom_worlds.proofs.Lists.{all-append}
 use Rattle.dom_worlds.proofs.Makers.{hosted}
 use Rattle.dom_worlds.proofs.Tests.{by_cases}
 use Rattle.dom_worlds.proofs.Trees.{name_eq-true, times-here, times-elsewhere}
-use Rattle.dom_worlds.proofs.Alike.{there-with_part}
+use Rattle.dom_worlds.proofs.SameInvariant.{there-with_part}
 
 -- A part with a root alone.
 part-root : (o : Owner) (k : Kind) (d : Option NodeName) → IsPart (part_with_root o k d)
@@ -70,7 +70,7 @@ first-logs (Component k) f = tt
 
 module _ {only_log : Bool} where
   -- the first world is as it should be
-  pub quiet-first : IsSound only_log first_world
+  pub quiet-first : Invariant only_log first_world
   quiet-first =
       record {
         world = record {
@@ -162,7 +162,7 @@ module _ (w : World) (o : Owner) (x : NodeName) (may : MayAttach o) where
 
 module _ {only_log : Bool} where
   -- attaching keeps what holds
-  pub quiet-attaching : (w : World) (o : Owner) (x : NodeName) → MayAttach o → x.owner ≡ o → IsSound only_log w → IsSound only_log (attaching w o x).0
+  pub quiet-attaching : (w : World) (o : Owner) (x : NodeName) → MayAttach o → x.owner ≡ o → Invariant only_log w → Invariant only_log (attaching w o x).0
   quiet-attaching w o x may h q =
       let p = part_of w o in
       let i = q.world in

@@ -26,7 +26,7 @@ use Rattle.dom_worlds.proofs.Bounds.{RangeUnder, reach, nowhere, at_node, HasRoo
 use Rattle.dom_worlds.proofs.Bounds.{room-document, room-attribute, room-record, room-replace, room-split, room-join, room-set}
 use Rattle.dom_worlds.proofs.InsideAncestors.{inside-no_ancestor, no_parent-root, times-has_node}
 use Rattle.dom_worlds.proofs.KindLines.{has_node-times}
-use Rattle.dom_worlds.proofs.Kids.{one_at, length-children}
+use Rattle.dom_worlds.proofs.ChildCounts.{one_at, length-children}
 use Rattle.dom_worlds.proofs.Lists.{all-then}
 use Rattle.dom_worlds.proofs.PartSteps.{part-step}
 use Rattle.dom_worlds.proofs.PlanBounds.{room-removing, room-adopting, room-inserting, room-replacing, room-setting_attribute}

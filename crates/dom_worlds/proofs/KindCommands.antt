@@ -20,9 +20,9 @@ use Rattle.dom_model.specs.World.{World, part_of, shadow_root_of}
 use Rattle.dom_model.proofs.OwnerLaws.{name_eq-same}
 use Rattle.dom_model.proofs.PartLaws.{owner-part_of}
 use Rattle.dom_model.proofs.StepLaws.{owner-part_step, Component-IsNoPage}
-use Rattle.dom_worlds.specs.Reached.{IsSound}
+use Rattle.dom_worlds.specs.Reached.{Invariant}
 use Rattle.dom_worlds.specs.Worlds.{MayBeShadow, HasKinds, IsThere}
-use Rattle.dom_worlds.proofs.Alike.{AreAlike}
+use Rattle.dom_worlds.proofs.SameInvariant.{AreAlike}
 use Rattle.dom_worlds.proofs.TableEffects.{KeepsBase}
 use Rattle.dom_worlds.proofs.Lists.{all-then, all-from}
 use Rattle.dom_worlds.proofs.NodeKinds.{MakesNoShadow, kinds-step, kinds-alike, fragment-no_shadow, read-no_shadow}
@@ -181,7 +181,7 @@ pub kinds-same : (v w : World) → AreAlike v w → AllKinds w → AllKinds v
 kinds-same v w a h = all-kinds v (λ o. kinds-alike (part_of v o) (part_of w o) (owner-part_of v o ∙ sym (owner-part_of w o)) (a o) (h.parts o))
 
 -- no command makes a shadow root
-pub no_shadow-steps : (w : World) (o : Owner) (c : Command) → IsSound false w → IsPeopled w → AllKinds w → IsThere w o →
+pub no_shadow-steps : (w : World) (o : Owner) (c : Command) → Invariant false w → IsPeopled w → AllKinds w → IsThere w o →
     own_refusal (part_of w o) c ≡ None → Makes MakesNoShadow (effect (part_of w o) c)
 no_shadow-steps w Page c q i h t r = made-effect page-rules (part_of w Page) (owner-part_of w Page, h.parts Page) c (page-may_do (part_of w Page) c)
 no_shadow-steps w (Component k) c q i h t r =

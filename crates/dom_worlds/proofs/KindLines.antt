@@ -17,7 +17,7 @@ use Rattle.dom_base.specs.declared.TheConstants.{MAX_COMPONENTS}
 use Rattle.dom_base.specs.Owners.{may_attach}
 use Rattle.dom_model.specs.Names.{name_eq, is_in}
 use Rattle.dom_model.specs.Tree.{Trees, none, tree, Node, nodes, names_of, node_in, kind_of, has_node, no_node, is_element}
-use Rattle.dom_model.specs.Command.{Command, Line, no_owner, no_command, command, Spelled}
+use Rattle.dom_model.specs.Command.{Command, Line, no_owner, no_command, command, NodeWord}
 use Rattle.dom_model.specs.CommandNames.{named, nodes_exist}
 use Rattle.dom_model.specs.CommandRefusals.{is_command_of, part_refusal, may_be_host}
 use Rattle.dom_model.specs.DocumentMachine.{first_world, part_with_root, refusal, attaching, perform, accepted, run_command, step}
@@ -27,7 +27,7 @@ use Rattle.dom_model.specs.Runs.{Run, quiet, unless_refused}
 use Rattle.dom_model.specs.Turns.{ending_turn, has_other_turn, ending_other_turn, opening_turn}
 use Rattle.dom_model.specs.World.{World, part_of, with_part, component_made, shadow_root_of}
 use Rattle.dom_model.proofs.OwnerLaws.{component_made-no_page}
-use Rattle.dom_worlds.specs.Reached.{IsSound}
+use Rattle.dom_worlds.specs.Reached.{Invariant}
 use Rattle.dom_worlds.specs.Worlds.{times_in, AllNodes, IsElementAt, IsHost, MayBeShadow, times_among, HasKinds, IsThere}
 use Rattle.dom_worlds.proofs.TableEffects.{base-effect}
 use Rattle.dom_worlds.proofs.LineBegins.{IsPageTime, page_time, quiet-opening, quiet-ending_other, part_of-opening}
@@ -135,7 +135,7 @@ pub record IsFree (p : Part) (x : NodeName) : Type 0 where
   pub free : is_in name_eq x p.attached ≡ false
 
 -- its element is there, and is no host yet
-pub attach-free : (p : Part) (x : Spelled) → part_refusal p (Command.attach x) ≡ None → IsFree p (named p x)
+pub attach-free : (p : Part) (x : NodeWord) → part_refusal p (Command.attach x) ≡ None → IsFree p (named p x)
 attach-free p x h =
     let a = part-accepted p (Command.attach x) h in
     let own = next-test (is_in name_eq (named p x) p.attached || not (may_be_host (node_in p.trees (named p x)).element)) NotSupported
@@ -157,7 +157,7 @@ kinds-root : (c : Owner) (d : Option NodeName) → c ≢ Page → HasKinds (part
 kinds-root c d f = record { shadows = ((λ e. may-shadow c f), tt, tt); hosts = tt; once = λ x. omega arith }
 
 -- attaching keeps the kinds
-kinds-attaching : (w : World) (o : Owner) (x : NodeName) → IsFree (part_of w o) x → IsSound false w → AllKinds w → AllKinds (attaching w o x).0
+kinds-attaching : (w : World) (o : Owner) (x : NodeName) → IsFree (part_of w o) x → Invariant false w → AllKinds w → AllKinds (attaching w o x).0
 kinds-attaching w o x f q h =
     let p = part_of w o in
     let k = h.parts o in
@@ -178,7 +178,7 @@ kinds-attaching w o x f q h =
 
 -- An accepted command, and lines.
 kinds-perform : (w : World) (o : Owner) (c : Command) → IsThere w o → is_command_of o c ≡ true → part_refusal (part_of w o) c ≡ None →
-    IsSound false w → IsPeopled w → AllKinds w → AllKinds (perform w o c).0
+    Invariant false w → IsPeopled w → AllKinds w → AllKinds (perform w o c).0
 kinds-perform w o (Command.attach x) t g r q i h = kinds-attaching w o (named (part_of w o) x) (attach-free (part_of w o) x r) q h
 kinds-perform w o (Command.connected x) t g r q i h = h
 kinds-perform w o (Command.assigned x) t g r q i h = h
@@ -195,14 +195,14 @@ kinds-opening w o h = either_way AllKinds (is_some w.turn) w (record w { turn = 
 
 -- with that turn
 kinds-accepted : (w : World) (o : Owner) (c : Command) → (o ≡ Page → IsPageTime w) → IsThere w o → is_command_of o c ≡ true →
-    part_refusal (part_of w o) c ≡ None → IsSound false w → IsPeopled w → AllKinds w → AllKinds (accepted w o c).0
+    part_refusal (part_of w o) c ≡ None → Invariant false w → IsPeopled w → AllKinds w → AllKinds (accepted w o c).0
 kinds-accepted w o Command.end_turn p t g r q i h = kinds-same (ending_turn w).0 w (alike-ending_turn w) h
 kinds-accepted w o c p t g r q i h =
     kinds-perform (opening_turn w o) o c (there-opening w o t) g (ap (λ k. part_refusal k c) (part_of-opening w o o) ∙ r) (quiet-opening w q o p)
     (peopled-opening w o t i) (kinds-opening w o h)
 
 -- refused or accepted
-kinds-command : (w : World) (o : Owner) (c : Command) → (o ≡ Page → IsPageTime w) → IsSound false w → IsPeopled w → AllKinds w → AllKinds (run_command o c w).0
+kinds-command : (w : World) (o : Owner) (c : Command) → (o ≡ Page → IsPageTime w) → Invariant false w → IsPeopled w → AllKinds w → AllKinds (run_command o c w).0
 kinds-command w o c p q i h = from (refusal w o c) refl
   where
     from : (r : Option Refusal) → refusal w o c ≡ r → AllKinds (unless_refused o (refusal w o c) w (accepted w o c)).0
@@ -216,7 +216,7 @@ kinds-ending_other w o h = either_way (λ (r : Run World). AllKinds r.0) (has_ot
     (kinds-same (ending_turn w).0 w (alike-ending_turn w) h) h
 
 -- a line keeps the kinds
-pub kinds-line : (w : World) (l : Line) → IsSound false w → IsPeopled w → AllKinds w → AllKinds (step w l).0
+pub kinds-line : (w : World) (l : Line) → Invariant false w → IsPeopled w → AllKinds w → AllKinds (step w l).0
 kinds-line w no_owner q i h = h
 kinds-line w (no_command o) q i h = kinds-ending_other w o h
 kinds-line w (command o c) q i h =

@@ -6,7 +6,7 @@ pub mod Trees
 pub mod Makers
 pub mod ShadowTrees
 pub mod Chains
-pub mod Alike
+pub mod SameInvariant
 pub mod Owners
 pub mod TurnEndings
 pub mod LineBegins
@@ -34,7 +34,7 @@ pub mod Descents
 pub mod Roots
 pub mod TableSteps
 pub mod TableRecords
-pub mod Kids
+pub mod ChildCounts
 pub mod NodesRead
 pub mod PlanPlaces
 pub mod PlanChildren
@@ -55,7 +55,7 @@ pub mod ReachedFacts
 pub mod PlanBounds
 mod PlacedBounds
 pub mod TextBounds
-pub mod Childs
+pub mod ChildPairs
 pub mod TableLines
 pub mod TaskWorlds
 mod RangeRoots

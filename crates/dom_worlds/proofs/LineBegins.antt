@@ -11,9 +11,9 @@ use Rattle.dom_model.specs.World.{World, Task, micro_task, notify_task, part_of,
 use Rattle.dom_model.specs.Turns.{slotchange, firing_slotchange, is_owned_by, without_signals, notified, running_task, ending_turn, is_other_component}
 use Rattle.dom_model.specs.Turns.{has_other_turn, ending_other_turn, opening_turn, is_page_turn}
 use Rattle.dom_model.specs.PageMachine.{page_of, is_page_task}
-use Rattle.dom_worlds.specs.Reached.{IsSound}
+use Rattle.dom_worlds.specs.Reached.{Invariant}
 use Rattle.dom_worlds.proofs.Tests.{by_cases}
-use Rattle.dom_worlds.proofs.Alike.{world-alike}
+use Rattle.dom_worlds.proofs.SameInvariant.{world-alike}
 use Rattle.dom_worlds.proofs.TurnEndings.{turn-dispatch, quiet-ending_turn}
 
 -- The turn stays while tasks run.
@@ -37,11 +37,11 @@ turn-ending_turn w = turn-running_all w.tasks (record w { tasks = []; turn = Non
 
 module _ {only_log : Bool} where
   -- and keeps what holds
-  pub quiet-ending_other : (w : World) → IsSound only_log w → (o : Owner) → IsSound only_log (ending_other_turn w o).0
+  pub quiet-ending_other : (w : World) → Invariant only_log w → (o : Owner) → Invariant only_log (ending_other_turn w o).0
   quiet-ending_other w q o =
       by_cases (has_other_turn w o)
-      (λ h. subst (λ (r : Run World). IsSound only_log r.0) (sym (cond-true (has_other_turn w o) (ending_turn w) (quiet w) h)) (quiet-ending_turn w q))
-      (λ h. subst (λ (r : Run World). IsSound only_log r.0) (sym (cond-false (has_other_turn w o) (ending_turn w) (quiet w) h)) q)
+      (λ h. subst (λ (r : Run World). Invariant only_log r.0) (sym (cond-true (has_other_turn w o) (ending_turn w) (quiet w) h)) (quiet-ending_turn w q))
+      (λ h. subst (λ (r : Run World). Invariant only_log r.0) (sym (cond-false (has_other_turn w o) (ending_turn w) (quiet w) h)) q)
 
 -- before a line of the page no component's turn is open
 abbrev pub IsPageTime : World → Type 0
@@ -77,7 +77,7 @@ opening-page w h = from w.turn refl h
 
 module _ {only_log : Bool} where
   -- either keeps what holds
-  pub quiet-opening : (w : World) → IsSound only_log w → (o : Owner) → (o ≡ Page → IsPageTime w) → IsSound only_log (opening_turn w o)
+  pub quiet-opening : (w : World) → Invariant only_log w → (o : Owner) → (o ≡ Page → IsPageTime w) → Invariant only_log (opening_turn w o)
   quiet-opening w q o h = from w.turn refl
     where
       with_turn : World
@@ -86,12 +86,12 @@ module _ {only_log : Bool} where
       tasks : w.turn ≡ None → is_page_turn (Some o) ≡ false → filter is_page_task w.tasks ≡ []
       tasks e g = q.world.tasks (ap is_page_turn e)
 
-      from : (t : Option Owner) → w.turn ≡ t → IsSound only_log (if is_some w.turn then w else record w { turn = Some o })
+      from : (t : Option Owner) → w.turn ≡ t → Invariant only_log (if is_some w.turn then w else record w { turn = Some o })
       from None e =
-          subst (λ t. IsSound only_log (if is_some t then w else record w { turn = Some o })) (sym e)
+          subst (λ t. Invariant only_log (if is_some t then w else record w { turn = Some o })) (sym e)
           (record {
             world = world-alike (record w { turn = Some o }) w (λ x. record { trees = refl; count = refl; attached = refl }) (λ x. x)
                 q.world.signalled (tasks e) q.world;
             logs = q.logs;
           })
-      from (Some x) e = subst (λ t. IsSound only_log (if is_some t then w else record w { turn = Some o })) (sym e) q
+      from (Some x) e = subst (λ t. Invariant only_log (if is_some t then w else record w { turn = Some o })) (sym e) q

@@ -14,7 +14,7 @@ use Rattle.dom_model.specs.Part.{Part, next_name}
 use Rattle.dom_model.specs.Steps.{Step, make, place, take_out, set_document, set_attribute, replace_data, part_step, leave}
 use Rattle.dom_model.proofs.StepLaws.{owner-part_step}
 use Rattle.dom_worlds.specs.Worlds.{AllNodes, IsElementAt, IsHost, MayBeShadow, IsShadowOf, times_among, HasKinds}
-use Rattle.dom_worlds.proofs.Alike.{IsAlike}
+use Rattle.dom_worlds.proofs.SameInvariant.{IsAlike}
 use Rattle.dom_worlds.proofs.Lists.{all-then}
 use Rattle.dom_worlds.proofs.Tests.{by_cases}
 use Rattle.dom_worlds.proofs.PartSteps.{KeepsNames, some-keeps, attribute-keeps, count-step, rest-step}

@@ -18,7 +18,7 @@ use Rattle.dom_worlds.proofs.TreeChangeLaws.{put_where, where-here, where-later,
 use Rattle.dom_worlds.proofs.TreeChangeLaws.{without-here, without-elsewhere, subtree-here, subtree-elsewhere, put_below-here, put_below-elsewhere}
 use Rattle.dom_worlds.proofs.TreeChangeLaws.{put_below-absent, nodes-with_node, nodes-taken_out, nodes-placed, nodes-listed}
 use Rattle.dom_worlds.proofs.Trees.{IsUnique, times-here}
-use Rattle.dom_worlds.proofs.Kids.{kids, kids-absent, length-children}
+use Rattle.dom_worlds.proofs.ChildCounts.{kids, kids-absent, length-children}
 
 -- Nodes themselves. All nodes of a name are the one that is read.
 read-same : (ts us : Trees) (y : NodeName) → 1 ≤ times_in us y → (m : Node) → AllNodes (λ n. name_eq n.name y ≡ true → n ≡ m) us → node_in us y ≡ m

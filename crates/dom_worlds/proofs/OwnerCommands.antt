@@ -12,7 +12,7 @@ use Rattle.dom_base.specs.declared.Kind.TheVariants.{Shadow}
 use Rattle.dom_base.specs.declared.Refusal.{Refusal}
 use Rattle.dom_model.specs.Names.{owner_eq, first_of}
 use Rattle.dom_model.specs.Tree.{node_in}
-use Rattle.dom_model.specs.Command.{Command, Line, no_owner, no_command, command, Spelled}
+use Rattle.dom_model.specs.Command.{Command, Line, no_owner, no_command, command, NodeWord}
 use Rattle.dom_model.specs.CommandNames.{named}
 use Rattle.dom_model.specs.CommandRefusals.{part_refusal}
 use Rattle.dom_model.specs.DocumentMachine.{first_world, part_with_root, refusal, effect_in, attaching, perform, accepted, run_command, step}
@@ -23,7 +23,7 @@ use Rattle.dom_model.specs.Turns.{ending_other_turn, opening_turn}
 use Rattle.dom_model.specs.World.{World, micro_task, part_of, with_part, is_there, component_made, made_by, MayAttach}
 use Rattle.dom_model.proofs.OwnerLaws.{ne-owner_eq, made_by-made, component_made-other}
 use Rattle.dom_model.proofs.PartLaws.{owner-part_of}
-use Rattle.dom_worlds.specs.Reached.{IsSound}
+use Rattle.dom_worlds.specs.Reached.{Invariant}
 use Rattle.dom_worlds.specs.Worlds.{owners_in, IsThere, task_owner, components_of, is_made_by, is_unmade, HasOwners}
 use Rattle.dom_worlds.proofs.TableEffects.{KeepsBase, base-effect}
 use Rattle.dom_worlds.proofs.FirstWorld.{quiet-first, quiet-attaching, by_owner, attached-maker, attached-new, attached-other, attached-there}
@@ -60,7 +60,7 @@ none-more v w o c n named owners i a f same =
     ∙ append-nil (filter (is_made_by a) (owners_in w)) ∙ i.made a ∙ sym (ap (λ (hs : List NodeName). components_of a (length hs)) same)
 
 -- attaching adds the new component
-peopled-attaching : (w : World) (o : Owner) (x : NodeName) → MayAttach o → x.owner ≡ o → IsThere w o → IsSound false w → IsPeopled w →
+peopled-attaching : (w : World) (o : Owner) (x : NodeName) → MayAttach o → x.owner ≡ o → IsThere w o → Invariant false w → IsPeopled w →
     IsPeopled (attaching w o x).0
 peopled-attaching w o x may h t q i =
     let p = part_of w o in
@@ -105,7 +105,7 @@ peopled-attaching w o x may h t q i =
     first-more (a ∷ os) more e = e
 
 -- who attaches is known from acceptance
-peopled-attach_of : (w : World) (o : Owner) (x : Spelled) → part_refusal (part_of w o) (Command.attach x) ≡ None → IsThere w o → IsSound false w →
+peopled-attach_of : (w : World) (o : Owner) (x : NodeWord) → part_refusal (part_of w o) (Command.attach x) ≡ None → IsThere w o → Invariant false w →
     IsPeopled w → IsPeopled (perform w o (Command.attach x)).0
 peopled-attach_of w o x r h q i = peopled-attaching w o (named (part_of w o) x) (attach-may w o x r) (owner-named (part_of w o) x ∙ owner-part_of w o) h q i
 
@@ -115,7 +115,7 @@ peopled-effect w o (tables p lines v) h base i = peopled-with_part w p o (base.0
 peopled-effect w o (changes steps v) h base i = peopled-world_after o steps w h i
 
 -- every accepted command
-peopled-perform : (w : World) (o : Owner) (c : Command) → IsThere w o → part_refusal (part_of w o) c ≡ None → IsSound false w → IsPeopled w →
+peopled-perform : (w : World) (o : Owner) (c : Command) → IsThere w o → part_refusal (part_of w o) c ≡ None → Invariant false w → IsPeopled w →
     IsPeopled (perform w o c).0
 peopled-perform w o (Command.attach x) h g q i = peopled-attach_of w o x g h q i
 peopled-perform w o (Command.connected x) h g q i = i
@@ -139,14 +139,14 @@ there-opening w o h = either_way (λ v. IsThere v o) (is_some w.turn) w (record 
 
 -- with that turn
 peopled-accepted : (w : World) (o : Owner) (c : Command) → (o ≡ Page → IsPageTime w) → IsThere w o → part_refusal (part_of w o) c ≡ None →
-    IsSound false w → IsPeopled w → IsPeopled (accepted w o c).0
+    Invariant false w → IsPeopled w → IsPeopled (accepted w o c).0
 peopled-accepted w o Command.end_turn t h g q i = peopled-ending_turn w q i
 peopled-accepted w o c t h r q i =
     peopled-perform (opening_turn w o) o c (there-opening w o h) (ap (λ p. part_refusal p c) (part_of-opening w o o) ∙ r) (quiet-opening w q o t)
     (peopled-opening w o h i)
 
 -- Lines.
-peopled-command : (w : World) (o : Owner) (c : Command) → (o ≡ Page → IsPageTime w) → IsSound false w → IsPeopled w → IsPeopled (run_command o c w).0
+peopled-command : (w : World) (o : Owner) (c : Command) → (o ≡ Page → IsPageTime w) → Invariant false w → IsPeopled w → IsPeopled (run_command o c w).0
 peopled-command w o c t q i = from (refusal w o c) refl
   where
     from : (r : Option Refusal) → refusal w o c ≡ r → IsPeopled (unless_refused o (refusal w o c) w (accepted w o c)).0
@@ -155,7 +155,7 @@ peopled-command w o c t q i = from (refusal w o c) refl
         (peopled-accepted w o c t a.there a.part q i)
 
 -- a line keeps who is there
-pub peopled-step : (w : World) (l : Line) → IsSound false w → IsPeopled w → IsPeopled (step w l).0
+pub peopled-step : (w : World) (l : Line) → Invariant false w → IsPeopled w → IsPeopled (step w l).0
 peopled-step w no_owner q i = i
 peopled-step w (no_command o) q i = peopled-ending_other w o q i
 peopled-step w (command o c) q i =

@@ -17,9 +17,9 @@ use Rattle.dom_model.specs.Turns.{ending_other_turn}
 use Rattle.dom_model.specs.World.{World, Task, micro_task, notify_task, part_of, with_part, trees_with, ancestors_at}
 use Rattle.dom_model.specs.World.{host_chain}
 use Rattle.dom_model.proofs.PartLaws.{owner-part_of}
-use Rattle.dom_worlds.specs.Reached.{IsSound}
+use Rattle.dom_worlds.specs.Reached.{Invariant}
 use Rattle.dom_worlds.specs.Worlds.{IsWorld, times_in, owners_in, IsThere, task_owner}
-use Rattle.dom_worlds.proofs.Alike.{there-with_part}
+use Rattle.dom_worlds.proofs.SameInvariant.{there-with_part}
 use Rattle.dom_worlds.proofs.Lists.{all-append, all-filter, all-then, all-flat_map, all-map, all-take_while, all-reverse, all-from}
 use Rattle.dom_worlds.proofs.Tests.{either_way}
 use Rattle.dom_worlds.proofs.Owners.{owners-put, node-there}
@@ -124,13 +124,13 @@ people-dispatch w i x related e = people-visits e (visits_of name_eq e.bubbles (
 -- Notifications and the endings of turns.
 module _ {only_log : Bool} where
   -- the events at slots
-  peopled-firings : (ss : List NodeName) (w : World) → IsSound only_log w → IsPeopled w → IsPeopled (run_each firing_slotchange w ss).0
+  peopled-firings : (ss : List NodeName) (w : World) → Invariant only_log w → IsPeopled w → IsPeopled (run_each firing_slotchange w ss).0
   peopled-firings [] w q i = i
   peopled-firings (s ∷ ss) w q i = peopled-firings ss (firing_slotchange w s).0 (quiet-dispatch w s None slotchange q)
       (peopled-dispatch w q.world s None slotchange i)
 
   -- a task
-  peopled-running : (w : World) (t : Task) → IsThere w (task_owner t) → IsSound only_log w → IsPeopled w → IsPeopled (running_task w t).0
+  peopled-running : (w : World) (t : Task) → IsThere w (task_owner t) → Invariant only_log w → IsPeopled w → IsPeopled (running_task w t).0
   peopled-running w (micro_task o label) h q i = i
   peopled-running w (notify_task o) h q i =
       let base = without_signals w o in
@@ -157,7 +157,7 @@ stays-running w (notify_task o) a h =
 
 module _ {only_log : Bool} where
   -- all tasks
-  peopled-running_all : (ts : List Task) (w : World) → AllByRecursion (λ t. IsThere w (task_owner t)) ts → IsSound only_log w → IsPeopled w →
+  peopled-running_all : (ts : List Task) (w : World) → AllByRecursion (λ t. IsThere w (task_owner t)) ts → Invariant only_log w → IsPeopled w →
       IsPeopled (run_each running_task w ts).0
   peopled-running_all [] w h q i = i
   peopled-running_all (t ∷ ts) w h q i =
@@ -166,11 +166,11 @@ module _ {only_log : Bool} where
       (λ u k. stays-running w t (task_owner u) k) ts h.1) (quiet-running w q t) (peopled-running w t h.0 q i)
 
   -- the ending of a turn
-  pub peopled-ending_turn : (w : World) → IsSound only_log w → IsPeopled w → IsPeopled (ending_turn w).0
+  pub peopled-ending_turn : (w : World) → Invariant only_log w → IsPeopled w → IsPeopled (ending_turn w).0
   peopled-ending_turn w q i =
       let calm : World = record w { tasks = []; turn = None } in
       peopled-running_all w.tasks calm i.owners.tasks (quiet-at_end w q) (same-people calm w (refl, λ x. refl) tt tt i.owners.signalled i)
 
   -- of another component's turn
-  pub peopled-ending_other : (w : World) (o : Owner) → IsSound only_log w → IsPeopled w → IsPeopled (ending_other_turn w o).0
+  pub peopled-ending_other : (w : World) (o : Owner) → Invariant only_log w → IsPeopled w → IsPeopled (ending_other_turn w o).0
   peopled-ending_other w o q i = either_way (λ (r : Run World). IsPeopled r.0) (has_other_turn w o) (ending_turn w) (quiet w) (peopled-ending_turn w q i) i

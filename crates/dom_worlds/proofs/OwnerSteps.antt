@@ -20,7 +20,7 @@ use Rattle.dom_model.proofs.PartLaws.{owner-part_of}
 use Rattle.dom_model.proofs.StepLaws.{owner-part_step}
 use Rattle.dom_worlds.specs.Reached.{IsReached}
 use Rattle.dom_worlds.specs.Worlds.{owners_in, IsThere, task_owner, components_of, is_made_by, is_unmade, HasMakers, HasOwners}
-use Rattle.dom_worlds.proofs.Alike.{host_of-same, there-with_part}
+use Rattle.dom_worlds.proofs.SameInvariant.{host_of-same, there-with_part}
 use Rattle.dom_worlds.proofs.Lists.{all-append, all-passed, all-distinct, all-then, all-flat_map}
 use Rattle.dom_worlds.proofs.Makers.{makers-same, component-host, hosted-is}
 use Rattle.dom_worlds.proofs.Tests.{by_cases, either_way}

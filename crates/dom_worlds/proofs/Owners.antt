@@ -17,7 +17,7 @@ use Rattle.dom_worlds.specs.Worlds.{times_in, components_of, is_made_by, is_unma
 use Rattle.dom_worlds.proofs.Lists.{get-below, get-there}
 use Rattle.dom_worlds.proofs.Makers.{hosted, host_of-made}
 use Rattle.dom_worlds.proofs.Tests.{by_cases, which_way, or-later, or-first, or-second, or-neither, or-earlier}
-use Rattle.dom_model.specs.Command.{Spelled, own, foreign}
+use Rattle.dom_model.specs.Command.{NodeWord, own, foreign}
 use Rattle.dom_model.specs.CommandNames.{named}
 
 -- whether a list of owners has one
@@ -236,6 +236,6 @@ once-in w makers i = once-of (owners_in w) by_maker
     by_maker (Some o) = subst AreOnce (sym (i.made o)) (made o (length (part_of w o).attached) refl)
 
 -- a node that is named is the owner's
-pub owner-named : (p : Part) (x : Spelled) → (named p x).owner ≡ p.owner
+pub owner-named : (p : Part) (x : NodeWord) → (named p x).owner ≡ p.owner
 owner-named p (own k) = refl
 owner-named p foreign = refl

@@ -18,7 +18,7 @@ use Rattle.dom_model.specs.Changes.{removing_from, has_document, changing_docume
 use Rattle.dom_model.specs.Changes.{placing, sibling_before, inserting_nodes, inserting}
 use Rattle.dom_model.proofs.OwnerLaws.{name_eq-same}
 use Rattle.dom_worlds.specs.Worlds.{IsPart}
-use Rattle.dom_worlds.proofs.Kids.{kids, one_at, kids-placed, kids-map_nodes}
+use Rattle.dom_worlds.proofs.ChildCounts.{kids, one_at, kids-placed, kids-map_nodes}
 use Rattle.dom_worlds.proofs.NodesRead.{node-taken_out, node-placed, node-map_nodes}
 use Rattle.dom_worlds.proofs.Lists.{all-then}
 use Rattle.dom_worlds.proofs.PartSteps.{some-keeps}
@@ -27,14 +27,14 @@ use Rattle.dom_worlds.proofs.PlanPlaces.{MayGo, may-still, still, taken-step, te
 use Rattle.dom_worlds.proofs.PlanPlaces.{emptied_of, leads-then, leads-eased, leads-each, leads-removing, leads-adopting, leads-placing}
 use Rattle.dom_worlds.proofs.PlanPlaces.{leads-emptied, leads-making_room, placed-may}
 use Rattle.dom_worlds.proofs.ReachedFacts.{root-alone}
-use Rattle.dom_worlds.proofs.TableSteps.{There}
+use Rattle.dom_worlds.proofs.TableSteps.{HasNode}
 use Rattle.dom_worlds.proofs.Tests.{either_way}
 use Rattle.dom_worlds.proofs.TreeChangeLaws.{HasRoot, root-placed, root-map_nodes}
 use Rattle.dom_worlds.proofs.Trees.{all-both}
 
 -- Texts stay where no data are replaced.
 abbrev pub SameTexts : Part → Part → Type 0
-SameTexts p q = (y : NodeName) → There p y → (node_in q.trees y).text ≡ (node_in p.trees y).text
+SameTexts p q = (y : NodeName) → HasNode p y → (node_in q.trees y).text ≡ (node_in p.trees y).text
 
 -- of removals
 texts-removing : (how : Observing) (x : NodeName) (p : Part) → IsPart p → SameTexts p (after p (removing how x p))
@@ -49,7 +49,7 @@ texts-removing how x p i y t = from (parent_of p.trees x) refl
         ∙ ap (λ (n : Node). n.text) (node-taken_out p.trees x y i.unique t)
 
 -- of one after another
-texts-then : (p : Part) (xs ys : List Step) → ((y : NodeName) → There p y → There (after p xs) y) → SameTexts p (after p xs) →
+texts-then : (p : Part) (xs ys : List Step) → ((y : NodeName) → HasNode p y → HasNode (after p xs) y) → SameTexts p (after p xs) →
     SameTexts (after p xs) (after (after p xs) ys) → SameTexts p (after p (xs ++ ys))
 texts-then p xs ys s a b y t = ap (λ (q : Part). (node_in q.trees y).text) (after-append p xs ys) ∙ b y (s y t) ∙ a y t
 
@@ -249,7 +249,7 @@ texts-inserting how node parent before p i m =
     let c = leads-each spot (MayGo parent) (placing parent before) (leads-placing parent before) (may-still parent) moved r ab.changed.part n in
     let abc = leads-then spot p (one ++ two) three ab c in
     let s = after p ((one ++ two) ++ three) in
-    either_way (λ steps. (y : NodeName) → There p y → (node_in (after p steps).trees y).text ≡ (node_in p.trees y).text) (is_empty moved) []
+    either_way (λ steps. (y : NodeName) → HasNode p y → (node_in (after p steps).trees y).text ≡ (node_in p.trees y).text) (is_empty moved) []
     (inserting_nodes how node moved parent before p) (λ y t. refl)
     (texts-then p ((one ++ two) ++ three) told (λ y. still abc.changed y)
     (texts-then p (one ++ two) three (λ y. still ab.changed y)
@@ -261,7 +261,7 @@ texts-inserting how node parent before p i m =
     unmoved None count q = refl
     unmoved (Some child) count q = refl
 
-    emptied : (b : Bool) (moved : List NodeName) → (y : NodeName) → There p y →
+    emptied : (b : Bool) (moved : List NodeName) → (y : NodeName) → HasNode p y →
         (node_in (after p ((if b then emptying node moved else steps_of []) p)).trees y).text ≡ (node_in p.trees y).text
     emptied false moved y t = refl
     emptied true moved y t =

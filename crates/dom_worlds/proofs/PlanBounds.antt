@@ -20,12 +20,12 @@ use Rattle.dom_model.specs.TextChanges.{replacing_data}
 use Rattle.dom_worlds.specs.Worlds.{IsPart}
 use Rattle.dom_worlds.proofs.Bounds.{nowhere, at_node, HasRoom, room-more, room-place, room-document, room-attribute, room-record, room-made}
 use Rattle.dom_worlds.proofs.Bounds.{room-take, room-replace}
-use Rattle.dom_worlds.proofs.Kids.{one_at}
+use Rattle.dom_worlds.proofs.ChildCounts.{one_at}
 use Rattle.dom_worlds.proofs.Lists.{all-then}
 use Rattle.dom_worlds.proofs.PlanPlaces.{Changed, Leads, MayGo, may-still, still, root-adopting, after-append}
 use Rattle.dom_worlds.proofs.PlanPlaces.{emptied_of, leads-then, leads-eased, leads-one, leads-removing, leads-adopting, leads-placing}
 use Rattle.dom_worlds.proofs.PlanPlaces.{leads-emptied, leads-making_room, placed-may}
-use Rattle.dom_worlds.proofs.TableSteps.{There}
+use Rattle.dom_worlds.proofs.TableSteps.{HasNode}
 use Rattle.dom_worlds.proofs.Tests.{by_cases, either_way}
 
 -- Steps after steps.
@@ -73,7 +73,7 @@ abbrev pub IsOpen : Part → NodeName → Type 0
 IsOpen p x = has_data (kind_of p.trees x) ≡ false
 
 -- it stays so
-pub open-still : {spot : Option NodeName} {p q : Part} → Changed spot p q → (x : NodeName) → There p x → IsOpen p x → IsOpen q x
+pub open-still : {spot : Option NodeName} {p q : Part} → Changed spot p q → (x : NodeName) → HasNode p x → IsOpen p x → IsOpen q x
 open-still c x t k = ap has_data (c.kinds x t) ∙ k
 
 -- a node is adopted and placed: it takes its room
@@ -90,7 +90,7 @@ room-placing d e parent before p x i m k more h =
 
 -- all that are to be placed
 room-each : (parent : NodeName) (before : Option NodeName) (xs : List NodeName) (p : Part) → IsPart p → AllByRecursion (MayGo parent p) xs →
-    IsOpen p parent → HasRoom (at_node parent (length xs)) p → There p parent → HasRoom nowhere (after p (in_turn (placing parent before) xs p))
+    IsOpen p parent → HasRoom (at_node parent (length xs)) p → HasNode p parent → HasRoom nowhere (after p (in_turn (placing parent before) xs p))
 room-each parent before [] p i m k h t =
     room-more (at_node parent 0) nowhere p (λ y. either_way (λ (n : ℕ). n ≤ 0) (name_eq parent y) 0 0 (omega arith) (omega arith)) h
 room-each parent before (x ∷ xs) p i m k h t =

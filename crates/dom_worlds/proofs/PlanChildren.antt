@@ -17,9 +17,9 @@ use Rattle.dom_model.specs.Changes.{sibling_before, inserting_nodes, inserting}
 use Rattle.dom_model.specs.TextChanges.{replacing_data}
 use Rattle.dom_model.proofs.OwnerLaws.{name_eq-same}
 use Rattle.dom_worlds.specs.Worlds.{IsPart}
-use Rattle.dom_worlds.proofs.Childs.{childs, childs-taken_out, childs-placed, child-placed, childs-with_node, childs-map_nodes, childs-parent}
-use Rattle.dom_worlds.proofs.Childs.{children-childs}
-use Rattle.dom_worlds.proofs.Kids.{root-below}
+use Rattle.dom_worlds.proofs.ChildPairs.{childs, childs-taken_out, childs-placed, child-placed, childs-with_node, childs-map_nodes, childs-parent}
+use Rattle.dom_worlds.proofs.ChildPairs.{children-childs}
+use Rattle.dom_worlds.proofs.ChildCounts.{root-below}
 use Rattle.dom_worlds.proofs.Lists.{all-then}
 use Rattle.dom_worlds.proofs.PartSteps.{some-keeps}
 use Rattle.dom_worlds.proofs.PlanPlaces.{MayGo, may-still, taken-step, telling-trees, after-append, emptied_of, leads-then, leads-eased}

@@ -30,7 +30,7 @@ use Rattle.dom_worlds.proofs.PartSteps.{next-absent}
 use Rattle.dom_worlds.proofs.KindLines.{has_node-times}
 use Rattle.dom_worlds.proofs.Plans.{AllWhole}
 use Rattle.dom_worlds.proofs.FitPieces.{fit-then, common_below, whole-pieces}
-use Rattle.dom_worlds.proofs.TableSteps.{There}
+use Rattle.dom_worlds.proofs.TableSteps.{HasNode}
 use Rattle.dom_worlds.proofs.TableRecords.{IfSome, last-all, tables-after, all-get}
 use Rattle.dom_worlds.proofs.Insides.{inside, inside-times}
 use Rattle.dom_worlds.proofs.InsideAncestors.{parent-there}
@@ -39,16 +39,16 @@ use Rattle.dom_worlds.proofs.PlanPlaces.{leads-nothing, leads-one, leads-if, lea
 use Rattle.dom_worlds.proofs.PlanChildren.{IsChild, child-parent}
 use Rattle.dom_worlds.proofs.PlanRoots.{StartsBy, SparesAll, starts-after, spares-removing, spares-inserting, spares-splitting}
 use Rattle.dom_worlds.proofs.Roots.{root-parent_of}
-use Rattle.dom_worlds.proofs.Childs.{children-childs}
+use Rattle.dom_worlds.proofs.ChildPairs.{children-childs}
 use Rattle.dom_worlds.proofs.PlanTexts.{leads-plan, leads-replacing_data, new-there, new-may, leads-splitting, leads-removals}
 
 -- Extraction. A node from before, in whose tree no newer node stands.
 pub record OldIn (count : ℕ) (p : Part) (x : NodeName) : Type 0 where
-  pub there : There p x
+  pub there : HasNode p x
   pub alone : (z : NodeName) → count ≤ z.number → inside p.trees x z ≡ 0
 
 -- below a newer node it may go
-pub old-may : (count : ℕ) (p : Part) (x into : NodeName) → IsPart p → OldIn count p x → There p into → count ≤ into.number → MayGo into p x
+pub old-may : (count : ℕ) (p : Part) (x into : NodeName) → IsPart p → OldIn count p x → HasNode p into → count ≤ into.number → MayGo into p x
 old-may count p x into i o t c = record { there = o.there; owner = i.owned x o.there; below = t; apart = o.alone into c }
 
 -- it stays such where others are placed below a newer node
@@ -72,7 +72,7 @@ changed-inner into new p q r absent c d =
     }
 
 -- a new node below another one
-pub leads-making_below : (into : NodeName) (n : Node) (p : Part) → n.name ≡ next_name p → IsPart p → There p into → Leads (Some into) p (making_below into n p)
+pub leads-making_below : (into : NodeName) (n : Node) (p : Part) → n.name ≡ next_name p → IsPart p → HasNode p into → Leads (Some into) p (making_below into n p)
 leads-making_below into n p e i t =
     let spot = Some into in
     let first = leads-one p (make n) i tt in
@@ -81,7 +81,7 @@ leads-making_below into n p e i t =
     (subst (MayGo into (part_step p (make n))) (sym e) (new-may p n into i t)))
 
 -- pieces that are taken into a newer node
-pub leads-taking : (count : ℕ) (pieces : Pieces) (into : NodeName) (p : Part) → IsPart p → count ≤ p.node_count → There p into →
+pub leads-taking : (count : ℕ) (pieces : Pieces) (into : NodeName) (p : Part) → IsPart p → count ≤ p.node_count → HasNode p into →
     count ≤ into.number → AllWhole (OldIn count p) pieces → Leads (Some into) p (taking into pieces p)
 leads-taking count nothing into p i k t h o = leads-nothing (Some into) p i
 leads-taking count (whole x rest) into p i k t h o =
@@ -102,7 +102,7 @@ leads-taking count (clone x inner rest) into p i k t h o =
     let a = leads-making_below into n p refl i t in
     let q = after p one in
     let two = taking new inner q in
-    let new_there : There q new = new-made in
+    let new_there : HasNode q new = new-made in
     let b = leads-taking count inner new q a.changed.part (let g = a.changed.count in omega arith) new_there k
     (whole-then (OldIn count p) (OldIn count q) (old-still count into p q h a.changed) inner o.1) in
     let both = leads-both into new p one two (next-absent p i) a b in
@@ -111,7 +111,7 @@ leads-taking count (clone x inner rest) into p i k t h o =
     (leads-taking count rest into r both.changed.part (let g = both.changed.count in omega arith) (still both.changed into t) h
     (whole-then (OldIn count p) (OldIn count r) (old-still count into p r h both.changed) rest o.2))
   where
-    new-made : There (after p (making_below into (with_name (next_name p) (node_in p.trees x)) p)) (next_name p)
+    new-made : HasNode (after p (making_below into (with_name (next_name p) (node_in p.trees x)) p)) (next_name p)
     new-made =
         let n = with_name (next_name p) (node_in p.trees x) in
         let first = leads-one p (make n) i tt in
@@ -127,7 +127,7 @@ leads-taking count (clone x inner rest) into p i k t h o =
         }
 
 -- nodes that are there are old
-pub old-there : (p : Part) → IsPart p → (x : NodeName) → There p x → OldIn p.node_count p x
+pub old-there : (p : Part) → IsPart p → (x : NodeName) → HasNode p x → OldIn p.node_count p x
 old-there p i x t =
     record {
       there = t;
@@ -136,41 +136,41 @@ old-there p i x t =
     }
 
 -- the pieces of a range
-pub pieces-there : (p : Part) (range : Range NodeName) → There p range.start.node → AllWhole (There p) (pieces_of p.trees range)
+pub pieces-there : (p : Part) (range : Range NodeName) → HasNode p range.start.node → AllWhole (HasNode p) (pieces_of p.trees range)
 pieces-there p range t =
     let ts = p.trees in
     let top = subtree ts (common_ancestor ts range) in
-    whole-pieces (There p) ts range (λ e. t)
-    (nodes-named (There p) (common_below ts range)
+    whole-pieces (HasNode p) ts range (λ e. t)
+    (nodes-named (HasNode p) (common_below ts range)
     (λ y h. let a = times-below top y in let b = times-subtree ts (common_ancestor ts range) y in omega arith))
 
 -- a node, or another one
-or-there : (p : Part) (o : Option NodeName) (x : NodeName) → IfSome (There p) o → There p x → There p (unwrap_or o x)
+or-there : (p : Part) (o : Option NodeName) (x : NodeName) → IfSome (HasNode p) o → HasNode p x → HasNode p (unwrap_or o x)
 or-there p None x h g = g
 or-there p (Some y) x h g = h
 
 -- a parent, if there is one
-pub parent-if : (p : Part) (x : NodeName) → IfSome (There p) (parent_of p.trees x)
+pub parent-if : (p : Part) (x : NodeName) → IfSome (HasNode p) (parent_of p.trees x)
 parent-if p x = from (parent_of p.trees x) refl
   where
-    from : (o : Option NodeName) → parent_of p.trees x ≡ o → IfSome (There p) o
+    from : (o : Option NodeName) → parent_of p.trees x ≡ o → IfSome (HasNode p) o
     from None e = tt
     from (Some y) e = parent-there p.trees x y e
 
 -- where a range stands afterwards
-pub place-there : (p : Part) (range : Range NodeName) → There p range.start.node → There p (new_place p.trees range).node
+pub place-there : (p : Part) (range : Range NodeName) → HasNode p range.start.node → HasNode p (new_place p.trees range).node
 place-there p range t =
     let ts = p.trees in
     let above = filter (λ a. not (is_inclusive_ancestor ts a range.end.node)) (inclusive_ancestors ts range.start.node) in
     let x = unwrap_or (last_of above) range.start.node in
-    let there : There p x = or-there p (last_of above) range.start.node
-    (last-all (There p) above (all-filter (There p) (λ a. not (is_inclusive_ancestor ts a range.end.node))
+    let there : HasNode p x = or-there p (last_of above) range.start.node
+    (last-all (HasNode p) above (all-filter (HasNode p) (λ a. not (is_inclusive_ancestor ts a range.end.node))
     (inclusive_ancestors ts range.start.node) (ancestors-there ts range.start.node))) t in
-    either_way (λ (b : Boundary NodeName). There p b.node) (is_inclusive_ancestor ts range.start.node range.end.node) range.start
+    either_way (λ (b : Boundary NodeName). HasNode p b.node) (is_inclusive_ancestor ts range.start.node range.end.node) range.start
     (behind_node ts x) t (or-there p (parent_of ts x) x (parent-if p x) there)
 
 -- an extraction
-pub leads-extracting : (k : ℕ) (range : Range NodeName) (p : Part) → IsPart p → There p range.start.node → Leads (Some (next_name p)) p (extracting k range p)
+pub leads-extracting : (k : ℕ) (range : Range NodeName) (p : Part) → IsPart p → HasNode p range.start.node → Leads (Some (next_name p)) p (extracting k range p)
 leads-extracting k range p i t =
     let into = next_name p in
     let spot = Some into in
@@ -181,7 +181,7 @@ leads-extracting k range p i t =
     leads-plan spot (doing (make fragment) and_then taking into (pieces_of p.trees range)) (doing last) p
     (leads-then spot p (make fragment ∷ []) (taking into (pieces_of p.trees range) q) (leads-eased spot p (make fragment ∷ []) first)
     (leads-taking p.node_count (pieces_of p.trees range) into q first.changed.part first.changed.count (new-there p fragment) (omega arith)
-    (whole-then (There p) (OldIn p.node_count q) (λ x h. old-eased p q first.changed x (old-there p i x h)) (pieces_of p.trees range)
+    (whole-then (HasNode p) (OldIn p.node_count q) (λ x h. old-eased p q first.changed x (old-there p i x h)) (pieces_of p.trees range)
     (pieces-there p range t))))
     (λ r c. let there = still c (new_place p.trees range).node (place-there p range t) in leads-eased spot r (last ∷ [])
     (leads-one r last c.part (there, there, refl)))
@@ -213,7 +213,7 @@ leads-contents ts range p i = from (is_in_one_data ts range)
         (λ q c. leads-cutting ts range range.end.node q c.part)
 
 -- a deletion
-pub leads-deleting : (k : ℕ) (range : Range NodeName) (p : Part) → IsPart p → There p range.start.node → Leads None p (deleting k range p)
+pub leads-deleting : (k : ℕ) (range : Range NodeName) (p : Part) → IsPart p → HasNode p range.start.node → Leads None p (deleting k range p)
 leads-deleting k range p i t =
     let last = set_range k (both_at (new_place p.trees range)) in
     leads-if None p (is_collapsed name_eq range) [] ((deleting_contents p.trees range and_then doing last) p) (leads-nothing None p i)
@@ -221,11 +221,11 @@ leads-deleting k range p i t =
     (λ q c. let there = still c (new_place p.trees range).node (place-there p range t) in leads-one q last c.part (there, there, refl)))
 
 -- Insertion into a range: its ends are there in the part in which it is looked up.
-pub range-ends : (p : Part) (k : ℕ) → HasTables p → (range : Range NodeName) → range_at p k ≡ Some range → There p range.start.node × There p range.end.node
+pub range-ends : (p : Part) (k : ℕ) → HasTables p → (range : Range NodeName) → range_at p k ≡ Some range → HasNode p range.start.node × HasNode p range.end.node
 range-ends p k h range e = each p.ranges k h.ranges e
   where
     each : (rs : List (Option (Range NodeName))) (k : ℕ) → AllByRecursion (EndsIn p.trees) rs → option_flatten (slice_get rs k) ≡ Some range →
-        There p range.start.node × There p range.end.node
+        HasNode p range.start.node × HasNode p range.end.node
     each [] k g e = cc
     each (None ∷ rs) zero g e = cc
     each (Some r ∷ rs) zero g e =
@@ -236,7 +236,7 @@ range-ends p k h range e = each p.ranges k h.ranges e
     each (r ∷ rs) (suc k) g e = each rs k g.1 e
 
 -- a collapsed range that gets its end
-leads-ending_at : (k : ℕ) (b : Boundary NodeName) (p : Part) → IsPart p → HasTables p → There p b.node → StartsBy k b.node p → Leads None p (ending_at k b p)
+leads-ending_at : (k : ℕ) (b : Boundary NodeName) (p : Part) → IsPart p → HasTables p → HasNode p b.node → StartsBy k b.node p → Leads None p (ending_at k b p)
 leads-ending_at k b p i h t s = from (range_at p k) refl s
   where
     from : (a : Option (Range NodeName)) → range_at p k ≡ a →

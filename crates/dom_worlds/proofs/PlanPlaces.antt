@@ -22,7 +22,7 @@ use Rattle.dom_worlds.proofs.TreeChangeLaws.{HasRoot, root-put_root_new, root-su
 use Rattle.dom_worlds.proofs.Trees.{times-subtree, name_eq-true}
 use Rattle.dom_worlds.proofs.PartSteps.{KeepsNames, some-keeps, attribute-keeps, part-step, next-absent}
 use Rattle.dom_worlds.proofs.NodeKinds.{count-grows}
-use Rattle.dom_worlds.proofs.TableSteps.{There, Fits, MadeIn, stays-step}
+use Rattle.dom_worlds.proofs.TableSteps.{HasNode, Fits, MadeIn, stays-step}
 use Rattle.dom_worlds.proofs.Insides.{inside, inside-taken_out, inside-placed, inside-with_node, inside-map_nodes, times-inside}
 use Rattle.dom_worlds.proofs.InsideAncestors.{inside-nested}
 use Rattle.dom_worlds.proofs.InsideAncestors.{children-inside, no_parent-root}
@@ -39,16 +39,16 @@ pub record Changed (spot : Option NodeName) (p q : Part) : Type 0 where
   pub part : IsPart q
   pub count : p.node_count ≤ q.node_count
   pub there : (y : NodeName) → times_in p.trees y ≤ times_in q.trees y
-  pub apart : (a z : NodeName) → There p a → ApartFrom spot p a → inside p.trees a z ≡ 0 → inside q.trees a z ≡ 0
-  pub kinds : (y : NodeName) → There p y → kind_of q.trees y ≡ kind_of p.trees y
+  pub apart : (a z : NodeName) → HasNode p a → ApartFrom spot p a → inside p.trees a z ≡ 0 → inside q.trees a z ≡ 0
+  pub kinds : (y : NodeName) → HasNode p y → kind_of q.trees y ≡ kind_of p.trees y
 
 -- what is apart from the place stays so
-stays-apart : (spot : Option NodeName) (p q : Part) → Changed spot p q → (a : NodeName) → There p a → ApartFrom spot p a → ApartFrom spot q a
+stays-apart : (spot : Option NodeName) (p q : Part) → Changed spot p q → (a : NodeName) → HasNode p a → ApartFrom spot p a → ApartFrom spot q a
 stays-apart None p q c a t h = tt
 stays-apart (Some x) p q c a t h = c.apart a x t h h
 
 -- a node that is there stays there
-pub still : {spot : Option NodeName} {p q : Part} → Changed spot p q → (a : NodeName) → There p a → There q a
+pub still : {spot : Option NodeName} {p q : Part} → Changed spot p q → (a : NodeName) → HasNode p a → HasNode q a
 still c a h = let t = c.there a in omega arith
 
 -- no change, and one change after another
@@ -81,7 +81,7 @@ mapped-apart : (f : Node → Node) → KeepsNames f → (ts : Trees) (a z : Node
 mapped-apart f h ts a z e = inside-map_nodes f (λ n. (h n).0) ts a z ∙ e
 
 -- a step
-apart-step : (p : Part) (s : Step) → IsPart p → (a z : NodeName) → There p a → ApartFrom (spot_of s) p a → inside p.trees a z ≡ 0 →
+apart-step : (p : Part) (s : Step) → IsPart p → (a z : NodeName) → HasNode p a → ApartFrom (spot_of s) p a → inside p.trees a z ≡ 0 →
     inside (part_step p s).trees a z ≡ 0
 apart-step p (make n) i a z t h e =
     by_cases (name_eq (next_name p) a)
@@ -109,7 +109,7 @@ mapped-kind : (f : Node → Node) → KeepsNames f → (ts : Trees) (y : NodeNam
 mapped-kind f h ts y t = ap (λ (n : Node). n.kind) (node-map_nodes f (λ n. (h n).0) ts y t) ∙ (h (node_in ts y)).1
 
 -- under a step
-kind-step : (p : Part) (s : Step) → IsPart p → Fits p s → (y : NodeName) → There p y → kind_of (part_step p s).trees y ≡ kind_of p.trees y
+kind-step : (p : Part) (s : Step) → IsPart p → Fits p s → (y : NodeName) → HasNode p y → kind_of (part_step p s).trees y ≡ kind_of p.trees y
 kind-step p (make n) i h y t =
     by_cases (name_eq (next_name p) y)
     (λ k. absurd (let b = next-absent p i in let same = ap (times_in p.trees) (name_eq-true (next_name p) y k) in omega arith))
@@ -221,9 +221,9 @@ leads-adopting d x p i e =
 
 -- What may be placed below a node.
 pub record MayGo (parent : NodeName) (p : Part) (x : NodeName) : Type 0 where
-  pub there : There p x
+  pub there : HasNode p x
   pub owner : x.owner ≡ p.owner
-  pub below : There p parent
+  pub below : HasNode p parent
   pub apart : inside p.trees x parent ≡ 0
 
 -- it still may after other changes
@@ -241,7 +241,7 @@ telling-trees observed c p = refl
 telling-trees suppressed c p = refl
 
 -- one that leaves its parent becomes one
-pub root-removing : (how : Observing) (x : NodeName) (p : Part) → There p x → HasRoot (after p (removing how x p)).trees x
+pub root-removing : (how : Observing) (x : NodeName) (p : Part) → HasNode p x → HasRoot (after p (removing how x p)).trees x
 root-removing how x p t = from (parent_of p.trees x) refl
   where
     from : (o : Option NodeName) → parent_of p.trees x ≡ o → HasRoot (after p (option_map_or (removing_from how x p.trees) o [])).trees x
@@ -252,7 +252,7 @@ root-removing how x p t = from (parent_of p.trees x) refl
         (root-put_root_new x (subtree p.trees x) (without x p.trees) x (root-subtree p.trees x t))
 
 -- and stays one under another node document
-pub root-adopting : (d x : NodeName) (p : Part) → There p x → HasRoot (after p (adopting d x p)).trees x
+pub root-adopting : (d x : NodeName) (p : Part) → HasNode p x → HasRoot (after p (adopting d x p)).trees x
 root-adopting d x p t =
     let q = after p (removing observed x p) in
     let rooted = root-removing observed x p t in

@@ -29,7 +29,7 @@ use Rattle.dom_worlds.proofs.PlanPlaces.{MayGo, may-still, emptied_of, leads-eas
 use Rattle.dom_worlds.proofs.PlanPlaces.{leads-emptied, leads-making_room, placed-may}
 use Rattle.dom_worlds.proofs.PlanTexts.{new-may}
 use Rattle.dom_worlds.proofs.Roots.{KeepsRoots, roots-stay, roots-left}
-use Rattle.dom_worlds.proofs.TableSteps.{There, Fits, MadeIn, MovesIn, ancestors-step, stays-step, moves-insert, moves-removal, moves-data}
+use Rattle.dom_worlds.proofs.TableSteps.{HasNode, Fits, MadeIn, MovesIn, ancestors-step, stays-step, moves-insert, moves-removal, moves-data}
 use Rattle.dom_worlds.proofs.TableSteps.{moves-split, moves-join}
 use Rattle.dom_worlds.proofs.TableRecords.{IfSome, tables-step}
 use Rattle.dom_worlds.proofs.Tests.{either_way}
@@ -69,7 +69,7 @@ ends-at p k h = each p.ranges k h.ranges
     each (r ∷ rs) (suc k) g = each rs k g.1
 
 -- Other trees.
-starts-trees : (k : ℕ) (y : NodeName) (p : Part) (us : Trees) (count : ℕ) → KeepsRoots p.trees us → There p y → HasTables p → StartsBy k y p →
+starts-trees : (k : ℕ) (y : NodeName) (p : Part) (us : Trees) (count : ℕ) → KeepsRoots p.trees us → HasNode p y → HasTables p → StartsBy k y p →
     StartsBy k y (record p { trees = us; node_count = count })
 starts-trees k y p us count keeps t h s = from (range_at p k) (ends-at p k h) s
   where
@@ -100,7 +100,7 @@ starts-ends k y p f m h s = starts-moved k y p p.trees f (λ b t e. (m b t).1 �
 
 -- where a node leaves
 starts-left : (k : ℕ) (y : NodeName) (p : Part) (x parent : NodeName) → IsPart p → parent_of p.trees x ≡ Some parent → inside p.trees x y ≡ 0 →
-    There p y → HasTables p → StartsBy k y p → StartsBy k y (leave p x parent)
+    HasNode p y → HasTables p → StartsBy k y p → StartsBy k y (leave p x parent)
 starts-left k y p x parent i e a t h s =
     let ts = p.trees in
     let v : IsUnique (taken_out x ts) = λ z. let o = i.unique z in let g = times-taken_out_all ts x z i.unique in omega arith in
@@ -110,7 +110,7 @@ starts-left k y p x parent i e a t h s =
     roots-left ts x i.unique v c y (has_node-times ts c m.0.0) t m.1 a (m.0.1 ∙ r)) h s
 
 -- A step.
-starts-step : (k : ℕ) (y : NodeName) (p : Part) (s : Step) → IsPart p → Fits p s → Spares y p s → There p y → HasTables p → StartsBy k y p →
+starts-step : (k : ℕ) (y : NodeName) (p : Part) (s : Step) → IsPart p → Fits p s → Spares y p s → HasNode p y → HasTables p → StartsBy k y p →
     StartsBy k y (part_step p s)
 starts-step k y p (make n) i f a t h g =
     starts-trees k y p (part_step p (make n)).trees (suc p.node_count)
@@ -150,7 +150,7 @@ starts-step k y p (set_range j r) i f a t h g = absurd a
 starts-step k y p (queue_record c) i f a t h g = g
 
 -- many steps
-pub starts-after : (k : ℕ) (y : NodeName) (p : Part) (steps : List Step) → IsPart p → MadeIn p steps → SparesAll y p steps → There p y →
+pub starts-after : (k : ℕ) (y : NodeName) (p : Part) (steps : List Step) → IsPart p → MadeIn p steps → SparesAll y p steps → HasNode p y →
     HasTables p → StartsBy k y p → StartsBy k y (after p steps)
 starts-after k y p [] i m a t h g = g
 starts-after k y p (s ∷ steps) i m a t h g =
@@ -239,7 +239,7 @@ spares-inserting how node parent before p i m =
         (spares-removals parent suppressed moved p i m) (tt, tt)
 
 -- a split of a Text below the node
-pub spares-splitting : (x : NodeName) (offset : ℕ) (p : Part) → IsPart p → There p x → SparesAll (unwrap_or (parent_of p.trees x) x) p (splitting x offset p)
+pub spares-splitting : (x : NodeName) (offset : ℕ) (p : Part) → IsPart p → HasNode p x → SparesAll (unwrap_or (parent_of p.trees x) x) p (splitting x offset p)
 spares-splitting x offset p i t = from (parent_of p.trees x) refl
   where
     tail : Node

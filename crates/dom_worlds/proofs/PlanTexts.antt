@@ -19,7 +19,7 @@ use Rattle.dom_model.specs.TextChanges.{replacing_data, new_text_node, replacing
 use Rattle.dom_model.specs.TextChanges.{normalizing_text, normalizing, replacing_children, setting_text}
 use Rattle.dom_model.proofs.OwnerLaws.{name_eq-same}
 use Rattle.dom_worlds.specs.Worlds.{times_in, IsPart}
-use Rattle.dom_worlds.proofs.Childs.{children-childs}
+use Rattle.dom_worlds.proofs.ChildPairs.{children-childs}
 use Rattle.dom_worlds.proofs.Lists.{all-dropped, all-then, all-from, all-map, all-filter, all-take_while}
 use Rattle.dom_worlds.proofs.NodesRead.{node-new}
 use Rattle.dom_worlds.proofs.PlanChildren.{IsChild, IsNot, parent-child, child-parent, child-make, child-inserting, child-inserted, child-replacing_data}
@@ -29,7 +29,7 @@ use Rattle.dom_worlds.proofs.Tests.{by_cases}
 use Rattle.dom_worlds.proofs.Trees.{times-here, times-subtree, name_eq-true, nodes-there}
 use Rattle.dom_worlds.proofs.TreeChangeLaws.{times-with_node}
 use Rattle.dom_worlds.proofs.PartSteps.{next-absent}
-use Rattle.dom_worlds.proofs.TableSteps.{There}
+use Rattle.dom_worlds.proofs.TableSteps.{HasNode}
 use Rattle.dom_worlds.proofs.Insides.{inside-new}
 use Rattle.dom_worlds.proofs.InsideAncestors.{parent-there, child-there}
 use Rattle.dom_worlds.proofs.PlanPlaces.{Changed, Leads, MayGo, may-still, still, after-append, leads-then, leads-eased, leads-nothing, leads-one}
@@ -88,18 +88,18 @@ leads-replacing_data x offset count new p i =
     leads-two p told change first (leads-one (part_step p told) change first.changed.part tt)
 
 -- New nodes.
-pub new-there : (p : Part) (n : Node) → There (part_step p (make n)) (next_name p)
+pub new-there : (p : Part) (n : Node) → HasNode (part_step p (make n)) (next_name p)
 new-there p n =
     let m = with_name (next_name p) n in
     let a = times-with_node m p.trees (next_name p) in let b = times-here m none none (next_name p) (name_eq-same (next_name p)) in omega arith
 
 -- the next name is not that of a node that is there
-pub next-not : (p : Part) → IsPart p → (x : NodeName) → There p x → name_eq (next_name p) x ≡ false
+pub next-not : (p : Part) → IsPart p → (x : NodeName) → HasNode p x → name_eq (next_name p) x ≡ false
 next-not p i x t = by_cases (name_eq (next_name p) x)
     (λ e. absurd (let a = next-absent p i in let same = ap (times_in p.trees) (name_eq-true (next_name p) x e) in omega arith)) (λ e. e)
 
 -- a new node may go below any other
-pub new-may : (p : Part) (n : Node) (parent : NodeName) → IsPart p → There p parent → MayGo parent (part_step p (make n)) (next_name p)
+pub new-may : (p : Part) (n : Node) (parent : NodeName) → IsPart p → HasNode p parent → MayGo parent (part_step p (make n)) (next_name p)
 new-may p n parent i t =
     let c = (leads-one p (make n) i tt).changed in
     record {
@@ -143,7 +143,7 @@ may-follow p n x parent i k e =
     }
 
 -- the tail
-pub leads-tail : (x : NodeName) (offset : ℕ) (new : NodeName) (o : Option NodeName) (q : Part) → IsPart q → There q new →
+pub leads-tail : (x : NodeName) (offset : ℕ) (new : NodeName) (o : Option NodeName) (q : Part) → IsPart q → HasNode q new →
     ((parent : NodeName) → o ≡ Some parent → MayFollow x parent q new) → Leads o q (placing_tail x offset new o q)
 leads-tail x offset new None q i t m = leads-nothing None q i
 leads-tail x offset new (Some parent) q i t m =
@@ -175,7 +175,7 @@ abbrev pub AreBeside : NodeName → NodeName → List NodeName → Trees → Typ
 AreBeside x parent ys us = (root_of us x ≡ root_of us parent) × AllByRecursion (λ y. root_of us x ≡ root_of us y) ys
 
 -- their joins
-pub leads-joins : (ts : Trees) (x parent : NodeName) (size : ℕ) (ys : List NodeName) (p : Part) → IsPart p → There p x →
+pub leads-joins : (ts : Trees) (x parent : NodeName) (size : ℕ) (ys : List NodeName) (p : Part) → IsPart p → HasNode p x →
     AreBeside x parent ys p.trees → Leads None p (joins ts x parent size ys)
 leads-joins ts x parent size [] p i t b = leads-nothing None p i
 leads-joins ts x parent size (y ∷ ys) p i t b =
@@ -207,7 +207,7 @@ leads-removals how xs p i = leads-each None (λ q (y : NodeName). ⊤) (removing
     (all-from (λ y. ⊤) (λ y. tt) xs)
 
 -- Texts that are joined
-leads-joining : (x parent : NodeName) (p : Part) → IsPart p → There p x → parent_of p.trees x ≡ Some parent →
+leads-joining : (x parent : NodeName) (p : Part) → IsPart p → HasNode p x → parent_of p.trees x ≡ Some parent →
     Leads None p (joining x parent (texts_after p.trees x) p)
 leads-joining x parent p i t e =
     let nexts = texts_after p.trees x in
@@ -221,7 +221,7 @@ leads-joining x parent p i t e =
     (λ q c. leads-removals observed nexts q c.part)
 
 -- a Text that is normalized
-pub leads-normalizing_text : (p : Part) (x : NodeName) → IsPart p → There p x → Leads None p (normalizing_text x p)
+pub leads-normalizing_text : (p : Part) (x : NodeName) → IsPart p → HasNode p x → Leads None p (normalizing_text x p)
 leads-normalizing_text p x i t =
     leads-if None p (length_of p.trees x == 0) (removing observed x p)
     (option_map_or (λ parent. if is_empty (texts_after p.trees x) then [] else joining x parent (texts_after p.trees x) p)
@@ -245,9 +245,9 @@ descend-there ts x =
 pub leads-normalizing : (x : NodeName) (p : Part) → IsPart p → Leads None p (normalizing x p)
 leads-normalizing x p i =
     let texts = filter (λ y. is_text (kind_of p.trees y)) (descendants p.trees x) in
-    leads-each None There normalizing_text leads-normalizing_text (λ q r y c t. still c y t) texts p i
-    (all-filter (There p) (λ y. is_text (kind_of p.trees y)) (descendants p.trees x)
-    (all-dropped (There p) (inclusive_descendants p.trees x) (descend-there p.trees x)))
+    leads-each None HasNode normalizing_text leads-normalizing_text (λ q r y c t. still c y t) texts p i
+    (all-filter (HasNode p) (λ y. is_text (kind_of p.trees y)) (descendants p.trees x)
+    (all-dropped (HasNode p) (inclusive_descendants p.trees x) (descend-there p.trees x)))
 
 -- Text content.
 leads-replaced : (x : NodeName) (p : Part) (made told : List Step) (old added : List NodeName) → Leads (Some x) p made →
@@ -275,7 +275,7 @@ pub leads-only_if : (b : Bool) (s : Step) (q : Part) → Leads None q (s ∷ [])
 leads-only_if b s q a i = leads-if None q b (s ∷ []) [] a (leads-nothing None q i)
 
 -- children that give way to a Text
-leads-replacing_children : (x : NodeName) (new : DomString) (p : Part) → IsPart p → There p x → Leads (Some x) p (replacing_children x new p)
+leads-replacing_children : (x : NodeName) (new : DomString) (p : Part) → IsPart p → HasNode p x → Leads (Some x) p (replacing_children x new p)
 leads-replacing_children x new p i t =
     let old = children_of p.trees x in
     let added : List NodeName = if is_empty new then [] else next_name p ∷ [] in
@@ -296,7 +296,7 @@ leads-replacing_children x new p i t =
     )
 
 -- text content
-pub leads-setting_text : (x : NodeName) (new : DomString) (p : Part) → IsPart p → There p x → Leads (Some x) p (setting_text x new p)
+pub leads-setting_text : (x : NodeName) (new : DomString) (p : Part) → IsPart p → HasNode p x → Leads (Some x) p (setting_text x new p)
 leads-setting_text x new p i t =
     leads-if (Some x) p (has_data (kind_of p.trees x)) (replacing_all_data x new p) (if is_document (kind_of p.trees x) then [] else replacing_children x new p)
     (leads-eased (Some x) p (replacing_all_data x new p) (leads-replacing_data x 0 (length_of p.trees x) new p i))

@@ -12,7 +12,7 @@ use Rattle.dom_model.specs.TextChanges.{replacing_data}
 use Rattle.dom_model.specs.Extract.{Pieces, nothing, whole, cut, clone, clone_part, making_below, taking}
 use Rattle.dom_worlds.specs.Worlds.{IsPart}
 use Rattle.dom_worlds.proofs.Bounds.{nowhere, HasRoom, room-make}
-use Rattle.dom_worlds.proofs.Childs.{childs-parent}
+use Rattle.dom_worlds.proofs.ChildPairs.{childs-parent}
 use Rattle.dom_worlds.proofs.InsideAncestors.{parent-there}
 use Rattle.dom_worlds.proofs.NodesRead.{node-new}
 use Rattle.dom_worlds.proofs.Lists.{all-then}
@@ -24,15 +24,15 @@ use Rattle.dom_worlds.proofs.PlanTexts.{new-there, next-not, new-may, leads-repl
 use Rattle.dom_worlds.proofs.PlanContents.{OldIn, old-may, old-still, whole-then, changed-inner, leads-making_below, leads-taking}
 use Rattle.dom_worlds.proofs.Plans.{AreFit, AllWhole}
 use Rattle.dom_worlds.proofs.FitPieces.{fit-then}
-use Rattle.dom_worlds.proofs.TableSteps.{There}
+use Rattle.dom_worlds.proofs.TableSteps.{HasNode}
 
 -- Extraction: pieces of data are of Texts and Comments, and other clones are not.
 abbrev pub IsData : Part → NodeName → Type 0
-IsData p x = There p x × (has_data (kind_of p.trees x) ≡ true)
+IsData p x = HasNode p x × (has_data (kind_of p.trees x) ≡ true)
 
 -- of other nodes
 abbrev pub IsOpenIn : Part → NodeName → Type 0
-IsOpenIn p x = There p x × IsOpen p x
+IsOpenIn p x = HasNode p x × IsOpen p x
 
 -- neither x nor its parent is taken whole
 abbrev pub Misses : List NodeName → NodeName → NodeName → Type 0
@@ -40,15 +40,15 @@ Misses xs y z = IsNot y z × AllByRecursion (λ x. IsNot x z) xs
 
 -- children that stay
 abbrev pub AreChildren : List NodeName → NodeName → Part → Type 0
-AreChildren xs y p = AllByRecursion (λ x. IsChild x y p) xs × There p y
+AreChildren xs y p = AllByRecursion (λ x. IsChild x y p) xs × HasNode p y
 
 -- all of them stay, where each does
-children-stay : (xs : List NodeName) (y : NodeName) (p q : Part) → There q y → ((x : NodeName) → IsChild x y p → IsChild x y q) →
+children-stay : (xs : List NodeName) (y : NodeName) (p q : Part) → HasNode q y → ((x : NodeName) → IsChild x y p → IsChild x y q) →
     AreChildren xs y p → AreChildren xs y q
 children-stay xs y p q t f h = (all-then (λ x. IsChild x y p) (λ x. IsChild x y q) f xs h.0, t)
 
 -- by what is missed
-children-missed : (xs : List NodeName) (y z : NodeName) (p q : Part) → There q y → Misses xs y z →
+children-missed : (xs : List NodeName) (y z : NodeName) (p q : Part) → HasNode q y → Misses xs y z →
     ((x : NodeName) → IsNot x z → IsChild x y p → IsChild x y q) → AreChildren xs y p → AreChildren xs y q
 children-missed [] y z p q t m f h = (tt, t)
 children-missed (x ∷ xs) y z p q t m f h =
@@ -57,18 +57,18 @@ children-missed (x ∷ xs) y z p q t m f h =
     let one = f x m.1.0 first.0.0 in ((one, rest.0), t)
 
 -- a child is there
-pub child-there_in : (p : Part) (x y : NodeName) → IsPart p → IsChild x y p → There p x
+pub child-there_in : (p : Part) (x y : NodeName) → IsPart p → IsChild x y p → HasNode p x
 child-there_in p x y i h = Rattle.dom_worlds.proofs.InsideAncestors.child-there p.trees x y (childs-parent p.trees x y i.unique h)
 
 -- the part after a new node went below another one
 record IsMadeBelow (xs : List NodeName) (y : NodeName) (n : Node) (into : NodeName) (p : Part) : Type 0 where
   room : HasRoom nowhere (after p (making_below into n p))
   children : AreChildren xs y (after p (making_below into n p))
-  there : There (after p (making_below into n p)) (next_name p)
+  there : HasNode (after p (making_below into n p)) (next_name p)
   kind : kind_of (after p (making_below into n p)).trees (next_name p) ≡ n.kind
 
 -- is such
-made-below : (xs : List NodeName) (y : NodeName) (n : Node) (into : NodeName) (p : Part) → n.name ≡ next_name p → IsPart p → There p into →
+made-below : (xs : List NodeName) (y : NodeName) (n : Node) (into : NodeName) (p : Part) → n.name ≡ next_name p → IsPart p → HasNode p into →
     IsOpen p into → HasRoom nowhere p → AreChildren xs y p → IsMadeBelow xs y n into p
 made-below xs y n into p e i t k h c =
     let q = part_step p (make n) in
@@ -113,7 +113,7 @@ fits-still xs y p q c pieces h =
 
 -- the taking of pieces
 pub room-taking : (xs : List NodeName) (y : NodeName) (count : ℕ) (pieces : Pieces) (into : NodeName) (p : Part) → IsPart p →
-    count ≤ p.node_count → There p into → IsOpen p into → count ≤ into.number → AllWhole (OldIn count p) pieces →
+    count ≤ p.node_count → HasNode p into → IsOpen p into → count ≤ into.number → AllWhole (OldIn count p) pieces →
     AreFit (Misses xs y) (IsData p) (IsOpenIn p) pieces → HasRoom nowhere p → AreChildren xs y p →
     HasRoom nowhere (after p (taking into pieces p)) × AreChildren xs y (after p (taking into pieces p))
 room-taking xs y count nothing into p i k t op h o f r c = (r, c)

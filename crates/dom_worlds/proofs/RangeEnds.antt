@@ -14,18 +14,18 @@ use Rattle.dom_model.specs.Ranges.{Range, at}
 use Rattle.dom_model.specs.Extract.{new_place, behind_node}
 use Rattle.dom_worlds.specs.Worlds.{times_in, times_among, IsPart}
 use Rattle.dom_worlds.proofs.Bounds.{nowhere, HasRoom}
-use Rattle.dom_worlds.proofs.Childs.{children-childs, held-length}
+use Rattle.dom_worlds.proofs.ChildPairs.{children-childs, held-length}
 use Rattle.dom_worlds.proofs.Contained.{IsSpared, spared-first, spared-up_to, below-rest}
 use Rattle.dom_worlds.proofs.Descents.{ancestor-inside}
 use Rattle.dom_worlds.proofs.FollowPaths.{root-itself}
 use Rattle.dom_worlds.proofs.InsideAncestors.{parent-there}
-use Rattle.dom_worlds.proofs.Kids.{kids, rooted, kids-below, root-below, index-below, length-children}
+use Rattle.dom_worlds.proofs.ChildCounts.{kids, rooted, kids-below, root-below, index-below, length-children}
 use Rattle.dom_worlds.proofs.NodesRead.{length-kids}
 use Rattle.dom_worlds.proofs.PlanBounds.{IsOpen}
 use Rattle.dom_worlds.proofs.PlanChildren.{IsChild}
 use Rattle.dom_worlds.proofs.RangeBounds.{AreChildren}
 use Rattle.dom_worlds.proofs.Roots.{self-above, root-above}
-use Rattle.dom_worlds.proofs.TableSteps.{There}
+use Rattle.dom_worlds.proofs.TableSteps.{HasNode}
 use Rattle.dom_worlds.proofs.TableRecords.{IfSome, last-all, before-all, inside-alone}
 use Rattle.dom_worlds.proofs.Lists.{all-append, all-then}
 use Rattle.dom_worlds.proofs.Tests.{by_cases, or-later}
@@ -71,7 +71,7 @@ among-up_to a (x ∷ xs) z h =
     (let b = among-up_to a xs z (or-later (name_eq a x) (is_in name_eq a xs) e h) in omega arith))
 
 -- The start itself, where its node has children.
-room-start : (p : Part) (r : Range NodeName) → IsPart p → There p r.start.node → IsOpen p r.start.node →
+room-start : (p : Part) (r : Range NodeName) → IsPart p → HasNode p r.start.node → IsOpen p r.start.node →
     r.start.offset ≤ length_of p.trees r.start.node → IsRoomAt p r r.start
 room-start p r i t o le =
     let ts = p.trees in
@@ -87,7 +87,7 @@ room-start p r i t o le =
     }
 
 -- Just behind a node above the start.
-room-behind : (p : Part) (r : Range NodeName) (a y : NodeName) → IsPart p → HasRoom nowhere p → There p a → parent_of p.trees a ≡ Some y →
+room-behind : (p : Part) (r : Range NodeName) (a y : NodeName) → IsPart p → HasRoom nowhere p → HasNode p a → parent_of p.trees a ≡ Some y →
     is_inclusive_ancestor p.trees a r.start.node ≡ true → IsRoomAt p r (at y (suc (index_of p.trees a)))
 room-behind p r a y i h t e above =
     let ts = p.trees in
@@ -133,7 +133,7 @@ above-kids p x z i h d =
     some-rooted (Rattle.dom_model.specs.Tree.tree n c r) z h = omega arith
 
 -- Where the start node is no inclusive ancestor of the end node, the new place is behind a node above the start.
-room-outer : (p : Part) (r : Range NodeName) → IsPart p → HasRoom nowhere p → There p r.start.node → There p r.end.node →
+room-outer : (p : Part) (r : Range NodeName) → IsPart p → HasRoom nowhere p → HasNode p r.start.node → HasNode p r.end.node →
     same_root p.trees r.start.node r.end.node ≡ true → is_inclusive_ancestor p.trees r.start.node r.end.node ≡ false →
     let above = filter (λ a. not (is_inclusive_ancestor p.trees a r.end.node)) (inclusive_ancestors p.trees r.start.node) in IsRoomAt p r
     (behind_node p.trees (unwrap_or (last_of above) r.start.node))
@@ -142,18 +142,18 @@ room-outer p r i h t te one apart =
     let start = r.start.node in
     let outside = λ (a : NodeName). not (is_inclusive_ancestor ts a r.end.node) in
     let above = filter outside (inclusive_ancestors ts start) in
-    let F : NodeName → Type 0 = λ a. (There p a × (root_of ts a ≡ root_of ts start)) × (is_inclusive_ancestor ts a start ≡ true) in
+    let F : NodeName → Type 0 = λ a. (HasNode p a × (root_of ts a ≡ root_of ts start)) × (is_inclusive_ancestor ts a start ≡ true) in
     let all : AllByRecursion F (inclusive_ancestors ts start) =
-    Rattle.dom_worlds.proofs.Trees.all-both (λ a. There p a × (root_of ts a ≡ root_of ts start)) (λ a. is_inclusive_ancestor ts a start ≡ true)
+    Rattle.dom_worlds.proofs.Trees.all-both (λ a. HasNode p a × (root_of ts a ≡ root_of ts start)) (λ a. is_inclusive_ancestor ts a start ≡ true)
     (inclusive_ancestors ts start)
-    (Rattle.dom_worlds.proofs.Trees.all-both (There p) (λ a. root_of ts a ≡ root_of ts start) (inclusive_ancestors ts start)
+    (Rattle.dom_worlds.proofs.Trees.all-both (HasNode p) (λ a. root_of ts a ≡ root_of ts start) (inclusive_ancestors ts start)
     (ancestors-there ts start) (ancestors-root ts i.unique start)) (listed-each (inclusive_ancestors ts start)) in
     let G : NodeName → Type 0 = λ a. F a × (outside a ≡ true) in
     let kept : AllByRecursion G above = Rattle.dom_worlds.proofs.TableRecords.all-kept F outside (inclusive_ancestors ts start) all in
     let own : G start = (((t, refl), self-above ts start t), ap not apart) in
     chosen (last_of above) (last-all G above kept) own
   where
-    placed : (a : NodeName) → There p a → root_of p.trees a ≡ root_of p.trees r.start.node → is_inclusive_ancestor p.trees a r.start.node ≡ true →
+    placed : (a : NodeName) → HasNode p a → root_of p.trees a ≡ root_of p.trees r.start.node → is_inclusive_ancestor p.trees a r.start.node ≡ true →
         not (is_inclusive_ancestor p.trees a r.end.node) ≡ true → (o : Option NodeName) → parent_of p.trees a ≡ o →
         IsRoomAt p r (at (unwrap_or o a) (suc (index_of p.trees a)))
     placed a ta same up out None e =
@@ -165,16 +165,16 @@ room-outer p r i h t te one apart =
     placed a ta same up out (Some y) e = room-behind p r a y i h ta e up
 
     chosen : (o : Option NodeName) → IfSome
-        (λ a. ((There p a × (root_of p.trees a ≡ root_of p.trees r.start.node)) × (is_inclusive_ancestor p.trees a r.start.node ≡ true)) ×
+        (λ a. ((HasNode p a × (root_of p.trees a ≡ root_of p.trees r.start.node)) × (is_inclusive_ancestor p.trees a r.start.node ≡ true)) ×
         (not (is_inclusive_ancestor p.trees a r.end.node) ≡ true)) o →
-        (((There p r.start.node × (root_of p.trees r.start.node ≡ root_of p.trees r.start.node)) ×
+        (((HasNode p r.start.node × (root_of p.trees r.start.node ≡ root_of p.trees r.start.node)) ×
         (is_inclusive_ancestor p.trees r.start.node r.start.node ≡ true)) ×
         (not (is_inclusive_ancestor p.trees r.start.node r.end.node) ≡ true)) → IsRoomAt p r (behind_node p.trees (unwrap_or o r.start.node))
     chosen None k own = placed r.start.node own.0.0.0 own.0.0.1 own.0.1 own.1 (parent_of p.trees r.start.node) refl
     chosen (Some a) k own = placed a k.0.0.0 k.0.0.1 k.0.1 k.1 (parent_of p.trees a) refl
 
 -- The new place has room, unless it is in a Text or a Comment.
-pub room-place_new : (p : Part) (r : Range NodeName) → IsPart p → HasRoom nowhere p → There p r.start.node → There p r.end.node →
+pub room-place_new : (p : Part) (r : Range NodeName) → IsPart p → HasRoom nowhere p → HasNode p r.start.node → HasNode p r.end.node →
     same_root p.trees r.start.node r.end.node ≡ true → r.start.offset ≤ length_of p.trees r.start.node →
     (is_inclusive_ancestor p.trees r.start.node r.end.node ≡ true → IsOpen p r.start.node) → IsRoomAt p r (new_place p.trees r)
 room-place_new p r i h t te one le opened =

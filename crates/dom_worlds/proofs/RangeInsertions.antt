@@ -26,9 +26,9 @@ use Rattle.dom_model.proofs.OwnerLaws.{name_eq-same}
 use Rattle.dom_worlds.specs.Worlds.{times_among, IsPart}
 use Rattle.dom_worlds.proofs.BoundLines.{under-at}
 use Rattle.dom_worlds.proofs.Bounds.{RangeUnder, reach, nowhere, HasRoom, room-set}
-use Rattle.dom_worlds.proofs.Childs.{children-childs}
+use Rattle.dom_worlds.proofs.ChildPairs.{children-childs}
 use Rattle.dom_worlds.proofs.Insides.{inside, inside-itself}
-use Rattle.dom_worlds.proofs.Kids.{kids, one_at, kids-taken_out, index-below}
+use Rattle.dom_worlds.proofs.ChildCounts.{kids, one_at, kids-taken_out, index-below}
 use Rattle.dom_worlds.proofs.Lists.{all-then}
 use Rattle.dom_worlds.proofs.NodesRead.{length-kids}
 use Rattle.dom_worlds.proofs.PlanBounds.{IsOpen, open-still, room-then, room-removing, room-inserting}
@@ -38,7 +38,7 @@ use Rattle.dom_worlds.proofs.PlanPlaces.{Changed, MayGo, may-still, still, taken
 use Rattle.dom_worlds.proofs.PlanPlaces.{leads-eased, leads-one, leads-removing, leads-inserting}
 use Rattle.dom_worlds.proofs.PlanTexts.{may-follow, leads-splitting}
 use Rattle.dom_worlds.proofs.RangeBounds.{child-there_in}
-use Rattle.dom_worlds.proofs.TableSteps.{There}
+use Rattle.dom_worlds.proofs.TableSteps.{HasNode}
 use Rattle.dom_worlds.proofs.TableRecords.{IfSome, first-all, after-all, all-get}
 use Rattle.dom_worlds.proofs.Tests.{by_cases, either_way, which_way}
 use Rattle.dom_worlds.proofs.TextBounds.{none-among, among-behind, children-among, text-data, room-splitting}
@@ -79,14 +79,14 @@ root-removals how (x ∷ xs) y p h =
     (root-removals how xs y q (root-left how x y p h))
 
 -- those that are removed are roots
-removed-roots : (how : Observing) (xs : List NodeName) (p : Part) → IsPart p → AllByRecursion (There p) xs →
+removed-roots : (how : Observing) (xs : List NodeName) (p : Part) → IsPart p → AllByRecursion (HasNode p) xs →
     AllByRecursion (HasRoot (after p (in_turn (removing how) xs p)).trees) xs
 removed-roots how [] p i t = tt
 removed-roots how (x ∷ xs) p i t =
     let q = after p (removing how x p) in
     let c = (leads-removing how x p i).changed in
     subst (λ (s : Part). AllByRecursion (HasRoot s.trees) (x ∷ xs)) (sym (after-append p (removing how x p) (in_turn (removing how) xs q)))
-    (root-removals how xs x q (root-removing how x p t.0), removed-roots how xs q c.part (all-then (There p) (There q) (λ y. still c y) xs t.1))
+    (root-removals how xs x q (root-removing how x p t.0), removed-roots how xs q c.part (all-then (HasNode p) (HasNode q) (λ y. still c y) xs t.1))
 
 -- another parent keeps its children
 kids-removing : (how : Observing) (x parent y : NodeName) (p : Part) → IsPart p → parent_of p.trees x ≡ Some parent → name_eq parent y ≡ false →
@@ -127,7 +127,7 @@ kids-fragment how node parent before p i m k =
     let children : AllByRecursion (λ x. IsChild x node p) moved = subst (AllByRecursion (λ x. IsChild x node p)) (sym is) (children-childs ts node) in
     let distinct : Distinct moved = subst Distinct (sym is)
     (distinct-among (children_of ts node) (λ z. let a = children-among ts node z in let u = i.unique z in omega arith)) in
-    let roots = removed-roots suppressed moved p i (all-then (λ x. IsChild x node p) (There p) (λ x c. child-there_in p x node i c) moved children) in
+    let roots = removed-roots suppressed moved p i (all-then (λ x. IsChild x node p) (HasNode p) (λ x c. child-there_in p x node i c) moved children) in
     let apart : name_eq node parent ≡ false = by_cases (name_eq node parent)
     (λ e. absurd (let a = m.apart in let b = inside-itself ts node m.there in let s = ap (inside ts node) (name_eq-true node parent e) in omega
     arith)) (λ e. e) in
@@ -269,7 +269,7 @@ text-parent ts r node h e = first-there (ancestors ts r.start.node)
     from false true false d h e = refl
 
 -- An insertion into a range.
-pub room-inserting_into_range : (k : ℕ) (r : Range NodeName) (node : NodeName) (p : Part) → IsPart p → There p r.start.node →
+pub room-inserting_into_range : (k : ℕ) (r : Range NodeName) (node : NodeName) (p : Part) → IsPart p → HasNode p r.start.node →
     MayGo (insertion_parent p.trees r) p node → IsOpen p (insertion_parent p.trees r) → cannot_take_node p.trees r node ≡ false → HasRoom nowhere p →
     HasRoom nowhere (after p (inserting_into_range k r node p))
 room-inserting_into_range k r node p i t m o valid h =

@@ -21,7 +21,7 @@ use Rattle.dom_model.proofs.OwnerLaws.{name_eq-same}
 use Rattle.dom_worlds.specs.Worlds.{IsPart}
 use Rattle.dom_worlds.proofs.Bounds.{nowhere, HasRoom, room-set}
 use Rattle.dom_worlds.proofs.Bounds as bounds
-use Rattle.dom_worlds.proofs.Kids.{kids}
+use Rattle.dom_worlds.proofs.ChildCounts.{kids}
 use Rattle.dom_worlds.proofs.Roots.{self-above}
 use Rattle.dom_worlds.proofs.NodesRead.{length-data}
 use Rattle.dom_worlds.proofs.Lists.{all-then, all-passed}
@@ -31,15 +31,15 @@ use Rattle.dom_worlds.proofs.PlanTexts.{leads-removals, leads-replacing_data}
 use Rattle.dom_worlds.proofs.PlanChildren.{IsChild, IsNot, child-removals, child-replacing_data}
 use Rattle.dom_worlds.proofs.RangeBounds.{AreChildren}
 use Rattle.dom_worlds.proofs.RangeEnds.{room-at, above-kids, room-place_new}
-use Rattle.dom_worlds.proofs.TableSteps.{There}
+use Rattle.dom_worlds.proofs.TableSteps.{HasNode}
 use Rattle.dom_worlds.proofs.Tests.{by_cases, either_way}
 use Rattle.dom_worlds.proofs.TextBounds.{replaced-here}
 use Rattle.dom_worlds.proofs.Trees.{name_eq-true}
 
 -- What is asked of a range: its ends are nodes of one tree, and its start is within its node.
 pub record IsProper (p : Part) (r : Range NodeName) : Type 0 where
-  pub start : There p r.start.node
-  pub end : There p r.end.node
+  pub start : HasNode p r.start.node
+  pub end : HasNode p r.end.node
   pub one_tree : same_root p.trees r.start.node r.end.node ≡ true
   pub within : r.start.offset ≤ length_of p.trees r.start.node
 
@@ -199,7 +199,7 @@ room-deleting k r p i g h =
         (subst (AreChildren xs y) (sym same) cs) kinds in
         let three = cutting_data ts r r.end.node sr in
         let opened : IsOpen (after sr three) y =
-        ap has_data (c.changed.kinds y (subst (λ (v : Part). There v y) (sym same) cs.1) ∙ ap (λ (v : Part). kind_of v.trees y) same ∙
+        ap has_data (c.changed.kinds y (subst (λ (v : Part). HasNode v y) (sym same) cs.1) ∙ ap (λ (v : Part). kind_of v.trees y) same ∙
         lq.changed.kinds y (still a.changed y room.children.1) ∙ a.changed.kinds y room.children.1) ∙ room.opened in
         let plan : deleting_contents ts r p ≡ (one ++ two) ++ three =
         ap (λ (f : Plan). f p) (cond-false (is_in_one_data ts r) (cutting_data ts r r.start.node)

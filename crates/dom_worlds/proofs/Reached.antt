@@ -13,7 +13,7 @@ use Rattle.dom_model.specs.Trace.{line_may_stop, no_component_stops_from}
 use Rattle.dom_model.specs.Turns.{ending_turn, has_other_turn}
 use Rattle.dom_model.specs.World.{World, trees_with, some_if, root_at, shadow_root_of}
 use Rattle.dom_model.proofs.OwnerLaws.{name_eq-same}
-use Rattle.dom_worlds.specs.Reached.{IsSound, IsReached, FirstIsReached, StepKeepsReached, EndingKeepsReached, FinishKeepsReached, ScriptsReach}
+use Rattle.dom_worlds.specs.Reached.{Invariant, IsReached, FirstIsReached, StepKeepsReached, EndingKeepsReached, FinishKeepsReached, ScriptsReach}
 use Rattle.dom_worlds.specs.Reached.{QuietScriptsReach, AssignedAreSiblings}
 use Rattle.dom_worlds.specs.Worlds.{IsWorld, IsOf, times_in}
 use Rattle.dom_worlds.proofs.FirstWorld.{quiet-first}
@@ -33,11 +33,11 @@ use Rattle.dom_worlds.proofs.Trees.{times-here, times-more, times-subtree}
 use Rattle.dom_worlds.proofs.TreeChangeLaws.{times-below}
 
 -- what the laws ask for
-pub sound : {only_log : Bool} (w : World) → IsReached only_log w → IsSound only_log w
+pub sound : {only_log : Bool} (w : World) → IsReached only_log w → Invariant only_log w
 sound w r = record { world = r.world; logs = r.logs }
 
 -- whatever the listeners do
-any-sound : {only_log : Bool} (w : World) → IsReached only_log w → IsSound false w
+any-sound : {only_log : Bool} (w : World) → IsReached only_log w → Invariant false w
 any-sound w r = record { world = r.world; logs = λ e. absurd (true≢false (sym e)) }
 
 -- the first world

@@ -25,7 +25,7 @@ use Rattle.dom_worlds.proofs.Lists.{all-then, all-append, all-from}
 use Rattle.dom_worlds.proofs.PlanPlaces.{Changed, Leads, MayGo, may-still, still, emptied_of, leads-then, leads-eased, leads-one, leads-each}
 use Rattle.dom_worlds.proofs.PlanPlaces.{leads-removing, leads-placing, leads-emptied, leads-making_room, leads-inserting, placed-may}
 use Rattle.dom_worlds.proofs.PlanTexts.{leads-plan, leads-removals}
-use Rattle.dom_worlds.proofs.TableSteps.{There, Fits, Grows, grows-step, grows-times, all-set}
+use Rattle.dom_worlds.proofs.TableSteps.{HasNode, Fits, Grows, grows-step, grows-times, all-set}
 use Rattle.dom_worlds.proofs.TableRecords.{IfSome, first-all, last-all, before-all, after-all, all-get}
 use Rattle.dom_worlds.proofs.Tests.{either_way}
 use Rattle.dom_worlds.proofs.Trees.{times-subtree}
@@ -137,56 +137,56 @@ tells-each spot P f l h k (x ∷ xs) p i g =
     (tells-each spot P f l h k xs q first.changed.part (all-then (P p) (P q) (λ y. k p q y first.changed) xs g.1))
 
 -- Nodes that are there stay there.
-pub still-all : {spot : Option NodeName} {p q : Part} → Changed spot p q → (xs : List NodeName) → AllByRecursion (There p) xs → AllByRecursion (There q) xs
-still-all {p = p} {q = q} c xs h = all-then (There p) (There q) (λ x. still c x) xs h
+pub still-all : {spot : Option NodeName} {p q : Part} → Changed spot p q → (xs : List NodeName) → AllByRecursion (HasNode p) xs → AllByRecursion (HasNode q) xs
+still-all {p = p} {q = q} c xs h = all-then (HasNode p) (HasNode q) (λ x. still c x) xs h
 
 -- one, if there is one
-pub still-if : {spot : Option NodeName} {p q : Part} → Changed spot p q → (o : Option NodeName) → IfSome (There p) o → IfSome (There q) o
+pub still-if : {spot : Option NodeName} {p q : Part} → Changed spot p q → (o : Option NodeName) → IfSome (HasNode p) o → IfSome (HasNode q) o
 still-if c None h = tt
 still-if c (Some x) h = still c x h
 
 -- as a record has it
-node_if : (p : Part) (o : Option NodeName) → IfSome (There p) o → IsNodeIf p.trees o
+node_if : (p : Part) (o : Option NodeName) → IfSome (HasNode p) o → IsNodeIf p.trees o
 node_if p None h = tt
 node_if p (Some x) h = times-has_node p.trees x h
 
 -- a record of children
-pub children-recorded : (p : Part) (x : NodeName) (added removed : List NodeName) (before behind : Option NodeName) → There p x →
-    AllByRecursion (There p) added → AllByRecursion (There p) removed → IfSome (There p) before → IfSome (There p) behind →
+pub children-recorded : (p : Part) (x : NodeName) (added removed : List NodeName) (before behind : Option NodeName) → HasNode p x →
+    AllByRecursion (HasNode p) added → AllByRecursion (HasNode p) removed → IfSome (HasNode p) before → IfSome (HasNode p) behind →
     IsRecordIn p.trees (child_list x added removed before behind)
 children-recorded p x added removed before behind t a r b c =
-    let each = λ (xs : List NodeName) (h : AllByRecursion (There p) xs). all-then (There p) (IsNodeIn p.trees) (times-has_node p.trees) xs h in
+    let each = λ (xs : List NodeName) (h : AllByRecursion (HasNode p) xs). all-then (HasNode p) (IsNodeIn p.trees) (times-has_node p.trees) xs h in
     (times-has_node p.trees x t, each added a, each removed r, node_if p before b, node_if p behind c)
 
 -- Children and siblings are there.
-pub children-there : (p : Part) (y : NodeName) → AllByRecursion (There p) (children_of p.trees y)
-children-there p y = all-then (λ z. 1 ≤ times_in (subtree p.trees y) z) (There p) (λ z h. let s = times-subtree p.trees y z in omega arith)
+pub children-there : (p : Part) (y : NodeName) → AllByRecursion (HasNode p) (children_of p.trees y)
+children-there p y = all-then (λ z. 1 ≤ times_in (subtree p.trees y) z) (HasNode p) (λ z h. let s = times-subtree p.trees y z in omega arith)
     (children_of p.trees y) (children-inside p.trees y)
 
 -- siblings
-siblings-there : (p : Part) (x : NodeName) → There p x → AllByRecursion (There p) (siblings p.trees x)
+siblings-there : (p : Part) (x : NodeName) → HasNode p x → AllByRecursion (HasNode p) (siblings p.trees x)
 siblings-there p x t = from (parent_of p.trees x)
   where
-    from : (o : Option NodeName) → AllByRecursion (There p) (option_map_or (children_of p.trees) o (x ∷ []))
+    from : (o : Option NodeName) → AllByRecursion (HasNode p) (option_map_or (children_of p.trees) o (x ∷ []))
     from None = (t, tt)
     from (Some y) = children-there p y
 
 -- the one before
-previous-there : (p : Part) (x : NodeName) → There p x → IfSome (There p) (previous_sibling p.trees x)
-previous-there p x t = last-all (There p) (items_before name_eq x (siblings p.trees x)) (before-all (There p) x (siblings p.trees x) (siblings-there p x t))
+previous-there : (p : Part) (x : NodeName) → HasNode p x → IfSome (HasNode p) (previous_sibling p.trees x)
+previous-there p x t = last-all (HasNode p) (items_before name_eq x (siblings p.trees x)) (before-all (HasNode p) x (siblings p.trees x) (siblings-there p x t))
 
 -- the one behind
-pub next-there : (p : Part) (x : NodeName) → There p x → IfSome (There p) (next_sibling p.trees x)
-next-there p x t = first-all (There p) (items_after name_eq x (siblings p.trees x)) (after-all (There p) x (siblings p.trees x) (siblings-there p x t))
+pub next-there : (p : Part) (x : NodeName) → HasNode p x → IfSome (HasNode p) (next_sibling p.trees x)
+next-there p x t = first-all (HasNode p) (items_after name_eq x (siblings p.trees x)) (after-all (HasNode p) x (siblings p.trees x) (siblings-there p x t))
 
 -- a reference
-pub reference-there : (p : Part) (node : NodeName) (o : Option NodeName) → There p node → IfSome (There p) o → IfSome (There p) (reference_for p.trees node o)
+pub reference-there : (p : Part) (node : NodeName) (o : Option NodeName) → HasNode p node → IfSome (HasNode p) o → IfSome (HasNode p) (reference_for p.trees node o)
 reference-there p node None t h = tt
-reference-there p node (Some c) t h = either_way (IfSome (There p)) (name_eq c node) (next_sibling p.trees node) (Some c) (next-there p node t) h
+reference-there p node (Some c) t h = either_way (IfSome (HasNode p)) (name_eq c node) (next_sibling p.trees node) (Some c) (next-there p node t) h
 
 -- the one in front of what is inserted
-front-there : (p : Part) (parent : NodeName) (o : Option NodeName) → IfSome (There p) o → IfSome (There p) (sibling_before p.trees parent o)
-front-there p parent None h = last-all (There p) (children_of p.trees parent) (children-there p parent)
+front-there : (p : Part) (parent : NodeName) (o : Option NodeName) → IfSome (HasNode p) o → IfSome (HasNode p) (sibling_before p.trees parent o)
+front-there p parent None h = last-all (HasNode p) (children_of p.trees parent) (children-there p parent)
 front-there p parent (Some c) h = previous-there p c h
 
 -- Removals.
@@ -230,15 +230,15 @@ tells-removals how xs p i = tells-each None (λ q (y : NodeName). ⊤) (removing
     (λ q y j t. tells-removing how y q j) (λ q r y c t. tt) xs p i (all-from (λ y. ⊤) (λ y. tt) xs)
 
 -- what is placed is there
-placed-there : (p : Part) (node : NodeName) → There p node → AllByRecursion (There p) (placed_nodes p.trees node)
-placed-there p node t = either_way (AllByRecursion (There p)) (is_fragment (kind_of p.trees node)) (children_of p.trees node) (node ∷ [])
+placed-there : (p : Part) (node : NodeName) → HasNode p node → AllByRecursion (HasNode p) (placed_nodes p.trees node)
+placed-there p node t = either_way (AllByRecursion (HasNode p)) (is_fragment (kind_of p.trees node)) (children_of p.trees node) (node ∷ [])
     (children-there p node) (t, tt)
 
 -- a fragment that is emptied
-tells-emptied : (node : NodeName) (p : Part) → IsPart p → There p node → TellsIn p (emptied_of p node p)
+tells-emptied : (node : NodeName) (p : Part) → IsPart p → HasNode p node → TellsIn p (emptied_of p node p)
 tells-emptied node p i t = from (is_fragment (kind_of p.trees node)) (placed_nodes p.trees node) (placed-there p node t)
   where
-    from : (b : Bool) (moved : List NodeName) → AllByRecursion (There p) moved → TellsIn p ((if b then emptying node moved else steps_of []) p)
+    from : (b : Bool) (moved : List NodeName) → AllByRecursion (HasNode p) moved → TellsIn p ((if b then emptying node moved else steps_of []) p)
     from false moved h = tt
     from true moved h =
         let gone = in_turn (removing suppressed) moved p in
@@ -248,7 +248,7 @@ tells-emptied node p i t = from (is_fragment (kind_of p.trees node)) (placed_nod
 
 -- An insertion, before a node that is there.
 pub tells-inserting : (how : Observing) (node parent : NodeName) (before : Option NodeName) (p : Part) → IsPart p → MayGo parent p node →
-    IfSome (There p) before → TellsIn p (inserting how node parent before p)
+    IfSome (HasNode p) before → TellsIn p (inserting how node parent before p)
 tells-inserting how node parent before p i m b =
     let spot = Some parent in
     let moved = placed_nodes p.trees node in
@@ -279,7 +279,7 @@ tells-inserting how node parent before p i m b =
     roomy (Some child) count q = (tt, tt)
 
 -- a replacement
-pub tells-replacing : (parent node child : NodeName) (p : Part) → IsPart p → MayGo parent p node → There p child → TellsIn p (replacing parent node child p)
+pub tells-replacing : (parent node child : NodeName) (p : Part) → IsPart p → MayGo parent p node → HasNode p child → TellsIn p (replacing parent node child p)
 tells-replacing parent node child p i m t =
     let spot = Some parent in
     let reference = reference_for p.trees node (next_sibling p.trees child) in
@@ -301,11 +301,11 @@ tells-replacing parent node child p i m t =
     ))
 
 -- Attributes and data.
-pub tells-setting_attribute : (x : NodeName) (a : Word) (v : DomString) (p : Part) → There p x → TellsIn p (setting_attribute x a v p)
+pub tells-setting_attribute : (x : NodeName) (a : Word) (v : DomString) (p : Part) → HasNode p x → TellsIn p (setting_attribute x a v p)
 tells-setting_attribute x a v p t = (times-has_node p.trees x t, (tt, tt))
 
 -- an attribute that goes
-pub tells-unsetting_attribute : (x : NodeName) (a : Word) (p : Part) → There p x → TellsIn p (unsetting_attribute x a p)
+pub tells-unsetting_attribute : (x : NodeName) (a : Word) (p : Part) → HasNode p x → TellsIn p (unsetting_attribute x a p)
 tells-unsetting_attribute x a p t = from (attribute_value (node_in p.trees x) a)
   where
     from : (v : Option DomString) → TellsIn p (option_map_or (λ old. queue_record (attributes x a (Some old)) ∷ set_attribute x a None ∷ []) v [])
@@ -313,5 +313,5 @@ tells-unsetting_attribute x a p t = from (attribute_value (node_in p.trees x) a)
     from (Some old) = (times-has_node p.trees x t, (tt, tt))
 
 -- data
-pub tells-replacing_data : (x : NodeName) (offset count : ℕ) (new : DomString) (p : Part) → There p x → TellsIn p (replacing_data x offset count new p)
+pub tells-replacing_data : (x : NodeName) (offset count : ℕ) (new : DomString) (p : Part) → HasNode p x → TellsIn p (replacing_data x offset count new p)
 tells-replacing_data x offset count new p t = (times-has_node p.trees x t, (tt, tt))

@@ -28,19 +28,19 @@ use Rattle.dom_worlds.proofs.Plans.{AllWhole}
 use Rattle.dom_worlds.proofs.Recorded.{TellsIn, tells-append, tells-plan, still-if, children-there, reference-there, tells-removing}
 use Rattle.dom_worlds.proofs.Recorded.{tells-removals, tells-inserting, tells-replacing_data}
 use Rattle.dom_worlds.proofs.RecordedTexts.{tells-splitting}
-use Rattle.dom_worlds.proofs.TableSteps.{There}
+use Rattle.dom_worlds.proofs.TableSteps.{HasNode}
 use Rattle.dom_worlds.proofs.TableRecords.{IfSome, all-get}
 use Rattle.dom_worlds.proofs.Tests.{either_way, which_way}
 
 -- Extractions. A new node below another one.
-tells-making_below : (into : NodeName) (n : Node) (p : Part) → n.name ≡ next_name p → IsPart p → There p into → TellsIn p (making_below into n p)
+tells-making_below : (into : NodeName) (n : Node) (p : Part) → n.name ≡ next_name p → IsPart p → HasNode p into → TellsIn p (making_below into n p)
 tells-making_below into n p e i t =
     let q = part_step p (make n) in
     let c = (leads-one p (make n) i tt).changed in
     (tt, tells-inserting observed n.name into None q c.part (subst (MayGo into q) (sym e) (new-may p n into i t)) tt)
 
 -- pieces that are taken into a newer node
-tells-taking : (count : ℕ) (pieces : Pieces) (into : NodeName) (p : Part) → IsPart p → count ≤ p.node_count → There p into → count ≤ into.number →
+tells-taking : (count : ℕ) (pieces : Pieces) (into : NodeName) (p : Part) → IsPart p → count ≤ p.node_count → HasNode p into → count ≤ into.number →
     AllWhole (OldIn count p) pieces → TellsIn p (taking into pieces p)
 tells-taking count nothing into p i k t h o = tt
 tells-taking count (whole x rest) into p i k t h o =
@@ -67,7 +67,7 @@ tells-taking count (clone x inner rest) into p i k t h o =
     let q = after p one in
     let two = taking new inner q in
     let first = leads-one p (make n) i tt in
-    let there : There q new = still (leads-inserting observed n.name into None (part_step p (make n)) first.changed.part
+    let there : HasNode q new = still (leads-inserting observed n.name into None (part_step p (make n)) first.changed.part
     (new-may p n into i t)).changed new (new-there p n) in
     let old = whole-then (OldIn count p) (OldIn count q) (old-still count into p q h l.changed) inner o.1 in
     let le : count ≤ q.node_count = let g = l.changed.count in omega arith in
@@ -82,21 +82,21 @@ tells-taking count (clone x inner rest) into p i k t h o =
     (whole-then (OldIn count p) (OldIn count r) (old-still count into p r h both) rest o.2))
 
 -- an extraction
-pub tells-extracting : (k : ℕ) (range : Range NodeName) (p : Part) → IsPart p → There p range.start.node → TellsIn p (extracting k range p)
+pub tells-extracting : (k : ℕ) (range : Range NodeName) (p : Part) → IsPart p → HasNode p range.start.node → TellsIn p (extracting k range p)
 tells-extracting k range p i t =
     let into = next_name p in
     let fragment = new_fragment_node into (own_document p.trees range.start.node) in
     let q = part_step p (make fragment) in
     let c = (leads-one p (make fragment) i tt).changed in
     let pieces = pieces_of p.trees range in
-    let old = whole-then (There p) (OldIn p.node_count q)
+    let old = whole-then (HasNode p) (OldIn p.node_count q)
     (λ x h. let o = old-there p i x h in record { there = still c x o.there; alone = λ z g. c.apart x z o.there tt (o.alone z g) }) pieces
     (pieces-there p range t) in
     tells-append p (make fragment ∷ taking into pieces q) (set_range k (both_at (new_place p.trees range)) ∷ [])
     (tt, tells-taking p.node_count pieces into q c.part c.count (new-there p fragment) (omega arith) old) (tt, tt)
 
 -- Deletions. The data at an end.
-tells-cutting : (ts : Trees) (range : Range NodeName) (x : NodeName) (p : Part) → There p x → TellsIn p (cutting_data ts range x p)
+tells-cutting : (ts : Trees) (range : Range NodeName) (x : NodeName) (p : Part) → HasNode p x → TellsIn p (cutting_data ts range x p)
 tells-cutting ts range x p t = from (has_data (kind_of ts x))
   where
     from : (b : Bool) → TellsIn p ((if b then replacing_data x (cut_start range x) (cut_end ts range x - cut_start range x) [] else steps_of []) p)
@@ -104,7 +104,7 @@ tells-cutting ts range x p t = from (has_data (kind_of ts x))
     from false = tt
 
 -- the contents of a range
-tells-contents : (ts : Trees) (range : Range NodeName) (p : Part) → IsPart p → There p range.start.node → There p range.end.node →
+tells-contents : (ts : Trees) (range : Range NodeName) (p : Part) → IsPart p → HasNode p range.start.node → HasNode p range.end.node →
     TellsIn p (deleting_contents ts range p)
 tells-contents ts range p i t u = from (is_in_one_data ts range)
   where
@@ -123,7 +123,7 @@ tells-contents ts range p i t u = from (is_in_one_data ts range)
         (λ q c. tells-cutting ts range range.end.node q (still c range.end.node u))
 
 -- a deletion
-pub tells-deleting : (k : ℕ) (range : Range NodeName) (p : Part) → IsPart p → There p range.start.node → There p range.end.node → TellsIn p (deleting k range p)
+pub tells-deleting : (k : ℕ) (range : Range NodeName) (p : Part) → IsPart p → HasNode p range.start.node → HasNode p range.end.node → TellsIn p (deleting k range p)
 tells-deleting k range p i t u =
     let last = set_range k (both_at (new_place p.trees range)) in
     either_way (TellsIn p) (is_collapsed name_eq range) [] ((deleting_contents p.trees range and_then doing last) p) tt
@@ -140,7 +140,7 @@ tells-ending_at k b p = from (range_at p k)
 
 -- a node before a reference
 tells-inserting_before : (k : ℕ) (node parent : NodeName) (reference : Option NodeName) (p : Part) → IsPart p → MayGo parent p node →
-    IfSome (There p) reference → TellsIn p (inserting_before k node parent reference p)
+    IfSome (HasNode p) reference → TellsIn p (inserting_before k node parent reference p)
 tells-inserting_before k node parent reference p i m r =
     let ts = p.trees in
     let end = at parent (option_map_or (index_of ts) reference (length_of ts parent) + (if is_fragment (kind_of ts node) then length_of ts node else 1)) in
@@ -151,7 +151,7 @@ tells-inserting_before k node parent reference p i m r =
 
 -- that left its parent first
 tells-inserting_at : (k : ℕ) (node parent : NodeName) (child : Option NodeName) (p : Part) → IsPart p → MayGo parent p node →
-    IfSome (There p) child → TellsIn p (inserting_at k node parent child p)
+    IfSome (HasNode p) child → TellsIn p (inserting_at k node parent child p)
 tells-inserting_at k node parent child p i m r =
     let steps = removing observed node p in
     let q = after p steps in
@@ -162,7 +162,7 @@ tells-inserting_at k node parent child p i m r =
     (still-if l.changed reference (reference-there p node child m.there r)))
 
 -- an insertion into a range
-pub tells-inserting_into_range : (k : ℕ) (range : Range NodeName) (node : NodeName) (p : Part) → IsPart p → There p range.start.node →
+pub tells-inserting_into_range : (k : ℕ) (range : Range NodeName) (node : NodeName) (p : Part) → IsPart p → HasNode p range.start.node →
     MayGo (insertion_parent p.trees range) p node → TellsIn p (inserting_into_range k range node p)
 tells-inserting_into_range k range node p i t m =
     let start = range.start.node in
@@ -182,8 +182,8 @@ tells-inserting_into_range k range node p i t m =
     tells-append p steps (inserting_at k node parent (Some (next_name p)) q) told.0
     (tells-inserting_at k node parent (Some (next_name p)) q c.part (may-still parent p q node c m) told.1))
     (λ e. tells-inserting_at k node parent (start_reference p.trees range) p i m
-    (either_way (IfSome (There p)) (is_text (kind_of p.trees start)) (Some start) at_offset t
-    (all-get (There p) (children_of p.trees start) range.start.offset (children-there p start))))
+    (either_way (IfSome (HasNode p)) (is_text (kind_of p.trees start)) (Some start) at_offset t
+    (all-get (HasNode p) (children_of p.trees start) range.start.offset (children-there p start))))
   where
     some-spot : (o : Option NodeName) (x : NodeName) {q : Part} → Changed o p q → Changed (Some (unwrap_or o x)) p q
     some-spot None x {q = q} c = changed-eased (Some x) p q c

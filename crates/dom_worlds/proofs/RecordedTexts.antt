@@ -22,12 +22,12 @@ use Rattle.dom_worlds.proofs.PlanTexts.{leads-removals, leads-replacing_data, le
 use Rattle.dom_worlds.proofs.PlanTexts.{new-there, new-may, texts-beside, descend-there}
 use Rattle.dom_worlds.proofs.Recorded.{TellsIn, tells-append, tells-plan, tells-each, children-recorded, still-all, children-there, next-there}
 use Rattle.dom_worlds.proofs.Recorded.{tells-removing, tells-removals, tells-inserting, tells-replacing_data}
-use Rattle.dom_worlds.proofs.TableSteps.{There}
+use Rattle.dom_worlds.proofs.TableSteps.{HasNode}
 use Rattle.dom_worlds.proofs.Tests.{either_way}
 
 -- A split, after which the new Text is there.
-pub tells-splitting : (x : NodeName) (offset : ℕ) (p : Part) → IsPart p → There p x → TellsIn p (splitting x offset p) ×
-    There (after p (splitting x offset p)) (next_name p)
+pub tells-splitting : (x : NodeName) (offset : ℕ) (p : Part) → IsPart p → HasNode p x → TellsIn p (splitting x offset p) ×
+    HasNode (after p (splitting x offset p)) (next_name p)
 tells-splitting x offset p i t = from (parent_of p.trees x) refl
   where
     tail : Node
@@ -38,11 +38,11 @@ tells-splitting x offset p i t = from (parent_of p.trees x) refl
         replacing_data x offset (length (node_in p.trees x).text - offset) []
         (after p (make tail ∷ placing_tail x offset (next_name p) o (part_step p (make tail))))
 
-    last : (q : Part) → IsPart q → There q (next_name p) →
-        There (after q (replacing_data x offset (length (node_in p.trees x).text - offset) [] q)) (next_name p)
+    last : (q : Part) → IsPart q → HasNode q (next_name p) →
+        HasNode (after q (replacing_data x offset (length (node_in p.trees x).text - offset) [] q)) (next_name p)
     last q j n = still (leads-replacing_data x offset (length (node_in p.trees x).text - offset) [] q j).changed (next_name p) n
 
-    from : (o : Option NodeName) → parent_of p.trees x ≡ o → TellsIn p (all o) × There (after p (all o)) (next_name p)
+    from : (o : Option NodeName) → parent_of p.trees x ≡ o → TellsIn p (all o) × HasNode (after p (all o)) (next_name p)
     from None e =
         let q = part_step p (make tail) in
         let c = (leads-one p (make tail) i tt).changed in
@@ -63,7 +63,7 @@ tells-splitting x offset p i t = from (parent_of p.trees x) refl
                 (tells-inserting observed new parent (next_sibling q.trees x) q c.part follow.may (next-there q x (still c x t))) (tt, tt),
           )
               (tells-replacing_data x offset (length (node_in p.trees x).text - offset) [] r (still l.changed x (still c x t))),
-          subst (λ (s : Part). There s new) (sym (Rattle.dom_worlds.proofs.PlanPlaces.after-append p one rest))
+          subst (λ (s : Part). HasNode s new) (sym (Rattle.dom_worlds.proofs.PlanPlaces.after-append p one rest))
               (last r l.changed.part (still l.changed new (new-there p tail))),
         )
 
@@ -73,7 +73,7 @@ tells-joins ts x parent size [] p = tt
 tells-joins ts x parent size (y ∷ ys) p = (tt, tells-joins ts x parent (size + length_of ts y) ys (part_step p (join_at x size y parent (index_of ts y))))
 
 -- Texts that are joined
-tells-joining : (x parent : NodeName) (p : Part) → IsPart p → There p x → parent_of p.trees x ≡ Some parent →
+tells-joining : (x parent : NodeName) (p : Part) → IsPart p → HasNode p x → parent_of p.trees x ≡ Some parent →
     TellsIn p (joining x parent (texts_after p.trees x) p)
 tells-joining x parent p i t e =
     let nexts = texts_after p.trees x in
@@ -89,7 +89,7 @@ tells-joining x parent p i t e =
     (tells-append p one two (tells-replacing_data x size 0 all p t) (tells-joins p.trees x parent size nexts q)) (λ r c. tells-removals observed nexts r c.part)
 
 -- a Text that is normalized
-tells-normalizing_text : (p : Part) (x : NodeName) → IsPart p → There p x → TellsIn p (normalizing_text x p)
+tells-normalizing_text : (p : Part) (x : NodeName) → IsPart p → HasNode p x → TellsIn p (normalizing_text x p)
 tells-normalizing_text p x i t =
     either_way (TellsIn p) (length_of p.trees x == 0) (removing observed x p)
     (option_map_or (λ parent. if is_empty (texts_after p.trees x) then [] else joining x parent (texts_after p.trees x) p)
@@ -106,13 +106,13 @@ tells-normalizing_text p x i t =
 pub tells-normalizing : (x : NodeName) (p : Part) → IsPart p → TellsIn p (normalizing x p)
 tells-normalizing x p i =
     let texts = filter (λ y. is_text (kind_of p.trees y)) (descendants p.trees x) in
-    tells-each None There normalizing_text leads-normalizing_text tells-normalizing_text (λ q r y c t. still c y t) texts p i
-    (all-filter (There p) (λ y. is_text (kind_of p.trees y)) (descendants p.trees x)
-    (all-dropped (There p) (inclusive_descendants p.trees x) (descend-there p.trees x)))
+    tells-each None HasNode normalizing_text leads-normalizing_text tells-normalizing_text (λ q r y c t. still c y t) texts p i
+    (all-filter (HasNode p) (λ y. is_text (kind_of p.trees y)) (descendants p.trees x)
+    (all-dropped (HasNode p) (inclusive_descendants p.trees x) (descend-there p.trees x)))
 
 -- Text content.
 tells-replaced : (x : NodeName) (p : Part) (made : List Step) (old added : List NodeName) (b : Bool) → Leads (Some x) p made → TellsIn p made →
-    AllByRecursion (MayGo x (after p made)) added → There p x → AllByRecursion (There p) old →
+    AllByRecursion (MayGo x (after p made)) added → HasNode p x → AllByRecursion (HasNode p) old →
     TellsIn p ((steps_of made and_then in_turn (removing suppressed) old and_then in_turn (λ y. inserting suppressed y x None) added and_then
     steps_of (only_if b (queue_record (child_list x added old None None)))) p)
 tells-replaced x p made old added b a tm m t o =
@@ -138,12 +138,12 @@ tells-replaced x p made old added b a tm m t o =
     (λ v y j n. tells-inserting suppressed y x None v j n tt) (may-still x) added r c.part may))
     (either_way (TellsIn s) b (told ∷ []) [] (
       children-recorded s x added old None None (still all.changed x t)
-          (still-all e added (all-then (MayGo x r) (There r) (λ y n. n.there) added may)) (still-all all.changed old o) tt tt,
+          (still-all e added (all-then (MayGo x r) (HasNode r) (λ y n. n.there) added may)) (still-all all.changed old o) tt tt,
       tt,
     ) tt)
 
 -- children that give way to a Text
-tells-replacing_children : (x : NodeName) (new : DomString) (p : Part) → IsPart p → There p x → TellsIn p (replacing_children x new p)
+tells-replacing_children : (x : NodeName) (new : DomString) (p : Part) → IsPart p → HasNode p x → TellsIn p (replacing_children x new p)
 tells-replacing_children x new p i t =
     let old = children_of p.trees x in
     let added : List NodeName = if is_empty new then [] else next_name p ∷ [] in
@@ -162,7 +162,7 @@ tells-replacing_children x new p i t =
     )
 
 -- text content
-pub tells-setting_text : (x : NodeName) (new : DomString) (p : Part) → IsPart p → There p x → TellsIn p (setting_text x new p)
+pub tells-setting_text : (x : NodeName) (new : DomString) (p : Part) → IsPart p → HasNode p x → TellsIn p (setting_text x new p)
 tells-setting_text x new p i t =
     either_way (TellsIn p) (has_data (kind_of p.trees x)) (replacing_all_data x new p)
     (if is_document (kind_of p.trees x) then [] else replacing_children x new p) (tells-replacing_data x 0 (length_of p.trees x) new p t)

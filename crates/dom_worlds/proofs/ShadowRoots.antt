@@ -12,7 +12,7 @@ use Rattle.dom_base.specs.declared.Refusal.TheVariants.{Hierarchy, NotFound}
 use Rattle.dom_model.specs.Names.{name_eq}
 use Rattle.dom_model.specs.Tree.{Trees, none, tree, Node, nodes, names_of, roots, no_node, kind_of, has_data, is_inclusive_ancestor, child_nodes}
 use Rattle.dom_model.specs.Tree.{subtree, trees_below}
-use Rattle.dom_model.specs.Command.{Command, Spelled}
+use Rattle.dom_model.specs.Command.{Command, NodeWord}
 use Rattle.dom_model.specs.Part.{Part, range_at}
 use Rattle.dom_model.specs.Ranges.{Range}
 use Rattle.dom_model.specs.Validity.{first_refusal, has_parent, may_be_parent, may_be_inserted, placing_tests, insertion_refusal, replacement_refusal}
@@ -105,7 +105,7 @@ not_taken true r h = cc
 not_taken false r h = h
 
 -- the node of an accepted `insert-node`
-insert_node-other : (r : NodeName) (p : Part) → IsOwn r p → (k : ℕ) (x : Spelled) → own_refusal p (Command.insert_node k x) ≡ None →
+insert_node-other : (r : NodeName) (p : Part) → IsOwn r p → (k : ℕ) (x : NodeWord) → own_refusal p (Command.insert_node k x) ≡ None →
     (range : Range NodeName) → range_at p k ≡ Some range → IsOther r (named p x)
 insert_node-other r p o k x h range e =
     let tests = λ (q : Range NodeName). option_or (insert_node_refusal p.trees q (named p x)) (limit_on p.node_count (made_by_insert_node p q)) in

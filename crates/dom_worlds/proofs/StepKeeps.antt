@@ -11,7 +11,7 @@ use Rattle.dom_base.specs.declared.Action.{Action}
 use Rattle.dom_base.specs.declared.Action.TheVariants.{Log, Stop, StopNow, Cancel}
 use Rattle.dom_base.specs.declared.Refusal.{Refusal}
 use Rattle.dom_model.specs.Names.{owner_eq, Word}
-use Rattle.dom_model.specs.Command.{Command, Line, no_owner, no_command, command, Spelled}
+use Rattle.dom_model.specs.Command.{Command, Line, no_owner, no_command, command, NodeWord}
 use Rattle.dom_model.specs.Part.{Part}
 use Rattle.dom_model.specs.Runs.{unless_refused}
 use Rattle.dom_model.specs.CommandNames.{named}
@@ -24,10 +24,10 @@ use Rattle.dom_model.specs.Trace.{is_page, is_log, may_stop, line_may_stop}
 use Rattle.dom_model.specs.PageMachine.{PageState, is_page_task}
 use Rattle.dom_model.proofs.OwnerLaws.{owner_eq-true, owner_eq-false, ne-owner_eq}
 use Rattle.dom_model.proofs.PartLaws.{part_of-with_part, part_of-with_part-other, owner-part_of}
-use Rattle.dom_worlds.specs.Reached.{IsSound}
+use Rattle.dom_worlds.specs.Reached.{Invariant}
 use Rattle.dom_worlds.specs.Worlds.{IsRoot, OnlyLogs, ComponentsOnlyLog}
 use Rattle.dom_worlds.proofs.Tests.{by_cases}
-use Rattle.dom_worlds.proofs.Alike.{part-alike, world-alike}
+use Rattle.dom_worlds.proofs.SameInvariant.{part-alike, world-alike}
 use Rattle.dom_worlds.proofs.TableEffects.{KeepsBase, base-effect, AddsLogs, KeepsLogs, logs-effect}
 use Rattle.dom_worlds.proofs.ShadowRoots.{SafeEffect, safe-effect}
 use Rattle.dom_worlds.proofs.Acceptance.{part-accepted, accepted-facts, attach-may}
@@ -48,9 +48,9 @@ logs-with_part w p o e h logs x f =
 
 module _ {only_log : Bool} where
   -- an effect keeps what holds
-  quiet-effect : (w : World) (o : Owner) (e : Effect) → IsSound only_log w → InTurn w o → KeepsBase (part_of w o) e →
+  quiet-effect : (w : World) (o : Owner) (e : Effect) → Invariant only_log w → InTurn w o → KeepsBase (part_of w o) e →
       (only_log ≡ true → o ≢ Page → KeepsLogs (part_of w o) e) → (IsTrue (is_some (host_of w o)) → SafeEffect (shadow_root_of o) e) →
-      IsSound only_log (effect_in w o e).0
+      Invariant only_log (effect_in w o e).0
   quiet-effect w o (tables p lines v) q t base logs safe =
       let mine = base.0 ∙ owner-part_of w o in
       record {
@@ -62,8 +62,8 @@ module _ {only_log : Bool} where
 
 module _ {only_log : Bool} where
   -- An accepted command, in its owner's turn.
-  quiet-micro : (w : World) (o : Owner) (label : Word) → IsSound only_log w → InTurn w o →
-      IsSound only_log (record w { tasks = w.tasks ++ micro_task o label ∷ [] })
+  quiet-micro : (w : World) (o : Owner) (label : Word) → Invariant only_log w → InTurn w o →
+      Invariant only_log (record w { tasks = w.tasks ++ micro_task o label ∷ [] })
   quiet-micro w o label q t =
       record {
         world = world-alike (record w { tasks = w.tasks ++ micro_task o label ∷ [] }) w
@@ -78,8 +78,8 @@ module _ {only_log : Bool} where
 
 module _ {only_log : Bool} where
   -- the effect of any command
-  any_effect : (w : World) (o : Owner) (c : Command) → IsSound only_log w → InTurn w o → part_refusal (part_of w o) c ≡ None →
-      (only_log ≡ true → o ≢ Page → AddsLogs c) → IsSound only_log (effect_in w o (effect (part_of w o) c)).0
+  any_effect : (w : World) (o : Owner) (c : Command) → Invariant only_log w → InTurn w o → part_refusal (part_of w o) c ≡ None →
+      (only_log ≡ true → o ≢ Page → AddsLogs c) → Invariant only_log (effect_in w o (effect (part_of w o) c)).0
   any_effect w o c q t r l =
       let p = part_of w o in
       let own = (part-accepted p c r).own in
@@ -88,14 +88,14 @@ module _ {only_log : Bool} where
 
 module _ {only_log : Bool} where
   -- attaching, by whoever may
-  quiet-attach_of : (w : World) (o : Owner) (x : Spelled) → part_refusal (part_of w o) (Command.attach x) ≡ None → IsSound only_log w →
-      IsSound only_log (perform w o (Command.attach x)).0
+  quiet-attach_of : (w : World) (o : Owner) (x : NodeWord) → part_refusal (part_of w o) (Command.attach x) ≡ None → Invariant only_log w →
+      Invariant only_log (perform w o (Command.attach x)).0
   quiet-attach_of w o x r q = quiet-attaching w o (named (part_of w o) x) (attach-may w o x r) (owner-named (part_of w o) x ∙ owner-part_of w o) q
 
 module _ {only_log : Bool} where
   -- every accepted command
-  quiet-perform : (w : World) (o : Owner) (c : Command) → IsSound only_log w → InTurn w o → is_command_of o c ≡ true →
-      part_refusal (part_of w o) c ≡ None → (only_log ≡ true → o ≢ Page → AddsLogs c) → IsSound only_log (perform w o c).0
+  quiet-perform : (w : World) (o : Owner) (c : Command) → Invariant only_log w → InTurn w o → is_command_of o c ≡ true →
+      part_refusal (part_of w o) c ≡ None → (only_log ≡ true → o ≢ Page → AddsLogs c) → Invariant only_log (perform w o c).0
   quiet-perform w o (Command.attach a) q t h r l = quiet-attach_of w o a r q
   quiet-perform w o (Command.connected a) q t h r l = q
   quiet-perform w o (Command.assigned a) q t h r l = q
@@ -110,15 +110,15 @@ in_turn-opening w o h e = subst (λ x. is_page_turn (opening_turn w x).turn ≡ 
 
 module _ {only_log : Bool} where
   -- with the turn that it opens
-  opened : (w : World) (o : Owner) (c : Command) → IsSound only_log w → (o ≡ Page → IsPageTime w) → is_command_of o c ≡ true →
-      part_refusal (part_of w o) c ≡ None → (only_log ≡ true → o ≢ Page → AddsLogs c) → IsSound only_log (perform (opening_turn w o) o c).0
+  opened : (w : World) (o : Owner) (c : Command) → Invariant only_log w → (o ≡ Page → IsPageTime w) → is_command_of o c ≡ true →
+      part_refusal (part_of w o) c ≡ None → (only_log ≡ true → o ≢ Page → AddsLogs c) → Invariant only_log (perform (opening_turn w o) o c).0
   opened w o c q t h r l = quiet-perform (opening_turn w o) o c (quiet-opening w q o t) (in_turn-opening w o t) h
       (ap (λ p. part_refusal p c) (part_of-opening w o o) ∙ r) l
 
 module _ {only_log : Bool} where
   -- `.` apart, which opens none
-  quiet-accepted : (w : World) (o : Owner) (c : Command) → IsSound only_log w → (o ≡ Page → IsPageTime w) → is_command_of o c ≡ true →
-      part_refusal (part_of w o) c ≡ None → (only_log ≡ true → o ≢ Page → AddsLogs c) → IsSound only_log (accepted w o c).0
+  quiet-accepted : (w : World) (o : Owner) (c : Command) → Invariant only_log w → (o ≡ Page → IsPageTime w) → is_command_of o c ≡ true →
+      part_refusal (part_of w o) c ≡ None → (only_log ≡ true → o ≢ Page → AddsLogs c) → Invariant only_log (accepted w o c).0
   quiet-accepted w o Command.end_turn q t h r l = quiet-ending_turn w q
   quiet-accepted w o c q t h r l = opened w o c q t h r l
 
@@ -146,20 +146,20 @@ adds-logs w o c h e f = tt
 -- One command, and one line.
 module _ {only_log : Bool} where
   -- refused or accepted
-  quiet-command : (w : World) (o : Owner) (c : Command) → IsSound only_log w → (o ≡ Page → IsPageTime w) →
-      (only_log ≡ true → may_stop w o c ≡ false) → IsSound only_log (run_command o c w).0
+  quiet-command : (w : World) (o : Owner) (c : Command) → Invariant only_log w → (o ≡ Page → IsPageTime w) →
+      (only_log ≡ true → may_stop w o c ≡ false) → Invariant only_log (run_command o c w).0
   quiet-command w o c q t m = from (refusal w o c) refl
     where
-      from : (r : Option Refusal) → refusal w o c ≡ r → IsSound only_log (unless_refused o (refusal w o c) w (accepted w o c)).0
-      from (Some r) e = subst (λ a. IsSound only_log (unless_refused o a w (accepted w o c)).0) (sym e) q
+      from : (r : Option Refusal) → refusal w o c ≡ r → Invariant only_log (unless_refused o (refusal w o c) w (accepted w o c)).0
+      from (Some r) e = subst (λ a. Invariant only_log (unless_refused o a w (accepted w o c)).0) (sym e) q
       from None e =
           let a = accepted-facts w o c e in
-          subst (λ a. IsSound only_log (unless_refused o a w (accepted w o c)).0) (sym e)
+          subst (λ a. Invariant only_log (unless_refused o a w (accepted w o c)).0) (sym e)
           (quiet-accepted w o c q t a.grammar a.part (λ y. adds-logs w o c (m y) e))
 
 module _ {only_log : Bool} where
   -- a line keeps what holds
-  pub quiet-step : (w : World) (l : Line) → IsSound only_log w → (only_log ≡ true → line_may_stop w l ≡ false) → IsSound only_log (step w l).0
+  pub quiet-step : (w : World) (l : Line) → Invariant only_log w → (only_log ≡ true → line_may_stop w l ≡ false) → Invariant only_log (step w l).0
   quiet-step w no_owner q h = q
   quiet-step w (no_command o) q h = quiet-ending_other w q o
   quiet-step w (command o c) q h =

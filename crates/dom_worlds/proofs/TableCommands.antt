@@ -5,7 +5,7 @@ use Rattle.std.specs.Option.{option_map_or}
 use Rattle.std.proofs.lemmas.Bool.{and_parts}
 use Rattle.dom_base.specs.declared.NodeName.{NodeName}
 use Rattle.dom_base.specs.declared.Refusal.TheVariants.{Hierarchy}
-use Rattle.dom_model.specs.Command.{Spelled}
+use Rattle.dom_model.specs.Command.{NodeWord}
 use Rattle.dom_model.specs.CommandNames.{named}
 use Rattle.dom_model.specs.Effects.{Effect, tables, changes, with_range, collapsed_to}
 use Rattle.dom_model.specs.Names.{name_eq}
@@ -22,7 +22,7 @@ use Rattle.dom_worlds.proofs.InsideAncestors.{inside-no_ancestor}
 use Rattle.dom_worlds.proofs.KindLines.{has_node-times}
 use Rattle.dom_worlds.proofs.Owners.{owner-named}
 use Rattle.dom_worlds.proofs.PlanPlaces.{MayGo}
-use Rattle.dom_worlds.proofs.TableSteps.{There, MadeIn, all-set}
+use Rattle.dom_worlds.proofs.TableSteps.{HasNode, MadeIn, all-set}
 use Rattle.dom_worlds.proofs.TableRecords.{IfSome}
 use Rattle.dom_worlds.proofs.Roots.{roots-equal, roots-same}
 use Rattle.dom_worlds.proofs.Tests.{which_way}
@@ -52,26 +52,26 @@ replacement-apart ts parent node child h =
     tested-apart ts parent node (not (has_parent ts parent child)) (filter (λ (n : Node). not (name_eq n.name child)) (child_nodes ts parent)) h
 
 -- so it may go there
-pub named-may : (p : Part) (x : Spelled) (parent : NodeName) → IsPart p → There p (named p x) → There p parent →
+pub named-may : (p : Part) (x : NodeWord) (parent : NodeName) → IsPart p → HasNode p (named p x) → HasNode p parent →
     is_inclusive_ancestor p.trees (named p x) parent ≡ false → MayGo parent p (named p x)
 named-may p x parent i t b h = record { there = t; owner = owner-named p x; below = b; apart = inside-no_ancestor p.trees (named p x) parent i.unique h }
 
 -- Nodes that a command names are there.
-pub exists-first : (p : Part) (x : Spelled) (rest thing : Bool) → ((has_node p.trees (named p x) && rest) && thing) ≡ true → There p (named p x)
+pub exists-first : (p : Part) (x : NodeWord) (rest thing : Bool) → ((has_node p.trees (named p x) && rest) && thing) ≡ true → HasNode p (named p x)
 exists-first p x rest thing h = has_node-times p.trees (named p x)
     (and_parts (has_node p.trees (named p x)) rest (and_parts (has_node p.trees (named p x) && rest) thing h).0).0
 
 -- the second one
-pub exists-second : (p : Part) (x y : Spelled) (rest thing : Bool) →
-    ((has_node p.trees (named p x) && (has_node p.trees (named p y) && rest)) && thing) ≡ true → There p (named p y)
+pub exists-second : (p : Part) (x y : NodeWord) (rest thing : Bool) →
+    ((has_node p.trees (named p x) && (has_node p.trees (named p y) && rest)) && thing) ≡ true → HasNode p (named p y)
 exists-second p x y rest thing h =
     let more = has_node p.trees (named p y) && rest in
     has_node-times p.trees (named p y) (and_parts (has_node p.trees (named p y)) rest
     (and_parts (has_node p.trees (named p x)) more (and_parts (has_node p.trees (named p x) && more) thing h).0).1).0
 
 -- the third of three
-pub exists-third : (p : Part) (x y z : Spelled) →
-    ((has_node p.trees (named p x) && (has_node p.trees (named p y) && (has_node p.trees (named p z) && true))) && true) ≡ true → There p (named p z)
+pub exists-third : (p : Part) (x y z : NodeWord) →
+    ((has_node p.trees (named p x) && (has_node p.trees (named p y) && (has_node p.trees (named p z) && true))) && true) ≡ true → HasNode p (named p z)
 exists-third p x y z h =
     let last = has_node p.trees (named p z) && true in
     let more = has_node p.trees (named p y) && last in

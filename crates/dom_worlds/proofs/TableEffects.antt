@@ -9,7 +9,7 @@ use Rattle.dom_model.specs.Listeners.{Listener, listened, is_listener}
 use Rattle.dom_model.specs.Names.{name_eq}
 use Rattle.std.specs.List.{AllByRecursion, list_any}
 use Rattle.dom_worlds.specs.Worlds.{OnlyLogs}
-use Rattle.dom_worlds.proofs.Alike.{IsAlike}
+use Rattle.dom_worlds.proofs.SameInvariant.{IsAlike}
 use Rattle.dom_worlds.proofs.Lists.{all-append, all-filter}
 use Rattle.dom_model.specs.Output.{Value, nothing, a_string, boundaries, reference, a_node}
 use Rattle.dom_model.specs.Part.{Part, range_at}

@@ -10,7 +10,7 @@ use Rattle.dom_base.specs.declared.NodeName.{NodeName}
 use Rattle.dom_base.specs.declared.Owner.{Owner}
 use Rattle.dom_base.specs.declared.Owner.TheVariants.{Page, Component}
 use Rattle.dom_base.specs.declared.Refusal.{Refusal}
-use Rattle.dom_model.specs.Command.{Command, Line, no_owner, no_command, command, Spelled, EventWords}
+use Rattle.dom_model.specs.Command.{Command, Line, no_owner, no_command, command, NodeWord, EventWords}
 use Rattle.dom_model.specs.CommandNames.{named}
 use Rattle.dom_model.specs.CommandRefusals.{is_command_of, part_refusal}
 use Rattle.dom_model.specs.Dispatch.{dispatch_in, world_visit, visits_of}
@@ -206,7 +206,7 @@ frame-attaching w o x may g i t f =
     (absent-grows w c root (next-absent w g.makers i o may))) k
 
 -- who attaches is known from acceptance
-frame-attach_of : (w : World) (o : Owner) (x : Spelled) → part_refusal (part_of w o) (Command.attach x) ≡ None →
+frame-attach_of : (w : World) (o : Owner) (x : NodeWord) → part_refusal (part_of w o) (Command.attach x) ≡ None →
     Ground w → HasOwners w → Frame w → Frame (perform w o (Command.attach x)).0
 frame-attach_of w o x r k i f =
     frame-attaching w o (named (part_of w o) x) (attach-may w o x r) k i

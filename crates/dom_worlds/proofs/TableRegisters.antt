@@ -8,7 +8,7 @@ use Rattle.std.proofs.lemmas.Bool.{and_parts}
 use Rattle.std.proofs.lemmas.List.{length-set}
 use Rattle.dom_base.specs.declared.NodeName.{NodeName}
 use Rattle.dom_model.specs.Changes.{observed}
-use Rattle.dom_model.specs.Command.{Command, Spelled, ObserveWords, ListenerWords}
+use Rattle.dom_model.specs.Command.{Command, NodeWord, ObserveWords, ListenerWords}
 use Rattle.dom_model.specs.CommandNames.{named, has_range}
 use Rattle.dom_model.specs.CommandRefusals.{part_refusal, own_refusal, of_range, limit_on, made_by_insert_node}
 use Rattle.dom_model.specs.Effects.{effect, answers, moves_iterator, sets_walker, node_or_null, collapsed_to}
@@ -41,7 +41,7 @@ use Rattle.dom_worlds.proofs.PlanTexts.{leads-replacing, leads-setting_attribute
 use Rattle.dom_worlds.proofs.PlanTexts.{leads-normalizing, leads-setting_text}
 use Rattle.dom_worlds.proofs.PlanContents.{range-ends, leads-extracting, leads-deleting, leads-inserting_into_range}
 use Rattle.dom_worlds.proofs.ShadowRoots.{not_taken}
-use Rattle.dom_worlds.proofs.TableSteps.{There, MadeIn}
+use Rattle.dom_worlds.proofs.TableSteps.{HasNode, MadeIn}
 use Rattle.dom_worlds.proofs.PlanRoots.{ends-at}
 use Rattle.dom_worlds.proofs.TableRecords.{IfSome, all-get}
 use Rattle.dom_worlds.proofs.Roots.{roots-same}
@@ -116,23 +116,23 @@ range-made p k f h = from (range_at p k) refl
     from (Some range) e = subst (λ o. MadeIn p (option_map_or f o [])) (sym e) (h range e)
 
 -- the parent into which a node goes is there
-pub parent-of_range : (p : Part) (range : Range NodeName) → There p range.start.node → There p (insertion_parent p.trees range)
+pub parent-of_range : (p : Part) (range : Range NodeName) → HasNode p range.start.node → HasNode p (insertion_parent p.trees range)
 parent-of_range p range t = from (start_reference p.trees range)
   where
-    of : (o : Option NodeName) → IfSome (There p) o → There p (Rattle.std.specs.Prelude.unwrap_or o range.start.node)
+    of : (o : Option NodeName) → IfSome (HasNode p) o → HasNode p (Rattle.std.specs.Prelude.unwrap_or o range.start.node)
     of None h = t
     of (Some x) h = h
 
-    up : (x : NodeName) (o : Option NodeName) → parent_of p.trees x ≡ o → IfSome (There p) o
+    up : (x : NodeName) (o : Option NodeName) → parent_of p.trees x ≡ o → IfSome (HasNode p) o
     up x None e = tt
     up x (Some y) e = parent-there p.trees x y e
 
-    from : (o : Option NodeName) → There p (Rattle.std.specs.Prelude.unwrap_or (Rattle.std.specs.Option.option_and_then (parent_of p.trees) o) range.start.node)
+    from : (o : Option NodeName) → HasNode p (Rattle.std.specs.Prelude.unwrap_or (Rattle.std.specs.Option.option_and_then (parent_of p.trees) o) range.start.node)
     from None = t
     from (Some x) = of (parent_of p.trees x) (up x (parent_of p.trees x) refl)
 
 -- an accepted `insert-node` is valid
-pub insert_node-valid : (p : Part) (k : ℕ) (x : Spelled) → own_refusal p (Command.insert_node k x) ≡ None → (range : Range NodeName) →
+pub insert_node-valid : (p : Part) (k : ℕ) (x : NodeWord) → own_refusal p (Command.insert_node k x) ≡ None → (range : Range NodeName) →
     range_at p k ≡ Some range → insert_node_refusal p.trees range (named p x) ≡ None
 insert_node-valid p k x r range e =
     let tests = λ (q : Range NodeName). option_or (insert_node_refusal p.trees q (named p x)) (limit_on p.node_count (made_by_insert_node p q)) in
@@ -140,7 +140,7 @@ insert_node-valid p k x r range e =
     (or-none (insert_node_refusal p.trees range (named p x)) (limit_on p.node_count (made_by_insert_node p range)) here).0
 
 -- so its node may go there
-pub insert_node-may : (p : Part) (k : ℕ) (x : Spelled) → IsPart p → HasTables p → There p (named p x) →
+pub insert_node-may : (p : Part) (k : ℕ) (x : NodeWord) → IsPart p → HasTables p → HasNode p (named p x) →
     own_refusal p (Command.insert_node k x) ≡ None → (range : Range NodeName) → range_at p k ≡ Some range →
     MayGo (insertion_parent p.trees range) p (named p x)
 insert_node-may p k x i h t r range e =

@@ -30,18 +30,18 @@ use Rattle.dom_worlds.proofs.Insides.{inside, inside-map_nodes, times-taken_out_
 use Rattle.dom_worlds.proofs.InsideAncestors.{inside-no_ancestor, parent-there, times-has_node}
 
 -- A node is there, by its count.
-abbrev pub There : Part → NodeName → Type 0
-There p x = 1 ≤ times_in p.trees x
+abbrev pub HasNode : Part → NodeName → Type 0
+HasNode p x = 1 ≤ times_in p.trees x
 
 -- What a step may name in the part in which it is made: a node is placed below another one that does not stand in its
 -- tree, and is a root before; and boundaries are moved to nodes that are there and have their roots.
 abbrev pub Fits : Part → Step → Type 0
-Fits p (place x parent before) = There p parent × (inside p.trees x parent ≡ 0) × HasRoot p.trees x
+Fits p (place x parent before) = HasNode p parent × (inside p.trees x parent ≡ 0) × HasRoot p.trees x
 Fits p (set_document x d) = x.owner ≡ p.owner
-Fits p (split_at x offset new parent index) = There p new × (root_of p.trees new ≡ root_of p.trees x)
-Fits p (join_at first size next parent index) = There p first × (root_of p.trees first ≡ root_of p.trees next) ×
+Fits p (split_at x offset new parent index) = HasNode p new × (root_of p.trees new ≡ root_of p.trees x)
+Fits p (join_at first size next parent index) = HasNode p first × (root_of p.trees first ≡ root_of p.trees next) ×
     (root_of p.trees first ≡ root_of p.trees parent)
-Fits p (set_range k r) = There p r.start.node × There p r.end.node × (root_of p.trees r.start.node ≡ root_of p.trees r.end.node)
+Fits p (set_range k r) = HasNode p r.start.node × HasNode p r.end.node × (root_of p.trees r.start.node ≡ root_of p.trees r.end.node)
 Fits p s = ⊤
 
 -- steps that each fit where they are made

@@ -7,10 +7,10 @@ use Rattle.dom_model.specs.Dispatch.{dispatch_in}
 use Rattle.dom_model.specs.Turns.{is_owned_by, without_signals, notified}
 use Rattle.dom_model.specs.World.{World, part_of, with_part}
 use Rattle.dom_model.proofs.PartLaws.{owner-part_of}
-use Rattle.dom_worlds.specs.Reached.{IsSound, IsReached}
+use Rattle.dom_worlds.specs.Reached.{Invariant, IsReached}
 use Rattle.dom_worlds.specs.Tables.{IsWhole}
 use Rattle.dom_worlds.specs.Worlds.{IsThere}
-use Rattle.dom_worlds.proofs.Alike.{AreAlike, alike-with_part}
+use Rattle.dom_worlds.proofs.SameInvariant.{AreAlike, alike-with_part}
 use Rattle.dom_worlds.proofs.KindCommands.{all-kinds, kinds-same}
 use Rattle.dom_worlds.proofs.Lists.{all-filter}
 use Rattle.dom_worlds.proofs.OwnerSteps.{IsPeopled, people, same-people, peopled-with_part}
@@ -25,7 +25,7 @@ pub record Stands (w : World) : Type 0 where
   pub whole : IsWhole w
 
 -- a world whose trees are those of one that is reached
-reached-alike : (v w : World) → AreAlike v w → IsSound false v → IsPeopled v → IsReached false w → IsReached false v
+reached-alike : (v w : World) → AreAlike v w → Invariant false v → IsPeopled v → IsReached false w → IsReached false v
 reached-alike v w a q i r = record { world = q.world; kinds = (kinds-same v w a (all-kinds w r.kinds)).parts; owners = i.owners; logs = q.logs }
 
 -- the tasks are taken out, and the turn is closed

@@ -22,7 +22,7 @@ use Rattle.dom_model.specs.TextChanges.{normalizing_text, normalizing, replacing
 use Rattle.dom_model.proofs.OwnerLaws.{name_eq-same}
 use Rattle.dom_worlds.specs.Worlds.{times_in, times_among, IsPart}
 use Rattle.dom_worlds.proofs.Bounds.{nowhere, HasRoom, room-make, room-record, room-split, room-join, length-replaced, length-like}
-use Rattle.dom_worlds.proofs.Kids.{kids, index-below}
+use Rattle.dom_worlds.proofs.ChildCounts.{kids, index-below}
 use Rattle.dom_worlds.proofs.NodesRead.{node-with_node, node-new, node-map_nodes, length-data, length-kids}
 use Rattle.dom_worlds.proofs.Lists.{all-dropped, all-then, all-from, all-filter, all-take_while, all-passed}
 use Rattle.dom_worlds.proofs.NodeKinds.{name-node_in}
@@ -34,7 +34,7 @@ use Rattle.dom_worlds.proofs.PlanPlaces.{Changed, Leads, MayGo, may-still, still
 use Rattle.dom_worlds.proofs.PlanPlaces.{leads-inserting}
 use Rattle.dom_worlds.proofs.PlanTexts.{MayFollow, may-follow, texts-beside, next-not, new-there, new-may, descend-there, leads-removals}
 use Rattle.dom_worlds.proofs.PlanTexts.{leads-tail, leads-joins, leads-replacing_data, leads-normalizing_text}
-use Rattle.dom_worlds.proofs.TableSteps.{There}
+use Rattle.dom_worlds.proofs.TableSteps.{HasNode}
 use Rattle.dom_worlds.proofs.TableRecords.{all-kept}
 use Rattle.dom_worlds.proofs.Tests.{by_cases, either_way}
 use Rattle.dom_worlds.proofs.TreeChangeLaws.{HasRoot, put_where, where-here, where-later, put_root-where, root-put_root_new, root-first, times-below}
@@ -82,9 +82,9 @@ kids-open p x h k = by_cases (has_data (kind_of p.trees x)) (λ e. absurd (let z
 record IsTail (p : Part) (x : NodeName) (offset : ℕ) (q : Part) (new : NodeName) : Type 0 where
   room : HasRoom nowhere q
   part : IsPart q
-  there : There q x
+  there : HasNode q x
   text : has_data (kind_of q.trees x) ≡ true
-  new_there : There q new
+  new_there : HasNode q new
   new_text : has_data (kind_of q.trees new) ≡ true
   plain : is_fragment (kind_of q.trees new) ≡ false
   size : length (node_in q.trees x).text ≤ offset + length (node_in q.trees new).text
@@ -128,7 +128,7 @@ room-tail p x offset q new (Some parent) e t m =
         (open-still c parent may.below opened)
 
 -- a split
-pub room-splitting : (x : NodeName) (offset : ℕ) (p : Part) → IsPart p → There p x → has_data (kind_of p.trees x) ≡ true → HasRoom nowhere p →
+pub room-splitting : (x : NodeName) (offset : ℕ) (p : Part) → IsPart p → HasNode p x → has_data (kind_of p.trees x) ≡ true → HasRoom nowhere p →
     HasRoom nowhere (after p (splitting x offset p))
 room-splitting x offset p i t k h =
     let old = node_in p.trees x in
@@ -160,7 +160,7 @@ room-splitting x offset p i t k h =
     (λ r c g. room-replacing_data x offset (length old.text - offset) [] r c.part (ap has_data (c.kinds x t) ∙ k) g)
 
 -- Data that are replaced.
-pub replaced-here : (p : Part) (x : NodeName) (offset count : ℕ) (new : DomString) → There p x →
+pub replaced-here : (p : Part) (x : NodeName) (offset count : ℕ) (new : DomString) → HasNode p x →
     node_in (part_step p (replace_data x offset count new)).trees x ≡ with_data_replaced offset count new (node_in p.trees x)
 replaced-here p x offset count new t =
     let f : Node → Node = λ n. if name_eq n.name x then with_data_replaced offset count new n else n in
@@ -169,7 +169,7 @@ replaced-here p x offset count new t =
     (ap (λ z. name_eq z x) (name-node_in p.trees x) ∙ name_eq-same x)
 
 -- of another node they stay
-replaced-elsewhere : (p : Part) (x : NodeName) (offset count : ℕ) (new : DomString) (y : NodeName) → There p y → name_eq x y ≡ false →
+replaced-elsewhere : (p : Part) (x : NodeName) (offset count : ℕ) (new : DomString) (y : NodeName) → HasNode p y → name_eq x y ≡ false →
     node_in (part_step p (replace_data x offset count new)).trees y ≡ node_in p.trees y
 replaced-elsewhere p x offset count new y t e =
     let f : Node → Node = λ n. if name_eq n.name x then with_data_replaced offset count new n else n in
@@ -233,7 +233,7 @@ children-among ts y x =
     let a = roots-among (trees_below (subtree ts y)) x in let b = times-below (subtree ts y) x in let c = times-subtree ts y x in omega arith
 
 -- The Texts after a Text that gets their data: it is long enough for them, and they stay as long as they are.
-pub joining-fits : (x parent : NodeName) (p : Part) → IsPart p → There p x → has_data (kind_of p.trees x) ≡ true → parent_of p.trees x ≡ Some parent →
+pub joining-fits : (x parent : NodeName) (p : Part) → IsPart p → HasNode p x → has_data (kind_of p.trees x) ≡ true → parent_of p.trees x ≡ Some parent →
     let nexts = texts_after p.trees x in
     let q = after p (replacing_data x (length_of p.trees x) 0 (flat_map (λ y. (node_in p.trees y).text) nexts) p) in
     (length_of p.trees x + total p.trees nexts ≤ length_of q.trees x) × AllByRecursion (λ y. length_of q.trees y ≡ length_of p.trees y) nexts
@@ -275,7 +275,7 @@ joining-fits x parent p i t k e =
         (λ e. subst (AllByRecursion (λ z. test z ≡ true)) (sym (Rattle.dom_worlds.proofs.Lists.take_while-no test y xs e)) tt)
 
 -- Texts that are joined
-room-joining : (x parent : NodeName) (p : Part) → IsPart p → There p x → has_data (kind_of p.trees x) ≡ true → parent_of p.trees x ≡ Some parent →
+room-joining : (x parent : NodeName) (p : Part) → IsPart p → HasNode p x → has_data (kind_of p.trees x) ≡ true → parent_of p.trees x ≡ Some parent →
     HasRoom nowhere p → HasRoom nowhere (after p (joining x parent (texts_after p.trees x) p))
 room-joining x parent p i t k e h =
     let ts = p.trees in
@@ -307,7 +307,7 @@ room-turns P f l h k (x ∷ xs) p i g r =
 
 -- a Text that is there
 abbrev pub TextIn : Part → NodeName → Type 0
-TextIn p x = There p x × (is_text (kind_of p.trees x) ≡ true)
+TextIn p x = HasNode p x × (is_text (kind_of p.trees x) ≡ true)
 
 -- a Text that is normalized
 pub room-normalizing_text : (p : Part) (x : NodeName) → IsPart p → TextIn p x → HasRoom nowhere p → HasRoom nowhere (after p (normalizing_text x p))
@@ -331,11 +331,11 @@ room-normalizing x p i h =
     let texts = filter is (descendants p.trees x) in
     room-turns TextIn normalizing_text (λ q y j t. leads-normalizing_text q y j t.0) room-normalizing_text
     (λ q r y c t. (still c y t.0, ap is_text (c.kinds y t.0) ∙ t.1)) texts p i
-    (all-kept (There p) is (descendants p.trees x) (all-dropped (There p) (inclusive_descendants p.trees x) (descend-there p.trees x))) h
+    (all-kept (HasNode p) is (descendants p.trees x) (all-dropped (HasNode p) (inclusive_descendants p.trees x) (descend-there p.trees x))) h
 
 -- Text content.
 room-replaced : (x : NodeName) (p : Part) (made told : List Step) (old added : List NodeName) → Leads (Some x) p made →
-    AllByRecursion (MayGo x (after p made)) added → There p x → IsOpen p x → HasRoom nowhere (after p made) →
+    AllByRecursion (MayGo x (after p made)) added → HasNode p x → IsOpen p x → HasRoom nowhere (after p made) →
     ((q : Part) → HasRoom nowhere q → HasRoom nowhere (after q told)) →
     HasRoom nowhere (after p ((steps_of made and_then in_turn (removing suppressed) old and_then in_turn (λ y. inserting suppressed y x None)
     added and_then steps_of told) p))
@@ -354,7 +354,7 @@ room-replaced x p made told old added a m t k h g =
     let all = (made ++ gone) ++ in_turn (λ y. inserting suppressed y x None) added r in
     room-then nowhere p all told (g (after p all) (room-then nowhere p (made ++ gone) (in_turn (λ y. inserting suppressed y x None) added r) put))
   where
-    room-each_in : (x : NodeName) (ys : List NodeName) (q : Part) → IsPart q → AllByRecursion (MayGo x q) ys → There q x → IsOpen q x →
+    room-each_in : (x : NodeName) (ys : List NodeName) (q : Part) → IsPart q → AllByRecursion (MayGo x q) ys → HasNode q x → IsOpen q x →
         HasRoom nowhere q → HasRoom nowhere (after q (in_turn (λ y. inserting suppressed y x None) ys q))
     room-each_in x [] q i m t k h = h
     room-each_in x (y ∷ ys) q i m t k h =
@@ -365,7 +365,7 @@ room-replaced x p made told old added a m t k h g =
         (still first.changed x t) (open-still first.changed x t k) (room-inserting suppressed y x None q i m.0 k h))
 
 -- children that give way to a Text
-room-replacing_children : (x : NodeName) (new : DomString) (p : Part) → IsPart p → There p x → IsOpen p x → HasRoom nowhere p →
+room-replacing_children : (x : NodeName) (new : DomString) (p : Part) → IsPart p → HasNode p x → IsOpen p x → HasRoom nowhere p →
     HasRoom nowhere (after p (replacing_children x new p))
 room-replacing_children x new p i t k h =
     let old = children_of p.trees x in
@@ -389,7 +389,7 @@ room-replacing_children x new p i t k h =
     )
 
 -- text content
-pub room-setting_text : (x : NodeName) (new : DomString) (p : Part) → IsPart p → There p x → HasRoom nowhere p →
+pub room-setting_text : (x : NodeName) (new : DomString) (p : Part) → IsPart p → HasNode p x → HasRoom nowhere p →
     HasRoom nowhere (after p (setting_text x new p))
 room-setting_text x new p i t h =
     Rattle.dom_worlds.proofs.Tests.which_way (λ steps. HasRoom nowhere (after p steps)) (has_data (kind_of p.trees x))

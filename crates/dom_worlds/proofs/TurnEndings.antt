@@ -16,10 +16,10 @@ use Rattle.dom_model.specs.Turns.{notified, slotchange, firing_slotchange, is_ow
 use Rattle.dom_model.specs.PageMachine.{is_page_task}
 use Rattle.dom_model.proofs.PartLaws.{owner-part_of}
 use Rattle.dom_worlds.specs.Worlds.{IsWorld, IsForeignTo}
-use Rattle.dom_worlds.specs.Reached.{IsSound}
+use Rattle.dom_worlds.specs.Reached.{Invariant}
 use Rattle.dom_worlds.proofs.Lists.{all-filter}
 use Rattle.dom_worlds.proofs.Visits.{InWorld, part_of-visits, rest-visits, logs-visits}
-use Rattle.dom_worlds.proofs.Alike.{AreAlike, alike-same, alike-then, world-alike, there-with_part, alike-with_part, logs-same, listeners-with_part}
+use Rattle.dom_worlds.proofs.SameInvariant.{AreAlike, alike-same, alike-then, world-alike, there-with_part, alike-with_part, logs-same, listeners-with_part}
 
 -- A dispatch keeps it, and the turn.
 pub there-visits : (e : EventWords) (vs : List (Visit NodeName)) (s : InWorld) (o : Owner) → is_there s.0 o ≡ true →
@@ -48,8 +48,8 @@ world-dispatch w x related e i =
 
 module _ {only_log : Bool} where
   -- and of its listeners
-  pub quiet-dispatch : (w : World) (x : NodeName) (related : Option NodeName) (e : EventWords) → IsSound only_log w →
-      IsSound only_log (dispatch_in w x related e).run.0
+  pub quiet-dispatch : (w : World) (x : NodeName) (related : Option NodeName) (e : EventWords) → Invariant only_log w →
+      Invariant only_log (dispatch_in w x related e).run.0
   quiet-dispatch w x related e q =
       record {
         world = world-dispatch w x related e q.world;
@@ -62,7 +62,7 @@ turn-dispatch w x related e = ap (λ (v : World). v.turn) (rest-visits e (visits
 
 module _ {only_log : Bool} where
   -- they keep what holds
-  keeps-firings : (ss : List NodeName) (w : World) → IsSound only_log w → IsSound only_log (run_each firing_slotchange w ss).0
+  keeps-firings : (ss : List NodeName) (w : World) → Invariant only_log w → Invariant only_log (run_each firing_slotchange w ss).0
   keeps-firings [] w q = q
   keeps-firings (s ∷ ss) w q = keeps-firings ss (firing_slotchange w s).0 (quiet-dispatch w s None slotchange q)
 
@@ -76,7 +76,7 @@ alike-told w o = alike-with_part (without_signals w o) (notified (part_of w o)) 
 
 module _ {only_log : Bool} where
   -- what holds stays
-  pub quiet-told : (w : World) (o : Owner) → IsSound only_log w → IsSound only_log (told_in w o)
+  pub quiet-told : (w : World) (o : Owner) → Invariant only_log w → Invariant only_log (told_in w o)
   quiet-told w o q =
       let base = without_signals w o in
       let p = notified (part_of w o) in
@@ -88,13 +88,13 @@ module _ {only_log : Bool} where
 
 module _ {only_log : Bool} where
   -- a task keeps what holds
-  pub quiet-running : (w : World) → IsSound only_log w → (t : Task) → IsSound only_log (running_task w t).0
+  pub quiet-running : (w : World) → Invariant only_log w → (t : Task) → Invariant only_log (running_task w t).0
   quiet-running w q (micro_task o label) = q
   quiet-running w q (notify_task o) = keeps-firings (filter (is_owned_by o) w.signalled) (told_in w o) (quiet-told w o q)
 
 module _ {only_log : Bool} where
   -- and so do all
-  quiet-running_all : (ts : List Task) (w : World) → IsSound only_log w → IsSound only_log (run_each running_task w ts).0
+  quiet-running_all : (ts : List Task) (w : World) → Invariant only_log w → Invariant only_log (run_each running_task w ts).0
   quiet-running_all [] w q = q
   quiet-running_all (t ∷ ts) w q = quiet-running_all ts (running_task w t).0 (quiet-running w q t)
 
@@ -104,7 +104,7 @@ at_end w = record w { tasks = []; turn = None }
 
 module _ {only_log : Bool} where
   -- with the tasks taken out
-  pub quiet-at_end : (w : World) → IsSound only_log w → IsSound only_log (at_end w)
+  pub quiet-at_end : (w : World) → Invariant only_log w → Invariant only_log (at_end w)
   quiet-at_end w q =
       record {
         world = world-alike (at_end w) w (λ o. record { trees = refl; count = refl; attached = refl }) (λ h. h) q.world.signalled
@@ -114,7 +114,7 @@ module _ {only_log : Bool} where
 
 module _ {only_log : Bool} where
   -- it keeps what holds
-  pub quiet-ending_turn : (w : World) → IsSound only_log w → IsSound only_log (ending_turn w).0
+  pub quiet-ending_turn : (w : World) → Invariant only_log w → Invariant only_log (ending_turn w).0
   quiet-ending_turn w q = quiet-running_all w.tasks (at_end w) (quiet-at_end w q)
 
 -- The parts' trees, counts and hosts stay.

@@ -18,12 +18,12 @@ use Rattle.dom_model.specs.PageMachine.{is_page_task}
 use Rattle.dom_model.proofs.OwnerLaws.{owner_eq-true, owner_eq-false}
 use Rattle.dom_model.proofs.PartLaws.{part_of-with_part, part_of-with_part-other, owner-part_of}
 use Rattle.dom_model.proofs.StepLaws.{owner-part_step, Component-IsNoPage}
-use Rattle.dom_worlds.specs.Reached.{IsSound}
+use Rattle.dom_worlds.specs.Reached.{Invariant}
 use Rattle.dom_worlds.specs.Worlds.{IsPart, IsRoot, IsWorld, IsOf, IsForeignTo}
 use Rattle.dom_worlds.proofs.Lists.{all-append}
 use Rattle.dom_worlds.proofs.Makers.{makers-same}
 use Rattle.dom_worlds.proofs.Tests.{by_cases}
-use Rattle.dom_worlds.proofs.Alike.{host_of-same, world-alike, there-with_part, logs-same, listeners-with_part}
+use Rattle.dom_worlds.proofs.SameInvariant.{host_of-same, world-alike, there-with_part, logs-same, listeners-with_part}
 use Rattle.dom_worlds.proofs.ComponentSignals.{signals-foreign, page_tasks-queued_other}
 use Rattle.dom_worlds.proofs.PartSteps.{Allowed, Safe, IsOwn, part-step, own-step, rest-step}
 
@@ -74,7 +74,7 @@ stepped_owner w o s = owner-part_step (part_of w o) s ∙ owner-part_of w o
 
 module _ {only_log : Bool} where
   -- a step in its part
-  pub quiet-stepped : (w : World) (o : Owner) (s : Step) → MayStep w o s → IsSound only_log w → IsSound only_log (stepped o w s)
+  pub quiet-stepped : (w : World) (o : Owner) (s : Step) → MayStep w o s → Invariant only_log w → Invariant only_log (stepped o w s)
   quiet-stepped w o s may q =
       let rest = rest-step (part_of w o) s in
       record {
@@ -89,7 +89,7 @@ host_of-stepped w o s = host_of-same (stepped o w s) w (attached-with_part w (pa
 
 module _ {only_log : Bool} where
   -- What comes after: signals, notifications and node documents.
-  quiet-with_signal : (w : World) (s : NodeName) → IsForeignTo Page s → IsSound only_log w → IsSound only_log (with_signal w s)
+  quiet-with_signal : (w : World) (s : NodeName) → IsForeignTo Page s → Invariant only_log w → Invariant only_log (with_signal w s)
   quiet-with_signal w s f q =
       record {
         world = world-alike (with_signal w s) w (λ o. record { trees = refl; count = refl; attached = refl }) (λ h. h)
@@ -104,19 +104,19 @@ module _ {only_log : Bool} where
 
 module _ {only_log : Bool} where
   -- signals
-  quiet-each_signal : (ss : List NodeName) (w : World) → AllByRecursion (IsForeignTo Page) ss → IsSound only_log w → IsSound only_log (fold with_signal w ss)
+  quiet-each_signal : (ss : List NodeName) (w : World) → AllByRecursion (IsForeignTo Page) ss → Invariant only_log w → Invariant only_log (fold with_signal w ss)
   quiet-each_signal [] w h q = q
   quiet-each_signal (s ∷ ss) w h q = quiet-each_signal ss (with_signal w s) h.1 (quiet-with_signal w s h.0 q)
 
 module _ {only_log : Bool} where
   -- the signals of a step
-  quiet-signals : (was now : World) (x around : NodeName) (is_move : Bool) → IsSound only_log now → IsSound only_log (with_signals was now x around is_move)
+  quiet-signals : (was now : World) (x around : NodeName) (is_move : Bool) → Invariant only_log now → Invariant only_log (with_signals was now x around is_move)
   quiet-signals was now x around is_move q = quiet-each_signal (signals was now x around is_move) now (signals-foreign was now x around is_move) q
 
 module _ {only_log : Bool} where
   -- the signals of a removal
-  quiet-removal_signals : (was now : World) (x : NodeName) (parent : Option NodeName) → IsSound only_log now →
-      IsSound only_log (with_removal_signals was now x parent)
+  quiet-removal_signals : (was now : World) (x : NodeName) (parent : Option NodeName) → Invariant only_log now →
+      Invariant only_log (with_removal_signals was now x parent)
   quiet-removal_signals was now x None q = q
   quiet-removal_signals was now x (Some parent) q = quiet-signals was now x parent true q
 
@@ -126,7 +126,7 @@ InTurn w o = o ≡ Page → is_page_turn w.turn ≡ true
 
 module _ {only_log : Bool} where
   -- a notification, if so
-  quiet-notify : (b : Bool) (o : Owner) (w : World) → InTurn w o → IsSound only_log w → IsSound only_log (with_notify_if b o w)
+  quiet-notify : (b : Bool) (o : Owner) (w : World) → InTurn w o → Invariant only_log w → Invariant only_log (with_notify_if b o w)
   quiet-notify false o w t q = q
   quiet-notify true o w t q =
       record {
@@ -141,13 +141,13 @@ module _ {only_log : Bool} where
 
 module _ {only_log : Bool} where
   -- node documents of shadow trees
-  quiet-documents : (cs : List Owner) (d : NodeName) (w : World) → IsSound only_log w → IsSound only_log (fold (with_shadow_document d) w cs)
+  quiet-documents : (cs : List Owner) (d : NodeName) (w : World) → Invariant only_log w → Invariant only_log (fold (with_shadow_document d) w cs)
   quiet-documents [] d w q = q
   quiet-documents (c ∷ cs) d w q = quiet-documents cs d (with_shadow_document d w c) (quiet-stepped w c (set_document (shadow_root_of c) d) (λ h. tt) q)
 
 module _ {only_log : Bool} where
   -- a step in the world
-  pub quiet-world_step : (o : Owner) (w : World) (s : Step) → InTurn w o → MayStep w o s → IsSound only_log w → IsSound only_log (world_step o w s)
+  pub quiet-world_step : (o : Owner) (w : World) (s : Step) → InTurn w o → MayStep w o s → Invariant only_log w → Invariant only_log (world_step o w s)
   quiet-world_step o w (place x parent before) t m q =
       quiet-signals w (stepped o w (place x parent before)) x parent true (quiet-stepped w o (place x parent before) m q)
   quiet-world_step o w (take_out x) t m q =
@@ -226,7 +226,7 @@ turn-world_after o (s ∷ steps) w = turn-world_after o steps (world_step o w s)
 module _ {only_log : Bool} where
   -- All steps of a change.
   pub quiet-world_after : (o : Owner) (steps : List Step) (w : World) → InTurn w o →
-      (IsTrue (is_some (host_of w o)) → Safe (shadow_root_of o) steps) → IsSound only_log w → IsSound only_log (world_after o w steps)
+      (IsTrue (is_some (host_of w o)) → Safe (shadow_root_of o) steps) → Invariant only_log w → Invariant only_log (world_after o w steps)
   unfolding SameFrame
   quiet-world_after o [] w t m q = q
   quiet-world_after o (s ∷ steps) w t m q =

@@ -16,13 +16,13 @@ use Rattle.dom_model.specs.Trace.{line_may_stop, no_component_stops}
 use Rattle.dom_worlds.specs.Worlds.{IsOf, IsWorld, MayBeShadow, HasKinds, HasOwners, ComponentsOnlyLog}
 
 -- A world of which the laws speak; where only_log, no listener of a component stops or cancels.
-pub record IsSound (only_log : Bool) (w : World) : Type 0 where
+pub record Invariant (only_log : Bool) (w : World) : Type 0 where
   pub world : IsWorld w
   pub logs : only_log ≡ true → ComponentsOnlyLog w
 
 -- the same, where no listener of a component stops or cancels
 abbrev pub IsQuiet : World → Type 0
-IsQuiet w = IsSound true w
+IsQuiet w = Invariant true w
 
 -- A world as the machine reaches it.
 pub record IsReached (only_log : Bool) (w : World) : Type 0 where

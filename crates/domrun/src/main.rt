@@ -10,13 +10,13 @@ ghost use Rattle.std.specs.Prelude.{◌≡◌, true, false, Err};
 ghost use Rattle.domrun.specs.Exits.{status_of, text_of};
 
 mod buffers;
-mod stop;
+mod exit_cause;
 #[cfg(test)]
 mod tests;
 mod words;
 
 use crate::buffers::{Input, Keeper, Output};
-use crate::stop::Stop;
+use crate::exit_cause::ExitCause;
 use crate::words::{Request, request_of};
 use dom_base::Owner;
 use dom_engine::{FromReader, IntoWriter, RunFault, run};
@@ -27,8 +27,8 @@ use std::{env, fs, io};
 fn main(rt: HostRuntime) -> ExitCode {
     let (status, text) = match run_words(&rt) {
         Ok(()) => exit_of(&Ok(())),
-        Err(Stop::Run(fault)) => exit_of(&Err(fault)),
-        Err(Stop::Usage) => (2, "domrun: usage"),
+        Err(ExitCause::Run(fault)) => exit_of(&Err(fault)),
+        Err(ExitCause::Usage) => (2, "domrun: usage"),
     };
     if !text.is_empty() {
         // There is nobody to tell that this cannot be written.
@@ -38,29 +38,29 @@ fn main(rt: HostRuntime) -> ExitCode {
 }
 
 /// Does what the program's words ask for.
-fn run_words(rt: &HostRuntime) -> Result<(), Stop> {
+fn run_words(rt: &HostRuntime) -> Result<(), ExitCause> {
     let words = env::args(rt).map_err(|e| words_refused(&e))?;
     let words: Vec<String> = words.collect(rt.alloc())?;
     run_request(rt, request_of(rt.alloc(), &words)?)
 }
 
 /// What it means that the words could not be read: want of memory, or bytes that are no text.
-fn words_refused(error: &Error) -> Stop {
+fn words_refused(error: &Error) -> ExitCause {
     match error.kind() {
-        ErrorKind::OutOfMemory => Stop::Run(RunFault::Memory),
-        _ => Stop::Usage,
+        ErrorKind::OutOfMemory => ExitCause::Run(RunFault::Memory),
+        _ => ExitCause::Usage,
     }
 }
 
 /// Runs the file that is asked for: with `-`, or with none, standard input.
-fn run_request(rt: &HostRuntime, request: Request<'_>) -> Result<(), Stop> {
+fn run_request(rt: &HostRuntime, request: Request<'_>) -> Result<(), ExitCause> {
     let path = request.file.unwrap_or("-");
     if path == "-" {
         return run_reader(rt, rt.reader(), request.view);
     }
     match fs::File::open(rt, path) {
         Ok(file) => run_reader(rt, file, request.view),
-        Err(_) => Err(Stop::Run(RunFault::Read)),
+        Err(_) => Err(ExitCause::Run(RunFault::Read)),
     }
 }
 
@@ -69,15 +69,15 @@ fn run_reader<R: Read + Drop>(
     rt: &HostRuntime,
     reader: R,
     view: Option<Owner>,
-) -> Result<(), Stop> {
+) -> Result<(), ExitCause> {
     let alloc = rt.alloc();
-    let output = Output::new(alloc, io::writer(rt)).map_err(|_| Stop::Run(RunFault::Memory))?;
-    let input = Input::new(alloc, reader, &output).map_err(|_| Stop::Run(RunFault::Memory))?;
+    let output = Output::new(alloc, io::writer(rt)).map_err(|_| ExitCause::Run(RunFault::Memory))?;
+    let input = Input::new(alloc, reader, &output).map_err(|_| ExitCause::Run(RunFault::Memory))?;
     let mut source = FromReader::new(input);
     let mut sink = IntoWriter::new(Keeper::new(&output));
     let ended = run(alloc, &mut source, &mut sink, view);
     let is_written = !output.has_failed() && output.hand_on().is_ok();
-    fault_of(ended, is_written).map_err(Stop::Run)
+    fault_of(ended, is_written).map_err(ExitCause::Run)
 }
 
 /// How a run has ended, with what came of handing its output on: output that was not taken is a failed write, in whichever

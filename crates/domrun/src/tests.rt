@@ -8,7 +8,7 @@ use std::test::Fail;
 fn asked(
     rt: &HostRuntime,
     words: &[&str],
-) -> Result<Result<(Option<Owner>, Option<String>), Stop>, Fail> {
+) -> Result<Result<(Option<Owner>, Option<String>), ExitCause>, Fail> {
     let mut all = Vec::new(rt.alloc());
     all.push(String::from_str(rt.alloc(), "domrun")?)?;
     for word in words {
@@ -43,7 +43,7 @@ fn asks(
 
 /// Whether the words are refused.
 fn refused(rt: &HostRuntime, words: &[&str]) -> Result<bool, Fail> {
-    Ok(matches!(asked(rt, words)?, Err(Stop::Usage)))
+    Ok(matches!(asked(rt, words)?, Err(ExitCause::Usage)))
 }
 
 /// The component whose word has these numbers, zeros behind them.

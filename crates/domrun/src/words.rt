@@ -5,7 +5,7 @@ ghost use Rattle.dom_text.specs.Readers.{owner_of as spec_owner_of};
 ghost use Rattle.dom_streams.specs.declared.fault.RunFault.TheVariants.{Memory};
 ghost use Rattle.domrun.specs.Words.{AreTaken, HaveForm, NamesAnOwner, command_line as spec_command_line, file_among, file_in, owner_among, texts_of, view_in};
 
-use crate::stop::Stop;
+use crate::exit_cause::ExitCause;
 use clap::{Arg, ArgMatches, Command};
 use dom_base::Owner;
 use dom_reader::owner_of;
@@ -29,40 +29,40 @@ pub fn view_of(word: &str) -> Option<Owner>
 /// What the program's words ask for, the first of them being its own name: `--view` with an owner's word behind it or after
 /// `=`, and one word beside it, behind `--` too, in any order and each at most once (own rule). Other words are refused as
 /// `Usage`, and words that are taken never are; every other error is want of memory.
-pub fn request_of<'a>(alloc: Global, words: &'a [String]) -> Result<Request<'a>, Stop>
+pub fn request_of<'a>(alloc: Global, words: &'a [String]) -> Result<Request<'a>, ExitCause>
     ensures taken { IfOk result (λ _. AreTaken (texts_of words.now)) }
     ensures view { IfOk result (λ request. request.view ≡ view_in (texts_of words.now)) }
     ensures file { IfOk result (λ request. option_map (λ file. file.now) request.file ≡ file_in (texts_of words.now)) }
-    ensures usage { IfErr result (λ stop. stop ≡ Stop.Usage → AreTaken (texts_of words.now) → ⊥) }
-    ensures memory { IfErr result (λ stop. (stop ≡ Stop.Usage → ⊥) → stop ≡ Stop.Run Memory) }
+    ensures usage { IfErr result (λ stop. stop ≡ ExitCause.Usage → AreTaken (texts_of words.now) → ⊥) }
+    ensures memory { IfErr result (λ stop. (stop ≡ ExitCause.Usage → ⊥) → stop ≡ ExitCause.Run Memory) }
 {
     request_in(&matches_in(alloc, words)?)
 }
 
 /// What the words that were given to the parts of the command line ask for: the owner whose word stands behind `--view`, and
 /// the file. `Usage`, and nothing else, exactly where a word stands behind `--view` that is no owner's; nothing is allocated.
-fn request_in<'a>(matches: &ArgMatches<'a>) -> Result<Request<'a>, Stop>
+fn request_in<'a>(matches: &ArgMatches<'a>) -> Result<Request<'a>, ExitCause>
     ensures taken { IfOk result (λ _. NamesAnOwner (rows_of (found_of matches.now))) }
     ensures view { IfOk result (λ request. request.view ≡ owner_among (rows_of (found_of matches.now))) }
     ensures file { IfOk result (λ request. option_map (λ file. file.now) request.file ≡ file_among (rows_of (found_of matches.now))) }
-    ensures refused { IfErr result (λ stop. (stop ≡ Stop.Usage) × (NamesAnOwner (rows_of (found_of matches.now)) → ⊥)) }
+    ensures refused { IfErr result (λ stop. (stop ≡ ExitCause.Usage) × (NamesAnOwner (rows_of (found_of matches.now)) → ⊥)) }
 {
     let file = matches.get_str("file");
     match matches.get_str("view") {
         None => Ok(Request { view: None, file }),
         Some(word) => match view_of(word) {
-            None => Err(Stop::Usage),
+            None => Err(ExitCause::Usage),
             view => Ok(Request { view, file }),
         },
     }
 }
 
 /// What the words give to the parts of the command line. `Usage` where they have not its form, else want of memory.
-fn matches_in<'a>(alloc: Global, words: &'a [String]) -> Result<ArgMatches<'a>, Stop>
+fn matches_in<'a>(alloc: Global, words: &'a [String]) -> Result<ArgMatches<'a>, ExitCause>
     ensures form { IfOk result (λ _. HaveForm (texts_of words.now)) }
     ensures rows { IfOk result (λ found. rows_of (found_of found) ≡ matches_of spec_command_line (texts_of words.now)) }
-    ensures usage { IfErr result (λ stop. stop ≡ Stop.Usage → HaveForm (texts_of words.now) → ⊥) }
-    ensures memory { IfErr result (λ stop. (stop ≡ Stop.Usage → ⊥) → stop ≡ Stop.Run Memory) }
+    ensures usage { IfErr result (λ stop. stop ≡ ExitCause.Usage → HaveForm (texts_of words.now) → ⊥) }
+    ensures memory { IfErr result (λ stop. (stop ≡ ExitCause.Usage → ⊥) → stop ≡ ExitCause.Run Memory) }
 {
     let command = command_line(alloc)?;
     Ok(command.try_get_matches_from(words)?)

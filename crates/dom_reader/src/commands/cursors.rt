@@ -6,20 +6,24 @@ ghost use Rattle.dom_text.specs.Decode.{cursor_at, command_behind};
 ghost use Rattle.dom_words.specs.Gives.{Gives};
 ghost use Rattle.dom_reader.specs.Filters.{filtered as spec_filtered};
 ghost use Rattle.dom_reader.specs.Keywords.{range_keyword, cursor_keyword};
-ghost use Rattle.dom_reader.specs.Views.{spelled_view, filter_view, command_view};
+ghost use Rattle.dom_reader.specs.Views.{word_view, filter_view, command_view};
 
 use super::ended;
 use crate::filters::{last_name_filter, show_of};
 use crate::keywords::{CursorWord, RangeWord};
-use crate::line::{Command, Filter, Spelled};
+use crate::line::{Command, Filter, NodeWord};
 use crate::nodes::next_node;
 use dom_base::Owner;
-use dom_words::{NotRead, Words};
+use dom_words::{NotRead, WordReader};
 use std::alloc::Global;
 
 /// The words of an iterator or a walker: a root, what is shown, and perhaps a name.
-fn filtered(alloc: Global, owner: Owner, words: &mut Words) -> Result<(Spelled, Filter), NotRead>
-    ensures { Gives (λ x. (spelled_view x.0, filter_view x.1)) result (spec_filtered owner words.old) }
+fn filtered(
+    alloc: Global,
+    owner: Owner,
+    words: &mut WordReader,
+) -> Result<(NodeWord, Filter), NotRead>
+    ensures { Gives (λ x. (word_view x.0, filter_view x.1)) result (spec_filtered owner words.old) }
 {
     let root = next_node(owner, words)?;
     let word = words.word()?;
@@ -29,7 +33,7 @@ fn filtered(alloc: Global, owner: Owner, words: &mut Words) -> Result<(Spelled, 
 }
 
 /// The words of `iter-new`.
-fn iterator_new(alloc: Global, owner: Owner, words: &mut Words) -> Result<Command, NotRead>
+fn iterator_new(alloc: Global, owner: Owner, words: &mut WordReader) -> Result<Command, NotRead>
     ensures { Gives command_view result (cursor_at owner model.iterator_new words.old) }
 {
     let (root, filter) = filtered(alloc, owner, words)?;
@@ -37,7 +41,7 @@ fn iterator_new(alloc: Global, owner: Owner, words: &mut Words) -> Result<Comman
 }
 
 /// The words of `walk-new`.
-fn walker_new(alloc: Global, owner: Owner, words: &mut Words) -> Result<Command, NotRead>
+fn walker_new(alloc: Global, owner: Owner, words: &mut WordReader) -> Result<Command, NotRead>
     ensures { Gives command_view result (cursor_at owner model.walker_new words.old) }
 {
     let (root, filter) = filtered(alloc, owner, words)?;
@@ -45,7 +49,11 @@ fn walker_new(alloc: Global, owner: Owner, words: &mut Words) -> Result<Command,
 }
 
 /// The range's command that goes on with the words.
-pub fn range_command(word: RangeWord, owner: Owner, words: &mut Words) -> Result<Command, NotRead>
+pub fn range_command(
+    word: RangeWord,
+    owner: Owner,
+    words: &mut WordReader,
+) -> Result<Command, NotRead>
     ensures { Gives command_view result (command_behind (range_keyword word) owner words.old) }
 {
     match word {
@@ -87,7 +95,7 @@ pub fn cursor_command(
     alloc: Global,
     word: CursorWord,
     owner: Owner,
-    words: &mut Words,
+    words: &mut WordReader,
 ) -> Result<Command, NotRead>
     ensures { Gives command_view result (command_behind (cursor_keyword word) owner words.old) }
 {

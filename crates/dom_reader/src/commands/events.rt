@@ -12,11 +12,11 @@ use crate::keywords::{EventWord, ObserverWord};
 use crate::line::{Command, EventWords, ListenerWords, ObserveWords};
 use crate::nodes::next_node;
 use dom_base::Owner;
-use dom_words::{NotRead, Words};
+use dom_words::{NotRead, WordReader};
 use std::alloc::Global;
 
 /// The words of `listen`.
-fn listen(alloc: Global, owner: Owner, words: &mut Words) -> Result<Command, NotRead>
+fn listen(alloc: Global, owner: Owner, words: &mut WordReader) -> Result<Command, NotRead>
     ensures { Gives command_view result (listen_at owner words.old) }
 {
     let node = next_node(owner, words)?;
@@ -35,7 +35,7 @@ fn listen(alloc: Global, owner: Owner, words: &mut Words) -> Result<Command, Not
 }
 
 /// The words of `unlisten`.
-fn unlisten(alloc: Global, owner: Owner, words: &mut Words) -> Result<Command, NotRead>
+fn unlisten(alloc: Global, owner: Owner, words: &mut WordReader) -> Result<Command, NotRead>
     ensures { Gives command_view result (unlisten_at owner words.old) }
 {
     let node = next_node(owner, words)?;
@@ -46,7 +46,7 @@ fn unlisten(alloc: Global, owner: Owner, words: &mut Words) -> Result<Command, N
 }
 
 /// The words of `dispatch`.
-fn dispatch(alloc: Global, owner: Owner, words: &mut Words) -> Result<Command, NotRead>
+fn dispatch(alloc: Global, owner: Owner, words: &mut WordReader) -> Result<Command, NotRead>
     ensures { Gives command_view result (dispatch_at owner words.old) }
 {
     let target = next_node(owner, words)?;
@@ -65,7 +65,7 @@ fn dispatch(alloc: Global, owner: Owner, words: &mut Words) -> Result<Command, N
 }
 
 /// The words of `observe`.
-fn observe(alloc: Global, owner: Owner, words: &mut Words) -> Result<Command, NotRead>
+fn observe(alloc: Global, owner: Owner, words: &mut WordReader) -> Result<Command, NotRead>
     ensures { Gives command_view result (observe_at owner words.old) }
 {
     let observer = words.numbered(b'o')?;
@@ -87,7 +87,7 @@ pub fn event_command(
     alloc: Global,
     word: EventWord,
     owner: Owner,
-    words: &mut Words,
+    words: &mut WordReader,
 ) -> Result<Command, NotRead>
     ensures { Gives command_view result (command_behind (event_keyword word) owner words.old) }
 {
@@ -105,7 +105,7 @@ pub fn observer_command(
     alloc: Global,
     word: ObserverWord,
     owner: Owner,
-    words: &mut Words,
+    words: &mut WordReader,
 ) -> Result<Command, NotRead>
     ensures { Gives command_view result (command_behind (observer_keyword word) owner words.old) }
 {

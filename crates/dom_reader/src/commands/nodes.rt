@@ -11,11 +11,11 @@ use crate::keywords::{ContentWord, MakingWord, QuestionWord, TreeWord};
 use crate::line::Command;
 use crate::nodes::next_node;
 use dom_base::{Kind, Owner};
-use dom_words::{NotRead, Words};
+use dom_words::{NotRead, WordReader};
 use std::alloc::Global;
 
 /// What is made, and its word or string.
-fn new_command(alloc: Global, words: &mut Words) -> Result<Command, NotRead>
+fn new_command(alloc: Global, words: &mut WordReader) -> Result<Command, NotRead>
     ensures { Gives command_view result (new_at words.old) }
 {
     let command = match words.new_kind()? {
@@ -29,7 +29,7 @@ fn new_command(alloc: Global, words: &mut Words) -> Result<Command, NotRead>
 }
 
 /// The words of `assigned`, which is a component's.
-fn assigned(owner: Owner, words: &mut Words) -> Result<Command, NotRead>
+fn assigned(owner: Owner, words: &mut WordReader) -> Result<Command, NotRead>
     ensures { Gives command_view result (assigned_at owner words.old) }
 {
     match owner {
@@ -43,7 +43,7 @@ pub fn making_command(
     alloc: Global,
     word: MakingWord,
     owner: Owner,
-    words: &mut Words,
+    words: &mut WordReader,
 ) -> Result<Command, NotRead>
     ensures { Gives command_view result (command_behind (making_keyword word) owner words.old) }
 {
@@ -55,7 +55,11 @@ pub fn making_command(
 }
 
 /// The command that changes where nodes stand, and goes on with the words.
-pub fn tree_command(word: TreeWord, owner: Owner, words: &mut Words) -> Result<Command, NotRead>
+pub fn tree_command(
+    word: TreeWord,
+    owner: Owner,
+    words: &mut WordReader,
+) -> Result<Command, NotRead>
     ensures { Gives command_view result (command_behind (tree_keyword word) owner words.old) }
 {
     match word {
@@ -93,7 +97,7 @@ pub fn content_command(
     alloc: Global,
     word: ContentWord,
     owner: Owner,
-    words: &mut Words,
+    words: &mut WordReader,
 ) -> Result<Command, NotRead>
     ensures { Gives command_view result (command_behind (content_keyword word) owner words.old) }
 {
@@ -139,7 +143,7 @@ pub fn question_command(
     alloc: Global,
     word: QuestionWord,
     owner: Owner,
-    words: &mut Words,
+    words: &mut WordReader,
 ) -> Result<Command, NotRead>
     ensures { Gives command_view result (command_behind (question_keyword word) owner words.old) }
 {

@@ -4,8 +4,8 @@ use Rattle.dom_model.specs.Names.{name_eq}
 use Rattle.dom_model.specs.Tree.{root_of}
 use Rattle.dom_model.specs.CommandNames.{named}
 use Rattle.dom_model.specs.World.{part_of}
-use Rattle.dom_reader.specs.declared.line.Spelled.{Spelled}
-use Rattle.dom_reader.specs.Views.{spelled_view}
+use Rattle.dom_reader.specs.declared.line.NodeWord.{NodeWord}
+use Rattle.dom_reader.specs.Views.{word_view}
 use Rattle.dom_tree.specs.Forest.{name_at}
 use Rattle.dom_tree.proofs.Owned.{read_own}
 use Rattle.dom_slots.proofs.Hosted.{key-test}
@@ -17,17 +17,17 @@ returns c =
     let w = c.state.inside.doc.world in
     let o = c.args.owner in
     let f = c.forest-forest.result.now in
-    let at : Spelled → NodeName = λ s. named (part_of w o) (spelled_view s) in
+    let at : NodeWord → NodeName = λ s. named (part_of w o) (word_view s) in
     let node_is : name_at c.state.inside.doc.names c.key-node.result ≡ at c.args.node = rw (← c.state.view_is) at c.key-node.ensures.name in
     let other_is : name_at c.state.inside.doc.names c.key-other.result ≡ at c.args.other = rw (← c.state.view_is) at c.key-other.ensures.name in
     let node_here = ap (λ (names : List NodeName). name_at names c.key-node.result) c.forest-forest.ensures.names ∙ node_is in
     let other_here = ap (λ (names : List NodeName). name_at names c.key-other.result) c.forest-forest.ensures.names ∙ other_is in
     let root = c.root-root.ensures.value
-    ∙ read_at root_of f.names f.trees w o (spelled_view c.args.node) c.key-node.result node_here c.forest-forest.ensures.trees
-    (read_own f.trees c.forest-forest.ensures.owned o (at c.args.node) (owner-named w o (spelled_view c.args.node))).root in
+    ∙ read_at root_of f.names f.trees w o (word_view c.args.node) c.key-node.result node_here c.forest-forest.ensures.trees
+    (read_own f.trees c.forest-forest.ensures.owned o (at c.args.node) (owner-named w o (word_view c.args.node))).root in
     let other_root = c.root-other_root.ensures.value
-    ∙ read_at root_of f.names f.trees w o (spelled_view c.args.other) c.key-other.result other_here c.forest-forest.ensures.trees
-    (read_own f.trees c.forest-forest.ensures.owned o (at c.args.other) (owner-named w o (spelled_view c.args.other))).root in
+    ∙ read_at root_of f.names f.trees w o (word_view c.args.other) c.key-other.result other_here c.forest-forest.ensures.trees
+    (read_own f.trees c.forest-forest.ensures.owned o (at c.args.other) (owner-named w o (word_view c.args.other))).root in
     rw (← c.state.view_is)
     (c.ne.ensures ∙ ap not (key-test f.names c.nodes_stand_once.ensures.distinct c.root-root.result c.root-other_root.result
     c.root-root.ensures.node c.root-other_root.ensures.node

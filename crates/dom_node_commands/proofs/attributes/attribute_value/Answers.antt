@@ -4,7 +4,7 @@ use Rattle.dom_model.specs.Tree.{node_in, attribute_value}
 use Rattle.dom_model.specs.CommandNames.{named}
 use Rattle.dom_model.specs.Effects.{string_or_null}
 use Rattle.dom_model.specs.World.{part_of}
-use Rattle.dom_reader.specs.Views.{spelled_view}
+use Rattle.dom_reader.specs.Views.{word_view}
 use Rattle.dom_tree.specs.Forest.{name_at}
 use Rattle.dom_tree.proofs.Owned.{read_own}
 use Rattle.dom_admission.proofs.Finding.{owner-named, read_at}
@@ -13,7 +13,7 @@ use Rattle.dom_node_commands.proofs.attributes.attribute_value.Goals as goal
 pub returns-in-Some : goal.returns-in-Some
 returns-in-Some c =
     let w = c.state.inside.doc.world in
-    let s = spelled_view c.args.node in
+    let s = word_view c.args.node in
     let f = c.forest.result.now in
     let x = named (part_of w c.args.owner) s in
     let is : name_at c.state.inside.doc.names c.key.result ≡ x = rw (← c.state.view_is) at c.key.ensures.name in
@@ -26,7 +26,7 @@ returns-in-Some c =
 pub returns-in-None : goal.returns-in-None
 returns-in-None c =
     let w = c.state.inside.doc.world in
-    let s = spelled_view c.args.node in
+    let s = word_view c.args.node in
     let f = c.forest.result.now in
     let x = named (part_of w c.args.owner) s in
     let is : name_at c.state.inside.doc.names c.key.result ≡ x = rw (← c.state.view_is) at c.key.ensures.name in

@@ -10,7 +10,7 @@ use Rattle.dom_model.specs.CommandNames.{named}
 use Rattle.dom_model.specs.Output.{nothing}
 use Rattle.dom_mutation.specs.Doc.{made}
 use Rattle.dom_tree.specs.Forest.{name_at}
-use Rattle.dom_reader.specs.Views.{spelled_view}
+use Rattle.dom_reader.specs.Views.{word_view}
 use Rattle.dom_admission.specs.declared.admission.Operand.TheVariants.{Element}
 use Rattle.dom_admission.proofs.Handling.{refused, plans, faults}
 use Rattle.dom_admission.proofs.Namings.{naming-set_attribute}
@@ -23,7 +23,7 @@ pub returns-in_err-admit-clause-handled : goal.returns-in_err-admit-clause-handl
 returns-in_err-admit-clause-handled c =
     let p = err_from_is_err_and c.from_residual.result c.from_residual.ensures.1 in
     rw (p.1, p.2) (refused c.args.state.now.world c.args.owner
-    (Command.set_attribute (spelled_view c.args.element) (string_bytes c.args.name) c.args.value.items) (Element c.args.element ∷ [])
+    (Command.set_attribute (word_view c.args.element) (string_bytes c.args.name) c.args.value.items) (Element c.args.element ∷ [])
     c.args.out.now.items c.in_err-admit.field-0.0 (naming-set_attribute c.args.element (string_bytes c.args.name) c.args.value.items)
     (sym c.admit.ensures ∙ c.in_err-admit.was))
 
@@ -31,10 +31,10 @@ pub returns-in_err-set_attr-clause-handled : goal.returns-in_err-set_attr-clause
 returns-in_err-set_attr-clause-handled c =
     let p = err_from_is_err_and c.from_residual-in_err-set_attr.result c.from_residual-in_err-set_attr.ensures.1 in
     let d = c.state.inside.doc in
-    let element_is : IsKey d.names d.world c.args.owner c.key-element.result (spelled_view c.args.element) =
+    let element_is : IsKey d.names d.world c.args.owner c.key-element.result (word_view c.args.element) =
     rw (← c.state.view_is) at c.key-element.ensures.name in
     rw (p.1, p.2) (faults c.state.inside.turn d c.args.state.now c.state.view_is c.args.owner
-    (Command.set_attribute (spelled_view c.args.element) (string_bytes c.args.name) c.args.value.items) (Element c.args.element ∷ [])
+    (Command.set_attribute (word_view c.args.element) (string_bytes c.args.name) c.args.value.items) (Element c.args.element ∷ [])
     (naming-set_attribute c.args.element (string_bytes c.args.name) c.args.value.items) (sym c.admit.ensures ∙ c.in_ok-admit.was)
     c.set_attr.new.self.world c.args.out.now.items c.in_err-set_attr.field-0.0
     (λ r e. (
@@ -52,17 +52,17 @@ returns-in_err-set_attr-clause-handled c =
 pub returns-clause-handled : goal.returns-clause-handled
 returns-clause-handled c =
     let d = c.state.inside.doc in
-    let element_is : IsKey d.names d.world c.args.owner c.key-element.result (spelled_view c.args.element) =
+    let element_is : IsKey d.names d.world c.args.owner c.key-element.result (word_view c.args.element) =
     rw (← c.state.view_is) at c.key-element.ensures.name in
     plans c.state.inside.turn d c.args.state.now c.state.view_is c.args.owner
-    (Command.set_attribute (spelled_view c.args.element) (string_bytes c.args.name) c.args.value.items) (Element c.args.element ∷ [])
+    (Command.set_attribute (word_view c.args.element) (string_bytes c.args.name) c.args.value.items) (Element c.args.element ∷ [])
     (naming-set_attribute c.args.element (string_bytes c.args.name) c.args.value.items) (sym c.admit.ensures ∙ c.in_ok-admit.was)
     c.set_attr.new.self.world c.accept.new.self.world
-    (λ p. setting_attribute (named p (spelled_view c.args.element)) (string_bytes c.args.name) c.args.value.items p) (λ p. nothing) nothing
+    (λ p. setting_attribute (named p (word_view c.args.element)) (string_bytes c.args.name) c.args.value.items p) (λ p. nothing) nothing
     c.args.out.now.items c.accept.new.out.items c.accept.result refl
     (lacks_none (is_name (string_bytes c.args.name)) InvalidCharacter
     (λ h. accepted_not InvalidCharacter (c.in_ok-set_attr.ensures.refused.1 (ap is_name c.deref.ensures ∙ h))))
-    (node-made d.names d.world c.args.owner (λ x. setting_attribute x (string_bytes c.args.name) c.args.value.items) (spelled_view c.args.element)
+    (node-made d.names d.world c.args.owner (λ x. setting_attribute x (string_bytes c.args.name) c.args.value.items) (word_view c.args.element)
     c.key-element.result element_is c.set_attr.new.self.world
     (c.in_ok-set_attr.ensures.world ∙
     ap (λ a. made (name_at d.names c.key-element.result).owner (setting_attribute (name_at d.names c.key-element.result) a c.args.value.items)

@@ -5,7 +5,7 @@ use Rattle.dom_model.specs.Command.{Command}
 use Rattle.dom_model.specs.CommandNames.{named}
 use Rattle.dom_model.specs.Output.{nothing}
 use Rattle.dom_mutation.specs.Doc.{owner_in}
-use Rattle.dom_reader.specs.Views.{spelled_view}
+use Rattle.dom_reader.specs.Views.{word_view}
 use Rattle.dom_admission.specs.declared.admission.Operand.TheVariants.{Any}
 use Rattle.dom_admission.proofs.Turned.{bounded-inside}
 use Rattle.dom_admission.proofs.Handling.{refused, plans}
@@ -17,19 +17,19 @@ use Rattle.dom_node_commands.proofs.data.normalize.Goals as goal
 pub returns-in_err-admit-clause-handled : goal.returns-in_err-admit-clause-handled
 returns-in_err-admit-clause-handled c =
     let p = err_from_is_err_and c.from_residual.result c.from_residual.ensures.1 in
-    rw (p.1, p.2) (refused c.args.state.now.world c.args.owner (Command.normalize (spelled_view c.args.node)) (Any c.args.node ∷ [])
+    rw (p.1, p.2) (refused c.args.state.now.world c.args.owner (Command.normalize (word_view c.args.node)) (Any c.args.node ∷ [])
     c.args.out.now.items c.in_err-admit.field-0.0 (naming-normalize c.args.node) (sym c.admit.ensures ∙ c.in_err-admit.was))
 
 pub returns-clause-handled : goal.returns-clause-handled
 returns-clause-handled c =
     let d = c.state.inside.doc in
-    let node_is : IsKey d.names d.world c.args.owner c.key-node.result (spelled_view c.args.node) = rw (← c.state.view_is) at c.key-node.ensures.name in
-    plans c.state.inside.turn d c.args.state.now c.state.view_is c.args.owner (Command.normalize (spelled_view c.args.node))
+    let node_is : IsKey d.names d.world c.args.owner c.key-node.result (word_view c.args.node) = rw (← c.state.view_is) at c.key-node.ensures.name in
+    plans c.state.inside.turn d c.args.state.now c.state.view_is c.args.owner (Command.normalize (word_view c.args.node))
     (Any c.args.node ∷ []) (naming-normalize c.args.node) (sym c.admit.ensures ∙ c.in_ok-admit.was) c.normalize.new.self.world
-    c.accept.new.self.world (λ p. normalizing (named p (spelled_view c.args.node)) p) (λ p. nothing) nothing c.args.out.now.items
+    c.accept.new.self.world (λ p. normalizing (named p (word_view c.args.node)) p) (λ p. nothing) nothing c.args.out.now.items
     c.accept.new.out.items c.accept.result refl
     (refl)
-    (node-made d.names d.world c.args.owner normalizing (spelled_view c.args.node) c.key-node.result node_is c.normalize.new.self.world
+    (node-made d.names d.world c.args.owner normalizing (word_view c.args.node) c.key-node.result node_is c.normalize.new.self.world
     c.in_ok-normalize.ensures.world) refl c.accept.ensures.done
 
 pub normalize-requires-clause-bounds : goal.normalize-requires-clause-bounds

@@ -7,7 +7,7 @@ use Rattle.dom_model.specs.Command.{Command}
 use Rattle.dom_model.specs.CommandNames.{named}
 use Rattle.dom_model.specs.Output.{nothing}
 use Rattle.dom_mutation.specs.Doc.{owner_in}
-use Rattle.dom_reader.specs.Views.{spelled_view}
+use Rattle.dom_reader.specs.Views.{word_view}
 use Rattle.dom_admission.specs.declared.admission.Operand.TheVariants.{Data}
 use Rattle.dom_admission.proofs.Turned.{bounded-inside}
 use Rattle.dom_admission.proofs.Handling.{refused, plans, faults, fitting}
@@ -21,7 +21,7 @@ pub returns-in_err-admit-clause-handled : goal.returns-in_err-admit-clause-handl
 returns-in_err-admit-clause-handled c =
     let p = err_from_is_err_and c.from_residual.result c.from_residual.ensures.1 in
     rw (p.1, p.2) (refused c.args.state.now.world c.args.owner
-    (Command.replace_data (spelled_view c.args.node) c.args.offset c.args.count c.args.text.items) (Data c.args.node ∷ [])
+    (Command.replace_data (word_view c.args.node) c.args.offset c.args.count c.args.text.items) (Data c.args.node ∷ [])
     c.args.out.now.items c.in_err-admit.field-0.0 (naming-replace_data c.args.node c.args.offset c.args.count c.args.text.items)
     (sym c.admit.ensures ∙ c.in_err-admit.was))
 
@@ -29,14 +29,14 @@ pub returns-in_err-replace_data-clause-handled : goal.returns-in_err-replace_dat
 returns-in_err-replace_data-clause-handled c =
     let p = err_from_is_err_and c.from_residual-in_err-replace_data.result c.from_residual-in_err-replace_data.ensures.1 in
     let d = c.state.inside.doc in
-    let node_is : IsKey d.names d.world c.args.owner c.key-node.result (spelled_view c.args.node) = rw (← c.state.view_is) at c.key-node.ensures.name in
+    let node_is : IsKey d.names d.world c.args.owner c.key-node.result (word_view c.args.node) = rw (← c.state.view_is) at c.key-node.ensures.name in
     rw (p.1, p.2) (faults c.state.inside.turn d c.args.state.now c.state.view_is c.args.owner
-    (Command.replace_data (spelled_view c.args.node) c.args.offset c.args.count c.args.text.items) (Data c.args.node ∷ [])
+    (Command.replace_data (word_view c.args.node) c.args.offset c.args.count c.args.text.items) (Data c.args.node ∷ [])
     (naming-replace_data c.args.node c.args.offset c.args.count c.args.text.items) (sym c.admit.ensures ∙ c.in_ok-admit.was)
     c.replace_data.new.self.world c.args.out.now.items c.in_err-replace_data.field-0.0
     (λ r e. (
       lone_holds _ IndexSize (sym
-          (past_end-key d.names d.world c.args.owner (spelled_view c.args.node) c.key-node.result c.args.offset node_is) ∙
+          (past_end-key d.names d.world c.args.owner (word_view c.args.node) c.key-node.result c.args.offset node_is) ∙
           (c.in_err-replace_data.ensures.refused.0
           (ap Err (e ∙ ap Refused (only_refusal c.in_err-replace_data.field-0.0 IndexSize r c.in_err-replace_data.ensures.other e))))) ∙
           ap Some (sym (only_refusal c.in_err-replace_data.field-0.0 IndexSize r c.in_err-replace_data.ensures.other e)),
@@ -49,17 +49,17 @@ returns-in_err-replace_data-clause-handled c =
 pub returns-clause-handled : goal.returns-clause-handled
 returns-clause-handled c =
     let d = c.state.inside.doc in
-    let node_is : IsKey d.names d.world c.args.owner c.key-node.result (spelled_view c.args.node) = rw (← c.state.view_is) at c.key-node.ensures.name in
+    let node_is : IsKey d.names d.world c.args.owner c.key-node.result (word_view c.args.node) = rw (← c.state.view_is) at c.key-node.ensures.name in
     plans c.state.inside.turn d c.args.state.now c.state.view_is c.args.owner
-    (Command.replace_data (spelled_view c.args.node) c.args.offset c.args.count c.args.text.items) (Data c.args.node ∷ [])
+    (Command.replace_data (word_view c.args.node) c.args.offset c.args.count c.args.text.items) (Data c.args.node ∷ [])
     (naming-replace_data c.args.node c.args.offset c.args.count c.args.text.items) (sym c.admit.ensures ∙ c.in_ok-admit.was)
     c.replace_data.new.self.world c.accept.new.self.world
-    (λ p. replacing_data (named p (spelled_view c.args.node)) c.args.offset c.args.count c.args.text.items p) (λ p. nothing) nothing
+    (λ p. replacing_data (named p (word_view c.args.node)) c.args.offset c.args.count c.args.text.items p) (λ p. nothing) nothing
     c.args.out.now.items c.accept.new.out.items c.accept.result refl
     (lone_fails _ IndexSize (λ h. accepted_not IndexSize
     (c.in_ok-replace_data.ensures.refused.1
-    ((past_end-key d.names d.world c.args.owner (spelled_view c.args.node) c.key-node.result c.args.offset node_is) ∙ h))))
-    (node-made d.names d.world c.args.owner (λ x. replacing_data x c.args.offset c.args.count c.args.text.items) (spelled_view c.args.node)
+    ((past_end-key d.names d.world c.args.owner (word_view c.args.node) c.key-node.result c.args.offset node_is) ∙ h))))
+    (node-made d.names d.world c.args.owner (λ x. replacing_data x c.args.offset c.args.count c.args.text.items) (word_view c.args.node)
     c.key-node.result node_is c.replace_data.new.self.world c.in_ok-replace_data.ensures.world) refl c.accept.ensures.done
 
 pub replace_data-requires-clause-bounds : goal.replace_data-requires-clause-bounds
@@ -69,6 +69,6 @@ replace_data-requires-clause-bounds c = bounded-inside c.state.inside.turn c.sta
 pub replace_data-requires-clause-has_data : goal.replace_data-requires-clause-has_data
 replace_data-requires-clause-has_data c =
     let d = c.state.inside.doc in
-    let node_is : IsKey d.names d.world c.args.owner c.key-node.result (spelled_view c.args.node) = rw (← c.state.view_is) at c.key-node.ensures.name in
-    has_data-key d.names d.world c.args.owner (spelled_view c.args.node) c.key-node.result node_is
+    let node_is : IsKey d.names d.world c.args.owner c.key-node.result (word_view c.args.node) = rw (← c.state.view_is) at c.key-node.ensures.name in
+    has_data-key d.names d.world c.args.owner (word_view c.args.node) c.key-node.result node_is
     ∙ (rw (← c.state.view_is) at (fitting c.args.state.now.world c.args.owner (Data c.args.node) (sym c.admit.ensures ∙ c.in_ok-admit.was)))

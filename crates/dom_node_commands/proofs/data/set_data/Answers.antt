@@ -5,7 +5,7 @@ use Rattle.dom_model.specs.Command.{Command}
 use Rattle.dom_model.specs.CommandNames.{named}
 use Rattle.dom_model.specs.Output.{nothing}
 use Rattle.dom_mutation.specs.Doc.{owner_in}
-use Rattle.dom_reader.specs.Views.{spelled_view}
+use Rattle.dom_reader.specs.Views.{word_view}
 use Rattle.dom_admission.specs.declared.admission.Operand.TheVariants.{Data}
 use Rattle.dom_admission.proofs.Turned.{bounded-inside}
 use Rattle.dom_admission.proofs.Handling.{refused, plans, fitting}
@@ -17,27 +17,27 @@ use Rattle.dom_node_commands.proofs.data.set_data.Goals as goal
 pub returns-in_err-admit-clause-handled : goal.returns-in_err-admit-clause-handled
 returns-in_err-admit-clause-handled c =
     let p = err_from_is_err_and c.from_residual.result c.from_residual.ensures.1 in
-    rw (p.1, p.2) (refused c.args.state.now.world c.args.owner (Command.set_data (spelled_view c.args.node) c.args.text.items)
+    rw (p.1, p.2) (refused c.args.state.now.world c.args.owner (Command.set_data (word_view c.args.node) c.args.text.items)
     (Data c.args.node ∷ []) c.args.out.now.items c.in_err-admit.field-0.0 (naming-set_data c.args.node c.args.text.items)
     (sym c.admit.ensures ∙ c.in_err-admit.was))
 
 pub returns-clause-handled : goal.returns-clause-handled
 returns-clause-handled c =
     let d = c.state.inside.doc in
-    let node_is : IsKey d.names d.world c.args.owner c.key-node.result (spelled_view c.args.node) = rw (← c.state.view_is) at c.key-node.ensures.name in
-    plans c.state.inside.turn d c.args.state.now c.state.view_is c.args.owner (Command.set_data (spelled_view c.args.node) c.args.text.items)
+    let node_is : IsKey d.names d.world c.args.owner c.key-node.result (word_view c.args.node) = rw (← c.state.view_is) at c.key-node.ensures.name in
+    plans c.state.inside.turn d c.args.state.now c.state.view_is c.args.owner (Command.set_data (word_view c.args.node) c.args.text.items)
     (Data c.args.node ∷ []) (naming-set_data c.args.node c.args.text.items) (sym c.admit.ensures ∙ c.in_ok-admit.was)
-    c.set_data.new.self.world c.accept.new.self.world (λ p. replacing_all_data (named p (spelled_view c.args.node)) c.args.text.items p)
+    c.set_data.new.self.world c.accept.new.self.world (λ p. replacing_all_data (named p (word_view c.args.node)) c.args.text.items p)
     (λ p. nothing) nothing c.args.out.now.items c.accept.new.out.items c.accept.result refl
     (refl)
-    (node-made d.names d.world c.args.owner (λ x. replacing_all_data x c.args.text.items) (spelled_view c.args.node) c.key-node.result node_is
+    (node-made d.names d.world c.args.owner (λ x. replacing_all_data x c.args.text.items) (word_view c.args.node) c.key-node.result node_is
     c.set_data.new.self.world c.in_ok-set_data.ensures.world) refl c.accept.ensures.done
 
 pub set_data-requires-clause-has_data : goal.set_data-requires-clause-has_data
 set_data-requires-clause-has_data c =
     let d = c.state.inside.doc in
-    let node_is : IsKey d.names d.world c.args.owner c.key-node.result (spelled_view c.args.node) = rw (← c.state.view_is) at c.key-node.ensures.name in
-    has_data-key d.names d.world c.args.owner (spelled_view c.args.node) c.key-node.result node_is
+    let node_is : IsKey d.names d.world c.args.owner c.key-node.result (word_view c.args.node) = rw (← c.state.view_is) at c.key-node.ensures.name in
+    has_data-key d.names d.world c.args.owner (word_view c.args.node) c.key-node.result node_is
     ∙ (rw (← c.state.view_is) at (fitting c.args.state.now.world c.args.owner (Data c.args.node) (sym c.admit.ensures ∙ c.in_ok-admit.was)))
 
 pub set_data-requires-clause-bounds : goal.set_data-requires-clause-bounds

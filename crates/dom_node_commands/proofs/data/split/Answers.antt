@@ -8,7 +8,7 @@ use Rattle.dom_model.specs.Part.{next_name}
 use Rattle.dom_model.specs.World.{part_of}
 use Rattle.dom_mutation.specs.Doc.{owner_in}
 use Rattle.dom_tree.specs.Forest.{name_at}
-use Rattle.dom_reader.specs.Views.{spelled_view}
+use Rattle.dom_reader.specs.Views.{word_view}
 use Rattle.dom_admission.specs.declared.admission.Operand.TheVariants.{Text}
 use Rattle.dom_admission.proofs.Turned.{bounded-inside}
 use Rattle.dom_admission.proofs.Handling.{refused, plans, faults}
@@ -21,19 +21,19 @@ use Rattle.dom_node_commands.proofs.data.split.Goals as goal
 pub returns-in_err-admit-clause-handled : goal.returns-in_err-admit-clause-handled
 returns-in_err-admit-clause-handled c =
     let p = err_from_is_err_and c.from_residual.result c.from_residual.ensures.1 in
-    rw (p.1, p.2) (refused c.args.state.now.world c.args.owner (Command.split (spelled_view c.args.node) c.args.offset) (Text c.args.node ∷ [])
+    rw (p.1, p.2) (refused c.args.state.now.world c.args.owner (Command.split (word_view c.args.node) c.args.offset) (Text c.args.node ∷ [])
     c.args.out.now.items c.in_err-admit.field-0.0 (naming-split c.args.node c.args.offset) (sym c.admit.ensures ∙ c.in_err-admit.was))
 
 pub returns-in_err-tail-clause-handled : goal.returns-in_err-tail-clause-handled
 returns-in_err-tail-clause-handled c =
     let p = err_from_is_err_and c.from_residual-in_err-tail.result c.from_residual-in_err-tail.ensures.1 in
     let d = c.state.inside.doc in
-    let node_is : IsKey d.names d.world c.args.owner c.key-node.result (spelled_view c.args.node) = rw (← c.state.view_is) at c.key-node.ensures.name in
+    let node_is : IsKey d.names d.world c.args.owner c.key-node.result (word_view c.args.node) = rw (← c.state.view_is) at c.key-node.ensures.name in
     rw (p.1, p.2) (faults c.state.inside.turn d c.args.state.now c.state.view_is c.args.owner
-    (Command.split (spelled_view c.args.node) c.args.offset) (Text c.args.node ∷ []) (naming-split c.args.node c.args.offset)
+    (Command.split (word_view c.args.node) c.args.offset) (Text c.args.node ∷ []) (naming-split c.args.node c.args.offset)
     (sym c.admit.ensures ∙ c.in_ok-admit.was) c.split.new.self.world c.args.out.now.items c.in_err-tail.field-0.0
     (λ r e. (
-      sym (split-refused d.names d.world c.args.owner (spelled_view c.args.node) c.key-node.result c.args.offset node_is) ∙
+      sym (split-refused d.names d.world c.args.owner (word_view c.args.node) c.key-node.result c.args.offset node_is) ∙
           c.in_err-tail.ensures.refused r (ap Err e),
       ap (λ s. s.world) (c.in_err-tail.ensures.unchanged r (ap Err e)),
     )))
@@ -41,18 +41,18 @@ returns-in_err-tail-clause-handled c =
 pub returns-clause-handled : goal.returns-clause-handled
 returns-clause-handled c =
     let d = c.state.inside.doc in
-    let node_is : IsKey d.names d.world c.args.owner c.key-node.result (spelled_view c.args.node) = rw (← c.state.view_is) at c.key-node.ensures.name in
-    plans c.state.inside.turn d c.args.state.now c.state.view_is c.args.owner (Command.split (spelled_view c.args.node) c.args.offset)
+    let node_is : IsKey d.names d.world c.args.owner c.key-node.result (word_view c.args.node) = rw (← c.state.view_is) at c.key-node.ensures.name in
+    plans c.state.inside.turn d c.args.state.now c.state.view_is c.args.owner (Command.split (word_view c.args.node) c.args.offset)
     (Text c.args.node ∷ []) (naming-split c.args.node c.args.offset) (sym c.admit.ensures ∙ c.in_ok-admit.was) c.split.new.self.world
-    c.accept.new.self.world (λ p. splitting (named p (spelled_view c.args.node)) c.args.offset p) (λ p. a_node (next_name p))
+    c.accept.new.self.world (λ p. splitting (named p (word_view c.args.node)) c.args.offset p) (λ p. a_node (next_name p))
     (a_node c.name-made.result) c.args.out.now.items c.accept.new.out.items c.accept.result refl
-    (sym (split-refused d.names d.world c.args.owner (spelled_view c.args.node) c.key-node.result c.args.offset node_is) ∙
+    (sym (split-refused d.names d.world c.args.owner (word_view c.args.node) c.key-node.result c.args.offset node_is) ∙
     none_stopped c.in_ok-tail.tail _ c.in_ok-tail.ensures.stopped)
-    (node-made d.names d.world c.args.owner (λ x. splitting x c.args.offset) (spelled_view c.args.node) c.key-node.result node_is
+    (node-made d.names d.world c.args.owner (λ x. splitting x c.args.offset) (word_view c.args.node) c.key-node.result node_is
     c.split.new.self.world c.in_ok-tail.ensures.world)
     (ap a_node (name-last d.names c.forest.result.now.names (next_name (part_of d.world (name_at d.names c.key-node.result).owner))
     c.name-made.result c.in_ok-tail.tail (c.forest.ensures.names ∙ c.in_ok-tail.ensures.names) c.in_ok-tail.ensures.key
-    c.name-made.ensures.at ∙ next-key d.names d.world c.args.owner (spelled_view c.args.node) c.key-node.result node_is)) c.accept.ensures.done
+    c.name-made.ensures.at ∙ next-key d.names d.world c.args.owner (word_view c.args.node) c.key-node.result node_is)) c.accept.ensures.done
 
 pub split-requires-clause-bounds : goal.split-requires-clause-bounds
 split-requires-clause-bounds c = bounded-inside c.state.inside.turn c.state.inside.doc c.args.state.now c.state.view_is c.requires.bounds

@@ -8,7 +8,7 @@ use Rattle.dom_model.specs.Validity.{insertion_refusal}
 use Rattle.dom_model.specs.World.{part_of}
 use Rattle.dom_mutation.specs.Doc.{owner_in}
 use Rattle.dom_tree.specs.Forest.{name_at}
-use Rattle.dom_reader.specs.Views.{spelled_view}
+use Rattle.dom_reader.specs.Views.{word_view}
 use Rattle.dom_admission.specs.declared.admission.Operand.TheVariants.{Any}
 use Rattle.dom_admission.proofs.Turned.{bounded-inside}
 use Rattle.dom_admission.proofs.Handling.{refused, plans, faults, accepted_none}
@@ -21,7 +21,7 @@ pub returns-in_err-admit-clause-handled : goal.returns-in_err-admit-clause-handl
 returns-in_err-admit-clause-handled c =
     let p = err_from_is_err_and c.from_residual.result c.from_residual.ensures.1 in
     rw (p.1, p.2) (refused c.args.state.now.world c.args.owner
-    (Command.insert (spelled_view c.args.parent) (spelled_view c.args.node) (spelled_view c.args.child))
+    (Command.insert (word_view c.args.parent) (word_view c.args.node) (word_view c.args.child))
     (Any c.args.parent ∷ Any c.args.node ∷ Any c.args.child ∷ []) c.args.out.now.items c.in_err-admit.field-0.0
     (naming-insert c.args.parent c.args.node c.args.child) (sym c.admit.ensures ∙ c.in_err-admit.was))
 
@@ -29,15 +29,15 @@ pub returns-in_err-insert-clause-handled : goal.returns-in_err-insert-clause-han
 returns-in_err-insert-clause-handled c =
     let p = err_from_is_err_and c.from_residual-in_err-insert.result c.from_residual-in_err-insert.ensures.1 in
     let d = c.state.inside.doc in
-    let parent_is : IsKey d.names d.world c.args.owner c.key-parent.result (spelled_view c.args.parent) = rw (← c.state.view_is) at c.key-parent.ensures.name in
-    let node_is : IsKey d.names d.world c.args.owner c.key-node.result (spelled_view c.args.node) = rw (← c.state.view_is) at c.key-node.ensures.name in
-    let child_is : IsKey d.names d.world c.args.owner c.key-child.result (spelled_view c.args.child) = rw (← c.state.view_is) at c.key-child.ensures.name in
+    let parent_is : IsKey d.names d.world c.args.owner c.key-parent.result (word_view c.args.parent) = rw (← c.state.view_is) at c.key-parent.ensures.name in
+    let node_is : IsKey d.names d.world c.args.owner c.key-node.result (word_view c.args.node) = rw (← c.state.view_is) at c.key-node.ensures.name in
+    let child_is : IsKey d.names d.world c.args.owner c.key-child.result (word_view c.args.child) = rw (← c.state.view_is) at c.key-child.ensures.name in
     rw (p.1, p.2) (faults c.state.inside.turn d c.args.state.now c.state.view_is c.args.owner
-    (Command.insert (spelled_view c.args.parent) (spelled_view c.args.node) (spelled_view c.args.child))
+    (Command.insert (word_view c.args.parent) (word_view c.args.node) (word_view c.args.child))
     (Any c.args.parent ∷ Any c.args.node ∷ Any c.args.child ∷ []) (naming-insert c.args.parent c.args.node c.args.child)
     (sym c.admit.ensures ∙ c.in_ok-admit.was) c.insert.new.self.world c.args.out.now.items c.in_err-insert.field-0.0
     (λ r e. (
-      sym (insert-refused d.names d.world c.args.owner (spelled_view c.args.parent) (spelled_view c.args.node) (spelled_view c.args.child)
+      sym (insert-refused d.names d.world c.args.owner (word_view c.args.parent) (word_view c.args.node) (word_view c.args.child)
           c.key-parent.result c.key-node.result c.key-child.result parent_is node_is child_is) ∙ (c.in_err-insert.ensures.refused r).0 (ap Err e),
       ap (λ s. s.world) (c.in_err-insert.ensures.unchanged r (ap Err e)),
     )))
@@ -45,21 +45,21 @@ returns-in_err-insert-clause-handled c =
 pub returns-clause-handled : goal.returns-clause-handled
 returns-clause-handled c =
     let d = c.state.inside.doc in
-    let parent_is : IsKey d.names d.world c.args.owner c.key-parent.result (spelled_view c.args.parent) = rw (← c.state.view_is) at c.key-parent.ensures.name in
-    let node_is : IsKey d.names d.world c.args.owner c.key-node.result (spelled_view c.args.node) = rw (← c.state.view_is) at c.key-node.ensures.name in
-    let child_is : IsKey d.names d.world c.args.owner c.key-child.result (spelled_view c.args.child) = rw (← c.state.view_is) at c.key-child.ensures.name in
+    let parent_is : IsKey d.names d.world c.args.owner c.key-parent.result (word_view c.args.parent) = rw (← c.state.view_is) at c.key-parent.ensures.name in
+    let node_is : IsKey d.names d.world c.args.owner c.key-node.result (word_view c.args.node) = rw (← c.state.view_is) at c.key-node.ensures.name in
+    let child_is : IsKey d.names d.world c.args.owner c.key-child.result (word_view c.args.child) = rw (← c.state.view_is) at c.key-child.ensures.name in
     plans c.state.inside.turn d c.args.state.now c.state.view_is c.args.owner
-    (Command.insert (spelled_view c.args.parent) (spelled_view c.args.node) (spelled_view c.args.child))
+    (Command.insert (word_view c.args.parent) (word_view c.args.node) (word_view c.args.child))
     (Any c.args.parent ∷ Any c.args.node ∷ Any c.args.child ∷ []) (naming-insert c.args.parent c.args.node c.args.child)
     (sym c.admit.ensures ∙ c.in_ok-admit.was) c.insert.new.self.world c.accept.new.self.world
-    (λ p. pre_inserting (named p (spelled_view c.args.node)) (named p (spelled_view c.args.parent))
-    (Some (named p (spelled_view c.args.child))) p) (λ p. nothing) nothing c.args.out.now.items c.accept.new.out.items c.accept.result refl
-    (sym (insert-refused d.names d.world c.args.owner (spelled_view c.args.parent) (spelled_view c.args.node) (spelled_view c.args.child)
+    (λ p. pre_inserting (named p (word_view c.args.node)) (named p (word_view c.args.parent))
+    (Some (named p (word_view c.args.child))) p) (λ p. nothing) nothing c.args.out.now.items c.accept.new.out.items c.accept.result refl
+    (sym (insert-refused d.names d.world c.args.owner (word_view c.args.parent) (word_view c.args.node) (word_view c.args.child)
     c.key-parent.result c.key-node.result c.key-child.result parent_is node_is child_is) ∙
     accepted_none tt (insertion_refusal (part_of d.world (name_at d.names c.key-parent.result).owner).trees
     (name_at d.names c.key-parent.result) (name_at d.names c.key-node.result) (Some (name_at d.names c.key-child.result)))
     (λ r. (c.in_ok-insert.ensures.refused r).1))
-    (insert-made d.names d.world c.args.owner (spelled_view c.args.parent) (spelled_view c.args.node) (spelled_view c.args.child)
+    (insert-made d.names d.world c.args.owner (word_view c.args.parent) (word_view c.args.node) (word_view c.args.child)
     c.key-parent.result c.key-node.result c.key-child.result parent_is node_is child_is c.insert.new.self.world c.in_ok-insert.ensures.world)
     refl c.accept.ensures.done
 

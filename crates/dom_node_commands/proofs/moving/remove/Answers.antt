@@ -4,7 +4,7 @@ use Rattle.dom_model.specs.Changes.{removing, observed}
 use Rattle.dom_model.specs.Command.{Command}
 use Rattle.dom_model.specs.CommandNames.{named}
 use Rattle.dom_model.specs.Output.{nothing}
-use Rattle.dom_reader.specs.Views.{spelled_view}
+use Rattle.dom_reader.specs.Views.{word_view}
 use Rattle.dom_admission.specs.declared.admission.Operand.TheVariants.{Child}
 use Rattle.dom_admission.proofs.Handling.{refused, plans}
 use Rattle.dom_admission.proofs.Namings.{naming-remove}
@@ -15,17 +15,17 @@ use Rattle.dom_node_commands.proofs.moving.remove.Goals as goal
 pub returns-in_err-admit-clause-handled : goal.returns-in_err-admit-clause-handled
 returns-in_err-admit-clause-handled c =
     let p = err_from_is_err_and c.from_residual.result c.from_residual.ensures.1 in
-    rw (p.1, p.2) (refused c.args.state.now.world c.args.owner (Command.remove (spelled_view c.args.node)) (Child c.args.node ∷ [])
+    rw (p.1, p.2) (refused c.args.state.now.world c.args.owner (Command.remove (word_view c.args.node)) (Child c.args.node ∷ [])
     c.args.out.now.items c.in_err-admit.field-0.0 (naming-remove c.args.node) (sym c.admit.ensures ∙ c.in_err-admit.was))
 
 pub returns-clause-handled : goal.returns-clause-handled
 returns-clause-handled c =
     let d = c.state.inside.doc in
-    let node_is : IsKey d.names d.world c.args.owner c.key-node.result (spelled_view c.args.node) = rw (← c.state.view_is) at c.key-node.ensures.name in
-    plans c.state.inside.turn d c.args.state.now c.state.view_is c.args.owner (Command.remove (spelled_view c.args.node)) (Child c.args.node ∷ [])
+    let node_is : IsKey d.names d.world c.args.owner c.key-node.result (word_view c.args.node) = rw (← c.state.view_is) at c.key-node.ensures.name in
+    plans c.state.inside.turn d c.args.state.now c.state.view_is c.args.owner (Command.remove (word_view c.args.node)) (Child c.args.node ∷ [])
     (naming-remove c.args.node) (sym c.admit.ensures ∙ c.in_ok-admit.was) c.remove.new.self.world c.accept.new.self.world
-    (λ p. removing observed (named p (spelled_view c.args.node)) p) (λ p. nothing) nothing c.args.out.now.items c.accept.new.out.items
+    (λ p. removing observed (named p (word_view c.args.node)) p) (λ p. nothing) nothing c.args.out.now.items c.accept.new.out.items
     c.accept.result refl
     (refl)
-    (node-made d.names d.world c.args.owner (removing observed) (spelled_view c.args.node) c.key-node.result node_is c.remove.new.self.world
+    (node-made d.names d.world c.args.owner (removing observed) (word_view c.args.node) c.key-node.result node_is c.remove.new.self.world
     c.in_ok-remove.ensures.world) refl c.accept.ensures.done

@@ -5,7 +5,7 @@ use Rattle.dom_base.specs.declared.NodeName.{NodeName}
 use Rattle.dom_model.specs.CommandNames.{named}
 use Rattle.dom_model.specs.Slots.{assigned}
 use Rattle.dom_model.specs.World.{part_of}
-use Rattle.dom_reader.specs.Views.{spelled_view}
+use Rattle.dom_reader.specs.Views.{word_view}
 use Rattle.dom_slots.specs.Shadows.{shadows, assigned_at}
 use Rattle.dom_tree.specs.Forest.{name_at}
 use Rattle.dom_node_commands.proofs.shadows.assigned_to.Goals as goal
@@ -15,7 +15,7 @@ returns c =
     let w = c.args.state.now.world in
     let f = c.forest_and_slots.result.0.now in
     let trees = shadows f c.forest_and_slots.result.1.now.hosts in
-    let x = named (part_of w c.args.owner) (spelled_view c.args.slot) in
+    let x = named (part_of w c.args.owner) (word_view c.args.slot) in
     let is : name_at f.names c.key-slot.result ≡ x =
     ap (λ (names : List NodeName). name_at names c.key-slot.result) c.forest_and_slots.ensures.names ∙ c.key-slot.ensures.name in
     IfOk-weaker c.names_of.result (λ names. names.items ≡ map (name_at f.names) c.deref.result.now) (λ names. names.items ≡ assigned w x)

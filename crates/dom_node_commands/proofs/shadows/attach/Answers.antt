@@ -6,7 +6,7 @@ use Rattle.dom_model.specs.Command.{Command}
 use Rattle.dom_model.specs.DocumentMachine.{attaching}
 use Rattle.dom_model.specs.World.{part_of, component_made, shadow_root_of}
 use Rattle.dom_mutation.specs.Doc.{name_in, owner_in, attaching_refusal}
-use Rattle.dom_reader.specs.Views.{spelled_view}
+use Rattle.dom_reader.specs.Views.{word_view}
 use Rattle.dom_admission.specs.declared.admission.Operand.TheVariants.{Element}
 use Rattle.dom_node_commands.proofs.Attaching.{attach-faults, attach-done}
 use Rattle.dom_admission.proofs.Finding.{IsKey}
@@ -20,7 +20,7 @@ use Rattle.dom_node_commands.proofs.shadows.attach.Goals as goal
 pub returns-in_err-admit-clause-handled : goal.returns-in_err-admit-clause-handled
 returns-in_err-admit-clause-handled c =
     let p = err_from_is_err_and c.from_residual.result c.from_residual.ensures.1 in
-    rw (p.1, p.2) (refused c.args.state.now.world c.args.owner (Command.attach (spelled_view c.args.host)) (Element c.args.host ∷ [])
+    rw (p.1, p.2) (refused c.args.state.now.world c.args.owner (Command.attach (word_view c.args.host)) (Element c.args.host ∷ [])
     c.args.out.now.items c.in_err-admit.field-0.0 (naming-attach c.args.host) (sym c.admit.ensures ∙ c.in_err-admit.was))
 
 pub returns-in_err-root-clause-handled : goal.returns-in_err-root-clause-handled
@@ -28,8 +28,8 @@ returns-in_err-root-clause-handled c =
     let p = err_from_is_err_and c.from_residual-in_err-root.result c.from_residual-in_err-root.ensures.1 in
     let d = c.state.inside.doc in
     let o = c.args.owner in
-    let host_is : IsKey d.names d.world o c.key-host.result (spelled_view c.args.host) = rw (← c.state.view_is) at c.key-host.ensures.name in
-    let own : owner_in d c.key-host.result ≡ o = ap (λ (x : NodeName). x.owner) host_is ∙ owner-named d.world o (spelled_view c.args.host) in
+    let host_is : IsKey d.names d.world o c.key-host.result (word_view c.args.host) = rw (← c.state.view_is) at c.key-host.ensures.name in
+    let own : owner_in d c.key-host.result ≡ o = ap (λ (x : NodeName). x.owner) host_is ∙ owner-named d.world o (word_view c.args.host) in
     rw (p.1, p.2) (attach-faults o c.state.inside.turn d c.args.state.now c.state.view_is c.args.host c.key-host.result host_is
     (sym c.admit.ensures ∙ c.in_ok-admit.was) c.attach.new.self.world c.args.out.now.items c.in_err-root.field-0.0
     (λ r e. (
@@ -42,8 +42,8 @@ pub returns-clause-handled : goal.returns-clause-handled
 returns-clause-handled c =
     let d = c.state.inside.doc in
     let o = c.args.owner in
-    let host_is : IsKey d.names d.world o c.key-host.result (spelled_view c.args.host) = rw (← c.state.view_is) at c.key-host.ensures.name in
-    let own : owner_in d c.key-host.result ≡ o = ap (λ (x : NodeName). x.owner) host_is ∙ owner-named d.world o (spelled_view c.args.host) in
+    let host_is : IsKey d.names d.world o c.key-host.result (word_view c.args.host) = rw (← c.state.view_is) at c.key-host.ensures.name in
+    let own : owner_in d c.key-host.result ≡ o = ap (λ (x : NodeName). x.owner) host_is ∙ owner-named d.world o (word_view c.args.host) in
     let root = c.in_ok-root.root in
     let component = component_made o (length (part_of d.world o).attached) in
     attach-done o c.state.inside.turn d c.args.state.now c.state.view_is c.args.host c.key-host.result host_is

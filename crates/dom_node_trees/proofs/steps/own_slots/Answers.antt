@@ -1,6 +1,6 @@
 use Rattle.std.proofs.Common.{◌≡◌, ◌++◌, ◌∷◌, [], refl, arith}
 use Rattle.std.proofs.lemmas.Grind.{common_steps}
-use Rattle.dom_node_trees.proofs.Named.{own_key, one_more}
+use Rattle.dom_node_trees.proofs.NamesByKey.{own_key, one_more}
 use Rattle.dom_node_trees.proofs.steps.own_slots.Goals as goal
 
 pub unreachable-requires : goal.unreachable-requires

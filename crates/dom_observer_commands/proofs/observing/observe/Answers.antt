@@ -7,7 +7,7 @@ use Rattle.dom_model.specs.Command.{Command, ObserveWords}
 use Rattle.dom_model.specs.Observers.{options_of, asks_for_nothing}
 use Rattle.dom_model.specs.Output.{nothing}
 use Rattle.dom_observers.specs.Views.{words_of}
-use Rattle.dom_reader.specs.Views.{spelled_view, observe_view}
+use Rattle.dom_reader.specs.Views.{word_view, observe_view}
 use Rattle.dom_admission.specs.declared.admission.Operand.TheVariants.{Any, Observer}
 use Rattle.dom_admission.proofs.Finding.{owner-named}
 use Rattle.dom_admission.proofs.Handling.{refused, tabled, faults}
@@ -21,7 +21,7 @@ pub returns-in_err-admit-clause-handled : goal.returns-in_err-admit-clause-handl
 returns-in_err-admit-clause-handled c =
     let p = err_from_is_err_and c.from_residual.result c.from_residual.ensures.1 in
     rw (p.1, p.2) (refused c.args.state.now.world c.args.owner
-    (Command.observe c.args.number (spelled_view c.args.node) (observe_view c.args.words)) (Any c.args.node ∷ Observer c.args.number ∷ [])
+    (Command.observe c.args.number (word_view c.args.node) (observe_view c.args.words)) (Any c.args.node ∷ Observer c.args.number ∷ [])
     c.args.out.now.items c.in_err-admit.field-0.0 (naming-observe c.args.number c.args.node (observe_view c.args.words))
     (sym c.admit.ensures ∙ c.in_err-admit.was))
 
@@ -32,7 +32,7 @@ returns-in_err-observe-clause-handled c =
     let e = c.in_err-observe.ensures in
     let same_test = ap (λ (w : ObserveWords). asks_for_nothing (options_of w)) c.observer_options.ensures in
     rw (p.1, p.2) (faults c.state.inside.turn d c.args.state.now c.state.view_is c.args.owner
-    (Command.observe c.args.number (spelled_view c.args.node) (observe_view c.args.words)) (Any c.args.node ∷ Observer c.args.number ∷ [])
+    (Command.observe c.args.number (word_view c.args.node) (observe_view c.args.words)) (Any c.args.node ∷ Observer c.args.number ∷ [])
     (naming-observe c.args.number c.args.node (observe_view c.args.words))
     (sym c.admit.ensures ∙ c.in_ok-admit.was) c.observe.new.self.world c.args.out.now.items c.in_err-observe.field-0.0
     (λ r is.
@@ -42,20 +42,20 @@ returns-in_err-observe-clause-handled c =
 pub returns-clause-handled : goal.returns-clause-handled
 returns-clause-handled c =
     let d = c.state.inside.doc in
-    let node_is : IsKey d.names d.world c.args.owner c.key-node.result (spelled_view c.args.node) = rw (← c.state.view_is) at c.key-node.ensures.name in
+    let node_is : IsKey d.names d.world c.args.owner c.key-node.result (word_view c.args.node) = rw (← c.state.view_is) at c.key-node.ensures.name in
     let same_test = ap (λ (w : ObserveWords). asks_for_nothing (options_of w)) c.observer_options.ensures in
     tabled c.state.inside.turn d c.args.state.now c.state.view_is c.args.owner
-    (Command.observe c.args.number (spelled_view c.args.node) (observe_view c.args.words)) (Any c.args.node ∷ Observer c.args.number ∷ [])
+    (Command.observe c.args.number (word_view c.args.node) (observe_view c.args.words)) (Any c.args.node ∷ Observer c.args.number ∷ [])
     (naming-observe c.args.number c.args.node (observe_view c.args.words))
     (sym c.admit.ensures ∙ c.in_ok-admit.was) c.observe.new.self.world c.accept.new.self.world nothing nothing c.args.out.now.items
     c.accept.new.out.items c.accept.result refl
     (lone_fails _ TypeFault (λ h. accepted_not TypeFault (c.in_ok-observe.ensures.no_kind.1 (same_test ∙ h))))
-    (observe-made d.names d.world c.observe.new.self.world c.args.owner (spelled_view c.args.node) c.key-node.result node_is c.args.number
+    (observe-made d.names d.world c.observe.new.self.world c.args.owner (word_view c.args.node) c.key-node.result node_is c.args.number
     (words_of c.observer_options.result) (observe_view c.args.words) nothing c.observer_options.ensures c.in_ok-observe.ensures.world)
     refl c.accept.ensures.done
 
 pub observe-requires-clause-own : goal.observe-requires-clause-own
 observe-requires-clause-own c =
     let d = c.state.inside.doc in
-    let node_is : IsKey d.names d.world c.args.owner c.key-node.result (spelled_view c.args.node) = rw (← c.state.view_is) at c.key-node.ensures.name in
-    ap (λ (x : NodeName). x.owner) node_is ∙ owner-named d.world c.args.owner (spelled_view c.args.node)
+    let node_is : IsKey d.names d.world c.args.owner c.key-node.result (word_view c.args.node) = rw (← c.state.view_is) at c.key-node.ensures.name in
+    ap (λ (x : NodeName). x.owner) node_is ∙ owner-named d.world c.args.owner (word_view c.args.node)

@@ -4,7 +4,7 @@ use Rattle.dom_base.specs.declared.Fault.TheVariants.{Refused}
 use Rattle.dom_base.specs.declared.Refusal.TheVariants.{Limit}
 use Rattle.dom_model.specs.Command.{Command}
 use Rattle.dom_model.specs.Output.{a_walker}
-use Rattle.dom_reader.specs.Views.{spelled_view, filter_view}
+use Rattle.dom_reader.specs.Views.{word_view, filter_view}
 use Rattle.dom_traversal.specs.Filters.{filter_of}
 use Rattle.dom_admission.specs.declared.admission.Operand.TheVariants.{Any}
 use Rattle.dom_base.specs.declared.NodeName.{NodeName}
@@ -19,7 +19,7 @@ use Rattle.dom_query_commands.proofs.cursors.new_walker.Goals as goal
 pub returns-in_err-admit-clause-handled : goal.returns-in_err-admit-clause-handled
 returns-in_err-admit-clause-handled c =
     let p = err_from_is_err_and c.from_residual.result c.from_residual.ensures.1 in
-    rw (p.1, p.2) (refused c.args.state.now.world c.args.owner (Command.walker_new (spelled_view c.args.root) (filter_view c.args.filter))
+    rw (p.1, p.2) (refused c.args.state.now.world c.args.owner (Command.walker_new (word_view c.args.root) (filter_view c.args.filter))
     (Any c.args.root ∷ []) c.args.out.now.items c.in_err-admit.field-0.0 (naming-walker_new c.args.root (filter_view c.args.filter))
     (sym c.admit.ensures ∙ c.in_err-admit.was))
 
@@ -29,7 +29,7 @@ returns-in_err-number-clause-handled c =
     let d = c.state.inside.doc in
     let e = c.in_err-number.ensures in
     rw (p.1, p.2) (faults c.state.inside.turn d c.args.state.now c.state.view_is c.args.owner
-    (Command.walker_new (spelled_view c.args.root) (filter_view c.args.filter)) (Any c.args.root ∷ [])
+    (Command.walker_new (word_view c.args.root) (filter_view c.args.filter)) (Any c.args.root ∷ [])
     (naming-walker_new c.args.root (filter_view c.args.filter)) (sym c.admit.ensures ∙ c.in_ok-admit.was) c.walk_make.new.self.world
     c.args.out.now.items c.in_err-number.field-0.0
     (λ r is.
@@ -39,14 +39,14 @@ returns-in_err-number-clause-handled c =
 pub returns-clause-handled : goal.returns-clause-handled
 returns-clause-handled c =
     let d = c.state.inside.doc in
-    let root_is : IsKey d.names d.world c.args.owner c.key-root.result (spelled_view c.args.root) = rw (← c.state.view_is) at c.key-root.ensures.name in
+    let root_is : IsKey d.names d.world c.args.owner c.key-root.result (word_view c.args.root) = rw (← c.state.view_is) at c.key-root.ensures.name in
     tabled c.state.inside.turn d c.args.state.now c.state.view_is c.args.owner
-    (Command.walker_new (spelled_view c.args.root) (filter_view c.args.filter)) (Any c.args.root ∷ [])
+    (Command.walker_new (word_view c.args.root) (filter_view c.args.filter)) (Any c.args.root ∷ [])
     (naming-walker_new c.args.root (filter_view c.args.filter)) (sym c.admit.ensures ∙ c.in_ok-admit.was) c.walk_make.new.self.world
     c.accept.new.self.world
     (a_walker c.in_ok-number.number) (a_walker c.in_ok-number.number) c.args.out.now.items c.accept.new.out.items c.accept.result refl
     (lone_fails _ Limit (λ h. given_not c.in_ok-number.number Limit (c.in_ok-number.ensures.limit.1 h)))
-    (new_walker-made d.names d.world c.walk_make.new.self.world c.args.owner (spelled_view c.args.root) c.key-root.result root_is
+    (new_walker-made d.names d.world c.walk_make.new.self.world c.args.owner (word_view c.args.root) c.key-root.result root_is
     (filter_of c.node_filter.result) (filter_view c.args.filter) (a_walker c.in_ok-number.number) c.node_filter.ensures
     c.in_ok-number.ensures.world)
     refl c.accept.ensures.done
@@ -54,5 +54,5 @@ returns-clause-handled c =
 pub walk_make-requires-clause-own : goal.walk_make-requires-clause-own
 walk_make-requires-clause-own c =
     let d = c.state.inside.doc in
-    let root_is : IsKey d.names d.world c.args.owner c.key-root.result (spelled_view c.args.root) = rw (← c.state.view_is) at c.key-root.ensures.name in
-    ap (λ (x : NodeName). x.owner) root_is ∙ owner-named d.world c.args.owner (spelled_view c.args.root)
+    let root_is : IsKey d.names d.world c.args.owner c.key-root.result (word_view c.args.root) = rw (← c.state.view_is) at c.key-root.ensures.name in
+    ap (λ (x : NodeName). x.owner) root_is ∙ owner-named d.world c.args.owner (word_view c.args.root)

@@ -4,7 +4,7 @@ use Rattle.dom_model.specs.Command.{Command}
 use Rattle.dom_model.specs.CommandNames.{named}
 use Rattle.dom_model.specs.Output.{a_truth}
 use Rattle.dom_model.specs.World.{part_of, is_connected}
-use Rattle.dom_reader.specs.Views.{spelled_view}
+use Rattle.dom_reader.specs.Views.{word_view}
 use Rattle.dom_mutation.specs.Doc.{DocState}
 use Rattle.dom_admission.specs.declared.admission.Operand.TheVariants.{Any}
 use Rattle.dom_admission.proofs.Handling.{refused, asks}
@@ -16,7 +16,7 @@ use Rattle.dom_query_commands.proofs.reads.connected.Goals as goal
 pub returns-in_err-admit-clause-handled : goal.returns-in_err-admit-clause-handled
 returns-in_err-admit-clause-handled c =
     let p = err_from_is_err_and c.from_residual.result c.from_residual.ensures.1 in
-    rw (p.1, p.2) (refused c.args.state.now.world c.args.owner (Command.connected (spelled_view c.args.node)) (Any c.args.node ∷ [])
+    rw (p.1, p.2) (refused c.args.state.now.world c.args.owner (Command.connected (word_view c.args.node)) (Any c.args.node ∷ [])
     c.args.out.now.items c.in_err-admit.field-0.0 (naming-connected c.args.node) (sym c.admit.ensures ∙ c.in_err-admit.was))
 
 pub returns-clause-handled : goal.returns-clause-handled
@@ -24,12 +24,12 @@ returns-clause-handled c =
     let d = c.state.inside.doc in
     let w = c.args.state.now.world in
     let o = c.args.owner in
-    let s = spelled_view c.args.node in
+    let s = word_view c.args.node in
     let node_is : IsKey d.names d.world o c.key.result s = rw (← c.state.view_is) at c.key.ensures.name in
     let here : c.is_connected-connected.result ≡ is_connected w (named (part_of w o) s) =
     subst (λ (e : DocState). c.is_connected-connected.result ≡ is_connected e.world (named (part_of e.world o) s)) c.state.view_is
     (c.is_connected-connected.ensures ∙ ap (is_connected d.world) node_is ∙ sym (connected-turned c.state.inside.turn d.world (named (part_of d.world o) s))) in
-    asks w c.accept.new.self.world o (Command.connected (spelled_view c.args.node)) (Any c.args.node ∷ [])
+    asks w c.accept.new.self.world o (Command.connected (word_view c.args.node)) (Any c.args.node ∷ [])
     (λ v. a_truth (is_connected v (named (part_of v o) s))) (a_truth c.is_connected-connected.result) c.args.out.now.items
     c.accept.new.out.items c.accept.result (naming-connected c.args.node) refl (sym c.admit.ensures ∙ c.in_ok-admit.was) refl
     (ap a_truth (here ∙ connected-opened w o s)) c.accept.ensures.done

@@ -4,7 +4,7 @@ use Rattle.dom_model.specs.Tree.{is_inclusive_ancestor}
 use Rattle.dom_model.specs.Command.{Command}
 use Rattle.dom_model.specs.CommandNames.{named}
 use Rattle.dom_model.specs.Output.{a_truth}
-use Rattle.dom_reader.specs.Views.{spelled_view}
+use Rattle.dom_reader.specs.Views.{word_view}
 use Rattle.dom_admission.specs.declared.admission.Operand.TheVariants.{Any}
 use Rattle.dom_admission.proofs.Handling.{refused, reads}
 use Rattle.dom_admission.proofs.Namings.{naming-contains}
@@ -13,15 +13,15 @@ use Rattle.dom_query_commands.proofs.reads.contains.Goals as goal
 pub returns-in_err-admit-clause-handled : goal.returns-in_err-admit-clause-handled
 returns-in_err-admit-clause-handled c =
     let p = err_from_is_err_and c.from_residual.result c.from_residual.ensures.1 in
-    rw (p.1, p.2) (refused c.args.state.now.world c.args.owner (Command.contains (spelled_view c.args.above) (spelled_view c.args.node))
+    rw (p.1, p.2) (refused c.args.state.now.world c.args.owner (Command.contains (word_view c.args.above) (word_view c.args.node))
     (Any c.args.above ∷ Any c.args.node ∷ []) c.args.out.now.items c.in_err-admit.field-0.0 (naming-contains c.args.above c.args.node)
     (sym c.admit.ensures ∙ c.in_err-admit.was))
 
 pub returns-clause-handled : goal.returns-clause-handled
 returns-clause-handled c =
-    reads c.args.state.now.world c.accept.new.self.world c.args.owner (Command.contains (spelled_view c.args.above) (spelled_view c.args.node))
+    reads c.args.state.now.world c.accept.new.self.world c.args.owner (Command.contains (word_view c.args.above) (word_view c.args.node))
     (Any c.args.above ∷ Any c.args.node ∷ [])
-    (λ p. a_truth (is_inclusive_ancestor p.trees (named p (spelled_view c.args.above)) (named p (spelled_view c.args.node))))
+    (λ p. a_truth (is_inclusive_ancestor p.trees (named p (word_view c.args.above)) (named p (word_view c.args.node))))
     (a_truth c.is_above-truth.result) c.args.out.now.items c.accept.new.out.items (c.accept.result) (naming-contains c.args.above c.args.node)
     refl (sym c.admit.ensures ∙ c.in_ok-admit.was) refl
     (ap a_truth c.is_above-truth.ensures) c.accept.ensures.done

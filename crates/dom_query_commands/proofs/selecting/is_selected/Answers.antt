@@ -3,7 +3,7 @@ use Rattle.dom_base.specs.declared.NodeName.{NodeName}
 use Rattle.dom_model.specs.CommandNames.{named}
 use Rattle.dom_model.specs.Selectors.{selector_matches}
 use Rattle.dom_model.specs.World.{part_of}
-use Rattle.dom_reader.specs.Views.{spelled_view}
+use Rattle.dom_reader.specs.Views.{word_view}
 use Rattle.dom_selectors.specs.Views.{selector_view}
 use Rattle.dom_tree.specs.Forest.{name_at}
 use Rattle.dom_admission.proofs.Finding.{owner-named, read_at}
@@ -13,7 +13,7 @@ use Rattle.dom_query_commands.proofs.selecting.is_selected.Goals as goal
 pub returns : goal.returns
 returns c =
     let w = c.state.inside.doc.world in
-    let s = spelled_view c.args.node in
+    let s = word_view c.args.node in
     let f = c.forest.result.now in
     let x = named (part_of w c.args.owner) s in
     let sel = selector_view c.args.selector.now in

@@ -8,8 +8,8 @@ use Rattle.dom_base.specs.declared.Kind.TheVariants as kinds
 use Rattle.dom_model.specs.Names.{Word, DomString, node_of}
 use Rattle.dom_model.specs.Tree.{Attribute, Node, node_in}
 use Rattle.dom_tree.specs.Forest.{name_at}
-use Rattle.dom_printer.specs.declared.trees.Words.{Words}
-use Rattle.dom_printer.specs.declared.trees.Words.TheVariants as words
+use Rattle.dom_printer.specs.declared.trees.NodeContent.{NodeContent}
+use Rattle.dom_printer.specs.declared.trees.NodeContent.TheVariants as words
 use Rattle.dom_printer.specs.Steps.{name_in, attributes_in, data_in, shown, shown_as}
 use Rattle.dom_query_commands.proofs.SpotReads.{node_in-name}
 use Rattle.dom_query_commands.proofs.tree_text.opening.Goals as goal
@@ -20,7 +20,7 @@ abbrev told : NodeName → Kind → Word → List Attribute → DomString → No
 told x k e a t = record { name = x; kind = k; element = e; attributes = a; text = t; document = None }
 
 -- an opening with these words as a node
-abbrev told_by : NodeName → Kind → Words → Node
+abbrev told_by : NodeName → Kind → NodeContent → Node
 told_by x k w = told x k (name_in w) (attributes_in w) (data_in w)
 
 -- the opening of an element

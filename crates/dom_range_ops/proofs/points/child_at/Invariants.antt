@@ -1,7 +1,7 @@
 use Rattle.std.proofs.Common.{◌<◌, length}
 use Rattle.std.specs.Option.{option_map, ForSome}
 use Rattle.dom_tree.specs.Forest.{name_at}
-use Rattle.dom_range_ops.proofs.Kids.{IsAtKid}
+use Rattle.dom_range_ops.proofs.ChildWalks.{IsAtKid}
 use Rattle.dom_range_ops.proofs.points.child_at.Given as goal
 
 abbrev pub invariant-loop-left : goal.invariant-loop-left

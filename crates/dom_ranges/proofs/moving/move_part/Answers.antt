@@ -3,7 +3,7 @@ use Rattle.std.proofs.lemmas.List.{get_or_default, get_or-set_other}
 use Rattle.slab.specs.Slab.{Slab}
 use Rattle.dom_ranges.specs.declared.table.Points.{Points}
 use Rattle.dom_ranges.specs.declared.ends.RangeEnd.{RangeEnd}
-use Rattle.dom_ranges.specs.declared.ends.Part.{Part}
+use Rattle.dom_ranges.specs.declared.ends.Span.{Span}
 use Rattle.dom_ranges.specs.Listed.{IsMovedPart, is_in, is_chosen, at_node, point_at}
 use Rattle.dom_ranges.proofs.Parts.{up_to, IsMovedPart-skipped, IsMovedPart-more, IsMovedPart-whole, chosen-made, still, here-still, set-here}
 use Rattle.dom_ranges.proofs.Parts.{nodes-more, nodes-same}
@@ -55,9 +55,9 @@ loop-i-preserved g c =
             (set-here now i w.move_end-node.result w.index-ends-i-then-not-has.result inside)
             (λ k d off. get_or-set_other now i k (at_node (get_or now i w.index-ends-i-then-not-has.result) w.move_end-node.result) d off)));
         start = inr (omega (arith, c.loop-i-test.true));
-        up = omega (arith, ap (λ (t : Part). t.behind) w.changed-is);
-        within = omega (arith, ap (λ (t : Part). t.behind) w.changed-is, within);
-        nodes = subst (λ (t : Part). (k : ℕ) (d : RangeEnd) → (k < t.first) ⊎ (t.behind ≤ k) →
+        up = omega (arith, ap (λ (t : Span). t.behind) w.changed-is);
+        within = omega (arith, ap (λ (t : Span). t.behind) w.changed-is, within);
+        nodes = subst (λ (t : Span). (k : ℕ) (d : RangeEnd) → (k < t.first) ⊎ (t.behind ≤ k) →
             (get_or c.if-not-has.ends k d).node ≡ (get_or es k d).node) (sym w.changed-is)
             (subst (λ (t : List RangeEnd). (k : ℕ) (d : RangeEnd) → (k < w.min.result) ⊎ (i + 1 ≤ k) → (get_or t k d).node ≡ (get_or es k d).node)
             (sym w.ends-is)
@@ -83,9 +83,9 @@ loop-i-preserved g c =
                 (set-here now i w.move_end-node.result w.index-ends-i-then-not-has.result inside)
                 (λ k d off. get_or-set_other now i k (at_node (get_or now i w.index-ends-i-then-not-has.result) w.move_end-node.result) d off)));
             start = inr (omega (arith, c.loop-i-test.true));
-            up = omega (arith, ap (λ (t : Part). t.behind) w.changed-is, c.loop-i.invariant.up);
-            within = omega (arith, ap (λ (t : Part). t.behind) w.changed-is, c.loop-i.invariant.within);
-            nodes = subst (λ (t : Part). (k : ℕ) (d : RangeEnd) → (k < t.first) ⊎ (t.behind ≤ k) →
+            up = omega (arith, ap (λ (t : Span). t.behind) w.changed-is, c.loop-i.invariant.up);
+            within = omega (arith, ap (λ (t : Span). t.behind) w.changed-is, c.loop-i.invariant.within);
+            nodes = subst (λ (t : Span). (k : ℕ) (d : RangeEnd) → (k < t.first) ⊎ (t.behind ≤ k) →
                 (get_or c.if-not-has.ends k d).node ≡ (get_or es k d).node) (sym w.changed-is)
                 (subst (λ (t : List RangeEnd). (k : ℕ) (d : RangeEnd) → (k < c.loop-i.changed.first) ⊎ (c.loop-i.changed.behind ≤ k) →
                 (get_or t k d).node ≡ (get_or es k d).node) (sym w.ends-is)
@@ -104,9 +104,9 @@ loop-i-preserved g c =
                 (is_chosen (up_to c.args.part.first (i + 1)) c.args.skipped)) (sym w.ends-is)
                 (IsMovedPart-skipped _ _ _ _ _ _ _ _ _ c.requires.listed within c.loop-i.auto.i so_far (sym c.has.ensures ∙ w.if-not-has.false)));
             start = inr (omega (arith, c.loop-i-test.true));
-            up = omega (arith, ap (λ (t : Part). t.behind) w.changed-is, c.loop-i.invariant.up);
-            within = omega (arith, ap (λ (t : Part). t.behind) w.changed-is, c.loop-i.invariant.within);
-            nodes = subst (λ (t : Part). (k : ℕ) (d : RangeEnd) → (k < t.first) ⊎ (t.behind ≤ k) →
+            up = omega (arith, ap (λ (t : Span). t.behind) w.changed-is, c.loop-i.invariant.up);
+            within = omega (arith, ap (λ (t : Span). t.behind) w.changed-is, c.loop-i.invariant.within);
+            nodes = subst (λ (t : Span). (k : ℕ) (d : RangeEnd) → (k < t.first) ⊎ (t.behind ≤ k) →
                 (get_or c.if-not-has.ends k d).node ≡ (get_or es k d).node) (sym w.changed-is)
                 (subst (λ (t : List RangeEnd). (k : ℕ) (d : RangeEnd) → (k < c.loop-i.changed.first) ⊎ (c.loop-i.changed.behind ≤ k) →
                 (get_or t k d).node ≡ (get_or es k d).node) (sym w.ends-is) c.loop-i.invariant.nodes);

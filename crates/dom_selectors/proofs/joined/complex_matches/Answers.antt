@@ -2,7 +2,7 @@
 use Rattle.std.proofs.Common.{◌≡◌, List, ap, sym, subst, ◌∙◌}
 use Rattle.dom_model.specs.Selectors.{complex_matches}
 use Rattle.dom_tree.specs.Forest.{name_at}
-use Rattle.dom_selectors.specs.declared.selector.Part.{Part}
+use Rattle.dom_selectors.specs.declared.selector.CompoundPart.{CompoundPart}
 use Rattle.dom_selectors.specs.declared.selector.Link.{Link}
 use Rattle.dom_selectors.specs.declared.selector.Complex.{Complex}
 use Rattle.dom_selectors.specs.Search.{IsDescendant, StopsAt}
@@ -12,7 +12,7 @@ use Rattle.dom_selectors.proofs.Searches.{goes-above, none-above}
 use Rattle.dom_selectors.proofs.joined.complex_matches.Goals as goal
 
 -- its parts are those of the selector
-seen : (complex : Complex) (first : List Part) (links : List Link) → first ≡ complex.first.items → links ≡ complex.links.items →
+seen : (complex : Complex) (first : List CompoundPart) (links : List Link) → first ≡ complex.first.items → links ≡ complex.links.items →
     complex_view complex ≡ complex_from first links
 seen complex first links e is = ap (λ ps. complex_from ps complex.links.items) (sym e) ∙ ap (complex_from first) (sym is)
 

@@ -9,7 +9,7 @@ use Rattle.dom_tree.specs.Forest.{name_at}
 use Rattle.dom_traversal.specs.Within.{from_node}
 use Rattle.dom_traversal.proofs.Counts.{Once-forest}
 use Rattle.dom_traversal.proofs.Searching.{following_step, length-behind, left-behind, first-hit}
-use Rattle.dom_slots.proofs.Named.{named-first}
+use Rattle.dom_slots.proofs.NamesOfNodes.{named-first}
 use Rattle.dom_slots.proofs.Walks.{from-top, stands-top}
 use Rattle.dom_slots.proofs.find.slot_named.Goals as goal
 

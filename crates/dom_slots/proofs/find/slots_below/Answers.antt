@@ -9,7 +9,7 @@ use Rattle.dom_tree.specs.Forest.{name_at}
 use Rattle.dom_traversal.specs.Within.{from_node, behind}
 use Rattle.dom_traversal.proofs.Counts.{Once-forest}
 use Rattle.dom_traversal.proofs.Searching.{following_step, length-behind}
-use Rattle.dom_slots.proofs.Named.{named-filter}
+use Rattle.dom_slots.proofs.NamesOfNodes.{named-filter}
 use Rattle.dom_slots.proofs.Walks.{from-top, stands-top, collect-yes, collect-no}
 use Rattle.dom_slots.proofs.find.slots_below.Goals as goal
 use Rattle.dom_slots.proofs.find.slots_below.Goals.{then-is_slot+in_ok-push, else-is_slot}

@@ -8,16 +8,16 @@ use Rattle.dom_model.specs.Dispatch.{dispatch_in}
 use Rattle.dom_model.specs.DocumentMachine.{refusal}
 use Rattle.dom_model.specs.Turns.{opening_turn}
 use Rattle.dom_model.specs.World.{part_of, is_there}
-use Rattle.dom_reader.specs.Views.{event_view, spelled_view}
+use Rattle.dom_reader.specs.Views.{event_view, word_view}
 use Rattle.dom_tree.specs.Forest.{name_at}
 use Rattle.dom_dispatch.specs.Dispatches.{event_words}
 use Rattle.dom_admission.specs.Handled.{IsHandled}
-use Rattle.dom_commands.specs.Heard.{own_listeners}
+use Rattle.dom_commands.specs.WithListeners.{own_listeners}
 use Rattle.dom_commands.specs.Machine.{MachineNow}
 use Rattle.dom_commands.proofs.Admitting.{refused_line, unrefused_there}
 use Rattle.dom_commands.proofs.EventCommands.{stopped-heard}
 use Rattle.dom_admission.proofs.Handling.{passed}
-use Rattle.dom_commands.proofs.Heard.{there-heard}
+use Rattle.dom_commands.proofs.ListenerWorlds.{there-heard}
 use Rattle.dom_commands.proofs.HeardCommands.{refusal-heard}
 use Rattle.dom_commands.proofs.Listening.{fits-own}
 use Rattle.dom_commands.proofs.Machines.{seen_at}
@@ -32,7 +32,7 @@ returns-in_err-admit_event-clause-handled c =
     let o = c.args.owner in
     let text = c.args.out.now.items in
     let f = c.in_err-admit_event.field-0.0 in
-    let said = Command.dispatch (spelled_view c.args.target) (event_view c.args.event) (option_map spelled_view c.args.related) in
+    let said = Command.dispatch (word_view c.args.target) (event_view c.args.event) (option_map word_view c.args.related) in
     let at = seen_at s ls c.args.self.now c.self.view_is c.requires in
     rw (p.1, p.2)
     (subst (λ (m : MachineNow). IsHandled o said m.world m.world text text (Err f)) c.self.view_is
@@ -43,7 +43,7 @@ pub open_turn-requires-clause-owner_is_there : goal.open_turn-requires-clause-ow
 open_turn-requires-clause-owner_is_there c =
     let s = c.self.inside.state in
     let o = c.args.owner in
-    let said = Command.dispatch (spelled_view c.args.target) (event_view c.args.event) (option_map spelled_view c.args.related) in
+    let said = Command.dispatch (word_view c.args.target) (event_view c.args.event) (option_map word_view c.args.related) in
     let none : refusal s.world o said ≡ None =
     passed (refusal s.world o said) (sym (c.admit_event.ensures.refusal (event_view c.args.event)) ∙ c.in_ok-admit_event.was) in
     subst (λ (m : MachineNow). is_there m.world o ≡ true) c.self.view_is
@@ -55,9 +55,9 @@ returns-clause-handled c =
     let ls = c.self.inside.listeners in
     let m = c.args.self.now in
     let o = c.args.owner in
-    let x = spelled_view c.args.target in
+    let x = word_view c.args.target in
     let e = event_view c.args.event in
-    let related = option_map spelled_view c.args.related in
+    let related = option_map word_view c.args.related in
     let said = Command.dispatch x e related in
     let of = own_listeners s.names ls in
     let fits = fits-own s.names s.world c.names_tell_nodes.ensures.there ls (seen_at s ls m c.self.view_is c.requires) in

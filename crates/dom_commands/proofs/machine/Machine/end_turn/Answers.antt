@@ -7,7 +7,7 @@ use Rattle.dom_text.specs.Text.{output_text}
 use Rattle.dom_text.proofs.OutputLaws.{output_text-append}
 use Rattle.dom_model.specs.Command.{Command}
 use Rattle.dom_admission.specs.Handled.{IsHandled}
-use Rattle.dom_commands.specs.Heard.{own_listeners}
+use Rattle.dom_commands.specs.WithListeners.{own_listeners}
 use Rattle.dom_commands.specs.Machine.{MachineNow}
 use Rattle.dom_commands.proofs.EventCommands.{stopped-heard, passed-heard}
 use Rattle.dom_admission.proofs.Handling.{refused}

@@ -1,12 +1,12 @@
 use Rattle.std.proofs.Common.{length}
 use Rattle.dom_model.specs.Turns.{running_task}
-use Rattle.dom_commands.specs.Machine.{IsSound, AreThere}
+use Rattle.dom_commands.specs.Machine.{IsAtRest, AreThere}
 use Rattle.dom_commands.proofs.Closing.{Ran}
 use Rattle.dom_commands.proofs.machine.Machine.run_tasks.Given as goal
 
 abbrev pub invariant-loop-task : goal.invariant-loop-task
 invariant-loop-task l = Ran running_task l.initial.self.world l.self.world l.initial.tasks l.tasks l.initial.out.items l.out.items ×
-    IsSound l.self × AreThere l.self.world l.tasks
+    IsAtRest l.self × AreThere l.self.world l.tasks
 
 abbrev pub decreases-loop-task : goal.decreases-loop-task
 decreases-loop-task l = length l.tasks

@@ -1,7 +1,7 @@
 use Rattle.std.proofs.Common.{◌≡◌, drop, map}
 use Rattle.dom_model.specs.Turns.{firing_slotchange}
 use Rattle.dom_tree.specs.Forest.{name_at}
-use Rattle.dom_commands.specs.Machine.{IsSound}
+use Rattle.dom_commands.specs.Machine.{IsAtRest}
 use Rattle.dom_commands.proofs.Closing.{Ran}
 use Rattle.dom_commands.proofs.machine.Machine.signal_slots.Given as goal
 
@@ -9,4 +9,4 @@ abbrev pub invariant-loop-slot : goal.invariant-loop-slot
 invariant-loop-slot l =
     Ran firing_slotchange l.initial.self.world l.self.world (map (name_at l.initial.self.names) l.slots)
     (map (name_at l.initial.self.names) (drop l.slot-index l.slots)) l.initial.out.items l.out.items
-    × IsSound l.self × (l.self.names ≡ l.initial.self.names)
+    × IsAtRest l.self × (l.self.names ≡ l.initial.self.names)

@@ -5,12 +5,12 @@ use Rattle.std.proofs.lemmas.Result.{err_from_is_err_and}
 use Rattle.dom_base.specs.declared.NodeName.{NodeName}
 use Rattle.dom_model.specs.Command.{Command}
 use Rattle.dom_model.specs.Listeners.{Listener, unlistened}
-use Rattle.dom_reader.specs.Views.{spelled_view}
-use Rattle.dom_dispatch.specs.Named.{IsListenerAt}
+use Rattle.dom_reader.specs.Views.{word_view}
+use Rattle.dom_dispatch.specs.ListenersByName.{IsListenerAt}
 use Rattle.dom_admission.specs.declared.admission.Operand.TheVariants.{Any}
 use Rattle.dom_admission.specs.Handled.{IsHandled}
-use Rattle.dom_commands.specs.Heard.{heard, own_listeners}
-use Rattle.dom_commands.specs.Machine.{MachineNow, machine_now, IsSound}
+use Rattle.dom_commands.specs.WithListeners.{heard, own_listeners}
+use Rattle.dom_commands.specs.Machine.{MachineNow, machine_now, IsAtRest}
 use Rattle.dom_commands.proofs.EventCommands.{stopped-heard, unlisten_handled}
 use Rattle.dom_admission.proofs.Handling.{refused}
 use Rattle.dom_commands.proofs.Listening.{fits-own, at-unlistened}
@@ -26,7 +26,7 @@ returns-in_err-admit-clause-handled c =
     let o = c.args.owner in
     let text = c.args.out.now.items in
     let f = c.in_err-admit.field-0.0 in
-    let said = Command.unlisten (spelled_view c.args.node) c.args.event.now c.args.label.now c.args.capture in
+    let said = Command.unlisten (word_view c.args.node) c.args.event.now c.args.label.now c.args.capture in
     let at = seen_at s ls c.args.self.now c.self.view_is c.requires in
     rw (p.1, p.2)
     (subst (λ (m : MachineNow). IsHandled o said m.world m.world text text (Err f)) c.self.view_is
@@ -44,15 +44,15 @@ returns-clause-handled c =
     let after = c.accept.new.out.items in
     let r = c.accept.result in
     let end = c.accept.new.self.world in
-    let said = Command.unlisten (spelled_view c.args.node) c.args.event.now c.args.label.now c.args.capture in
+    let said = Command.unlisten (word_view c.args.node) c.args.event.now c.args.label.now c.args.capture in
     let now = unlistened nat_eq k c.args.event.now c.args.label.now c.args.capture ls in
     let at = seen_at s ls c.args.self.now c.self.view_is c.requires in
-    let sound = subst IsSound (sym c.self.view_is) c.requires in
+    let sound = subst IsAtRest (sym c.self.view_is) c.requires in
     let Done : MachineNow → List NodeName → List (Listener ℕ) → Type 0 =
     λ m names ms. IsHandled o said m.world (heard (own_listeners names ms) end) before after r in
     let done : Done (machine_now s ls) s.names now =
     unlisten_handled s.names ls s.world c.names_tell_nodes.ensures.distinct c.names_tell_nodes.ensures.there at sound.reached o
-    (spelled_view c.args.node) k c.key-node.ensures.node c.key-node.ensures.name
+    (word_view c.args.node) k c.key-node.ensures.node c.key-node.ensures.name
     (Any c.args.node ∷ []) (sym c.admit.ensures ∙ c.in_ok-admit.was) c.args.event.now c.args.label.now c.args.capture
     (naming-unlisten c.args.node c.args.event.now c.args.label.now c.args.capture) end before after r c.accept.ensures.done in
     subst (λ (m : MachineNow). Done m c.accept.new.self.names c.unlisten.new.self) c.self.view_is

@@ -5,7 +5,7 @@ use Rattle.std.proofs.lemmas.Bool.{cond-true, cond-false}
 use Rattle.dom_model.specs.Dispatch.{visit_of, is_at_target}
 use Rattle.dom_model.specs.Listeners.{visited}
 use Rattle.dom_model.specs.Paths.{View}
-use Rattle.dom_path.specs.Stands.{view_in}
+use Rattle.dom_path.specs.PathNodes.{view_in}
 use Rattle.dom_dispatch.specs.Dispatches.{event_words, dispatching_in, IsOwnLine}
 use Rattle.dom_dispatch.proofs.Visiting.{bubbled-more, view-is}
 use Rattle.dom_dispatch.proofs.listeners.Listeners.bubble.Goals as goal

@@ -9,7 +9,7 @@ use Rattle.dom_tree.specs.Forest.{name_at}
 use Rattle.dom_traversal.specs.Within.{behind}
 use Rattle.dom_traversal.proofs.Climbing.{was_none}
 use Rattle.dom_traversal.proofs.Counts.{Once-forest}
-use Rattle.dom_slots.proofs.Named.{named-filter}
+use Rattle.dom_slots.proofs.NamesOfNodes.{named-filter}
 use Rattle.dom_slots.proofs.Walks.{from-top}
 use Rattle.dom_layer_tests.proofs.paths.scene.is_alone.Goals as goal
 

@@ -11,7 +11,7 @@ use Rattle.dom_model.specs.Names.{owner_eq}
 use Rattle.dom_model.specs.CommandRefusals.{past_limit}
 use Rattle.dom_observers.specs.declared.observers.Observers.TheInside.{Inside}
 use Rattle.dom_observers.specs.Tables.{TablesOf, with_observer}
-use Rattle.dom_observers.specs.AllTables.{AllTables}
+use Rattle.dom_observers.specs.TablesByOwner.{TablesByOwner}
 use Rattle.dom_observers.specs.Owners.{tables_of, all_tables, ChangesTables, KeepsTables}
 use Rattle.dom_observers.specs.TableView.{table_of}
 use Rattle.dom_observers.proofs.Lookups.{rewritten, had, changes-kept, changes-before, lookup-get}
@@ -30,7 +30,7 @@ returns-in_err-prepare-clause-limit c =
 
 pub unreachable-requires : goal.unreachable-requires
 unreachable-requires c =
-    let there = subst (λ (all : AllTables). is_some (lookup (owner_eq c.args.owner) all) ≡ true) (sym c.self.view_is) c.in_ok-prepare.ensures.there in
+    let there = subst (λ (all : TablesByOwner). is_some (lookup (owner_eq c.args.owner) all) ≡ true) (sym c.self.view_is) c.in_ok-prepare.ensures.there in
     true≢false (sym there ∙ (lookup-get c.self.inside c.args.owner ∙ sym (ap is_some c.in_default.ensures.value)))
 
 pub returns-clause-number : goal.returns-clause-number

@@ -5,7 +5,7 @@ use Rattle.std.specs.HashMap.{get}
 use Rattle.dom_base.specs.contracts.OwnerPartialEq.TheImpl as OwnerImpl
 use Rattle.dom_model.specs.Names.{owner_eq}
 use Rattle.dom_observers.specs.declared.observers.Observers.TheInside.{Inside}
-use Rattle.dom_observers.specs.AllTables.{AllTables}
+use Rattle.dom_observers.specs.TablesByOwner.{TablesByOwner}
 use Rattle.dom_observers.proofs.Lookups.{had-none, lookup-get, written-none}
 use Rattle.dom_observers.proofs.Tables.{none_from}
 use Rattle.dom_observers.proofs.observers.Observers.prepare.Goals as goal
@@ -17,7 +17,7 @@ on_err (Err e) p = p
 
 pub returns-then-contains_key-clause-there : goal.returns-then-contains_key-clause-there
 returns-then-contains_key-clause-there c =
-    subst (λ (all : AllTables). is_some (lookup (owner_eq c.args.owner) all) ≡ true) c.self.view_is
+    subst (λ (all : TablesByOwner). is_some (lookup (owner_eq c.args.owner) all) ≡ true) c.self.view_is
     (lookup-get c.self.inside c.args.owner ∙ sym c.if-contains_key.ensures)
 
 pub returns-in_err-insert-clause-none : goal.returns-in_err-insert-clause-none

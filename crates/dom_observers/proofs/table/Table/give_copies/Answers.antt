@@ -4,7 +4,7 @@ use Rattle.std.proofs.lemmas.List.{take_all}
 use Rattle.std.proofs.lemmas.List.Sums.{fold_more}
 use Rattle.dom_model.specs.Observers.{without_old}
 use Rattle.dom_observers.specs.Tables.{TablesOf, given}
-use Rattle.dom_observers.specs.Takers.{record_of}
+use Rattle.dom_observers.specs.InterestedObservers.{record_of}
 use Rattle.dom_observers.specs.Views.{change_of}
 use Rattle.dom_observers.specs.TableView.{table_of}
 use Rattle.dom_observers.proofs.table.Table.give_copies.Goals as goal
@@ -13,7 +13,7 @@ pub loop-observer-preserved : goal.loop-observer-preserved
 loop-observer-preserved c =
     let ch = change_of c.args.change.now in
     let k = get_or c.args.observers.now c.loop-observer.observer-index 0 in
-    let f = λ (t : TablesOf ℕ) (j : ℕ). given (record_of c.args.takers.now ch j) t j in
+    let f = λ (t : TablesOf ℕ) (j : ℕ). given (record_of c.args.interested.now ch j) t j in
     let before = table_of c.loop-observer.self in
     c.in_ok-give.ensures
     ∙ (ap (λ r. given r before k) (c.in_ok-copy.ensures ∙ ap (λ b. cond b ch (without_old ch)) c.get_old.ensures)
@@ -22,5 +22,5 @@ loop-observer-preserved c =
 
 pub returns : goal.returns
 returns c =
-    let f = λ (t : TablesOf ℕ) (j : ℕ). given (record_of c.args.takers.now (change_of c.args.change.now) j) t j in
+    let f = λ (t : TablesOf ℕ) (j : ℕ). given (record_of c.args.interested.now (change_of c.args.change.now) j) t j in
     c.loop-observer.invariant ∙ ap (fold f (table_of c.args.self.now)) (take_all c.loop-observer.observer-index c.args.observers.now (omega arith))

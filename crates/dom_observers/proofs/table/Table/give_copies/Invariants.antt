@@ -3,9 +3,9 @@ use Rattle.std.specs.List.{fold}
 use Rattle.dom_observers.specs.Tables.{given}
 use Rattle.dom_observers.specs.Views.{change_of}
 use Rattle.dom_observers.specs.TableView.{table_of}
-use Rattle.dom_observers.specs.Takers.{record_of}
+use Rattle.dom_observers.specs.InterestedObservers.{record_of}
 use Rattle.dom_observers.proofs.table.Table.give_copies.Given as goal
 
 abbrev pub invariant-loop-observer : goal.invariant-loop-observer
 invariant-loop-observer l =
-    table_of l.self ≡ fold (λ t k. given (record_of l.takers (change_of l.change) k) t k) (table_of l.initial.self) (take l.observer-index l.observers)
+    table_of l.self ≡ fold (λ t k. given (record_of l.interested (change_of l.change) k) t k) (table_of l.initial.self) (take l.observer-index l.observers)

@@ -6,7 +6,7 @@ use Rattle.dom_model.specs.Observers.{Registration, fitting, interested, asks_fo
 use Rattle.dom_tree.specs.Forest.{NamedTrees}
 use Rattle.dom_observers.specs.Paths.{path_keys}
 use Rattle.dom_observers.specs.Tables.{TablesOf, given}
-use Rattle.dom_observers.specs.Takers.{record_of}
+use Rattle.dom_observers.specs.InterestedObservers.{record_of}
 use Rattle.dom_observers.specs.Views.{change_of}
 use Rattle.dom_observers.specs.TableView.{table_of}
 use Rattle.dom_observers.proofs.Folds.{fold-append}
@@ -43,9 +43,9 @@ returns-clause-taken c =
     let f = c.args.forest.now in
     let ch = change_of c.args.change in
     let path = path_keys f (target_of ch) in
-    let keys = c.in_ok-takers.takers.observers.keys in
+    let keys = c.in_ok-interested.interested.observers.keys in
     let way = c.as_slice.ensures.value ∙ (c.in_ok-path.ensures ∙ ap (path_keys f) c.target-target.ensures) in
-    let who = c.in_ok-takers.ensures.observers ∙
+    let who = c.in_ok-interested.ensures.observers ∙
     (ap (λ p. interested nat_eq p c.refresh.new.self ch) way ∙ ap (λ rs. interested nat_eq path rs ch) c.in_ok-refresh.ensures) in
     sym (ap (λ ks. not (is_empty ks)) (sym who ∙ (sym c.as_slice-2.ensures.keys ∙ c.in-Some.ensures.cases.0)) ∙
     ap not (is_empty-push c.in-Some.others.now c.in-Some.last.now))
@@ -56,13 +56,13 @@ returns-clause-tables c =
     let ch = change_of c.args.change in
     let t : TablesOf ℕ = table_of c.args.self.now in
     let path = path_keys forest (target_of ch) in
-    let takers = c.in_ok-takers.takers in
-    let f = λ (s : TablesOf ℕ) (k : ℕ). given (record_of takers ch k) s k in
+    let interested = c.in_ok-interested.interested in
+    let f = λ (s : TablesOf ℕ) (k : ℕ). given (record_of interested ch k) s k in
     let way = c.as_slice.ensures.value ∙ (c.in_ok-path.ensures ∙ ap (path_keys forest) c.target-target.ensures) in
-    let who = c.in_ok-takers.ensures.observers ∙
+    let who = c.in_ok-interested.ensures.observers ∙
     (ap (λ p. interested nat_eq p c.refresh.new.self ch) way ∙ ap (λ rs. interested nat_eq path rs ch) c.in_ok-refresh.ensures) in
     let wants = λ (k : ℕ) (list : List (Registration ℕ)). list_any (λ r. (r.observer == k) && asks_for_old r.options ch) list in
-    let old = λ (k : ℕ). c.in_ok-takers.ensures.with_old k ∙
+    let old = λ (k : ℕ). c.in_ok-interested.ensures.with_old k ∙
     (ap (λ p. wants k (fitting nat_eq p c.refresh.new.self ch)) way ∙ ap (λ rs. wants k (fitting nat_eq path rs ch))
     c.in_ok-refresh.ensures) in
     let here = ap (λ (rs : List (Registration ℕ)). let s : TablesOf ℕ = record t { registrations = rs } in s) c.in_ok-refresh.ensures in
@@ -71,4 +71,4 @@ returns-clause-tables c =
     ∙ (ap (λ s. f s c.in-Some.last.now) (c.in_ok-give_copies.ensures ∙ ap (λ s. fold f s c.in-Some.others.now) here)
     ∙ (sym (fold-append f t c.in-Some.others.now (c.in-Some.last.now ∷ []))
     ∙ (ap (fold f t) (sym (sym who ∙ (sym c.as_slice-2.ensures.keys ∙ c.in-Some.ensures.cases.0)))
-    ∙ told-fold path ch t (record_of takers ch) (λ k. ap (λ b. cond b ch (without_old ch)) (old k))))))
+    ∙ told-fold path ch t (record_of interested ch) (λ k. ap (λ b. cond b ch (without_old ch)) (old k))))))

@@ -3,7 +3,7 @@ use Rattle.dom_tree.specs.Owners.{trees_of_owner}
 use Rattle.dom_model.specs.World.{part_of}
 use Rattle.dom_slots.specs.Shadows.{IsShownBy, shadows}
 use Rattle.dom_parts.specs.Doc.{DocState, contents, all_tables}
-use Rattle.dom_parts.proofs.Held.{are_hosts}
+use Rattle.dom_parts.proofs.DocInvariant.{are_hosts}
 use Rattle.dom_parts.proofs.HostedWorlds.{world_shown}
 use Rattle.dom_parts.proofs.Shown.{own_in_part}
 use Rattle.dom_parts.proofs.parts.Parts.forest_and_slots.Goals as goal

@@ -4,7 +4,7 @@ use Rattle.dom_model.specs.Tree.{index_of, length_of}
 use Rattle.dom_model.specs.World.{part_of}
 use Rattle.dom_tree.specs.Forest.{name_at}
 use Rattle.dom_parts.specs.Doc.{name_in, owner_in, stepped, contents, all_tables}
-use Rattle.dom_parts.proofs.Held.{are_hosts}
+use Rattle.dom_parts.proofs.DocInvariant.{are_hosts}
 use Rattle.dom_parts.proofs.RangedStates.{held_live, live_done, join_asks}
 use Rattle.dom_parts.proofs.RangedSteps.{join_ranged}
 use Rattle.dom_parts.proofs.RangedWorlds.{join_told}

@@ -12,7 +12,7 @@ use Rattle.dom_parts.specs.Doc.{DocState, owner_in, contents, all_tables}
 use Rattle.dom_parts.specs.Hosting.{IsAlone}
 use Rattle.dom_tree.proofs.Owned.{AreOf-own}
 use Rattle.dom_model.specs.CommandRefusals.{past_limit}
-use Rattle.dom_parts.proofs.Held.{are_hosts}
+use Rattle.dom_parts.proofs.DocInvariant.{are_hosts}
 use Rattle.dom_parts.proofs.HostedWorlds.{makers_hosted}
 use Rattle.dom_parts.proofs.Limits.{within_limit}
 use Rattle.dom_parts.proofs.OwnSteps.{steps_alone}

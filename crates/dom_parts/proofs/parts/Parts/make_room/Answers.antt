@@ -3,7 +3,7 @@ use Rattle.dom_model.specs.Steps.{make_room}
 use Rattle.dom_model.specs.Tree.{index_of}
 use Rattle.dom_tree.specs.Forest.{name_at}
 use Rattle.dom_parts.specs.Doc.{name_in, owner_in, stepped, contents, all_tables}
-use Rattle.dom_parts.proofs.Held.{are_hosts}
+use Rattle.dom_parts.proofs.DocInvariant.{are_hosts}
 use Rattle.dom_parts.proofs.RangedStates.{held_live, live_done, room_asks}
 use Rattle.dom_parts.proofs.RangedSteps.{room_ranged}
 use Rattle.dom_parts.proofs.RangedWorlds.{room_told}

@@ -8,13 +8,13 @@ use Rattle.dom_tree.proofs.OwnPlacings.{put}
 use Rattle.dom_parts.specs.Doc.{name_in, owner_in, trees_in, contents, all_tables}
 use Rattle.dom_traversal.proofs.Counts.{Once-forest, Has-forest}
 use Rattle.dom_tree_laws.proofs.Once.{once_forest}
-use Rattle.dom_tree_laws.proofs.Standing.{keeps_placed}
+use Rattle.dom_tree_laws.proofs.KeptAncestors.{keeps_placed}
 use Rattle.dom_slots.specs.declared.step.Step.TheVariants.{Place}
 use Rattle.dom_cursors.specs.Cursors.{cursors_of}
 use Rattle.dom_observers.specs.Owners.{tables_of as observers_of}
 use Rattle.dom_node_trees.specs.Signalled.{signal_tables}
 use Rattle.dom_parts.specs.AllTables.{tables_of}
-use Rattle.dom_parts.proofs.Held.{are_hosts}
+use Rattle.dom_parts.proofs.DocInvariant.{are_hosts}
 use Rattle.dom_parts.proofs.HostedSteps.{place_hosted}
 use Rattle.dom_parts.proofs.Signalling.{tree_held, tree_state}
 use Rattle.dom_parts.proofs.Steps.{trees_change}

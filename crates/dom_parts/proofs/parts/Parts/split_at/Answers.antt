@@ -8,7 +8,7 @@ use Rattle.dom_ranges.specs.Rules.{Fits}
 use Rattle.dom_ranges.specs.Tables.{EachRange, BothEnds, ranges_of}
 use Rattle.dom_tree.specs.Forest.{name_at}
 use Rattle.dom_parts.specs.Doc.{owner_in, contents, all_tables}
-use Rattle.dom_parts.proofs.Held.{are_hosts}
+use Rattle.dom_parts.proofs.DocInvariant.{are_hosts}
 use Rattle.dom_parts.proofs.RangedFits.{split_fits}
 use Rattle.dom_parts.proofs.RangedStates.{held_live, live_done}
 use Rattle.dom_parts.proofs.RangedSteps.{split_ranged}

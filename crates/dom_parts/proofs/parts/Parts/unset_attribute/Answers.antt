@@ -9,11 +9,11 @@ use Rattle.dom_observers.specs.Owners.{tables_of as observers_of}
 use Rattle.dom_node_trees.specs.Signalled.{signal_tables}
 use Rattle.dom_parts.specs.AllTables.{tables_of}
 use Rattle.dom_parts.specs.Doc.{contents, all_tables}
-use Rattle.dom_parts.proofs.Held.{are_hosts}
+use Rattle.dom_parts.proofs.DocInvariant.{are_hosts}
 use Rattle.dom_parts.proofs.HostedSteps.{attribute_hosted}
 use Rattle.dom_parts.proofs.Shown.{owner_there}
 use Rattle.dom_parts.proofs.Signalling.{tree_held, tree_state}
-use Rattle.dom_tree_laws.proofs.Standing.{keeps_changed}
+use Rattle.dom_tree_laws.proofs.KeptAncestors.{keeps_changed}
 use Rattle.dom_parts.proofs.Steps.{trees_change}
 use Rattle.dom_parts.proofs.parts.Parts.unset_attribute.Goals as goal
 

@@ -4,7 +4,7 @@ use Rattle.std.specs.Option.{option_and_then}
 use Rattle.dom_model.specs.Tree.{root_of}
 use Rattle.dom_tree.specs.Forest.{name_at}
 use Rattle.dom_slots.specs.Shadows.{shadows}
-use Rattle.dom_path.specs.declared.stand.Stand.{Stand}
+use Rattle.dom_path.specs.declared.path_node.PathNode.{PathNode}
 use Rattle.dom_path.specs.declared.trees.Tree.{Tree}
 use Rattle.dom_path.specs.Built.{related_name}
 use Rattle.dom_path.specs.Ways.{unless_ended, ends_at, event_parent_at}
@@ -38,7 +38,7 @@ returns-then-ends_before-clause-value c = λ depth hosted.
     ap (option_map (λ (a : Tree). name_at f.names a.root)) (sym c.at-top.ensures) ∙ c.requires.event.at_target.tree depth hosted in
     let top : name_at f.names c.at-top.result.root ≡ root_of f.trees t = cc in
     let up : Some y ≡ event_parent_at (shadows f hosts) e.composed (name_at f.names c.at-top.result.root) (name_at f.names c.args.at.now.node) =
-    ap (option_map (λ (a : Stand). name_at f.names a.node)) (sym c.in-Some.is) ∙ c.in_ok-above.ensures.value in
+    ap (option_map (λ (a : PathNode). name_at f.names a.node)) (sym c.in-Some.is) ∙ c.in_ok-above.ensures.value in
     sym (ap (λ (b : Bool). if b then None else Some y) ends)
     ∙ ap (option_and_then (unless_ended (shadows f hosts) depth t r))
     (up ∙ ap (λ top. event_parent_at (shadows f hosts) e.composed top (name_at f.names c.args.at.now.node)) top)
@@ -62,7 +62,7 @@ returns-clause-value c = λ depth hosted.
     ap (option_map (λ (a : Tree). name_at f.names a.root)) (sym c.at-top.ensures) ∙ c.requires.event.at_target.tree depth hosted in
     let top : name_at f.names c.at-top.result.root ≡ root_of f.trees t = cc in
     let up : Some y ≡ event_parent_at (shadows f hosts) e.composed (name_at f.names c.at-top.result.root) (name_at f.names c.args.at.now.node) =
-    ap (option_map (λ (a : Stand). name_at f.names a.node)) (sym c.in-Some.is) ∙ c.in_ok-above.ensures.value in
+    ap (option_map (λ (a : PathNode). name_at f.names a.node)) (sym c.in-Some.is) ∙ c.in_ok-above.ensures.value in
     sym (ap (λ (b : Bool). if b then None else Some y) ends)
     ∙ ap (option_and_then (unless_ended (shadows f hosts) depth t r))
     (up ∙ ap (λ top. event_parent_at (shadows f hosts) e.composed top (name_at f.names c.args.at.now.node)) top)

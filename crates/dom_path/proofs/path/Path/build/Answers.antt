@@ -3,7 +3,7 @@ use Rattle.std.specs.Prelude.{option_map}
 use Rattle.dom_model.specs.Names.{max_depth}
 use Rattle.dom_tree.specs.Forest.{name_at}
 use Rattle.dom_path.specs.Items.{item_named, view_named}
-use Rattle.dom_path.specs.Stands.{view_in}
+use Rattle.dom_path.specs.PathNodes.{view_in}
 use Rattle.dom_path.proofs.InWorlds.{in-world}
 use Rattle.dom_path.proofs.Shows.{path-shown, nodes-within, shown-within}
 use Rattle.dom_path.proofs.Sightings.{world-hosted}

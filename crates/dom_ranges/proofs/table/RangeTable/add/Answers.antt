@@ -2,12 +2,12 @@ use Rattle.std.proofs.Common.{◌≡◌, ℕ, List, [], ◌∷◌, ◌++◌, tru
 use Rattle.slab.specs.Slab.{get, Slab}
 use Rattle.dom_ranges.specs.declared.table.Points.{Points}
 use Rattle.dom_ranges.specs.Tables.{ranges_of}
-use Rattle.dom_ranges.specs.Held.{IsHeld}
+use Rattle.dom_ranges.specs.RangeSlots.{HaveNumbers}
 use Rattle.std.specs.List.Sorted.{IsPermutation}
 use Rattle.dom_ranges.specs.declared.ends.RangeEnd.{RangeEnd}
 use Rattle.dom_ranges.specs.Listed.{IsListed, IsSortedByNode, end_in}
 use Rattle.dom_ranges.proofs.Listing.{IsListed-added, IsListed-same}
-use Rattle.dom_ranges.proofs.Writing.{Shows, Shows-view, Shows-same, IsHeld-same, IsHeld-pushed, ranges-shown, ranges-pushed, length-ranges}
+use Rattle.dom_ranges.proofs.Writing.{Shows, Shows-view, Shows-same, HaveNumbers-same, HaveNumbers-pushed, ranges-shown, ranges-pushed, length-ranges}
 use Rattle.dom_ranges.proofs.table.RangeTable.add.Goals as goal
 
 -- a fact holds of a refused call too
@@ -30,7 +30,7 @@ returns-in_err-reserve-2-clause-err c =
 pub invariant_of-self-in_err-slot : goal.invariant_of-self-in_err-slot
 invariant_of-self-in_err-slot c =
     let same = λ (s : ℕ). ap (λ (t : Slab Points). get t s) c.in_err-slot.ensures.err in (
-      IsHeld-same c.self.inside.live c.insert.new.self c.self.inside.numbers c.reserve.new.self
+      HaveNumbers-same c.self.inside.live c.insert.new.self c.self.inside.numbers c.reserve.new.self
           (λ s. (λ i. subst IsSome (same s) i, λ i. subst IsSome (sym (same s)) i)) c.reserve.ensures.slots c.self.invariant.0,
       subst (IsListed c.insert.new.self) (sym c.reserve-2.ensures.items)
           (IsListed-same c.self.inside.live c.insert.new.self c.self.inside.ends.items same c.self.invariant.1),
@@ -51,20 +51,20 @@ counted c =
     ∙ length-ranges c.self.inside.live c.self.inside.numbers _ (Shows-view c.self.inside.live c.self.inside.numbers _ c.self.view_is) c.args.owner
 
 -- the lists with their room
-roomy : (c : goal.After-list_range) → Shows c.self.inside.live c.reserve.new.self c.args.self.now × IsHeld c.self.inside.live c.reserve.new.self
+roomy : (c : goal.After-list_range) → Shows c.self.inside.live c.reserve.new.self c.args.self.now × HaveNumbers c.self.inside.live c.reserve.new.self
 roomy c = (
   Shows-same c.self.inside.live c.self.inside.live c.self.inside.numbers c.reserve.new.self _
       (Shows-view c.self.inside.live c.self.inside.numbers _ c.self.view_is) (λ s. refl) c.reserve.ensures.slots,
-  IsHeld-same c.self.inside.live c.self.inside.live c.self.inside.numbers c.reserve.new.self (λ s. (λ i. i, λ i. i)) c.reserve.ensures.slots c.self.invariant.0,
+  HaveNumbers-same c.self.inside.live c.self.inside.live c.self.inside.numbers c.reserve.new.self (λ s. (λ i. i, λ i. i)) c.reserve.ensures.slots c.self.invariant.0,
 )
 
 pub overflow_cast-result : goal.overflow_cast-result
 overflow_cast-result c = omega (arith, counted c)
 
 -- what holds of the slots and the lists
-held-then : (c : goal.After-list_range) → IsHeld c.insert.new.self c.push.new.self
+held-then : (c : goal.After-list_range) → HaveNumbers c.insert.new.self c.push.new.self
 held-then c =
-    IsHeld-pushed c.self.inside.live c.insert.new.self c.reserve.new.self c.push.new.self c.in_ok-slot.slot c.args.owner _ (roomy c).1
+    HaveNumbers-pushed c.self.inside.live c.insert.new.self c.reserve.new.self c.push.new.self c.in_ok-slot.slot c.args.owner _ (roomy c).1
     c.in_ok-slot.ensures.was_vacant c.in_ok-slot.ensures.updates c.push.ensures
 
 pub invariant_of-self-2 : goal.invariant_of-self-2

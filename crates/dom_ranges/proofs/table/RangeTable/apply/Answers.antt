@@ -2,7 +2,7 @@ use Rattle.std.proofs.Common.{◌≡◌, length, get_or, sym, ◌∙◌, ap, ari
 use Rattle.std.proofs.lemmas.Bool.{eqb-true}
 use Rattle.dom_model.specs.Ranges.{map_ends}
 use Rattle.dom_ranges.specs.declared.ends.RangeEnd.{RangeEnd}
-use Rattle.dom_ranges.specs.declared.ends.Part.{Part}
+use Rattle.dom_ranges.specs.declared.ends.Span.{Span}
 use Rattle.dom_ranges.specs.Listed.{is_in}
 use Rattle.dom_ranges.proofs.Gathering.{written-back}
 use Rattle.dom_ranges.proofs.Leaving.{each-held, kept-moved}
@@ -12,8 +12,8 @@ use Rattle.dom_ranges.proofs.table.RangeTable.apply.Goals as goal
 
 pub move_ends-requires-clause-two_within : goal.move_ends-requires-clause-two_within
 move_ends-requires-clause-two_within g c = elim c.if-eq.branch [
-  | then-eq w ↦ omega (arith, ap (λ (t : Part). t.behind) w.there-is)
-  | else-eq w ↦ omega (arith, ap (λ (t : Part). t.behind) w.there-is, w.part_of-there.ensures.within)
+  | then-eq w ↦ omega (arith, ap (λ (t : Span). t.behind) w.there-is)
+  | else-eq w ↦ omega (arith, ap (λ (t : Span). t.behind) w.there-is, w.part_of-there.ensures.within)
 ]
 
 pub move_ends-requires-clause-all : goal.move_ends-requires-clause-all
@@ -22,7 +22,7 @@ move_ends-requires-clause-all g c =
     let off = λ (e : (get_or _ k d).node ≡ c.args.one). true≢false (sym (c.part_of-here.ensures.all k d l e) ∙ out_one) in
     c.requires.nodes _ i off (elim c.if-eq.branch [
       | then-eq w ↦ λ e. off (e ∙ sym (eqb-true c.args.one c.args.two (sym w.if-eq.ensures)))
-      | else-eq w ↦ λ e. true≢false (sym (w.part_of-there.ensures.all k d l e) ∙ (ap (λ (t : Part). is_in t k) (sym w.there-is) ∙ out_two))
+      | else-eq w ↦ λ e. true≢false (sym (w.part_of-there.ensures.all k d l e) ∙ (ap (λ (t : Span). is_in t k) (sym w.there-is) ∙ out_two))
     ])
 
 pub move_ends-requires-clause-can_move : goal.move_ends-requires-clause-can_move

@@ -3,7 +3,7 @@ use Rattle.std.specs.Prelude.{slice_get}
 use Rattle.std.specs.Option.{option_flatten}
 use Rattle.std.proofs.lemmas.Bool.{eqb-true}
 use Rattle.slab.specs.Slab.{slab_len}
-use Rattle.dom_ranges.specs.Held.{slots_of}
+use Rattle.dom_ranges.specs.RangeSlots.{slots_of}
 use Rattle.dom_ranges.proofs.Vacant.{none-kept}
 use Rattle.dom_ranges.proofs.Writing.{Shows-view, range_in-held}
 use Rattle.dom_ranges.proofs.table.RangeTable.is_empty.Goals as goal

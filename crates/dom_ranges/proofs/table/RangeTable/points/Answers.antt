@@ -1,7 +1,7 @@
 use Rattle.std.proofs.Common.{ap, sym, ◌∙◌}
 use Rattle.std.specs.Option.{option_map}
 use Rattle.dom_ranges.specs.Tables.{range_from}
-use Rattle.dom_ranges.specs.Held.{range_kept}
+use Rattle.dom_ranges.specs.RangeSlots.{range_kept}
 use Rattle.dom_ranges.proofs.Writing.{Shows-view, range_in-held}
 use Rattle.dom_ranges.proofs.table.RangeTable.points.Goals as goal
 

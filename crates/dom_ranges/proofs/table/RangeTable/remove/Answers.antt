@@ -2,8 +2,8 @@ use Rattle.std.proofs.Common.{◌≡◌, None, is_some, ap, sym, ◌∙◌}
 use Rattle.std.proofs.lemmas.Option.{slice_get_within}
 use Rattle.slab.specs.Slab.{get}
 use Rattle.dom_ranges.specs.Tables.{ranges_of, range_in}
-use Rattle.dom_ranges.specs.Held.{range_kept, slots_of, StandsUnder}
-use Rattle.dom_ranges.proofs.Writing.{Shows-view, range_in-held, slot-under, not_there, is_some-kept, IsHeld-cleared, ranges-cleared}
+use Rattle.dom_ranges.specs.RangeSlots.{range_kept, slots_of, StandsUnder}
+use Rattle.dom_ranges.proofs.Writing.{Shows-view, range_in-held, slot-under, not_there, is_some-kept, HaveNumbers-cleared, ranges-cleared}
 use Rattle.dom_ranges.proofs.table.RangeTable.remove.Goals as goal
 
 -- no range has this number
@@ -28,7 +28,7 @@ under c = slot-under c.self.inside.numbers c.args.owner c.args.number c.in-Some.
 
 pub invariant_of-self : goal.invariant_of-self
 invariant_of-self c = (
-  IsHeld-cleared c.self.inside.live c.drop_range.new.live c.self.inside.numbers c.clear.new.self c.in-Some.slot c.args.number c.args.owner
+  HaveNumbers-cleared c.self.inside.live c.drop_range.new.live c.self.inside.numbers c.clear.new.self c.in-Some.slot c.args.number c.args.owner
       c.self.invariant.0 (under c) c.drop_range.ensures.updates c.clear.ensures,
   c.drop_range.ensures.listed,
   c.drop_range.ensures.sorted,

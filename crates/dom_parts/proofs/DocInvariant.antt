@@ -1,0 +1,159 @@
+-- What holds of a `Doc` stays so when one owner's trees change, and then its world has that owner's part changed.
+use Rattle.std.proofs.Common.{◌≡◌, ℕ, ◌<◌, ◌≤◌, true, false, List, [], ◌∷◌, length}
+use Rattle.std.proofs.Common.{refl, sym, ap, subst, ◌∙◌, ◌≢◌, arith}
+use Rattle.std.specs.List.{AllByRecursion}
+use Rattle.std.proofs.lemmas.Option.{none-some}
+use Rattle.dom_base.specs.declared.NodeName.{NodeName}
+use Rattle.dom_base.specs.declared.Owner.{Owner}
+use Rattle.dom_base.specs.declared.Owner.TheVariants.{Page}
+use Rattle.dom_model.specs.Tree.{Trees}
+use Rattle.dom_model.specs.World.{World, is_there, Task, micro_task, notify_task}
+use Rattle.dom_tree.specs.Forest.{NamedTrees, name_at, count_of}
+use Rattle.dom_tree.specs.Owners.{AreOwned, trees_of_owner, IsOwnChange}
+use Rattle.dom_observers.specs.Tables.{TablesOf, no_tables as no_observers}
+use Rattle.dom_observers.specs.Naming.{IsKey, SpeaksOf}
+use Rattle.dom_cursors.specs.OwnTables.{no_keyed_tables}
+use Rattle.dom_parts.specs.AllTables.{AreTablesOf, AllTables, signals_of, with_queue, with_observers}
+use Rattle.dom_node_trees.specs.Signalled.{AreSignals}
+use Rattle.dom_parts.specs.Hosting.{maker_of, hosts_of, host_names, host_owners, AreMadeBehind, AreHostsOf}
+use Rattle.dom_parts.specs.Numbering.{AreNumbered}
+use Rattle.dom_parts.specs.Ranging.{AreRangesOf}
+use Rattle.dom_slots.specs.Hosts.{ShadowHost, HostsAreNodes}
+use Rattle.dom_slots.specs.Kept.{AreSlotsOf}
+use Rattle.dom_model.proofs.OwnerLaws.{ne-owner_eq}
+use Rattle.dom_parts.proofs.HostedWorlds.{single_hosted}
+use Rattle.dom_parts.proofs.HostsOfOwners.{other-host}
+use Rattle.dom_parts.specs.Doc.{named_trees, contents, world_from, IsDoc, IsDue}
+use Rattle.dom_parts.proofs.Worlds.{Single, there_same}
+use Rattle.dom_tree_laws.proofs.KeptAncestors.{KeepsAbove}
+use Rattle.dom_parts.proofs.Keeping.{tables_kept}
+use Rattle.dom_parts.proofs.RangedKeeping.{ranges_stay}
+
+-- empty tables are each owner's
+pub no_cursors : (f : NamedTrees) (o : Owner) → AreTablesOf f o no_keyed_tables
+no_cursors f o = record {
+  iterators = λ k i is. absurd (none-some i is);
+  walkers = λ k w is. absurd (none-some w is);
+  few_iterators = omega arith;
+  few_walkers = omega arith;
+}
+
+-- whoever is not there has no hosts
+none_of : (w : World) (names : List NodeName) → ((k : ℕ) → k < length names → is_there w (name_at names k).owner ≡ true) → (o : Owner) →
+    is_there w o ≡ false → (hosts : List ShadowHost) → HostsAreNodes names hosts → hosts_of names hosts o ≡ []
+none_of w names present o off [] nodes = refl
+none_of w names present o off (h ∷ hosts) nodes =
+    other-host names h hosts o (ne-owner_eq (maker_of names h) o (λ e. let on = sym (ap (is_there w) e) ∙ present h.host nodes.0 in cc))
+    ∙ none_of w names present o off hosts nodes.2
+
+-- it has just its hosts
+pub are_hosts : (names : List NodeName) (ts : Trees) (tables : AllTables) → IsDoc names ts tables → AreHostsOf (contents names ts tables) tables.slots.hosts
+are_hosts names ts tables held = record {
+  owners = refl;
+  made = held.made;
+  nodes = held.signals.slots.hosts;
+  attached = λ o. refl;
+  unhosted = λ o off. ap (host_names names) (none_of (world_from names ts tables) names held.present o off tables.slots.hosts held.signals.slots.hosts);
+  owned = held.owned;
+  absent = held.absent;
+}
+
+-- each owner stands there once
+pub single_owners : (names : List NodeName) (ts : Trees) (tables : AllTables) → IsDoc names ts tables → Single (Page ∷ host_owners tables.slots.hosts)
+single_owners names ts tables held = single_hosted (contents names ts tables) tables.slots.hosts (are_hosts names ts tables held)
+
+-- tasks are due as long as their owners are there
+pub due_kept : (w v : World) → ((o : Owner) → is_there w o ≡ true → is_there v o ≡ true) → (tasks : List Task) → AllByRecursion (IsDue w) tasks →
+    AllByRecursion (IsDue v) tasks
+due_kept w v there [] all = tt
+due_kept w v there (t ∷ tasks) all = (by t all.0, due_kept w v there tasks all.1)
+  where
+    by : (t : Task) → IsDue w t → IsDue v t
+    by (micro_task o label) h = tt
+    by (notify_task o) h = there o h
+
+-- other trees and tables, where only one owner's trees change
+module _ (names : List NodeName) (ts : Trees) (tables : AllTables) (held : IsDoc names ts tables) (o : Owner)
+    (there : is_there (world_from names ts tables) o ≡ true)
+    (more : List NodeName) (us : Trees) (others : AllTables)
+    (hosts : others.slots.hosts ≡ tables.slots.hosts) where
+  who : (p : Owner) → is_there (world_from more us others) p ≡ is_there (world_from names ts tables) p
+  who p = there_same (contents more us others) (contents names ts tables) (ap (λ (hs : List ShadowHost). Page ∷ host_owners hs) hosts) p
+
+  pub held_with : AreOwned us → ((p : Owner) → p ≢ o → trees_of_owner p us ≡ trees_of_owner p ts)
+      → ((k : ℕ) → k < length more → is_there (world_from names ts tables) (name_at more k).owner ≡ true) → ((p : Owner) → count_of p more ≤ 1000000)
+      → ((p : Owner) → AreTablesOf (named_trees more us) p (others.each p)) →
+      ((p : Owner) → is_there (world_from names ts tables) p ≡ false → others.each p ≡ no_keyed_tables) → AreMadeBehind more [] tables.slots.hosts →
+      AreSignals more us (signals_of others)
+      → ((p : Owner) → SpeaksOf (IsKey more) (others.observers p)) →
+      ((p : Owner) → is_there (world_from names ts tables) p ≡ false → others.observers p ≡ no_observers)
+      → AllByRecursion (IsDue (world_from names ts tables)) others.tasks → AreRangesOf (contents more us others) others.ranges →
+      AreNumbered more → IsDoc more us others
+  held_with owned apart present limited own idle made signals speaks unobserved due ranges numbered = record {
+    owned = owned;
+    present = λ k k<. who (name_at more k).owner ∙ present k k<;
+    absent = λ p off. apart p (λ same_owner. let on : is_there (world_from names ts tables) p ≡ true = subst
+        (λ (q : Owner). is_there (world_from names ts tables) q ≡ true) (sym same_owner) there in let gone = sym (who p) ∙ off in cc)
+        ∙ held.absent p (sym (who p) ∙ off);
+    limited = limited;
+    own = own;
+    idle = λ p off. idle p (sym (who p) ∙ off);
+    made = subst (AreMadeBehind more []) (sym hosts) made;
+    signals = signals;
+    speaks = speaks;
+    unobserved = λ p off. unobserved p (sym (who p) ∙ off);
+    due = due_kept (world_from names ts tables) (world_from more us others) (λ p on. who p ∙ on) others.tasks due;
+    ranges = ranges;
+    numbered = numbered;
+  }
+
+pub held_changed : (names : List NodeName) (ts : Trees) (tables : AllTables) → IsDoc names ts tables → (o : Owner) →
+    is_there (world_from names ts tables) o ≡ true
+    → (f : Trees → Trees) → IsOwnChange o f ts → KeepsAbove ts (f ts) → AreSlotsOf (named_trees names (f ts)) tables.slots → IsDoc names (f ts) tables
+held_changed names ts tables held o there f change keeps slots =
+    held_with names ts tables held o there names (f ts) tables refl change.owned change.others held.present held.limited
+    (λ p. tables_kept names ts (f ts) keeps p (tables.each p) (held.own p)) held.idle held.made
+    record { free = held.signals.free; slots = slots; nodes = held.signals.nodes } held.speaks held.unobserved held.due
+    (ranges_stay (contents names ts tables) (contents names (f ts) tables) tables.ranges held.ranges refl refl (λ p. refl)) held.numbered
+
+-- other observers
+pub held_observers : (names : List NodeName) (ts : Trees) (tables : AllTables) → IsDoc names ts tables → (observers : Owner → TablesOf ℕ) →
+    ((p : Owner) → SpeaksOf (IsKey names) (observers p))
+    → ((p : Owner) → is_there (world_from names ts tables) p ≡ false → observers p ≡ no_observers) → IsDoc names ts (with_observers tables observers)
+held_observers names ts tables held observers speaks unobserved = record {
+  owned = held.owned;
+  present = λ k k<. who (name_at names k).owner ∙ held.present k k<;
+  absent = λ o off. held.absent o (sym (who o) ∙ off);
+  limited = held.limited;
+  own = held.own;
+  idle = λ o off. held.idle o (sym (who o) ∙ off);
+  made = held.made;
+  signals = record { free = held.signals.free; slots = held.signals.slots; nodes = held.signals.nodes };
+  speaks = speaks;
+  unobserved = λ o off. unobserved o (sym (who o) ∙ off);
+  due = due_kept (world_from names ts tables) (world_from names ts (with_observers tables observers)) (λ o on. who o ∙ on) tables.tasks held.due;
+  ranges = ranges_stay (contents names ts tables) (contents names ts (with_observers tables observers)) tables.ranges held.ranges refl refl (λ o. refl);
+  numbered = held.numbered;
+}
+  where
+    who : (o : Owner) → is_there (world_from names ts (with_observers tables observers)) o ≡ is_there (world_from names ts tables) o
+    who o = there_same (contents names ts (with_observers tables observers)) (contents names ts tables) refl o
+
+-- other tasks
+pub held_tasks : (names : List NodeName) (ts : Trees) (tables : AllTables) → IsDoc names ts tables → (tasks : List Task) →
+    AllByRecursion (IsDue (world_from names ts tables)) tasks → IsDoc names ts (with_queue tables tasks)
+held_tasks names ts tables held tasks due = record {
+  owned = held.owned;
+  present = held.present;
+  absent = held.absent;
+  limited = held.limited;
+  own = held.own;
+  idle = held.idle;
+  made = held.made;
+  signals = record { free = held.signals.free; slots = held.signals.slots; nodes = held.signals.nodes };
+  speaks = held.speaks;
+  unobserved = held.unobserved;
+  due = due_kept (world_from names ts tables) (world_from names ts (with_queue tables tasks)) (λ o on. on) tasks due;
+  ranges = ranges_stay (contents names ts tables) (contents names ts (with_queue tables tasks)) tables.ranges held.ranges refl refl (λ o. refl);
+  numbered = held.numbered;
+}

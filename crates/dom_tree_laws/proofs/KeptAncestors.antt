@@ -1,0 +1,199 @@
+-- What stands above a node stays above it when trees are placed, added and given other contents.
+use Rattle.std.proofs.Common.{◌≡◌, ◌⊎◌, inl, inr, Bool, true, false, cond, List, [], ◌∷◌, Option, None, refl, sym, ap, subst, ◌∙◌}
+use Rattle.std.proofs.lemmas.Bool.{cases_Bool, both_ways}
+use Rattle.dom_base.specs.declared.NodeName.{NodeName}
+use Rattle.dom_model.specs.Names.{name_eq, is_in}
+use Rattle.dom_model.specs.Tree.{Trees, none, tree, Node, subtree, on_top, inclusive_ancestors, is_inclusive_ancestor, inclusive_descendants, parent_of}
+use Rattle.dom_model.specs.TreeChanges.{without, put_before, put_below, placed, with_node, is_given, map_nodes, change_node, change_subtree}
+use Rattle.dom_traversal.proofs.Lists.{In, In-from, is_in-from, In-left, same_or_not, name_eq-from, name_eq-other}
+use Rattle.dom_traversal.proofs.Shapes.{Has, Once, IsTreeOf, has_or_not, above-absent, above-present, above-here, Has-above, above-root}
+use Rattle.dom_traversal.proofs.Shapes.{subtree-present, subtree-within, Once-subtree, above-from_below, below-from_above}
+use Rattle.dom_traversal.proofs.Removal.{Has-without, without-apart, above-without, above-put_others}
+use Rattle.dom_traversal.proofs.Chains.{above-chain}
+use Rattle.dom_tree_laws.proofs.Paths.{IsOnce, lacks_from}
+use Rattle.dom_tree_laws.proofs.Moves.{path_placed}
+use Rattle.dom_tree_laws.proofs.Relatives.{path_mapped}
+
+-- whoever stands above a node still does
+abbrev pub KeepsAbove : Trees → Trees → Type 0
+KeepsAbove ts us = (a y : NodeName) → is_inclusive_ancestor ts a y ≡ true → is_inclusive_ancestor us a y ≡ true
+
+-- ---- a node with ancestors stands in the trees
+
+Has-from_above : (ts : Trees) (a y : NodeName) → In a (inclusive_ancestors ts y) → Has ts y
+Has-from_above ts a y i = elim (has_or_not ts y) [ inl h ↦ h | inr off ↦ absurd (subst (In a) (above-absent ts y off) i) ]
+
+-- ---- contents
+
+pub keeps_mapped : (f : Node → Node) → ((n : Node) → (f n).name ≡ n.name) → (ts : Trees) → KeepsAbove ts (map_nodes f ts)
+keeps_mapped f same ts a y h = ap (is_in name_eq a) (path_mapped f same ts y) ∙ h
+
+same_if : (b : Bool) (f : Node → Node) → ((n : Node) → (f n).name ≡ n.name) → (n : Node) → (cond b (f n) n).name ≡ n.name
+same_if true f same n = same n
+same_if false f same n = refl
+
+pub keeps_changed : (f : Node → Node) → ((n : Node) → (f n).name ≡ n.name) → (x : NodeName) (ts : Trees) → KeepsAbove ts (change_node f x ts)
+keeps_changed f same x ts = keeps_mapped (λ n. cond (name_eq n.name x) (f n) n) (λ n. same_if (name_eq n.name x) f same n) ts
+
+pub keeps_changed_below : (f : Node → Node) → ((n : Node) → (f n).name ≡ n.name) → (x : NodeName) (ts : Trees) → KeepsAbove ts (change_subtree f x ts)
+keeps_changed_below f same x ts = keeps_mapped (λ n. cond (is_in name_eq n.name (inclusive_descendants ts x)) (f n) n)
+    (λ n. same_if (is_in name_eq n.name (inclusive_descendants ts x)) f same n) ts
+
+-- ---- a new node
+
+-- a node of another name
+pub above_added : (n : Node) (ts : Trees) (a y : NodeName) → (n.name ≡ y → ⊥) → is_inclusive_ancestor ts a y ≡ true →
+    is_inclusive_ancestor (with_node n ts) a y ≡ true
+above_added n ts a y other h = ap (is_in name_eq a) (above-put_others n.name n none ts y off) ∙ h
+  where
+    off : Has (tree n none none) y → ⊥
+    off (inl e) = other e
+    off (inr (inl i)) = i
+    off (inr (inr i)) = i
+
+-- ---- a tree placed
+
+-- a tree among others: above a node of its own
+above-put_before : (before : Option NodeName) (m : Node) (d ts : Trees) (y : NodeName) → Has (tree m d none) y → (Has ts y → ⊥)
+    → inclusive_ancestors (put_before before (tree m d none) ts) y ≡ inclusive_ancestors (tree m d none) y
+above-put_before before m d none y h off = refl
+above-put_before before m d (tree n c r) y h off = elim (cases_Bool (is_given before n.name)) [
+  | inl e ↦ rw e (first (same_or_not m.name y) h)
+  | inr e ↦ rw e (later (name_eq-other n.name y (λ same. off (inl same))) (above-absent c y (λ i. off (inr (inl i)))) ∙
+      above-put_before before m d r y h (λ i. off (inr (inr i))))
+]
+  where
+    first : (m.name ≡ y) ⊎ (m.name ≡ y → ⊥) → Has (tree m d none) y → inclusive_ancestors (tree m d (tree n c r)) y ≡ inclusive_ancestors (tree m d none) y
+    first (inl same) g = above-here m d (tree n c r) y same ∙ sym (above-here m d none y same)
+    first (inr other) (inl same) = absurd (other same)
+    first (inr other) (inr (inl i)) =
+        let w = above-present d y i in
+        rw (name_eq-other m.name y other)
+        (ap (λ path. on_top path m.name (inclusive_ancestors (tree n c r) y)) w.1 ∙ sym (ap (λ path. on_top path m.name []) w.1))
+    first (inr other) (inr (inr i)) = absurd i
+
+    later : name_eq n.name y ≡ false → inclusive_ancestors c y ≡ [] →
+        inclusive_ancestors (tree n c (put_before before (tree m d none) r)) y ≡ inclusive_ancestors (put_before before (tree m d none) r) y
+    later no_n empty =
+        ap (λ b. cond b (y ∷ []) (on_top (inclusive_ancestors c y) n.name (inclusive_ancestors (put_before before (tree m d none) r) y))) no_n
+        ∙ ap (λ path. on_top path n.name (inclusive_ancestors (put_before before (tree m d none) r) y)) empty
+
+-- above a node of the others
+above-put_before_others : (before : Option NodeName) (m : Node) (d ts : Trees) (y : NodeName) → (Has (tree m d none) y → ⊥) →
+    inclusive_ancestors (put_before before (tree m d none) ts) y ≡ inclusive_ancestors ts y
+above-put_before_others before m d none y off = above-absent (tree m d none) y off
+above-put_before_others before m d (tree n c r) y off = elim (cases_Bool (is_given before n.name)) [
+  | inl e ↦ rw e (first (name_eq-other m.name y (λ same. off (inl same))) (above-absent d y (λ i. off (inr (inl i)))))
+  | inr e ↦ rw e (ap (λ path. cond (name_eq n.name y) (y ∷ []) (on_top (inclusive_ancestors c y) n.name path)) (above-put_before_others before m d r y off))
+]
+  where
+    first : name_eq m.name y ≡ false → inclusive_ancestors d y ≡ [] → inclusive_ancestors (tree m d (tree n c r)) y ≡ inclusive_ancestors (tree n c r) y
+    first no_m empty = ap (λ b. cond b (y ∷ []) (on_top (inclusive_ancestors d y) m.name (inclusive_ancestors (tree n c r) y))) no_m ∙
+        ap (λ path. on_top path m.name (inclusive_ancestors (tree n c r) y)) empty
+
+-- put below a parent that is not there
+put_below-absent : (parent : NodeName) (before : Option NodeName) (new ts : Trees) → (Has ts parent → ⊥) → put_below parent before new ts ≡ ts
+put_below-absent parent before new none off = refl
+put_below-absent parent before new (tree n c r) off =
+    ap (λ b. tree n (cond b (put_before before new (put_below parent before new c)) (put_below parent before new c))
+    (put_below parent before new r)) (name_eq-other n.name parent (λ e. off (inl e)))
+    ∙ (ap (λ us. tree n us (put_below parent before new r)) (put_below-absent parent before new c (λ h. off (inr (inl h)))) ∙
+    ap (tree n c) (put_below-absent parent before new r (λ h. off (inr (inr h)))))
+
+-- the path of a node below a root
+In-on_top : (a top : NodeName) (path others : List NodeName) → In a path → In a (on_top path top others)
+In-on_top a top [] others h = absurd h
+In-on_top a top (p ∷ path) others h = In-left a (p ∷ path) (top ∷ []) h
+
+-- what is above a node of a tree is above it where that tree was put
+above-put_below : (parent : NodeName) (before : Option NodeName) (m : Node) (d ts : Trees) (a y : NodeName) → Once ts → Has ts parent →
+    Has (tree m d none) y → (Has ts y → ⊥)
+    → In a (inclusive_ancestors (tree m d none) y) → In a (inclusive_ancestors (put_below parent before (tree m d none) ts) y)
+above-put_below parent before m d none a y once at h off i = absurd at
+above-put_below parent before m d (tree n c r) a y once at h off i = elim (same_or_not n.name parent) [
+  | inl e ↦ here e
+  | inr other ↦ rw (name_eq-other n.name parent other) (rw (name_eq-other n.name y (λ same. off (inl same))) (elim at [
+    | inl e ↦ absurd (other e)
+    | inr g ↦ elim g [
+      | inl in_c ↦ In-on_top a n.name (inclusive_ancestors (put_below parent before (tree m d none) c) y) _
+          (above-put_below parent before m d c a y once.3 in_c h (λ j. off (inr (inl j))) i)
+      | inr in_r ↦ beside (put_below-absent parent before (tree m d none) c (λ j. once.2 parent j in_r))
+          (above-put_below parent before m d r a y once.4 in_r h (λ j. off (inr (inr j))) i)
+    ]
+  ]))
+]
+  where
+    here : n.name ≡ parent → In a (inclusive_ancestors (put_below parent before (tree m d none) (tree n c r)) y)
+    here e =
+        let same : put_below parent before (tree m d none) c ≡ c = put_below-absent parent before (tree m d none) c (λ j. once.0 (subst (Has c) (sym e) j)) in
+        let own : inclusive_ancestors (put_before before (tree m d none) (put_below parent before (tree m d none) c)) y ≡ inclusive_ancestors
+        (tree m d none) y =
+        ap (λ us. inclusive_ancestors (put_before before (tree m d none) us) y) same ∙ above-put_before before m d c y h (λ j. off (inr (inl j))) in
+        rw (name_eq-from n.name parent e)
+        (rw (name_eq-other n.name y (λ same. off (inl same)))
+        (In-on_top a n.name (inclusive_ancestors (put_before before (tree m d none) (put_below parent before (tree m d none) c)) y) _
+        (subst (In a) (sym own) i)))
+
+    beside : put_below parent before (tree m d none) c ≡ c → In a (inclusive_ancestors (put_below parent before (tree m d none) r) y)
+        → In a (on_top (inclusive_ancestors (put_below parent before (tree m d none) c) y) n.name
+        (inclusive_ancestors (put_below parent before (tree m d none) r) y))
+    beside same j = subst (λ path. In a (on_top path n.name (inclusive_ancestors (put_below parent before (tree m d none) r) y)))
+        (sym (ap (λ us. inclusive_ancestors us y) same ∙ above-absent c y (λ k. off (inr (inl k))))) j
+
+-- the trees without one of them: each name stands once
+Once-without : (ts : Trees) (x : NodeName) → Once ts → Once (without x ts)
+Once-without none x once = tt
+Once-without (tree n c r) x once = elim (same_or_not n.name x) [
+  | inl e ↦ rw (name_eq-from n.name x e) (Once-without r x once.4)
+  | inr other ↦ rw (name_eq-other n.name x other) (
+    λ h. once.0 (Has-without c x n.name h),
+    λ h. once.1 (Has-without r x n.name h),
+    λ y h g. once.2 y (Has-without c x y h) (Has-without r x y g),
+    Once-without c x once.3,
+    Once-without r x once.4,
+  )
+]
+
+module _ (ts : Trees) (once : Once ts) (x parent : NodeName) (before : Option NodeName) (at_x : Has ts x) (at_parent : Has ts parent)
+    (unlinked : parent_of ts x ≡ None) (apart : is_inclusive_ancestor ts x parent ≡ false) where
+  -- the parent is not in the tree that is placed
+  parent_stays : Has (without x ts) parent
+  parent_stays =
+      let off : Has (subtree ts x) parent → ⊥ =
+      λ h. both_ways _ apart (is_in-from x (inclusive_ancestors ts parent) (above-from_below ts x parent once at_x h)) in
+      let w = above-present ts parent at_parent in
+      Has-from_above (without x ts) parent parent
+      (subst (In parent) (sym (above-without ts x parent once at_parent off)) (subst (In parent) (sym w.1) (inl refl)))
+
+  -- who stands in that tree keeps what is above it there
+  moved_keeps : (a y : NodeName) → In a (inclusive_ancestors ts y) → In x (inclusive_ancestors ts y) → In a (inclusive_ancestors (placed x parent before ts) y)
+  moved_keeps a y i j =
+      let at_y = Has-from_above ts a y i in
+      let at_a = Has-above ts a y once at_y i in
+      let above_a : In x (inclusive_ancestors ts a) = elim (above-chain ts x a y once at_y j i) [
+        | inl k ↦ k
+        | inr k ↦ elim (subst (In a) (above-root ts x at_x unlinked) k) [
+          | inl same ↦ subst (λ z. In x (inclusive_ancestors ts z)) (sym same) (subst (In x) (sym (above-root ts x at_x unlinked)) (inl refl))
+          | inr none_left ↦ absurd none_left
+        ]
+      ] in
+      let a_in = below-from_above ts x a once at_a above_a in
+      let y_in = below-from_above ts x y once at_y j in
+      let y_below : Has (subtree (subtree ts x) a) y =
+      subst (λ (us : Trees). Has us y) (sym (subtree-within ts x a once at_x a_in)) (below-from_above ts a y once at_y i) in
+      let there : In a (inclusive_ancestors (subtree ts x) y) = above-from_below (subtree ts x) a y (Once-subtree ts x once at_x) a_in y_below in
+      by (subtree-present ts x at_x) y_in there
+    where
+      by : IsTreeOf x (subtree ts x) → Has (subtree ts x) y → In a (inclusive_ancestors (subtree ts x) y) →
+          In a (inclusive_ancestors (placed x parent before ts) y)
+      by t y_in there =
+          subst (λ us. In a (inclusive_ancestors (put_below parent before us (without x ts)) y)) (sym t.2)
+          (above-put_below parent before t.0 t.1 (without x ts) a y (Once-without ts x once) parent_stays (subst (λ (us : Trees). Has us y) t.2 y_in)
+          (λ g. without-apart ts x y once g y_in) (subst (λ (us : Trees). In a (inclusive_ancestors us y)) t.2 there))
+
+  pub keeps_placed : IsOnce ts → KeepsAbove ts (placed x parent before ts)
+  keeps_placed single a y h = elim (cases_Bool (is_inclusive_ancestor ts x y)) [
+    | inl e ↦ is_in-from a (inclusive_ancestors (placed x parent before ts) y)
+        (moved_keeps a y (In-from a (inclusive_ancestors ts y) h) (In-from x (inclusive_ancestors ts y) e))
+    | inr e ↦ ap (is_in name_eq a) (path_placed ts single x parent before y (lacks_from x (inclusive_ancestors ts y) e)) ∙ h
+  ]
