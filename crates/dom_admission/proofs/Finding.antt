@@ -71,7 +71,7 @@ is_found names ts x None finds found kept = cases (has_node ts x) refl
     cases true h = let there = finds.only x h in let no : None ≡ Some there.0 = kept there.0 there.1 in absurd cc
     cases false h = refl
 
--- the same of an owner's own trees, for a node as a line of the owner spells it
+-- a node is found in an owner's own trees, as a line of the owner spells it
 pub find_own : (names : List NodeName) (ts : Trees) (w : World) → FindsNames names ts → AreOwned ts →
     ((o : Owner) → trees_of_owner o ts ≡ (part_of w o).trees) →
     (o : Owner) (s : NodeWord) (n : ℕ) → n ≡ number_in s → (r : Option ℕ) → ForSome r (λ k. slice_get names k ≡ Some (node_of o n)) →

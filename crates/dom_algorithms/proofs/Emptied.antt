@@ -84,7 +84,7 @@ put_whole d e f g node text ks alone text_owner listed taken inserted told =
     (plans_then o (clear (map (name_in d) ks)) (inserting suppressed y x None) cleared (plans_inserting o suppressed y x None text_owner))
     ∙ ap (λ zs. planned o (clear zs and_then inserting suppressed y x None and_then record_of zs) d) listed
 
--- the same where there is none
+-- a node's children are replaced by none
 module _ (d : DocState) (node : ℕ) (alone : IsAlone d.world (owner_in d node)) where
   abbrev o : Owner
   o = owner_in d node

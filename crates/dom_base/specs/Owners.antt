@@ -74,7 +74,7 @@ abbrev pub made_as : OwnerPath → Owner → ℕ → Option (Owner × ℕ)
 made_as q maker zero = None
 made_as q maker (suc k) = some_if (owner_eq (component_made maker k) (Component q)) (maker, k)
 
--- the same of a path of so many numbers: its maker's is the path without the last one
+-- the maker and the attach's number behind a path's first numbers, so many of them: its maker's is the path without the last one
 abbrev pub made_at : OwnerPath → ℕ → Option (Owner × ℕ)
 made_at q zero = None
 made_at q (suc depth) = option_and_then (made_as q (owner_at depth (slice_set q.parts depth 0))) (slice_get q.parts depth)

@@ -11,6 +11,6 @@ use Rattle.dom_model.specs.Tree.{Trees}
 abbrev pub next_behind : Trees → Filter → NodeName → NodeName → Option NodeName
 next_behind ts f root x = walker_move ts record { root = root; current = x; filter = f } Next
 
--- the same, and where there is none the first such node below the root (own rule)
+-- the next node behind x, and where there is none the first such node below the root (own rule)
 abbrev pub focus_behind : Trees → Filter → NodeName → NodeName → Option NodeName
 focus_behind ts f root x = option_or (next_behind ts f root x) (next_behind ts f root root)

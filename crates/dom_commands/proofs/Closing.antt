@@ -133,7 +133,7 @@ module _ (s t : DocState) (ls : List (Listener ℕ)) (m : MachineNow) (seen : ma
   closed_sound = taken_sound m (machine_now t ls) sound closed_world
       (subst (λ (ns : List NodeName). AllByRecursion (IsListenerAt ns) ls) (sym names) (seen_at s ls m seen sound))
 
-  -- those of them
+  -- the owners of the tasks of a turn that was closed are there
   pub closed_there : (ts : List Task) → ts ≡ s.world.tasks → AreThere (machine_now t ls).world ts
   closed_there ts is =
       let same : ts ≡ m.world.tasks = is ∙ ap (λ (n : MachineNow). n.world.tasks) seen in

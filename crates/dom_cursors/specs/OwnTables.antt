@@ -27,7 +27,7 @@ pub record IsLeft (f : NamedTrees) (node : ℕ) (was now : KeyedIterator) : Type
   pub kept : IsIteratorOf f now
   pub left : HasLeft f now node
 
--- the same of one that is there or not
+-- an iterator, there or not, is left by a removal as the definitions adjust it
 abbrev pub IsLeftIf : NamedTrees → ℕ → Option KeyedIterator → Option KeyedIterator → Type 0
 IsLeftIf f node (Some was) (Some now) = IsLeft f node was now
 IsLeftIf f node None None = Unit {0}

@@ -152,7 +152,7 @@ module _ (k : ℕ) where
     pub place : j ≡ n + length before
     pub number : length (places_from k n before) ≡ at
 
-  -- the same with one place more in front
+  -- a list parted at an entry is so with one place more in front
   further : (n : ℕ) (o : Option Entry) (b : Bool) → is_of_node k o ≡ b → (es : List (Option Entry)) (i j : ℕ) → IsParted (n + 1) es i j →
       IsParted n (o ∷ es) (if b then suc i else i) j
   further n o b is es i j s = record {

@@ -108,7 +108,7 @@ with_component = record {
       [];
 }
 
--- the same without the lines of the component: the lines of the page are equal
+-- the first example without the lines of the component: the lines of the page are equal
 abbrev pub without_component : Example
 without_component = record {
   lines =
@@ -190,7 +190,7 @@ first_family = record {
       [];
 }
 
--- the same with other contents of the second component: the first one hears the same
+-- the example of two families with other contents of the second component: the first one hears the same
 abbrev pub second_family : Example
 second_family = record {
   lines =

@@ -93,7 +93,7 @@ module _ (g : Owner → Bool) (closed : KeepsFamilies g) (w : World) (ground : I
   pub ancestors-outside : (x : NodeName) → Out x → AllByRecursion Out (ancestors_at w x)
   ancestors-outside x h = all-then (IsOf x.owner) Out (λ y e. ap g e ∙ h) (ancestors_at w x) (ancestors-of w ground x.owner x)
 
-  -- those of a node of the group are the same
+  -- the ancestors of a node of the group are the same in its own world
   ancestors-in : (x : NodeName) → In x → ancestors_at (group_world g w) x ≡ ancestors_at w x
   ancestors-in x h = ap (λ (p : Part). inclusive_ancestors p.trees x) (part-in g w x.owner h)
 
@@ -112,7 +112,7 @@ module _ (g : Owner → Bool) (closed : KeepsFamilies g) (w : World) (ground : I
   chain-inside : (x : NodeName) → In x → AllByRecursion In (host_chain w x)
   chain-inside x h = hosts-inside (owner_depth x.owner) x h
 
-  -- and the same
+  -- the chain of hosts is the same in the group's own world
   hosts-in : (depth : ℕ) (x : NodeName) → In x → hosts_from depth (group_world g w) x ≡ hosts_from depth w x
   hosts-in zero x h = refl
   hosts-in (suc depth) x h =
@@ -134,7 +134,7 @@ module _ (g : Owner → Bool) (closed : KeepsFamilies g) (w : World) (ground : I
       all-flat_map In (ancestors_at w) (host_chain w x)
       (all-then In (λ y. AllByRecursion In (ancestors_at w y)) ancestors-inside (host_chain w x) (chain-inside x h))
 
-  -- the same
+  -- the shadow-including ancestors are the same in the group's own world
   pub including-in : (x : NodeName) → In x → shadow_including_ancestors (group_world g w) x ≡ shadow_including_ancestors w x
   including-in x h =
       ap (flat_map (ancestors_at (group_world g w))) (chain-in x h)
@@ -169,7 +169,7 @@ module _ (g : Owner → Bool) (closed : KeepsFamilies g) (w : World) (ground : I
   pub retarget-inside : (a b : NodeName) → In a → In (retarget w a b)
   retarget-inside a b h = found-all In (λ x. not (is_hidden_from w b x)) (host_chain w a) a (chain-inside a h) h
 
-  -- and the same
+  -- and it is the same in the group's own world
   pub retarget-in : (a b : NodeName) → In a → In b → retarget (group_world g w) a b ≡ retarget w a b
   retarget-in a b h k =
       ap (λ xs. unwrap_or (find (λ x. not (is_hidden_from (group_world g w) b x)) xs) a) (chain-in a h)
@@ -182,7 +182,7 @@ module _ (g : Owner → Bool) (closed : KeepsFamilies g) (w : World) (ground : I
   abbrev pub AreIn : Option NodeName → Type 0
   AreIn r = AllByRecursion In (option_to_list r)
 
-  -- the same
+  -- a related node is retargeted alike in the group's own world
   pub related-in : (r : Option NodeName) (b : NodeName) → AreIn r → In b → retarget_related (group_world g w) r b ≡ retarget_related w r b
   related-in None b h k = refl
   related-in (Some a) b h k = ap Some (retarget-in a b h.0 k)

@@ -186,7 +186,7 @@ module _ (g : Owner → Bool) (closed : KeepsFamilies g) where
       (λ h. ap (λ v. fold with_signal v (filter (in_node g) ss)) (signal-out s h w)
       ∙ sym (ap (fold with_signal (group_world g w)) (filter-away (in_node g) s ss h)))
 
-  -- those of a step
+  -- the signals of a step, as a group has them
   with_signals-group : (was now : World) → IsGround was → IsGround now → (x around : NodeName) (is_move : Bool) →
       group_world g (with_signals was now x around is_move) ≡ with_signals (group_world g was) (group_world g now) x around is_move
   with_signals-group was now i j x around is_move =

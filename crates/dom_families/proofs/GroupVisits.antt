@@ -81,7 +81,7 @@ module _ (g : Owner → Bool) where
       ∙ ap (λ ls. after_action l.words.action (may_cancel e l.words) (record d { listeners = kept_after name_eq l d.listeners; lines = ls }))
       (filter-append in_line d.lines (line_of v l.words ∷ []) ∙ ap (λ ls. filter in_line d.lines ++ ls) (filter-here in_line (line_of v l.words) [] h))
 
-  -- the same, stopped or not
+  -- a call at a node of the group is seen as it is alone, stopped or not
   seen-called : (e : EventWords) (v : Visit NodeName) → in_visit v ≡ true → (d : Going) (l : Listener NodeName) →
       seen (called name_eq e v d l) ≡ called name_eq e v (seen d) l
   seen-called e v h d l =
@@ -118,7 +118,7 @@ module _ (g : Owner → Bool) where
       ∙ ap (λ ls. filter in_line d.lines ++ ls) (filter-away in_line (line_of v l.words) [] f) ∙ append-nil (filter in_line d.lines) in
       rw log ((λ ls. ap (λ lines. record (seen d) { listeners = ls; lines = lines }) same), all-kept l d.listeners h)
 
-  -- the same, stopped or not
+  -- a call at another node is not seen, stopped or not
   unseen-called : (e : EventWords) (v : Visit NodeName) → in_visit v ≡ false → (d : Going) (l : Listener NodeName) → OnlyLogs l →
       AllByRecursion OnlyLogs d.listeners → IsUnseen (called name_eq e v d l) d
   unseen-called e v f d l log h =

@@ -16,7 +16,7 @@ const SLOTTED: [Line<'static>; 5] = [
     Append("m0", "m2"),
 ];
 
-// The same, where the `span` is a host itself.
+// The lines of the scene where the `span` is a host itself.
 const NESTED: [Line<'static>; 7] = [
     Append("n0", "n1"),
     Attach("n1", "m0"),

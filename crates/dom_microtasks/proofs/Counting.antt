@@ -50,7 +50,7 @@ taken_at p x now was e false b c here gone stays = ap (λ t. if t then x ∷ now
     by true = ap (λ ys. x ∷ ys) e ∙ sym (ap (λ u. if u then x ∷ filter p was else filter p was) here)
     by false = e
 
--- those of an owner are taken
+-- where the signals of an owner are taken, those that count are those of all others
 pub counting-taken : (since : Owner → ℕ) (o : Owner) (n i : ℕ) (xs : List NodeName) → i + length xs ≤ n →
     counting (λ p. if owner_eq o p then n else since p) i xs ≡ filter (λ x. not (is_owned_by o x)) (counting since i xs)
 counting-taken since o n i [] late = refl

@@ -127,7 +127,7 @@ module _ (s : Inside) (kept : IsKept s) where
             ∙ (ap (λ b. filter (is_owned_by o) (signals_of s) ++ (if b then x ∷ [] else [])) (sym other)
             ∙ sym (filter-append (is_owned_by o) (signals_of s) (x ∷ []))))
 
-  -- those of an owner are taken
+  -- the signals of an owner are taken
   module _ (t : Inside) (o : Owner) (n : ℕ) (is_n : n ≡ length s.log.items)
       (numbers : (p : Owner) → numbers_of t.own p ≡ (if owner_eq o p then [] else numbers_of s.own p))
       (since : (p : Owner) → since_of t.own p ≡ (if owner_eq o p then n else since_of s.own p))

@@ -264,7 +264,7 @@ disconnected_law names k t =
 abbrev notice_at : {N : Type 0} → List (List (Change N)) → ℕ → ℕ × List (Change N)
 notice_at queues k = (k, queue_at queues k)
 
--- the same under names
+-- an observer with its records under names
 abbrev notice_under : List NodeName → ℕ × List (Change ℕ) → ℕ × List (Change NodeName)
 notice_under names n = (n.0, map (named_change (name_at names)) n.1)
 

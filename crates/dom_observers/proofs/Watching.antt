@@ -38,7 +38,7 @@ noted-added w v node below r targets above on is =
           ∙ (is_in-append_once r.node node w.above.keys ∙ or_right (is_in eqb r.node w.above.keys) (eqb r.node node) same);
     }
 
--- those of a list as a contract sees it
+-- what is noted of the registrations of a list, as a contract sees it
 pub noted-view : (w : Watched) (items : List Registered) (rs : List (Registration ℕ)) → map registration_of items ≡ rs → AreNoted w items → All (IsNoted w) rs
 noted-view w items rs view all = subst (All (IsNoted w)) view (All-map (IsNoted w) registration_of items all)
 

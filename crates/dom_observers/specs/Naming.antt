@@ -16,17 +16,17 @@ module _ {M N : Type 0} (f : M → N) where
   named_change (attributes x a old) = attributes (f x) a old
   named_change (character_data x old) = character_data (f x) old
 
-  -- the same of a source
+  -- a registration's source with each node replaced by its image
   abbrev pub named_source : Source M → Source N
   named_source asked_for = asked_for
   named_source (copied_from x) = copied_from (f x)
   named_source copied_from_transient = copied_from_transient
 
-  -- the same of a registration
+  -- a registration with each node replaced by its image
   abbrev pub named_registration : Registration M → Registration N
   named_registration r = record { node = f r.node; observer = r.observer; options = r.options; source = named_source r.source }
 
-  -- the same of an owner's tables
+  -- an owner's tables with each node replaced by its image
   abbrev pub named_tables : TablesOf M → TablesOf N
   named_tables t =
       record {

@@ -22,7 +22,7 @@ pub struct InterestedObservers {
 }
 
 impl InterestedObservers {
-    /// Those of a change, of an owner's registrations and the inclusive ancestors of the changed node.
+    /// The interested observers of a change, by an owner's registrations and the inclusive ancestors of the changed node.
     pub(crate) fn of(
         alloc: Global,
         registrations: &Registrations,

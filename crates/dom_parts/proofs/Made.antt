@@ -54,7 +54,7 @@ module _ (o : Owner) where
       made o (in_turn f (x ∷ xs)) w ≡ made o (in_turn f xs) (made o (f x) w)
   made_turn f x xs w alone own = made_then (f x) (in_turn f xs) w alone own
 
-  -- the same of states
+  -- a plan behind another one, on states
   pub planned_then : (f g : Plan) (d : DocState) → IsAlone d.world o → PlansOwn o f → planned o g (planned o f d) ≡ planned o (f and_then g) d
   planned_then f g d alone own = ap (λ w. state_with d w) (sym (made_then f g d.world alone own))
 

@@ -25,7 +25,7 @@ module _ (w : World) where
       by true = all
       by false = due_push ts (notify_task o) all there
 
-  -- those of the owners of signalled slots
+  -- the notifications of the owners of signalled slots are due
   pub due_signalled : (slots : List NodeName) → AllByRecursion (λ (s : NodeName). is_there w s.owner ≡ true) slots → (ts : List Task) →
       AllByRecursion (IsDue w) ts
       → AllByRecursion (IsDue w) (fold (λ (us : List Task) (s : NodeName). queued_notify s.owner us) ts slots)

@@ -61,7 +61,7 @@ module _ (trees : List Tree) where
   abbrev pub seen_of : ℕ → PathNode → ℕ
   seen_of viewer x = seen_from trees viewer x.node x.tree
 
-  -- the same of a node, if there is one
+  -- what is seen in place of a related node, if there is one, from the nodes of a tree
   abbrev pub related_from : ℕ → Option PathNode → Option ℕ
   related_from viewer related = option_map (seen_of viewer) related
 

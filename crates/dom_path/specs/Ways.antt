@@ -42,7 +42,7 @@ module _ (s : ShadowTrees) where
     abbrev pub seen_at : NodeName → NodeName → NodeName
     seen_at x a = unwrap_or (find (λ y. not (is_hidden_at x y)) (chain_at depth a)) a
 
-    -- the same of a node, if there is one
+    -- what a node sees in place of a related one, if there is one
     abbrev pub related_at : NodeName → Option NodeName → Option NodeName
     related_at x related = option_map (seen_at x) related
 

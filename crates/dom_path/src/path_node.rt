@@ -56,7 +56,7 @@ impl PathNode {
         Ok(PathNode::in_tree(forest, node, tree, false))
     }
 
-    /// The same of a node, if there is one.
+    /// The place of a node that no path came to, if there is one.
     pub(crate) fn of_any(
         trees: &mut Trees,
         forest: &Forest,

@@ -11,6 +11,6 @@ keeps_front (x ∷ old) more (y ∷ new) h =
     let rest : take (length old) new ≡ old = keeps_front old more new tail in
     cc
 
--- the same for `grind`, to which the first part shows the call to match
+-- a text that begins with two others begins with the first, for `grind`, to which the first part shows the call to match
 pub keeps_at : (old more new : List ℕ) → Keeps (old ++ more) new → (take (length (old ++ more)) new ≡ take (length (old ++ more)) new) × Keeps old new
 keeps_at old more new h = (refl, keeps_front old more new h)

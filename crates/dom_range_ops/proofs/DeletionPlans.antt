@@ -190,7 +190,7 @@ deletion-made o k w r s alone there wide ends =
     ∙ (ap (world_after o w) (sym (cond-false (is_collapsed name_eq r) [] ((contents and_then setting) p) wide))
     ∙ ap (λ (m : Option (Range NodeName)). world_after o w (option_map_or (λ (q : Range NodeName). deleting k q p) m [])) (sym there)))
 
--- the same of the states
+-- a deletion of a range's contents does to the states what its plan does
 pub deletion-done : (o : Owner) (k : ℕ) (d d1 d2 : DocState) (first : ℕ) (r : Range NodeName) (a b spot : ℕ × ℕ) → owner_in d first ≡ o →
     IsAlone d.world (owner_in d first) → range_at (part_of d.world o) k ≡ Some r → is_collapsed name_eq r ≡ false
     → at (name_in d spot.0) spot.1 ≡ new_place (trees_in d first) r → d1 ≡ planned (owner_in d first) (deleting_contents (trees_in d first) r) d →

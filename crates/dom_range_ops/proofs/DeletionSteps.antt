@@ -78,7 +78,7 @@ beyond-up ts (suc n) top x y w le e = elim (same_or_not x top) [
           above = subst (In k.parent) (sym (above-parent ts p k.below w.once path.1 k.below_up).0) (inr k.above);
         }
 
--- the same of all
+-- the walk goes up where the first of the nodes beyond a tree is found
 goes-up : (ts : Trees) (top x y : NodeName) → IsWithin ts top x → first_of (beyond ts top x) ≡ Some y → GoesUp ts x y
 goes-up ts top x y w e = beyond-up ts (length (inclusive_ancestors ts x)) top x y w (omega arith) e
 

@@ -209,7 +209,7 @@ module _ (ts : Trees) (once : Once ts) where
         ]
   ]
 
-  -- the same of all
+  -- each node behind a tree is parted from the node in it
   pub behind-apart : (top x y : NodeName) → IsWithin ts top x → In y (beyond ts top x) → Parted ts x y
   behind-apart top x y w i = beyond-parted (length (inclusive_ancestors ts x)) top x y w (omega arith) i
 

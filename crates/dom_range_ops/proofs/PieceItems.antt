@@ -12,7 +12,7 @@ use Rattle.dom_traversal.proofs.Lists.{In}
 use Rattle.dom_traversal.proofs.Shapes.{Has, Once, subtree-here, subtree-below, subtree-beside, subtree-present, subtree-within, Once-subtree}
 use Rattle.dom_range_ops.specs.Pieces.{Item, whole_item, cut_item, clone_item, end_item, items_of, wholes_if}
 
--- those of some pieces and then others
+-- the items of some pieces and then others
 pub items-followed : (a b : Pieces) → items_of (a followed_by b) ≡ items_of a ++ items_of b
 items-followed nothing b = refl
 items-followed (whole x rest) b = ap (λ xs. whole_item x ∷ xs) (items-followed rest b)
@@ -21,7 +21,7 @@ items-followed (clone x inside rest) b =
     ap (λ xs. clone_item x ∷ (items_of inside ++ end_item ∷ xs)) (items-followed rest b) ∙
     ap (λ xs. clone_item x ∷ xs) (sym (append_assoc (items_of inside) (end_item ∷ items_of rest) (items_of b)))
 
--- those of nodes as they are
+-- the items of nodes that are taken whole
 pub items-whole : (xs : List NodeName) → items_of (all_whole xs) ≡ map whole_item xs
 items-whole [] = refl
 items-whole (x ∷ xs) = ap (λ ys. whole_item x ∷ ys) (items-whole xs)
@@ -92,7 +92,7 @@ module _ (ts : Trees) (x : NodeName) (taken : NodeName → Bool) (from to : ℕ)
   items_with above passes has_units y inside =
       if above then (if has_units then cut_item y from to ∷ [] else clone_item y ∷ (inside ++ end_item ∷ [])) else wholes_if passes (y ∷ [])
 
-  -- those of a first tree and of the trees behind it
+  -- the items of a first tree and of the trees behind it
   tree-items : (n : Node) (c rest : Trees) →
       along (tree n c rest) ≡ items_with (is_inclusive_ancestor ts n.name x) (taken n.name) (has_data n.kind) n.name (along c) ++ along rest
   tree-items n c rest = by (is_inclusive_ancestor ts n.name x) (taken n.name) (has_data n.kind)
@@ -118,7 +118,7 @@ module _ (ts : Trees) (x : NodeName) (taken : NodeName → Bool) (from to : ℕ)
   abbrev pub node_items : NodeName → List Item
   node_items y = along (subtree ts y)
 
-  -- those of trees, tree by tree
+  -- the items of trees are those of each tree, one after the other
   roots-items : (d : Trees) → Once d → along d ≡ flat_map (λ y. along (subtree d y)) (names_of (roots d))
   roots-items none once = refl
   roots-items (tree n c rest) once =
@@ -133,13 +133,13 @@ module _ (ts : Trees) (x : NodeName) (taken : NodeName → Bool) (from to : ℕ)
       (ap (λ xs. f n.name ++ xs) (roots-items rest once.4 ∙ sym others) ∙ sym (flat_map-cons f n.name (names_of (roots rest)))))
 
   module _ (once : Once ts) (y : NodeName) (h : Has ts y) where
-    -- those of all that is below a node, child by child
+    -- the items of all that is below a node are those of each child, one after the other
     below-items : along (trees_below (subtree ts y)) ≡ flat_map node_items (children_of ts y)
     below-items =
         roots-items (trees_below (subtree ts y)) (once-below ts y once h)
         ∙ flat-same (λ z. along (subtree (trees_below (subtree ts y)) z)) node_items (children_of ts y) (λ z i. ap along (child-tree ts y once h z i))
 
-    -- those of a node, by whether it is above the path's end and whether it passes the test
+    -- the items of a node, by whether it is above the path's end and whether it passes the test
     items-at : node_items y ≡ items_with (is_inclusive_ancestor ts y x) (taken y) (has_data (kind_of ts y)) y (flat_map node_items (children_of ts y))
     items-at =
         let w = subtree-present ts y h in

@@ -44,7 +44,7 @@ module _ (ts : Trees) (names : List NodeName) (path : List ℕ) where
       ap (tails ts behind) (two i l) ∙ (ap (λ xs. taken ++ end_item ∷ tails ts behind xs) (sym (one i l)) ∙
       sym (append_assoc taken (end_item ∷ []) (tails ts behind (from (suc i)))))
 
-  -- the same by keys that were read
+  -- a turn of the loop in front of the first child, by the keys that were read
   pub heads-keys : (before : Bool) (i j node child : ℕ) → suc i < length path → suc i ≡ j → node ≡ get_or path j 0 → child ≡ get_or path i 0
       → heads ts before (from j) ++ (clone_item (name_at names node) ∷ wholes_if before
       (items_before name_eq (name_at names child) (children_of ts (name_at names node)))) ≡ heads ts before (from i)

@@ -25,7 +25,7 @@ then-assoc f g h p =
     let two = g q in
     ap (λ (r : Part). (one ++ two) ++ h r) (after-append p one two) ∙ append_assoc one two (h (after q two))
 
--- the same plan behind another one
+-- two plans that do the same do it behind another plan too
 pub then-same : (f g h : Plan) (p : Part) → ((q : Part) → g q ≡ h q) → (f and_then g) p ≡ (f and_then h) p
 then-same f g h p is = ap (λ steps. f p ++ steps) (is (after p (f p)))
 

@@ -64,7 +64,7 @@ fn path_below(alloc: Global, forest: &Forest, last: Key, first: Key) -> Result<V
     }
 }
 
-/// The same where the end does not come before the start; the path has the inclusive ancestors of the end node that are none
+/// The outermost nodes contained in a range whose end does not come before its start; the path has the inclusive ancestors of the end node that are none
 /// of the start node. Such a one is passed, since it is not contained: the walk goes down into it.
 fn outermost_between(
     alloc: Global,

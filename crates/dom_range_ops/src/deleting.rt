@@ -133,7 +133,7 @@ fn part_at(doc: &Doc, points: &Points, key: Key) -> Option<(usize, usize)>
     part_in(forest, points, key)
 }
 
-/// The same by a forest.
+/// The part of a node's data that lies between two points, read in a forest.
 fn part_in(forest: &Forest, points: &Points, key: Key) -> Option<(usize, usize)>
     requires node { key < length forest.now.names }
     requires ends { AreEnds forest.now points.now }

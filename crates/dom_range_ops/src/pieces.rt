@@ -55,7 +55,7 @@ pub(crate) fn pieces_between(
     pieces_apart(alloc, forest, points)
 }
 
-/// The same of a range that is neither collapsed nor in one Text or Comment.
+/// The pieces of a range that is neither collapsed nor in one Text or Comment.
 fn pieces_apart(alloc: Global, forest: &Forest, points: &Points) -> Result<Vec<Piece>, AllocError>
     requires { AreSpanned forest.now points.now }
     ensures { IfOk result (λ pieces. AreItems forest.now.names pieces.items

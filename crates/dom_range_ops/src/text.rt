@@ -66,7 +66,8 @@ fn push_contained(text: &mut DomStr, forest: &Forest, points: &Points) -> Result
     push_between(text, forest, points)
 }
 
-/// The same where the second point does not come before the first: the nodes are walked from the first one on.
+/// Pushes the text between two points of which the second does not come before the first: the nodes are walked from the
+/// first one on.
 fn push_between(text: &mut DomStr, forest: &Forest, points: &Points) -> Result<(), AllocError>
     requires bounded { AreBounded forest.now points.now }
     requires ordered { is_before forest.now.trees (range_at_points forest.now.names points.now).end

@@ -28,7 +28,7 @@ map_set f g y (x ∷ xs) (suc k) here others =
     cons_same (g x) (f x) (map g xs) (slice_set (map f xs) k y) (others 0 x (λ s. omega (arith, s)) refl)
     (map_set f g y xs k (λ z e. here z e) (λ j z off e. others (suc j) z (λ s. off (omega (arith, s))) e))
 
--- the same, where that one item is set in both
+-- two ways to rewrite a list, equal but for one item, agree where that item is set in both
 pub set_over : {X Y : Type 0} (f g : X → Y) (y : Y) (xs : List X) (k : ℕ) →
     ((j : ℕ) (x : X) → (j ≡ k → ⊥) → slice_get xs j ≡ Some x → g x ≡ f x) → slice_set (map g xs) k y ≡ slice_set (map f xs) k y
 set_over f g y [] k others = refl

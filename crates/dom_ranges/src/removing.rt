@@ -105,7 +105,7 @@ fn part_inside(forest: &Forest, top: Key, ends: &[RangeEnd]) -> Span
     part
 }
 
-/// The same places, where each end is tested by going up from its node.
+/// The places of the ends inside a tree, where each end is tested by going up from its node.
 fn part_tested(forest: &Forest, top: Key, ends: &[RangeEnd]) -> Span
     requires nodes { (k : ℕ) (d : RangeEnd) → k < length ends.now → (top < length forest.now.names) ×
         ((slice_index_or ends.now k d).node < length forest.now.names) }

@@ -65,7 +65,7 @@ pub fed_step : {old piece rest : List ℕ} {lines : List (List ℕ)} {kept : Lis
     → IsFedUpTo old piece (drop (k + 1) rest) (lines ++ kept_line (kept ++ take k rest) ∷ []) []
 fed_step {rest = rest} h k at = let cut = cut_at_first 10 rest k at in fed_line h (take k rest) (drop (k + 1) rest) cut.0 cut.1
 
--- the same of equal values
+-- what is fed up to a place is so for equal values
 pub fed_same : {old piece rest : List ℕ} {lines : List (List ℕ)} {kept : List ℕ} → IsFedUpTo old piece rest lines kept
     → (rest' : List ℕ) (lines' : List (List ℕ)) (kept' : List ℕ) → rest' ≡ rest → lines' ≡ lines → kept' ≡ kept → IsFedUpTo old piece rest' lines' kept'
 fed_same h rest' lines' kept' e f g = rw (e, f, g) h

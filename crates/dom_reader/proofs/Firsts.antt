@@ -8,7 +8,7 @@ use Rattle.memchr.specs.Find.{NoneBefore, Nowhere, Passes, is_byte}
 abbrev pub Lacks : ℕ → List ℕ → Type 0
 Lacks c bytes = AllByRecursion (λ b. eqb b c ≡ false) bytes
 
--- the same, by the places before k
+-- where the first byte c stands, by the places before k: the bytes in front of it lack c
 front : (c : ℕ) (bytes : List ℕ) (k : ℕ) → k < length bytes → ((j : ℕ) → j < k → eqb (get_or bytes j 0) c ≡ false) → eqb (get_or bytes k 0) c ≡ true
     → Lacks c (take k bytes) × (bytes ≡ take k bytes ++ c ∷ drop (suc k) bytes)
 front c [] k l before here = absurd (omega arith)

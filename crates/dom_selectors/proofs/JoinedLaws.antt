@@ -25,7 +25,7 @@ joined_last first left last =
     ap (fold link (alone (compound_view first))) (map-append link_view left (last ∷ [])) ∙ fold-append link (alone (compound_view first))
     (map link_view left) (link_view last ∷ [])
 
--- the same of links of which it is the last
+-- a selector whose last link is taken off is joined again by that link
 pub last-joined : (first : List CompoundPart) (links left : List Link) (last : Link) → links ≡ left ++ last ∷ [] →
     complex_from first links ≡ joined (complex_from first left) (combinator_view last.combinator) (compound_view last.compound.items)
 last-joined first links left last e = ap (complex_from first) e ∙ joined_last first left last
@@ -45,7 +45,7 @@ pub above-parent : (ts : Trees) (x : NodeName) → Once ts → Has ts x → (o :
 above-parent ts x once h None up = ap (drop 1) (above-root ts x h up)
 above-parent ts x once h (Some p) up = (proper-parent ts x p once h up).0
 
--- the same by keys
+-- the ancestors of a node are its parent and those above it, by keys
 pub above_step : (f : NamedTrees) → StandOnce f → StandAlone f → (k : ℕ) (o : Option ℕ) → k < length f.names →
     option_map (name_at f.names) o ≡ parent_of f.trees (name_at f.names k)
     → ancestors f.trees (name_at f.names k) ≡ from_above f.trees (option_map (name_at f.names) o)

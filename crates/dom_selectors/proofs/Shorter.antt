@@ -19,7 +19,7 @@ abbrev pub Behind : ℕ → Option DomString → Type 0
 Behind n None = Unit {0}
 Behind n (Some rest) = length rest < n
 
--- the same where something was read
+-- behind what was read there are fewer than n units left
 abbrev pub Ends : {A : Type 0} → ℕ → Option (A × DomString) → Type 0
 Ends n None = Unit {0}
 Ends n (Some r) = length r.1 < n
@@ -75,7 +75,7 @@ ends-more : {A : Type 0} (m n : ℕ) (r : Option (A × DomString)) → m ≤ n �
 ends-more m n None h e = tt
 ends-more m n (Some r) h e = omega (arith, h, e)
 
--- the same of a text
+-- fewer units of a text are fewer than more
 behind-more : (m n : ℕ) (o : Option DomString) → m ≤ n → Behind m o → Behind n o
 behind-more m n None h e = tt
 behind-more m n (Some r) h e = omega (arith, h, e)

@@ -42,7 +42,7 @@ type_name-says cs =
     says-or form cs _ _ (says-map IsName form of_type cs (read_name cs) (λ text name h. h) (name-says cs))
     (says-or form cs _ _ (says-means form of_any_type (codes "*") cs refl) tt)
 
--- the same, if it is there
+-- a type is read soundly, if it is there
 type-says : (cs : DomString) → Reads IsType cs (read_type cs)
 type-says cs = at (read_type_name cs) (type_name-says cs)
   where

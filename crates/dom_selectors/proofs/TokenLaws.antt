@@ -27,7 +27,7 @@ name_from c cs h =
     ∙ ap (λ rest. Some (c ∷ take n cs, rest)) (behind_those continues_name cs)
     ∙ sym (cond-true (begins_name c) (Some (c ∷ take n cs, drop_while continues_name cs)) None h)
 
--- the same where the units are not split yet
+-- a name is read where the units are not split yet
 pub name_at : (cs : DomString) → begins_name (slice_index_or cs 0 0) ≡ true
     → Some (take (prefix_len continues_name cs) cs, drop (prefix_len continues_name cs) cs) ≡ read_name cs
 name_at [] h = cc

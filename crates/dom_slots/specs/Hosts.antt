@@ -20,7 +20,7 @@ host_of_root hosts root = option_map (λ h. h.host) (find (λ h. nat_eq root h.r
 abbrev pub root_of_host : List ShadowHost → ℕ → Option ℕ
 root_of_host hosts host = option_map (λ h. h.root) (find (λ h. nat_eq host h.host) hosts)
 
--- the same two by names
+-- the host of a shadow root by their names, and below it the shadow root of a host
 abbrev pub host_named : List NodeName → List ShadowHost → NodeName → Option NodeName
 host_named names hosts root = option_map (λ h. name_at names h.host) (find (λ h. name_eq root (name_at names h.root)) hosts)
 

@@ -150,7 +150,7 @@ StandsBelow-walker f once only apart root current at_root at_current other above
           ]);
     }
 
--- the same stop, for the name of a key
+-- the node at which a search stops stays, for the name of a key
 pub stop-some : (f : NamedTrees) (filter : Filter) (top k : ℕ) (found : Option ℕ)
     → ForSome found (λ j. stop_above f.trees filter (name_at f.names top) (name_at f.names j) ≡ stop_above f.trees filter (name_at f.names top)
     (name_at f.names k))

@@ -50,7 +50,7 @@ module _ (ts : Trees) (w : Walker) (at : IsWithin ts w.current w.current) where
             (or_right (accepts ts w.filter w.current) _ (name_eq-from w.current w.current refl)),
       )
 
-  -- the same of the first child
+  -- where a search begins at the first child
   child_place : (c : NodeName) → first_of (children_of ts w.current) ≡ Some c → IsBelow ts w.current c ×
       (ancestors ts c ≡ inclusive_ancestors ts w.current) × (stop_above ts w.filter w.current c ≡ w.current)
   child_place c e = let split = first_split (children_of ts w.current) c e in place_of_child c (subst (In c) (sym split.1) (inl refl))

@@ -100,7 +100,7 @@ pub other_name : (f : NamedTrees) → TellApart f → (j k : ℕ) → j < length
     name_at f.names j ≡ name_at f.names k → ⊥
 other_name f apart j k at_j at_k e same = both_ways _ (not-true _ e) (eq-eqb j k (apart j k at_j at_k same))
 
--- the same by the test that they are equal
+-- two keys of which the test says that they differ have names that differ
 pub other_key : (f : NamedTrees) → TellApart f → (j k : ℕ) → j < length f.names → k < length f.names → eqb j k ≡ false →
     name_at f.names j ≡ name_at f.names k → ⊥
 other_key f apart j k at_j at_k e = other_name f apart j k at_j at_k (ap not e)

@@ -110,7 +110,7 @@ pub shorter-skip : (ts : Trees) (top x : NodeName) (o : Option NodeName) → IsW
     length (from_node ts top o) < length (from_node ts top (Some x))
 shorter-skip ts top x o w next = omega (arith, ap (length {A = NodeName}) (behind-next ts top x w o (sym next)))
 
--- the same where a tree is passed
+-- what is left to search is less where a tree is passed
 pub shorter-reject : (ts : Trees) (top x : NodeName) (o : Option NodeName) → IsWithin ts top x → o ≡ first_of (beyond ts top x) →
     length (from_node ts top o) < length (from_node ts top (Some x))
 shorter-reject ts top x o w next =

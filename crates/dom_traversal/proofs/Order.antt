@@ -53,7 +53,7 @@ split-names (tree n c r) x once (inr (inr h)) =
 abbrev pub joined : Trees → List NodeName → List NodeName
 joined ts xs = flat_map (inclusive_descendants ts) xs
 
--- those of the children's trees
+-- the nodes of the trees of a node's children, in tree order
 abbrev pub below : Trees → NodeName → List NodeName
 below ts x = joined ts (children_of ts x)
 

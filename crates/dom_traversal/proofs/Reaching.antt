@@ -44,7 +44,7 @@ ComesAside f w top from o =
     Comes f.trees (accepts f.trees w.filter) (is_opened f.trees (walker_view f.names w)) (stop_from f w top from) (name_at f.names w.current)
     (first_of (filter (is_reached f.trees (walker_view f.names w)) (from_node f.trees (stop_from f w top from) (option_map (name_at f.names) from)))) o
 
--- the same, by its key
+-- the search has come to a node, or to the end, by the node's key
 pub record Reaches (f : NamedTrees) (w : KeyedWalker) (top : ℕ) (from at : Option ℕ) : Type 0 where
   pub below : ForSome at (StandsBelow f top)
   pub stop : ForSome at (λ k. SameStop f w.filter top k (stop_from f w top from))
@@ -137,7 +137,7 @@ module _ (f : NamedTrees) (w : KeyedWalker) (top : ℕ) (from at : Option ℕ) (
       (shorter-skip f.trees (stop_from f w top from) (name_at f.names k) (option_map (name_at f.names) next)
       (here_at.within (name_at f.names k) refl) (value ∙ ap (λ a. first_of (behind f.trees a (name_at f.names k))) (r.stop k is)))
 
-  -- the same where a tree is passed
+  -- less is left to search where a tree is passed
   pub Reaches-shorter-reject : (next : Option ℕ) →
       option_map (name_at f.names) next ≡ first_of
       (beyond f.trees (stop_above f.trees w.filter (name_at f.names top) (name_at f.names k)) (name_at f.names k))

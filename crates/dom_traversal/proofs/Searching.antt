@@ -106,7 +106,7 @@ length-behind f top k at next is e =
     ap (λ o. length (from_node f.trees (name_at f.names top) (option_map (name_at f.names) o))) is in
     omega (arith, longer, ap (length {A = NodeName}) e)
 
--- the same backward
+-- a search backward has one node less before it at each step
 pub length-ahead : (f : NamedTrees) (top k : ℕ) (at prev : Option ℕ) → at ≡ Some k
     → ahead_of f.trees (name_at f.names top) (name_at f.names k) ≡ up_to_node f.trees (name_at f.names top) (option_map (name_at f.names) prev)
     → length (up_to_node f.trees (name_at f.names top) (option_map (name_at f.names) prev)) < length
@@ -126,7 +126,7 @@ left-behind f p top k at next is passed e =
     sym (ap (λ o. first_of (filter p (from_node f.trees (name_at f.names top) (option_map (name_at f.names) o)))) is ∙
     first-miss p (name_at f.names k) _ _ passed e)
 
--- the same backward
+-- a search backward that passes a node still finds what it would have found
 pub left-ahead : (f : NamedTrees) (p : NodeName → Bool) (top k : ℕ) (at prev : Option ℕ) → at ≡ Some k → p (name_at f.names k) ≡ false
     → ahead_of f.trees (name_at f.names top) (name_at f.names k) ≡ up_to_node f.trees (name_at f.names top) (option_map (name_at f.names) prev)
     → last_of (filter p (up_to_node f.trees (name_at f.names top) (option_map (name_at f.names) prev))) ≡ last_of

@@ -156,18 +156,18 @@ above-present (tree n c r) x h = elim (same_or_not n.name x) [
     by other (inr off) in_c in_r = rw (above-absent c x off)
         (in_r (elim h [ inl e ↦ absurd (other e) | inr g ↦ elim g [ inl i ↦ absurd (off i) | inr j ↦ j ] ]))
 
--- those of the first root
+-- the inclusive ancestors of the first root
 pub above-here : (n : Node) (c r : Trees) (x : NodeName) → n.name ≡ x → inclusive_ancestors (tree n c r) x ≡ x ∷ []
 above-here n c r x e = rw (name_eq-from n.name x e) refl
 
--- those of a node below it
+-- the inclusive ancestors of a node below the first root
 pub above-below : (n : Node) (c r : Trees) (x : NodeName) → Once (tree n c r) → Has c x →
     inclusive_ancestors (tree n c r) x ≡ inclusive_ancestors c x ++ n.name ∷ []
 above-below n c r x once h =
     let w = above-present c x h in
     rw (off_first n c r x once h) (ap (λ path. on_top path n.name (inclusive_ancestors r x)) w.1 ∙ sym (ap (λ path. path ++ n.name ∷ []) w.1))
 
--- those of a node behind its tree
+-- the inclusive ancestors of a node behind the first root's tree
 pub above-beside : (n : Node) (c r : Trees) (x : NodeName) → Once (tree n c r) → Has r x → inclusive_ancestors (tree n c r) x ≡ inclusive_ancestors r x
 above-beside n c r x once h = rw (off_last n c r x once h, above-absent c x (λ i. once.2 x i h)) refl
 

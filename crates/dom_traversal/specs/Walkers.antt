@@ -49,7 +49,7 @@ entered_by through None = through
 entered_by through (Some Skip) = true
 entered_by through (Some Reject) = false
 
--- the same at a node
+-- whether a walk goes into a node, by what a filter answers of it
 abbrev pub is_entered : Trees → Filter → Bool → NodeName → Bool
 is_entered ts f through x = entered_by through (answer_at ts f x)
 
@@ -69,7 +69,7 @@ is_opened ts w a = skips ts w.filter a || is_inclusive_ancestor ts a w.current
 abbrev pub is_reached : Trees → Walker → NodeName → Bool
 is_reached ts w y = accepts ts w.filter y && list_all (is_opened ts w) (ancestors ts y)
 
--- the same, from a node or from none
+-- the node at which a search from a node stops, or from none
 abbrev pub stop_of : Trees → Filter → NodeName → Option NodeName → NodeName
 stop_of ts f top None = top
 stop_of ts f top (Some x) = stop_above ts f top x

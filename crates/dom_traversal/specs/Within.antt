@@ -13,7 +13,7 @@ ahead_of ts top x = items_before name_eq x (inclusive_descendants ts top)
 abbrev pub behind : Trees → NodeName → NodeName → List NodeName
 behind ts top x = items_after name_eq x (inclusive_descendants ts top)
 
--- those of them that are not below x
+-- the nodes of the tree of `top` behind x that are not below x
 abbrev pub beyond : Trees → NodeName → NodeName → List NodeName
 beyond ts top x = filter (λ y. not (is_inclusive_ancestor ts x y)) (behind ts top x)
 

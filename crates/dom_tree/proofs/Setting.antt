@@ -64,7 +64,7 @@ IsKept-set {ps = ps} kept x s t at same document = record {
         omega (arith, document d (ap (λ (v : Stored). v.node.document) is ∙ e), length-set ps x t)
     documents_at u k d at_k e (inr h) = omega (arith, kept.documents u k d (sym (slice_get-set_other ps x k t h.1) ∙ at_k) e, length-set ps x t)
 
--- the same, under the same node document
+-- the invariant stays where a node is set under the node document that it had
 pub IsKept-set_same : {ps : List Stored} {lists : List (List ℕ)} {keys : Owner → List ℕ} → IsKept ps lists keys → (x : ℕ) (s t : Stored) →
     slice_get ps x ≡ Some s → t.name ≡ s.name
     → t.node.document ≡ s.node.document → IsKept (set ps x t) lists keys

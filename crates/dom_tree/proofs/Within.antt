@@ -102,7 +102,7 @@ reaches-alone nodes lists whole top y node at_y = elim (cases_Bool (contains (y 
       | inr e ↦ absurd (true≢false (sym e))
     ]
 
--- the same, of names
+-- the nodes of a tree are those that have its root among their inclusive ancestors, by names
 below-at : (nodes : List Node) (lists : List (List ℕ)) → IsWhole nodes lists → (top y : ℕ) → top < length lists → y < length lists
     → is_in name_eq (name_of_key nodes y) (inclusive_descendants (trees_of nodes lists) (name_of_key nodes top)) ≡ is_inclusive_ancestor
     (trees_of nodes lists) (name_of_key nodes top) (name_of_key nodes y)
@@ -112,7 +112,7 @@ below-at nodes lists whole top y node at_y =
 
 -- ---- the answers
 
--- the same, as a caller sees it
+-- the nodes of a tree by their inclusive ancestors, as a caller sees it
 pub shows_below : {f : NamedTrees} {ps : List Stored} {lists : List (List ℕ)} {keys : Owner → List ℕ} → seen ps lists ≡ f → IsKept ps lists keys →
     (j k : ℕ) → j < length f.names → k < length f.names
     → is_in name_eq (name_at f.names k) (inclusive_descendants f.trees (name_at f.names j)) ≡ is_inclusive_ancestor f.trees (name_at f.names j)

@@ -93,7 +93,7 @@ InsertionLaw = (ts : Trees) → AreOwned ts → (o : Owner) (parent node : NodeN
     → parent.owner ≡ o → node.owner ≡ o → ForSome child (λ c. c.owner ≡ o)
     → insertion_refusal ts parent node child ≡ insertion_refusal (trees_of_owner o ts) parent node child
 
--- the same of replacements
+-- the validity of replacements among an owner's nodes
 abbrev pub ReplacementLaw : Type 0
 ReplacementLaw = (ts : Trees) → AreOwned ts → (o : Owner) (parent node child : NodeName)
     → parent.owner ≡ o → node.owner ≡ o → child.owner ≡ o

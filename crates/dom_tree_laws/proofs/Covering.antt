@@ -248,7 +248,7 @@ sets_above names d top was now new once k sets changed =
     (changed ∙ ap (change_node (under_document (Some d)) y) sets.trees ∙ covered_more d y (items_before name_eq y xs) was)
     ∙ above_covered d (items_before name_eq y xs ++ y ∷ []) was once top y sets.stands
 
--- the same of a forest, before and after a step
+-- a step sets the node documents of a tree, told by a forest before and after it
 pub sets_on : (f g h : NamedTrees) (top d k : ℕ) (at next : Option ℕ) → IsOnce f.trees → at ≡ Some k → g.names ≡ f.names →
     Sets f.names (name_at f.names d) (name_at f.names top) f.trees g.trees at
     → h.names ≡ g.names → h.trees ≡ change_node (under_document (Some (name_at g.names d))) (name_at g.names k) g.trees

@@ -13,7 +13,7 @@ abbrev pub Gives : {X Y : Type 0} → (X → Y) → Result X NotRead → Option 
 Gives view (Ok x) read = read ≡ Some (view x)
 Gives view (Err e) read = Fails e read
 
--- the same of a reader that goes on with the bytes left
+-- what was returned, seen by view, and the bytes left are what is read, unless memory was refused
 abbrev pub Takes : {X Y : Type 0} → (X → Y) → Result X NotRead → Option (Y × List ℕ) → List ℕ → Type 0
 Takes view (Ok x) read left = read ≡ Some (view x, left)
 Takes view (Err e) read left = Fails e read

@@ -31,7 +31,7 @@ abbrev pub PlaceFits : Place → Type 0
 PlaceFits (InDigits left value) = (left ≤ 3) × DigitsFit left value
 PlaceFits _ = Unit {0}
 
--- the same of what a byte does
+-- the place that a byte leads to fits the digits to come
 abbrev pub ReadFits : Read → Type 0
 ReadFits (On place) = PlaceFits place
 ReadFits _ = Unit {0}

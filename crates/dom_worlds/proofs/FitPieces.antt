@@ -68,8 +68,8 @@ module _ (W C K : NodeName → Type 0) where
   fit-roots taken none h = tt
   fit-roots taken (tree n c r) h = by_cases (taken n.name) (λ e. rw e (h.0 e, fit-roots taken r h.2)) (λ e. rw e (fit-roots taken r h.2))
 
-  -- those of a range whose ends are not in one Text or Comment: what is taken whole begins behind the start, or is in the tree
-  -- that holds the end alone, and not above it
+  -- the pieces of a range whose ends are not in one Text or Comment: what is taken whole begins behind the start, or is in the
+  -- tree that holds the end alone, and not above it
   pub fit-apart : (ts : Trees) (r : Range NodeName) → AllNodes (IsClonable C K) (common_below ts r) →
       AllNodes (λ n. is_before ts r.start (at n.name 0) ≡ true → W n.name) (common_below ts r) →
       AllNodes (λ n. is_inclusive_ancestor ts n.name r.end.node ≡ false → W n.name)
@@ -95,7 +95,7 @@ module _ (W C K : NodeName → Type 0) where
       (all_whole (filter (is_contained ts r) (names_of (roots below))) followed_by pieces_in_front ts r.end back) first_child
       (fit-followed (all_whole (filter (is_contained ts r) (names_of (roots below)))) (pieces_in_front ts r.end back) contained last_child)
 
-  -- those of any range
+  -- the pieces of any range
   pub fit-pieces : (ts : Trees) (r : Range NodeName) → (is_in_one_data ts r ≡ true → C r.start.node) → AreFit W C K (pieces_apart ts r) →
       AreFit W C K (pieces_of ts r)
   fit-pieces ts r h g =

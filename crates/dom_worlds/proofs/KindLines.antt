@@ -98,7 +98,7 @@ not_listed : (x : NodeName) (ns : List Node) → AllByRecursion (λ n. name_eq n
 not_listed x [] h = refl
 not_listed x (n ∷ ns) h = rw (name_eq-sym x n.name ∙ h.0) (not_listed x ns h.1)
 
--- the same, by how often it is there
+-- a node that is there is counted, by how often it is there
 pub has_node-times : (ts : Trees) (x : NodeName) → has_node ts x ≡ true → 1 ≤ times_in ts x
 has_node-times ts x h =
     by_times (times_in ts x)

@@ -123,7 +123,7 @@ read-all P x h (n ∷ ns) g =
     (sym (cond-true (name_eq n.name x) (Some n) (find (λ m. name_eq m.name x) ns) e)) g.0)
     (λ e. subst (λ o. P (unwrap_or o (no_node x))) (sym (cond-false (name_eq n.name x) (Some n) (find (λ m. name_eq m.name x) ns) e)) (read-all P x h ns g.1))
 
--- the same of a list of trees
+-- what holds of all nodes holds of the one that is read in a list of trees
 pub node-read : (P : Node → Type 0) (x : NodeName) → P (no_node x) → (ts : Trees) → AllNodes P ts → P (node_in ts x)
 node-read P x h ts g = read-all P x h (nodes ts) (nodes-listed P ts g)
 

@@ -223,7 +223,7 @@ once-of (o ∷ os) h =
         by_cases (g o) (λ t. let both : AreOnce (o ∷ filter g os) = subst AreOnce (cond-true (g o) (o ∷ filter g os) (filter g os) t) k in both.1)
         (λ t. subst AreOnce (cond-false (g o) (o ∷ filter g os) (filter g os) t) k)
 
--- those of a world do
+-- no owner stands twice among those of a world
 pub once-in : (w : World) → HasMakers w → HasOwners w → AreOnce (owners_in w)
 once-in w makers i = once-of (owners_in w) by_maker
   where

@@ -77,7 +77,7 @@ times-where test new (tree n c r) x =
     by_cases (test n.name) (λ e. ap (λ t. times_in t x) (where-here test new n c r e) ∙ times-followed new (tree n c r) x)
     (λ e. let a = ap (λ t. times_in t x) (where-later test new n c r e) in let h = times-where test new r x in omega arith)
 
--- the same before the node given
+-- how often a name is there after trees were put before the node given
 pub times-put_before : (before : Option NodeName) (new ts : Trees) (x : NodeName) → times_in (put_before before new ts) x ≡ times_in new x + times_in ts x
 times-put_before before new ts x = ap (λ t. times_in t x) (put_before-where before new ts) ∙ times-where (is_given before) new ts x
 

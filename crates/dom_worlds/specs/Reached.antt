@@ -20,7 +20,7 @@ pub record Invariant (only_log : Bool) (w : World) : Type 0 where
   pub world : IsWorld w
   pub logs : only_log ≡ true → ComponentsOnlyLog w
 
--- the same, where no listener of a component stops or cancels
+-- what holds of reached worlds where no listener of a component stops or cancels
 abbrev pub IsQuiet : World → Type 0
 IsQuiet w = Invariant true w
 

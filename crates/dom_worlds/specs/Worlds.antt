@@ -134,6 +134,6 @@ pub record HasOwners (w : World) : Type 0 where
 abbrev pub OnlyLogs : Listener NodeName → Type 0
 OnlyLogs l = l.words.action ≡ Log
 
--- those of all components
+-- the listeners of all components neither stop nor cancel
 abbrev pub ComponentsOnlyLog : World → Type 0
 ComponentsOnlyLog w = (o : Owner) → o ≢ Page → AllByRecursion OnlyLogs (part_of w o).listeners

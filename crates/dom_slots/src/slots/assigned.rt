@@ -64,7 +64,7 @@ impl Slots {
         Ok(keys)
     }
 
-    /// The same, also in a forest that is not that of the table.
+    /// Finds the slot of a node by the maps alone, so also in a forest that is not that of the table.
     pub(super) fn slot_now(&self, forest: &Forest, node: Key) -> Option<Key>
         requires node_is_node { node < length forest.now.names }
         requires hosts { HostsAreNodes forest.now.names self.now.hosts }

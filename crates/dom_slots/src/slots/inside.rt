@@ -48,7 +48,7 @@ impl Slots {
         self.stirred_signals(forest, begun, &moved)
     }
 
-    /// The same, where no slot was moved or changed.
+    /// The slots that a step inside a shadow tree signals, where it moved or changed no slot.
     fn still_signals(&mut self, forest: &Forest, begun: Begun) -> Result<Vec<Key>, AllocError>
         requires hosts { HostsAreNodes forest.now.names self.old.hosts }
         requires nodes { StepHasNodes forest.now.names begun.step }
@@ -69,7 +69,7 @@ impl Slots {
         Ok(signals)
     }
 
-    /// The same, where these slots were moved or may have been changed.
+    /// The slots that a step inside a shadow tree signals, where these slots were moved or may have been changed.
     fn stirred_signals(
         &mut self,
         forest: &Forest,
