@@ -1,6 +1,6 @@
 //! The names of nodes.
-ghost use Rattle.std.specs.Prelude.{◌≡◌, ◌<◌, length, map, All, IfOk};
-ghost use Rattle.dom_tree.specs.Forest.{name_at};
+ghost use Rattle.std.specs.Prelude.{◌≡◌, map, All, IfOk};
+ghost use Rattle.dom_tree.specs.Forest.{IsNode, name_of};
 
 use dom_base::NodeName;
 use dom_tree::Forest;
@@ -9,8 +9,8 @@ use std::alloc::{AllocError, Global};
 
 /// The names of nodes, in their order. The only error is memory refused (own rule).
 pub fn names_of(alloc: Global, forest: &Forest, keys: &[Key]) -> Result<Vec<NodeName>, AllocError>
-    requires { All (λ k. k < length forest.now.names) keys.now }
-    ensures { IfOk result (λ names. names.items ≡ map (name_at forest.now.names) keys.now) }
+    requires { All (IsNode forest.now) keys.now }
+    ensures { IfOk result (λ names. names.items ≡ map (name_of forest.now) keys.now) }
 {
     let mut names = Vec::new(alloc);
     for key in keys {

@@ -1,5 +1,5 @@
 //! The documents of a run: the document trees and the open turn.
-ghost use Rattle.std.specs.Prelude.{◌≡◌, ℕ, ◌<◌, ◌∷◌, [], true, length, IfOk, Some, None, is_some};
+ghost use Rattle.std.specs.Prelude.{◌≡◌, ℕ, ◌∷◌, [], true, IfOk, Some, None, is_some};
 ghost use Rattle.std.specs.Option.{option_map, ForSome};
 ghost use Rattle.dom_base.specs.declared.Owner.{Owner as OwnerOf};
 ghost use Rattle.dom_base.specs.declared.Owner.TheVariants.{Page};
@@ -9,12 +9,12 @@ ghost use Rattle.dom_model.specs.CommandNames.{named};
 ghost use Rattle.dom_model.specs.World.{part_of, is_there};
 ghost use Rattle.dom_model.specs.Turns.{opening_turn};
 ghost use Rattle.dom_model.specs.DocumentMachine.{first_world, is_busy};
-ghost use Rattle.dom_tree.specs.Forest.{name_at};
 ghost use Rattle.dom_tree.specs.Owners.{trees_of_owner, AreOwned};
 ghost use Rattle.dom_slots.specs.Kept.{AreSlotsOf};
 ghost use Rattle.dom_slots.specs.Shadows.{shadows, IsShownBy};
 ghost use Rattle.dom_reader.specs.Views.{word_view};
 ghost use Rattle.dom_admission.specs.Refusals.{number_in};
+ghost use Rattle.dom_parts.specs.Doc.{HoldsNode, name_in};
 
 use dom_base::{Kind, NodeName, Owner};
 use dom_mutation::Doc;
@@ -87,8 +87,8 @@ impl State {
 
     /// Holds of every state: names tell nodes apart, and the owners of all nodes are there.
     pub fn names_tell_nodes(&self)
-        ensures distinct { (j k : ℕ) → j < length self.now.names → k < length self.now.names → name_at self.now.names j ≡ name_at self.now.names k → j ≡ k }
-        ensures there { (k : ℕ) → k < length self.now.names → is_there self.now.world (name_at self.now.names k).owner ≡ true }
+        ensures distinct { (j k : ℕ) → HoldsNode self.now j → HoldsNode self.now k → name_in self.now j ≡ name_in self.now k → j ≡ k }
+        ensures there { (k : ℕ) → HoldsNode self.now k → is_there self.now.world (name_in self.now k).owner ≡ true }
     {
         self.doc.forest().nodes_stand_once();
     }
@@ -114,8 +114,8 @@ impl State {
 
     /// The node that an owner's line names, if it is there.
     pub fn find(&self, owner: Owner, node: NodeWord) -> Option<Key>
-        ensures found { ForSome result (λ key. (key < length self.now.names) ×
-            (name_at self.now.names key ≡ named (part_of self.now.world owner) (word_view node))) }
+        ensures found { ForSome result (λ key. (HoldsNode self.now key) ×
+            (name_in self.now key ≡ named (part_of self.now.world owner) (word_view node))) }
         ensures presence { is_some result ≡ has_node (part_of self.now.world owner).trees (named (part_of self.now.world owner) (word_view node)) }
     {
         let number = number_in(node);
@@ -153,9 +153,9 @@ impl State {
 
     /// The node document of the node that an owner's line names, if it has one.
     pub fn document(&self, owner: Owner, node: NodeWord) -> Option<Key>
-        ensures value { option_map (name_at self.now.names)
+        ensures value { option_map (name_in self.now)
             result ≡ (node_in (part_of self.now.world owner).trees (named (part_of self.now.world owner) (word_view node))).document }
-        ensures node { ForSome result (λ d. d < length self.now.names) }
+        ensures node { ForSome result (HoldsNode self.now) }
     {
         match self.find(owner, node) {
             Some(key) => self.doc.forest().document(key),
@@ -166,8 +166,8 @@ impl State {
     /// The node that an owner's line names, which is there.
     pub fn key(&self, owner: Owner, node: NodeWord) -> Key
         requires { has_node (part_of self.now.world owner).trees (named (part_of self.now.world owner) (word_view node)) ≡ true }
-        ensures node { result < length self.now.names }
-        ensures name { name_at self.now.names result ≡ named (part_of self.now.world owner) (word_view node) }
+        ensures node { HoldsNode self.now result }
+        ensures name { name_in self.now result ≡ named (part_of self.now.world owner) (word_view node) }
     {
         self.find(owner, node).unwrap()
     }

@@ -1,10 +1,10 @@
 //! Attributes (DOM Standard, 4.9.2 Interface Attr; concepts: change, append, remove an attribute).
-ghost use Rattle.std.specs.Prelude.{◌≡◌, ◌<◌, ◌↔◌, ◌⊎◌, length, false, OnOk, IfErr};
+ghost use Rattle.std.specs.Prelude.{◌≡◌, ◌↔◌, ◌⊎◌, false, OnOk, IfErr};
 ghost use Rattle.std.specs.List.{list_all};
 ghost use Rattle.dom_base.specs.declared.Refusal.TheVariants.{InvalidCharacter};
 ghost use Rattle.dom_model.specs.Names.{begins_name, continues_name, is_name};
 ghost use Rattle.dom_model.specs.Changes.{setting_attribute, unsetting_attribute};
-ghost use Rattle.dom_parts.specs.Doc.{made, name_in, owner_in};
+ghost use Rattle.dom_parts.specs.Doc.{made, name_in, owner_in, HoldsNode};
 
 use dom_base::{DomStr, Fault, Refusal};
 use dom_parts::Parts;
@@ -15,7 +15,7 @@ use std::alloc::AllocError;
 /// `InvalidCharacter` where the name is none, with nothing changed: it is a letter or `_`, then letters, digits, `-` and `_`
 /// (own rule). Where memory is refused, the document is only to be dropped.
 pub fn set_attr(parts: &mut Parts, node: Key, name: &str, value: DomStr) -> Result<(), Fault>
-    requires { node < length parts.old.names }
+    requires { HoldsNode parts.old node }
     ensures refused { (result ≡ Err (Fault.Refused InvalidCharacter)) ↔ (is_name name.now ≡ false) }
     ensures other { IfErr result (λ fault. (fault ≡ Fault.Refused InvalidCharacter) ⊎ (fault ≡ Fault.Memory)) }
     ensures unchanged { is_name name.now ≡ false → parts.new ≡ parts.old }
@@ -34,7 +34,7 @@ pub fn set_attr(parts: &mut Parts, node: Key, name: &str, value: DomStr) -> Resu
 /// Takes an attribute away from an element. Without it nothing changes. Where memory is refused, the document is only to be
 /// dropped.
 pub fn remove_attr(parts: &mut Parts, node: Key, name: &str) -> Result<(), AllocError>
-    requires { node < length parts.old.names }
+    requires { HoldsNode parts.old node }
     ensures names { OnOk result (parts.new.names ≡ parts.old.names) }
     ensures world { OnOk result (parts.new.world ≡ made (owner_in parts.old node) (unsetting_attribute (name_in parts.old node) name.now) parts.old.world) }
 {

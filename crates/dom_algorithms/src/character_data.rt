@@ -1,12 +1,12 @@
 //! Data of Texts and Comments (DOM Standard, concept: replace data).
-ghost use Rattle.std.specs.Prelude.{◌≡◌, ◌<◌, ◌↔◌, ◌⊎◌, [], length, true, IfErr, OnOk};
+ghost use Rattle.std.specs.Prelude.{◌≡◌, ◌↔◌, ◌⊎◌, [], true, IfErr, OnOk};
 ghost use Rattle.dom_base.specs.declared.Refusal.TheVariants.{IndexSize};
 ghost use Rattle.dom_model.specs.Tree.{kind_of, has_data};
 ghost use Rattle.dom_model.specs.TextChanges.{replacing_data, replacing_all_data};
 ghost use Rattle.dom_model.specs.World.{part_of};
 ghost use Rattle.dom_model.specs.CommandRefusals.{past_end};
 ghost use Rattle.dom_worlds.specs.Bounds.{HasBounds};
-ghost use Rattle.dom_parts.specs.Doc.{made, planned, name_in, owner_in, trees_in, MayCome};
+ghost use Rattle.dom_parts.specs.Doc.{made, planned, name_in, owner_in, trees_in, MayCome, HoldsNode};
 
 use dom_base::{DomStr, Fault, Refusal};
 use dom_parts::Parts;
@@ -23,7 +23,7 @@ pub fn replace_data(
     count: usize,
     data: DomStr,
 ) -> Result<(), Fault>
-    requires node_is_node { node < length parts.old.names }
+    requires node_is_node { HoldsNode parts.old node }
     requires has_data { has_data (kind_of (trees_in parts.old node) (name_in parts.old node)) ≡ true }
     requires bounds { HasBounds (part_of parts.old.world (owner_in parts.old node)) }
     ensures refused { (result ≡ Err (Fault.Refused IndexSize)) ↔
@@ -44,7 +44,7 @@ pub fn replace_data(
 /// All data of a Text or a Comment give way to others, which are not copied (DOM Standard, replace data). Where
 /// memory is refused, the document is only to be dropped.
 pub fn set_data(parts: &mut Parts, node: Key, data: DomStr) -> Result<(), AllocError>
-    requires node_is_node { node < length parts.old.names }
+    requires node_is_node { HoldsNode parts.old node }
     requires has_data { has_data (kind_of (trees_in parts.old node) (name_in parts.old node)) ≡ true }
     requires bounds { HasBounds (part_of parts.old.world (owner_in parts.old node)) }
     ensures names { OnOk result (parts.new.names ≡ parts.old.names) }
@@ -62,7 +62,7 @@ pub fn delete_data(
     offset: usize,
     count: usize,
 ) -> Result<(), AllocError>
-    requires { node < length parts.old.names }
+    requires { HoldsNode parts.old node }
     ensures { OnOk result (parts.new ≡ planned (owner_in parts.old node) (replacing_data (name_in parts.old node) offset count []) parts.old) }
 {
     let none = Vec::new(parts.alloc());
@@ -77,7 +77,7 @@ pub(crate) fn replacing_data(
     count: usize,
     data: DomStr,
 ) -> Result<(), AllocError>
-    requires node_is_node { node < length parts.old.names }
+    requires node_is_node { HoldsNode parts.old node }
     requires may_come { MayCome (part_of parts.old.world (owner_in parts.old node)) (name_in parts.old node) «data».items }
     ensures { OnOk result (parts.new ≡ planned (owner_in parts.old node) (replacing_data (name_in parts.old node) offset count «data».items) parts.old) }
 {

@@ -1,8 +1,8 @@
 //! Node documents (DOM Standard, concepts: node document, adopt).
-ghost use Rattle.std.specs.Prelude.{◌≡◌, ◌<◌, length, OnOk};
+ghost use Rattle.std.specs.Prelude.{◌≡◌, OnOk};
 ghost use Rattle.dom_model.specs.Steps.{set_document};
 ghost use Rattle.dom_model.specs.Changes.{changing_document, document_below, has_document};
-ghost use Rattle.dom_parts.specs.Doc.{name_in, owner_in, trees_in, planned};
+ghost use Rattle.dom_parts.specs.Doc.{name_in, owner_in, trees_in, planned, HoldsNode};
 
 use dom_base::Kind;
 use dom_parts::Parts;
@@ -11,9 +11,9 @@ use std::alloc::AllocError;
 
 /// The node document of what is below a node.
 pub(crate) fn document_below(parts: &Parts, node: Key) -> Key
-    requires { node < length parts.now.names }
+    requires { HoldsNode parts.now node }
     ensures value { name_in parts.now result ≡ document_below (trees_in parts.now node) (name_in parts.now node) }
-    ensures node { result < length parts.now.names }
+    ensures node { HoldsNode parts.now result }
 {
     if matches!(parts.kind(node), Kind::Document) {
         return node;
@@ -23,8 +23,8 @@ pub(crate) fn document_below(parts: &Parts, node: Key) -> Key
 
 /// A node with another node document gets this one, with all below it.
 pub(crate) fn change_document(parts: &mut Parts, document: Key, node: Key) -> Result<(), AllocError>
-    requires document_is_node { document < length parts.old.names }
-    requires node_is_node { node < length parts.old.names }
+    requires document_is_node { HoldsNode parts.old document }
+    requires node_is_node { HoldsNode parts.old node }
     ensures { OnOk result (parts.new ≡ planned (owner_in parts.old node) (changing_document (name_in parts.old document) (name_in parts.old node)) parts.old) }
 {
     if !has_document(parts, node, document) {
@@ -35,8 +35,8 @@ pub(crate) fn change_document(parts: &mut Parts, document: Key, node: Key) -> Re
 
 /// Whether a node has another one for its node document.
 fn has_document(parts: &Parts, node: Key, document: Key) -> bool
-    requires node_is_node { node < length parts.now.names }
-    requires document_is_node { document < length parts.now.names }
+    requires node_is_node { HoldsNode parts.now node }
+    requires document_is_node { HoldsNode parts.now document }
     ensures { result ≡ has_document (trees_in parts.now node) (name_in parts.now document) (name_in parts.now node) }
 {
     parts.laws();

@@ -1,5 +1,5 @@
 //! Insertion (DOM Standard, concepts: ensure pre-insert validity, pre-insert, insert).
-ghost use Rattle.std.specs.Prelude.{◌≡◌, ◌<◌, ◌≤◌, length, false, true, map, [], IfOk, OnOk, ◌↔◌, Some};
+ghost use Rattle.std.specs.Prelude.{◌≡◌, ◌≤◌, length, false, true, map, [], IfOk, OnOk, ◌↔◌, Some};
 ghost use Rattle.std.specs.List.{AllByRecursion};
 ghost use Rattle.dom_base.specs.declared.NodeName.{NodeName as Name};
 ghost use Rattle.std.specs.Option.{option_map, ForSome};
@@ -12,7 +12,7 @@ ghost use Rattle.dom_model.specs.Validity.{insertion_refusal};
 ghost use Rattle.dom_model.specs.World.{part_of};
 ghost use Rattle.dom_worlds.specs.Bounds.{HasBounds};
 ghost use Rattle.dom_model.specs.Output.{child_list};
-ghost use Rattle.dom_parts.specs.Doc.{AreNodes, IsNodeIf, made, planned, placed_all, name_in, owner_in, trees_in, MayMove, IsChild, KeepsPaths, NoneAbove};
+ghost use Rattle.dom_parts.specs.Doc.{AreNodes, IsNodeIf, made, planned, placed_all, name_in, owner_in, trees_in, MayMove, IsChild, KeepsPaths, NoneAbove, HoldsNode};
 ghost use Rattle.dom_algorithms.specs.Observing.{observing_of};
 
 use crate::documents::document_below;
@@ -31,9 +31,9 @@ pub fn pre_insert(
     node: Key,
     child: Option<Key>,
 ) -> Result<(), Fault>
-    requires parent_is_node { parent < length parts.old.names }
-    requires node_is_node { node < length parts.old.names }
-    requires child_is_node { ForSome child (λ c. c < length parts.old.names) }
+    requires parent_is_node { HoldsNode parts.old parent }
+    requires node_is_node { HoldsNode parts.old node }
+    requires child_is_node { ForSome child (HoldsNode parts.old) }
     requires node_owner { owner_in parts.old node ≡ owner_in parts.old parent }
     requires child_owner { ForSome child (λ c. owner_in parts.old c ≡ owner_in parts.old parent) }
     requires bounds { HasBounds (part_of parts.old.world (owner_in parts.old parent)) }
@@ -66,7 +66,7 @@ pub fn insert(
     node: Key,
     child: Option<Key>,
 ) -> Result<(), AllocError>
-    requires parent_is_node { parent < length parts.old.names }
+    requires parent_is_node { HoldsNode parts.old parent }
     requires may_move { MayMove parts.old parent child node }
     requires child_is_child { ForSome child (IsChild parts.old parent) }
     requires bounds { HasBounds (part_of parts.old.world (owner_in parts.old parent)) }
@@ -79,8 +79,8 @@ pub fn insert(
 /// The child before which a node is put: the one given, or the node's next sibling where that is the node itself (DOM
 /// Standard, pre-insert).
 pub fn reference_for(parts: &Parts, parent: Key, node: Key, child: Option<Key>) -> Option<Key>
-    requires parent_is_node { parent < length parts.now.names }
-    requires node_is_node { node < length parts.now.names }
+    requires parent_is_node { HoldsNode parts.now parent }
+    requires node_is_node { HoldsNode parts.now node }
     requires child_is_child { ForSome child (IsChild parts.now parent) }
     ensures value { option_map (name_in parts.now) result ≡ reference_for (trees_in parts.now parent) (name_in parts.now node)
         (option_map (name_in parts.now) child) }
@@ -103,7 +103,7 @@ pub(crate) fn inserting(
     parent: Key,
     before: Option<Key>,
 ) -> Result<(), AllocError>
-    requires parent_is_node { parent < length parts.old.names }
+    requires parent_is_node { HoldsNode parts.old parent }
     requires may_move { MayMove parts.old parent before node }
     requires before_is_child { ForSome before (IsChild parts.old parent) }
     requires bounds { HasBounds (part_of parts.old.world (owner_in parts.old parent)) }
@@ -122,7 +122,7 @@ pub(crate) fn inserting(
 
 /// Whether a node is a fragment.
 pub(crate) fn is_fragment(parts: &Parts, node: Key) -> bool
-    requires { node < length parts.now.names }
+    requires { HoldsNode parts.now node }
     ensures { result ≡ is_fragment (kind_of (trees_in parts.now node) (name_in parts.now node)) }
 {
     matches!(parts.kind(node), Kind::Fragment)
@@ -138,14 +138,14 @@ fn insert_children(
     before: Option<Key>,
     prev: Option<Key>,
 ) -> Result<(), AllocError>
-    requires parent_is_node { parent < length parts.old.names }
+    requires parent_is_node { HoldsNode parts.old parent }
     requires may_move { MayMove parts.old parent before fragment }
     requires before_is_child { ForSome before (IsChild parts.old parent) }
     requires is_fragment { is_fragment (kind_of (trees_in parts.old fragment) (name_in parts.old fragment)) ≡ true }
     requires prev_is_before { option_map (name_in parts.old) prev ≡ sibling_before (trees_in parts.old parent) (name_in parts.old parent)
         (option_map (name_in parts.old) before) }
     requires are_children { map (name_in parts.old) children.now ≡ children_of (trees_in parts.old fragment) (name_in parts.old fragment) }
-    requires are_nodes { AllByRecursion (λ k. (k < length parts.old.names) × (owner_in parts.old k ≡ owner_in parts.old fragment)) children.now }
+    requires are_nodes { AllByRecursion (λ k. (HoldsNode parts.old k) × (owner_in parts.old k ≡ owner_in parts.old fragment)) children.now }
     requires prev_is_node { IsNodeIf parts.old prev }
     requires bounds { HasBounds (part_of parts.old.world (owner_in parts.old parent)) }
     ensures { OnOk result (parts.new ≡ planned (owner_in parts.old parent)
@@ -161,7 +161,7 @@ fn insert_children(
 
 /// The sibling in front of nodes that are to be put before a child of a parent, or last.
 fn sibling_before(parts: &Parts, parent: Key, before: Option<Key>) -> Option<Key>
-    requires parent_is_node { parent < length parts.now.names }
+    requires parent_is_node { HoldsNode parts.now parent }
     requires before_is_child { ForSome before (IsChild parts.now parent) }
     ensures value { option_map (name_in parts.now) result ≡ sibling_before (trees_in parts.now parent) (name_in parts.now parent)
         (option_map (name_in parts.now) before) }
@@ -175,9 +175,9 @@ fn sibling_before(parts: &Parts, parent: Key, before: Option<Key>) -> Option<Key
 
 /// The children of a node.
 pub(crate) fn children(parts: &Parts, node: Key) -> Result<Vec<Key>, AllocError>
-    requires { node < length parts.now.names }
+    requires { HoldsNode parts.now node }
     ensures names { IfOk result (λ keys. map (name_in parts.now) keys.items ≡ children_of (trees_in parts.now node) (name_in parts.now node)) }
-    ensures nodes { IfOk result (λ keys. AllByRecursion (λ k. (k < length parts.now.names) × (owner_in parts.now k ≡ owner_in parts.now node)) keys.items) }
+    ensures nodes { IfOk result (λ keys. AllByRecursion (λ k. (HoldsNode parts.now k) × (owner_in parts.now k ≡ owner_in parts.now node)) keys.items) }
 {
     parts.laws();
     let mut keys = Vec::new(parts.alloc());
@@ -199,7 +199,7 @@ fn place_all(
     before: Option<Key>,
     prev: Option<Key>,
 ) -> Result<(), AllocError>
-    requires parent_is_node { parent < length parts.old.names }
+    requires parent_is_node { HoldsNode parts.old parent }
     requires may_move { AllByRecursion (MayMove parts.old parent before) moved.now }
     requires before_is_child { ForSome before (IsChild parts.old parent) }
     requires prev_is_node { IsNodeIf parts.old prev }
@@ -217,7 +217,7 @@ fn place_all(
 
 /// Room is made for some nodes below a parent, before a child of it or last.
 fn room_before(parts: &mut Parts, parent: Key, before: Option<Key>, count: usize)
-    requires parent_is_node { parent < length parts.old.names }
+    requires parent_is_node { HoldsNode parts.old parent }
     requires before_is_child { ForSome before (IsChild parts.old parent) }
     requires bounds { HasBounds (part_of parts.old.world (owner_in parts.old parent)) }
     requires few { count ≤ 1000000 }
@@ -240,7 +240,7 @@ fn tell_placed(
     prev: Option<Key>,
     next: Option<Key>,
 ) -> Result<(), AllocError>
-    requires parent_is_node { parent < length parts.old.names }
+    requires parent_is_node { HoldsNode parts.old parent }
     requires moved_are_nodes { AreNodes parts.old moved.now }
     requires prev_is_node { IsNodeIf parts.old prev }
     requires next_is_node { IsNodeIf parts.old next }
@@ -262,7 +262,7 @@ fn place_each(
     parent: Key,
     before: Option<Key>,
 ) -> Result<(), AllocError>
-    requires parent_is_node { parent < length parts.old.names }
+    requires parent_is_node { HoldsNode parts.old parent }
     requires may_move { AllByRecursion (MayMove parts.old parent before) moved.now }
     requires before_is_child { ForSome before (IsChild parts.old parent) }
     ensures { OnOk result (parts.new ≡ planned (owner_in parts.old parent)
@@ -278,8 +278,8 @@ fn place_each(
 
 /// A fragment loses its children, of which observers are told once.
 fn empty(parts: &mut Parts, fragment: Key, children: &[Key]) -> Result<(), AllocError>
-    requires fragment_is_node { fragment < length parts.old.names }
-    requires children_are_nodes { AllByRecursion (λ k. (k < length parts.old.names) × (owner_in parts.old k ≡ owner_in parts.old fragment)) children.now }
+    requires fragment_is_node { HoldsNode parts.old fragment }
+    requires children_are_nodes { AllByRecursion (λ k. (HoldsNode parts.old k) × (owner_in parts.old k ≡ owner_in parts.old fragment)) children.now }
     ensures state { OnOk result (parts.new ≡ planned (owner_in parts.old fragment)
         (emptying (name_in parts.old fragment) (map (name_in parts.old) children.now)) parts.old) }
     ensures paths { OnOk result ((y : Name) → NoneAbove parts.old fragment y children.now →
@@ -297,8 +297,8 @@ pub(crate) fn take_each(
     top: Key,
     children: &[Key],
 ) -> Result<(), AllocError>
-    requires top_is_node { top < length parts.old.names }
-    requires children_are_nodes { AllByRecursion (λ k. (k < length parts.old.names) × (owner_in parts.old k ≡ owner_in parts.old top)) children.now }
+    requires top_is_node { HoldsNode parts.old top }
+    requires children_are_nodes { AllByRecursion (λ k. (HoldsNode parts.old k) × (owner_in parts.old k ≡ owner_in parts.old top)) children.now }
     ensures state { OnOk result (parts.new ≡ planned (owner_in parts.old top)
         (in_turn (removing (observing_of how)) (map (name_in parts.old) children.now)) parts.old) }
     ensures paths { OnOk result ((y : Name) → NoneAbove parts.old top y children.now →
@@ -314,7 +314,7 @@ pub(crate) fn take_each(
 
 /// A node is adopted and placed below a parent, before a child of it or last.
 fn placing(parts: &mut Parts, parent: Key, before: Option<Key>, node: Key) -> Result<(), AllocError>
-    requires parent_is_node { parent < length parts.old.names }
+    requires parent_is_node { HoldsNode parts.old parent }
     requires may_move { MayMove parts.old parent before node }
     requires before_is_child { ForSome before (IsChild parts.old parent) }
     ensures state { OnOk result (parts.new ≡ planned (owner_in parts.old parent)

@@ -1,5 +1,5 @@
 //! Normalization (DOM Standard, normalize(); concept: contiguous exclusive Text nodes).
-ghost use Rattle.std.specs.Prelude.{◌≡◌, ◌<◌, length, map, filter, flat_map, true, IfOk, OnOk, Some};
+ghost use Rattle.std.specs.Prelude.{◌≡◌, map, filter, flat_map, true, IfOk, OnOk, Some};
 ghost use Rattle.std.specs.List.{AllByRecursion};
 ghost use Rattle.std.specs.Option.{option_map, ForSome};
 ghost use Rattle.dom_model.specs.Names.{first_of};
@@ -8,7 +8,7 @@ ghost use Rattle.dom_model.specs.Changes.{in_turn};
 ghost use Rattle.dom_model.specs.TextChanges.{texts_after, joining, normalizing_text, normalizing};
 ghost use Rattle.dom_model.specs.World.{part_of};
 ghost use Rattle.dom_worlds.specs.Bounds.{HasBounds};
-ghost use Rattle.dom_parts.specs.Doc.{made, planned, name_in, owner_in, trees_in, IsOwnNode};
+ghost use Rattle.dom_parts.specs.Doc.{made, planned, name_in, owner_in, trees_in, IsOwnNode, HoldsNode};
 
 use crate::character_data::replacing_data;
 use crate::inserting::take_each;
@@ -22,7 +22,7 @@ use std::alloc::AllocError;
 /// which leave (DOM Standard, normalize()). Nothing but memory stops it, and then
 /// the document is only to be dropped.
 pub fn normalize(parts: &mut Parts, node: Key) -> Result<(), AllocError>
-    requires node_is_node { node < length parts.old.names }
+    requires node_is_node { HoldsNode parts.old node }
     requires bounds { HasBounds (part_of parts.old.world (owner_in parts.old node)) }
     ensures names { OnOk result (parts.new.names ≡ parts.old.names) }
     ensures world { OnOk result (parts.new.world ≡ made (owner_in parts.old node) (normalizing (name_in parts.old node)) parts.old.world) }
@@ -33,7 +33,7 @@ pub fn normalize(parts: &mut Parts, node: Key) -> Result<(), AllocError>
 
 /// Some Texts are normalized, one after another.
 fn normalize_each(parts: &mut Parts, top: Key, texts: &[Key]) -> Result<(), AllocError>
-    requires top_is_node { top < length parts.old.names }
+    requires top_is_node { HoldsNode parts.old top }
     requires texts_are_nodes { AllByRecursion (IsOwnNode parts.old top) texts.now }
     requires are_texts { AllByRecursion (λ k. is_text (kind_of (trees_in parts.old top) (name_in parts.old k)) ≡ true) texts.now }
     requires bounds { HasBounds (part_of parts.old.world (owner_in parts.old top)) }
@@ -48,7 +48,7 @@ fn normalize_each(parts: &mut Parts, top: Key, texts: &[Key]) -> Result<(), Allo
 
 /// A Text without data leaves, and another one is joined with those after it, if there are some.
 fn normalize_text(parts: &mut Parts, node: Key) -> Result<(), AllocError>
-    requires node_is_node { node < length parts.old.names }
+    requires node_is_node { HoldsNode parts.old node }
     requires is_text { is_text (kind_of (trees_in parts.old node) (name_in parts.old node)) ≡ true }
     requires bounds { HasBounds (part_of parts.old.world (owner_in parts.old node)) }
     ensures { OnOk result (parts.new ≡ planned (owner_in parts.old node) (normalizing_text (name_in parts.old node)) parts.old) }
@@ -68,11 +68,11 @@ fn normalize_text(parts: &mut Parts, node: Key) -> Result<(), AllocError>
 
 /// A Text gets the data of others, which then leave.
 fn joining(parts: &mut Parts, node: Key, parent: Key, nexts: &[Key]) -> Result<(), AllocError>
-    requires node_is_node { node < length parts.old.names }
+    requires node_is_node { HoldsNode parts.old node }
     requires nexts_are_nodes { AllByRecursion (IsOwnNode parts.old node) nexts.now }
     requires is_text { is_text (kind_of (trees_in parts.old node) (name_in parts.old node)) ≡ true }
     requires is_parent { parent_of (trees_in parts.old node) (name_in parts.old node) ≡ Some (name_in parts.old parent) }
-    requires parent_is_node { parent < length parts.old.names }
+    requires parent_is_node { HoldsNode parts.old parent }
     requires parent_owner { owner_in parts.old parent ≡ owner_in parts.old node }
     requires are_nexts { map (name_in parts.old) nexts.now ≡ texts_after (trees_in parts.old node) (name_in parts.old node) }
     requires bounds { HasBounds (part_of parts.old.world (owner_in parts.old node)) }
@@ -101,7 +101,7 @@ fn data_of(parts: &Parts, top: Key, texts: &[Key]) -> Result<DomStr, AllocError>
 
 /// The Texts directly after a Text.
 fn texts_after(parts: &Parts, node: Key) -> Result<Vec<Key>, AllocError>
-    requires { node < length parts.now.names }
+    requires { HoldsNode parts.now node }
     ensures names { IfOk result (λ keys. map (name_in parts.now) keys.items ≡ texts_after (trees_in parts.now node) (name_in parts.now node)) }
     ensures nodes { IfOk result (λ keys. AllByRecursion (IsOwnNode parts.now node) keys.items) }
 {
@@ -117,7 +117,7 @@ fn texts_after(parts: &Parts, node: Key) -> Result<Vec<Key>, AllocError>
 
 /// The sibling just after a node, where it is a Text.
 fn text_after(parts: &Parts, node: Key) -> Option<Key>
-    requires { node < length parts.now.names }
+    requires { HoldsNode parts.now node }
     ensures value { option_map (name_in parts.now) result ≡ first_of (texts_after (trees_in parts.now node) (name_in parts.now node)) }
     ensures node { ForSome result (IsOwnNode parts.now node) }
 {
@@ -130,7 +130,7 @@ fn text_after(parts: &Parts, node: Key) -> Option<Key>
 
 /// Whether a node is a Text.
 fn is_text(parts: &Parts, node: Key) -> bool
-    requires { node < length parts.now.names }
+    requires { HoldsNode parts.now node }
     ensures { result ≡ is_text (kind_of (trees_in parts.now node) (name_in parts.now node)) }
 {
     matches!(parts.kind(node), Kind::Text)
@@ -138,7 +138,7 @@ fn is_text(parts: &Parts, node: Key) -> bool
 
 /// The Texts below a node, in tree order.
 fn texts_below(parts: &Parts, top: Key) -> Result<Vec<Key>, AllocError>
-    requires { top < length parts.now.names }
+    requires { HoldsNode parts.now top }
     ensures names { IfOk result (λ keys. map (name_in parts.now) keys.items ≡ filter (λ y. is_text (kind_of (trees_in parts.now top) y))
         (descendants (trees_in parts.now top) (name_in parts.now top))) }
     ensures nodes { IfOk result (λ keys. AllByRecursion (IsOwnNode parts.now top) keys.items) }
@@ -158,7 +158,7 @@ fn texts_below(parts: &Parts, top: Key) -> Result<Vec<Key>, AllocError>
 
 /// Holds of every node: it stands in its owner's trees.
 pub(crate) fn stands(parts: &Parts, node: Key)
-    requires { node < length parts.now.names }
+    requires { HoldsNode parts.now node }
     ensures { is_inclusive_ancestor (trees_in parts.now node) (name_in parts.now node) (name_in parts.now node) ≡ true }
 {
     parts.laws();

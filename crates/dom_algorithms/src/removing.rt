@@ -1,10 +1,10 @@
 //! Removal and adoption (DOM Standard, concepts: remove, adopt).
-ghost use Rattle.std.specs.Prelude.{◌≡◌, ◌<◌, ◌↔◌, ◌⊎◌, length, Some, IfErr, OnOk};
+ghost use Rattle.std.specs.Prelude.{◌≡◌, ◌↔◌, ◌⊎◌, Some, IfErr, OnOk};
 ghost use Rattle.dom_base.specs.declared.Refusal.{Refusal as RefusalOf};
 ghost use Rattle.dom_base.specs.declared.Refusal.TheVariants.{Hierarchy, NotSupported};
 ghost use Rattle.dom_model.specs.Tree.{kind_of};
 ghost use Rattle.dom_model.specs.Changes.{removing, adopting, observed};
-ghost use Rattle.dom_parts.specs.Doc.{made, planned, name_in, owner_in, trees_in, adoption_refusal};
+ghost use Rattle.dom_parts.specs.Doc.{made, planned, name_in, owner_in, trees_in, adoption_refusal, HoldsNode};
 ghost use Rattle.dom_algorithms.specs.Observing.{observing_of};
 
 use crate::documents::change_document;
@@ -23,7 +23,7 @@ pub(crate) enum SuppressObserversFlag {
 /// A node leaves its parent, with a record of the parent. One without a parent stays as it is (DOM Standard, remove). Where
 /// memory is refused, the document is only to be dropped.
 pub fn remove(parts: &mut Parts, node: Key) -> Result<(), AllocError>
-    requires { node < length parts.old.names }
+    requires { HoldsNode parts.old node }
     ensures names { OnOk result (parts.new.names ≡ parts.old.names) }
     ensures world { OnOk result (parts.new.world ≡ made (owner_in parts.old node) (removing observed (name_in parts.old node)) parts.old.world) }
 {
@@ -34,8 +34,8 @@ pub fn remove(parts: &mut Parts, node: Key) -> Result<(), AllocError>
 /// with `Hierarchy` and a document with `NotSupported`, with nothing changed. Where memory is refused, the document that
 /// holds them is only to be dropped.
 pub fn adopt(parts: &mut Parts, document: Key, node: Key) -> Result<(), Fault>
-    requires document_is_node { document < length parts.old.names }
-    requires node_is_node { node < length parts.old.names }
+    requires document_is_node { HoldsNode parts.old document }
+    requires node_is_node { HoldsNode parts.old node }
     requires one_owner { owner_in parts.old document ≡ owner_in parts.old node }
     ensures refused { (r : RefusalOf) → (result ≡ Err (Fault.Refused r)) ↔
         (adoption_refusal (kind_of (trees_in parts.old node) (name_in parts.old node)) ≡ Some r) }
@@ -61,7 +61,7 @@ pub(crate) fn removing(
     how: SuppressObserversFlag,
     node: Key,
 ) -> Result<(), AllocError>
-    requires { node < length parts.old.names }
+    requires { HoldsNode parts.old node }
     ensures { OnOk result (parts.new ≡ planned (owner_in parts.old node) (removing (observing_of how) (name_in parts.old node)) parts.old) }
 {
     let Some(parent) = parts.parent(node) else {
@@ -78,8 +78,8 @@ pub(crate) fn removing(
 
 /// A node leaves its parent and gets a node document, with all below it.
 pub(crate) fn adopting(parts: &mut Parts, document: Key, node: Key) -> Result<(), AllocError>
-    requires document_is_node { document < length parts.old.names }
-    requires node_is_node { node < length parts.old.names }
+    requires document_is_node { HoldsNode parts.old document }
+    requires node_is_node { HoldsNode parts.old node }
     ensures { OnOk result (parts.new ≡ planned (owner_in parts.old node) (adopting (name_in parts.old document) (name_in parts.old node)) parts.old) }
 {
     parts.laws();

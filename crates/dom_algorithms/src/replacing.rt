@@ -1,12 +1,12 @@
 //! Replacement (DOM Standard, concept: replace).
-ghost use Rattle.std.specs.Prelude.{◌≡◌, ◌<◌, ◌↔◌, length, false, map, IfOk, OnOk, Some};
+ghost use Rattle.std.specs.Prelude.{◌≡◌, ◌↔◌, false, map, IfOk, OnOk, Some};
 ghost use Rattle.dom_base.specs.declared.Refusal.{Refusal as RefusalOf};
 ghost use Rattle.dom_model.specs.Tree.{is_inclusive_ancestor};
 ghost use Rattle.dom_model.specs.Changes.{placed_nodes, replacing};
 ghost use Rattle.dom_model.specs.Validity.{replacement_refusal};
 ghost use Rattle.dom_model.specs.World.{part_of};
 ghost use Rattle.dom_worlds.specs.Bounds.{HasBounds};
-ghost use Rattle.dom_parts.specs.Doc.{AreNodes, made, planned, name_in, owner_in, trees_in, IsChild};
+ghost use Rattle.dom_parts.specs.Doc.{AreNodes, made, planned, name_in, owner_in, trees_in, IsChild, HoldsNode};
 
 use crate::inserting::{children, inserting, is_fragment, reference_for};
 use crate::removing::{SuppressObserversFlag, removing};
@@ -19,9 +19,9 @@ use std::alloc::AllocError;
 /// Standard, replace). Refused with `Hierarchy` or `NotFound` as the Standard's tests say, in their order, with nothing
 /// changed. Where memory is refused, the document is only to be dropped.
 pub fn replace(parts: &mut Parts, parent: Key, node: Key, child: Key) -> Result<(), Fault>
-    requires parent_is_node { parent < length parts.old.names }
-    requires node_is_node { node < length parts.old.names }
-    requires child_is_node { child < length parts.old.names }
+    requires parent_is_node { HoldsNode parts.old parent }
+    requires node_is_node { HoldsNode parts.old node }
+    requires child_is_node { HoldsNode parts.old child }
     requires node_owner { owner_in parts.old node ≡ owner_in parts.old parent }
     requires child_owner { owner_in parts.old child ≡ owner_in parts.old parent }
     requires bounds { HasBounds (part_of parts.old.world (owner_in parts.old parent)) }
@@ -44,8 +44,8 @@ pub fn replace(parts: &mut Parts, parent: Key, node: Key, child: Key) -> Result<
 /// A replacement that is not refused. The reference is the child's next sibling, or the node's own where that is the
 /// node.
 fn replacing(parts: &mut Parts, parent: Key, node: Key, child: Key) -> Result<(), AllocError>
-    requires parent_is_node { parent < length parts.old.names }
-    requires node_is_node { node < length parts.old.names }
+    requires parent_is_node { HoldsNode parts.old parent }
+    requires node_is_node { HoldsNode parts.old node }
     requires node_owner { owner_in parts.old node ≡ owner_in parts.old parent }
     requires not_above { is_inclusive_ancestor (trees_in parts.old parent) (name_in parts.old node) (name_in parts.old parent) ≡ false }
     requires child_is_child { IsChild parts.old parent child }
@@ -73,7 +73,7 @@ fn replacing(parts: &mut Parts, parent: Key, node: Key, child: Key) -> Result<()
 
 /// The nodes that an insertion places: a fragment's children, or the node itself.
 fn placed_nodes(parts: &Parts, node: Key) -> Result<Vec<Key>, AllocError>
-    requires { node < length parts.now.names }
+    requires { HoldsNode parts.now node }
     ensures value { IfOk result (λ keys. map (name_in parts.now) keys.items ≡ placed_nodes (trees_in parts.now node) (name_in parts.now node)) }
     ensures nodes { IfOk result (λ keys. AreNodes parts.now keys.items) }
 {

@@ -1,5 +1,5 @@
 //! The splitting of a Text (DOM Standard, concept: split a Text node).
-ghost use Rattle.std.specs.Prelude.{◌≡◌, ◌<◌, ◌↔◌, ◌⊎◌, ◌++◌, ◌∷◌, [], length, drop, true, false, IfOk, IfErr, OnOk, OnErr, Some, None};
+ghost use Rattle.std.specs.Prelude.{◌≡◌, ◌↔◌, ◌⊎◌, ◌++◌, ◌∷◌, [], length, drop, true, false, IfOk, IfErr, OnOk, OnErr, Some, None};
 ghost use Rattle.std.specs.Option.{option_map, ForSome};
 ghost use Rattle.dom_base.specs.declared.Refusal.{Refusal as RefusalOf};
 ghost use Rattle.dom_base.specs.declared.Refusal.TheVariants.{IndexSize, Limit};
@@ -11,7 +11,7 @@ ghost use Rattle.dom_model.specs.TextChanges.{new_text_node, placing_tail, split
 ghost use Rattle.dom_model.specs.World.{part_of};
 ghost use Rattle.dom_model.specs.CommandRefusals.{past_end, past_limit};
 ghost use Rattle.dom_worlds.specs.Bounds.{HasBounds};
-ghost use Rattle.dom_parts.specs.Doc.{made, planned, name_in, owner_in, trees_in, IsChild, splitting_refusal, cutting_tail};
+ghost use Rattle.dom_parts.specs.Doc.{made, planned, name_in, owner_in, trees_in, IsChild, splitting_refusal, cutting_tail, HoldsNode};
 
 use crate::character_data::replacing_data;
 use crate::inserting::inserting;
@@ -27,7 +27,7 @@ use std::alloc::AllocError;
 /// split a Text node). Refused with `IndexSize` where the offset is past the node's length, and with `Limit` where the
 /// owner has as many nodes as it may.
 pub fn split(parts: &mut Parts, node: Key, offset: usize) -> Result<Key, Fault>
-    requires node_is_node { node < length parts.old.names }
+    requires node_is_node { HoldsNode parts.old node }
     requires bounds { HasBounds (part_of parts.old.world (owner_in parts.old node)) }
     ensures key { IfOk result (λ key. key ≡ length parts.old.names) }
     ensures names { OnOk result (parts.new.names ≡ parts.old.names ++ next_name (part_of parts.old.world (owner_in parts.old node)) ∷ []) }
@@ -57,7 +57,7 @@ pub fn split(parts: &mut Parts, node: Key, offset: usize) -> Result<Key, Fault>
 
 /// The code units of a Text from an offset on.
 fn tail(parts: &Parts, node: Key, offset: usize) -> Result<DomStr, AllocError>
-    requires { node < length parts.now.names }
+    requires { HoldsNode parts.now node }
     ensures { IfOk result (λ units. units.items ≡ drop offset (node_in (trees_in parts.now node) (name_in parts.now node)).text) }
 {
     let text = parts.text(node);
@@ -72,8 +72,8 @@ pub(crate) fn make_text(
     document: Option<Key>,
     units: DomStr,
 ) -> Result<Key, Fault>
-    requires node_is_node { like < length parts.old.names }
-    requires document_is_node { ForSome document (λ d. d < length parts.old.names) }
+    requires node_is_node { HoldsNode parts.old like }
+    requires document_is_node { ForSome document (HoldsNode parts.old) }
     ensures key { IfOk result (λ key. key ≡ length parts.old.names) }
     ensures names { OnOk result (parts.new.names ≡ parts.old.names ++ next_name (part_of parts.old.world (owner_in parts.old like)) ∷ []) }
     ensures world { OnOk result (parts.new.world ≡ made (owner_in parts.old like)
@@ -103,8 +103,8 @@ fn cut_tail(
     count: usize,
     new: Key,
 ) -> Result<(), AllocError>
-    requires node_is_node { node < length parts.old.names }
-    requires new_is_node { new < length parts.old.names }
+    requires node_is_node { HoldsNode parts.old node }
+    requires new_is_node { HoldsNode parts.old new }
     requires one_owner { owner_in parts.old new ≡ owner_in parts.old node }
     requires unlinked { parent_of (trees_in parts.old node) (name_in parts.old new) ≡ None }
     requires not_above { is_inclusive_ancestor (trees_in parts.old node) (name_in parts.old new) (name_in parts.old node) ≡ false }
@@ -128,8 +128,8 @@ fn placing_tail(
     new: Key,
     parent: Key,
 ) -> Result<(), AllocError>
-    requires new_is_node { new < length parts.old.names }
-    requires parent_is_node { parent < length parts.old.names }
+    requires new_is_node { HoldsNode parts.old new }
+    requires parent_is_node { HoldsNode parts.old parent }
     requires node_is_child { IsChild parts.old parent node }
     requires one_owner { owner_in parts.old new ≡ owner_in parts.old parent }
     requires unlinked { parent_of (trees_in parts.old node) (name_in parts.old new) ≡ None }

@@ -1,5 +1,5 @@
 //! The text of a node (DOM Standard, textContent; concept: string replace all).
-ghost use Rattle.std.specs.Prelude.{◌≡◌, ◌<◌, ◌↔◌, ◌⊎◌, ◌++◌, [], length, true, false, IfErr, OnOk, if◌then◌else◌};
+ghost use Rattle.std.specs.Prelude.{◌≡◌, ◌↔◌, ◌⊎◌, ◌++◌, [], true, false, IfErr, OnOk, if◌then◌else◌};
 ghost use Rattle.dom_base.specs.declared.Refusal.TheVariants.{Limit};
 ghost use Rattle.dom_model.specs.Names.{is_empty};
 ghost use Rattle.dom_model.specs.Tree.{is_inclusive_ancestor};
@@ -7,7 +7,7 @@ ghost use Rattle.dom_model.specs.TextChanges.{setting_text, replacing_children};
 ghost use Rattle.dom_model.specs.World.{part_of};
 ghost use Rattle.dom_model.specs.CommandRefusals.{past_limit, made_by_text};
 ghost use Rattle.dom_worlds.specs.Bounds.{HasBounds};
-ghost use Rattle.dom_parts.specs.Doc.{made, name_in, owner_in, trees_in, planned, texts_made, children_texts, putting_text};
+ghost use Rattle.dom_parts.specs.Doc.{made, name_in, owner_in, trees_in, planned, texts_made, children_texts, putting_text, HoldsNode};
 
 use crate::character_data::set_data;
 use crate::documents::document_below;
@@ -23,7 +23,7 @@ use std::alloc::AllocError;
 /// Text with these data, or to none where these are none (DOM Standard, textContent). Refused with `Limit` where a Text
 /// is made and the owner has as many nodes as it may.
 pub fn set_text(parts: &mut Parts, node: Key, data: DomStr) -> Result<(), Fault>
-    requires node_is_node { node < length parts.old.names }
+    requires node_is_node { HoldsNode parts.old node }
     requires bounds { HasBounds (part_of parts.old.world (owner_in parts.old node)) }
     ensures names { OnOk result (parts.new.names ≡ parts.old.names ++ texts_made (part_of parts.old.world (owner_in parts.old node))
         (name_in parts.old node) «data».items) }
@@ -49,7 +49,7 @@ pub fn set_text(parts: &mut Parts, node: Key, data: DomStr) -> Result<(), Fault>
 
 /// The children of a node give way to one new Text with these data, or to none where these are none.
 fn replace_children(parts: &mut Parts, node: Key, units: DomStr) -> Result<(), Fault>
-    requires node_is_node { node < length parts.old.names }
+    requires node_is_node { HoldsNode parts.old node }
     requires bounds { HasBounds (part_of parts.old.world (owner_in parts.old node)) }
     ensures names { OnOk result (parts.new.names ≡ parts.old.names ++ children_texts (part_of parts.old.world (owner_in parts.old node)) units.items) }
     ensures world { OnOk result (parts.new.world ≡ made (owner_in parts.old node) (replacing_children (name_in parts.old node) units.items) parts.old.world) }
@@ -72,7 +72,7 @@ fn replace_children(parts: &mut Parts, node: Key, units: DomStr) -> Result<(), F
 
 /// A node loses its children, of which observers are told once.
 fn clear(parts: &mut Parts, node: Key) -> Result<(), AllocError>
-    requires { node < length parts.old.names }
+    requires { HoldsNode parts.old node }
     ensures { OnOk result (parts.new ≡ planned (owner_in parts.old node) (replacing_children (name_in parts.old node) []) parts.old) }
 {
     parts.laws();
@@ -91,8 +91,8 @@ fn clear(parts: &mut Parts, node: Key) -> Result<(), AllocError>
 
 /// The children of a node give way to a Text that was made, of which observers are told once.
 fn put_text(parts: &mut Parts, node: Key, text: Key) -> Result<(), AllocError>
-    requires node_is_node { node < length parts.old.names }
-    requires text_is_node { text < length parts.old.names }
+    requires node_is_node { HoldsNode parts.old node }
+    requires text_is_node { HoldsNode parts.old text }
     requires one_owner { owner_in parts.old text ≡ owner_in parts.old node }
     requires not_above { is_inclusive_ancestor (trees_in parts.old node) (name_in parts.old text) (name_in parts.old node) ≡ false }
     requires bounds { HasBounds (part_of parts.old.world (owner_in parts.old node)) }

@@ -1,5 +1,5 @@
 //! A caller of `dom_mutation` and `dom_range_ops`: eleven calls in a row on one document.
-ghost use Rattle.std.specs.Prelude.{◌≡◌, ◌<◌, length, IfOk, OnOk};
+ghost use Rattle.std.specs.Prelude.{◌≡◌, IfOk, OnOk};
 ghost use Rattle.std.specs.Option.{ForSome};
 ghost use Rattle.dom_base.specs.declared.Kind.TheVariants.{Text};
 ghost use Rattle.dom_model.specs.Names.{node_of};
@@ -7,6 +7,7 @@ ghost use Rattle.dom_mutation.specs.Doc.{name_in};
 ghost use Rattle.dom_mutation.specs.Ready.{IsReady};
 ghost use Rattle.dom_mutation.specs.Still.{HasStillAll};
 ghost use Rattle.dom_callers.specs.Editing.{IsNodeOf, IsTextOf, IsRangeOf};
+ghost use Rattle.dom_parts.specs.Doc.{HoldsNode};
 
 use dom_base::{Fault, Owner};
 use dom_mutation::{Doc, law_new_node, law_newly_there, law_still};
@@ -28,10 +29,10 @@ pub fn rewrite(
 ) -> Result<(Key, u32), Fault>
     requires ready { IsReady doc.old }
     requires paragraph { IsNodeOf doc.old owner paragraph }
-    requires first_is_node { first < length doc.old.names }
+    requires first_is_node { HoldsNode doc.old first }
     requires is_first { name_in doc.old first ≡ node_of owner 0 }
     requires is_text { node.kind ≡ Text }
-    requires document_is_node { ForSome node.document (λ d. d < length doc.old.names) }
+    requires document_is_node { ForSome node.document (HoldsNode doc.old) }
     ensures ready { OnOk result (IsReady doc.new) }
     ensures still { OnOk result (HasStillAll doc.old doc.new) }
     ensures text { IfOk result (λ r. IsTextOf doc.new owner r.0) }
@@ -55,7 +56,7 @@ fn write(doc: &mut Doc, owner: Owner, paragraph: Key, node: NodeData) -> Result<
     requires ready { IsReady doc.old }
     requires paragraph { IsNodeOf doc.old owner paragraph }
     requires is_text { node.kind ≡ Text }
-    requires document_is_node { ForSome node.document (λ d. d < length doc.old.names) }
+    requires document_is_node { ForSome node.document (HoldsNode doc.old) }
     ensures ready { OnOk result (IsReady doc.new) }
     ensures still { OnOk result (HasStillAll doc.old doc.new) }
     ensures text { IfOk result (λ r. IsTextOf doc.new owner r.0) }
@@ -77,7 +78,7 @@ fn write(doc: &mut Doc, owner: Owner, paragraph: Key, node: NodeData) -> Result<
 /// A new live range of an owner, from the beginning of a Text to the beginning of another one.
 fn select(doc: &mut Doc, owner: Owner, first: Key, text: Key, tail: Key) -> Result<u32, Fault>
     requires ready { IsReady doc.old }
-    requires first_is_node { first < length doc.old.names }
+    requires first_is_node { HoldsNode doc.old first }
     requires is_first { name_in doc.old first ≡ node_of owner 0 }
     requires text { IsNodeOf doc.old owner text }
     requires tail { IsNodeOf doc.old owner tail }

@@ -1,8 +1,8 @@
 //! A caller of `dom_path`.
-ghost use Rattle.std.specs.Prelude.{◌≡◌, ◌<◌, None, length, IfOk};
+ghost use Rattle.std.specs.Prelude.{◌≡◌, None, length, IfOk};
 ghost use Rattle.dom_model.specs.Paths.{event_path};
 ghost use Rattle.dom_model.specs.World.{World};
-ghost use Rattle.dom_tree.specs.Forest.{name_at};
+ghost use Rattle.dom_tree.specs.Forest.{IsNode, name_of};
 ghost use Rattle.dom_slots.specs.Kept.{AreSlotsOf};
 ghost use Rattle.dom_path.specs.Items.{IsWorldOf};
 
@@ -21,11 +21,11 @@ pub fn count_visits(
     target: Key,
     composed: bool,
 ) -> Result<usize, AllocError>
-    requires target_is_node { target < length forest.now.names }
+    requires target_is_node { IsNode forest.now target }
     requires free { slots.now.begun ≡ None }
     requires slots { AreSlotsOf forest.now slots.now }
     ensures { IfOk result (λ count. (w : World) → IsWorldOf forest.now slots.now.hosts w →
-        count ≡ length (event_path w (name_at forest.now.names target) None composed)) }
+        count ≡ length (event_path w (name_of forest.now target) None composed)) }
 {
     let path = Path::build(alloc, forest, slots, target, None, composed)?;
     Ok(path.items().len())

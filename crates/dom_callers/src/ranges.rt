@@ -1,10 +1,10 @@
 //! A caller of `dom_ranges`.
-ghost use Rattle.std.specs.Prelude.{◌≡◌, ◌<◌, ◌++◌, ◌∷◌, [], ◌↔◌, ◌⊎◌, true, length, Some, IfOk, IfErr, OnOk, OnErr};
+ghost use Rattle.std.specs.Prelude.{◌≡◌, ◌++◌, ◌∷◌, [], ◌↔◌, ◌⊎◌, true, length, Some, IfOk, IfErr, OnOk, OnErr};
 ghost use Rattle.dom_base.specs.declared.Owner.{Owner as Owners};
 ghost use Rattle.dom_model.specs.CommandRefusals.{past_limit};
 ghost use Rattle.dom_model.specs.Ranges.{at, from_to};
 ghost use Rattle.dom_model.specs.Tree.{length_of};
-ghost use Rattle.dom_tree.specs.Forest.{name_at};
+ghost use Rattle.dom_tree.specs.Forest.{IsNode, name_of};
 ghost use Rattle.dom_ranges.specs.Rules.{IsAtNode};
 ghost use Rattle.dom_ranges.specs.Tables.{ranges_of, with_ranges, EachRange, BothEnds};
 
@@ -22,12 +22,12 @@ pub fn select_contents(
     forest: &Forest,
     node: Key,
 ) -> Result<u32, Fault>
-    requires node_is_node { node < length forest.now.names }
+    requires node_is_node { IsNode forest.now node }
     requires ends { EachRange (BothEnds (IsAtNode forest.now.names)) (ranges_of ranges.old owner) }
     ensures number { IfOk result (λ number. number ≡ length (ranges_of ranges.old owner)) }
     ensures made { OnOk result ((o : Owners) →
         ranges_of ranges.new o ≡ with_ranges ranges.old owner
-        (ranges_of ranges.old owner ++ Some (from_to (at node 0) (at node (length_of forest.now.trees (name_at forest.now.names node)))) ∷ []) o) }
+        (ranges_of ranges.old owner ++ Some (from_to (at node 0) (at node (length_of forest.now.trees (name_of forest.now node)))) ∷ []) o) }
     ensures limit { (result ≡ Err (Fault.Refused Refusal.Limit)) ↔ (past_limit (length (ranges_of ranges.old owner)) 1 ≡ true) }
     ensures other { IfErr result (λ fault. (fault ≡ Fault.Refused Refusal.Limit) ⊎ (fault ≡ Fault.Memory)) }
     ensures err { OnErr result ((o : Owners) → ranges_of ranges.new o ≡ ranges_of ranges.old o) }

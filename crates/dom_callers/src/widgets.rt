@@ -1,8 +1,8 @@
 //! Callers of `dom_path` and of `dom_dispatch` in a document of two widgets, whose components have numbers that no script gives.
-ghost use Rattle.std.specs.Prelude.{◌≡◌, ◌<◌, List, None, length, IfOk};
+ghost use Rattle.std.specs.Prelude.{◌≡◌, List, None, length, IfOk};
 ghost use Rattle.std.specs.Option.{ForSome};
 ghost use Rattle.dom_base.specs.declared.NodeName.{NodeName as Name};
-ghost use Rattle.dom_tree.specs.Forest.{name_at};
+ghost use Rattle.dom_tree.specs.Forest.{IsNode, name_of};
 ghost use Rattle.dom_slots.specs.Kept.{AreSlotsOf};
 ghost use Rattle.dom_slots.specs.Shadows.{shadows};
 ghost use Rattle.dom_path.specs.Paths.{IsPath};
@@ -25,12 +25,12 @@ pub fn count_widget_visits(
     target: Key,
     composed: bool,
 ) -> Result<usize, AllocError>
-    requires target_is_node { target < length forest.now.names }
+    requires target_is_node { IsNode forest.now target }
     requires free { slots.now.begun ≡ None }
     requires slots { AreSlotsOf forest.now slots.now }
     requires widgets { AreWidgets forest.now slots.now.hosts }
     ensures { IfOk result (λ count. (nodes : List Name) ×
-        IsPath (shadows forest.now slots.now.hosts) 1 (name_at forest.now.names target) None composed nodes × (count ≡ length nodes)) }
+        IsPath (shadows forest.now slots.now.hosts) 1 (name_of forest.now target) None composed nodes × (count ≡ length nodes)) }
 {
     forest.nodes_stand_once();
     law_hosts_nest();
@@ -47,8 +47,8 @@ pub fn press(
     button: Key,
     event: EventInit,
 ) -> Result<bool, AllocError>
-    requires button_is_node { button < length forest.now.names }
-    requires related_is_node { ForSome event.related (λ k. k < length forest.now.names) }
+    requires button_is_node { IsNode forest.now button }
+    requires related_is_node { ForSome event.related (IsNode forest.now) }
     requires free { slots.now.begun ≡ None }
     requires slots { AreSlotsOf forest.now slots.now }
     requires widgets { AreWidgets forest.now slots.now.hosts }

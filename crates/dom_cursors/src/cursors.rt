@@ -1,12 +1,12 @@
 //! The node iterators and tree walkers of all owners.
-ghost use Rattle.std.specs.Prelude.{◌≡◌, ◌<◌, ◌≤◌, ◌↔◌, ◌⊎◌, ◌++◌, ◌∷◌, [], length, true, false, is_some, slice_get, slice_set, IfOk, IfErr, OnOk, OnErr};
+ghost use Rattle.std.specs.Prelude.{◌≡◌, ◌≤◌, ◌↔◌, ◌⊎◌, ◌++◌, ◌∷◌, [], length, true, false, is_some, slice_get, slice_set, IfOk, IfErr, OnOk, OnErr};
 ghost use Rattle.std.specs.Map.{lookup};
 ghost use Rattle.std.specs.Option.{option_map, ForSome};
 ghost use Rattle.dom_base.specs.declared.Owner.{Owner as Owners};
 ghost use Rattle.dom_base.specs.declared.Refusal.TheVariants.{Limit};
 ghost use Rattle.dom_model.specs.Names.{owner_eq};
 ghost use Rattle.dom_model.specs.Traversal.{iterator_next_node, iterator_previous_node, walker_move};
-ghost use Rattle.dom_tree.specs.Forest.{name_at};
+ghost use Rattle.dom_tree.specs.Forest.{IsNode, name_of};
 ghost use Rattle.dom_traversal.specs.Filters.{filter_of};
 ghost use Rattle.dom_traversal.specs.Iterators.{iterator_view, iterator_at, IsIteratorOf};
 ghost use Rattle.dom_traversal.specs.Walkers.{walker_view, walker_at, IsWalkerOf};
@@ -120,7 +120,7 @@ impl Cursors {
     /// Lets each iterator of an owner leave the tree of a node that is about to be removed (DOM Standard, NodeIterator
     /// pre-remove steps). Where no owner has had a cursor there is no look-up.
     pub fn leave(&mut self, owner: Owner, forest: &Forest, node: Key)
-        requires node_is_node { node < length forest.now.names }
+        requires node_is_node { IsNode forest.now node }
         requires iterators { EachItem (IsIteratorOf forest.now) (cursors_of self.old owner).iterators }
         ensures iterators { AreLeft forest.now node (cursors_of self.old owner).iterators (cursors_of self.new owner).iterators }
         ensures others { cursors_of self.new ≡ with_cursors (cursors_of self.old) owner (record (cursors_of self.old owner)
@@ -140,7 +140,7 @@ impl Cursors {
         requires there { is_some (slice_get (cursors_of self.old owner).iterators number) ≡ true }
         requires iterators { EachItem (IsIteratorOf forest.now) (cursors_of self.old owner).iterators }
         ensures value { ForSome (slice_get (cursors_of self.old owner).iterators number)
-            (λ i. option_map (name_at forest.now.names) result ≡ iterator_next_node forest.now.trees (iterator_view forest.now.names i)) }
+            (λ i. option_map (name_of forest.now) result ≡ iterator_next_node forest.now.trees (iterator_view forest.now.names i)) }
         ensures state { ForSome (slice_get (cursors_of self.old owner).iterators number)
             (λ i. cursors_of self.new ≡ with_cursors (cursors_of self.old) owner (record (cursors_of self.old owner)
             { iterators = slice_set (cursors_of self.old owner).iterators number (iterator_at i false result) })) }
@@ -157,7 +157,7 @@ impl Cursors {
         requires there { is_some (slice_get (cursors_of self.old owner).iterators number) ≡ true }
         requires iterators { EachItem (IsIteratorOf forest.now) (cursors_of self.old owner).iterators }
         ensures value { ForSome (slice_get (cursors_of self.old owner).iterators number)
-            (λ i. option_map (name_at forest.now.names) result ≡ iterator_previous_node forest.now.trees (iterator_view forest.now.names i)) }
+            (λ i. option_map (name_of forest.now) result ≡ iterator_previous_node forest.now.trees (iterator_view forest.now.names i)) }
         ensures state { ForSome (slice_get (cursors_of self.old owner).iterators number)
             (λ i. cursors_of self.new ≡ with_cursors (cursors_of self.old) owner (record (cursors_of self.old owner)
             { iterators = slice_set (cursors_of self.old owner).iterators number (iterator_at i true result) })) }
@@ -187,7 +187,7 @@ impl Cursors {
         requires there { is_some (slice_get (cursors_of self.old owner).walkers number) ≡ true }
         requires walkers { EachItem (IsWalkerOf forest.now) (cursors_of self.old owner).walkers }
         ensures value { ForSome (slice_get (cursors_of self.old owner).walkers number)
-            (λ w. option_map (name_at forest.now.names) result ≡ walker_move forest.now.trees (walker_view forest.now.names w) step) }
+            (λ w. option_map (name_of forest.now) result ≡ walker_move forest.now.trees (walker_view forest.now.names w) step) }
         ensures state { ForSome (slice_get (cursors_of self.old owner).walkers number)
             (λ w. cursors_of self.new ≡ with_cursors (cursors_of self.old) owner (record (cursors_of self.old owner)
             { walkers = slice_set (cursors_of self.old owner).walkers number (walker_at w result) })) }

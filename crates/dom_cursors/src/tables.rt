@@ -1,9 +1,9 @@
 //! What one owner has of cursors.
-ghost use Rattle.std.specs.Prelude.{◌≡◌, ℕ, ◌<◌, ◌≤◌, ◌↔◌, ◌⊎◌, ◌++◌, ◌∷◌, [], length, true, false, is_some, slice_get, slice_set, IfOk, IfErr, OnOk, OnErr};
+ghost use Rattle.std.specs.Prelude.{◌≡◌, ℕ, ◌≤◌, ◌↔◌, ◌⊎◌, ◌++◌, ◌∷◌, [], length, true, false, is_some, slice_get, slice_set, IfOk, IfErr, OnOk, OnErr};
 ghost use Rattle.std.specs.Option.{option_map, ForSome};
 ghost use Rattle.dom_base.specs.declared.Refusal.TheVariants.{Limit};
 ghost use Rattle.dom_model.specs.Traversal.{iterator_next_node, iterator_previous_node, walker_move};
-ghost use Rattle.dom_tree.specs.Forest.{name_at};
+ghost use Rattle.dom_tree.specs.Forest.{IsNode, name_of};
 ghost use Rattle.dom_traversal.specs.Filters.{filter_of};
 ghost use Rattle.dom_traversal.specs.Iterators.{KeyedIterator, iterator_view, iterator_at, IsIteratorOf};
 ghost use Rattle.dom_traversal.specs.Walkers.{walker_view, walker_at, IsWalkerOf};
@@ -95,7 +95,7 @@ impl OwnTables {
     /// Lets each iterator leave the tree of a node that is about to be removed (DOM Standard, NodeIterator pre-remove
     /// steps).
     pub(crate) fn leave(&mut self, forest: &Forest, node: Key)
-        requires node_is_node { node < length forest.now.names }
+        requires node_is_node { IsNode forest.now node }
         requires iterators { EachItem (IsIteratorOf forest.now) self.old.iterators }
         ensures iterators { AreLeft forest.now node self.old.iterators self.new.iterators }
         ensures walkers { self.new.walkers ≡ self.old.walkers }
@@ -110,7 +110,7 @@ impl OwnTables {
         requires there { is_some (slice_get self.old.iterators number) ≡ true }
         requires iterators { EachItem (IsIteratorOf forest.now) self.old.iterators }
         ensures value { ForSome (slice_get self.old.iterators number)
-            (λ i. option_map (name_at forest.now.names) result ≡ iterator_next_node forest.now.trees (iterator_view forest.now.names i)) }
+            (λ i. option_map (name_of forest.now) result ≡ iterator_next_node forest.now.trees (iterator_view forest.now.names i)) }
         ensures state { ForSome (slice_get self.old.iterators number)
             (λ i. self.new ≡ record self.old { iterators = slice_set self.old.iterators number (iterator_at i false result) }) }
         ensures kept { ForSome (slice_get self.old.iterators number) (λ i. IsIteratorOf forest.now (iterator_at i false result)) }
@@ -124,7 +124,7 @@ impl OwnTables {
         requires there { is_some (slice_get self.old.iterators number) ≡ true }
         requires iterators { EachItem (IsIteratorOf forest.now) self.old.iterators }
         ensures value { ForSome (slice_get self.old.iterators number)
-            (λ i. option_map (name_at forest.now.names) result ≡ iterator_previous_node forest.now.trees (iterator_view forest.now.names i)) }
+            (λ i. option_map (name_of forest.now) result ≡ iterator_previous_node forest.now.trees (iterator_view forest.now.names i)) }
         ensures state { ForSome (slice_get self.old.iterators number)
             (λ i. self.new ≡ record self.old { iterators = slice_set self.old.iterators number (iterator_at i true result) }) }
         ensures kept { ForSome (slice_get self.old.iterators number) (λ i. IsIteratorOf forest.now (iterator_at i true result)) }
@@ -146,7 +146,7 @@ impl OwnTables {
         requires there { is_some (slice_get self.old.walkers number) ≡ true }
         requires walkers { EachItem (IsWalkerOf forest.now) self.old.walkers }
         ensures value { ForSome (slice_get self.old.walkers number)
-            (λ w. option_map (name_at forest.now.names) result ≡ walker_move forest.now.trees (walker_view forest.now.names w) step) }
+            (λ w. option_map (name_of forest.now) result ≡ walker_move forest.now.trees (walker_view forest.now.names w) step) }
         ensures state { ForSome (slice_get self.old.walkers number)
             (λ w. self.new ≡ record self.old { walkers = slice_set self.old.walkers number (walker_at w result) }) }
         ensures kept { ForSome (slice_get self.old.walkers number) (λ w. IsWalkerOf forest.now (walker_at w result)) }
@@ -177,7 +177,7 @@ impl OwnTables {
 /// Moves a walker.
 fn walk(walker: &mut Walker, forest: &Forest, step: Move) -> Option<Key>
     requires { IsWalkerOf forest.now walker.old }
-    ensures value { option_map (name_at forest.now.names) result ≡ walker_move forest.now.trees (walker_view forest.now.names walker.old) step }
+    ensures value { option_map (name_of forest.now) result ≡ walker_move forest.now.trees (walker_view forest.now.names walker.old) step }
     ensures state { walker.new ≡ walker_at walker.old result }
     ensures kept { IsWalkerOf forest.now walker.new }
 {

@@ -10,6 +10,7 @@ ghost use Rattle.dom_path.specs.Items.{HasNodes};
 ghost use Rattle.dom_dispatch.specs.Entries.{listener_of, listeners_in, hears_at};
 ghost use Rattle.dom_dispatch.specs.Dispatches.{event_words, visit_in, dispatching_in, IsOwnLine, KeepsOwners, IsDispatched, IsDispatchedIn};
 ghost use Rattle.dom_dispatch.specs.ListenersByName.{IsListenerAt};
+ghost use Rattle.dom_tree.specs.Forest.{IsNode};
 
 use crate::event::{EventInit, Outcome};
 use crate::listeners::{Entry, Listeners};
@@ -32,8 +33,8 @@ impl Listeners {
         target: Key,
         event: EventInit,
     ) -> Result<Outcome, AllocError>
-        requires target_is_node { target < length forest.now.names }
-        requires related_is_node { ForSome event.related (λ k. k < length forest.now.names) }
+        requires target_is_node { IsNode forest.now target }
+        requires related_is_node { ForSome event.related (IsNode forest.now) }
         requires free { slots.now.begun ≡ None }
         requires slots { AreSlotsOf forest.now slots.now }
         ensures keys { IfOk result (λ outcome. IsDispatched forest.now slots.now.hosts self.old self.new target event.related (event_words event) outcome) }

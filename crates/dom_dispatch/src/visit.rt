@@ -4,7 +4,7 @@ ghost use Rattle.std.specs.List.{AllByRecursion};
 ghost use Rattle.dom_model.specs.Dispatch.{visit_of};
 ghost use Rattle.dom_model.specs.Listeners.{line_of};
 ghost use Rattle.dom_model.specs.Paths.{View};
-ghost use Rattle.dom_tree.specs.Forest.{name_at};
+ghost use Rattle.dom_tree.specs.Forest.{name_of};
 ghost use Rattle.dom_path.specs.Items.{HasNodes};
 ghost use Rattle.dom_dispatch.specs.Entries.{words_of};
 ghost use Rattle.dom_dispatch.specs.Dispatches.{visit_in, line_in};
@@ -41,7 +41,7 @@ impl Visit {
         requires within { at < length path.now.items }
         requires nodes { AllByRecursion (HasNodes forest.now.names) path.now.items }
         ensures visit { IfOk result (λ v. (view : View ℕ) → slice_get path.now.views at ≡ Some view → visit_in v ≡ visit_of nat_eq capturing view) }
-        ensures owner { IfOk result (λ v. v.owner ≡ (name_at forest.now.names v.current).owner) }
+        ensures owner { IfOk result (λ v. v.owner ≡ (name_of forest.now v.current).owner) }
     {
         let nodes = path.composed_path(at)?;
         let item = path.items()[at];

@@ -1,5 +1,6 @@
 //! Each caller on a small document.
-ghost use Rattle.std.specs.Prelude.{◌≡◌, ◌<◌, length, None, IfOk};
+ghost use Rattle.std.specs.Prelude.{◌≡◌, None, IfOk};
+ghost use Rattle.dom_tree.specs.Forest.{IsNode};
 
 use dom_base::{Kind, NodeName, Owner};
 use dom_callers::{has_match, label, move_to_front, next_focus, select_contents, watch_attributes};
@@ -33,7 +34,7 @@ fn node(alloc: Global, kind: Kind) -> Result<NodeData, AllocError>
 
 // The key of a node of the page.
 fn key_of(rt: &impl Abort, forest: &Forest, number: u32) -> Key
-    ensures { result < length forest.now.names }
+    ensures { IsNode forest.now result }
 {
     let name = NodeName {
         owner: Owner::Page,

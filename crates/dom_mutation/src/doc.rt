@@ -1,5 +1,5 @@
 //! The documents of a run.
-ghost use Rattle.std.specs.Prelude.{◌≡◌, ℕ, ◌<◌, ◌↔◌, ◌⊎◌, ◌++◌, ◌∷◌, [], true, false, length, None, IfOk, IfErr, OnOk, OnErr};
+ghost use Rattle.std.specs.Prelude.{◌≡◌, ℕ, ◌↔◌, ◌⊎◌, ◌++◌, ◌∷◌, [], true, false, length, None, IfOk, IfErr, OnOk, OnErr};
 ghost use Rattle.std.specs.Option.{ForSome};
 ghost use Rattle.dom_base.specs.declared.Owner.{Owner as OwnerOf};
 ghost use Rattle.dom_base.specs.declared.Owner.TheVariants.{Page};
@@ -12,12 +12,13 @@ ghost use Rattle.dom_model.specs.Changes.{doing};
 ghost use Rattle.dom_model.specs.World.{part_of, is_there};
 ghost use Rattle.dom_model.specs.CommandRefusals.{past_limit};
 ghost use Rattle.dom_model.specs.DocumentMachine.{first_world};
-ghost use Rattle.dom_tree.specs.Forest.{name_at, node_from};
+ghost use Rattle.dom_tree.specs.Forest.{node_from};
 ghost use Rattle.dom_tree.specs.Owners.{trees_of_owner, AreOwned};
 ghost use Rattle.dom_slots.specs.Kept.{AreSlotsOf};
 ghost use Rattle.dom_slots.specs.Shadows.{shadows, IsShownBy};
 ghost use Rattle.dom_mutation.specs.Doc.{made};
 ghost use Rattle.dom_mutation.specs.Ready.{IsReady};
+ghost use Rattle.dom_parts.specs.Doc.{HoldsNode, name_in};
 
 mod attaching;
 mod attributes;
@@ -77,7 +78,7 @@ impl Doc {
         ensures names { result.now.names ≡ self.now.names }
         ensures trees { (o : OwnerOf) → trees_of_owner o result.now.trees ≡ (part_of self.now.world o).trees }
         ensures owned { AreOwned result.now.trees }
-        ensures present { (k : ℕ) → k < length self.now.names → is_there self.now.world (name_at self.now.names k).owner ≡ true }
+        ensures present { (k : ℕ) → HoldsNode self.now k → is_there self.now.world (name_in self.now k).owner ≡ true }
     {
         self.parts.forest()
     }
@@ -113,7 +114,7 @@ impl Doc {
     pub fn add(&mut self, owner: Owner, node: NodeData) -> Result<Key, Fault>
         requires owner_is_there { is_there self.old.world owner ≡ true }
         requires no_shadow { is_shadow node.kind ≡ false }
-        requires document_is_node { ForSome node.document (λ d. d < length self.old.names) }
+        requires document_is_node { ForSome node.document (HoldsNode self.old) }
         ensures key { IfOk result (λ key. key ≡ length self.old.names) }
         ensures names { OnOk result (self.new.names ≡ self.old.names ++ next_name (part_of self.old.world owner) ∷ []) }
         ensures world { OnOk result (self.new.world ≡ made owner

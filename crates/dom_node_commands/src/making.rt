@@ -1,14 +1,14 @@
 //! The commands that make a node, alone.
-ghost use Rattle.std.specs.Prelude.{◌≡◌, ◌<◌, length, true, false, string_bytes};
+ghost use Rattle.std.specs.Prelude.{◌≡◌, true, false, string_bytes};
 ghost use Rattle.std.specs.Option.{option_map, ForSome};
 ghost use Rattle.dom_model.specs.Tree.{is_document, is_shadow};
 ghost use Rattle.dom_model.specs.Command.{new_element, new_text, new_comment, new_fragment, new_document};
 ghost use Rattle.dom_model.specs.CommandRefusals.{limit_on};
 ghost use Rattle.dom_model.specs.Effects.{new_document_of};
 ghost use Rattle.dom_model.specs.World.{part_of, is_there};
-ghost use Rattle.dom_tree.specs.Forest.{name_at};
 ghost use Rattle.dom_admission.specs.Handled.{KeepsNames, IsDone, IsHandled};
 ghost use Rattle.dom_node_commands.specs.Making.{making, document_for};
+ghost use Rattle.dom_parts.specs.Doc.{HoldsNode, name_in};
 
 use dom_admission::State;
 use dom_base::{DomStr, Fault, Kind, Owner, Refusal};
@@ -123,8 +123,8 @@ fn make(
 /// The node document of an owner's new node: the page's first document, or that of a component's shadow root; a
 /// document has none.
 fn document_for(state: &State, owner: Owner, kind: Kind) -> Option<Key>
-    ensures value { option_map (name_at state.now.names) result ≡ document_for kind (part_of state.now.world owner) }
-    ensures node { ForSome result (λ d. d < length state.now.names) }
+    ensures value { option_map (name_in state.now) result ≡ document_for kind (part_of state.now.world owner) }
+    ensures node { ForSome result (HoldsNode state.now) }
 {
     if is_document(kind) {
         None
@@ -135,8 +135,8 @@ fn document_for(state: &State, owner: Owner, kind: Kind) -> Option<Key>
 
 /// An owner's first node where that is a document, or else the first node's document.
 fn first_document(state: &State, owner: Owner) -> Option<Key>
-    ensures value { option_map (name_at state.now.names) result ≡ new_document_of (part_of state.now.world owner) }
-    ensures node { ForSome result (λ d. d < length state.now.names) }
+    ensures value { option_map (name_in state.now) result ≡ new_document_of (part_of state.now.world owner) }
+    ensures node { ForSome result (HoldsNode state.now) }
 {
     let first = NodeWord::Own(0);
     if is_document(state.kind(owner, first)) {

@@ -1,7 +1,7 @@
 //! Node documents of whole trees, and the shadow roots below a node (DOM Standard, concepts: node document, adopt).
-ghost use Rattle.std.specs.Prelude.{◌≡◌, ◌<◌, ◌++◌, length, All, fold, map, IfOk, OnOk};
+ghost use Rattle.std.specs.Prelude.{◌≡◌, ◌++◌, All, fold, map, IfOk, OnOk};
 ghost use Rattle.dom_model.specs.TreeChanges.{change_subtree, with_document};
-ghost use Rattle.dom_tree.specs.Forest.{name_at};
+ghost use Rattle.dom_tree.specs.Forest.{IsNode, name_of};
 ghost use Rattle.dom_slots.specs.Hosts.{HostsAreNodes};
 ghost use Rattle.dom_node_trees.specs.Documents.{under_each, roots_within};
 
@@ -12,10 +12,10 @@ use std::alloc::{AllocError, Global};
 
 /// Gives a node and all below it a node document.
 pub fn set_documents(forest: &mut Forest, top: Key, document: Key)
-    requires top_is_node { top < length forest.old.names }
-    requires document_is_node { document < length forest.old.names }
+    requires top_is_node { IsNode forest.old top }
+    requires document_is_node { IsNode forest.old document }
     ensures names { forest.new.names ≡ forest.old.names }
-    ensures trees { forest.new.trees ≡ change_subtree (with_document (name_at forest.old.names document)) (name_at forest.old.names top) forest.old.trees }
+    ensures trees { forest.new.trees ≡ change_subtree (with_document (name_of forest.old document)) (name_of forest.old top) forest.old.trees }
 {
     forest.nodes_stand_once();
     let mut at = Some(top);
@@ -27,10 +27,10 @@ pub fn set_documents(forest: &mut Forest, top: Key, document: Key)
 
 /// Gives some nodes, with all below each, a node document.
 pub fn set_each(forest: &mut Forest, tops: &[Key], document: Key)
-    requires tops_are_nodes { All (λ k. k < length forest.old.names) tops.now }
-    requires document_is_node { document < length forest.old.names }
+    requires tops_are_nodes { All (IsNode forest.old) tops.now }
+    requires document_is_node { IsNode forest.old document }
     ensures names { forest.new.names ≡ forest.old.names }
-    ensures trees { forest.new.trees ≡ fold (under_each (name_at forest.old.names document)) forest.old.trees (map (name_at forest.old.names) tops.now) }
+    ensures trees { forest.new.trees ≡ fold (under_each (name_of forest.old document)) forest.old.trees (map (name_of forest.old) tops.now) }
 {
     for top in tops {
         set_documents(forest, *top, document);
@@ -46,11 +46,11 @@ pub fn roots_below(
     top: Key,
     depth: u8,
 ) -> Result<Vec<Key>, AllocError>
-    requires top_is_node { top < length forest.now.names }
+    requires top_is_node { IsNode forest.now top }
     requires hosts { HostsAreNodes forest.now.names slots.now.hosts }
-    ensures names { IfOk result (λ keys. map (name_at forest.now.names) keys.items ≡
-        roots_within depth forest.now slots.now.hosts (name_at forest.now.names top)) }
-    ensures nodes { IfOk result (λ keys. All (λ k. k < length forest.now.names) keys.items) }
+    ensures names { IfOk result (λ keys. map (name_of forest.now) keys.items ≡
+        roots_within depth forest.now slots.now.hosts (name_of forest.now top)) }
+    ensures nodes { IfOk result (λ keys. All (IsNode forest.now) keys.items) }
 {
     let mut roots = Vec::new(alloc);
     add_roots(forest, slots, top, depth, &mut roots)?;
@@ -65,12 +65,12 @@ fn add_roots(
     depth: u8,
     roots: &mut Vec<Key>,
 ) -> Result<(), AllocError>
-    requires top_is_node { top < length forest.now.names }
+    requires top_is_node { IsNode forest.now top }
     requires hosts { HostsAreNodes forest.now.names slots.now.hosts }
-    requires nodes { All (λ k. k < length forest.now.names) roots.old.items }
-    ensures names { OnOk result (map (name_at forest.now.names) roots.new.items ≡ map (name_at forest.now.names) roots.old.items ++
-        roots_within depth forest.now slots.now.hosts (name_at forest.now.names top)) }
-    ensures nodes { OnOk result (All (λ k. k < length forest.now.names) roots.new.items) }
+    requires nodes { All (IsNode forest.now) roots.old.items }
+    ensures names { OnOk result (map (name_of forest.now) roots.new.items ≡ map (name_of forest.now) roots.old.items ++
+        roots_within depth forest.now slots.now.hosts (name_of forest.now top)) }
+    ensures nodes { OnOk result (All (IsNode forest.now) roots.new.items) }
 {
     if depth == 0 {
         return Ok(());

@@ -1,12 +1,12 @@
 //! The steps that signal slots, each between its beginning and its end (DOM Standard, concept: signal a slot change).
-ghost use Rattle.std.specs.Prelude.{◌≡◌, ℕ, ◌<◌, length, All, filter, map, false, IfOk, OnOk, Some, None};
+ghost use Rattle.std.specs.Prelude.{◌≡◌, ℕ, All, filter, map, false, IfOk, OnOk, Some, None};
 ghost use Rattle.std.specs.Option.{option_map, ForSome};
 ghost use Rattle.dom_model.specs.Names.{append_once, name_eq};
 ghost use Rattle.dom_model.specs.Tree.{Trees as TreesOf, parent_of, is_inclusive_ancestor, none};
 ghost use Rattle.dom_model.specs.TreeChanges.{placed, taken_out, change_node, with_attribute};
 ghost use Rattle.dom_model.specs.Turns.{is_owned_by};
 ghost use Rattle.dom_model.specs.World.{queued_notify};
-ghost use Rattle.dom_tree.specs.Forest.{name_at};
+ghost use Rattle.dom_tree.specs.Forest.{IsNode, name_of};
 ghost use Rattle.dom_slots.specs.Kept.{BegunStep, IsEndOf};
 ghost use Rattle.dom_slots.specs.declared.step.Step.TheVariants.{Place, Removal, Attribute};
 ghost use Rattle.dom_node_trees.specs.Signalled.{signal_tables, AreNames, AreSignals, HasSignalled, HasLeft};
@@ -28,16 +28,16 @@ pub fn link(
     parent: Key,
     before: Option<Key>,
 ) -> Result<(), AllocError>
-    requires node_is_node { node < length forest.old.names }
-    requires parent_is_node { parent < length forest.old.names }
-    requires unlinked { parent_of forest.old.trees (name_at forest.old.names node) ≡ None }
-    requires not_above { is_inclusive_ancestor forest.old.trees (name_at forest.old.names node) (name_at forest.old.names parent) ≡ false }
-    requires before_is_node { ForSome before (λ b. b < length forest.old.names) }
-    requires before_is_child { ForSome before (λ b. parent_of forest.old.trees (name_at forest.old.names b) ≡ Some (name_at forest.old.names parent)) }
+    requires node_is_node { IsNode forest.old node }
+    requires parent_is_node { IsNode forest.old parent }
+    requires unlinked { parent_of forest.old.trees (name_of forest.old node) ≡ None }
+    requires not_above { is_inclusive_ancestor forest.old.trees (name_of forest.old node) (name_of forest.old parent) ≡ false }
+    requires before_is_node { ForSome before (IsNode forest.old) }
+    requires before_is_child { ForSome before (λ b. parent_of forest.old.trees (name_of forest.old b) ≡ Some (name_of forest.old parent)) }
     requires signals { AreSignals forest.old.names forest.old.trees (signal_tables slots.old signalled.old queue.old) }
     ensures names { OnOk result (forest.new.names ≡ forest.old.names) }
-    ensures trees { OnOk result (forest.new.trees ≡ placed (name_at forest.old.names node) (name_at forest.old.names parent)
-        (option_map (name_at forest.old.names) before) forest.old.trees) }
+    ensures trees { OnOk result (forest.new.trees ≡ placed (name_of forest.old node) (name_of forest.old parent)
+        (option_map (name_of forest.old) before) forest.old.trees) }
     ensures signals { OnOk result (HasSignalled forest.old.names forest.old.trees forest.new.trees (Place node parent before) None
         (signal_tables slots.old signalled.old queue.old) (signal_tables slots.new signalled.new queue.new)) }
 {
@@ -55,10 +55,10 @@ pub fn unlink(
     queue: &mut Queue,
     node: Key,
 ) -> Result<(), AllocError>
-    requires node_is_node { node < length forest.old.names }
+    requires node_is_node { IsNode forest.old node }
     requires signals { AreSignals forest.old.names forest.old.trees (signal_tables slots.old signalled.old queue.old) }
     ensures names { OnOk result (forest.new.names ≡ forest.old.names) }
-    ensures trees { OnOk result (forest.new.trees ≡ taken_out (name_at forest.old.names node) forest.old.trees) }
+    ensures trees { OnOk result (forest.new.trees ≡ taken_out (name_of forest.old node) forest.old.trees) }
     ensures signals { OnOk result (HasLeft forest.old.names forest.old.trees forest.new.trees node
         (signal_tables slots.old signalled.old queue.old) (signal_tables slots.new signalled.new queue.new)) }
 {
@@ -77,10 +77,10 @@ pub fn set_attr(
     name: &str,
     value: DomStr,
 ) -> Result<(), AllocError>
-    requires node_is_node { node < length forest.old.names }
+    requires node_is_node { IsNode forest.old node }
     requires signals { AreSignals forest.old.names forest.old.trees (signal_tables slots.old signalled.old queue.old) }
     ensures names { OnOk result (forest.new.names ≡ forest.old.names) }
-    ensures trees { OnOk result (forest.new.trees ≡ change_node (with_attribute name.now (Some value.items)) (name_at forest.old.names node) forest.old.trees) }
+    ensures trees { OnOk result (forest.new.trees ≡ change_node (with_attribute name.now (Some value.items)) (name_of forest.old node) forest.old.trees) }
     ensures signals { OnOk result (HasSignalled forest.old.names forest.old.trees forest.new.trees (Attribute node) None
         (signal_tables slots.old signalled.old queue.old) (signal_tables slots.new signalled.new queue.new)) }
 {
@@ -98,10 +98,10 @@ pub fn remove_attr(
     node: Key,
     name: &str,
 ) -> Result<(), AllocError>
-    requires node_is_node { node < length forest.old.names }
+    requires node_is_node { IsNode forest.old node }
     requires signals { AreSignals forest.old.names forest.old.trees (signal_tables slots.old signalled.old queue.old) }
     ensures names { OnOk result (forest.new.names ≡ forest.old.names) }
-    ensures trees { OnOk result (forest.new.trees ≡ change_node (with_attribute name.now None) (name_at forest.old.names node) forest.old.trees) }
+    ensures trees { OnOk result (forest.new.trees ≡ change_node (with_attribute name.now None) (name_of forest.old node) forest.old.trees) }
     ensures signals { OnOk result (HasSignalled forest.old.names forest.old.trees forest.new.trees (Attribute node) None
         (signal_tables slots.old signalled.old queue.old) (signal_tables slots.new signalled.new queue.new)) }
 {
@@ -138,9 +138,9 @@ fn signal(
     signalled: &mut Signals,
     queue: &mut Queue,
 ) -> Result<(), AllocError>
-    requires { slot < length forest.now.names }
-    ensures signalled { OnOk result (signalled.new ≡ append_once name_eq signalled.old (name_at forest.now.names slot)) }
-    ensures queue { OnOk result (queue.new ≡ queued_notify (name_at forest.now.names slot).owner queue.old) }
+    requires { IsNode forest.now slot }
+    ensures signalled { OnOk result (signalled.new ≡ append_once name_eq signalled.old (name_of forest.now slot)) }
+    ensures queue { OnOk result (queue.new ≡ queued_notify (name_of forest.now slot).owner queue.old) }
 {
     let name = forest.name(slot);
     signalled.add(name)?;
@@ -155,8 +155,8 @@ pub fn own_slots(
     owner: Owner,
 ) -> Result<Vec<Key>, AllocError>
     requires { AreNames forest.now.names signalled.now }
-    ensures names { IfOk result (λ keys. map (name_at forest.now.names) keys.items ≡ filter (is_owned_by owner) signalled.now) }
-    ensures nodes { IfOk result (λ keys. All (λ k. k < length forest.now.names) keys.items) }
+    ensures names { IfOk result (λ keys. map (name_of forest.now) keys.items ≡ filter (is_owned_by owner) signalled.now) }
+    ensures nodes { IfOk result (λ keys. All (IsNode forest.now) keys.items) }
 {
     let mut keys = Vec::new(alloc);
     for number in signalled.of(owner) {

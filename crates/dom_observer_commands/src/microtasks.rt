@@ -1,13 +1,13 @@
 //! The microtasks: how they are queued, and what a notification takes (HTML Standard, queue a microtask; DOM Standard, notify
 //! mutation observers).
-ghost use Rattle.std.specs.Prelude.{◌≡◌, ◌<◌, ◌++◌, All, filter, map, length, IfOk, OnOk, string_bytes};
+ghost use Rattle.std.specs.Prelude.{◌≡◌, ◌++◌, All, filter, map, IfOk, OnOk, string_bytes};
 ghost use Rattle.dom_model.specs.Command.{micro};
 ghost use Rattle.dom_model.specs.Turns.{notified, notified_lines, is_owned_by, without_signals};
 ghost use Rattle.dom_model.specs.World.{part_of, with_part};
 ghost use Rattle.dom_worlds.specs.Worlds.{IsThere};
 ghost use Rattle.dom_text.specs.Text.{output_text};
-ghost use Rattle.dom_tree.specs.Forest.{name_at};
 ghost use Rattle.dom_admission.specs.Handled.{IsHandled, KeepsNames};
+ghost use Rattle.dom_parts.specs.Doc.{HoldsNode, name_in};
 
 use crate::records::put_notices;
 use dom_admission::State;
@@ -29,8 +29,8 @@ pub fn micro(state: &mut State, owner: Owner, label: String, out: &mut Vec<u8>) 
 /// The slots of an owner that are signalled, in their order; then none of that owner is (DOM Standard, notify mutation observers:
 /// signal slots).
 pub fn take_signals(state: &mut State, owner: Owner) -> Result<Vec<Key>, AllocError>
-    ensures keys { IfOk result (λ keys. map (name_at state.old.names) keys.items ≡ filter (is_owned_by owner) state.old.world.signalled) }
-    ensures nodes { IfOk result (λ keys. All (λ k. k < length state.old.names) keys.items) }
+    ensures keys { IfOk result (λ keys. map (name_in state.old) keys.items ≡ filter (is_owned_by owner) state.old.world.signalled) }
+    ensures nodes { IfOk result (λ keys. All (HoldsNode state.old) keys.items) }
     ensures names { OnOk result (state.new.names ≡ state.old.names) }
     ensures world { OnOk result (state.new.world ≡ without_signals state.old.world owner) }
 {

@@ -1,9 +1,9 @@
 //! Records of observers as lines.
-ghost use Rattle.std.specs.Prelude.{◌≡◌, ◌<◌, ◌++◌, ◌∷◌, [], length, OnOk};
+ghost use Rattle.std.specs.Prelude.{◌≡◌, ◌++◌, ◌∷◌, [], OnOk};
 ghost use Rattle.std.specs.List.{AllByRecursion};
 ghost use Rattle.std.specs.Option.{option_map, ForSome};
 ghost use Rattle.dom_text.specs.Text.{output_text};
-ghost use Rattle.dom_tree.specs.Forest.{name_at};
+ghost use Rattle.dom_tree.specs.Forest.{IsNode, name_of};
 ghost use Rattle.dom_observer_commands.specs.Recorded.{record_line, record_lines, notice_lines, IsRecord, IsNotice};
 
 use dom_admission::names_of;
@@ -101,8 +101,8 @@ fn put_change(
 
 /// The name of a node, if there is one.
 fn name_if(forest: &Forest, key: Option<Key>) -> Option<NodeName>
-    requires { ForSome key (λ k. k < length forest.now.names) }
-    ensures { result ≡ option_map (name_at forest.now.names) key }
+    requires { ForSome key (IsNode forest.now) }
+    ensures { result ≡ option_map (name_of forest.now) key }
 {
     match key {
         Some(node) => Some(forest.name(node)),

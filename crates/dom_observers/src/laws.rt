@@ -1,7 +1,7 @@
 //! Laws of the rules over keys, for a caller whose own tables are over names.
-ghost use Rattle.std.specs.Prelude.{◌≡◌, ◌<◌, length, map};
+ghost use Rattle.std.specs.Prelude.{◌≡◌, map};
 ghost use Rattle.dom_model.specs.Tree.{inclusive_ancestors};
-ghost use Rattle.dom_tree.specs.Forest.{name_at};
+ghost use Rattle.dom_tree.specs.Forest.{IsNode, name_of};
 ghost use Rattle.dom_observers.specs.Naming.{MakingLaw, ObservingLaw, DisconnectedLaw, EmptiedLaw, TakenLaw, ToldLaw, LeftLaw, NotifiedLaw};
 ghost use Rattle.dom_observers.specs.Naming.{NoticesLaw, IsKey, AreAll};
 ghost use Rattle.dom_observers.specs.Paths.{path_keys};
@@ -26,8 +26,8 @@ pub fn keys_stand_for_names()
 /// The keys on the path of a node are those of nodes, and their names are its inclusive ancestors (DOM Standard, concept:
 /// inclusive ancestor).
 pub fn path_keys_are_named(forest: &Forest, key: Key)
-    requires { key < length forest.now.names }
-    ensures named { map (name_at forest.now.names) (path_keys forest.now key) ≡ inclusive_ancestors forest.now.trees (name_at forest.now.names key) }
+    requires { IsNode forest.now key }
+    ensures named { map (name_of forest.now) (path_keys forest.now key) ≡ inclusive_ancestors forest.now.trees (name_of forest.now key) }
     ensures nodes { AreAll (IsKey forest.now.names) (path_keys forest.now key) }
 {
     let _key = key;

@@ -1,12 +1,12 @@
 //! The mutation observers of all owners.
-ghost use Rattle.std.specs.Prelude.{◌≡◌, ◌<◌, ◌↔◌, ◌⊎◌, nat_eq, nat_lt, true, false, not, map, length, option_map, slice_get, is_some, IfOk, IfErr};
+ghost use Rattle.std.specs.Prelude.{◌≡◌, ◌↔◌, ◌⊎◌, nat_eq, nat_lt, true, false, not, map, length, option_map, slice_get, is_some, IfOk, IfErr};
 ghost use Rattle.std.specs.Prelude.{OnOk, OnErr, if◌then◌else◌};
 ghost use Rattle.std.specs.Map.{lookup};
 ghost use Rattle.dom_base.specs.declared.Owner.{Owner as Owners};
 ghost use Rattle.dom_model.specs.Names.{owner_eq, is_empty};
 ghost use Rattle.dom_model.specs.CommandRefusals.{past_limit};
 ghost use Rattle.dom_model.specs.Observers.{options_of, asks_for_nothing, target_of};
-ghost use Rattle.dom_tree.specs.Forest.{name_at};
+ghost use Rattle.dom_tree.specs.Forest.{IsNode, name_of};
 ghost use Rattle.dom_observers.specs.Tables.{no_tables, with_observer, observing, disconnected, emptied, is_taken, told, left, notices, notified};
 ghost use Rattle.dom_observers.specs.Views.{words_of, change_of, notice_of};
 ghost use Rattle.dom_observers.specs.Paths.{path_keys};
@@ -152,12 +152,12 @@ impl Observers {
     /// owner without registrations takes no walk, and where nobody is interested one look for each inclusive ancestor serves,
     /// unless registrations have gone since the last change. After a refusal of memory some may have it and others not.
     pub fn queue_record(&mut self, forest: &Forest, change: Change) -> Result<bool, AllocError>
-        requires { target_of (change_of change) < length forest.now.names }
+        requires { target_of IsNode forest.now (change_of change) }
         ensures taken { IfOk result (λ taken. taken ≡ is_taken nat_eq (path_keys forest.now (target_of (change_of change)))
-            (tables_of self.old (name_at forest.now.names (target_of (change_of change))).owner) (change_of change)) }
-        ensures tables { OnOk result (ChangesTables (name_at forest.now.names (target_of (change_of change))).owner
+            (tables_of self.old (name_of forest.now (target_of (change_of change))).owner) (change_of change)) }
+        ensures tables { OnOk result (ChangesTables (name_of forest.now (target_of (change_of change))).owner
             (told nat_eq (path_keys forest.now (target_of (change_of change))) (change_of change)
-            (tables_of self.old (name_at forest.now.names (target_of (change_of change))).owner)) self.old self.new) }
+            (tables_of self.old (name_of forest.now (target_of (change_of change))).owner)) self.old self.new) }
     {
         let target = change.target();
         let owner = forest.name(target).owner;
@@ -171,10 +171,10 @@ impl Observers {
     /// ancestors that observe their subtrees (DOM Standard, remove). The parent is still to stand where it stood, and the
     /// registrations are those of the node's owner. A value to which memory was refused is only dropped.
     pub fn transient(&mut self, forest: &Forest, parent: Key, node: Key) -> Result<(), AllocError>
-        requires parent_is_node { parent < length forest.now.names }
-        requires node_is_node { node < length forest.now.names }
-        ensures { OnOk result (ChangesTables (name_at forest.now.names node).owner
-            (left nat_eq node (path_keys forest.now parent) (tables_of self.old (name_at forest.now.names node).owner)) self.old self.new) }
+        requires parent_is_node { IsNode forest.now parent }
+        requires node_is_node { IsNode forest.now node }
+        ensures { OnOk result (ChangesTables (name_of forest.now node).owner
+            (left nat_eq node (path_keys forest.now parent) (tables_of self.old (name_of forest.now node).owner)) self.old self.new) }
     {
         let owner = forest.name(node).owner;
         let Some(table) = self.tables.get_mut(&owner) else {

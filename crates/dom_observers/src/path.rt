@@ -1,6 +1,7 @@
 //! The inclusive ancestors of a node.
-ghost use Rattle.std.specs.Prelude.{◌≡◌, ◌<◌, length, IfOk};
+ghost use Rattle.std.specs.Prelude.{◌≡◌, IfOk};
 ghost use Rattle.dom_observers.specs.Paths.{path_keys};
+ghost use Rattle.dom_tree.specs.Forest.{IsNode};
 
 use dom_tree::Forest;
 use node_arena::Key;
@@ -12,7 +13,7 @@ pub(crate) fn inclusive_ancestors(
     forest: &Forest,
     key: Key,
 ) -> Result<Vec<Key>, AllocError>
-    requires { key < length forest.now.names }
+    requires { IsNode forest.now key }
     ensures { IfOk result (λ path. path.items ≡ path_keys forest.now key) }
 {
     forest.nodes_stand_once();

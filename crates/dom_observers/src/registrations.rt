@@ -1,5 +1,5 @@
 //! The registrations of an owner's observers.
-ghost use Rattle.std.specs.Prelude.{◌≡◌, ◌<◌, ℕ, false, not, nat_eq, [], ◌++◌, map, filter, length, IfOk, OnOk, OnErr, ◌&&◌, ◌==◌};
+ghost use Rattle.std.specs.Prelude.{◌≡◌, ℕ, false, not, nat_eq, [], ◌++◌, map, filter, IfOk, OnOk, OnErr, ◌&&◌, ◌==◌};
 ghost use Rattle.std.specs.List.{list_any};
 ghost use Rattle.dom_model.specs.Names.{is_empty};
 ghost use Rattle.dom_model.specs.Output.{Change as Changed};
@@ -8,6 +8,7 @@ ghost use Rattle.dom_model.specs.Observers.{transients_for, interested, target_o
 ghost use Rattle.dom_observers.specs.Paths.{path_keys};
 ghost use Rattle.dom_observers.specs.Views.{words_of, registration_of};
 ghost use Rattle.dom_observers.specs.Taking.{copied_on};
+ghost use Rattle.dom_tree.specs.Forest.{IsNode};
 
 use crate::options::Options;
 use crate::registered::{Registered, Source};
@@ -80,7 +81,7 @@ impl Registrations {
     /// Whether somebody may be interested in a change of a node, by one look for each of its inclusive ancestors: where the
     /// answer is no, nobody is (DOM Standard, queue a mutation record: interested observers).
     pub(crate) fn may_concern(&self, forest: &Forest, target: Key) -> bool
-        requires { target < length forest.now.names }
+        requires { IsNode forest.now target }
         ensures { result ≡ false → (c : Changed ℕ) → target_of c ≡ target → interested nat_eq (path_keys forest.now target) self.now c ≡ [] }
     {
         !self.is_empty() && (self.watched.has(target) || self.watched.covers(forest, target))
@@ -89,7 +90,7 @@ impl Registrations {
     /// Whether a node that is removed may get transient ones from its parent's inclusive ancestors, by one look for each of
     /// these: where the answer is no, it gets none (DOM Standard, remove).
     pub(crate) fn may_be_left(&self, forest: &Forest, parent: Key) -> bool
-        requires { parent < length forest.now.names }
+        requires { IsNode forest.now parent }
         ensures { result ≡ false → (node : ℕ) → transients_for nat_eq node (path_keys forest.now parent) self.now ≡ [] }
     {
         !self.is_empty() && self.watched.covers(forest, parent)

@@ -1,5 +1,5 @@
 //! What one owner has of observers.
-ghost use Rattle.std.specs.Prelude.{◌≡◌, ◌<◌, ◌↔◌, ◌⊎◌, nat_eq, nat_lt, true, false, map, fold, length, option_map, slice_get, is_some, IfOk, IfErr};
+ghost use Rattle.std.specs.Prelude.{◌≡◌, ◌↔◌, ◌⊎◌, nat_eq, nat_lt, true, false, map, fold, length, option_map, slice_get, is_some, IfOk, IfErr};
 ghost use Rattle.std.specs.Prelude.{OnOk, OnErr, if◌then◌else◌};
 ghost use Rattle.dom_model.specs.Names.{is_empty};
 ghost use Rattle.dom_model.specs.CommandRefusals.{past_limit};
@@ -10,6 +10,7 @@ ghost use Rattle.dom_observers.specs.Views.{words_of, change_of, notice_of};
 ghost use Rattle.dom_observers.specs.TableView.{table_of};
 ghost use Rattle.dom_observers.specs.Paths.{path_keys};
 ghost use Rattle.dom_observers.specs.InterestedObservers.{record_of};
+ghost use Rattle.dom_tree.specs.Forest.{IsNode};
 
 use crate::change::{Change, Record};
 use crate::interested::InterestedObservers;
@@ -133,7 +134,7 @@ impl Table {
         forest: &Forest,
         change: Change,
     ) -> Result<bool, AllocError>
-        requires { target_of (change_of change) < length forest.now.names }
+        requires { target_of IsNode forest.now (change_of change) }
         ensures taken { IfOk result (λ taken. taken ≡ is_taken nat_eq (path_keys forest.now (target_of (change_of change))) (table_of self.old)
             (change_of change)) }
         ensures tables { OnOk result (table_of self.new ≡ told nat_eq (path_keys forest.now (target_of (change_of change))) (change_of change)
@@ -206,7 +207,7 @@ impl Table {
         parent: Key,
         node: Key,
     ) -> Result<(), AllocError>
-        requires { parent < length forest.now.names }
+        requires { IsNode forest.now parent }
         ensures { OnOk result (table_of self.new ≡ left nat_eq node (path_keys forest.now parent) (table_of self.old)) }
     {
         self.registrations.refresh()?;

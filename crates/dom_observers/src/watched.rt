@@ -1,10 +1,11 @@
 //! The nodes that observers watch.
-ghost use Rattle.std.specs.Prelude.{◌≡◌, ◌<◌, ℕ, [], nat_eq, length, IfOk, OnOk, if◌then◌else◌};
+ghost use Rattle.std.specs.Prelude.{◌≡◌, ℕ, [], nat_eq, IfOk, OnOk, if◌then◌else◌};
 ghost use Rattle.std.specs.List.{list_any};
 ghost use Rattle.dom_model.specs.Names.{is_in, append_once};
 ghost use Rattle.dom_model.specs.Observers.{Registration};
 ghost use Rattle.dom_observers.specs.Paths.{path_keys};
 ghost use Rattle.dom_observers.specs.Watching.{IsNoted, AreNoted};
+ghost use Rattle.dom_tree.specs.Forest.{IsNode};
 
 use crate::registered::Registered;
 use dom_tree::Forest;
@@ -73,7 +74,7 @@ impl Watched {
     /// Whether an inclusive ancestor of a node is among those with registrations that observe what is below. It takes no
     /// memory.
     pub(crate) fn covers(&self, forest: &Forest, key: Key) -> bool
-        requires { key < length forest.now.names }
+        requires { IsNode forest.now key }
         ensures { result ≡ list_any (λ k. is_in nat_eq k self.now.above.keys) (path_keys forest.now key) }
     {
         forest.nodes_stand_once();

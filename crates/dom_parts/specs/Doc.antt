@@ -124,7 +124,11 @@ MakesSaying o c lines v was now = (effect (part_of was o) c ≡ Effect.tables (p
 abbrev pub Makes : Owner → Command → Value → World → World → Type 0
 Makes o c v was now = MakesSaying o c [] v was now
 
--- the name of a key, its owner, and that one's trees
+-- a key of a node
+abbrev pub HoldsNode : DocState → ℕ → Type 0
+HoldsNode d k = k < length d.names
+
+-- the name of a node by its key, its owner, and that one's trees
 abbrev pub name_in : DocState → ℕ → NodeName
 name_in d k = name_at d.names k
 

@@ -2,7 +2,7 @@
 ghost use Rattle.std.specs.Prelude.{◌≡◌, ℕ, ◌<◌, length, None, option_map, IfOk, OnOk};
 ghost use Rattle.std.specs.Option.{ForSome};
 ghost use Rattle.std.specs.List.{AllByRecursion};
-ghost use Rattle.dom_tree.specs.Forest.{name_at};
+ghost use Rattle.dom_tree.specs.Forest.{IsNode, name_of};
 ghost use Rattle.dom_slots.specs.Hosts.{HostsAreNodes};
 ghost use Rattle.dom_slots.specs.Kept.{AreSlotsOf};
 ghost use Rattle.dom_slots.specs.Shadows.{shadows, is_assigned_at};
@@ -39,17 +39,17 @@ pub(crate) fn items_of(
     related: Option<Key>,
     composed: bool,
 ) -> Result<SmallVec<Item, 16>, AllocError>
-    requires target_is_node { target < length forest.now.names }
-    requires related_is_node { ForSome related (λ k. k < length forest.now.names) }
+    requires target_is_node { IsNode forest.now target }
+    requires related_is_node { ForSome related (IsNode forest.now) }
     requires trees { AreTrees forest.now slots.now.hosts trees.old }
     requires free { slots.now.begun ≡ None }
     requires slots { AreSlotsOf forest.now slots.now }
     ensures trees { OnOk result (AreTrees forest.now slots.now.hosts trees.new) }
     ensures path { IfOk result (λ items. (depth : ℕ) → IsHosted forest.now slots.now.hosts depth →
-        IsBuilt forest.now slots.now.hosts (name_at forest.now.names target) (option_map (name_at forest.now.names) related) depth composed
+        IsBuilt forest.now slots.now.hosts (name_of forest.now target) (option_map (name_of forest.now) related) depth composed
         items.items) }
     ensures each { IfOk result (λ items. AllByRecursion
-        (IsItemOf forest.now slots.now.hosts (name_at forest.now.names target) (option_map (name_at forest.now.names) related) trees.new)
+        (IsItemOf forest.now slots.now.hosts (name_of forest.now target) (option_map (name_of forest.now) related) trees.new)
         items.items) }
 {
     forest.nodes_stand_once();
@@ -82,10 +82,10 @@ impl Event {
         requires slots { AreSlotsOf forest.now slots.now }
         ensures trees { OnOk result (AreTrees forest.now slots.now.hosts trees.new) }
         ensures way { IfOk result (λ items. (depth : ℕ) → IsHosted forest.now slots.now.hosts depth →
-            IsWay forest.now slots.now.hosts (name_at forest.now.names self.now.target.node) (related_name forest.now.names self.now.related)
+            IsWay forest.now slots.now.hosts (name_of forest.now self.now.target.node) (related_name forest.now.names self.now.related)
             depth self.now.composed items.items) }
         ensures each { IfOk result (λ items. AllByRecursion
-            (IsItemOf forest.now slots.now.hosts (name_at forest.now.names self.now.target.node) (related_name forest.now.names self.now.related)
+            (IsItemOf forest.now slots.now.hosts (name_of forest.now self.now.target.node) (related_name forest.now.names self.now.related)
             trees.new) items.items) }
     {
         forest.nodes_stand_once();
@@ -132,12 +132,12 @@ impl Event {
         ensures trees { OnOk result (AreTrees forest.now slots.now.hosts trees.new) }
         ensures stands { IfOk result (λ next. ForSome next (λ x. IsPathNode forest.now slots.now.hosts trees.new x)) }
         ensures value { IfOk result (λ next. (depth : ℕ) → IsHosted forest.now slots.now.hosts depth →
-            option_map (λ x. name_at forest.now.names x.node) next ≡ next_at (shadows forest.now slots.now.hosts) depth
-            (name_at forest.now.names self.now.target.node) (related_name forest.now.names self.now.related) self.now.composed
-            (name_at forest.now.names at.now.node)) }
+            option_map (λ x. name_of forest.now x.node) next ≡ next_at (shadows forest.now slots.now.hosts) depth
+            (name_of forest.now self.now.target.node) (related_name forest.now.names self.now.related) self.now.composed
+            (name_of forest.now at.now.node)) }
         ensures entered { IfOk result (λ next. ForSome next
-            (λ x. x.is_entered ≡ is_assigned_at (shadows forest.now slots.now.hosts) (name_at forest.now.names x.node)
-            (name_at forest.now.names at.now.node))) }
+            (λ x. x.is_entered ≡ is_assigned_at (shadows forest.now slots.now.hosts) (name_of forest.now x.node)
+            (name_of forest.now at.now.node))) }
     {
         forest.nodes_stand_once();
         let top = trees.at(self.target.tree).root;

@@ -4,7 +4,7 @@ ghost use Rattle.std.specs.List.{AllByRecursion};
 ghost use Rattle.std.specs.Option.{ForSome};
 ghost use Rattle.dom_model.specs.Paths.{View, views};
 ghost use Rattle.dom_model.specs.World.{World};
-ghost use Rattle.dom_tree.specs.Forest.{name_at};
+ghost use Rattle.dom_tree.specs.Forest.{IsNode, name_of};
 ghost use Rattle.dom_slots.specs.Kept.{AreSlotsOf};
 ghost use Rattle.dom_slots.specs.Shadows.{shadows};
 ghost use Rattle.dom_path.specs.Hosted.{IsHosted};
@@ -56,19 +56,19 @@ impl Path {
         related: Option<Key>,
         composed: bool,
     ) -> Result<Path, AllocError>
-        requires target_is_node { target < length forest.now.names }
-        requires related_is_node { ForSome related (λ k. k < length forest.now.names) }
+        requires target_is_node { IsNode forest.now target }
+        requires related_is_node { ForSome related (IsNode forest.now) }
         requires free { slots.now.begun ≡ None }
         requires slots { AreSlotsOf forest.now slots.now }
         ensures items { IfOk result (λ p. (w : World) → IsWorldOf forest.now slots.now.hosts w →
-            map (item_named forest.now.names) p.items ≡ path_items w (name_at forest.now.names target)
-            (option_map (name_at forest.now.names) related) composed) }
+            map (item_named forest.now.names) p.items ≡ path_items w (name_of forest.now target)
+            (option_map (name_of forest.now) related) composed) }
         ensures views { IfOk result (λ p. (w : World) → IsWorldOf forest.now slots.now.hosts w →
-            map (view_named forest.now.names) p.views ≡ views w (name_at forest.now.names target) (option_map (name_at forest.now.names) related)
+            map (view_named forest.now.names) p.views ≡ views w (name_of forest.now target) (option_map (name_of forest.now) related)
             composed) }
         ensures hosted { IfOk result (λ p. (depth : ℕ) → IsHosted forest.now slots.now.hosts depth →
-            IsPathShown (shadows forest.now slots.now.hosts) depth (name_at forest.now.names target)
-            (option_map (name_at forest.now.names) related) composed (map (item_named forest.now.names) p.items)
+            IsPathShown (shadows forest.now slots.now.hosts) depth (name_of forest.now target)
+            (option_map (name_of forest.now) related) composed (map (item_named forest.now.names) p.items)
             (map (view_named forest.now.names) p.views)) }
         ensures nodes { IfOk result (λ p. AllByRecursion (HasNodes forest.now.names) p.items) }
         ensures shown_nodes { IfOk result (λ p. AllByRecursion (ShowsNodes forest.now.names) p.views) }

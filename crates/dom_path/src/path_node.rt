@@ -2,7 +2,7 @@
 ghost use Rattle.std.specs.Prelude.{◌≡◌, ◌<◌, false, length, None, Some, option_map, IfOk, OnOk};
 ghost use Rattle.std.specs.Option.{ForSome};
 ghost use Rattle.dom_model.specs.Tree.{is_shadow, node_in, parent_of};
-ghost use Rattle.dom_tree.specs.Forest.{name_at};
+ghost use Rattle.dom_tree.specs.Forest.{IsNode, name_of};
 ghost use Rattle.dom_slots.specs.Hosts.{HostsAreNodes};
 ghost use Rattle.dom_slots.specs.Kept.{AreSlotsOf};
 ghost use Rattle.dom_slots.specs.Shadows.{shadows, slot_at, is_assigned_at};
@@ -43,7 +43,7 @@ impl PathNode {
         slots: &Slots,
         node: Key,
     ) -> Result<PathNode, AllocError>
-        requires node_is_node { node < length forest.now.names }
+        requires node_is_node { IsNode forest.now node }
         requires hosts { HostsAreNodes forest.now.names slots.now.hosts }
         requires trees { AreTrees forest.now slots.now.hosts trees.old }
         ensures grown { OnOk result (Grows trees.old trees.new) }
@@ -63,7 +63,7 @@ impl PathNode {
         slots: &Slots,
         node: Option<Key>,
     ) -> Result<Option<PathNode>, AllocError>
-        requires node_is_node { ForSome node (λ k. k < length forest.now.names) }
+        requires node_is_node { ForSome node (IsNode forest.now) }
         requires hosts { HostsAreNodes forest.now.names slots.now.hosts }
         requires trees { AreTrees forest.now slots.now.hosts trees.old }
         ensures grown { OnOk result (Grows trees.old trees.new) }
@@ -79,10 +79,10 @@ impl PathNode {
 
     /// The place of a node in the tree at a place.
     fn in_tree(forest: &Forest, node: Key, tree: usize, is_entered: bool) -> PathNode
-        requires { node < length forest.now.names }
+        requires { IsNode forest.now node }
         ensures node { result.node ≡ node }
         ensures tree { result.tree ≡ tree }
-        ensures shadow { result.is_shadow_root ≡ is_shadow (node_in forest.now.trees (name_at forest.now.names node)).kind }
+        ensures shadow { result.is_shadow_root ≡ is_shadow (node_in forest.now.trees (name_of forest.now node)).kind }
         ensures entered { result.is_entered ≡ is_entered }
     {
         PathNode {
@@ -105,17 +105,17 @@ impl PathNode {
     ) -> Result<Option<PathNode>, AllocError>
         requires trees { AreTrees forest.now slots.now.hosts trees.old }
         requires stands { IsPathNode forest.now slots.now.hosts trees.old self.now }
-        requires top_is_node { top < length forest.now.names }
+        requires top_is_node { IsNode forest.now top }
         requires free { slots.now.begun ≡ None }
         requires slots { AreSlotsOf forest.now slots.now }
         ensures grown { OnOk result (Grows trees.old trees.new) }
         ensures trees { OnOk result (AreTrees forest.now slots.now.hosts trees.new) }
         ensures stands { IfOk result (λ next. ForSome next (λ x. IsPathNode forest.now slots.now.hosts trees.new x)) }
-        ensures value { IfOk result (λ next. option_map (λ x. name_at forest.now.names x.node) next ≡ event_parent_at
-            (shadows forest.now slots.now.hosts) composed (name_at forest.now.names top) (name_at forest.now.names self.now.node)) }
+        ensures value { IfOk result (λ next. option_map (λ x. name_of forest.now x.node) next ≡ event_parent_at
+            (shadows forest.now slots.now.hosts) composed (name_of forest.now top) (name_of forest.now self.now.node)) }
         ensures entered { IfOk result (λ next. ForSome next
-            (λ x. x.is_entered ≡ is_assigned_at (shadows forest.now slots.now.hosts) (name_at forest.now.names x.node)
-            (name_at forest.now.names self.now.node))) }
+            (λ x. x.is_entered ≡ is_assigned_at (shadows forest.now slots.now.hosts) (name_of forest.now x.node)
+            (name_of forest.now self.now.node))) }
     {
         forest.nodes_stand_once();
         if self.is_shadow_root {
@@ -133,8 +133,8 @@ impl PathNode {
         requires stands { IsPathNode forest.now slots.now.hosts trees.now self.now }
         requires slots { AreSlotsOf forest.now slots.now }
         ensures stands { ForSome result (λ x. IsPathNode forest.now slots.now.hosts trees.now x) }
-        ensures value { option_map (λ x. name_at forest.now.names x.node) result ≡ (shadows forest.now slots.now.hosts).host_of
-            (name_at forest.now.names self.now.node) }
+        ensures value { option_map (λ x. name_of forest.now x.node) result ≡ (shadows forest.now slots.now.hosts).host_of
+            (name_of forest.now self.now.node) }
         ensures entered { ForSome result (λ x. x.is_entered ≡ false) }
     {
         forest.nodes_stand_once();
@@ -158,12 +158,12 @@ impl PathNode {
         ensures grown { OnOk result (Grows trees.old trees.new) }
         ensures trees { OnOk result (AreTrees forest.now slots.now.hosts trees.new) }
         ensures stands { IfOk result (λ next. ForSome next (λ x. IsPathNode forest.now slots.now.hosts trees.new x)) }
-        ensures value { IfOk result (λ next. option_map (λ x. name_at forest.now.names x.node) next ≡ option_or
-            (slot_at (shadows forest.now slots.now.hosts) (name_at forest.now.names self.now.node))
-            (parent_of forest.now.trees (name_at forest.now.names self.now.node))) }
+        ensures value { IfOk result (λ next. option_map (λ x. name_of forest.now x.node) next ≡ option_or
+            (slot_at (shadows forest.now slots.now.hosts) (name_of forest.now self.now.node))
+            (parent_of forest.now.trees (name_of forest.now self.now.node))) }
         ensures entered { IfOk result (λ next. ForSome next
-            (λ x. x.is_entered ≡ is_assigned_at (shadows forest.now slots.now.hosts) (name_at forest.now.names x.node)
-            (name_at forest.now.names self.now.node))) }
+            (λ x. x.is_entered ≡ is_assigned_at (shadows forest.now slots.now.hosts) (name_of forest.now x.node)
+            (name_of forest.now self.now.node))) }
     {
         forest.nodes_stand_once();
         let Some(parent) = forest.parent(self.node) else {
@@ -178,13 +178,13 @@ impl PathNode {
 
     /// The slot of a node below its parent's shadow root, if there is one.
     fn slot_below(&self, forest: &Forest, slots: &Slots, parent: Key) -> Option<SlotBelow>
-        requires node { self.now.node < length forest.now.names }
-        requires parent_is_node { parent < length forest.now.names }
-        requires parent { Some (name_at forest.now.names parent) ≡ parent_of forest.now.trees (name_at forest.now.names self.now.node) }
+        requires node { IsNode forest.now self.now.node }
+        requires parent_is_node { IsNode forest.now parent }
+        requires parent { Some (name_of forest.now parent) ≡ parent_of forest.now.trees (name_of forest.now self.now.node) }
         requires free { slots.now.begun ≡ None }
         requires slots { AreSlotsOf forest.now slots.now }
-        ensures value { option_map (λ x. name_at forest.now.names x.slot) result ≡ slot_at (shadows forest.now slots.now.hosts)
-            (name_at forest.now.names self.now.node) }
+        ensures value { option_map (λ x. name_of forest.now x.slot) result ≡ slot_at (shadows forest.now slots.now.hosts)
+            (name_of forest.now self.now.node) }
         ensures below { ForSome result (λ x. IsSlotBelow forest.now slots.now.hosts parent x) }
     {
         forest.nodes_stand_once();

@@ -2,7 +2,7 @@
 ghost use Rattle.std.specs.Prelude.{◌≡◌, ◌<◌, ◌++◌, ◌∷◌, [], List, length, nat_eq, option_map, slice_get, None, Some, IfOk, OnOk};
 ghost use Rattle.std.specs.Option.{ForSome};
 ghost use Rattle.dom_model.specs.Names.{is_in};
-ghost use Rattle.dom_tree.specs.Forest.{name_at};
+ghost use Rattle.dom_tree.specs.Forest.{IsNode, name_of};
 ghost use Rattle.dom_slots.specs.Hosts.{HostsAreNodes};
 ghost use Rattle.dom_path.specs.Nests.{IsNested, AreNested, Grows, roots_around, hiding_host, seen_from};
 ghost use Rattle.dom_path.specs.PathNodes.{AreTrees, IsTreeOf};
@@ -88,13 +88,13 @@ impl Trees {
         slots: &Slots,
         node: Key,
     ) -> Result<usize, AllocError>
-        requires node_is_node { node < length forest.now.names }
+        requires node_is_node { IsNode forest.now node }
         requires hosts { HostsAreNodes forest.now.names slots.now.hosts }
         requires trees { AreTrees forest.now slots.now.hosts self.old }
         ensures grown { OnOk result (Grows self.old self.new) }
         ensures trees { OnOk result (AreTrees forest.now slots.now.hosts self.new) }
         ensures within { IfOk result (λ place. place < length self.new) }
-        ensures place { IfOk result (λ place. IsTreeOf forest.now self.new place (name_at forest.now.names node)) }
+        ensures place { IfOk result (λ place. IsTreeOf forest.now self.new place (name_of forest.now node)) }
     {
         forest.nodes_stand_once();
         let mut around = trees_around(self.alloc, forest, slots, node)?;
@@ -165,9 +165,9 @@ fn trees_around(
     slots: &Slots,
     node: Key,
 ) -> Result<SmallVec<Tree, 4>, AllocError>
-    requires node_is_node { node < length forest.now.names }
+    requires node_is_node { IsNode forest.now node }
     requires hosts { HostsAreNodes forest.now.names slots.now.hosts }
-    ensures { IfOk result (λ trees. GoesOut forest.now slots.now.hosts (Some (name_at forest.now.names node)) trees.items None) }
+    ensures { IfOk result (λ trees. GoesOut forest.now slots.now.hosts (Some (name_of forest.now node)) trees.items None) }
 {
     forest.nodes_stand_once();
     let mut trees = SmallVec::new(alloc);

@@ -1,5 +1,5 @@
 //! The commands that ask where nodes stand.
-ghost use Rattle.std.specs.Prelude.{◌≡◌, ◌<◌, ◌++◌, ◌∷◌, [], true, length, OnOk, IfOk};
+ghost use Rattle.std.specs.Prelude.{◌≡◌, ◌++◌, ◌∷◌, [], true, OnOk, IfOk};
 ghost use Rattle.std.specs.Option.{option_map, ForSome};
 ghost use Rattle.dom_model.specs.Tree.{has_node, subtree, parent_of, children_of, is_inclusive_ancestor};
 ghost use Rattle.dom_model.specs.Command.{tree, parent, document_of, children, contains, connected};
@@ -10,8 +10,9 @@ ghost use Rattle.dom_model.specs.World.{part_of};
 ghost use Rattle.dom_text.specs.Text.{output_text};
 ghost use Rattle.dom_printer.specs.Replies.{value_view};
 ghost use Rattle.dom_reader.specs.Views.{word_view};
-ghost use Rattle.dom_tree.specs.Forest.{name_at};
+ghost use Rattle.dom_tree.specs.Forest.{IsNode, name_of};
 ghost use Rattle.dom_admission.specs.Handled.{KeepsNames, IsHandled};
+ghost use Rattle.dom_parts.specs.Doc.{HoldsNode, name_in};
 
 use crate::tree_text::tree_steps;
 use dom_admission::{Operand, State};
@@ -129,8 +130,8 @@ fn reply_tree(
 
 /// A node or `null`, for a reply.
 pub(crate) fn node_or_null(state: &State, node: Option<Key>) -> Value<'static>
-    requires { ForSome node (λ k. k < length state.now.names) }
-    ensures { value_view result ≡ node_or_null (option_map (name_at state.now.names) node) }
+    requires { ForSome node (HoldsNode state.now) }
+    ensures { value_view result ≡ node_or_null (option_map (name_in state.now) node) }
 {
     match node {
         Some(key) => Value::Node(state.doc.forest().name(key)),
@@ -141,9 +142,9 @@ pub(crate) fn node_or_null(state: &State, node: Option<Key>) -> Value<'static>
 /// The parent of a node that is there.
 fn parent_of(state: &State, owner: Owner, node: NodeWord) -> Option<Key>
     requires { has_node (part_of state.now.world owner).trees (named (part_of state.now.world owner) (word_view node)) ≡ true }
-    ensures value { option_map (name_at state.now.names) result ≡ parent_of (part_of state.now.world owner).trees
+    ensures value { option_map (name_in state.now) result ≡ parent_of (part_of state.now.world owner).trees
         (named (part_of state.now.world owner) (word_view node)) }
-    ensures node { ForSome result (λ k. k < length state.now.names) }
+    ensures node { ForSome result (HoldsNode state.now) }
 {
     let key = state.key(owner, node);
     state.doc.forest().parent(key)
@@ -172,8 +173,8 @@ fn is_above(state: &State, owner: Owner, above: NodeWord, node: NodeWord) -> boo
 
 /// The names of the children of a node, along the links from sibling to sibling.
 fn child_names(alloc: Global, forest: &Forest, node: Key) -> Result<Vec<NodeName>, AllocError>
-    requires { node < length forest.now.names }
-    ensures { IfOk result (λ names. names.items ≡ children_of forest.now.trees (name_at forest.now.names node)) }
+    requires { IsNode forest.now node }
+    ensures { IfOk result (λ names. names.items ≡ children_of forest.now.trees (name_of forest.now node)) }
 {
     forest.nodes_stand_once();
     let mut names = Vec::new(alloc);

@@ -1,8 +1,8 @@
 //! The openings and closings of a node's tree, for the reply of `tree`.
-ghost use Rattle.std.specs.Prelude.{◌≡◌, ◌<◌, length, IfOk};
+ghost use Rattle.std.specs.Prelude.{◌≡◌, IfOk};
 ghost use Rattle.std.specs.Option.{option_map, ForSome};
 ghost use Rattle.dom_model.specs.Tree.{subtree, node_in};
-ghost use Rattle.dom_tree.specs.Forest.{name_at};
+ghost use Rattle.dom_tree.specs.Forest.{IsNode, name_of};
 ghost use Rattle.dom_printer.specs.Steps.{attributes_view, opening_view, step_view, steps_view, shown, shown_steps};
 ghost use Rattle.dom_query_commands.specs.TreeText.{place_view, key_of, place_after, step_at};
 
@@ -28,8 +28,8 @@ pub(crate) fn tree_steps<'a>(
     forest: &'a Forest,
     top: Key,
 ) -> Result<Vec<TreeStep<'a>>, AllocError>
-    requires { top < length forest.now.names }
-    ensures { IfOk result (λ steps. steps_view steps.items ≡ shown_steps (subtree forest.now.trees (name_at forest.now.names top))) }
+    requires { IsNode forest.now top }
+    ensures { IfOk result (λ steps. steps_view steps.items ≡ shown_steps (subtree forest.now.trees (name_of forest.now top))) }
 {
     forest.nodes_stand_once();
     let mut steps = Vec::new(alloc);
@@ -44,11 +44,11 @@ pub(crate) fn tree_steps<'a>(
 /// The place after this one, up to where the node given closes: behind an opening the first child opens, or else the node
 /// closes; behind a closing the next sibling opens, or else the parent closes.
 fn after(forest: &Forest, place: Place, top: Key) -> Option<Place>
-    requires place_is_node { key_of place < length forest.now.names }
-    requires top_is_node { top < length forest.now.names }
-    ensures value { option_map (place_view forest.now.names) result ≡ place_after forest.now.trees (name_at forest.now.names top)
+    requires place_is_node { key_of IsNode forest.now place }
+    requires top_is_node { IsNode forest.now top }
+    ensures value { option_map (place_view forest.now.names) result ≡ place_after forest.now.trees (name_of forest.now top)
         (place_view forest.now.names place) }
-    ensures node { ForSome result (λ at. key_of at < length forest.now.names) }
+    ensures node { ForSome result (λ at. key_of IsNode forest.now at) }
 {
     forest.nodes_stand_once();
     match place {
@@ -70,7 +70,7 @@ fn after(forest: &Forest, place: Place, top: Key) -> Option<Place>
 
 /// The step at a place.
 fn step<'a>(alloc: Global, forest: &'a Forest, place: Place) -> Result<TreeStep<'a>, AllocError>
-    requires { key_of place < length forest.now.names }
+    requires { key_of IsNode forest.now place }
     ensures { IfOk result (λ step. step_view step ≡ step_at forest.now.trees (place_view forest.now.names place)) }
 {
     match place {
@@ -81,8 +81,8 @@ fn step<'a>(alloc: Global, forest: &'a Forest, place: Place) -> Result<TreeStep<
 
 /// A node where its tree begins: an element with its local name and its attributes, a Text or a Comment with its data.
 fn opening<'a>(alloc: Global, forest: &'a Forest, key: Key) -> Result<Opening<'a>, AllocError>
-    requires { key < length forest.now.names }
-    ensures { IfOk result (λ opening. opening_view opening ≡ shown (node_in forest.now.trees (name_at forest.now.names key))) }
+    requires { IsNode forest.now key }
+    ensures { IfOk result (λ opening. opening_view opening ≡ shown (node_in forest.now.trees (name_of forest.now key))) }
 {
     let kind = forest.kind(key);
     let words = match kind {
@@ -106,8 +106,8 @@ fn attributes<'a>(
     forest: &'a Forest,
     key: Key,
 ) -> Result<Vec<Attribute<'a>>, AllocError>
-    requires { key < length forest.now.names }
-    ensures { IfOk result (λ attributes. attributes_view attributes.items ≡ (node_in forest.now.trees (name_at forest.now.names key)).attributes) }
+    requires { IsNode forest.now key }
+    ensures { IfOk result (λ attributes. attributes_view attributes.items ≡ (node_in forest.now.trees (name_of forest.now key)).attributes) }
 {
     let mut attributes = Vec::new(alloc);
     while let Some((name, value)) = forest.attr_at(key, attributes.len()) {

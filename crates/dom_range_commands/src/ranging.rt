@@ -1,15 +1,15 @@
 //! The commands on live ranges.
-ghost use Rattle.std.specs.Prelude.{◌≡◌, ◌<◌, length, true};
+ghost use Rattle.std.specs.Prelude.{◌≡◌, true};
 ghost use Rattle.dom_model.specs.Command.{range_new, range_start, range_end, range_collapse, range_drop, range_get, range_text};
 ghost use Rattle.dom_model.specs.Command.{extract as extract_command, delete as delete_command, insert_node as insert_node_command};
 ghost use Rattle.dom_model.specs.Ranges.{at};
 ghost use Rattle.dom_worlds.specs.Bounds.{IsBounded};
-ghost use Rattle.dom_tree.specs.Forest.{name_at};
 ghost use Rattle.dom_printer.specs.Replies.{boundary_view};
 ghost use Rattle.dom_reader.specs.Views.{command_view, word_view};
 ghost use Rattle.dom_range_commands.specs.RangeWorlds.{HasFirstNodes, HasLoneShadowRoots, HasRangeEnds};
 ghost use Rattle.dom_admission.specs.Handled.{KeepsNames, IsHandled};
 ghost use Rattle.dom_range_commands.specs.RangeCommands.{is_range};
+ghost use Rattle.dom_parts.specs.Doc.{HoldsNode, name_in};
 
 use dom_admission::{Operand, State};
 use dom_base::{Fault, Owner};
@@ -223,8 +223,8 @@ fn insert_node(
 
 /// A boundary point with the name of its node.
 fn boundary(state: &State, node: Key, offset: usize) -> Boundary
-    requires { node < length state.now.names }
-    ensures { boundary_view result ≡ at (name_at state.now.names node) offset }
+    requires { HoldsNode state.now node }
+    ensures { boundary_view result ≡ at (name_in state.now node) offset }
 {
     Boundary {
         node: state.doc.forest().name(node),

@@ -1,12 +1,12 @@
 //! What a clone of a node holds (DOM Standard, concept: clone a single node).
-ghost use Rattle.std.specs.Prelude.{◌≡◌, ◌<◌, length, map, IfOk};
+ghost use Rattle.std.specs.Prelude.{◌≡◌, map, IfOk};
 ghost use Rattle.std.specs.String.{string_bytes};
 ghost use Rattle.std.specs.Option.{ForSome};
 ghost use Rattle.dom_base.specs.declared.NodeName.{NodeName as Name};
 ghost use Rattle.dom_model.specs.Extract.{clone_part};
 ghost use Rattle.dom_model.specs.Tree.{kind_of, node_in};
 ghost use Rattle.dom_model.specs.TreeChanges.{with_name};
-ghost use Rattle.dom_tree.specs.Forest.{name_at, attribute_from, node_from};
+ghost use Rattle.dom_tree.specs.Forest.{attribute_from, node_from, IsNode, name_of};
 
 use crate::text::units_between;
 use dom_base::DomStr;
@@ -18,11 +18,11 @@ use std::alloc::{AllocError, Global};
 /// What a clone of a node holds, without children: all that the node holds (DOM Standard, concept: clone a single node).
 /// It is refused where memory is refused.
 pub(crate) fn clone_node(alloc: Global, forest: &Forest, key: Key) -> Result<NodeData, AllocError>
-    requires { key < length forest.now.names }
+    requires { IsNode forest.now key }
     ensures value { IfOk result (λ copy. (x : Name) →
-        node_from forest.now.names x copy ≡ with_name x (node_in forest.now.trees (name_at forest.now.names key))) }
-    ensures kind { IfOk result (λ copy. copy.kind ≡ kind_of forest.now.trees (name_at forest.now.names key)) }
-    ensures document { IfOk result (λ copy. ForSome copy.document (λ d. d < length forest.now.names)) }
+        node_from forest.now.names x copy ≡ with_name x (node_in forest.now.trees (name_of forest.now key))) }
+    ensures kind { IfOk result (λ copy. copy.kind ≡ kind_of forest.now.trees (name_of forest.now key)) }
+    ensures document { IfOk result (λ copy. ForSome copy.document (IsNode forest.now)) }
 {
     let text = Vec::from_slice(alloc, forest.text(key))?;
     data_with(alloc, forest, key, text)
@@ -36,11 +36,11 @@ pub(crate) fn clone_units(
     from: usize,
     to: usize,
 ) -> Result<NodeData, AllocError>
-    requires { key < length forest.now.names }
+    requires { IsNode forest.now key }
     ensures value { IfOk result (λ copy. (x : Name) →
-        node_from forest.now.names x copy ≡ clone_part x from to (node_in forest.now.trees (name_at forest.now.names key))) }
-    ensures kind { IfOk result (λ copy. copy.kind ≡ kind_of forest.now.trees (name_at forest.now.names key)) }
-    ensures document { IfOk result (λ copy. ForSome copy.document (λ d. d < length forest.now.names)) }
+        node_from forest.now.names x copy ≡ clone_part x from to (node_in forest.now.trees (name_of forest.now key))) }
+    ensures kind { IfOk result (λ copy. copy.kind ≡ kind_of forest.now.trees (name_of forest.now key)) }
+    ensures document { IfOk result (λ copy. ForSome copy.document (IsNode forest.now)) }
 {
     let text = Vec::from_slice(alloc, units_between(forest.text(key), from, to))?;
     data_with(alloc, forest, key, text)
@@ -48,11 +48,11 @@ pub(crate) fn clone_units(
 
 /// What a node holds, but for its code units, with these.
 fn data_with(alloc: Global, forest: &Forest, key: Key, text: DomStr) -> Result<NodeData, AllocError>
-    requires { key < length forest.now.names }
+    requires { IsNode forest.now key }
     ensures value { IfOk result (λ copy. (x : Name) →
-        node_from forest.now.names x copy ≡ record (node_in forest.now.trees (name_at forest.now.names key)) { name = x; text = text.items }) }
-    ensures kind { IfOk result (λ copy. copy.kind ≡ kind_of forest.now.trees (name_at forest.now.names key)) }
-    ensures document { IfOk result (λ copy. ForSome copy.document (λ d. d < length forest.now.names)) }
+        node_from forest.now.names x copy ≡ record (node_in forest.now.trees (name_of forest.now key)) { name = x; text = text.items }) }
+    ensures kind { IfOk result (λ copy. copy.kind ≡ kind_of forest.now.trees (name_of forest.now key)) }
+    ensures document { IfOk result (λ copy. ForSome copy.document (IsNode forest.now)) }
 {
     Ok(NodeData {
         kind: forest.kind(key),
@@ -69,9 +69,9 @@ fn attributes(
     forest: &Forest,
     key: Key,
 ) -> Result<IndexMap<String, DomStr>, AllocError>
-    requires { key < length forest.now.names }
+    requires { IsNode forest.now key }
     ensures { IfOk result (λ copied. map (λ e. attribute_from (string_bytes e.0) e.1.items)
-        copied.entries ≡ (node_in forest.now.trees (name_at forest.now.names key)).attributes) }
+        copied.entries ≡ (node_in forest.now.trees (name_of forest.now key)).attributes) }
 {
     forest.attributes_have_own_names(key);
     let mut copied = IndexMap::new(alloc);

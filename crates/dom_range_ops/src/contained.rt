@@ -1,12 +1,12 @@
 //! The outermost nodes that a range contains (DOM Standard, concept: contained).
-ghost use Rattle.std.specs.Prelude.{◌≡◌, ◌<◌, length, map, filter, not, false, IfOk};
+ghost use Rattle.std.specs.Prelude.{◌≡◌, map, filter, not, false, IfOk};
 ghost use Rattle.std.specs.List.{AllByRecursion};
 ghost use Rattle.dom_model.specs.Place.{is_before};
 ghost use Rattle.dom_model.specs.RangeOps.{outermost_contained};
 ghost use Rattle.dom_model.specs.Tree.{inclusive_ancestors, is_inclusive_ancestor};
 ghost use Rattle.dom_range_ops.specs.Deletions.{AreLeaves};
 ghost use Rattle.dom_range_ops.specs.Texts.{range_at_points, AreBounded};
-ghost use Rattle.dom_tree.specs.Forest.{name_at};
+ghost use Rattle.dom_tree.specs.Forest.{IsNode, name_of};
 
 use crate::ends::outermost_apart;
 use crate::points::{beyond, is_node, node_after};
@@ -24,9 +24,9 @@ pub(crate) fn outermost_contained(
 ) -> Result<Vec<Key>, AllocError>
     requires bounded { AreBounded forest.now points.now }
     requires leaves { AreLeaves forest.now points.now }
-    ensures value { IfOk result (λ keys. map (name_at forest.now.names) keys.items ≡ outermost_contained forest.now.trees
+    ensures value { IfOk result (λ keys. map (name_of forest.now) keys.items ≡ outermost_contained forest.now.trees
         (range_at_points forest.now.names points.now)) }
-    ensures nodes { IfOk result (λ keys. AllByRecursion (λ k. k < length forest.now.names) keys.items) }
+    ensures nodes { IfOk result (λ keys. AllByRecursion (IsNode forest.now) keys.items) }
 {
     forest.nodes_stand_once();
     if is_before(forest, points.end, points.start) {
@@ -38,12 +38,12 @@ pub(crate) fn outermost_contained(
 
 /// The inclusive ancestors of a node that are none of another one, from the node up.
 fn path_below(alloc: Global, forest: &Forest, last: Key, first: Key) -> Result<Vec<Key>, AllocError>
-    requires last_is_node { last < length forest.now.names }
-    requires first_is_node { first < length forest.now.names }
-    ensures value { IfOk result (λ keys. map (name_at forest.now.names) keys.items ≡ filter
-        (λ a. not (is_inclusive_ancestor forest.now.trees a (name_at forest.now.names first)))
-        (inclusive_ancestors forest.now.trees (name_at forest.now.names last))) }
-    ensures nodes { IfOk result (λ keys. AllByRecursion (λ k. k < length forest.now.names) keys.items) }
+    requires last_is_node { IsNode forest.now last }
+    requires first_is_node { IsNode forest.now first }
+    ensures value { IfOk result (λ keys. map (name_of forest.now) keys.items ≡ filter
+        (λ a. not (is_inclusive_ancestor forest.now.trees a (name_of forest.now first)))
+        (inclusive_ancestors forest.now.trees (name_of forest.now last))) }
+    ensures nodes { IfOk result (λ keys. AllByRecursion (IsNode forest.now) keys.items) }
 {
     forest.nodes_stand_once();
     if forest.is_inclusive_ancestor(last, first) {
@@ -76,13 +76,13 @@ fn outermost_between(
     requires leaves { AreLeaves forest.now points.now }
     requires ordered { is_before forest.now.trees (range_at_points forest.now.names points.now).end
         (range_at_points forest.now.names points.now).start ≡ false }
-    requires path { map (name_at forest.now.names) path.items ≡ filter
-        (λ a. not (is_inclusive_ancestor forest.now.trees a (name_at forest.now.names points.now.start.0)))
-        (inclusive_ancestors forest.now.trees (name_at forest.now.names points.now.end.0)) }
-    requires path_nodes { AllByRecursion (λ k. k < length forest.now.names) path.items }
-    ensures value { IfOk result (λ keys. map (name_at forest.now.names) keys.items ≡ outermost_contained forest.now.trees
+    requires path { map (name_of forest.now) path.items ≡ filter
+        (λ a. not (is_inclusive_ancestor forest.now.trees a (name_of forest.now points.now.start.0)))
+        (inclusive_ancestors forest.now.trees (name_of forest.now points.now.end.0)) }
+    requires path_nodes { AllByRecursion (IsNode forest.now) path.items }
+    ensures value { IfOk result (λ keys. map (name_of forest.now) keys.items ≡ outermost_contained forest.now.trees
         (range_at_points forest.now.names points.now)) }
-    ensures nodes { IfOk result (λ keys. AllByRecursion (λ k. k < length forest.now.names) keys.items) }
+    ensures nodes { IfOk result (λ keys. AllByRecursion (IsNode forest.now) keys.items) }
 {
     forest.nodes_stand_once();
     let mut path = path;

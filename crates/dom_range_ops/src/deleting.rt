@@ -1,5 +1,5 @@
 //! Deleting the contents of a live range (DOM Standard, 5.5 Interface Range).
-ghost use Rattle.std.specs.Prelude.{◌≡◌, ◌<◌, length, map, true, is_some, IfOk, IfErr, OnOk};
+ghost use Rattle.std.specs.Prelude.{◌≡◌, map, true, is_some, IfOk, IfErr, OnOk};
 ghost use Rattle.std.specs.List.{AllByRecursion};
 ghost use Rattle.std.specs.Option.{ForSome};
 ghost use Rattle.dom_base.specs.declared.Fault.TheVariants.{Memory};
@@ -16,7 +16,8 @@ ghost use Rattle.dom_mutation.specs.Doc.{made, planned, name_in, owner_in, trees
 ghost use Rattle.dom_mutation.specs.Ready.{IsReady};
 ghost use Rattle.dom_range_ops.specs.Deletions.{IsRangeIn, cutting};
 ghost use Rattle.dom_range_ops.specs.Texts.{range_at_points, AreEnds};
-ghost use Rattle.dom_tree.specs.Forest.{name_at};
+ghost use Rattle.dom_tree.specs.Forest.{IsNode, name_of};
+ghost use Rattle.dom_parts.specs.Doc.{HoldsNode};
 
 use crate::contained::outermost_contained;
 use crate::ends::{has_data, is_collapsed, is_in_one_data, new_place};
@@ -89,7 +90,7 @@ fn delete_contents(alloc: Global, doc: &mut Doc, points: &Points) -> Result<(), 
 pub(crate) fn place_after(doc: &Doc, points: &Points) -> (Key, usize)
     requires { IsRangeIn doc.now points.now }
     ensures value { at (name_in doc.now result.0) result.1 ≡ new_place (trees_in doc.now points.now.start.0) (range_at_points doc.now.names points.now) }
-    ensures node { result.0 < length doc.now.names }
+    ensures node { HoldsNode doc.now result.0 }
     ensures owner { owner_in doc.now result.0 ≡ owner_in doc.now points.now.start.0 }
 {
     let forest = doc.forest();
@@ -113,7 +114,7 @@ fn contained_in(alloc: Global, doc: &Doc, points: &Points) -> Result<Vec<Key>, A
     ensures value { IfOk result (λ keys. map (name_in doc.now) keys.items ≡ outermost_contained (trees_in doc.now points.now.start.0)
         (range_at_points doc.now.names points.now)) }
     ensures nodes { IfOk result (λ keys. AllByRecursion
-        (λ k. (k < length doc.now.names) × (owner_in doc.now k ≡ owner_in doc.now points.now.start.0)) keys.items) }
+        (λ k. (HoldsNode doc.now k) × (owner_in doc.now k ≡ owner_in doc.now points.now.start.0)) keys.items) }
 {
     let forest = doc.forest();
     forest.nodes_stand_once();
@@ -123,7 +124,7 @@ fn contained_in(alloc: Global, doc: &Doc, points: &Points) -> Result<Vec<Key>, A
 /// The part of a node in a range, by an offset and a count of code units, if the node is a Text or a Comment.
 fn part_at(doc: &Doc, points: &Points, key: Key) -> Option<(usize, usize)>
     requires range { IsRangeIn doc.now points.now }
-    requires node { key < length doc.now.names }
+    requires node { HoldsNode doc.now key }
     requires owner { owner_in doc.now key ≡ owner_in doc.now points.now.start.0 }
     ensures { cutting (name_in doc.now key) result ≡ cutting_data (trees_in doc.now points.now.start.0) (range_at_points doc.now.names points.now)
         (name_in doc.now key) }
@@ -135,10 +136,10 @@ fn part_at(doc: &Doc, points: &Points, key: Key) -> Option<(usize, usize)>
 
 /// The part of a node's data that lies between two points, read in a forest.
 fn part_in(forest: &Forest, points: &Points, key: Key) -> Option<(usize, usize)>
-    requires node { key < length forest.now.names }
+    requires node { IsNode forest.now key }
     requires ends { AreEnds forest.now points.now }
-    ensures { cutting (name_at forest.now.names key) result ≡ cutting_data forest.now.trees (range_at_points forest.now.names points.now)
-        (name_at forest.now.names key) }
+    ensures { cutting (name_of forest.now key) result ≡ cutting_data forest.now.trees (range_at_points forest.now.names points.now)
+        (name_of forest.now key) }
 {
     forest.nodes_stand_once();
     if !has_data(forest, key) {
@@ -153,7 +154,7 @@ fn part_in(forest: &Forest, points: &Points, key: Key) -> Option<(usize, usize)>
 
 /// A part of a node's data goes, if there is one.
 fn cut(doc: &mut Doc, key: Key, part: Option<(usize, usize)>) -> Result<(), AllocError>
-    requires { key < length doc.old.names }
+    requires { HoldsNode doc.old key }
     ensures { OnOk result (doc.new ≡ planned (owner_in doc.old key) (cutting (name_in doc.old key) part) doc.old) }
 {
     let Some((from, count)) = part else {
@@ -164,8 +165,8 @@ fn cut(doc: &mut Doc, key: Key, part: Option<(usize, usize)>) -> Result<(), Allo
 
 /// Some nodes of the owner of `first` leave their parents, one after another.
 fn remove_each(doc: &mut Doc, first: Key, keys: &[Key]) -> Result<(), AllocError>
-    requires first_is_node { first < length doc.old.names }
-    requires nodes { AllByRecursion (λ k. (k < length doc.old.names) × (owner_in doc.old k ≡ owner_in doc.old first)) keys.now }
+    requires first_is_node { HoldsNode doc.old first }
+    requires nodes { AllByRecursion (λ k. (HoldsNode doc.old k) × (owner_in doc.old k ≡ owner_in doc.old first)) keys.now }
     ensures { OnOk result (doc.new ≡ planned (owner_in doc.old first) (in_turn (removing observed) (map (name_in doc.old) keys.now)) doc.old) }
 {
     doc.laws();

@@ -1,5 +1,5 @@
 //! How the two ends of a live range stand to one another (DOM Standard, 5.5 Interface Range).
-ghost use Rattle.std.specs.Prelude.{◌≡◌, ◌<◌, ◌≤◌, ◌+◌, ◌⊎◌, length, true, false, not, filter, Some, List, [], ◌∷◌};
+ghost use Rattle.std.specs.Prelude.{◌≡◌, ◌≤◌, ◌+◌, ◌⊎◌, true, false, not, filter, Some, List, [], ◌∷◌};
 ghost use Rattle.dom_base.specs.declared.NodeName.{NodeName as Name};
 ghost use Rattle.dom_model.specs.Extract.{is_in_one_data, behind_node, new_place};
 ghost use Rattle.dom_model.specs.Names.{name_eq};
@@ -7,7 +7,7 @@ ghost use Rattle.dom_model.specs.Ranges.{at, is_collapsed};
 ghost use Rattle.dom_model.specs.Tree.{kind_of, has_data, parent_of, inclusive_ancestors, is_inclusive_ancestor};
 ghost use Rattle.dom_range_ops.specs.Deletions.{AreLeaves, height_at};
 ghost use Rattle.dom_range_ops.specs.Texts.{range_at_points, AreEnds};
-ghost use Rattle.dom_tree.specs.Forest.{name_at};
+ghost use Rattle.dom_tree.specs.Forest.{name_at, IsNode, name_of};
 
 use dom_base::Kind;
 use dom_ranges::Points;
@@ -38,8 +38,8 @@ pub(crate) fn is_in_one_data(forest: &Forest, points: &Points) -> bool
 
 /// Whether a node is a Text or a Comment.
 pub(crate) fn has_data(forest: &Forest, key: Key) -> bool
-    requires { key < length forest.now.names }
-    ensures { result ≡ has_data (kind_of forest.now.trees (name_at forest.now.names key)) }
+    requires { IsNode forest.now key }
+    ensures { result ≡ has_data (kind_of forest.now.trees (name_of forest.now key)) }
 {
     matches!(forest.kind(key), Kind::Text | Kind::Comment)
 }
@@ -50,8 +50,8 @@ pub(crate) fn has_data(forest: &Forest, key: Key) -> bool
 pub(crate) fn new_place(forest: &Forest, points: &Points) -> (Key, usize)
     requires ends { AreEnds forest.now points.now }
     requires leaves { AreLeaves forest.now points.now }
-    ensures value { at (name_at forest.now.names result.0) result.1 ≡ new_place forest.now.trees (range_at_points forest.now.names points.now) }
-    ensures node { result.0 < length forest.now.names }
+    ensures value { at (name_of forest.now result.0) result.1 ≡ new_place forest.now.trees (range_at_points forest.now.names points.now) }
+    ensures node { IsNode forest.now result.0 }
 {
     forest.nodes_stand_once();
     let first = points.start.0;
@@ -65,13 +65,13 @@ pub(crate) fn new_place(forest: &Forest, points: &Points) -> (Key, usize)
 /// The outermost inclusive ancestor of a node that is no inclusive ancestor of another one. The steps taken are as many as the
 /// nodes above the two.
 pub(crate) fn outermost_apart(forest: &Forest, first: Key, last: Key) -> Key
-    requires first_is_node { first < length forest.now.names }
-    requires last_is_node { last < length forest.now.names }
-    requires apart { is_inclusive_ancestor forest.now.trees (name_at forest.now.names first) (name_at forest.now.names last) ≡ false }
-    ensures node { result < length forest.now.names }
-    ensures above { is_inclusive_ancestor forest.now.trees (name_at forest.now.names result) (name_at forest.now.names first) ≡ true }
-    ensures alone { filter (λ a. not (is_inclusive_ancestor forest.now.trees a (name_at forest.now.names last)))
-        (inclusive_ancestors forest.now.trees (name_at forest.now.names result)) ≡ name_at forest.now.names result ∷ [] }
+    requires first_is_node { IsNode forest.now first }
+    requires last_is_node { IsNode forest.now last }
+    requires apart { is_inclusive_ancestor forest.now.trees (name_of forest.now first) (name_of forest.now last) ≡ false }
+    ensures node { IsNode forest.now result }
+    ensures above { is_inclusive_ancestor forest.now.trees (name_of forest.now result) (name_of forest.now first) ≡ true }
+    ensures alone { filter (λ a. not (is_inclusive_ancestor forest.now.trees a (name_of forest.now last)))
+        (inclusive_ancestors forest.now.trees (name_of forest.now result)) ≡ name_of forest.now result ∷ [] }
 {
     forest.nodes_stand_once();
     let Some(parent) = forest.parent(first) else {
@@ -97,10 +97,10 @@ pub(crate) fn outermost_apart(forest: &Forest, first: Key, last: Key) -> Key
 
 /// The nodes reached from two nodes by going up from both at once, until one of them is a root.
 fn climb_together(forest: &Forest, first: Key, last: Key) -> (Key, Key)
-    requires first_is_node { first < length forest.now.names }
-    requires last_is_node { last < length forest.now.names }
-    ensures first_is_node { result.0 < length forest.now.names }
-    ensures last_is_node { result.1 < length forest.now.names }
+    requires first_is_node { IsNode forest.now first }
+    requires last_is_node { IsNode forest.now last }
+    ensures first_is_node { IsNode forest.now result.0 }
+    ensures last_is_node { IsNode forest.now result.1 }
     ensures difference { height_at forest.now result.0 + height_at forest.now last ≡ height_at forest.now first + height_at forest.now result.1 }
     ensures first_above { height_at forest.now result.0 ≤ height_at forest.now first }
     ensures last_above { height_at forest.now result.1 ≤ height_at forest.now last }
@@ -123,11 +123,11 @@ fn climb_together(forest: &Forest, first: Key, last: Key) -> (Key, Key)
 
 /// The node above a node by as many levels as `gauge` has nodes above it.
 fn raise(forest: &Forest, key: Key, gauge: Key) -> Key
-    requires key_is_node { key < length forest.now.names }
-    requires gauge_is_node { gauge < length forest.now.names }
+    requires key_is_node { IsNode forest.now key }
+    requires gauge_is_node { IsNode forest.now gauge }
     requires deep { height_at forest.now gauge ≤ height_at forest.now key }
-    ensures node { result < length forest.now.names }
-    ensures above { is_inclusive_ancestor forest.now.trees (name_at forest.now.names result) (name_at forest.now.names key) ≡ true }
+    ensures node { IsNode forest.now result }
+    ensures above { is_inclusive_ancestor forest.now.trees (name_of forest.now result) (name_of forest.now key) ≡ true }
     ensures height { height_at forest.now result + height_at forest.now gauge ≡ height_at forest.now key + 1 }
 {
     forest.nodes_stand_once();
@@ -147,10 +147,10 @@ fn raise(forest: &Forest, key: Key, gauge: Key) -> Key
 
 /// The boundary point just behind a node whose parent is no Text and no Comment.
 fn behind_node(forest: &Forest, key: Key) -> (Key, usize)
-    requires node { key < length forest.now.names }
-    requires below_no_data { (p : Name) → parent_of forest.now.trees (name_at forest.now.names key) ≡ Some p → has_data (kind_of forest.now.trees p) ≡ false }
-    ensures value { at (name_at forest.now.names result.0) result.1 ≡ behind_node forest.now.trees (name_at forest.now.names key) }
-    ensures node { result.0 < length forest.now.names }
+    requires node { IsNode forest.now key }
+    requires below_no_data { (p : Name) → parent_of forest.now.trees (name_of forest.now key) ≡ Some p → has_data (kind_of forest.now.trees p) ≡ false }
+    ensures value { at (name_of forest.now result.0) result.1 ≡ behind_node forest.now.trees (name_of forest.now key) }
+    ensures node { IsNode forest.now result.0 }
 {
     forest.nodes_stand_once();
     let Some(parent) = forest.parent(key) else {

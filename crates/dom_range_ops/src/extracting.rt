@@ -21,7 +21,8 @@ ghost use Rattle.dom_range_ops.specs.Deletions.{IsRangeIn};
 ghost use Rattle.dom_range_ops.specs.Pieces.{item_in, items_of, made_by};
 ghost use Rattle.dom_range_ops.specs.Takings.{new_names, MayTake, IsPieceOf};
 ghost use Rattle.dom_range_ops.specs.Texts.{range_at_points};
-ghost use Rattle.dom_tree.specs.Forest.{name_at};
+ghost use Rattle.dom_tree.specs.Forest.{IsNode, name_of};
+ghost use Rattle.dom_parts.specs.Doc.{HoldsNode};
 
 use crate::deleting::place_after;
 use crate::pieces::{Piece, count_made, pieces_between};
@@ -113,9 +114,9 @@ fn extract_pieces(
     pieces: &[Piece],
 ) -> Result<Key, Fault>
     requires there { is_some (range_at (part_of doc.old.world owner) number) ≡ true }
-    requires start_is_node { start < length doc.old.names }
+    requires start_is_node { HoldsNode doc.old start }
     requires start_owner { owner_in doc.old start ≡ owner }
-    requires place_is_node { place.0 < length doc.old.names }
+    requires place_is_node { HoldsNode doc.old place.0 }
     requires place_owner { owner_in doc.old place.0 ≡ owner }
     requires pieces_are_nodes { AllByRecursion (IsPieceOf doc.old.names) pieces.now }
     requires may_take { MayTake (part_step (part_of doc.old.world owner)
@@ -146,9 +147,9 @@ fn extract_pieces(
 
 /// The node document of a node, which is its own where it is a document.
 fn own_document(doc: &Doc, node: Key) -> Option<Key>
-    requires { node < length doc.now.names }
+    requires { HoldsNode doc.now node }
     ensures value { option_map (name_in doc.now) result ≡ own_document (trees_in doc.now node) (name_in doc.now node) }
-    ensures node { ForSome result (λ k. k < length doc.now.names) }
+    ensures node { ForSome result (HoldsNode doc.now) }
 {
     let forest = doc.forest();
     if is_document(forest, node) {
@@ -159,8 +160,8 @@ fn own_document(doc: &Doc, node: Key) -> Option<Key>
 
 /// Whether a node is a document.
 fn is_document(forest: &Forest, key: Key) -> bool
-    requires { key < length forest.now.names }
-    ensures { result ≡ is_document (kind_of forest.now.trees (name_at forest.now.names key)) }
+    requires { IsNode forest.now key }
+    ensures { result ≡ is_document (kind_of forest.now.trees (name_of forest.now key)) }
 {
     matches!(forest.kind(key), Kind::Document)
 }
@@ -173,7 +174,7 @@ fn add_fragment(
     document: Option<Key>,
 ) -> Result<Key, Fault>
     requires owner_is_there { is_there doc.old.world owner ≡ true }
-    requires document_is_node { ForSome document (λ k. k < length doc.old.names) }
+    requires document_is_node { ForSome document (HoldsNode doc.old) }
     requires limited { (part_of doc.old.world owner).node_count < 1000000 }
     ensures key { IfOk result (λ key. key ≡ length doc.old.names) }
     ensures names { OnOk result (doc.new.names ≡ doc.old.names ++ next_name (part_of doc.old.world owner) ∷ []) }

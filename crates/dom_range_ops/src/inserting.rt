@@ -1,5 +1,5 @@
 //! The insertion of a node into a live range (DOM Standard, concept: insert a node into a live range).
-ghost use Rattle.std.specs.Prelude.{◌≡◌, ◌<◌, ◌≤◌, ◌⊎◌, ◌++◌, ◌∷◌, [], true, false, length, is_some, slice_get, Some, None, OnOk};
+ghost use Rattle.std.specs.Prelude.{◌≡◌, ◌≤◌, ◌⊎◌, ◌++◌, ◌∷◌, [], true, false, is_some, slice_get, Some, None, OnOk};
 ghost use Rattle.std.specs.Option.{option_map, ForSome};
 ghost use Rattle.dom_base.specs.declared.Refusal.{Refusal as RefusalOf};
 ghost use Rattle.dom_worlds.specs.Bounds.{HasBounds};
@@ -16,6 +16,7 @@ ghost use Rattle.dom_range_ops.specs.Insertions.{inserting_node, inserting_befor
 ghost use Rattle.dom_range_ops.specs.Insertions.{offset_behind};
 ghost use Rattle.dom_range_ops.specs.Texts.{range_at_points};
 ghost use Rattle.dom_tree.specs.Forest.{err_of};
+ghost use Rattle.dom_parts.specs.Doc.{HoldsNode};
 
 use crate::points::child_at;
 use dom_base::{Fault, Kind, Owner, Refusal};
@@ -30,7 +31,7 @@ use std::alloc::AllocError;
 /// with nothing changed. Where memory is refused, which may also be in place of `Limit`, the document is only to be dropped.
 pub fn insert_node(doc: &mut Doc, owner: Owner, number: u32, node: Key) -> Result<(), Fault>
     requires there { is_some (range_at (part_of doc.old.world owner) number) ≡ true }
-    requires node_is_node { node < length doc.old.names }
+    requires node_is_node { HoldsNode doc.old node }
     requires own { owner_in doc.old node ≡ owner }
     requires bounds { HasBounds (part_of doc.old.world owner) }
     ensures names { OnOk result (doc.new.names ≡ doc.old.names ++ names_given (part_of doc.old.world owner) number) }
@@ -60,9 +61,9 @@ pub fn insert_node(doc: &mut Doc, owner: Owner, number: u32, node: Key) -> Resul
 
 /// The node before which a node is to go: a Text at the start, or the child behind the start, if there is one.
 fn start_reference(doc: &Doc, points: &Points) -> Option<Key>
-    requires { points.now.start.0 < length doc.now.names }
+    requires { HoldsNode doc.now points.now.start.0 }
     ensures value { option_map (name_in doc.now) result ≡ start_reference (trees_in doc.now points.now.start.0) (range_at_points doc.now.names points.now) }
-    ensures node { ForSome result (λ k. k < length doc.now.names) }
+    ensures node { ForSome result (HoldsNode doc.now) }
     ensures owner { ForSome result (λ k. owner_in doc.now k ≡ owner_in doc.now points.now.start.0) }
 {
     let (start, offset) = points.start;
@@ -74,7 +75,7 @@ fn start_reference(doc: &Doc, points: &Points) -> Option<Key>
 
 /// Whether a node is a Text.
 fn is_text(doc: &Doc, node: Key) -> bool
-    requires { node < length doc.now.names }
+    requires { HoldsNode doc.now node }
     ensures { result ≡ is_text (kind_of (trees_in doc.now node) (name_in doc.now node)) }
 {
     matches!(doc.kind(node), Kind::Text)
@@ -82,7 +83,7 @@ fn is_text(doc: &Doc, node: Key) -> bool
 
 /// The child of a node at an index, where there are so many, in its owner's trees.
 fn nth_child(doc: &Doc, node: Key, index: usize) -> Option<Key>
-    requires { node < length doc.now.names }
+    requires { HoldsNode doc.now node }
     ensures value { option_map (name_in doc.now) result ≡ slice_get (children_of (trees_in doc.now node) (name_in doc.now node)) index }
     ensures child { ForSome result (IsChild doc.now node) }
 {
@@ -94,12 +95,12 @@ fn nth_child(doc: &Doc, node: Key, index: usize) -> Option<Key>
 
 /// The parent into which a node is to go: that of the reference, or the node of the start.
 fn insertion_parent(doc: &Doc, points: &Points, child: Option<Key>) -> Key
-    requires start_is_node { points.now.start.0 < length doc.now.names }
+    requires start_is_node { HoldsNode doc.now points.now.start.0 }
     requires value { option_map (name_in doc.now) child ≡ start_reference (trees_in doc.now points.now.start.0) (range_at_points doc.now.names points.now) }
-    requires child_is_node { ForSome child (λ k. k < length doc.now.names) }
+    requires child_is_node { ForSome child (HoldsNode doc.now) }
     requires child_owner { ForSome child (λ k. owner_in doc.now k ≡ owner_in doc.now points.now.start.0) }
     ensures value { name_in doc.now result ≡ insertion_parent (trees_in doc.now points.now.start.0) (range_at_points doc.now.names points.now) }
-    ensures node { result < length doc.now.names }
+    ensures node { HoldsNode doc.now result }
     ensures owner { owner_in doc.now result ≡ owner_in doc.now points.now.start.0 }
 {
     let start = points.start.0;
@@ -117,10 +118,10 @@ fn check(
     node: Key,
     child: Option<Key>,
 ) -> Result<(), Refusal>
-    requires start_is_node { points.now.start.0 < length doc.now.names }
-    requires parent_is_node { parent < length doc.now.names }
-    requires node_is_node { node < length doc.now.names }
-    requires child_is_node { ForSome child (λ k. k < length doc.now.names) }
+    requires start_is_node { HoldsNode doc.now points.now.start.0 }
+    requires parent_is_node { HoldsNode doc.now parent }
+    requires node_is_node { HoldsNode doc.now node }
+    requires child_is_node { ForSome child (HoldsNode doc.now) }
     requires start_owner { owner_in doc.now points.now.start.0 ≡ owner_in doc.now parent }
     requires node_owner { owner_in doc.now node ≡ owner_in doc.now parent }
     requires child_owner { ForSome child (λ k. owner_in doc.now k ≡ owner_in doc.now parent) }
@@ -137,8 +138,8 @@ fn check(
 /// Whether a live range with these ends takes no such node: its start is in a Comment, in a Text without parent, or in the
 /// node itself.
 fn cannot_take(doc: &Doc, points: &Points, node: Key) -> bool
-    requires start_is_node { points.now.start.0 < length doc.now.names }
-    requires node_is_node { node < length doc.now.names }
+    requires start_is_node { HoldsNode doc.now points.now.start.0 }
+    requires node_is_node { HoldsNode doc.now node }
     ensures { result ≡ cannot_take_node (trees_in doc.now points.now.start.0) (range_at_points doc.now.names points.now) (name_in doc.now node) }
 {
     doc.laws();
@@ -161,13 +162,13 @@ fn insert_tested(
     child: Option<Key>,
 ) -> Result<(), Fault>
     requires there { is_some (range_at (part_of doc.old.world owner) number) ≡ true }
-    requires start_is_node { points.now.start.0 < length doc.old.names }
-    requires parent_is_node { parent < length doc.old.names }
-    requires node_is_node { node < length doc.old.names }
+    requires start_is_node { HoldsNode doc.old points.now.start.0 }
+    requires parent_is_node { HoldsNode doc.old parent }
+    requires node_is_node { HoldsNode doc.old node }
     requires start_own { owner_in doc.old points.now.start.0 ≡ owner }
     requires parent_own { owner_in doc.old parent ≡ owner }
     requires node_own { owner_in doc.old node ≡ owner }
-    requires child_is_node { ForSome child (λ k. k < length doc.old.names) }
+    requires child_is_node { ForSome child (HoldsNode doc.old) }
     requires child_own { ForSome child (λ k. owner_in doc.old k ≡ owner) }
     requires parent { name_in doc.old parent ≡ insertion_parent (part_of doc.old.world owner).trees (range_at_points doc.old.names points.now) }
     requires child { option_map (name_in doc.old) child ≡ start_reference (part_of doc.old.world owner).trees (range_at_points doc.old.names points.now) }
@@ -203,8 +204,8 @@ fn insert_before_tail(
     node: Key,
 ) -> Result<(), Fault>
     requires there { is_some (range_at (part_of doc.old.world owner) number) ≡ true }
-    requires parent_is_node { parent < length doc.old.names }
-    requires node_is_node { node < length doc.old.names }
+    requires parent_is_node { HoldsNode doc.old parent }
+    requires node_is_node { HoldsNode doc.old node }
     requires parent_own { owner_in doc.old parent ≡ owner }
     requires node_own { owner_in doc.old node ≡ owner }
     requires not_above { is_inclusive_ancestor (part_of doc.old.world owner).trees (name_in doc.old node) (name_in doc.old parent) ≡ false }
@@ -239,8 +240,8 @@ fn insert_at(
     child: Option<Key>,
 ) -> Result<(), AllocError>
     requires there { is_some (range_at (part_of doc.old.world owner) number) ≡ true }
-    requires parent_is_node { parent < length doc.old.names }
-    requires node_is_node { node < length doc.old.names }
+    requires parent_is_node { HoldsNode doc.old parent }
+    requires node_is_node { HoldsNode doc.old node }
     requires parent_own { owner_in doc.old parent ≡ owner }
     requires node_own { owner_in doc.old node ≡ owner }
     requires not_above { is_inclusive_ancestor (trees_in doc.old parent) (name_in doc.old node) (name_in doc.old parent) ≡ false }
@@ -266,7 +267,7 @@ fn insert_before(
     reference: Option<Key>,
 ) -> Result<(), AllocError>
     requires there { is_some (range_at (part_of doc.old.world owner) number) ≡ true }
-    requires parent_is_node { parent < length doc.old.names }
+    requires parent_is_node { HoldsNode doc.old parent }
     requires parent_own { owner_in doc.old parent ≡ owner }
     requires open { has_data (kind_of (trees_in doc.old parent) (name_in doc.old parent)) ≡ false }
     requires may_move { MayMove doc.old parent reference node }
@@ -285,7 +286,7 @@ fn insert_before(
 
 /// The offset behind a node that is to be inserted before a child of a parent, or last; of a fragment behind its children.
 fn offset_behind(doc: &Doc, parent: Key, node: Key, reference: Option<Key>) -> usize
-    requires parent_is_node { parent < length doc.now.names }
+    requires parent_is_node { HoldsNode doc.now parent }
     requires open { has_data (kind_of (trees_in doc.now parent) (name_in doc.now parent)) ≡ false }
     requires may_move { MayMove doc.now parent reference node }
     requires child_is_child { ForSome reference (IsChild doc.now parent) }
@@ -306,7 +307,7 @@ fn offset_behind(doc: &Doc, parent: Key, node: Key, reference: Option<Key>) -> u
 /// A collapsed range gets its end at an offset in a node of its owner; another one stays as it is.
 fn end_at(doc: &mut Doc, owner: Owner, number: u32, node: Key, offset: usize)
     requires there { is_some (range_at (part_of doc.old.world owner) number) ≡ true }
-    requires node_is_node { node < length doc.old.names }
+    requires node_is_node { HoldsNode doc.old node }
     requires own { owner_in doc.old node ≡ owner }
     ensures { doc.new ≡ planned owner (ending_at number (at (name_in doc.old node) offset)) doc.old }
 {

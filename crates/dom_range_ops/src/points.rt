@@ -1,12 +1,12 @@
 //! The nodes behind a boundary point of a tree (DOM Standard, 5.2 Boundary points).
-ghost use Rattle.std.specs.Prelude.{◌≡◌, ◌<◌, ◌↔◌, length, drop, Some, IsTrue};
+ghost use Rattle.std.specs.Prelude.{◌≡◌, ◌↔◌, drop, Some, IsTrue};
 ghost use Rattle.std.specs.Option.{option_map, ForSome};
 ghost use Rattle.dom_model.specs.Names.{first_of};
 ghost use Rattle.dom_model.specs.Ranges.{at};
 ghost use Rattle.dom_model.specs.Tree.{children_of};
 ghost use Rattle.dom_range_ops.specs.Points.{nodes_after};
 ghost use Rattle.dom_traversal.specs.Within.{beyond, StandsIn};
-ghost use Rattle.dom_tree.specs.Forest.{name_at};
+ghost use Rattle.dom_tree.specs.Forest.{IsNode, name_of};
 
 use dom_tree::Forest;
 use node_arena::Key;
@@ -14,10 +14,10 @@ use node_arena::Key;
 /// The first node of the tree of `top` behind a boundary point of it, in tree order: the child at the offset, or else the
 /// first node behind all that is below the point's node.
 pub(crate) fn node_after(forest: &Forest, point: (Key, usize), top: Key) -> Option<Key>
-    requires top_is_node { top < length forest.now.names }
+    requires top_is_node { IsNode forest.now top }
     requires stands { StandsIn forest.now top point.0 }
-    ensures value { option_map (name_at forest.now.names) result ≡ first_of
-        (nodes_after forest.now.trees (name_at forest.now.names top) (at (name_at forest.now.names point.0) point.1)) }
+    ensures value { option_map (name_of forest.now) result ≡ first_of
+        (nodes_after forest.now.trees (name_of forest.now top) (at (name_of forest.now point.0) point.1)) }
     ensures stands { ForSome result (StandsIn forest.now top) }
 {
     forest.nodes_stand_once();
@@ -31,9 +31,9 @@ pub(crate) fn node_after(forest: &Forest, point: (Key, usize), top: Key) -> Opti
 
 /// The child of a node at an index, where there are so many.
 pub(crate) fn child_at(forest: &Forest, node: Key, index: usize) -> Option<Key>
-    requires { node < length forest.now.names }
-    ensures value { option_map (name_at forest.now.names) result ≡ first_of (drop index (children_of forest.now.trees (name_at forest.now.names node))) }
-    ensures node { ForSome result (λ k. k < length forest.now.names) }
+    requires { IsNode forest.now node }
+    ensures value { option_map (name_of forest.now) result ≡ first_of (drop index (children_of forest.now.trees (name_of forest.now node))) }
+    ensures node { ForSome result (IsNode forest.now) }
 {
     forest.nodes_stand_once();
     let mut at = forest.first(node);
@@ -47,10 +47,10 @@ pub(crate) fn child_at(forest: &Forest, node: Key, index: usize) -> Option<Key>
 
 /// The first node of the tree of `top` that stands behind a node and is not below it.
 pub(crate) fn beyond(forest: &Forest, key: Key, top: Key) -> Option<Key>
-    requires top_is_node { top < length forest.now.names }
+    requires top_is_node { IsNode forest.now top }
     requires stands { StandsIn forest.now top key }
-    ensures value { option_map (name_at forest.now.names) result ≡ first_of
-        (beyond forest.now.trees (name_at forest.now.names top) (name_at forest.now.names key)) }
+    ensures value { option_map (name_of forest.now) result ≡ first_of
+        (beyond forest.now.trees (name_of forest.now top) (name_of forest.now key)) }
     ensures stands { ForSome result (StandsIn forest.now top) }
 {
     forest.nodes_stand_once();

@@ -11,6 +11,7 @@ ghost use Rattle.dom_mutation.specs.Doc.{made, name_in, owner_in, trees_in, IsOw
 ghost use Rattle.dom_range_ops.specs.Pieces.{cut_item, clone_item, item_in, made_by};
 ghost use Rattle.dom_range_ops.specs.Takings.{top_of, taking_item, taking_items, clones_after, new_names, names_in, MayTake, IsPieceOf};
 ghost use Rattle.dom_tree.specs.Forest.{node_from};
+ghost use Rattle.dom_parts.specs.Doc.{HoldsNode};
 
 use crate::cloning::{clone_node, clone_units};
 use crate::pieces::Piece;
@@ -29,7 +30,7 @@ pub(crate) fn take_pieces(
     into: Key,
     pieces: &[Piece],
 ) -> Result<(), Fault>
-    requires into_is_node { into < length doc.old.names }
+    requires into_is_node { HoldsNode doc.old into }
     requires pieces_are_nodes { AllByRecursion (IsPieceOf doc.old.names) pieces.now }
     requires may_take { MayTake (part_of doc.old.world (owner_in doc.old into)) (name_in doc.old into) [] (map (item_in doc.old.names) pieces.now) }
     ensures names { OnOk result (doc.new.names ≡ doc.old.names ++
@@ -56,7 +57,7 @@ fn take_piece(
     into: Key,
     piece: Piece,
 ) -> Result<(), Fault>
-    requires into_is_node { into < length doc.old.names }
+    requires into_is_node { HoldsNode doc.old into }
     requires clones_are_nodes { AllByRecursion (IsOwnNode doc.old into) clones.old.items }
     requires piece_is_node { IsPieceOf doc.old.names piece }
     requires may_take { MayTake (part_of doc.old.world (owner_in doc.old into)) (name_in doc.old into) (names_in doc.old clones.old.items)
@@ -105,8 +106,8 @@ fn take_units(
     from: usize,
     to: usize,
 ) -> Result<(), Fault>
-    requires top_is_node { top < length doc.old.names }
-    requires node_is_node { node < length doc.old.names }
+    requires top_is_node { HoldsNode doc.old top }
+    requires node_is_node { HoldsNode doc.old node }
     requires node_owner { owner_in doc.old node ≡ owner_in doc.old top }
     requires units { has_data (kind_of (trees_in doc.old top) (name_in doc.old node)) ≡ true }
     requires bounds { HasBounds (part_of doc.old.world (owner_in doc.old top)) }
@@ -127,8 +128,8 @@ fn take_units(
 
 /// A clone of a node without its children goes below another node, and is the answer.
 fn take_clone(alloc: Global, doc: &mut Doc, top: Key, node: Key) -> Result<Key, Fault>
-    requires top_is_node { top < length doc.old.names }
-    requires node_is_node { node < length doc.old.names }
+    requires top_is_node { HoldsNode doc.old top }
+    requires node_is_node { HoldsNode doc.old node }
     requires node_owner { owner_in doc.old node ≡ owner_in doc.old top }
     requires no_shadow { is_shadow (kind_of (trees_in doc.old top) (name_in doc.old node)) ≡ false }
     requires bounds { HasBounds (part_of doc.old.world (owner_in doc.old top)) }
@@ -147,9 +148,9 @@ fn take_clone(alloc: Global, doc: &mut Doc, top: Key, node: Key) -> Result<Key, 
 
 /// A new node becomes the last child of another one, with its owner, and is the answer.
 fn add_below(doc: &mut Doc, top: Key, node: NodeData) -> Result<Key, Fault>
-    requires top_is_node { top < length doc.old.names }
+    requires top_is_node { HoldsNode doc.old top }
     requires no_shadow { is_shadow node.kind ≡ false }
-    requires document_is_node { ForSome node.document (λ d. d < length doc.old.names) }
+    requires document_is_node { ForSome node.document (HoldsNode doc.old) }
     requires bounds { HasBounds (part_of doc.old.world (owner_in doc.old top)) }
     requires no_data { has_data (kind_of (trees_in doc.old top) (name_in doc.old top)) ≡ false }
     requires limited { (part_of doc.old.world (owner_in doc.old top)).node_count < 1000000 }

@@ -1,5 +1,5 @@
 //! The text of a live range (DOM Standard, 5.5: stringification behavior).
-ghost use Rattle.std.specs.Prelude.{◌≡◌, ◌<◌, ◌++◌, length, true, false, is_some, slice_range, IfOk, OnOk};
+ghost use Rattle.std.specs.Prelude.{◌≡◌, ◌++◌, true, false, is_some, slice_range, IfOk, OnOk};
 ghost use Rattle.std.specs.Option.{ForSome};
 ghost use Rattle.dom_worlds.specs.Bounds.{HasBounds};
 ghost use Rattle.dom_worlds.specs.Tables.{HasEnds};
@@ -9,7 +9,7 @@ ghost use Rattle.dom_model.specs.RangeOps.{range_text_of, text_part as spec_text
 ghost use Rattle.dom_model.specs.Tree.{kind_of, is_text};
 ghost use Rattle.dom_model.specs.World.{part_of};
 ghost use Rattle.dom_range_ops.specs.Texts.{range_at_points, AreEnds, AreBounded, contained_text, text_among, nodes_around};
-ghost use Rattle.dom_tree.specs.Forest.{name_at};
+ghost use Rattle.dom_tree.specs.Forest.{IsNode, name_of};
 
 use crate::points::{is_node, node_after};
 use dom_base::{DomStr, Kind, Owner};
@@ -95,9 +95,9 @@ fn push_between(text: &mut DomStr, forest: &Forest, points: &Points) -> Result<(
 
 /// The part of a Text between two points, where the points in other nodes are no limits; other nodes have none.
 fn text_part<'a>(forest: &'a Forest, points: &Points, key: Key) -> &'a [u16]
-    requires node { key < length forest.now.names }
+    requires node { IsNode forest.now key }
     requires ends { AreEnds forest.now points.now }
-    ensures { result.now ≡ spec_text_part forest.now.trees (range_at_points forest.now.names points.now) (name_at forest.now.names key) }
+    ensures { result.now ≡ spec_text_part forest.now.trees (range_at_points forest.now.names points.now) (name_of forest.now key) }
 {
     forest.nodes_stand_once();
     if !is_text(forest, key) {
@@ -112,8 +112,8 @@ fn text_part<'a>(forest: &'a Forest, points: &Points, key: Key) -> &'a [u16]
 
 /// Whether a node is a Text.
 fn is_text(forest: &Forest, key: Key) -> bool
-    requires { key < length forest.now.names }
-    ensures { result ≡ is_text (kind_of forest.now.trees (name_at forest.now.names key)) }
+    requires { IsNode forest.now key }
+    ensures { result ≡ is_text (kind_of forest.now.trees (name_of forest.now key)) }
 {
     matches!(forest.kind(key), Kind::Text)
 }

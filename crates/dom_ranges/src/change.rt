@@ -1,8 +1,9 @@
 //! What each step of a change does to a boundary point (DOM Standard, 5.3 and 5.5).
-ghost use Rattle.std.specs.Prelude.{◌≡◌, ◌⊎◌, ℕ, ◌<◌, length, nat_eq};
+ghost use Rattle.std.specs.Prelude.{◌≡◌, ◌⊎◌, ℕ, nat_eq};
 ghost use Rattle.dom_model.specs.Place.{Boundary};
 ghost use Rattle.dom_model.specs.Ranges.{at, after_insert, after_replace_data, after_split, after_join};
 ghost use Rattle.dom_ranges.specs.Rules.{Fits, IsAtNode, is_inside, after_leaving, after_closing};
+ghost use Rattle.dom_tree.specs.Forest.{IsNode};
 
 use dom_tree::Forest;
 use node_arena::Key;
@@ -65,7 +66,7 @@ pub(crate) struct Leaving<'a> {
 impl Change for Leaving<'_> {
     ghost rule = { λ s. after_leaving (is_inside s.forest.now s.node) s.parent s.index };
 
-    ghost can_move = { λ s b. (s.node < length s.forest.now.names) × IsAtNode s.forest.now.names b };
+    ghost can_move = { λ s b. (IsNode s.forest.now s.node) × IsAtNode s.forest.now.names b };
 
     ghost target = { λ s. s.parent };
 

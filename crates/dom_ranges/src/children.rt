@@ -1,9 +1,9 @@
 //! Steps of a change that are told a child of a node in place of its index.
-ghost use Rattle.std.specs.Prelude.{◌≡◌, ◌<◌, length, nat_eq};
+ghost use Rattle.std.specs.Prelude.{◌≡◌, nat_eq};
 ghost use Rattle.dom_base.specs.declared.Owner.{Owner as Owners};
 ghost use Rattle.dom_model.specs.Ranges.{after_insert, after_join};
 ghost use Rattle.dom_model.specs.Tree.{index_of};
-ghost use Rattle.dom_tree.specs.Forest.{name_at};
+ghost use Rattle.dom_tree.specs.Forest.{IsNode, name_of};
 ghost use Rattle.dom_ranges.specs.Rules.{Fits};
 ghost use Rattle.dom_ranges.specs.Tables.{ranges_of, ends_by, EachRange, BothEnds};
 
@@ -15,12 +15,12 @@ impl RangeTable {
     /// Tells the table that `count` nodes are to come into `parent` before `child`, as `on_insert` does of the child's
     /// index. That is looked for only as far as boundary points stand in the parent: without one there, not at all.
     pub fn on_insert_before(&mut self, forest: &Forest, parent: Key, child: Key, count: usize)
-        requires child_is_node { child < length forest.now.names }
+        requires child_is_node { IsNode forest.now child }
         requires fits { (o : Owners) → EachRange
-            (BothEnds (λ b. Fits (after_insert nat_eq parent (index_of forest.now.trees (name_at forest.now.names child)) count b)))
+            (BothEnds (λ b. Fits (after_insert nat_eq parent (index_of forest.now.trees (name_of forest.now child)) count b)))
             (ranges_of self.old o) }
         ensures { (o : Owners) → ranges_of self.new o ≡ ends_by
-            (after_insert nat_eq parent (index_of forest.now.trees (name_at forest.now.names child)) count) (ranges_of self.old o) }
+            (after_insert nat_eq parent (index_of forest.now.trees (name_of forest.now child)) count) (ranges_of self.old o) }
     {
         if let Some(index) = self.index_before(forest, parent, child) {
             self.on_insert(parent, index, count);
@@ -38,12 +38,12 @@ impl RangeTable {
         next: Key,
         parent: Key,
     )
-        requires next_is_node { next < length forest.now.names }
+        requires next_is_node { IsNode forest.now next }
         requires fits { (o : Owners) → EachRange
-            (BothEnds (λ b. Fits (after_join nat_eq first size next parent (index_of forest.now.trees (name_at forest.now.names next)) b)))
+            (BothEnds (λ b. Fits (after_join nat_eq first size next parent (index_of forest.now.trees (name_of forest.now next)) b)))
             (ranges_of self.old o) }
         ensures { (o : Owners) → ranges_of self.new o ≡ ends_by
-            (after_join nat_eq first size next parent (index_of forest.now.trees (name_at forest.now.names next))) (ranges_of self.old o) }
+            (after_join nat_eq first size next parent (index_of forest.now.trees (name_of forest.now next))) (ranges_of self.old o) }
     {
         let index = self.index_among(forest, parent, next);
         self.on_join(first, size, next, parent, index);

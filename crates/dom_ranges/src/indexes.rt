@@ -1,9 +1,9 @@
 //! The index of a child, which is looked for only as far as ends of live ranges stand behind the child in its parent.
-ghost use Rattle.std.specs.Prelude.{◌≡◌, ℕ, ◌<◌, ◌≤◌, length, None};
+ghost use Rattle.std.specs.Prelude.{◌≡◌, ℕ, ◌<◌, ◌≤◌, None};
 ghost use Rattle.std.specs.Option.{ForSome};
 ghost use Rattle.slab.specs.Slab.{get};
 ghost use Rattle.dom_model.specs.Tree.{index_of};
-ghost use Rattle.dom_tree.specs.Forest.{name_at};
+ghost use Rattle.dom_tree.specs.Forest.{IsNode, name_of};
 ghost use Rattle.dom_ranges.specs.Tables.{BothEnds, range_from};
 ghost use Rattle.dom_ranges.specs.Listed.{IsListed, IsSortedByNode, point_at};
 ghost use Rattle.dom_ranges.specs.Rules.{IsUpTo, IsNear};
@@ -43,9 +43,9 @@ fn reach(live: &Slab<Points>, ends: &[RangeEnd], node: Key) -> usize
 /// The index of a node, where it is less than a limit (DOM Standard, concept: index). As many siblings as that are
 /// looked at, and no more.
 pub(crate) fn index_below(forest: &Forest, node: Key, limit: usize) -> Option<usize>
-    requires { node < length forest.now.names }
-    ensures below { ForSome result (λ i. (i ≡ index_of forest.now.trees (name_at forest.now.names node)) × (i < limit)) }
-    ensures none { result ≡ None → limit ≤ index_of forest.now.trees (name_at forest.now.names node) }
+    requires { IsNode forest.now node }
+    ensures below { ForSome result (λ i. (i ≡ index_of forest.now.trees (name_of forest.now node)) × (i < limit)) }
+    ensures none { result ≡ None → limit ≤ index_of forest.now.trees (name_of forest.now node) }
 {
     forest.nodes_stand_once();
     let mut at = node;
@@ -67,12 +67,12 @@ pub(crate) fn index_before_ends(
     parent: Key,
     child: Key,
 ) -> Option<usize>
-    requires child_is_node { child < length forest.now.names }
+    requires child_is_node { IsNode forest.now child }
     requires listed { IsListed live.now ends.now }
     requires sorted { IsSortedByNode ends.now }
-    ensures index { ForSome result (λ i. i ≡ index_of forest.now.trees (name_at forest.now.names child)) }
+    ensures index { ForSome result (λ i. i ≡ index_of forest.now.trees (name_of forest.now child)) }
     ensures none { result ≡ None → (slot : ℕ) →
-        ForSome (get live.now slot) (λ p. BothEnds (IsUpTo parent (index_of forest.now.trees (name_at forest.now.names child))) (range_from p)) }
+        ForSome (get live.now slot) (λ p. BothEnds (IsUpTo parent (index_of forest.now.trees (name_of forest.now child))) (range_from p)) }
 {
     index_below(forest, child, reach(live, ends, parent))
 }
@@ -86,11 +86,11 @@ pub(crate) fn index_among_ends(
     parent: Key,
     child: Key,
 ) -> usize
-    requires child_is_node { child < length forest.now.names }
+    requires child_is_node { IsNode forest.now child }
     requires listed { IsListed live.now ends.now }
     requires sorted { IsSortedByNode ends.now }
     ensures { (slot : ℕ) → ForSome (get live.now slot)
-        (λ p. BothEnds (IsNear parent (index_of forest.now.trees (name_at forest.now.names child)) result) (range_from p)) }
+        (λ p. BothEnds (IsNear parent (index_of forest.now.trees (name_of forest.now child)) result) (range_from p)) }
 {
     match reach(live, ends, parent).checked_add(1) {
         Some(limit) => index_below(forest, child, limit).unwrap_or(limit),

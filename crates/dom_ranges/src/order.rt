@@ -1,10 +1,10 @@
 //! The order of boundary points (DOM Standard, 5.2 Boundary points).
-ghost use Rattle.std.specs.Prelude.{◌≡◌, ◌≢◌, ◌<◌, ◌≤◌, ◌+◌, ◌⊎◌, length, nat_lt, true};
+ghost use Rattle.std.specs.Prelude.{◌≡◌, ◌≢◌, ◌≤◌, ◌+◌, ◌⊎◌, nat_lt, true};
 ghost use Rattle.dom_model.specs.Names.{first_of};
 ghost use Rattle.dom_model.specs.Place.{same_root, is_before};
 ghost use Rattle.dom_model.specs.Ranges.{at};
 ghost use Rattle.dom_model.specs.Tree.{index_of};
-ghost use Rattle.dom_tree.specs.Forest.{name_at};
+ghost use Rattle.dom_tree.specs.Forest.{IsNode, name_of};
 ghost use Rattle.dom_ranges.specs.Climbs.{depth_at, path_at, Reaches, AreBeside};
 
 use crate::indexes::index_below;
@@ -16,10 +16,10 @@ use node_arena::Key;
 /// many as the siblings between them or before the first. Where one node is in the other one's tree, no more siblings
 /// than that one's offset are looked at.
 pub fn is_before(forest: &Forest, first: (Key, usize), second: (Key, usize)) -> bool
-    requires first_is_node { first.0 < length forest.now.names }
-    requires second_is_node { second.0 < length forest.now.names }
-    requires one_tree { same_root forest.now.trees (name_at forest.now.names first.0) (name_at forest.now.names second.0) ≡ true }
-    ensures { result ≡ is_before forest.now.trees (at (name_at forest.now.names first.0) first.1) (at (name_at forest.now.names second.0) second.1) }
+    requires first_is_node { IsNode forest.now first.0 }
+    requires second_is_node { IsNode forest.now second.0 }
+    requires one_tree { same_root forest.now.trees (name_of forest.now first.0) (name_of forest.now second.0) ≡ true }
+    ensures { result ≡ is_before forest.now.trees (at (name_of forest.now first.0) first.1) (at (name_of forest.now second.0) second.1) }
 {
     forest.nodes_stand_once();
     let (first_node, first_offset) = first;
@@ -41,10 +41,10 @@ pub fn is_before(forest: &Forest, first: (Key, usize), second: (Key, usize)) -> 
 /// The nodes reached from two nodes by going up from both at once, until one of them is a root: the other one is then
 /// as deep as the one node was deeper.
 fn climb_together(forest: &Forest, first: Key, second: Key) -> (Key, Key)
-    requires first_is_node { first < length forest.now.names }
-    requires second_is_node { second < length forest.now.names }
-    ensures first_is_node { result.0 < length forest.now.names }
-    ensures second_is_node { result.1 < length forest.now.names }
+    requires first_is_node { IsNode forest.now first }
+    requires second_is_node { IsNode forest.now second }
+    ensures first_is_node { IsNode forest.now result.0 }
+    ensures second_is_node { IsNode forest.now result.1 }
     ensures difference { depth_at forest.now result.0 + depth_at forest.now second ≡ depth_at forest.now first + depth_at forest.now result.1 }
     ensures first_above { depth_at forest.now result.0 ≤ depth_at forest.now first }
     ensures second_above { depth_at forest.now result.1 ≤ depth_at forest.now second }
@@ -68,10 +68,10 @@ fn climb_together(forest: &Forest, first: Key, second: Key) -> (Key, Key)
 /// The node above a node by as many levels as `gauge` has nodes above it, and that one's child on the way, where there
 /// is a level to go.
 fn climb(forest: &Forest, key: Key, gauge: Key) -> (Key, Option<Key>)
-    requires key_is_node { key < length forest.now.names }
-    requires gauge_is_node { gauge < length forest.now.names }
+    requires key_is_node { IsNode forest.now key }
+    requires gauge_is_node { IsNode forest.now gauge }
     requires deep { depth_at forest.now gauge ≤ depth_at forest.now key }
-    ensures node { result.0 < length forest.now.names }
+    ensures node { IsNode forest.now result.0 }
     ensures depth { depth_at forest.now result.0 + depth_at forest.now gauge ≡ depth_at forest.now key + 1 }
     ensures reached { Reaches forest.now key result.0 result.1 }
 {
@@ -94,13 +94,13 @@ fn climb(forest: &Forest, key: Key, gauge: Key) -> (Key, Option<Key>)
 
 /// The siblings in or above two different nodes of one tree that are as deep as each other.
 fn part(forest: &Forest, first: Key, second: Key) -> (Key, Key)
-    requires first_is_node { first < length forest.now.names }
-    requires second_is_node { second < length forest.now.names }
+    requires first_is_node { IsNode forest.now first }
+    requires second_is_node { IsNode forest.now second }
     requires apart { first ≢ second }
     requires level { depth_at forest.now first ≡ depth_at forest.now second }
     requires one_tree { first_of (path_at forest.now first) ≡ first_of (path_at forest.now second) }
-    ensures first_is_node { result.0 < length forest.now.names }
-    ensures second_is_node { result.1 < length forest.now.names }
+    ensures first_is_node { IsNode forest.now result.0 }
+    ensures second_is_node { IsNode forest.now result.1 }
     ensures beside { AreBeside forest.now first second result.0 result.1 }
 {
     forest.nodes_stand_once();
@@ -124,10 +124,10 @@ fn part(forest: &Forest, first: Key, second: Key) -> (Key, Key)
 /// Whether the first of two siblings comes before the second. Both are left for the siblings before them in turn, until
 /// one of the two is met, or no sibling is left.
 fn comes_first(forest: &Forest, first: Key, second: Key) -> bool
-    requires first_is_node { first < length forest.now.names }
-    requires second_is_node { second < length forest.now.names }
-    requires apart { index_of forest.now.trees (name_at forest.now.names first) ≢ index_of forest.now.trees (name_at forest.now.names second) }
-    ensures { result ≡ nat_lt (index_of forest.now.trees (name_at forest.now.names first)) (index_of forest.now.trees (name_at forest.now.names second)) }
+    requires first_is_node { IsNode forest.now first }
+    requires second_is_node { IsNode forest.now second }
+    requires apart { index_of forest.now.trees (name_of forest.now first) ≢ index_of forest.now.trees (name_of forest.now second) }
+    ensures { result ≡ nat_lt (index_of forest.now.trees (name_of forest.now first)) (index_of forest.now.trees (name_of forest.now second)) }
 {
     forest.nodes_stand_once();
     let mut low = first;
@@ -152,9 +152,9 @@ fn comes_first(forest: &Forest, first: Key, second: Key) -> bool
 
 /// Whether two nodes have one root (DOM Standard, concept: root).
 pub(crate) fn share_root(forest: &Forest, first: Key, second: Key) -> bool
-    requires first_is_node { first < length forest.now.names }
-    requires second_is_node { second < length forest.now.names }
-    ensures { result ≡ same_root forest.now.trees (name_at forest.now.names first) (name_at forest.now.names second) }
+    requires first_is_node { IsNode forest.now first }
+    requires second_is_node { IsNode forest.now second }
+    ensures { result ≡ same_root forest.now.trees (name_of forest.now first) (name_of forest.now second) }
 {
     forest.nodes_stand_once();
     forest.root(first) == forest.root(second)

@@ -4,7 +4,7 @@ ghost use Rattle.std.specs.Option.{option_map, ForSome};
 ghost use Rattle.slab.specs.Slab.{get};
 ghost use Rattle.dom_model.specs.Ranges.{map_ends, after_removal};
 ghost use Rattle.dom_model.specs.Tree.{index_of};
-ghost use Rattle.dom_tree.specs.Forest.{name_at};
+ghost use Rattle.dom_tree.specs.Forest.{IsNode, name_of};
 ghost use Rattle.dom_ranges.specs.Tables.{BothEnds, range_from};
 ghost use Rattle.dom_ranges.specs.Listed.{IsListed, IsSortedByNode, is_in};
 ghost use Rattle.dom_ranges.specs.Rules.{IsAtNode, is_inside, after_closing};
@@ -30,10 +30,10 @@ pub(crate) fn move_out(
 )
     requires listed { IsListed live.old ends.old }
     requires sorted { IsSortedByNode ends.old }
-    requires node_is_node { node < length forest.now.names }
+    requires node_is_node { IsNode forest.now node }
     requires ends { (slot : ℕ) → ForSome (get live.old slot) (λ p. BothEnds (IsAtNode forest.now.names) (range_from p)) }
     ensures moved { (slot : ℕ) → option_map range_from (get live.new slot) ≡ option_map
-        (λ p. map_ends (after_removal nat_eq (is_inside forest.now node) parent (index_of forest.now.trees (name_at forest.now.names node)))
+        (λ p. map_ends (after_removal nat_eq (is_inside forest.now node) parent (index_of forest.now.trees (name_of forest.now node)))
         (range_from p)) (get live.old slot) }
     ensures listed { IsListed live.new ends.new }
     ensures sorted { IsSortedByNode ends.new }
@@ -82,8 +82,8 @@ fn close(live: &mut Slab<Points>, ends: &mut [RangeEnd], parent: Key, index: usi
 /// to test each end is less then.
 fn part_inside(forest: &Forest, top: Key, ends: &[RangeEnd]) -> Span
     requires sorted { IsSortedByNode ends.now }
-    requires nodes { (k : ℕ) (d : RangeEnd) → k < length ends.now → (top < length forest.now.names) ×
-        ((slice_index_or ends.now k d).node < length forest.now.names) }
+    requires nodes { (k : ℕ) (d : RangeEnd) → k < length ends.now → (IsNode forest.now top) ×
+        ((slice_index_or ends.now k d).IsNode forest.now node) }
     ensures within { result.behind ≤ length ends.now }
     ensures all { (k : ℕ) (d : RangeEnd) → k < length ends.now → is_in result k ≡ false → is_inside forest.now top (slice_index_or ends.now k d).node ≡ false }
 {
@@ -107,8 +107,8 @@ fn part_inside(forest: &Forest, top: Key, ends: &[RangeEnd]) -> Span
 
 /// The places of the ends inside a tree, where each end is tested by going up from its node.
 fn part_tested(forest: &Forest, top: Key, ends: &[RangeEnd]) -> Span
-    requires nodes { (k : ℕ) (d : RangeEnd) → k < length ends.now → (top < length forest.now.names) ×
-        ((slice_index_or ends.now k d).node < length forest.now.names) }
+    requires nodes { (k : ℕ) (d : RangeEnd) → k < length ends.now → (IsNode forest.now top) ×
+        ((slice_index_or ends.now k d).IsNode forest.now node) }
     ensures within { result.behind ≤ length ends.now }
     ensures all { (k : ℕ) (d : RangeEnd) → k < length ends.now → is_in result k ≡ false → is_inside forest.now top (slice_index_or ends.now k d).node ≡ false }
 {

@@ -1,9 +1,10 @@
 //! Ranges with another start or end (DOM Standard, 5.5: set the start or end).
-ghost use Rattle.std.specs.Prelude.{◌≡◌, ◌<◌, length};
+ghost use Rattle.std.specs.Prelude.{◌≡◌};
 ghost use Rattle.dom_model.specs.Ranges.{at};
 ghost use Rattle.dom_ranges.specs.Tables.{range_from, BothEnds};
 ghost use Rattle.dom_ranges.specs.Rules.{IsAtNode};
 ghost use Rattle.dom_ranges.specs.Settings.{start_set, end_set};
+ghost use Rattle.dom_tree.specs.Forest.{IsNode};
 
 use crate::order::{is_before, share_root};
 use crate::table::Points;
@@ -12,7 +13,7 @@ use node_arena::Key;
 
 /// The range with this start. The end stays where it is in the same tree and not before the start, and else goes there.
 pub(crate) fn with_start(forest: &Forest, points: Points, node: Key, offset: usize) -> Points
-    requires node_is_node { node < length forest.now.names }
+    requires node_is_node { IsNode forest.now node }
     requires ends { BothEnds (IsAtNode forest.now.names) (range_from points) }
     ensures { range_from result ≡ start_set forest.now (at node offset) (range_from points) }
 {
@@ -27,7 +28,7 @@ pub(crate) fn with_start(forest: &Forest, points: Points, node: Key, offset: usi
 
 /// The range with this end. The start stays where it is in the same tree and not after the end, and else goes there.
 pub(crate) fn with_end(forest: &Forest, points: Points, node: Key, offset: usize) -> Points
-    requires node_is_node { node < length forest.now.names }
+    requires node_is_node { IsNode forest.now node }
     requires ends { BothEnds (IsAtNode forest.now.names) (range_from points) }
     ensures { range_from result ≡ end_set forest.now (at node offset) (range_from points) }
 {

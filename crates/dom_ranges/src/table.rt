@@ -7,7 +7,7 @@ ghost use Rattle.dom_model.specs.CommandRefusals.{past_limit};
 ghost use Rattle.dom_model.specs.Place.{Boundary};
 ghost use Rattle.dom_model.specs.Ranges.{at, from_to, map_ends, after_insert, after_removal, after_replace_data, after_split, after_join, with_start, with_end};
 ghost use Rattle.dom_model.specs.Tree.{parent_of, index_of, length_of};
-ghost use Rattle.dom_tree.specs.Forest.{name_at};
+ghost use Rattle.dom_tree.specs.Forest.{IsNode, name_of};
 ghost use Rattle.slab.specs.Slab.{get, Updates};
 ghost use Rattle.dom_ranges.specs.Listed.{IsAtTwo};
 ghost use Rattle.dom_ranges.specs.Rules.{Fits, IsAtNode, IsNear, IsUpTo, is_inside};
@@ -145,11 +145,11 @@ impl RangeTable {
         node: Key,
         offset: usize,
     ) -> Result<(), Refusal>
-        requires node_is_node { node < length forest.now.names }
+        requires node_is_node { IsNode forest.now node }
         requires ends { EachRange (BothEnds (IsAtNode forest.now.names)) (ranges_of self.old owner) }
         ensures unknown { (result ≡ Err Refusal.Unknown) ↔ (range_in (ranges_of self.old owner) number ≡ None) }
         ensures index_size { (result ≡ Err Refusal.IndexSize) ↔
-            (IsSome (range_in (ranges_of self.old owner) number) × (length_of forest.now.trees (name_at forest.now.names node) < offset)) }
+            (IsSome (range_in (ranges_of self.old owner) number) × (length_of forest.now.trees (name_of forest.now node) < offset)) }
         ensures other { IfErr result (λ refusal. (refusal ≡ Refusal.Unknown) ⊎ (refusal ≡ Refusal.IndexSize)) }
         ensures set { OnOk result ((o : Owners) →
             ranges_of self.new o ≡ with_ranges self.old owner
@@ -157,7 +157,7 @@ impl RangeTable {
             (option_map (start_set forest.now (at node offset)) (range_in (ranges_of self.old owner) number))) o) }
         ensures named { OnOk result ((o : Owners) →
             named_ranges forest.now.names (ranges_of self.new o) ≡ with_named forest.now.names self.old owner number
-            (with_start forest.now.trees (at (name_at forest.now.names node) offset)) o) }
+            (with_start forest.now.trees (at (name_of forest.now node) offset)) o) }
         ensures err { OnErr result ((o : Owners) → ranges_of self.new o ≡ ranges_of self.old o) }
     {
         let points = self.check(owner, number, forest, node, offset)?;
@@ -175,11 +175,11 @@ impl RangeTable {
         node: Key,
         offset: usize,
     ) -> Result<(), Refusal>
-        requires node_is_node { node < length forest.now.names }
+        requires node_is_node { IsNode forest.now node }
         requires ends { EachRange (BothEnds (IsAtNode forest.now.names)) (ranges_of self.old owner) }
         ensures unknown { (result ≡ Err Refusal.Unknown) ↔ (range_in (ranges_of self.old owner) number ≡ None) }
         ensures index_size { (result ≡ Err Refusal.IndexSize) ↔
-            (IsSome (range_in (ranges_of self.old owner) number) × (length_of forest.now.trees (name_at forest.now.names node) < offset)) }
+            (IsSome (range_in (ranges_of self.old owner) number) × (length_of forest.now.trees (name_of forest.now node) < offset)) }
         ensures other { IfErr result (λ refusal. (refusal ≡ Refusal.Unknown) ⊎ (refusal ≡ Refusal.IndexSize)) }
         ensures set { OnOk result ((o : Owners) →
             ranges_of self.new o ≡ with_ranges self.old owner
@@ -187,7 +187,7 @@ impl RangeTable {
             (option_map (end_set forest.now (at node offset)) (range_in (ranges_of self.old owner) number))) o) }
         ensures named { OnOk result ((o : Owners) →
             named_ranges forest.now.names (ranges_of self.new o) ≡ with_named forest.now.names self.old owner number
-            (with_end forest.now.trees (at (name_at forest.now.names node) offset)) o) }
+            (with_end forest.now.trees (at (name_of forest.now node) offset)) o) }
         ensures err { OnErr result ((o : Owners) → ranges_of self.new o ≡ ranges_of self.old o) }
     {
         let points = self.check(owner, number, forest, node, offset)?;
@@ -204,10 +204,10 @@ impl RangeTable {
         node: Key,
         offset: usize,
     ) -> Result<Points, Refusal>
-        requires { node < length forest.now.names }
+        requires { IsNode forest.now node }
         ensures unknown { (result ≡ Err Refusal.Unknown) ↔ (range_in (ranges_of self.now owner) number ≡ None) }
         ensures index_size { (result ≡ Err Refusal.IndexSize) ↔
-            (IsSome (range_in (ranges_of self.now owner) number) × (length_of forest.now.trees (name_at forest.now.names node) < offset)) }
+            (IsSome (range_in (ranges_of self.now owner) number) × (length_of forest.now.trees (name_of forest.now node) < offset)) }
         ensures other { IfErr result (λ refusal. (refusal ≡ Refusal.Unknown) ⊎ (refusal ≡ Refusal.IndexSize)) }
         ensures points { IfOk result (λ points. range_in (ranges_of self.now owner) number ≡ Some (range_from points)) }
     {
@@ -275,10 +275,10 @@ impl RangeTable {
 
     /// The index of a child, where boundary points stand behind the child in its parent.
     pub(crate) fn index_before(&self, forest: &Forest, parent: Key, child: Key) -> Option<usize>
-        requires { child < length forest.now.names }
-        ensures index { ForSome result (λ i. i ≡ index_of forest.now.trees (name_at forest.now.names child)) }
+        requires { IsNode forest.now child }
+        ensures index { ForSome result (λ i. i ≡ index_of forest.now.trees (name_of forest.now child)) }
         ensures none { result ≡ None → (o : Owners) →
-            EachRange (BothEnds (IsUpTo parent (index_of forest.now.trees (name_at forest.now.names child)))) (ranges_of self.now o) }
+            EachRange (BothEnds (IsUpTo parent (index_of forest.now.trees (name_of forest.now child)))) (ranges_of self.now o) }
     {
         index_before_ends(&self.live, self.ends.as_slice(), forest, parent, child)
     }
@@ -287,16 +287,16 @@ impl RangeTable {
     /// remove): the boundary points inside it go to where it stands, and greater offsets in the parent drop by one. Of
     /// a root, nothing.
     pub fn on_remove(&mut self, forest: &Forest, node: Key)
-        requires node_is_node { node < length forest.now.names }
+        requires node_is_node { IsNode forest.now node }
         requires ends { (o : Owners) → EachRange (BothEnds (IsAtNode forest.now.names)) (ranges_of self.old o) }
-        ensures root { parent_of forest.now.trees (name_at forest.now.names node) ≡ None → (o : Owners) → ranges_of self.new o ≡ ranges_of self.old o }
-        ensures child { (parent : ℕ) → parent < length forest.now.names →
-            parent_of forest.now.trees (name_at forest.now.names node) ≡ Some (name_at forest.now.names parent) → (o : Owners) →
+        ensures root { parent_of forest.now.trees (name_of forest.now node) ≡ None → (o : Owners) → ranges_of self.new o ≡ ranges_of self.old o }
+        ensures child { (parent : ℕ) → IsNode forest.now parent →
+            parent_of forest.now.trees (name_of forest.now node) ≡ Some (name_of forest.now parent) → (o : Owners) →
             ranges_of self.new o ≡ ends_by
-            (after_removal nat_eq (is_inside forest.now node) parent (index_of forest.now.trees (name_at forest.now.names node)))
+            (after_removal nat_eq (is_inside forest.now node) parent (index_of forest.now.trees (name_of forest.now node)))
             (ranges_of self.old o) }
         ensures named { (o : Owners) → named_ranges forest.now.names (ranges_of self.new o) ≡ without_named forest.now
-            (name_at forest.now.names node) (named_ranges forest.now.names (ranges_of self.old o)) }
+            (name_of forest.now node) (named_ranges forest.now.names (ranges_of self.old o)) }
     {
         forest.nodes_stand_once();
         if let Some(parent) = forest.parent(node) {
@@ -306,10 +306,10 @@ impl RangeTable {
 
     /// Moves the ends of all ranges for a child that is to leave its parent.
     fn remove_child(&mut self, forest: &Forest, node: Key, parent: Key)
-        requires node_is_node { node < length forest.now.names }
+        requires node_is_node { IsNode forest.now node }
         requires ends { (o : Owners) → EachRange (BothEnds (IsAtNode forest.now.names)) (ranges_of self.old o) }
         ensures { (o : Owners) → ranges_of self.new o ≡ ends_by
-            (after_removal nat_eq (is_inside forest.now node) parent (index_of forest.now.trees (name_at forest.now.names node)))
+            (after_removal nat_eq (is_inside forest.now node) parent (index_of forest.now.trees (name_of forest.now node)))
             (ranges_of self.old o) }
     {
         let ends = self.ends.as_mut_slice();
@@ -371,8 +371,8 @@ impl RangeTable {
 
     /// The index of a child, as far as boundary points stand in its parent.
     pub(crate) fn index_among(&self, forest: &Forest, parent: Key, child: Key) -> usize
-        requires { child < length forest.now.names }
-        ensures { (o : Owners) → EachRange (BothEnds (IsNear parent (index_of forest.now.trees (name_at forest.now.names child)) result))
+        requires { IsNode forest.now child }
+        ensures { (o : Owners) → EachRange (BothEnds (IsNear parent (index_of forest.now.trees (name_of forest.now child)) result))
             (ranges_of self.now o) }
     {
         index_among_ends(&self.live, self.ends.as_slice(), forest, parent, child)

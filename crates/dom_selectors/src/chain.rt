@@ -1,8 +1,8 @@
 //! Runs of `>` and `+`, from the right: each leaves one node to go to, so a run ends at one node or nowhere.
-ghost use Rattle.std.specs.Prelude.{◌≡◌, ◌<◌, ◌≤◌, false, length, MatchOption, IfSome};
+ghost use Rattle.std.specs.Prelude.{◌≡◌, ◌≤◌, false, length, MatchOption, IfSome};
 ghost use Rattle.std.specs.List.{list_any};
 ghost use Rattle.dom_model.specs.Selectors.{complex_matches as spec_complex_matches, elements_before};
-ghost use Rattle.dom_tree.specs.Forest.{name_at};
+ghost use Rattle.dom_tree.specs.Forest.{IsNode, name_of};
 ghost use Rattle.dom_selectors.specs.Search.{ChainEnds, ChainIsBefore};
 ghost use Rattle.dom_selectors.specs.Views.{complex_from};
 
@@ -27,12 +27,12 @@ pub(crate) fn chain_end<'a>(
     links: &'a [Link],
     key: Key,
 ) -> Option<Place<'a>>
-    requires { key < length forest.now.names }
+    requires { IsNode forest.now key }
     ensures ends { MatchOption result (spec_complex_matches forest.now.trees (complex_from first.now links.entry.now)
-        (name_at forest.now.names key) ≡ false)
-        (λ end. ChainEnds forest.now.trees (complex_from first.now links.entry.now) (name_at forest.now.names key)
-        (complex_from first.now end.links.now) (name_at forest.now.names end.key)) }
-    ensures node { IfSome result (λ end. end.key < length forest.now.names) }
+        (name_of forest.now key) ≡ false)
+        (λ end. ChainEnds forest.now.trees (complex_from first.now links.entry.now) (name_of forest.now key)
+        (complex_from first.now end.links.now) (name_of forest.now end.key)) }
+    ensures node { IfSome result (λ end. IsNode forest.now end.key) }
     ensures shorter { IfSome result (λ end. length end.links.now ≤ length links.entry.now) }
 {
     forest.nodes_stand_once();
@@ -71,12 +71,12 @@ pub(crate) fn chain_before<'a>(
     links: &'a [Link],
     key: Key,
 ) -> Option<Place<'a>>
-    requires { key < length forest.now.names }
+    requires { IsNode forest.now key }
     ensures ends { MatchOption result (list_any (spec_complex_matches forest.now.trees (complex_from first.now links.entry.now))
-        (elements_before forest.now.trees (name_at forest.now.names key)) ≡ false)
-        (λ end. ChainIsBefore forest.now.trees (complex_from first.now links.entry.now) (name_at forest.now.names key)
-        (complex_from first.now end.links.now) (name_at forest.now.names end.key)) }
-    ensures node { IfSome result (λ end. end.key < length forest.now.names) }
+        (elements_before forest.now.trees (name_of forest.now key)) ≡ false)
+        (λ end. ChainIsBefore forest.now.trees (complex_from first.now links.entry.now) (name_of forest.now key)
+        (complex_from first.now end.links.now) (name_of forest.now end.key)) }
+    ensures node { IfSome result (λ end. IsNode forest.now end.key) }
     ensures shorter { IfSome result (λ end. length end.links.now ≤ length links.entry.now) }
 {
     forest.nodes_stand_once();

@@ -1,11 +1,11 @@
 //! Which elements match complex selectors, from the right by links. Left of `~` and of white space there is more than
 //! one node to try, the nearest first. What is left of these again is tried from the first alone at which all up to it
 //! matches, since what stands before or above another one stands before or above that one too: no choice is taken back.
-ghost use Rattle.std.specs.Prelude.{◌≡◌, ◌<◌, ◌≤◌, false, length, MatchOption, IfSome};
+ghost use Rattle.std.specs.Prelude.{◌≡◌, ◌≤◌, false, length, MatchOption, IfSome};
 ghost use Rattle.std.specs.List.{list_any};
 ghost use Rattle.dom_model.specs.Tree.{ancestors};
 ghost use Rattle.dom_model.specs.Selectors.{complex_matches as spec_complex_matches};
-ghost use Rattle.dom_tree.specs.Forest.{name_at};
+ghost use Rattle.dom_tree.specs.Forest.{IsNode, name_of};
 ghost use Rattle.dom_selectors.specs.Search.{SegmentEnds, SegmentIsAbove};
 ghost use Rattle.dom_selectors.specs.Views.{complex_from, complex_view};
 
@@ -22,12 +22,12 @@ fn segment_end<'a>(
     links: &'a [Link],
     key: Key,
 ) -> Option<Place<'a>>
-    requires { key < length forest.now.names }
+    requires { IsNode forest.now key }
     ensures ends { MatchOption result (spec_complex_matches forest.now.trees (complex_from first.now links.entry.now)
-        (name_at forest.now.names key) ≡ false)
-        (λ end. SegmentEnds forest.now.trees (complex_from first.now links.entry.now) (name_at forest.now.names key)
-        (complex_from first.now end.links.now) (name_at forest.now.names end.key)) }
-    ensures node { IfSome result (λ end. end.key < length forest.now.names) }
+        (name_of forest.now key) ≡ false)
+        (λ end. SegmentEnds forest.now.trees (complex_from first.now links.entry.now) (name_of forest.now key)
+        (complex_from first.now end.links.now) (name_of forest.now end.key)) }
+    ensures node { IfSome result (λ end. IsNode forest.now end.key) }
     ensures shorter { IfSome result (λ end. length end.links.now ≤ length links.entry.now) }
 {
     forest.nodes_stand_once();
@@ -53,12 +53,12 @@ fn segment_above<'a>(
     links: &'a [Link],
     key: Key,
 ) -> Option<Place<'a>>
-    requires { key < length forest.now.names }
+    requires { IsNode forest.now key }
     ensures ends { MatchOption result (list_any (spec_complex_matches forest.now.trees (complex_from first.now links.entry.now))
-        (ancestors forest.now.trees (name_at forest.now.names key)) ≡ false)
-        (λ end. SegmentIsAbove forest.now.trees (complex_from first.now links.entry.now) (name_at forest.now.names key)
-        (complex_from first.now end.links.now) (name_at forest.now.names end.key)) }
-    ensures node { IfSome result (λ end. end.key < length forest.now.names) }
+        (ancestors forest.now.trees (name_of forest.now key)) ≡ false)
+        (λ end. SegmentIsAbove forest.now.trees (complex_from first.now links.entry.now) (name_of forest.now key)
+        (complex_from first.now end.links.now) (name_of forest.now end.key)) }
+    ensures node { IfSome result (λ end. IsNode forest.now end.key) }
     ensures shorter { IfSome result (λ end. length end.links.now ≤ length links.entry.now) }
 {
     forest.nodes_stand_once();
@@ -74,8 +74,8 @@ fn segment_above<'a>(
 
 /// Whether a node matches a complex selector.
 pub(crate) fn complex_matches(forest: &Forest, complex: &Complex, key: Key) -> bool
-    requires { key < length forest.now.names }
-    ensures { result ≡ spec_complex_matches forest.now.trees (complex_view complex.now) (name_at forest.now.names key) }
+    requires { IsNode forest.now key }
+    ensures { result ≡ spec_complex_matches forest.now.trees (complex_view complex.now) (name_of forest.now key) }
 {
     let first = complex.first.as_slice();
     let Some(mut end) = segment_end(forest, first, complex.links.as_slice(), key) else {

@@ -1,11 +1,11 @@
 //! Which elements match simple selectors and compounds.
-ghost use Rattle.std.specs.Prelude.{◌≡◌, ◌<◌, ◌&&◌, length, map, string_bytes};
+ghost use Rattle.std.specs.Prelude.{◌≡◌, ◌&&◌, map, string_bytes};
 ghost use Rattle.std.specs.List.{list_all};
 ghost use Rattle.dom_model.specs.Names.{text_eq};
 ghost use Rattle.dom_model.specs.Tree.{node_in};
 ghost use Rattle.dom_model.specs.Selectors.{attribute_passes as spec_attribute_passes, simple_matches as spec_simple_matches};
 ghost use Rattle.dom_model.specs.Selectors.{part_matches as spec_part_matches, compound_matches as spec_compound_matches};
-ghost use Rattle.dom_tree.specs.Forest.{name_at};
+ghost use Rattle.dom_tree.specs.Forest.{IsNode, name_of};
 ghost use Rattle.dom_selectors.specs.Views.{test_view, simple_view, part_view, compound_view};
 
 use crate::selector::{AttributeTest, CompoundPart, Simple};
@@ -22,8 +22,8 @@ fn attribute_passes(
     test: AttributeTest,
     value: &[u16],
 ) -> bool
-    requires { key < length forest.now.names }
-    ensures { result ≡ spec_attribute_passes (node_in forest.now.trees (name_at forest.now.names key)) name.now (test_view test) value.now }
+    requires { IsNode forest.now key }
+    ensures { result ≡ spec_attribute_passes (node_in forest.now.trees (name_of forest.now key)) name.now (test_view test) value.now }
 {
     match forest.attr(key, name) {
         Some(text) => value_passes(test, value, text),
@@ -40,8 +40,8 @@ fn is_same_name(name: &str, other: &str) -> bool
 
 /// Whether an element matches a simple selector.
 fn simple_matches(forest: &Forest, simple: &Simple, key: Key) -> bool
-    requires { key < length forest.now.names }
-    ensures { result ≡ spec_simple_matches forest.now.trees (name_at forest.now.names key) (simple_view simple.now) }
+    requires { IsNode forest.now key }
+    ensures { result ≡ spec_simple_matches forest.now.trees (name_of forest.now key) (simple_view simple.now) }
 {
     match simple {
         Simple::OfType(name) => is_same_name(forest.element(key), name.as_str()),
@@ -61,16 +61,16 @@ fn simple_matches(forest: &Forest, simple: &Simple, key: Key) -> bool
 
 /// Whether an element matches all of some simple selectors.
 fn all_simple_match(forest: &Forest, simples: &[Simple], key: Key) -> bool
-    requires { key < length forest.now.names }
-    ensures { result ≡ list_all (λ s. spec_simple_matches forest.now.trees (name_at forest.now.names key) (simple_view s)) simples.now }
+    requires { IsNode forest.now key }
+    ensures { result ≡ list_all (λ s. spec_simple_matches forest.now.trees (name_of forest.now key) (simple_view s)) simples.now }
 {
     simples.iter().all(|s| simple_matches(forest, s, key))
 }
 
 /// Whether an element matches a part of a compound.
 fn part_matches(forest: &Forest, part: &CompoundPart, key: Key) -> bool
-    requires { key < length forest.now.names }
-    ensures { result ≡ spec_part_matches forest.now.trees (name_at forest.now.names key) (part_view part.now) }
+    requires { IsNode forest.now key }
+    ensures { result ≡ spec_part_matches forest.now.trees (name_of forest.now key) (part_view part.now) }
 {
     match part {
         CompoundPart::Is(simple) => simple_matches(forest, simple, key),
@@ -80,16 +80,16 @@ fn part_matches(forest: &Forest, part: &CompoundPart, key: Key) -> bool
 
 /// Whether an element matches all of some parts of a compound.
 fn all_parts_match(forest: &Forest, parts: &[CompoundPart], key: Key) -> bool
-    requires { key < length forest.now.names }
-    ensures { result ≡ list_all (λ p. spec_part_matches forest.now.trees (name_at forest.now.names key) (part_view p)) parts.now }
+    requires { IsNode forest.now key }
+    ensures { result ≡ list_all (λ p. spec_part_matches forest.now.trees (name_of forest.now key) (part_view p)) parts.now }
 {
     parts.iter().all(|p| part_matches(forest, p, key))
 }
 
 /// Whether a node is an element that matches a compound.
 pub(crate) fn compound_matches(forest: &Forest, parts: &[CompoundPart], key: Key) -> bool
-    requires { key < length forest.now.names }
-    ensures { result ≡ spec_compound_matches forest.now.trees (compound_view parts.now) (name_at forest.now.names key) }
+    requires { IsNode forest.now key }
+    ensures { result ≡ spec_compound_matches forest.now.trees (compound_view parts.now) (name_of forest.now key) }
 {
     is_element(forest, key) && all_parts_match(forest, parts, key)
 }

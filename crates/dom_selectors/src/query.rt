@@ -1,8 +1,8 @@
 //! Matches and queries.
-ghost use Rattle.std.specs.Prelude.{◌≡◌, ◌<◌, length, map, IfOk, All};
+ghost use Rattle.std.specs.Prelude.{◌≡◌, map, IfOk, All};
 ghost use Rattle.std.specs.List.{list_any};
 ghost use Rattle.dom_model.specs.Selectors.{complex_matches as spec_complex_matches, selector_matches, query_all as spec_query_all};
-ghost use Rattle.dom_tree.specs.Forest.{name_at};
+ghost use Rattle.dom_tree.specs.Forest.{IsNode, name_of};
 ghost use Rattle.dom_selectors.specs.Views.{complex_view, selector_view};
 
 use crate::joined::complex_matches;
@@ -13,8 +13,8 @@ use std::alloc::{AllocError, Global};
 
 /// Whether a node matches some of these complex selectors.
 fn some_complex_matches(forest: &Forest, complexes: &[Complex], key: Key) -> bool
-    requires { key < length forest.now.names }
-    ensures { result ≡ list_any (λ c. spec_complex_matches forest.now.trees (complex_view c) (name_at forest.now.names key)) complexes.now }
+    requires { IsNode forest.now key }
+    ensures { result ≡ list_any (λ c. spec_complex_matches forest.now.trees (complex_view c) (name_of forest.now key)) complexes.now }
 {
     complexes.iter().any(|c| complex_matches(forest, c, key))
 }
@@ -23,8 +23,8 @@ impl Selector {
     /// Whether an element matches a selector, which a node of another kind never does (DOM Standard, matches()). It
     /// takes no memory.
     pub fn matches(&self, forest: &Forest, key: Key) -> bool
-        requires { key < length forest.now.names }
-        ensures { result ≡ selector_matches forest.now.trees (selector_view self.now) (name_at forest.now.names key) }
+        requires { IsNode forest.now key }
+        ensures { result ≡ selector_matches forest.now.trees (selector_view self.now) (name_of forest.now key) }
     {
         some_complex_matches(forest, self.complexes.as_slice(), key)
     }
@@ -38,10 +38,10 @@ impl Selector {
         forest: &Forest,
         top: Key,
     ) -> Result<Vec<Key>, AllocError>
-        requires { top < length forest.now.names }
-        ensures found { IfOk result (λ keys. map (name_at forest.now.names) keys.items ≡ spec_query_all forest.now.trees (selector_view self.now)
-            (name_at forest.now.names top)) }
-        ensures nodes { IfOk result (λ keys. All (λ k. k < length forest.now.names) keys.items) }
+        requires { IsNode forest.now top }
+        ensures found { IfOk result (λ keys. map (name_of forest.now) keys.items ≡ spec_query_all forest.now.trees (selector_view self.now)
+            (name_of forest.now top)) }
+        ensures nodes { IfOk result (λ keys. All (IsNode forest.now) keys.items) }
     {
         forest.nodes_stand_once();
         let mut found = Vec::new(alloc);

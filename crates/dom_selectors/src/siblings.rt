@@ -1,10 +1,10 @@
 //! The elements among the siblings of a node.
-ghost use Rattle.std.specs.Prelude.{◌≡◌, ◌<◌, ◌∷◌, [], ◌++◌, length};
+ghost use Rattle.std.specs.Prelude.{◌≡◌, ◌∷◌, [], ◌++◌};
 ghost use Rattle.std.specs.Option.{option_map, ForSome};
 ghost use Rattle.dom_model.specs.Names.{first_of, last_of};
 ghost use Rattle.dom_model.specs.Tree.{is_element as spec_is_element, kind_of};
 ghost use Rattle.dom_model.specs.Selectors.{elements_before, elements_behind};
-ghost use Rattle.dom_tree.specs.Forest.{name_at};
+ghost use Rattle.dom_tree.specs.Forest.{IsNode, name_of};
 
 use dom_base::Kind;
 use dom_tree::Forest;
@@ -12,17 +12,17 @@ use node_arena::Key;
 
 /// Whether a node is an element.
 pub(crate) fn is_element(forest: &Forest, key: Key) -> bool
-    requires { key < length forest.now.names }
-    ensures { result ≡ spec_is_element (kind_of forest.now.trees (name_at forest.now.names key)) }
+    requires { IsNode forest.now key }
+    ensures { result ≡ spec_is_element (kind_of forest.now.trees (name_of forest.now key)) }
 {
     matches!(forest.kind(key), Kind::Element)
 }
 
 /// The nearest element before a node among its siblings.
 pub(crate) fn element_before(forest: &Forest, key: Key) -> Option<Key>
-    requires { key < length forest.now.names }
-    ensures value { option_map (name_at forest.now.names) result ≡ last_of (elements_before forest.now.trees (name_at forest.now.names key)) }
-    ensures node { ForSome result (λ k. k < length forest.now.names) }
+    requires { IsNode forest.now key }
+    ensures value { option_map (name_of forest.now) result ≡ last_of (elements_before forest.now.trees (name_of forest.now key)) }
+    ensures node { ForSome result (IsNode forest.now) }
 {
     forest.nodes_stand_once();
     let mut at = forest.prev(key);
@@ -37,9 +37,9 @@ pub(crate) fn element_before(forest: &Forest, key: Key) -> Option<Key>
 
 /// The nearest element behind a node among its siblings.
 pub(crate) fn element_behind(forest: &Forest, key: Key) -> Option<Key>
-    requires { key < length forest.now.names }
-    ensures value { option_map (name_at forest.now.names) result ≡ first_of (elements_behind forest.now.trees (name_at forest.now.names key)) }
-    ensures node { ForSome result (λ k. k < length forest.now.names) }
+    requires { IsNode forest.now key }
+    ensures value { option_map (name_of forest.now) result ≡ first_of (elements_behind forest.now.trees (name_of forest.now key)) }
+    ensures node { ForSome result (IsNode forest.now) }
 {
     forest.nodes_stand_once();
     let mut at = forest.next(key);

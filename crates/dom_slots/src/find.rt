@@ -1,11 +1,11 @@
 //! Slots by their names.
-ghost use Rattle.std.specs.Prelude.{◌≡◌, ◌<◌, map, length, find, filter, Some, IfOk, All};
+ghost use Rattle.std.specs.Prelude.{◌≡◌, map, find, filter, Some, IfOk, All};
 ghost use Rattle.std.specs.Option.{option_map, ForSome};
 ghost use Rattle.dom_model.specs.Slots.{is_slot_element, has_slot_name, slottable_name, slot_name, slots_among};
 ghost use Rattle.dom_base.specs.declared.NodeName.{NodeName as Name};
 ghost use Rattle.dom_model.specs.Names.{text_eq, name_eq, first_of, items_after};
 ghost use Rattle.dom_model.specs.Tree.{Node, node_in, nodes, subtree, parent_of, siblings};
-ghost use Rattle.dom_tree.specs.Forest.{name_at};
+ghost use Rattle.dom_tree.specs.Forest.{IsNode, name_of};
 ghost use Rattle.dom_slots.specs.Shadows.{looks_for};
 
 use dom_base::Kind;
@@ -15,10 +15,10 @@ use std::alloc::{AllocError, Global};
 
 /// The first slot of a name in the tree of `top`.
 pub(crate) fn slot_named(forest: &Forest, top: Key, name: &[u16]) -> Option<Key>
-    requires { top < length forest.now.names }
-    ensures value { option_map (name_at forest.now.names) result ≡ option_map (λ (n : Node). n.name)
-        (find (has_slot_name name.now) (nodes (subtree forest.now.trees (name_at forest.now.names top)))) }
-    ensures node { ForSome result (λ k. k < length forest.now.names) }
+    requires { IsNode forest.now top }
+    ensures value { option_map (name_of forest.now) result ≡ option_map (λ (n : Node). n.name)
+        (find (has_slot_name name.now) (nodes (subtree forest.now.trees (name_of forest.now top)))) }
+    ensures node { ForSome result (IsNode forest.now) }
 {
     forest.nodes_stand_once();
     let mut at = Some(top);
@@ -33,9 +33,9 @@ pub(crate) fn slot_named(forest: &Forest, top: Key, name: &[u16]) -> Option<Key>
 
 /// The elements named `slot` in the tree of `top`, in tree order.
 pub(crate) fn slots_below(alloc: Global, forest: &Forest, top: Key) -> Result<Vec<Key>, AllocError>
-    requires { top < length forest.now.names }
-    ensures value { IfOk result (λ keys. map (name_at forest.now.names) keys.items ≡ slots_among (subtree forest.now.trees (name_at forest.now.names top))) }
-    ensures nodes { IfOk result (λ keys. All (λ k. k < length forest.now.names) keys.items) }
+    requires { IsNode forest.now top }
+    ensures value { IfOk result (λ keys. map (name_of forest.now) keys.items ≡ slots_among (subtree forest.now.trees (name_of forest.now top))) }
+    ensures nodes { IfOk result (λ keys. All (IsNode forest.now) keys.items) }
 {
     forest.nodes_stand_once();
     let mut keys = Vec::new(alloc);
@@ -51,24 +51,24 @@ pub(crate) fn slots_below(alloc: Global, forest: &Forest, top: Key) -> Result<Ve
 
 /// Whether a node is an element named `slot` (DOM Standard, concept: slot).
 pub(crate) fn is_slot(forest: &Forest, key: Key) -> bool
-    requires { key < length forest.now.names }
-    ensures { result ≡ is_slot_element (node_in forest.now.trees (name_at forest.now.names key)) }
+    requires { IsNode forest.now key }
+    ensures { result ≡ is_slot_element (node_in forest.now.trees (name_of forest.now key)) }
 {
     matches!(forest.kind(key), Kind::Element) && is_word(forest.element(key), "slot")
 }
 
 /// Whether a node is a slot of this name.
 fn has_name(forest: &Forest, key: Key, name: &[u16]) -> bool
-    requires { key < length forest.now.names }
-    ensures { result ≡ has_slot_name name.now (node_in forest.now.trees (name_at forest.now.names key)) }
+    requires { IsNode forest.now key }
+    ensures { result ≡ has_slot_name name.now (node_in forest.now.trees (name_of forest.now key)) }
 {
     is_slot(forest, key) && is_same(slot_name(forest, key), name)
 }
 
 /// The name of a slot, empty without the attribute (DOM Standard, concept: slot, name).
 pub(crate) fn slot_name(forest: &Forest, key: Key) -> &[u16]
-    requires { key < length forest.now.names }
-    ensures { result.now ≡ slot_name (node_in forest.now.trees (name_at forest.now.names key)) }
+    requires { IsNode forest.now key }
+    ensures { result.now ≡ slot_name (node_in forest.now.trees (name_of forest.now key)) }
 {
     match forest.attr(key, "name") {
         Some(name) => name,
@@ -79,8 +79,8 @@ pub(crate) fn slot_name(forest: &Forest, key: Key) -> &[u16]
 /// The name by which an element or a Text looks for its slot; other nodes are no slottables (DOM Standard, concept:
 /// slottable, name).
 pub(crate) fn slottable_name(forest: &Forest, key: Key) -> Option<&[u16]>
-    requires { key < length forest.now.names }
-    ensures { option_map (λ name. name.now) result ≡ slottable_name (node_in forest.now.trees (name_at forest.now.names key)) }
+    requires { IsNode forest.now key }
+    ensures { option_map (λ name. name.now) result ≡ slottable_name (node_in forest.now.trees (name_of forest.now key)) }
 {
     match forest.kind(key) {
         Kind::Element => match forest.attr(key, "slot") {
@@ -94,8 +94,8 @@ pub(crate) fn slottable_name(forest: &Forest, key: Key) -> Option<&[u16]>
 
 /// Whether a node looks for a slot of this name.
 pub(crate) fn looks_for(forest: &Forest, key: Key, name: &[u16]) -> bool
-    requires { key < length forest.now.names }
-    ensures { result ≡ looks_for name.now (node_in forest.now.trees (name_at forest.now.names key)) }
+    requires { IsNode forest.now key }
+    ensures { result ≡ looks_for name.now (node_in forest.now.trees (name_of forest.now key)) }
 {
     match slottable_name(forest, key) {
         Some(wanted) => is_same(wanted, name),
@@ -105,12 +105,12 @@ pub(crate) fn looks_for(forest: &Forest, key: Key, name: &[u16]) -> bool
 
 /// The first sibling behind a child that looks for a slot of this name. It looks at each sibling up to that one.
 pub(crate) fn next_looking(forest: &Forest, child: Key, name: &[u16]) -> Option<Key>
-    requires node { child < length forest.now.names }
-    requires parent { (h : Name) × (parent_of forest.now.trees (name_at forest.now.names child) ≡ Some h) }
-    ensures value { option_map (name_at forest.now.names) result ≡ first_of
+    requires node { IsNode forest.now child }
+    requires parent { (h : Name) × (parent_of forest.now.trees (name_of forest.now child) ≡ Some h) }
+    ensures value { option_map (name_of forest.now) result ≡ first_of
         (filter (λ y. looks_for name.now (node_in forest.now.trees y))
-        (items_after name_eq (name_at forest.now.names child) (siblings forest.now.trees (name_at forest.now.names child)))) }
-    ensures node { ForSome result (λ k. k < length forest.now.names) }
+        (items_after name_eq (name_of forest.now child) (siblings forest.now.trees (name_of forest.now child)))) }
+    ensures node { ForSome result (IsNode forest.now) }
 {
     forest.nodes_stand_once();
     let mut at = forest.next(child);

@@ -1,9 +1,9 @@
 //! Which nodes an iterator or a walker sees.
-ghost use Rattle.std.specs.Prelude.{◌≡◌, ◌<◌, length};
+ghost use Rattle.std.specs.Prelude.{◌≡◌};
 ghost use Rattle.dom_model.specs.Names.{text_eq};
 ghost use Rattle.dom_model.specs.Traversal.{accepts, answer_at, is_shown};
 ghost use Rattle.dom_model.specs.Tree.{is_element, kind_of};
-ghost use Rattle.dom_tree.specs.Forest.{name_at};
+ghost use Rattle.dom_tree.specs.Forest.{IsNode, name_of};
 ghost use Rattle.dom_traversal.specs.Filters.{filter_of, show_of};
 
 use dom_base::{Kind, Verdict};
@@ -22,8 +22,8 @@ pub struct Filter {
 impl Filter {
     /// What the filter answers at a node; none where it accepts it.
     pub(crate) fn answer(&self, forest: &Forest, key: Key) -> Option<Verdict>
-        requires { key < length forest.now.names }
-        ensures { result ≡ answer_at forest.now.trees (filter_of self.now) (name_at forest.now.names key) }
+        requires { IsNode forest.now key }
+        ensures { result ≡ answer_at forest.now.trees (filter_of self.now) (name_of forest.now key) }
     {
         let kind = forest.kind(key);
         if !is_shown(self.show, kind) {
@@ -42,8 +42,8 @@ impl Filter {
 
     /// Whether the filter accepts a node.
     pub(crate) fn accepts(&self, forest: &Forest, key: Key) -> bool
-        requires { key < length forest.now.names }
-        ensures { result ≡ accepts forest.now.trees (filter_of self.now) (name_at forest.now.names key) }
+        requires { IsNode forest.now key }
+        ensures { result ≡ accepts forest.now.trees (filter_of self.now) (name_of forest.now key) }
     {
         self.answer(forest, key).is_none()
     }

@@ -4,7 +4,7 @@ ghost use Rattle.std.specs.Option.{option_map, ForSome};
 ghost use Rattle.dom_model.specs.Names.{name_eq};
 ghost use Rattle.dom_model.specs.Traversal.{nodes_ahead, nodes_passed, iterator_next_node, iterator_previous_node, adjusted_iterator};
 ghost use Rattle.dom_model.specs.Tree.{nodes, is_inclusive_ancestor};
-ghost use Rattle.dom_tree.specs.Forest.{NamedTrees, name_at};
+ghost use Rattle.dom_tree.specs.Forest.{NamedTrees, name_at, IsNode, name_of};
 ghost use Rattle.dom_traversal.specs.Filters.{filter_of};
 ghost use Rattle.dom_traversal.specs.Iterators.{KeyedIterator, iterator_view, IsIteratorOf, iterator_at, iterator_left, HasLeft, with_taken_out};
 ghost use Rattle.dom_traversal.specs.Within.{from_node, up_to_node, StandsIn};
@@ -62,7 +62,7 @@ impl Iter {
     /// nextNode).
     pub fn next(&mut self, forest: &Forest) -> Option<Key>
         requires { IsIteratorOf forest.now self.old }
-        ensures value { option_map (name_at forest.now.names) result ≡ iterator_next_node forest.now.trees (iterator_view forest.now.names self.old) }
+        ensures value { option_map (name_of forest.now) result ≡ iterator_next_node forest.now.trees (iterator_view forest.now.names self.old) }
         ensures state { self.new ≡ iterator_at self.old false result }
         ensures kept { IsIteratorOf forest.now self.new }
         // So a loop over the nodes ends.
@@ -81,7 +81,7 @@ impl Iter {
     /// previousNode).
     pub fn previous(&mut self, forest: &Forest) -> Option<Key>
         requires { IsIteratorOf forest.now self.old }
-        ensures value { option_map (name_at forest.now.names) result ≡ iterator_previous_node forest.now.trees (iterator_view forest.now.names self.old) }
+        ensures value { option_map (name_of forest.now) result ≡ iterator_previous_node forest.now.trees (iterator_view forest.now.names self.old) }
         ensures state { self.new ≡ iterator_at self.old true result }
         ensures kept { IsIteratorOf forest.now self.new }
     {
@@ -96,9 +96,9 @@ impl Iter {
     /// Leaves the tree of a node that is about to be removed, while it is still linked (DOM Standard, NodeIterator
     /// pre-remove steps).
     pub fn on_remove(&mut self, forest: &Forest, node: Key)
-        requires node_is_node { node < length forest.now.names }
+        requires node_is_node { IsNode forest.now node }
         requires iterator { IsIteratorOf forest.now self.old }
-        ensures value { iterator_view forest.now.names self.new ≡ adjusted_iterator forest.now.trees (name_at forest.now.names node)
+        ensures value { iterator_view forest.now.names self.new ≡ adjusted_iterator forest.now.trees (name_of forest.now node)
             (iterator_view forest.now.names self.old) }
         ensures root { self.new.root ≡ self.old.root }
         ensures kept { IsIteratorOf forest.now self.new }
@@ -125,8 +125,8 @@ impl Iter {
     /// The first node behind the iterator.
     fn ahead(&self, forest: &Forest) -> Option<Key>
         requires { IsIteratorOf forest.now self.now }
-        ensures value { from_node forest.now.trees (name_at forest.now.names self.now.root)
-            (option_map (name_at forest.now.names) result) ≡ nodes_ahead forest.now.trees (iterator_view forest.now.names self.now) }
+        ensures value { from_node forest.now.trees (name_of forest.now self.now.root)
+            (option_map (name_of forest.now) result) ≡ nodes_ahead forest.now.trees (iterator_view forest.now.names self.now) }
         ensures stands { ForSome result (StandsIn forest.now self.now.root) }
     {
         forest.nodes_stand_once();
@@ -139,8 +139,8 @@ impl Iter {
     /// The last node before the iterator.
     fn passed(&self, forest: &Forest) -> Option<Key>
         requires { IsIteratorOf forest.now self.now }
-        ensures value { up_to_node forest.now.trees (name_at forest.now.names self.now.root)
-            (option_map (name_at forest.now.names) result) ≡ nodes_passed forest.now.trees (iterator_view forest.now.names self.now) }
+        ensures value { up_to_node forest.now.trees (name_of forest.now self.now.root)
+            (option_map (name_of forest.now) result) ≡ nodes_passed forest.now.trees (iterator_view forest.now.names self.now) }
         ensures stands { ForSome result (StandsIn forest.now self.now.root) }
     {
         forest.nodes_stand_once();
@@ -154,7 +154,7 @@ impl Iter {
 /// Holds of every forest: an iterator whose reference has left a node's tree stays one of the forest when that tree is
 /// taken out.
 pub fn iterators_stay(forest: &Forest)
-    ensures { (i : KeyedIterator) (node : ℕ) → node < length forest.now.names → IsIteratorOf forest.now i → HasLeft forest.now i node →
+    ensures { (i : KeyedIterator) (node : ℕ) → IsNode forest.now node → IsIteratorOf forest.now i → HasLeft forest.now i node →
         IsIteratorOf (with_taken_out forest.now node) i }
 {
     forest.nodes_stand_once();

@@ -3,7 +3,7 @@ ghost use Rattle.std.specs.Prelude.{◌≡◌, ◌∷◌, [], ℕ, true, false, 
 ghost use Rattle.dom_base.specs.declared.Move.TheVariants as moves;
 ghost use Rattle.dom_model.specs.Traversal.{iterator_next_node, walker_move};
 ghost use Rattle.dom_model.specs.Tree.{is_inclusive_ancestor};
-ghost use Rattle.dom_tree.specs.Forest.{name_at};
+ghost use Rattle.dom_tree.specs.Forest.{name_of};
 ghost use Rattle.dom_traversal.specs.Iterators.{KeyedIterator, IsIteratorOf, iterator_rest, iterator_view};
 ghost use Rattle.dom_traversal.specs.Walkers.{KeyedWalker, IsWalkerOf, walker_rest, walker_view};
 
@@ -14,18 +14,18 @@ use dom_tree::Forest;
 /// has no name, and so rejects nothing.
 pub fn law_rest(forest: &Forest)
     ensures iterator { (i : KeyedIterator) (k : ℕ) → IsIteratorOf forest.now i →
-        Some (name_at forest.now.names k) ≡ iterator_next_node forest.now.trees (iterator_view forest.now.names i) →
-        iterator_rest forest.now i ≡ name_at forest.now.names k ∷ iterator_rest forest.now record i { reference = k; before = false } }
+        Some (name_of forest.now k) ≡ iterator_next_node forest.now.trees (iterator_view forest.now.names i) →
+        iterator_rest forest.now i ≡ name_of forest.now k ∷ iterator_rest forest.now record i { reference = k; before = false } }
     ensures iterator_end { (i : KeyedIterator) → None ≡ iterator_next_node forest.now.trees (iterator_view forest.now.names i) →
         iterator_rest forest.now i ≡ [] }
     ensures walker { (w : KeyedWalker) (k : ℕ) → IsWalkerOf forest.now w → w.filter.named ≡ None →
-        Some (name_at forest.now.names k) ≡ walker_move forest.now.trees (walker_view forest.now.names w) moves.Next →
-        walker_rest forest.now w ≡ name_at forest.now.names k ∷ walker_rest forest.now record w { current = k } }
+        Some (name_of forest.now k) ≡ walker_move forest.now.trees (walker_view forest.now.names w) moves.Next →
+        walker_rest forest.now w ≡ name_of forest.now k ∷ walker_rest forest.now record w { current = k } }
     ensures walker_stays { (w : KeyedWalker) (k : ℕ) → IsWalkerOf forest.now w →
-        Some (name_at forest.now.names k) ≡ walker_move forest.now.trees (walker_view forest.now.names w) moves.Next →
-        is_inclusive_ancestor forest.now.trees (name_at forest.now.names w.root) (name_at forest.now.names k) ≡ true }
+        Some (name_of forest.now k) ≡ walker_move forest.now.trees (walker_view forest.now.names w) moves.Next →
+        is_inclusive_ancestor forest.now.trees (name_of forest.now w.root) (name_of forest.now k) ≡ true }
     ensures walker_end { (w : KeyedWalker) → w.filter.named ≡ None →
-        is_inclusive_ancestor forest.now.trees (name_at forest.now.names w.root) (name_at forest.now.names w.current) ≡ true →
+        is_inclusive_ancestor forest.now.trees (name_of forest.now w.root) (name_of forest.now w.current) ≡ true →
         None ≡ walker_move forest.now.trees (walker_view forest.now.names w) moves.Next → walker_rest forest.now w ≡ [] }
 {
     forest.nodes_stand_once();

@@ -1,12 +1,12 @@
 //! Searches for the nodes that a filter accepts, along the links of a tree.
-ghost use Rattle.std.specs.Prelude.{◌≡◌, ◌<◌, ◌++◌, ◌∷◌, [], List, Some, true, length, filter};
+ghost use Rattle.std.specs.Prelude.{◌≡◌, ◌++◌, ◌∷◌, [], List, Some, true, filter};
 ghost use Rattle.std.specs.List.{list_all};
 ghost use Rattle.dom_base.specs.declared.NodeName.{NodeName as Name};
 ghost use Rattle.std.specs.Option.{option_map, ForSome};
 ghost use Rattle.dom_model.specs.Names.{first_of, last_of};
 ghost use Rattle.dom_model.specs.Traversal.{accepts};
 ghost use Rattle.dom_model.specs.Tree.{ancestors, inclusive_descendants, is_inclusive_ancestor};
-ghost use Rattle.dom_tree.specs.Forest.{name_at};
+ghost use Rattle.dom_tree.specs.Forest.{IsNode, name_of};
 ghost use Rattle.dom_traversal.specs.Filters.{filter_of};
 ghost use Rattle.dom_traversal.specs.Within.{beyond, from_node, up_to_node, up_to_tree, StandsIn};
 ghost use Rattle.dom_traversal.specs.Walkers.{is_entered};
@@ -19,11 +19,11 @@ use node_arena::Key;
 impl Filter {
     /// The first node that the filter accepts, from a node on in the tree of `top`.
     pub(crate) fn first_from(&self, forest: &Forest, from: Option<Key>, top: Key) -> Option<Key>
-        requires top_is_node { top < length forest.now.names }
+        requires top_is_node { IsNode forest.now top }
         requires from_stands { ForSome from (StandsIn forest.now top) }
-        ensures value { option_map (name_at forest.now.names) result ≡ first_of
+        ensures value { option_map (name_of forest.now) result ≡ first_of
             (filter (accepts forest.now.trees (filter_of self.now))
-            (from_node forest.now.trees (name_at forest.now.names top) (option_map (name_at forest.now.names) from))) }
+            (from_node forest.now.trees (name_of forest.now top) (option_map (name_of forest.now) from))) }
         ensures stands { ForSome result (StandsIn forest.now top) }
     {
         forest.nodes_stand_once();
@@ -39,11 +39,11 @@ impl Filter {
 
     /// The last node that the filter accepts, up to a node in the tree of `top`.
     pub(crate) fn last_up_to(&self, forest: &Forest, to: Option<Key>, top: Key) -> Option<Key>
-        requires top_is_node { top < length forest.now.names }
+        requires top_is_node { IsNode forest.now top }
         requires to_stands { ForSome to (StandsIn forest.now top) }
-        ensures value { option_map (name_at forest.now.names) result ≡ last_of
+        ensures value { option_map (name_of forest.now) result ≡ last_of
             (filter (accepts forest.now.trees (filter_of self.now))
-            (up_to_node forest.now.trees (name_at forest.now.names top) (option_map (name_at forest.now.names) to))) }
+            (up_to_node forest.now.trees (name_of forest.now top) (option_map (name_of forest.now) to))) }
         ensures stands { ForSome result (StandsIn forest.now top) }
     {
         forest.nodes_stand_once();
@@ -60,17 +60,17 @@ impl Filter {
     /// From a node down to the last child again and again, as far as there is one and the node is skipped, or, where the
     /// way is to go through accepted nodes too, not rejected.
     pub(crate) fn lowest(&self, forest: &Forest, key: Key, through: bool) -> Key
-        requires { key < length forest.now.names }
-        ensures node { result < length forest.now.names }
-        ensures within { (top : Name) → is_inclusive_ancestor forest.now.trees top (name_at forest.now.names key) ≡ true →
-            is_inclusive_ancestor forest.now.trees top (name_at forest.now.names result) ≡ true }
-        ensures tree { (top : Name) → is_inclusive_ancestor forest.now.trees top (name_at forest.now.names key) ≡ true →
-            up_to_tree forest.now.trees top (Some (name_at forest.now.names result)) ≡ up_to_tree forest.now.trees top
-            (Some (name_at forest.now.names key)) }
-        ensures ends { is_entered forest.now.trees (filter_of self.now) through (name_at forest.now.names result) ≡ true →
-            inclusive_descendants forest.now.trees (name_at forest.now.names result) ≡ name_at forest.now.names result ∷ [] }
+        requires { IsNode forest.now key }
+        ensures node { IsNode forest.now result }
+        ensures within { (top : Name) → is_inclusive_ancestor forest.now.trees top (name_of forest.now key) ≡ true →
+            is_inclusive_ancestor forest.now.trees top (name_of forest.now result) ≡ true }
+        ensures tree { (top : Name) → is_inclusive_ancestor forest.now.trees top (name_of forest.now key) ≡ true →
+            up_to_tree forest.now.trees top (Some (name_of forest.now result)) ≡ up_to_tree forest.now.trees top
+            (Some (name_of forest.now key)) }
+        ensures ends { is_entered forest.now.trees (filter_of self.now) through (name_of forest.now result) ≡ true →
+            inclusive_descendants forest.now.trees (name_of forest.now result) ≡ name_of forest.now result ∷ [] }
         ensures path { (between : List Name) ×
-            (ancestors forest.now.trees (name_at forest.now.names result) ≡ between ++ ancestors forest.now.trees (name_at forest.now.names key))
+            (ancestors forest.now.trees (name_of forest.now result) ≡ between ++ ancestors forest.now.trees (name_of forest.now key))
             × (list_all (is_entered forest.now.trees (filter_of self.now) through) between ≡ true) }
     {
         forest.nodes_stand_once();
@@ -86,8 +86,8 @@ impl Filter {
 
     /// Whether a node is skipped, or, where the way is to go through accepted nodes too, not rejected.
     fn is_entered(&self, forest: &Forest, key: Key, through: bool) -> bool
-        requires { key < length forest.now.names }
-        ensures { result ≡ is_entered forest.now.trees (filter_of self.now) through (name_at forest.now.names key) }
+        requires { IsNode forest.now key }
+        ensures { result ≡ is_entered forest.now.trees (filter_of self.now) through (name_of forest.now key) }
     {
         match self.answer(forest, key) {
             Some(Verdict::Skip) => true,
@@ -99,10 +99,10 @@ impl Filter {
 
 /// The first node of the tree of `top` that stands behind a node and is not below it.
 pub(crate) fn beyond(forest: &Forest, key: Key, top: Key) -> Option<Key>
-    requires top_is_node { top < length forest.now.names }
+    requires top_is_node { IsNode forest.now top }
     requires stands { StandsIn forest.now top key }
-    ensures value { option_map (name_at forest.now.names) result ≡ first_of
-        (beyond forest.now.trees (name_at forest.now.names top) (name_at forest.now.names key)) }
+    ensures value { option_map (name_of forest.now) result ≡ first_of
+        (beyond forest.now.trees (name_of forest.now top) (name_of forest.now key)) }
     ensures stands { ForSome result (StandsIn forest.now top) }
 {
     forest.nodes_stand_once();

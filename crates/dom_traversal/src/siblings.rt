@@ -1,12 +1,12 @@
 //! Searches among the nodes that stand in the place of the siblings of a node, or of the children of a node: those that are
 //! accepted and reached through skipped nodes alone.
-ghost use Rattle.std.specs.Prelude.{◌≡◌, ◌<◌, ◌++◌, List, length, false};
+ghost use Rattle.std.specs.Prelude.{◌≡◌, ◌++◌, List, false};
 ghost use Rattle.std.specs.Option.{option_map, ForSome};
 ghost use Rattle.dom_model.specs.Names.{first_of, last_of};
 ghost use Rattle.dom_model.specs.Traversal.{accepts};
 ghost use Rattle.dom_base.specs.declared.NodeName.{NodeName as Name};
 ghost use Rattle.dom_model.specs.Tree.{ancestors};
-ghost use Rattle.dom_tree.specs.Forest.{name_at};
+ghost use Rattle.dom_tree.specs.Forest.{IsNode, name_of};
 ghost use Rattle.dom_traversal.specs.Filters.{filter_of};
 ghost use Rattle.dom_traversal.specs.Walkers.{is_stop, stop_above, StepsBehind};
 ghost use Rattle.dom_traversal.specs.Within.{behind, beyond, StandsBelow};
@@ -19,15 +19,15 @@ impl Filter {
     /// The first node behind a node and all that is below it, in the tree of the nearest node above it that is accepted or
     /// is `top`.
     pub(crate) fn aside(&self, forest: &Forest, key: Key, top: Key) -> Option<Key>
-        requires top_is_node { top < length forest.now.names }
+        requires top_is_node { IsNode forest.now top }
         requires below { StandsBelow forest.now top key }
-        ensures value { option_map (name_at forest.now.names) result ≡ first_of
-            (beyond forest.now.trees (stop_above forest.now.trees (filter_of self.now) (name_at forest.now.names top)
-            (name_at forest.now.names key)) (name_at forest.now.names key)) }
+        ensures value { option_map (name_of forest.now) result ≡ first_of
+            (beyond forest.now.trees (stop_above forest.now.trees (filter_of self.now) (name_of forest.now top)
+            (name_of forest.now key)) (name_of forest.now key)) }
         ensures below { ForSome result (StandsBelow forest.now top) }
-        ensures stop { ForSome result (λ k. stop_above forest.now.trees (filter_of self.now) (name_at forest.now.names top)
-            (name_at forest.now.names k) ≡ stop_above forest.now.trees (filter_of self.now) (name_at forest.now.names top)
-            (name_at forest.now.names key)) }
+        ensures stop { ForSome result (λ k. stop_above forest.now.trees (filter_of self.now) (name_of forest.now top)
+            (name_of forest.now k) ≡ stop_above forest.now.trees (filter_of self.now) (name_of forest.now top)
+            (name_of forest.now key)) }
     {
         forest.nodes_stand_once();
         let mut at = key;
@@ -46,16 +46,16 @@ impl Filter {
 
     /// The first child of a skipped node, and the node aside of one without children.
     pub(crate) fn onward(&self, forest: &Forest, key: Key, top: Key) -> Option<Key>
-        requires top_is_node { top < length forest.now.names }
+        requires top_is_node { IsNode forest.now top }
         requires below { StandsBelow forest.now top key }
-        requires skipped { accepts forest.now.trees (filter_of self.now) (name_at forest.now.names key) ≡ false }
-        ensures value { option_map (name_at forest.now.names) result ≡ first_of
-            (behind forest.now.trees (stop_above forest.now.trees (filter_of self.now) (name_at forest.now.names top)
-            (name_at forest.now.names key)) (name_at forest.now.names key)) }
+        requires skipped { accepts forest.now.trees (filter_of self.now) (name_of forest.now key) ≡ false }
+        ensures value { option_map (name_of forest.now) result ≡ first_of
+            (behind forest.now.trees (stop_above forest.now.trees (filter_of self.now) (name_of forest.now top)
+            (name_of forest.now key)) (name_of forest.now key)) }
         ensures below { ForSome result (StandsBelow forest.now top) }
-        ensures stop { ForSome result (λ k. stop_above forest.now.trees (filter_of self.now) (name_at forest.now.names top)
-            (name_at forest.now.names k) ≡ stop_above forest.now.trees (filter_of self.now) (name_at forest.now.names top)
-            (name_at forest.now.names key)) }
+        ensures stop { ForSome result (λ k. stop_above forest.now.trees (filter_of self.now) (name_of forest.now top)
+            (name_of forest.now k) ≡ stop_above forest.now.trees (filter_of self.now) (name_of forest.now top)
+            (name_of forest.now key)) }
     {
         forest.nodes_stand_once();
         let child = forest.first(key);
@@ -68,17 +68,17 @@ impl Filter {
     /// The last node of the tree before a node, in the tree of the nearest node above it that is accepted or is `top`: the
     /// sibling before the node, or before the nearest node above it that has one.
     pub(crate) fn aback(&self, forest: &Forest, key: Key, top: Key) -> Option<Key>
-        requires top_is_node { top < length forest.now.names }
+        requires top_is_node { IsNode forest.now top }
         requires below { StandsBelow forest.now top key }
         ensures value { StepsBehind forest.now.trees (filter_of self.now)
-            (stop_above forest.now.trees (filter_of self.now) (name_at forest.now.names top) (name_at forest.now.names key))
-            (name_at forest.now.names key) (option_map (name_at forest.now.names) result) }
+            (stop_above forest.now.trees (filter_of self.now) (name_of forest.now top) (name_of forest.now key))
+            (name_of forest.now key) (option_map (name_of forest.now) result) }
         ensures below { ForSome result (StandsBelow forest.now top) }
-        ensures stop { ForSome result (λ k. stop_above forest.now.trees (filter_of self.now) (name_at forest.now.names top)
-            (name_at forest.now.names k) ≡ stop_above forest.now.trees (filter_of self.now) (name_at forest.now.names top)
-            (name_at forest.now.names key)) }
+        ensures stop { ForSome result (λ k. stop_above forest.now.trees (filter_of self.now) (name_of forest.now top)
+            (name_of forest.now k) ≡ stop_above forest.now.trees (filter_of self.now) (name_of forest.now top)
+            (name_of forest.now key)) }
         ensures path { ForSome result (λ k. (above : List Name) ×
-            (ancestors forest.now.trees (name_at forest.now.names key) ≡ above ++ ancestors forest.now.trees (name_at forest.now.names k))) }
+            (ancestors forest.now.trees (name_of forest.now key) ≡ above ++ ancestors forest.now.trees (name_of forest.now k))) }
     {
         forest.nodes_stand_once();
         let mut at = key;
@@ -97,9 +97,9 @@ impl Filter {
 
     /// Whether a node is accepted or is `top`.
     fn is_stop(&self, forest: &Forest, key: Key, top: Key) -> bool
-        requires key_is_node { key < length forest.now.names }
-        requires top_is_node { top < length forest.now.names }
-        ensures { result ≡ is_stop forest.now.trees (filter_of self.now) (name_at forest.now.names top) (name_at forest.now.names key) }
+        requires key_is_node { IsNode forest.now key }
+        requires top_is_node { IsNode forest.now top }
+        ensures { result ≡ is_stop forest.now.trees (filter_of self.now) (name_of forest.now top) (name_of forest.now key) }
     {
         forest.nodes_stand_once();
         self.accepts(forest, key) || key == top

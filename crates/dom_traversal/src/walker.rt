@@ -4,7 +4,7 @@ ghost use Rattle.std.specs.Option.{option_map, ForSome};
 ghost use Rattle.dom_base.specs.declared.Move.TheVariants as moves;
 ghost use Rattle.dom_model.specs.Names.{first_of, last_of};
 ghost use Rattle.dom_model.specs.Traversal.{walker_move, walker_nodes};
-ghost use Rattle.dom_tree.specs.Forest.{name_at};
+ghost use Rattle.dom_tree.specs.Forest.{IsNode, name_of};
 ghost use Rattle.dom_traversal.specs.Filters.{filter_of};
 ghost use Rattle.dom_traversal.specs.Walkers.{walker_view, IsWalkerOf, walker_at, walker_left, is_reached, stop_of, BeginsForward, ComesBack, BeginsBackward, is_candidate};
 ghost use Rattle.dom_traversal.specs.Within.{ahead_of, from_node, up_to_node, up_to_tree};
@@ -65,7 +65,7 @@ impl Walker {
     /// Goes to the first accepted node behind the current one in tree order (DOM Standard, nextNode).
     pub fn next(&mut self, forest: &Forest) -> Option<Key>
         requires { IsWalkerOf forest.now self.old }
-        ensures value { option_map (name_at forest.now.names) result ≡ walker_move forest.now.trees (walker_view forest.now.names self.old) moves.Next }
+        ensures value { option_map (name_of forest.now) result ≡ walker_move forest.now.trees (walker_view forest.now.names self.old) moves.Next }
         ensures state { self.new ≡ walker_at self.old result }
         ensures kept { IsWalkerOf forest.now self.new }
         // So a loop over the nodes ends.
@@ -80,8 +80,8 @@ impl Walker {
     /// Where `next` goes.
     fn next_node(&self, forest: &Forest) -> Option<Key>
         requires { IsWalkerOf forest.now self.now }
-        ensures value { option_map (name_at forest.now.names) result ≡ walker_move forest.now.trees (walker_view forest.now.names self.now) moves.Next }
-        ensures node { ForSome result (λ k. k < length forest.now.names) }
+        ensures value { option_map (name_of forest.now) result ≡ walker_move forest.now.trees (walker_view forest.now.names self.now) moves.Next }
+        ensures node { ForSome result (IsNode forest.now) }
     {
         forest.nodes_stand_once();
         if !forest.is_inclusive_ancestor(self.root, self.current) {
@@ -101,7 +101,7 @@ impl Walker {
     /// Goes to the first child, where skipped nodes give way to their children (DOM Standard, firstChild).
     pub fn first(&mut self, forest: &Forest) -> Option<Key>
         requires { IsWalkerOf forest.now self.old }
-        ensures value { option_map (name_at forest.now.names) result ≡ walker_move forest.now.trees (walker_view forest.now.names self.old) moves.First }
+        ensures value { option_map (name_of forest.now) result ≡ walker_move forest.now.trees (walker_view forest.now.names self.old) moves.First }
         ensures state { self.new ≡ walker_at self.old result }
         ensures kept { IsWalkerOf forest.now self.new }
     {
@@ -113,7 +113,7 @@ impl Walker {
     /// Goes to the next sibling, where skipped nodes give way to their children (DOM Standard, nextSibling).
     pub fn next_sibling(&mut self, forest: &Forest) -> Option<Key>
         requires { IsWalkerOf forest.now self.old }
-        ensures value { option_map (name_at forest.now.names) result ≡ walker_move forest.now.trees (walker_view forest.now.names self.old) moves.NextSibling }
+        ensures value { option_map (name_of forest.now) result ≡ walker_move forest.now.trees (walker_view forest.now.names self.old) moves.NextSibling }
         ensures state { self.new ≡ walker_at self.old result }
         ensures kept { IsWalkerOf forest.now self.new }
     {
@@ -125,8 +125,8 @@ impl Walker {
     /// Where `first` goes.
     fn first_node(&self, forest: &Forest) -> Option<Key>
         requires { IsWalkerOf forest.now self.now }
-        ensures value { option_map (name_at forest.now.names) result ≡ walker_move forest.now.trees (walker_view forest.now.names self.now) moves.First }
-        ensures node { ForSome result (λ k. k < length forest.now.names) }
+        ensures value { option_map (name_of forest.now) result ≡ walker_move forest.now.trees (walker_view forest.now.names self.now) moves.First }
+        ensures node { ForSome result (IsNode forest.now) }
     {
         forest.nodes_stand_once();
         if !forest.is_inclusive_ancestor(self.root, self.current) {
@@ -138,8 +138,8 @@ impl Walker {
     /// Where `next_sibling` goes.
     fn next_sibling_node(&self, forest: &Forest) -> Option<Key>
         requires { IsWalkerOf forest.now self.now }
-        ensures value { option_map (name_at forest.now.names) result ≡ walker_move forest.now.trees (walker_view forest.now.names self.now) moves.NextSibling }
-        ensures node { ForSome result (λ k. k < length forest.now.names) }
+        ensures value { option_map (name_of forest.now) result ≡ walker_move forest.now.trees (walker_view forest.now.names self.now) moves.NextSibling }
+        ensures node { ForSome result (IsNode forest.now) }
     {
         forest.nodes_stand_once();
         if self.current == self.root || !forest.is_inclusive_ancestor(self.root, self.current) {
@@ -153,13 +153,13 @@ impl Walker {
     /// node above it that is accepted or is `top`.
     fn first_reached(&self, forest: &Forest, from: Option<Key>, top: Key) -> Option<Key>
         requires walker { IsWalkerOf forest.now self.now }
-        requires top_is_node { top < length forest.now.names }
+        requires top_is_node { IsNode forest.now top }
         requires begins { ForSome from (BeginsForward forest.now self.now top) }
-        ensures value { option_map (name_at forest.now.names) result ≡ first_of
+        ensures value { option_map (name_of forest.now) result ≡ first_of
             (filter (is_reached forest.now.trees (walker_view forest.now.names self.now))
-            (from_node forest.now.trees (stop_of forest.now.trees self.now.filter (name_at forest.now.names top)
-            (option_map (name_at forest.now.names) from)) (option_map (name_at forest.now.names) from))) }
-        ensures node { ForSome result (λ k. k < length forest.now.names) }
+            (from_node forest.now.trees (stop_of forest.now.trees self.now.filter (name_of forest.now top)
+            (option_map (name_of forest.now) from)) (option_map (name_of forest.now) from))) }
+        ensures node { ForSome result (IsNode forest.now) }
     {
         forest.nodes_stand_once();
         let mut at = from;
@@ -176,7 +176,7 @@ impl Walker {
     /// Goes to the last accepted node before the current one in tree order (DOM Standard, previousNode).
     pub fn previous(&mut self, forest: &Forest) -> Option<Key>
         requires { IsWalkerOf forest.now self.old }
-        ensures value { option_map (name_at forest.now.names) result ≡ walker_move forest.now.trees (walker_view forest.now.names self.old) moves.Previous }
+        ensures value { option_map (name_of forest.now) result ≡ walker_move forest.now.trees (walker_view forest.now.names self.old) moves.Previous }
         ensures state { self.new ≡ walker_at self.old result }
         ensures kept { IsWalkerOf forest.now self.new }
     {
@@ -188,8 +188,8 @@ impl Walker {
     /// Where `previous` goes.
     fn previous_node(&self, forest: &Forest) -> Option<Key>
         requires { IsWalkerOf forest.now self.now }
-        ensures value { option_map (name_at forest.now.names) result ≡ walker_move forest.now.trees (walker_view forest.now.names self.now) moves.Previous }
-        ensures node { ForSome result (λ k. k < length forest.now.names) }
+        ensures value { option_map (name_of forest.now) result ≡ walker_move forest.now.trees (walker_view forest.now.names self.now) moves.Previous }
+        ensures node { ForSome result (IsNode forest.now) }
     {
         forest.nodes_stand_once();
         if !forest.is_inclusive_ancestor(self.root, self.current) {
@@ -210,13 +210,13 @@ impl Walker {
         requires walker { IsWalkerOf forest.now self.now }
         requires comes { ComesBack forest.now self.now key }
         ensures value { walker_nodes forest.now.trees (walker_view forest.now.names self.now)
-            (up_to_node forest.now.trees (name_at forest.now.names self.now.root) (option_map (name_at forest.now.names) result)) ≡ walker_nodes
+            (up_to_node forest.now.trees (name_of forest.now self.now.root) (option_map (name_of forest.now) result)) ≡ walker_nodes
             forest.now.trees (walker_view forest.now.names self.now)
-            (ahead_of forest.now.trees (name_at forest.now.names self.now.root) (name_at forest.now.names key)) }
+            (ahead_of forest.now.trees (name_of forest.now self.now.root) (name_of forest.now key)) }
         ensures comes { ForSome result (ComesBack forest.now self.now) }
-        ensures shorter { length (up_to_node forest.now.trees (name_at forest.now.names self.now.root)
-            (option_map (name_at forest.now.names) result)) ≤ length
-            (ahead_of forest.now.trees (name_at forest.now.names self.now.root) (name_at forest.now.names key)) }
+        ensures shorter { length (up_to_node forest.now.trees (name_of forest.now self.now.root)
+            (option_map (name_of forest.now) result)) ≤ length
+            (ahead_of forest.now.trees (name_of forest.now self.now.root) (name_of forest.now key)) }
     {
         forest.nodes_stand_once();
         if key == self.root {
@@ -231,7 +231,7 @@ impl Walker {
     /// Goes to the nearest accepted node above the current one, up to the root (DOM Standard, parentNode).
     pub fn parent(&mut self, forest: &Forest) -> Option<Key>
         requires { IsWalkerOf forest.now self.old }
-        ensures value { option_map (name_at forest.now.names) result ≡ walker_move forest.now.trees (walker_view forest.now.names self.old) moves.Parent }
+        ensures value { option_map (name_of forest.now) result ≡ walker_move forest.now.trees (walker_view forest.now.names self.old) moves.Parent }
         ensures state { self.new ≡ walker_at self.old result }
         ensures kept { IsWalkerOf forest.now self.new }
     {
@@ -243,8 +243,8 @@ impl Walker {
     /// Where `parent` goes.
     fn parent_node(&self, forest: &Forest) -> Option<Key>
         requires { IsWalkerOf forest.now self.now }
-        ensures value { option_map (name_at forest.now.names) result ≡ walker_move forest.now.trees (walker_view forest.now.names self.now) moves.Parent }
-        ensures node { ForSome result (λ k. k < length forest.now.names) }
+        ensures value { option_map (name_of forest.now) result ≡ walker_move forest.now.trees (walker_view forest.now.names self.now) moves.Parent }
+        ensures node { ForSome result (IsNode forest.now) }
     {
         forest.nodes_stand_once();
         if !forest.is_inclusive_ancestor(self.root, self.current) {
@@ -263,7 +263,7 @@ impl Walker {
     /// Goes to the last child, where skipped nodes give way to their children (DOM Standard, lastChild).
     pub fn last(&mut self, forest: &Forest) -> Option<Key>
         requires { IsWalkerOf forest.now self.old }
-        ensures value { option_map (name_at forest.now.names) result ≡ walker_move forest.now.trees (walker_view forest.now.names self.old) moves.Last }
+        ensures value { option_map (name_of forest.now) result ≡ walker_move forest.now.trees (walker_view forest.now.names self.old) moves.Last }
         ensures state { self.new ≡ walker_at self.old result }
         ensures kept { IsWalkerOf forest.now self.new }
     {
@@ -275,7 +275,7 @@ impl Walker {
     /// Goes to the previous sibling, where skipped nodes give way to their children (DOM Standard, previousSibling).
     pub fn previous_sibling(&mut self, forest: &Forest) -> Option<Key>
         requires { IsWalkerOf forest.now self.old }
-        ensures value { option_map (name_at forest.now.names) result ≡ walker_move forest.now.trees (walker_view forest.now.names self.old)
+        ensures value { option_map (name_of forest.now) result ≡ walker_move forest.now.trees (walker_view forest.now.names self.old)
             moves.PreviousSibling }
         ensures state { self.new ≡ walker_at self.old result }
         ensures kept { IsWalkerOf forest.now self.new }
@@ -288,8 +288,8 @@ impl Walker {
     /// Where `last` goes.
     fn last_node(&self, forest: &Forest) -> Option<Key>
         requires { IsWalkerOf forest.now self.now }
-        ensures value { option_map (name_at forest.now.names) result ≡ walker_move forest.now.trees (walker_view forest.now.names self.now) moves.Last }
-        ensures node { ForSome result (λ k. k < length forest.now.names) }
+        ensures value { option_map (name_of forest.now) result ≡ walker_move forest.now.trees (walker_view forest.now.names self.now) moves.Last }
+        ensures node { ForSome result (IsNode forest.now) }
     {
         forest.nodes_stand_once();
         if !forest.is_inclusive_ancestor(self.root, self.current) {
@@ -301,9 +301,9 @@ impl Walker {
     /// Where `previous_sibling` goes.
     fn previous_sibling_node(&self, forest: &Forest) -> Option<Key>
         requires { IsWalkerOf forest.now self.now }
-        ensures value { option_map (name_at forest.now.names) result ≡ walker_move forest.now.trees (walker_view forest.now.names self.now)
+        ensures value { option_map (name_of forest.now) result ≡ walker_move forest.now.trees (walker_view forest.now.names self.now)
             moves.PreviousSibling }
-        ensures node { ForSome result (λ k. k < length forest.now.names) }
+        ensures node { ForSome result (IsNode forest.now) }
     {
         forest.nodes_stand_once();
         if self.current == self.root || !forest.is_inclusive_ancestor(self.root, self.current) {
@@ -317,15 +317,15 @@ impl Walker {
     /// nearest node above it that is accepted or is `top`.
     fn last_reached(&self, forest: &Forest, from: Option<Key>, top: Key) -> Option<Key>
         requires walker { IsWalkerOf forest.now self.now }
-        requires top_is_node { top < length forest.now.names }
+        requires top_is_node { IsNode forest.now top }
         requires begins { ForSome from (BeginsBackward forest.now self.now top) }
-        ensures value { option_map (name_at forest.now.names) result ≡ last_of
+        ensures value { option_map (name_of forest.now) result ≡ last_of
             (filter (is_candidate forest.now.trees (walker_view forest.now.names self.now)
-            (stop_of forest.now.trees self.now.filter (name_at forest.now.names top) (option_map (name_at forest.now.names) from)))
+            (stop_of forest.now.trees self.now.filter (name_of forest.now top) (option_map (name_of forest.now) from)))
             (up_to_tree forest.now.trees
-            (stop_of forest.now.trees self.now.filter (name_at forest.now.names top) (option_map (name_at forest.now.names) from))
-            (option_map (name_at forest.now.names) from))) }
-        ensures node { ForSome result (λ k. k < length forest.now.names) }
+            (stop_of forest.now.trees self.now.filter (name_of forest.now top) (option_map (name_of forest.now) from))
+            (option_map (name_of forest.now) from))) }
+        ensures node { ForSome result (IsNode forest.now) }
     {
         forest.nodes_stand_once();
         let mut at = from;

@@ -27,6 +27,14 @@ named_trees_code = code_by (List NodeName × Trees) (coded× (coded_list name_co
 abbrev pub name_at : List NodeName → ℕ → NodeName
 name_at names k = slice_index_or names k (node_of Page 0)
 
+-- a key of a node
+abbrev pub IsNode : NamedTrees → ℕ → Type 0
+IsNode f k = k < length f.names
+
+-- the name of a node, by its key
+abbrev pub name_of : NamedTrees → ℕ → NodeName
+name_of f k = name_at f.names k
+
 -- how many of these names are an owner's
 abbrev pub count_of : Owner → List NodeName → ℕ
 count_of o names = count_by (λ x. owner_eq x.owner o) names

@@ -1,12 +1,12 @@
 //! The nodes of all owners, and the trees in which they stand.
-ghost use Rattle.std.specs.Prelude.{◌≡◌, ℕ, ◌<◌, ◌↔◌, ◌++◌, ◌∷◌, [], length, true, false, count_by, Some, None, is_some, slice_get, IfOk, IfErr, OnOk, OnErr, ◌⊎◌};
+ghost use Rattle.std.specs.Prelude.{◌≡◌, ℕ, ◌↔◌, ◌++◌, ◌∷◌, [], length, true, false, count_by, Some, None, is_some, slice_get, IfOk, IfErr, OnOk, OnErr, ◌⊎◌};
 ghost use Rattle.std.specs.Option.{ForSome};
 ghost use Rattle.dom_base.specs.declared.NodeName.{NodeName as Name};
 ghost use Rattle.dom_model.specs.Names.{name_eq, is_in};
 ghost use Rattle.dom_model.specs.Tree.{none, nodes, has_node, inclusive_descendants, inclusive_ancestors, is_inclusive_ancestor, parent_of, children_of};
 ghost use Rattle.dom_tree.specs.Owners.{AreInOrder};
 ghost use Rattle.dom_model.specs.TreeChanges.{with_node};
-ghost use Rattle.dom_tree.specs.Forest.{name_at, next_name, count_of, node_from};
+ghost use Rattle.dom_tree.specs.Forest.{next_name, count_of, node_from, IsNode, name_of};
 
 mod contents;
 mod links;
@@ -58,17 +58,17 @@ impl Forest {
     /// refused with `Limit` where the owner has a million nodes, and with `Memory` where memory is refused; then the
     /// forest is as it was.
     pub fn add(&mut self, owner: Owner, node: NodeData) -> Result<Key, Fault>
-        requires document_is_node { ForSome node.document (λ d. d < length self.old.names) }
+        requires document_is_node { ForSome node.document (IsNode self.old) }
         ensures key { IfOk result (λ key. key ≡ length self.old.names) }
         ensures names { OnOk result (self.new.names ≡ self.old.names ++ next_name owner self.old.names ∷ []) }
         ensures trees { OnOk result (self.new.trees ≡ with_node (node_from self.old.names (next_name owner self.old.names) node) self.old.trees) }
-        ensures unlinked { IfOk result (λ key. parent_of self.new.trees (name_at self.new.names key) ≡ None) }
-        ensures childless { IfOk result (λ key. children_of self.new.trees (name_at self.new.names key) ≡ []) }
-        ensures above_none { IfOk result (λ key. (k : ℕ) → k < length self.old.names →
-            is_inclusive_ancestor self.new.trees (name_at self.new.names key) (name_at self.new.names k) ≡ false) }
-        ensures named { OnOk result ((k : ℕ) → k < length self.old.names → name_at self.new.names k ≡ name_at self.old.names k) }
-        ensures above { OnOk result ((k : ℕ) → k < length self.old.names →
-            inclusive_ancestors self.new.trees (name_at self.old.names k) ≡ inclusive_ancestors self.old.trees (name_at self.old.names k)) }
+        ensures unlinked { IfOk result (λ key. parent_of self.new.trees (name_of self.new key) ≡ None) }
+        ensures childless { IfOk result (λ key. children_of self.new.trees (name_of self.new key) ≡ []) }
+        ensures above_none { IfOk result (λ key. (k : ℕ) → IsNode self.old k →
+            is_inclusive_ancestor self.new.trees (name_of self.new key) (name_of self.new k) ≡ false) }
+        ensures named { OnOk result ((k : ℕ) → IsNode self.old k → name_of self.new k ≡ name_of self.old k) }
+        ensures above { OnOk result ((k : ℕ) → IsNode self.old k →
+            inclusive_ancestors self.new.trees (name_of self.old k) ≡ inclusive_ancestors self.old.trees (name_of self.old k)) }
 
         // An owner's nodes are at most 1,000,000. Nothing else but memory stops one more.
         ensures limit { (result ≡ Err (Fault.Refused Refusal.Limit)) ↔ (count_of owner self.old.names ≡ MAX_NODES) }
@@ -102,7 +102,7 @@ impl Forest {
         ensures found { ForSome result (λ k. slice_get self.now.names k ≡ Some name) }
         ensures kept { (k : ℕ) → slice_get self.now.names k ≡ Some name → result ≡ Some k }
         ensures present { is_some result ≡ has_node self.now.trees name }
-        ensures node { ForSome result (λ k. k < length self.now.names) }
+        ensures node { ForSome result (IsNode self.now) }
     {
         self.keys.find(name)
     }
@@ -110,13 +110,13 @@ impl Forest {
     /// Holds of every forest (own rule): names tell the nodes apart, each node stands once in the trees, no others
     /// stand there, what is below a node is what it is above, and the roots stand in the order of their names.
     pub fn nodes_stand_once(&self)
-        ensures distinct { (j k : ℕ) → j < length self.now.names → k < length self.now.names → name_at self.now.names j ≡ name_at self.now.names k → j ≡ k }
-        ensures once { (k : ℕ) → k < length self.now.names → count_by (λ n. name_eq n.name (name_at self.now.names k)) (nodes self.now.trees) ≡ 1 }
+        ensures distinct { (j k : ℕ) → IsNode self.now j → IsNode self.now k → name_of self.now j ≡ name_of self.now k → j ≡ k }
+        ensures once { (k : ℕ) → IsNode self.now k → count_by (λ n. name_eq n.name (name_of self.now k)) (nodes self.now.trees) ≡ 1 }
         ensures only { (x : Name) → has_node self.now.trees x ≡ true → (k : ℕ) × (slice_get self.now.names k ≡ Some x) }
-        ensures present { (k : ℕ) → k < length self.now.names → has_node self.now.trees (name_at self.now.names k) ≡ true }
-        ensures below { (j k : ℕ) → j < length self.now.names → k < length self.now.names →
-            is_in name_eq (name_at self.now.names k) (inclusive_descendants self.now.trees (name_at self.now.names j)) ≡ is_inclusive_ancestor
-            self.now.trees (name_at self.now.names j) (name_at self.now.names k) }
+        ensures present { (k : ℕ) → IsNode self.now k → has_node self.now.trees (name_of self.now k) ≡ true }
+        ensures below { (j k : ℕ) → IsNode self.now j → IsNode self.now k →
+            is_in name_eq (name_of self.now k) (inclusive_descendants self.now.trees (name_of self.now j)) ≡ is_inclusive_ancestor
+            self.now.trees (name_of self.now j) (name_of self.now k) }
         ensures order { AreInOrder self.now.trees }
     {
         let _ = &self.arena;
@@ -124,9 +124,9 @@ impl Forest {
 
     /// The name of a node: its owner, and its number among the owner's nodes (own rule).
     pub fn name(&self, key: Key) -> NodeName
-        requires { key < length self.now.names }
+        requires { IsNode self.now key }
         ensures value { slice_get self.now.names key ≡ Some result }
-        ensures at { name_at self.now.names key ≡ result }
+        ensures at { name_of self.now key ≡ result }
     {
         self.arena.payload(key).name
     }

@@ -1,8 +1,8 @@
 //! Trees with shadow hosts for tests, and paths that are compared with rows.
-ghost use Rattle.std.specs.Prelude.{◌≡◌, ◌<◌, [], true, length, None, IfOk, OnOk};
+ghost use Rattle.std.specs.Prelude.{◌≡◌, [], true, None, IfOk, OnOk};
 ghost use Rattle.dom_model.specs.Slots.{slots_among};
 ghost use Rattle.dom_model.specs.Tree.{subtree};
-ghost use Rattle.dom_tree.specs.Forest.{name_at};
+ghost use Rattle.dom_tree.specs.Forest.{IsNode, name_of};
 ghost use Rattle.dom_slots.specs.Kept.{AreSlotsOf};
 
 use dom_base::{Kind, NodeName, Owner, OwnerPath};
@@ -103,15 +103,15 @@ pub(super) fn nodes(
 
 // The node of a name, which has to be there.
 fn key_of(rt: &impl Abort, forest: &Forest, text: &str) -> Key
-    ensures { result < length forest.now.names }
+    ensures { IsNode forest.now result }
 {
     forest.find(name(text)).expect(rt, "there is no such node")
 }
 
 // Whether a node is a shadow root without children, so that no slot is in its tree.
 fn is_alone(forest: &Forest, root: Key) -> bool
-    requires { root < length forest.now.names }
-    ensures { result ≡ true → slots_among (subtree forest.now.trees (name_at forest.now.names root)) ≡ [] }
+    requires { IsNode forest.now root }
+    ensures { result ≡ true → slots_among (subtree forest.now.trees (name_of forest.now root)) ≡ [] }
 {
     forest.nodes_stand_once();
     let Kind::Shadow = forest.kind(root) else {

@@ -1,11 +1,12 @@
 //! Shadow roots (DOM Standard, concept: attach a shadow root).
-ghost use Rattle.std.specs.Prelude.{◌≡◌, ◌<◌, ◌↔◌, ◌++◌, ◌∷◌, [], length, Some, IfOk, OnOk};
+ghost use Rattle.std.specs.Prelude.{◌≡◌, ◌↔◌, ◌++◌, ◌∷◌, [], length, Some, IfOk, OnOk};
 ghost use Rattle.dom_base.specs.declared.Kind.TheVariants.{Shadow};
 ghost use Rattle.dom_base.specs.declared.Refusal.{Refusal as RefusalOf};
 ghost use Rattle.dom_model.specs.DocumentMachine.{attaching};
 ghost use Rattle.dom_model.specs.World.{part_of, component_made, shadow_root_of};
 ghost use Rattle.dom_mutation.specs.Doc.{name_in, owner_in, attaching_refusal};
 ghost use Rattle.dom_mutation.specs.Ready.{IsReady};
+ghost use Rattle.dom_parts.specs.Doc.{HoldsNode};
 
 use crate::Doc;
 use dom_base::Fault;
@@ -17,7 +18,7 @@ impl Doc {
     /// `Limit` where the owner has made as many components as it may or its word has as many numbers as it may, with nothing
     /// changed (DOM Standard, attach a shadow root; the limit is an own rule). Where memory is refused, the document is only to be dropped.
     pub fn attach(&mut self, host: Key) -> Result<Key, Fault>
-        requires { host < length self.old.names }
+        requires { HoldsNode self.old host }
         ensures key { IfOk result (λ key. key ≡ length self.old.names) }
         ensures names { OnOk result (self.new.names ≡ self.old.names ++
             shadow_root_of (component_made (owner_in self.old host) (length (part_of self.old.world (owner_in self.old host)).attached)) ∷ []) }

@@ -1,10 +1,11 @@
 //! Attributes (DOM Standard, 4.9.2 Interface Attr; concepts: change, append, remove an attribute).
-ghost use Rattle.std.specs.Prelude.{◌≡◌, ◌<◌, ◌↔◌, ◌⊎◌, length, false, OnOk, IfErr};
+ghost use Rattle.std.specs.Prelude.{◌≡◌, ◌↔◌, ◌⊎◌, false, OnOk, IfErr};
 ghost use Rattle.dom_base.specs.declared.Refusal.TheVariants.{InvalidCharacter};
 ghost use Rattle.dom_model.specs.Names.{is_name};
 ghost use Rattle.dom_model.specs.Changes.{setting_attribute, unsetting_attribute};
 ghost use Rattle.dom_mutation.specs.Doc.{made, name_in, owner_in};
 ghost use Rattle.dom_mutation.specs.Ready.{IsReady};
+ghost use Rattle.dom_parts.specs.Doc.{HoldsNode};
 
 use crate::Doc;
 use dom_algorithms::{remove_attr, set_attr};
@@ -17,7 +18,7 @@ impl Doc {
     /// `InvalidCharacter` where the name is none, with nothing changed: it is a letter or `_`, then letters, digits, `-` and `_`
     /// (own rule). Where memory is refused, the document is only to be dropped.
     pub fn set_attr(&mut self, node: Key, name: &str, value: DomStr) -> Result<(), Fault>
-        requires { node < length self.old.names }
+        requires { HoldsNode self.old node }
         ensures refused { (result ≡ Err (Fault.Refused InvalidCharacter)) ↔ (is_name name.now ≡ false) }
         ensures other { IfErr result (λ fault. (fault ≡ Fault.Refused InvalidCharacter) ⊎ (fault ≡ Fault.Memory)) }
         ensures unchanged { is_name name.now ≡ false → self.new ≡ self.old }
@@ -33,7 +34,7 @@ impl Doc {
     /// Takes an attribute away from an element. Without it nothing changes. Where memory is refused, the document is only to be
     /// dropped.
     pub fn remove_attr(&mut self, node: Key, name: &str) -> Result<(), AllocError>
-        requires { node < length self.old.names }
+        requires { HoldsNode self.old node }
         ensures names { OnOk result (self.new.names ≡ self.old.names) }
         ensures world { OnOk result (self.new.world ≡ made (owner_in self.old node) (unsetting_attribute (name_in self.old node) name.now) self.old.world) }
         ensures ready { IsReady self.old → OnOk result (IsReady self.new) }

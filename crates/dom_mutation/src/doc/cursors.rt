@@ -1,5 +1,5 @@
 //! Iterators and walkers of each owner, by their numbers (DOM Standard, 6 Traversal).
-ghost use Rattle.std.specs.Prelude.{◌≡◌, ◌<◌, ◌↔◌, ◌⊎◌, length, true, is_some, slice_get, IfOk, IfErr, OnErr, OnOk};
+ghost use Rattle.std.specs.Prelude.{◌≡◌, ◌↔◌, ◌⊎◌, length, true, is_some, slice_get, IfOk, IfErr, OnErr, OnOk};
 ghost use Rattle.std.specs.Option.{option_map, ForSome};
 ghost use Rattle.dom_base.specs.declared.Refusal.TheVariants.{Limit};
 ghost use Rattle.dom_model.specs.Command.{Command, own};
@@ -10,6 +10,7 @@ ghost use Rattle.dom_model.specs.CommandRefusals.{past_limit};
 ghost use Rattle.dom_traversal.specs.Filters.{filter_of};
 ghost use Rattle.dom_mutation.specs.Doc.{name_in, owner_in, Makes};
 ghost use Rattle.dom_mutation.specs.Ready.{IsReady};
+ghost use Rattle.dom_parts.specs.Doc.{HoldsNode};
 
 use crate::Doc;
 use dom_base::{Fault, Move, Owner};
@@ -34,7 +35,7 @@ impl Doc {
     /// Adds an iterator of an owner just before its root, and gives its number (DOM Standard, createNodeIterator). It is
     /// refused with `Limit` where the owner has a million iterators, and with `Memory` where memory is refused.
     pub fn iter_make(&mut self, owner: Owner, root: Key, filter: Filter) -> Result<u32, Fault>
-        requires root_is_node { root < length self.old.names }
+        requires root_is_node { HoldsNode self.old root }
         requires own { owner_in self.old root ≡ owner }
         ensures names { self.new.names ≡ self.old.names }
         ensures world { IfOk result (λ number. Makes owner (Command.iterator_new (own (name_in self.old root).number) (filter_of filter))
@@ -50,7 +51,7 @@ impl Doc {
     /// Adds a walker of an owner at its root, and gives its number (DOM Standard, createTreeWalker). It is refused with
     /// `Limit` where the owner has a million walkers, and with `Memory` where memory is refused.
     pub fn walk_make(&mut self, owner: Owner, root: Key, filter: Filter) -> Result<u32, Fault>
-        requires root_is_node { root < length self.old.names }
+        requires root_is_node { HoldsNode self.old root }
         requires own { owner_in self.old root ≡ owner }
         ensures names { self.new.names ≡ self.old.names }
         ensures world { IfOk result (λ number. Makes owner (Command.walker_new (own (name_in self.old root).number) (filter_of filter))
@@ -68,7 +69,7 @@ impl Doc {
     pub fn iter_next(&mut self, owner: Owner, number: u32) -> Option<Key>
         requires { is_some (slice_get (part_of self.old.world owner).iterators number) ≡ true }
         ensures names { self.new.names ≡ self.old.names }
-        ensures node { ForSome result (λ k. k < length self.old.names) }
+        ensures node { ForSome result (HoldsNode self.old) }
         ensures world { Makes owner (Command.iterator_next number) (node_or_null (option_map (name_in self.old) result)) self.old.world self.new.world }
         ensures ready { IsReady self.old → IsReady self.new }
     {
@@ -80,7 +81,7 @@ impl Doc {
     pub fn iter_previous(&mut self, owner: Owner, number: u32) -> Option<Key>
         requires { is_some (slice_get (part_of self.old.world owner).iterators number) ≡ true }
         ensures names { self.new.names ≡ self.old.names }
-        ensures node { ForSome result (λ k. k < length self.old.names) }
+        ensures node { ForSome result (HoldsNode self.old) }
         ensures world { Makes owner (Command.iterator_previous number) (node_or_null (option_map (name_in self.old) result)) self.old.world self.new.world }
         ensures ready { IsReady self.old → IsReady self.new }
     {
@@ -91,7 +92,7 @@ impl Doc {
     /// pointerBeforeReferenceNode).
     pub fn iter_at(&self, owner: Owner, number: u32) -> (Key, bool)
         requires { is_some (slice_get (part_of self.now.world owner).iterators number) ≡ true }
-        ensures node { result.0 < length self.now.names }
+        ensures node { HoldsNode self.now result.0 }
         ensures value { Makes owner (Command.iterator_at number) (reference (name_in self.now result.0) result.1) self.now.world self.now.world }
     {
         self.parts.iter_at(owner, number)
@@ -102,7 +103,7 @@ impl Doc {
     pub fn walk(&mut self, owner: Owner, number: u32, step: Move) -> Option<Key>
         requires { is_some (slice_get (part_of self.old.world owner).walkers number) ≡ true }
         ensures names { self.new.names ≡ self.old.names }
-        ensures node { ForSome result (λ k. k < length self.old.names) }
+        ensures node { ForSome result (HoldsNode self.old) }
         ensures world { Makes owner (Command.walk number step) (node_or_null (option_map (name_in self.old) result)) self.old.world self.new.world }
         ensures ready { IsReady self.old → IsReady self.new }
     {
@@ -112,7 +113,7 @@ impl Doc {
     /// The current node of a walker (DOM Standard, currentNode).
     pub fn walk_at(&self, owner: Owner, number: u32) -> Key
         requires { is_some (slice_get (part_of self.now.world owner).walkers number) ≡ true }
-        ensures node { result < length self.now.names }
+        ensures node { HoldsNode self.now result }
         ensures value { Makes owner (Command.walker_at number) (a_node (name_in self.now result)) self.now.world self.now.world }
     {
         self.parts.walk_at(owner, number)
@@ -121,7 +122,7 @@ impl Doc {
     /// Makes a node of its owner the current one of a walker (DOM Standard, currentNode).
     pub fn walk_set(&mut self, owner: Owner, number: u32, current: Key)
         requires there { is_some (slice_get (part_of self.old.world owner).walkers number) ≡ true }
-        requires current_is_node { current < length self.old.names }
+        requires current_is_node { HoldsNode self.old current }
         requires own { owner_in self.old current ≡ owner }
         ensures names { self.new.names ≡ self.old.names }
         ensures world { Makes owner (Command.walker_set number (own (name_in self.old current).number)) nothing self.old.world self.new.world }

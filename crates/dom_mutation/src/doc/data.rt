@@ -1,5 +1,5 @@
 //! Data of Texts and Comments (DOM Standard, concept: replace data).
-ghost use Rattle.std.specs.Prelude.{◌≡◌, ◌<◌, ◌↔◌, ◌⊎◌, [], length, true, IfErr, OnOk};
+ghost use Rattle.std.specs.Prelude.{◌≡◌, ◌↔◌, ◌⊎◌, [], true, IfErr, OnOk};
 ghost use Rattle.dom_base.specs.declared.Refusal.TheVariants.{IndexSize};
 ghost use Rattle.dom_model.specs.Tree.{kind_of, has_data};
 ghost use Rattle.dom_model.specs.TextChanges.{replacing_data, replacing_all_data};
@@ -8,6 +8,7 @@ ghost use Rattle.dom_model.specs.CommandRefusals.{past_end};
 ghost use Rattle.dom_worlds.specs.Bounds.{HasBounds};
 ghost use Rattle.dom_mutation.specs.Doc.{made, planned, name_in, owner_in, trees_in};
 ghost use Rattle.dom_mutation.specs.Ready.{IsReady};
+ghost use Rattle.dom_parts.specs.Doc.{HoldsNode};
 
 use crate::Doc;
 use dom_algorithms::{delete_data, replace_data, set_data};
@@ -26,7 +27,7 @@ impl Doc {
         count: usize,
         data: DomStr,
     ) -> Result<(), Fault>
-        requires node_is_node { node < length self.old.names }
+        requires node_is_node { HoldsNode self.old node }
         requires has_data { has_data (kind_of (trees_in self.old node) (name_in self.old node)) ≡ true }
         requires bounds { HasBounds (part_of self.old.world (owner_in self.old node)) }
         ensures refused { (result ≡ Err (Fault.Refused IndexSize)) ↔
@@ -45,7 +46,7 @@ impl Doc {
     /// All data of a Text or a Comment give way to others, which are not copied (DOM Standard, replace data). Where
     /// memory is refused, the document is only to be dropped.
     pub fn set_data(&mut self, node: Key, data: DomStr) -> Result<(), AllocError>
-        requires node_is_node { node < length self.old.names }
+        requires node_is_node { HoldsNode self.old node }
         requires has_data { has_data (kind_of (trees_in self.old node) (name_in self.old node)) ≡ true }
         requires bounds { HasBounds (part_of self.old.world (owner_in self.old node)) }
         ensures names { OnOk result (self.new.names ≡ self.old.names) }
@@ -59,7 +60,7 @@ impl Doc {
     /// From an offset on, so many code units of a node, or as many as there are, go (DOM Standard, replace data with the empty
     /// string). Where memory is refused, the document is only to be dropped.
     pub fn delete_data(&mut self, node: Key, offset: usize, count: usize) -> Result<(), AllocError>
-        requires { node < length self.old.names }
+        requires { HoldsNode self.old node }
         ensures state { OnOk result (self.new ≡ planned (owner_in self.old node) (replacing_data (name_in self.old node) offset count []) self.old) }
         ensures ready { IsReady self.old → has_data (kind_of (trees_in self.old node) (name_in self.old node)) ≡ true → OnOk result (IsReady self.new) }
     {

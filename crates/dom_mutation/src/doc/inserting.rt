@@ -1,5 +1,5 @@
 //! Insertion (DOM Standard, concepts: ensure pre-insert validity, pre-insert, insert).
-ghost use Rattle.std.specs.Prelude.{◌≡◌, ◌<◌, length, false, OnOk, ◌↔◌, Some};
+ghost use Rattle.std.specs.Prelude.{◌≡◌, false, OnOk, ◌↔◌, Some};
 ghost use Rattle.std.specs.Option.{option_map, ForSome};
 ghost use Rattle.dom_model.specs.Names.{name_eq};
 ghost use Rattle.dom_model.specs.Tree.{kind_of, has_data, is_shadow};
@@ -11,6 +11,7 @@ ghost use Rattle.dom_worlds.specs.Bounds.{HasBounds};
 ghost use Rattle.dom_tree.specs.Forest.{err_of};
 ghost use Rattle.dom_mutation.specs.Doc.{made, planned, name_in, owner_in, trees_in, MayMove, IsChild};
 ghost use Rattle.dom_mutation.specs.Ready.{IsReady};
+ghost use Rattle.dom_parts.specs.Doc.{HoldsNode};
 
 use crate::Doc;
 use dom_algorithms::{insert, pre_insert, reference_for};
@@ -23,9 +24,9 @@ impl Doc {
     /// its parent and gets the parent's node document. Refused with `Hierarchy` or `NotFound` as the Standard's tests say, in
     /// their order, with nothing changed (DOM Standard, pre-insert). Where memory is refused, the document is only to be dropped.
     pub fn insert(&mut self, parent: Key, node: Key, child: Option<Key>) -> Result<(), Fault>
-        requires parent_is_node { parent < length self.old.names }
-        requires node_is_node { node < length self.old.names }
-        requires child_is_node { ForSome child (λ c. c < length self.old.names) }
+        requires parent_is_node { HoldsNode self.old parent }
+        requires node_is_node { HoldsNode self.old node }
+        requires child_is_node { ForSome child (HoldsNode self.old) }
         requires node_owner { owner_in self.old node ≡ owner_in self.old parent }
         requires child_owner { ForSome child (λ c. owner_in self.old c ≡ owner_in self.old parent) }
         requires bounds { HasBounds (part_of self.old.world (owner_in self.old parent)) }
@@ -54,7 +55,7 @@ impl Doc {
         node: Key,
         child: Option<Key>,
     ) -> Result<(), AllocError>
-        requires parent_is_node { parent < length self.old.names }
+        requires parent_is_node { HoldsNode self.old parent }
         requires may_move { MayMove self.old parent child node }
         requires child_is_child { ForSome child (IsChild self.old parent) }
         requires bounds { HasBounds (part_of self.old.world (owner_in self.old parent)) }
@@ -70,9 +71,9 @@ impl Doc {
     /// Tests whether a node may be put among the children of a parent, before the child given or last: `Hierarchy` or `NotFound`
     /// where not (DOM Standard, ensure pre-insert validity).
     pub fn check_insert(&self, parent: Key, node: Key, child: Option<Key>) -> Result<(), Refusal>
-        requires parent_is_node { parent < length self.now.names }
-        requires node_is_node { node < length self.now.names }
-        requires child_is_node { ForSome child (λ c. c < length self.now.names) }
+        requires parent_is_node { HoldsNode self.now parent }
+        requires node_is_node { HoldsNode self.now node }
+        requires child_is_node { ForSome child (HoldsNode self.now) }
         requires node_owner { owner_in self.now node ≡ owner_in self.now parent }
         requires child_owner { ForSome child (λ c. owner_in self.now c ≡ owner_in self.now parent) }
         ensures { err_of result ≡ insertion_refusal (trees_in self.now parent) (name_in self.now parent) (name_in self.now node)
@@ -84,8 +85,8 @@ impl Doc {
     /// The child before which a node is put: the one given, or the node's next sibling where that is the node itself (DOM
     /// Standard, pre-insert).
     pub fn reference_for(&self, parent: Key, node: Key, child: Option<Key>) -> Option<Key>
-        requires parent_is_node { parent < length self.now.names }
-        requires node_is_node { node < length self.now.names }
+        requires parent_is_node { HoldsNode self.now parent }
+        requires node_is_node { HoldsNode self.now node }
         requires child_is_child { ForSome child (IsChild self.now parent) }
         ensures value { option_map (name_in self.now) result ≡ reference_for (trees_in self.now parent) (name_in self.now node)
             (option_map (name_in self.now) child) }

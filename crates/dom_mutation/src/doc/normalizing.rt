@@ -1,10 +1,11 @@
 //! Normalization (DOM Standard, normalize(); concept: contiguous exclusive Text nodes).
-ghost use Rattle.std.specs.Prelude.{◌≡◌, ◌<◌, length, OnOk};
+ghost use Rattle.std.specs.Prelude.{◌≡◌, OnOk};
 ghost use Rattle.dom_model.specs.TextChanges.{normalizing};
 ghost use Rattle.dom_model.specs.World.{part_of};
 ghost use Rattle.dom_worlds.specs.Bounds.{HasBounds};
 ghost use Rattle.dom_mutation.specs.Doc.{made, name_in, owner_in};
 ghost use Rattle.dom_mutation.specs.Ready.{IsReady};
+ghost use Rattle.dom_parts.specs.Doc.{HoldsNode};
 
 use crate::Doc;
 use dom_algorithms::normalize;
@@ -16,7 +17,7 @@ impl Doc {
     /// which leave (DOM Standard, normalize()). Nothing but memory stops it, and then
     /// the document is only to be dropped.
     pub fn normalize(&mut self, node: Key) -> Result<(), AllocError>
-        requires node_is_node { node < length self.old.names }
+        requires node_is_node { HoldsNode self.old node }
         requires bounds { HasBounds (part_of self.old.world (owner_in self.old node)) }
         ensures names { OnOk result (self.new.names ≡ self.old.names) }
         ensures world { OnOk result (self.new.world ≡ made (owner_in self.old node) (normalizing (name_in self.old node)) self.old.world) }

@@ -1,5 +1,5 @@
 //! Mutation observers of each owner, by their numbers (DOM Standard, 4.3 Mutation observers).
-ghost use Rattle.std.specs.Prelude.{◌≡◌, ◌<◌, ◌↔◌, ◌⊎◌, length, map, true, is_some, slice_get, IfOk, IfErr, OnOk, OnErr};
+ghost use Rattle.std.specs.Prelude.{◌≡◌, ◌↔◌, ◌⊎◌, length, map, true, is_some, slice_get, IfOk, IfErr, OnOk, OnErr};
 ghost use Rattle.std.specs.List.{AllByRecursion};
 ghost use Rattle.dom_base.specs.declared.Refusal.TheVariants.{Limit, TypeFault};
 ghost use Rattle.dom_model.specs.Command.{Command, own};
@@ -11,6 +11,7 @@ ghost use Rattle.dom_model.specs.CommandRefusals.{past_limit};
 ghost use Rattle.dom_observers.specs.Views.{words_of};
 ghost use Rattle.dom_mutation.specs.Doc.{name_in, owner_in, change_in, notice_in, notices_of, NamesNodes, Makes, MakesSaying};
 ghost use Rattle.dom_mutation.specs.Ready.{IsReady};
+ghost use Rattle.dom_parts.specs.Doc.{HoldsNode};
 
 use crate::Doc;
 use dom_base::{Fault, Owner};
@@ -51,7 +52,7 @@ impl Doc {
         options: Options,
     ) -> Result<(), Fault>
         requires there { is_some (slice_get (part_of self.old.world owner).record_queues number) ≡ true }
-        requires node_is_node { node < length self.old.names }
+        requires node_is_node { HoldsNode self.old node }
         requires own { owner_in self.old node ≡ owner }
         ensures names { self.new.names ≡ self.old.names }
         ensures world { OnOk result (Makes owner (Command.observe number (own (name_in self.old node).number) (words_of options)) nothing

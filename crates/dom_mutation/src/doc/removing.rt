@@ -1,11 +1,12 @@
 //! Removal and adoption (DOM Standard, concepts: remove, adopt).
-ghost use Rattle.std.specs.Prelude.{◌≡◌, ◌<◌, ◌↔◌, ◌⊎◌, length, Some, IfErr, OnOk};
+ghost use Rattle.std.specs.Prelude.{◌≡◌, ◌↔◌, ◌⊎◌, Some, IfErr, OnOk};
 ghost use Rattle.dom_base.specs.declared.Refusal.{Refusal as RefusalOf};
 ghost use Rattle.dom_base.specs.declared.Refusal.TheVariants.{Hierarchy, NotSupported};
 ghost use Rattle.dom_model.specs.Tree.{kind_of};
 ghost use Rattle.dom_model.specs.Changes.{removing, adopting, observed};
 ghost use Rattle.dom_mutation.specs.Doc.{made, name_in, owner_in, trees_in, adoption_refusal};
 ghost use Rattle.dom_mutation.specs.Ready.{IsReady};
+ghost use Rattle.dom_parts.specs.Doc.{HoldsNode};
 
 use crate::Doc;
 use dom_algorithms::{adopt, remove};
@@ -17,7 +18,7 @@ impl Doc {
     /// A node leaves its parent, with a record of the parent. One without a parent stays as it is (DOM Standard, remove). Where
     /// memory is refused, the document is only to be dropped.
     pub fn remove(&mut self, node: Key) -> Result<(), AllocError>
-        requires { node < length self.old.names }
+        requires { HoldsNode self.old node }
         ensures names { OnOk result (self.new.names ≡ self.old.names) }
         ensures world { OnOk result (self.new.world ≡ made (owner_in self.old node) (removing observed (name_in self.old node)) self.old.world) }
         ensures ready { IsReady self.old → OnOk result (IsReady self.new) }
@@ -30,8 +31,8 @@ impl Doc {
     /// with `Hierarchy` and a document with `NotSupported`, with nothing changed. Where memory is refused, the document that
     /// holds them is only to be dropped.
     pub fn adopt(&mut self, document: Key, node: Key) -> Result<(), Fault>
-        requires document_is_node { document < length self.old.names }
-        requires node_is_node { node < length self.old.names }
+        requires document_is_node { HoldsNode self.old document }
+        requires node_is_node { HoldsNode self.old node }
         requires one_owner { owner_in self.old document ≡ owner_in self.old node }
         ensures refused { (r : RefusalOf) →
             (result ≡ Err (Fault.Refused r)) ↔ (adoption_refusal (kind_of (trees_in self.old node) (name_in self.old node)) ≡ Some r) }

@@ -1,5 +1,5 @@
 //! Replacement (DOM Standard, concept: replace).
-ghost use Rattle.std.specs.Prelude.{◌≡◌, ◌<◌, ◌↔◌, length, OnOk, Some};
+ghost use Rattle.std.specs.Prelude.{◌≡◌, ◌↔◌, OnOk, Some};
 ghost use Rattle.dom_base.specs.declared.Refusal.{Refusal as RefusalOf};
 ghost use Rattle.dom_model.specs.Changes.{replacing};
 ghost use Rattle.dom_model.specs.Validity.{replacement_refusal};
@@ -7,6 +7,7 @@ ghost use Rattle.dom_model.specs.World.{part_of};
 ghost use Rattle.dom_worlds.specs.Bounds.{HasBounds};
 ghost use Rattle.dom_mutation.specs.Doc.{made, name_in, owner_in, trees_in};
 ghost use Rattle.dom_mutation.specs.Ready.{IsReady};
+ghost use Rattle.dom_parts.specs.Doc.{HoldsNode};
 
 use crate::Doc;
 use dom_algorithms::replace;
@@ -18,9 +19,9 @@ impl Doc {
     /// Standard, replace). Refused with `Hierarchy` or `NotFound` as the Standard's tests say, in their order, with nothing
     /// changed. Where memory is refused, the document is only to be dropped.
     pub fn replace(&mut self, parent: Key, node: Key, child: Key) -> Result<(), Fault>
-        requires parent_is_node { parent < length self.old.names }
-        requires node_is_node { node < length self.old.names }
-        requires child_is_node { child < length self.old.names }
+        requires parent_is_node { HoldsNode self.old parent }
+        requires node_is_node { HoldsNode self.old node }
+        requires child_is_node { HoldsNode self.old child }
         requires node_owner { owner_in self.old node ≡ owner_in self.old parent }
         requires child_owner { owner_in self.old child ≡ owner_in self.old parent }
         requires bounds { HasBounds (part_of self.old.world (owner_in self.old parent)) }

@@ -1,5 +1,5 @@
 //! The splitting of a Text (DOM Standard, concept: split a Text node).
-ghost use Rattle.std.specs.Prelude.{◌≡◌, ◌<◌, ◌↔◌, ◌⊎◌, ◌++◌, ◌∷◌, [], length, true, IfOk, OnOk, Some};
+ghost use Rattle.std.specs.Prelude.{◌≡◌, ◌↔◌, ◌⊎◌, ◌++◌, ◌∷◌, [], length, true, IfOk, OnOk, Some};
 ghost use Rattle.dom_base.specs.declared.Refusal.{Refusal as RefusalOf};
 ghost use Rattle.dom_base.specs.declared.Refusal.TheVariants.{IndexSize, Limit};
 ghost use Rattle.dom_model.specs.Part.{next_name};
@@ -10,6 +10,7 @@ ghost use Rattle.dom_model.specs.CommandRefusals.{past_end};
 ghost use Rattle.dom_worlds.specs.Bounds.{HasBounds};
 ghost use Rattle.dom_mutation.specs.Doc.{made, name_in, owner_in, trees_in, splitting_refusal};
 ghost use Rattle.dom_mutation.specs.Ready.{IsReady};
+ghost use Rattle.dom_parts.specs.Doc.{HoldsNode};
 
 use crate::Doc;
 use dom_algorithms::split;
@@ -21,7 +22,7 @@ impl Doc {
     /// split a Text node). Refused with `IndexSize` where the offset is past the node's length, and with `Limit` where the
     /// owner has as many nodes as it may.
     pub fn split(&mut self, node: Key, offset: usize) -> Result<Key, Fault>
-        requires node_is_node { node < length self.old.names }
+        requires node_is_node { HoldsNode self.old node }
         requires bounds { HasBounds (part_of self.old.world (owner_in self.old node)) }
         ensures key { IfOk result (λ key. key ≡ length self.old.names) }
         ensures names { OnOk result (self.new.names ≡ self.old.names ++ next_name (part_of self.old.world (owner_in self.old node)) ∷ []) }

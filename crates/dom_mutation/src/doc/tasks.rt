@@ -1,9 +1,10 @@
 //! The microtasks (HTML Standard, concept: microtask queue), and the slots that a notification takes.
-ghost use Rattle.std.specs.Prelude.{◌≡◌, ◌<◌, ◌++◌, ◌∷◌, [], All, filter, map, length, IfOk, OnOk, OnErr};
+ghost use Rattle.std.specs.Prelude.{◌≡◌, ◌++◌, ◌∷◌, [], All, filter, map, IfOk, OnOk, OnErr};
 ghost use Rattle.dom_model.specs.World.{micro_task};
 ghost use Rattle.dom_model.specs.Turns.{is_owned_by, without_signals};
 ghost use Rattle.dom_mutation.specs.Doc.{name_in, with_tasks};
 ghost use Rattle.dom_mutation.specs.Ready.{IsReady};
+ghost use Rattle.dom_parts.specs.Doc.{HoldsNode};
 
 use crate::Doc;
 use dom_base::Owner;
@@ -35,7 +36,7 @@ impl Doc {
     /// observers: signal slots). Where memory is refused, nothing changes.
     pub fn take_signals(&mut self, owner: Owner) -> Result<Vec<Key>, AllocError>
         ensures keys { IfOk result (λ keys. map (name_in self.old) keys.items ≡ filter (is_owned_by owner) self.old.world.signalled) }
-        ensures nodes { IfOk result (λ keys. All (λ k. k < length self.old.names) keys.items) }
+        ensures nodes { IfOk result (λ keys. All (HoldsNode self.old) keys.items) }
         ensures rest { OnOk result (self.new ≡ record self.old { world = without_signals self.old.world owner }) }
         ensures err { OnErr result (self.new ≡ self.old) }
         ensures ready { IsReady self.old → IsReady self.new }

@@ -1,5 +1,5 @@
 //! The text of a node (DOM Standard, textContent; concept: string replace all).
-ghost use Rattle.std.specs.Prelude.{◌≡◌, ◌<◌, ◌↔◌, ◌⊎◌, ◌++◌, length, true, IfErr, OnOk};
+ghost use Rattle.std.specs.Prelude.{◌≡◌, ◌↔◌, ◌⊎◌, ◌++◌, true, IfErr, OnOk};
 ghost use Rattle.dom_base.specs.declared.Refusal.TheVariants.{Limit};
 ghost use Rattle.dom_model.specs.TextChanges.{setting_text};
 ghost use Rattle.dom_model.specs.World.{part_of};
@@ -7,6 +7,7 @@ ghost use Rattle.dom_model.specs.CommandRefusals.{past_limit, made_by_text};
 ghost use Rattle.dom_worlds.specs.Bounds.{HasBounds};
 ghost use Rattle.dom_mutation.specs.Doc.{made, name_in, owner_in, texts_made};
 ghost use Rattle.dom_mutation.specs.Ready.{IsReady};
+ghost use Rattle.dom_parts.specs.Doc.{HoldsNode};
 
 use crate::Doc;
 use dom_algorithms::set_text;
@@ -18,7 +19,7 @@ impl Doc {
     /// Text with these data, or to none where these are none (DOM Standard, textContent). Refused with `Limit` where a Text
     /// is made and the owner has as many nodes as it may.
     pub fn set_text(&mut self, node: Key, data: DomStr) -> Result<(), Fault>
-        requires node_is_node { node < length self.old.names }
+        requires node_is_node { HoldsNode self.old node }
         requires bounds { HasBounds (part_of self.old.world (owner_in self.old node)) }
         ensures names { OnOk result (self.new.names ≡ self.old.names ++ texts_made (part_of self.old.world (owner_in self.old node))
             (name_in self.old node) «data».items) }

@@ -9,8 +9,8 @@ ghost use Rattle.dom_model.specs.DocumentMachine.{attaching, new_root};
 ghost use Rattle.dom_model.specs.World.{part_of, component_made, shadow_root_of};
 ghost use Rattle.dom_slots.specs.Hosts.{root_of_host};
 ghost use Rattle.dom_slots.specs.Kept.{AreSlotsOf};
-ghost use Rattle.dom_tree.specs.Forest.{name_at, next_name, count_of, err_of};
-ghost use Rattle.dom_parts.specs.Doc.{name_in, owner_in, attaching_refusal};
+ghost use Rattle.dom_tree.specs.Forest.{next_name, count_of, err_of, IsNode, name_of};
+ghost use Rattle.dom_parts.specs.Doc.{name_in, owner_in, attaching_refusal, HoldsNode};
 
 use super::settling::settle;
 use crate::Parts;
@@ -28,7 +28,7 @@ impl Parts {
     /// `Limit` where the owner has made as many components as it may or its word has as many numbers as it may, with nothing
     /// changed (DOM Standard, attach a shadow root; the limit is an own rule). Where memory is refused, the document is only to be dropped.
     pub fn attach(&mut self, host: Key) -> Result<Key, Fault>
-        requires { host < length self.old.names }
+        requires { HoldsNode self.old host }
         ensures key { IfOk result (λ key. key ≡ length self.old.names) }
         ensures names { OnOk result (self.new.names ≡ self.old.names ++
             shadow_root_of (component_made (owner_in self.old host) (length (part_of self.old.world (owner_in self.old host)).attached)) ∷ []) }
@@ -64,7 +64,7 @@ impl Parts {
 
     /// The component to which a shadow root of an element will belong, its owner's next one, if one may be attached.
     fn component_for(&self, host: Key) -> Result<Owner, Refusal>
-        requires { host < length self.now.names }
+        requires { HoldsNode self.now host }
         ensures component { IfOk result (λ c. c ≡ component_made (owner_in self.now host) (length (part_of self.now.world (owner_in self.now host)).attached)) }
         ensures refusal { err_of result ≡ attaching_refusal (part_of self.now.world (owner_in self.now host)) (name_in self.now host) }
     {
@@ -126,7 +126,7 @@ fn attach_root(
     host: Key,
     owner: Owner,
 ) -> Result<Key, AllocError>
-    requires host_is_node { host < length forest.old.names }
+    requires host_is_node { IsNode forest.old host }
     requires new_owner { count_of owner forest.old.names ≡ 0 }
     requires new_host { root_of_host slots.old.hosts host ≡ None }
     requires free { slots.old.begun ≡ None }
@@ -134,7 +134,7 @@ fn attach_root(
     ensures key { IfOk result (λ key. key ≡ length forest.old.names) }
     ensures names { OnOk result (forest.new.names ≡ forest.old.names ++ next_name owner forest.old.names ∷ []) }
     ensures trees { OnOk result (forest.new.trees ≡ with_node
-        (new_root (next_name owner forest.old.names) Shadow (node_in forest.old.trees (name_at forest.old.names host)).document) forest.old.trees) }
+        (new_root (next_name owner forest.old.names) Shadow (node_in forest.old.trees (name_of forest.old host)).document) forest.old.trees) }
     ensures hosts { OnOk result (slots.new.hosts ≡ slots.old.hosts ++ record { host = host; root = length forest.old.names; owner = owner } ∷ []) }
     ensures free { OnOk result (slots.new.begun ≡ None) }
     ensures slots { OnOk result (AreSlotsOf forest.new slots.new) }

@@ -1,5 +1,5 @@
 //! Iterators and walkers of each owner, by their numbers (DOM Standard, 6 Traversal).
-ghost use Rattle.std.specs.Prelude.{◌≡◌, ◌<◌, ◌↔◌, ◌⊎◌, length, true, is_some, slice_get, Some, IfOk, IfErr, OnErr};
+ghost use Rattle.std.specs.Prelude.{◌≡◌, ◌↔◌, ◌⊎◌, length, true, is_some, slice_get, Some, IfOk, IfErr, OnErr};
 ghost use Rattle.std.specs.Option.{option_map, ForSome};
 ghost use Rattle.dom_base.specs.declared.Refusal.TheVariants.{Limit};
 ghost use Rattle.dom_model.specs.Command.{Command, own};
@@ -8,7 +8,7 @@ ghost use Rattle.dom_model.specs.Effects.{node_or_null};
 ghost use Rattle.dom_model.specs.World.{part_of};
 ghost use Rattle.dom_model.specs.CommandRefusals.{past_limit};
 ghost use Rattle.dom_traversal.specs.Filters.{filter_of};
-ghost use Rattle.dom_parts.specs.Doc.{name_in, owner_in, Makes};
+ghost use Rattle.dom_parts.specs.Doc.{name_in, owner_in, Makes, HoldsNode};
 
 use crate::Parts;
 use dom_base::{Fault, Move, Owner};
@@ -33,7 +33,7 @@ impl Parts {
     /// Adds an iterator of an owner just before its root, and gives its number (DOM Standard, createNodeIterator). It is
     /// refused with `Limit` where the owner has a million iterators, and with `Memory` where memory is refused.
     pub fn iter_make(&mut self, owner: Owner, root: Key, filter: Filter) -> Result<u32, Fault>
-        requires root_is_node { root < length self.old.names }
+        requires root_is_node { HoldsNode self.old root }
         requires own { owner_in self.old root ≡ owner }
         ensures names { self.new.names ≡ self.old.names }
         ensures world { IfOk result (λ number. Makes owner (Command.iterator_new (own (name_in self.old root).number) (filter_of filter))
@@ -49,7 +49,7 @@ impl Parts {
     /// Adds a walker of an owner at its root, and gives its number (DOM Standard, createTreeWalker). It is refused with
     /// `Limit` where the owner has a million walkers, and with `Memory` where memory is refused.
     pub fn walk_make(&mut self, owner: Owner, root: Key, filter: Filter) -> Result<u32, Fault>
-        requires root_is_node { root < length self.old.names }
+        requires root_is_node { HoldsNode self.old root }
         requires own { owner_in self.old root ≡ owner }
         ensures names { self.new.names ≡ self.old.names }
         ensures world { IfOk result (λ number. Makes owner (Command.walker_new (own (name_in self.old root).number) (filter_of filter))
@@ -66,7 +66,7 @@ impl Parts {
     pub fn iter_next(&mut self, owner: Owner, number: u32) -> Option<Key>
         requires { is_some (slice_get (part_of self.old.world owner).iterators number) ≡ true }
         ensures names { self.new.names ≡ self.old.names }
-        ensures node { ForSome result (λ k. k < length self.old.names) }
+        ensures node { ForSome result (HoldsNode self.old) }
         ensures world { Makes owner (Command.iterator_next number) (node_or_null (option_map (name_in self.old) result)) self.old.world self.new.world }
     {
         self.cursors.iter_next(owner, &self.forest, number)
@@ -77,7 +77,7 @@ impl Parts {
     pub fn iter_previous(&mut self, owner: Owner, number: u32) -> Option<Key>
         requires { is_some (slice_get (part_of self.old.world owner).iterators number) ≡ true }
         ensures names { self.new.names ≡ self.old.names }
-        ensures node { ForSome result (λ k. k < length self.old.names) }
+        ensures node { ForSome result (HoldsNode self.old) }
         ensures world { Makes owner (Command.iterator_previous number) (node_or_null (option_map (name_in self.old) result)) self.old.world self.new.world }
     {
         self.cursors.iter_previous(owner, &self.forest, number)
@@ -87,7 +87,7 @@ impl Parts {
     /// pointerBeforeReferenceNode).
     pub fn iter_at(&self, owner: Owner, number: u32) -> (Key, bool)
         requires { is_some (slice_get (part_of self.now.world owner).iterators number) ≡ true }
-        ensures node { result.0 < length self.now.names }
+        ensures node { HoldsNode self.now result.0 }
         ensures value { Makes owner (Command.iterator_at number) (reference (name_in self.now result.0) result.1) self.now.world self.now.world }
     {
         self.cursors.iter_at(owner, number)
@@ -98,7 +98,7 @@ impl Parts {
     pub fn walk(&mut self, owner: Owner, number: u32, step: Move) -> Option<Key>
         requires { is_some (slice_get (part_of self.old.world owner).walkers number) ≡ true }
         ensures names { self.new.names ≡ self.old.names }
-        ensures node { ForSome result (λ k. k < length self.old.names) }
+        ensures node { ForSome result (HoldsNode self.old) }
         ensures world { Makes owner (Command.walk number step) (node_or_null (option_map (name_in self.old) result)) self.old.world self.new.world }
     {
         self.cursors.walk(owner, &self.forest, number, step)
@@ -107,7 +107,7 @@ impl Parts {
     /// The current node of a walker (DOM Standard, currentNode).
     pub fn walk_at(&self, owner: Owner, number: u32) -> Key
         requires { is_some (slice_get (part_of self.now.world owner).walkers number) ≡ true }
-        ensures node { result < length self.now.names }
+        ensures node { HoldsNode self.now result }
         ensures value { Makes owner (Command.walker_at number) (a_node (name_in self.now result)) self.now.world self.now.world }
     {
         self.cursors.walker_at(owner, number)
@@ -116,7 +116,7 @@ impl Parts {
     /// Makes a node of its owner the current one of a walker (DOM Standard, currentNode).
     pub fn walk_set(&mut self, owner: Owner, number: u32, current: Key)
         requires there { is_some (slice_get (part_of self.old.world owner).walkers number) ≡ true }
-        requires current_is_node { current < length self.old.names }
+        requires current_is_node { HoldsNode self.old current }
         requires own { owner_in self.old current ≡ owner }
         ensures names { self.new.names ≡ self.old.names }
         ensures world { Makes owner (Command.walker_set number (own (name_in self.old current).number)) nothing self.old.world self.new.world }

@@ -1,5 +1,5 @@
 //! Live ranges of each owner, by their numbers (DOM Standard, 5 Ranges).
-ghost use Rattle.std.specs.Prelude.{◌≡◌, ◌<◌, ◌↔◌, ◌⊎◌, length, true, is_some, IfOk, IfErr, OnOk, OnErr};
+ghost use Rattle.std.specs.Prelude.{◌≡◌, ◌↔◌, ◌⊎◌, length, true, is_some, IfOk, IfErr, OnOk, OnErr};
 ghost use Rattle.dom_base.specs.declared.Refusal.{Refusal as RefusalOf};
 ghost use Rattle.dom_base.specs.declared.Refusal.TheVariants.{Limit};
 ghost use Rattle.dom_model.specs.Command.{Command, own};
@@ -10,7 +10,7 @@ ghost use Rattle.dom_model.specs.Part.{range_at};
 ghost use Rattle.dom_model.specs.Ranges.{at, from_to};
 ghost use Rattle.dom_model.specs.Steps.{set_range};
 ghost use Rattle.dom_model.specs.World.{part_of};
-ghost use Rattle.dom_parts.specs.Doc.{name_in, owner_in, stepped, Makes};
+ghost use Rattle.dom_parts.specs.Doc.{name_in, owner_in, stepped, Makes, HoldsNode};
 
 use crate::Parts;
 use dom_base::{Fault, Owner, Refusal};
@@ -29,7 +29,7 @@ impl Parts {
     /// Standard, new Range()). It is refused with `Limit` where the owner has made a million ranges, dropped ones counted,
     /// and with `Memory` where memory is refused (own rules).
     pub fn range_make(&mut self, owner: Owner, first: Key) -> Result<u32, Fault>
-        requires first_is_node { first < length self.old.names }
+        requires first_is_node { HoldsNode self.old first }
         requires is_first { name_in self.old first ≡ node_of owner 0 }
         ensures names { self.new.names ≡ self.old.names }
         ensures world { IfOk result (λ number. Makes owner Command.range_new (a_range number) self.old.world self.new.world) }
@@ -51,7 +51,7 @@ impl Parts {
         offset: usize,
     ) -> Result<(), Refusal>
         requires there { is_some (range_at (part_of self.old.world owner) number) ≡ true }
-        requires node_is_node { node < length self.old.names }
+        requires node_is_node { HoldsNode self.old node }
         requires own { owner_in self.old node ≡ owner }
         ensures names { self.new.names ≡ self.old.names }
         ensures world { OnOk result (Makes owner (Command.range_start number (own (name_in self.old node).number) offset) nothing self.old.world
@@ -76,7 +76,7 @@ impl Parts {
         offset: usize,
     ) -> Result<(), Refusal>
         requires there { is_some (range_at (part_of self.old.world owner) number) ≡ true }
-        requires node_is_node { node < length self.old.names }
+        requires node_is_node { HoldsNode self.old node }
         requires own { owner_in self.old node ≡ owner }
         ensures names { self.new.names ≡ self.old.names }
         ensures world { OnOk result (Makes owner (Command.range_end number (own (name_in self.old node).number) offset) nothing self.old.world self.new.world) }
@@ -102,8 +102,8 @@ impl Parts {
     /// operation on a range sets its ends (own rule).
     pub fn range_put(&mut self, owner: Owner, number: u32, points: Points)
         requires there { is_some (range_at (part_of self.old.world owner) number) ≡ true }
-        requires start_is_node { points.start.0 < length self.old.names }
-        requires end_is_node { points.end.0 < length self.old.names }
+        requires start_is_node { HoldsNode self.old points.start.0 }
+        requires end_is_node { HoldsNode self.old points.end.0 }
         requires own_start { owner_in self.old points.start.0 ≡ owner }
         requires own_end { owner_in self.old points.end.0 ≡ owner }
         ensures { self.new ≡ stepped owner
@@ -125,8 +125,8 @@ impl Parts {
     /// The ends of a live range, each a node of its owner and an offset (DOM Standard, interface AbstractRange).
     pub fn range_points(&self, owner: Owner, number: u32) -> Points
         requires { is_some (range_at (part_of self.now.world owner) number) ≡ true }
-        ensures start_is_node { result.start.0 < length self.now.names }
-        ensures end_is_node { result.end.0 < length self.now.names }
+        ensures start_is_node { HoldsNode self.now result.start.0 }
+        ensures end_is_node { HoldsNode self.now result.end.0 }
         ensures own_start { owner_in self.now result.start.0 ≡ owner }
         ensures own_end { owner_in self.now result.end.0 ≡ owner }
         ensures value { Makes owner (Command.range_get number)

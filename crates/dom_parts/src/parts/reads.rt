@@ -1,5 +1,5 @@
 //! What is read of a node, in its owner's trees.
-ghost use Rattle.std.specs.Prelude.{◌≡◌, ℕ, ◌<◌, ◌≤◌, true, false, length, count_by, is_some, Some};
+ghost use Rattle.std.specs.Prelude.{◌≡◌, ℕ, ◌≤◌, true, false, count_by, is_some, Some};
 ghost use Rattle.std.specs.Option.{option_map, ForSome};
 ghost use Rattle.dom_model.specs.Names.{first_of, last_of, name_eq, items_after};
 ghost use Rattle.dom_model.specs.Tree.{nodes, node_in, attribute_value, kind_of, parent_of, children_of, next_sibling, previous_sibling, length_of};
@@ -11,8 +11,8 @@ ghost use Rattle.dom_model.specs.CommandRefusals.{past_limit};
 ghost use Rattle.dom_worlds.specs.Worlds.{IsPart};
 ghost use Rattle.dom_slots.specs.Hosts.{HostsAreNodes};
 ghost use Rattle.dom_slots.specs.Shadows.{shadows};
-ghost use Rattle.dom_tree.specs.Forest.{name_at};
-ghost use Rattle.dom_parts.specs.Doc.{name_in, owner_in, trees_in, IsOwnNode};
+ghost use Rattle.dom_tree.specs.Forest.{IsNode, name_of};
+ghost use Rattle.dom_parts.specs.Doc.{name_in, owner_in, trees_in, IsOwnNode, HoldsNode};
 ghost use Rattle.dom_parts.specs.Hosting.{IsAlone, outermost_root};
 
 use crate::Parts;
@@ -26,20 +26,20 @@ impl Parts {
     /// do in its part what they do in a part alone, no owner has more nodes than it may, each node's owner is there, and each
     /// owner's part is one as every world has it that is reached.
     pub fn laws(&self)
-        ensures distinct { (j k : ℕ) → j < length self.now.names → k < length self.now.names → name_in self.now j ≡ name_in self.now k → j ≡ k }
+        ensures distinct { (j k : ℕ) → HoldsNode self.now j → HoldsNode self.now k → name_in self.now j ≡ name_in self.now k → j ≡ k }
         ensures once { (o : OwnerOf) (x : Name) → count_by (λ n. name_eq n.name x) (nodes (part_of self.now.world o).trees) ≤ 1 }
-        ensures alone { (k : ℕ) → k < length self.now.names → IsAlone self.now.world (owner_in self.now k) }
+        ensures alone { (k : ℕ) → HoldsNode self.now k → IsAlone self.now.world (owner_in self.now k) }
         ensures limited { (o : OwnerOf) → past_limit (part_of self.now.world o).node_count 0 ≡ false }
-        ensures present { (k : ℕ) → k < length self.now.names → is_there self.now.world (owner_in self.now k) ≡ true }
+        ensures present { (k : ℕ) → HoldsNode self.now k → is_there self.now.world (owner_in self.now k) ≡ true }
         ensures parts { (o : OwnerOf) → IsPart (part_of self.now.world o) }
-        ensures stand { (k : ℕ) → k < length self.now.names → has_node (trees_in self.now k) (name_in self.now k) ≡ true }
+        ensures stand { (k : ℕ) → HoldsNode self.now k → has_node (trees_in self.now k) (name_in self.now k) ≡ true }
     {
         self.forest.nodes_stand_once();
     }
 
     /// The owner of a node.
     pub fn owner(&self, node: Key) -> Owner
-        requires { node < length self.now.names }
+        requires { HoldsNode self.now node }
         ensures { result ≡ owner_in self.now node }
     {
         self.forest.name(node).owner
@@ -47,7 +47,7 @@ impl Parts {
 
     /// The kind of a node (DOM Standard, interface Node; own rule for a shadow root).
     pub fn kind(&self, node: Key) -> Kind
-        requires { node < length self.now.names }
+        requires { HoldsNode self.now node }
         ensures { result ≡ kind_of (trees_in self.now node) (name_in self.now node) }
     {
         self.forest.kind(node)
@@ -55,7 +55,7 @@ impl Parts {
 
     /// The data of a Text or a Comment, in code units.
     pub fn text(&self, node: Key) -> &[u16]
-        requires { node < length self.now.names }
+        requires { HoldsNode self.now node }
         ensures { result.now ≡ (node_in (trees_in self.now node) (name_in self.now node)).text }
     {
         self.forest.text(node)
@@ -64,7 +64,7 @@ impl Parts {
     /// The number of code units of a Text or a Comment, and of another node that of its children, which are counted (DOM
     /// Standard, concept: length).
     pub fn length(&self, node: Key) -> usize
-        requires { node < length self.now.names }
+        requires { HoldsNode self.now node }
         ensures { result ≡ length_of (trees_in self.now node) (name_in self.now node) }
     {
         self.forest.length(node)
@@ -72,7 +72,7 @@ impl Parts {
 
     /// The place of a node among its parent's children (DOM Standard, concept: index).
     pub fn index(&self, node: Key) -> usize
-        requires { node < length self.now.names }
+        requires { HoldsNode self.now node }
         ensures { result ≡ index_of (trees_in self.now node) (name_in self.now node) }
     {
         self.forest.index(node)
@@ -80,7 +80,7 @@ impl Parts {
 
     /// Whether a node's shadow-including root is a document (DOM Standard, concept: connected).
     pub fn is_connected(&self, node: Key) -> bool
-        requires { node < length self.now.names }
+        requires { HoldsNode self.now node }
         ensures { result ≡ is_connected self.now.world (name_in self.now node) }
     {
         self.forest.nodes_stand_once();
@@ -91,7 +91,7 @@ impl Parts {
 
     /// Whether a node has an attribute.
     pub fn has_attr(&self, node: Key, name: &str) -> bool
-        requires { node < length self.now.names }
+        requires { HoldsNode self.now node }
         ensures { result ≡ is_some (attribute_value (node_in (trees_in self.now node) (name_in self.now node)) name.now) }
     {
         self.forest.attr(node, name).is_some()
@@ -99,9 +99,9 @@ impl Parts {
 
     /// The parent of a node, which a root has not (DOM Standard, concept: parent).
     pub fn parent(&self, node: Key) -> Option<Key>
-        requires { node < length self.now.names }
+        requires { HoldsNode self.now node }
         ensures value { option_map (name_in self.now) result ≡ parent_of (trees_in self.now node) (name_in self.now node) }
-        ensures node { ForSome result (λ k. k < length self.now.names) }
+        ensures node { ForSome result (HoldsNode self.now) }
         ensures owner { ForSome result (λ k. owner_in self.now k ≡ owner_in self.now node) }
     {
         self.forest.parent(node)
@@ -109,9 +109,9 @@ impl Parts {
 
     /// The first child of a node.
     pub fn first(&self, node: Key) -> Option<Key>
-        requires { node < length self.now.names }
+        requires { HoldsNode self.now node }
         ensures value { option_map (name_in self.now) result ≡ first_of (children_of (trees_in self.now node) (name_in self.now node)) }
-        ensures node { ForSome result (λ k. k < length self.now.names) }
+        ensures node { ForSome result (HoldsNode self.now) }
         ensures owner { ForSome result (λ k. owner_in self.now k ≡ owner_in self.now node) }
     {
         self.forest.first(node)
@@ -119,9 +119,9 @@ impl Parts {
 
     /// The last child of a node.
     pub fn last(&self, node: Key) -> Option<Key>
-        requires { node < length self.now.names }
+        requires { HoldsNode self.now node }
         ensures value { option_map (name_in self.now) result ≡ last_of (children_of (trees_in self.now node) (name_in self.now node)) }
-        ensures node { ForSome result (λ k. k < length self.now.names) }
+        ensures node { ForSome result (HoldsNode self.now) }
         ensures owner { ForSome result (λ k. owner_in self.now k ≡ owner_in self.now node) }
     {
         self.forest.last(node)
@@ -129,9 +129,9 @@ impl Parts {
 
     /// The sibling just after a node.
     pub fn next(&self, node: Key) -> Option<Key>
-        requires { node < length self.now.names }
+        requires { HoldsNode self.now node }
         ensures value { option_map (name_in self.now) result ≡ next_sibling (trees_in self.now node) (name_in self.now node) }
-        ensures node { ForSome result (λ k. k < length self.now.names) }
+        ensures node { ForSome result (HoldsNode self.now) }
         ensures owner { ForSome result (λ k. owner_in self.now k ≡ owner_in self.now node) }
     {
         self.forest.next(node)
@@ -139,9 +139,9 @@ impl Parts {
 
     /// The sibling just before a node.
     pub fn prev(&self, node: Key) -> Option<Key>
-        requires { node < length self.now.names }
+        requires { HoldsNode self.now node }
         ensures value { option_map (name_in self.now) result ≡ previous_sibling (trees_in self.now node) (name_in self.now node) }
-        ensures node { ForSome result (λ k. k < length self.now.names) }
+        ensures node { ForSome result (HoldsNode self.now) }
         ensures owner { ForSome result (λ k. owner_in self.now k ≡ owner_in self.now node) }
     {
         self.forest.prev(node)
@@ -149,8 +149,8 @@ impl Parts {
 
     /// The node just after a node in tree order, within the tree of a node `top` in which it stands.
     pub fn following(&self, node: Key, top: Key) -> Option<Key>
-        requires node_is_node { node < length self.now.names }
-        requires top_is_node { top < length self.now.names }
+        requires node_is_node { HoldsNode self.now node }
+        requires top_is_node { HoldsNode self.now top }
         requires one_owner { owner_in self.now node ≡ owner_in self.now top }
         requires within { is_inclusive_ancestor (trees_in self.now top) (name_in self.now top) (name_in self.now node) ≡ true }
         ensures value { option_map (name_in self.now) result ≡ first_of
@@ -165,11 +165,11 @@ impl Parts {
 /// The root of a node's tree, or where that has a host the root of the host's tree, and so on, from host to host, so often at
 /// most (DOM Standard, concept: shadow-including root).
 fn outermost_root(forest: &Forest, slots: &Slots, node: Key, depth: u8) -> Key
-    requires node_is_node { node < length forest.now.names }
+    requires node_is_node { IsNode forest.now node }
     requires hosts { HostsAreNodes forest.now.names slots.now.hosts }
-    ensures node { result < length forest.now.names }
-    ensures value { name_at forest.now.names result ≡ outermost_root (shadows forest.now slots.now.hosts) depth
-        (root_of forest.now.trees (name_at forest.now.names node)) }
+    ensures node { IsNode forest.now result }
+    ensures value { name_of forest.now result ≡ outermost_root (shadows forest.now slots.now.hosts) depth
+        (root_of forest.now.trees (name_of forest.now node)) }
 {
     forest.nodes_stand_once();
     let mut root = forest.root(node);

@@ -1,5 +1,5 @@
 //! The step by which observers are told of a change. Where an owner has no registrations it costs one look.
-ghost use Rattle.std.specs.Prelude.{◌≡◌, ◌<◌, false, length, map, IfOk, OnOk, Some};
+ghost use Rattle.std.specs.Prelude.{◌≡◌, false, map, IfOk, OnOk, Some};
 ghost use Rattle.std.specs.Option.{option_map};
 ghost use Rattle.dom_model.specs.Tree.{attribute_value, node_in};
 ghost use Rattle.dom_model.specs.Observers.{target_of};
@@ -7,7 +7,7 @@ ghost use Rattle.dom_base.specs.declared.NodeName.{NodeName};
 ghost use Rattle.dom_model.specs.Output.{Change as ChangeOf, child_list, attributes, character_data};
 ghost use Rattle.dom_model.specs.Steps.{queue_record};
 ghost use Rattle.dom_observers.specs.Views.{change_of};
-ghost use Rattle.dom_parts.specs.Doc.{name_in, owner_in, trees_in, change_in, NamesNodes, AreNodes, IsNodeIf, stepped};
+ghost use Rattle.dom_parts.specs.Doc.{name_in, owner_in, trees_in, change_in, NamesNodes, AreNodes, IsNodeIf, stepped, HoldsNode};
 
 use crate::Parts;
 use dom_base::DomStr;
@@ -25,7 +25,7 @@ impl Parts {
         prev: Option<Key>,
         next: Option<Key>,
     ) -> Result<(), AllocError>
-        requires target_is_node { target < length self.old.names }
+        requires target_is_node { HoldsNode self.old target }
         requires added_are_nodes { AreNodes self.old added.now }
         requires removed_are_nodes { AreNodes self.old removed.now }
         requires prev_is_node { IsNodeIf self.old prev }
@@ -49,7 +49,7 @@ impl Parts {
 
     /// Observers are told that an attribute changes, before it does.
     pub fn tell_attribute(&mut self, node: Key, name: &str) -> Result<(), AllocError>
-        requires { node < length self.old.names }
+        requires { HoldsNode self.old node }
         ensures { OnOk result (self.new ≡ stepped (owner_in self.old node)
             (queue_record (attributes (name_in self.old node) name.now
             (attribute_value (node_in (trees_in self.old node) (name_in self.old node)) name.now))) self.old) }
@@ -68,7 +68,7 @@ impl Parts {
 
     /// Observers are told that data change, before they do.
     pub fn tell_data(&mut self, node: Key) -> Result<(), AllocError>
-        requires { node < length self.old.names }
+        requires { HoldsNode self.old node }
         ensures { OnOk result (self.new ≡ stepped (owner_in self.old node)
             (queue_record (character_data (name_in self.old node) (Some (node_in (trees_in self.old node) (name_in self.old node)).text))) self.old) }
     {
@@ -85,7 +85,7 @@ impl Parts {
 
     /// A copy of the value of an attribute, where there is one.
     fn old_value(&self, node: Key, name: &str) -> Result<Option<DomStr>, AllocError>
-        requires { node < length self.now.names }
+        requires { HoldsNode self.now node }
         ensures { IfOk result (λ old. option_map (λ s. s.items) old ≡ attribute_value (node_in (trees_in self.now node) (name_in self.now node)) name.now) }
     {
         match self.forest.attr(node, name) {
@@ -96,7 +96,7 @@ impl Parts {
 
     /// Whether a node's owner has registrations. Where it has none the record of a change of the node changes nothing.
     fn is_watched(&self, node: Key) -> bool
-        requires { node < length self.now.names }
+        requires { HoldsNode self.now node }
         ensures { result ≡ false → (c : ChangeOf NodeName) → self.now ≡ stepped (owner_in self.now node) (queue_record c) self.now }
     {
         self.observers.is_watched(self.forest.name(node).owner)

@@ -8,7 +8,7 @@ ghost use Rattle.dom_model.specs.Changes.{steps_of};
 ghost use Rattle.dom_model.specs.TextChanges.{joins};
 ghost use Rattle.dom_model.specs.World.{part_of};
 ghost use Rattle.dom_worlds.specs.Bounds.{HasBounds};
-ghost use Rattle.dom_parts.specs.Doc.{name_in, owner_in, trees_in, stepped, planned, IsChild, IsOwnNode, MayCome, JoinsFit};
+ghost use Rattle.dom_parts.specs.Doc.{name_in, owner_in, trees_in, stepped, planned, IsChild, IsOwnNode, MayCome, JoinsFit, HoldsNode};
 ghost use Rattle.dom_model.specs.TreeChanges.{replaced};
 
 use super::settling::settle;
@@ -24,7 +24,7 @@ impl Parts {
     /// A node leaves its parent, after it got its transient registrations, and its owner's iterators and live ranges left its
     /// tree; slots are signalled.
     pub fn take_out(&mut self, node: Key) -> Result<(), AllocError>
-        requires node_is_node { node < length self.old.names }
+        requires node_is_node { HoldsNode self.old node }
         requires has_parent { is_some (parent_of (trees_in self.old node) (name_in self.old node)) ≡ true }
         ensures { OnOk result (self.new ≡ stepped (owner_in self.old node) (take_out (name_in self.old node)) self.old) }
     {
@@ -62,12 +62,12 @@ impl Parts {
 
     /// The tree of a node becomes a child of another one, just before the child given or last.
     pub fn place(&mut self, node: Key, parent: Key, before: Option<Key>) -> Result<(), AllocError>
-        requires node_is_node { node < length self.old.names }
-        requires parent_is_node { parent < length self.old.names }
+        requires node_is_node { HoldsNode self.old node }
+        requires parent_is_node { HoldsNode self.old parent }
         requires one_owner { owner_in self.old node ≡ owner_in self.old parent }
         requires unlinked { parent_of (trees_in self.old node) (name_in self.old node) ≡ None }
         requires not_above { is_inclusive_ancestor (trees_in self.old parent) (name_in self.old node) (name_in self.old parent) ≡ false }
-        requires before_is_node { ForSome before (λ b. b < length self.old.names) }
+        requires before_is_node { ForSome before (HoldsNode self.old) }
         requires before_is_child { ForSome before (λ b. parent_of (trees_in self.old b) (name_in self.old b) ≡ Some (name_in self.old parent)) }
         ensures { OnOk result (self.new ≡ stepped (owner_in self.old parent)
             (place (name_in self.old node) (name_in self.old parent) (option_map (name_in self.old) before)) self.old) }
@@ -97,7 +97,7 @@ impl Parts {
 
     /// An attribute gets a value.
     pub fn set_attribute(&mut self, node: Key, name: &str, value: DomStr) -> Result<(), AllocError>
-        requires { node < length self.old.names }
+        requires { HoldsNode self.old node }
         ensures { OnOk result (self.new ≡ stepped (owner_in self.old node) (set_attribute (name_in self.old node) name.now (Some value.items)) self.old) }
     {
         let done = set_attr(
@@ -124,7 +124,7 @@ impl Parts {
 
     /// An attribute goes.
     pub fn unset_attribute(&mut self, node: Key, name: &str) -> Result<(), AllocError>
-        requires { node < length self.old.names }
+        requires { HoldsNode self.old node }
         ensures { OnOk result (self.new ≡ stepped (owner_in self.old node) (set_attribute (name_in self.old node) name.now None) self.old) }
     {
         let done = remove_attr(
@@ -157,7 +157,7 @@ impl Parts {
         count: usize,
         data: DomStr,
     ) -> Result<(), AllocError>
-        requires node_is_node { node < length self.old.names }
+        requires node_is_node { HoldsNode self.old node }
         requires may_come { MayCome (part_of self.old.world (owner_in self.old node)) (name_in self.old node) «data».items }
         requires there { count ≤ length (node_in (trees_in self.old node) (name_in self.old node)).text - offset }
         ensures ok { OnOk result (self.new ≡ stepped (owner_in self.old node) (replace_data (name_in self.old node) offset count «data».items) self.old) }
@@ -174,7 +174,7 @@ impl Parts {
 
     /// So many nodes are to come into a parent before a child: the ends of live ranges make room.
     pub fn make_room(&mut self, parent: Key, child: Key, count: usize)
-        requires parent_is_node { parent < length self.old.names }
+        requires parent_is_node { HoldsNode self.old parent }
         requires is_child { IsChild self.old parent child }
         requires bounds { HasBounds (part_of self.old.world (owner_in self.old parent)) }
         requires few { count ≤ 1000000 }
@@ -189,9 +189,9 @@ impl Parts {
     /// A Text, the child of a parent at an index, was split at an offset, and its tail is in a new Text: the ends of live
     /// ranges go with it.
     pub fn split_at(&mut self, node: Key, offset: usize, new: Key, parent: Key, index: usize)
-        requires node_is_node { node < length self.old.names }
-        requires new_is_node { new < length self.old.names }
-        requires parent_is_node { parent < length self.old.names }
+        requires node_is_node { HoldsNode self.old node }
+        requires new_is_node { HoldsNode self.old new }
+        requires parent_is_node { HoldsNode self.old parent }
         requires new_owner { owner_in self.old new ≡ owner_in self.old node }
         requires parent_owner { owner_in self.old parent ≡ owner_in self.old node }
         requires few { index < 1000000 }
@@ -205,8 +205,8 @@ impl Parts {
 
     /// A first Text got the data of others, the children of its parent, from a size on: the ends of live ranges go with them.
     pub fn join_each(&mut self, first: Key, size: usize, nexts: &[Key], parent: Key)
-        requires first_is_node { first < length self.old.names }
-        requires parent_is_node { parent < length self.old.names }
+        requires first_is_node { HoldsNode self.old first }
+        requires parent_is_node { HoldsNode self.old parent }
         requires parent_owner { owner_in self.old parent ≡ owner_in self.old first }
         requires nexts_are_nodes { AllByRecursion (IsOwnNode self.old first) nexts.now }
         requires bounds { HasBounds (part_of self.old.world (owner_in self.old first)) }
@@ -229,9 +229,9 @@ impl Parts {
     /// A first Text got the data of the next one, a child of its parent, from a size on: the ends of live ranges go with
     /// them. The answer is the size up to which they are joined then.
     fn join_at(&mut self, first: Key, size: usize, next: Key, parent: Key) -> usize
-        requires first_is_node { first < length self.old.names }
-        requires next_is_node { next < length self.old.names }
-        requires parent_is_node { parent < length self.old.names }
+        requires first_is_node { HoldsNode self.old first }
+        requires next_is_node { HoldsNode self.old next }
+        requires parent_is_node { HoldsNode self.old parent }
         requires next_owner { owner_in self.old next ≡ owner_in self.old first }
         requires parent_owner { owner_in self.old parent ≡ owner_in self.old first }
         requires bounds { HasBounds (part_of self.old.world (owner_in self.old first)) }

@@ -1,9 +1,9 @@
 //! The tests before an insertion or a replacement (DOM Standard, ensure pre-insert validity; concept: replace).
-ghost use Rattle.std.specs.Prelude.{◌≡◌, ◌<◌, length};
+ghost use Rattle.std.specs.Prelude.{◌≡◌};
 ghost use Rattle.std.specs.Option.{option_map, ForSome};
 ghost use Rattle.dom_model.specs.Validity.{insertion_refusal, replacement_refusal};
 ghost use Rattle.dom_tree.specs.Forest.{err_of};
-ghost use Rattle.dom_parts.specs.Doc.{name_in, owner_in, trees_in};
+ghost use Rattle.dom_parts.specs.Doc.{name_in, owner_in, trees_in, HoldsNode};
 
 use crate::Parts;
 use dom_base::Refusal;
@@ -13,9 +13,9 @@ impl Parts {
     /// Tests whether a node may be put among the children of a parent, before the child given or last: `Hierarchy` or `NotFound`
     /// where not (DOM Standard, ensure pre-insert validity).
     pub fn check_insert(&self, parent: Key, node: Key, child: Option<Key>) -> Result<(), Refusal>
-        requires parent_is_node { parent < length self.now.names }
-        requires node_is_node { node < length self.now.names }
-        requires child_is_node { ForSome child (λ c. c < length self.now.names) }
+        requires parent_is_node { HoldsNode self.now parent }
+        requires node_is_node { HoldsNode self.now node }
+        requires child_is_node { ForSome child (HoldsNode self.now) }
         requires node_owner { owner_in self.now node ≡ owner_in self.now parent }
         requires child_owner { ForSome child (λ c. owner_in self.now c ≡ owner_in self.now parent) }
         ensures { err_of result ≡ insertion_refusal (trees_in self.now parent) (name_in self.now parent) (name_in self.now node)
@@ -26,9 +26,9 @@ impl Parts {
 
     /// Tests whether a node may take the place of a child of a parent.
     pub fn check_replace(&self, parent: Key, node: Key, child: Key) -> Result<(), Refusal>
-        requires parent_is_node { parent < length self.now.names }
-        requires node_is_node { node < length self.now.names }
-        requires child_is_node { child < length self.now.names }
+        requires parent_is_node { HoldsNode self.now parent }
+        requires node_is_node { HoldsNode self.now node }
+        requires child_is_node { HoldsNode self.now child }
         requires node_owner { owner_in self.now node ≡ owner_in self.now parent }
         requires child_owner { owner_in self.now child ≡ owner_in self.now parent }
         ensures { err_of result ≡ replacement_refusal (trees_in self.now parent) (name_in self.now parent) (name_in self.now node) (name_in self.now child) }

@@ -1,9 +1,9 @@
 //! The paths from the ends of a range up to their lowest common inclusive ancestor.
-ghost use Rattle.std.specs.Prelude.{◌≡◌, ◌<◌, length, map, IfOk};
+ghost use Rattle.std.specs.Prelude.{◌≡◌, map, IfOk};
 ghost use Rattle.std.specs.List.{AllByRecursion};
 ghost use Rattle.dom_model.specs.Tree.{inclusive_ancestors as all_above};
 ghost use Rattle.dom_range_ops.specs.Pieces.{EndAlike};
-ghost use Rattle.dom_tree.specs.Forest.{name_at};
+ghost use Rattle.dom_tree.specs.Forest.{IsNode, name_of};
 
 use dom_tree::Forest;
 use node_arena::Key;
@@ -15,9 +15,9 @@ pub(super) fn inclusive_ancestors(
     forest: &Forest,
     key: Key,
 ) -> Result<Vec<Key>, AllocError>
-    requires { key < length forest.now.names }
-    ensures names { IfOk result (λ path. map (name_at forest.now.names) path.items ≡ all_above forest.now.trees (name_at forest.now.names key)) }
-    ensures nodes { IfOk result (λ path. AllByRecursion (λ k. k < length forest.now.names) path.items) }
+    requires { IsNode forest.now key }
+    ensures names { IfOk result (λ path. map (name_of forest.now) path.items ≡ all_above forest.now.trees (name_of forest.now key)) }
+    ensures nodes { IfOk result (λ path. AllByRecursion (IsNode forest.now) path.items) }
 {
     forest.nodes_stand_once();
     let mut path = Vec::new(alloc);

@@ -1,9 +1,9 @@
 //! Runs of siblings that are taken as they are.
-ghost use Rattle.std.specs.Prelude.{◌<◌, length, map, take, drop, OnOk, if◌then◌else◌};
+ghost use Rattle.std.specs.Prelude.{map, take, drop, OnOk, if◌then◌else◌};
 ghost use Rattle.std.specs.Option.{option_map, ForSome};
 ghost use Rattle.dom_model.specs.Tree.{children_of};
 ghost use Rattle.dom_range_ops.specs.Pieces.{Adds, whole_item, from_sibling, up_to};
-ghost use Rattle.dom_tree.specs.Forest.{name_at};
+ghost use Rattle.dom_tree.specs.Forest.{IsNode, name_of};
 
 use super::Piece;
 use crate::points::{child_at, is_node};
@@ -19,11 +19,11 @@ pub(super) fn push_siblings(
     from: Option<Key>,
     until: Option<Key>,
 ) -> Result<(), AllocError>
-    requires from_is_node { ForSome from (λ k. k < length forest.now.names) }
-    requires until_is_node { ForSome until (λ k. k < length forest.now.names) }
+    requires from_is_node { ForSome from (IsNode forest.now) }
+    requires until_is_node { ForSome until (IsNode forest.now) }
     ensures { OnOk result (Adds forest.now.names pieces.old.items pieces.new.items
-        (map whole_item (up_to (option_map (name_at forest.now.names) until)
-        (from_sibling forest.now.trees (option_map (name_at forest.now.names) from))))) }
+        (map whole_item (up_to (option_map (name_of forest.now) until)
+        (from_sibling forest.now.trees (option_map (name_of forest.now) from))))) }
 {
     forest.nodes_stand_once();
     let mut at = from;
@@ -45,10 +45,10 @@ pub(super) fn push_children(
     point: (Key, usize),
     behind: bool,
 ) -> Result<(), AllocError>
-    requires { point.0 < length forest.now.names }
+    requires { IsNode forest.now point.0 }
     ensures { OnOk result (Adds forest.now.names pieces.old.items pieces.new.items
-        (map whole_item (if behind then drop point.1 (children_of forest.now.trees (name_at forest.now.names point.0)) else take point.1
-        (children_of forest.now.trees (name_at forest.now.names point.0))))) }
+        (map whole_item (if behind then drop point.1 (children_of forest.now.trees (name_of forest.now point.0)) else take point.1
+        (children_of forest.now.trees (name_of forest.now point.0))))) }
 {
     forest.nodes_stand_once();
     let (node, offset) = point;

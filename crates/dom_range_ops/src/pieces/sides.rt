@@ -1,5 +1,5 @@
 //! What is taken on the side of each end of a range, and between the two.
-ghost use Rattle.std.specs.Prelude.{◌≡◌, ◌<◌, ◌++◌, ◌∷◌, [], length, map, filter, OnOk, if◌then◌else◌};
+ghost use Rattle.std.specs.Prelude.{◌≡◌, ◌++◌, ◌∷◌, [], map, filter, OnOk, if◌then◌else◌};
 ghost use Rattle.std.specs.List.{AllByRecursion};
 ghost use Rattle.std.specs.Option.{option_map, ForSome};
 ghost use Rattle.dom_model.specs.Extract.{pieces_apart, common_ancestor};
@@ -9,7 +9,7 @@ ghost use Rattle.dom_model.specs.Tree.{children_of, siblings, length_of};
 ghost use Rattle.dom_range_ops.specs.Pieces.{Adds, AreSpanned, ArePaths, items_of, whole_item, clone_item, end_item, wholes_if, heads, tails};
 ghost use Rattle.dom_range_ops.specs.Pieces.{end_items, side_items, first_behind, first_from};
 ghost use Rattle.dom_range_ops.specs.Texts.{range_at_points};
-ghost use Rattle.dom_tree.specs.Forest.{name_at};
+ghost use Rattle.dom_tree.specs.Forest.{IsNode, name_of};
 
 use super::Piece;
 use super::runs::{push_children, push_siblings};
@@ -82,11 +82,11 @@ fn push_between(
 
 /// The first node behind a point among the children of the node above the last of a path up from it.
 fn first_behind(forest: &Forest, point: (Key, usize), path: &[Key]) -> Option<Key>
-    requires point_is_node { point.0 < length forest.now.names }
-    requires nodes { AllByRecursion (λ k. k < length forest.now.names) path.now }
-    ensures value { option_map (name_at forest.now.names) result ≡ first_behind forest.now.trees (at (name_at forest.now.names point.0) point.1)
-        (map (name_at forest.now.names) path.now) }
-    ensures node { ForSome result (λ k. k < length forest.now.names) }
+    requires point_is_node { IsNode forest.now point.0 }
+    requires nodes { AllByRecursion (IsNode forest.now) path.now }
+    ensures value { option_map (name_of forest.now) result ≡ first_behind forest.now.trees (at (name_of forest.now point.0) point.1)
+        (map (name_of forest.now) path.now) }
+    ensures node { ForSome result (IsNode forest.now) }
 {
     let (node, offset) = point;
     match path.last() {
@@ -97,11 +97,11 @@ fn first_behind(forest: &Forest, point: (Key, usize), path: &[Key]) -> Option<Ke
 
 /// The first of them that is not in front of it.
 fn first_from(forest: &Forest, point: (Key, usize), path: &[Key]) -> Option<Key>
-    requires point_is_node { point.0 < length forest.now.names }
-    requires nodes { AllByRecursion (λ k. k < length forest.now.names) path.now }
-    ensures value { option_map (name_at forest.now.names) result ≡ first_from forest.now.trees (at (name_at forest.now.names point.0) point.1)
-        (map (name_at forest.now.names) path.now) }
-    ensures node { ForSome result (λ k. k < length forest.now.names) }
+    requires point_is_node { IsNode forest.now point.0 }
+    requires nodes { AllByRecursion (IsNode forest.now) path.now }
+    ensures value { option_map (name_of forest.now) result ≡ first_from forest.now.trees (at (name_of forest.now point.0) point.1)
+        (map (name_of forest.now) path.now) }
+    ensures node { ForSome result (IsNode forest.now) }
 {
     let (node, offset) = point;
     match path.last() {
@@ -117,11 +117,11 @@ fn push_side(
     path: &[Key],
     side: Side,
 ) -> Result<(), AllocError>
-    requires point_is_node { side.point.0 < length forest.now.names }
-    requires nodes { AllByRecursion (λ k. k < length forest.now.names) path.now }
+    requires point_is_node { IsNode forest.now side.point.0 }
+    requires nodes { AllByRecursion (IsNode forest.now) path.now }
     ensures { OnOk result (Adds forest.now.names pieces.old.items pieces.new.items
-        (side_items forest.now.trees (at (name_at forest.now.names side.point.0) side.point.1) side.behind
-        (map (name_at forest.now.names) path.now))) }
+        (side_items forest.now.trees (at (name_of forest.now side.point.0) side.point.1) side.behind
+        (map (name_of forest.now) path.now))) }
 {
     if path.is_empty() {
         return Ok(());
@@ -140,8 +140,8 @@ fn push_heads(
     path: &[Key],
     before: bool,
 ) -> Result<(), AllocError>
-    requires { AllByRecursion (λ k. k < length forest.now.names) path.now }
-    ensures { OnOk result (Adds forest.now.names pieces.old.items pieces.new.items (heads forest.now.trees before (map (name_at forest.now.names) path.now))) }
+    requires { AllByRecursion (IsNode forest.now) path.now }
+    ensures { OnOk result (Adds forest.now.names pieces.old.items pieces.new.items (heads forest.now.trees before (map (name_of forest.now) path.now))) }
 {
     let mut at = path.len();
     while at > 1 {
@@ -159,11 +159,11 @@ fn push_head(
     child: Key,
     before: bool,
 ) -> Result<(), AllocError>
-    requires node { node < length forest.now.names }
-    requires child { child < length forest.now.names }
+    requires node { IsNode forest.now node }
+    requires child { IsNode forest.now child }
     ensures { OnOk result (Adds forest.now.names pieces.old.items pieces.new.items
-        (clone_item (name_at forest.now.names node) ∷ wholes_if before
-        (items_before name_eq (name_at forest.now.names child) (children_of forest.now.trees (name_at forest.now.names node))))) }
+        (clone_item (name_of forest.now node) ∷ wholes_if before
+        (items_before name_eq (name_of forest.now child) (children_of forest.now.trees (name_of forest.now node))))) }
 {
     forest.nodes_stand_once();
     pieces.push(Piece::Clone(node))?;
@@ -181,8 +181,8 @@ fn push_tails(
     path: &[Key],
     behind: bool,
 ) -> Result<(), AllocError>
-    requires { AllByRecursion (λ k. k < length forest.now.names) path.now }
-    ensures { OnOk result (Adds forest.now.names pieces.old.items pieces.new.items (tails forest.now.trees behind (map (name_at forest.now.names) path.now))) }
+    requires { AllByRecursion (IsNode forest.now) path.now }
+    ensures { OnOk result (Adds forest.now.names pieces.old.items pieces.new.items (tails forest.now.trees behind (map (name_of forest.now) path.now))) }
 {
     for at in 1..path.len() {
         push_tail(pieces, forest, path[at - 1], behind)?;
@@ -197,9 +197,9 @@ fn push_tail(
     child: Key,
     behind: bool,
 ) -> Result<(), AllocError>
-    requires { child < length forest.now.names }
+    requires { IsNode forest.now child }
     ensures { OnOk result (Adds forest.now.names pieces.old.items pieces.new.items
-        (wholes_if behind (items_after name_eq (name_at forest.now.names child) (siblings forest.now.trees (name_at forest.now.names child))) ++
+        (wholes_if behind (items_after name_eq (name_of forest.now child) (siblings forest.now.trees (name_of forest.now child))) ++
         end_item ∷ [])) }
 {
     forest.nodes_stand_once();
@@ -212,9 +212,9 @@ fn push_tail(
 
 /// What is taken of the node of an end: a part of its data, or a clone with the children that are taken.
 fn push_end(pieces: &mut Vec<Piece>, forest: &Forest, side: Side) -> Result<(), AllocError>
-    requires { side.point.0 < length forest.now.names }
+    requires { IsNode forest.now side.point.0 }
     ensures { OnOk result (Adds forest.now.names pieces.old.items pieces.new.items
-        (end_items forest.now.trees (at (name_at forest.now.names side.point.0) side.point.1) side.behind)) }
+        (end_items forest.now.trees (at (name_of forest.now side.point.0) side.point.1) side.behind)) }
 {
     let Side { point, behind } = side;
     let node = point.0;
@@ -230,9 +230,9 @@ fn push_end(pieces: &mut Vec<Piece>, forest: &Forest, side: Side) -> Result<(), 
 
 /// The part of a Text or Comment behind an end, or else that in front of it.
 fn cut_of(forest: &Forest, side: Side) -> Piece
-    requires { side.point.0 < length forest.now.names }
+    requires { IsNode forest.now side.point.0 }
     ensures { result ≡ Piece.Cut side.point.0 (if side.behind then side.point.1 else 0)
-        (if side.behind then length_of forest.now.trees (name_at forest.now.names side.point.0) else side.point.1) }
+        (if side.behind then length_of forest.now.trees (name_of forest.now side.point.0) else side.point.1) }
 {
     let (node, offset) = side.point;
     if side.behind {

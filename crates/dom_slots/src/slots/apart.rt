@@ -1,7 +1,7 @@
 //! Steps that are made outside of shadow trees.
-ghost use Rattle.std.specs.Prelude.{◌≡◌, ◌<◌, length};
+ghost use Rattle.std.specs.Prelude.{◌≡◌};
 ghost use Rattle.std.specs.Option.{option_map, ForSome};
-ghost use Rattle.dom_tree.specs.Forest.{name_at};
+ghost use Rattle.dom_tree.specs.Forest.{IsNode, name_of};
 ghost use Rattle.dom_slots.specs.Hosts.{HostsAreNodes};
 ghost use Rattle.dom_slots.specs.Shadows.{shadows};
 ghost use Rattle.dom_slots.specs.Steps.{StepHasNodes, step_node, is_outside, is_apart};
@@ -18,9 +18,9 @@ impl Slots {
     pub(super) fn is_apart(&self, forest: &Forest, step: Step, left: Option<Key>) -> bool
         requires hosts { HostsAreNodes forest.now.names self.now.hosts }
         requires nodes { StepHasNodes forest.now.names step }
-        requires left { ForSome left (λ k. k < length forest.now.names) }
-        ensures { result ≡ is_apart (shadows forest.now self.now.hosts) (name_at forest.now.names (step_node step))
-            (option_map (name_at forest.now.names) left) }
+        requires left { ForSome left (IsNode forest.now) }
+        ensures { result ≡ is_apart (shadows forest.now self.now.hosts) (name_of forest.now (step_node step))
+            (option_map (name_of forest.now) left) }
     {
         forest.nodes_stand_once();
         let node = step.node();
@@ -32,8 +32,8 @@ impl Slots {
     /// Whether a node, if there is one, stands in no shadow tree.
     fn is_outside(&self, forest: &Forest, node: Option<Key>) -> bool
         requires hosts { HostsAreNodes forest.now.names self.now.hosts }
-        requires node { ForSome node (λ k. k < length forest.now.names) }
-        ensures { result ≡ is_outside (shadows forest.now self.now.hosts) (option_map (name_at forest.now.names) node) }
+        requires node { ForSome node (IsNode forest.now) }
+        ensures { result ≡ is_outside (shadows forest.now self.now.hosts) (option_map (name_of forest.now) node) }
     {
         forest.nodes_stand_once();
         match node {

@@ -1,8 +1,8 @@
 //! The slot of a node, and the nodes assigned to a slot.
-ghost use Rattle.std.specs.Prelude.{◌≡◌, ℕ, ◌<◌, false, nat_eq, None, map, length, IfOk, All};
+ghost use Rattle.std.specs.Prelude.{◌≡◌, ℕ, false, nat_eq, None, map, IfOk, All};
 ghost use Rattle.std.specs.Option.{option_map, ForSome};
 ghost use Rattle.dom_model.specs.Names.{is_in};
-ghost use Rattle.dom_tree.specs.Forest.{name_at};
+ghost use Rattle.dom_tree.specs.Forest.{IsNode, name_of};
 ghost use Rattle.dom_slots.specs.Hosts.{HostsAreNodes};
 ghost use Rattle.dom_slots.specs.Kept.{AreSlotsOf};
 ghost use Rattle.dom_slots.specs.Shadows.{shadows, slot_at, is_first_at, assigned_at, assigned_under};
@@ -18,11 +18,11 @@ impl Slots {
     /// The slot to which a node is assigned: the first one of its name in the shadow tree of its parent (DOM Standard,
     /// concept: find a slot). It is found by one look-up; of a node that has none three more tell that. Takes no memory.
     pub fn slot_of(&self, forest: &Forest, node: Key) -> Option<Key>
-        requires node_is_node { node < length forest.now.names }
+        requires node_is_node { IsNode forest.now node }
         requires free { self.now.begun ≡ None }
         requires slots { AreSlotsOf forest.now self.now }
-        ensures value { option_map (name_at forest.now.names) result ≡ slot_at (shadows forest.now self.now.hosts) (name_at forest.now.names node) }
-        ensures node { ForSome result (λ k. k < length forest.now.names) }
+        ensures value { option_map (name_of forest.now) result ≡ slot_at (shadows forest.now self.now.hosts) (name_of forest.now node) }
+        ensures node { ForSome result (IsNode forest.now) }
     {
         match self.table.slot(node) {
             Some(slot) => Some(slot),
@@ -33,11 +33,11 @@ impl Slots {
     /// The slot of a node that stands in no list: none, where its parent is no host, or is the host of a tree of its own. Of a
     /// host whose shadow root is no root, or that of another host too, the shadow tree is walked; nobody makes such ones.
     fn slot_unlisted(&self, forest: &Forest, node: Key) -> Option<Key>
-        requires node_is_node { node < length forest.now.names }
+        requires node_is_node { IsNode forest.now node }
         requires slots { AreSlotsOf forest.now self.now }
         requires unlisted { (slot : ℕ) → is_in nat_eq node (list_of self.now.table slot) ≡ false }
-        ensures value { option_map (name_at forest.now.names) result ≡ slot_at (shadows forest.now self.now.hosts) (name_at forest.now.names node) }
-        ensures node { ForSome result (λ k. k < length forest.now.names) }
+        ensures value { option_map (name_of forest.now) result ≡ slot_at (shadows forest.now self.now.hosts) (name_of forest.now node) }
+        ensures node { ForSome result (IsNode forest.now) }
     {
         forest.nodes_stand_once();
         let parent = forest.parent(node)?;
@@ -51,12 +51,12 @@ impl Slots {
     /// The nodes assigned to a slot, in the order of their host's children; none to a node outside of shadow trees (DOM
     /// Standard, concept: assigned nodes). They are read from the table: no tree is walked.
     pub fn assigned(&self, forest: &Forest, slot: Key) -> Result<Vec<Key>, AllocError>
-        requires slot_is_node { slot < length forest.now.names }
+        requires slot_is_node { IsNode forest.now slot }
         requires free { self.now.begun ≡ None }
         requires slots { AreSlotsOf forest.now self.now }
-        ensures value { IfOk result (λ keys. map (name_at forest.now.names) keys.items ≡ assigned_at (shadows forest.now self.now.hosts)
-            (name_at forest.now.names slot)) }
-        ensures nodes { IfOk result (λ keys. All (λ k. k < length forest.now.names) keys.items) }
+        ensures value { IfOk result (λ keys. map (name_of forest.now) keys.items ≡ assigned_at (shadows forest.now self.now.hosts)
+            (name_of forest.now slot)) }
+        ensures nodes { IfOk result (λ keys. All (IsNode forest.now) keys.items) }
     {
         forest.nodes_stand_once();
         let mut keys = Vec::new(self.alloc);
@@ -66,10 +66,10 @@ impl Slots {
 
     /// Finds the slot of a node by the maps alone, so also in a forest that is not that of the table.
     pub(super) fn slot_now(&self, forest: &Forest, node: Key) -> Option<Key>
-        requires node_is_node { node < length forest.now.names }
+        requires node_is_node { IsNode forest.now node }
         requires hosts { HostsAreNodes forest.now.names self.now.hosts }
-        ensures value { option_map (name_at forest.now.names) result ≡ slot_at (shadows forest.now self.now.hosts) (name_at forest.now.names node) }
-        ensures node { ForSome result (λ k. k < length forest.now.names) }
+        ensures value { option_map (name_of forest.now) result ≡ slot_at (shadows forest.now self.now.hosts) (name_of forest.now node) }
+        ensures node { ForSome result (IsNode forest.now) }
     {
         forest.nodes_stand_once();
         let parent = forest.parent(node)?;
@@ -80,11 +80,11 @@ impl Slots {
 
     /// The nodes assigned to a slot, also in a forest that is not that of the table.
     pub(super) fn assigned_now(&self, forest: &Forest, slot: Key) -> Result<Vec<Key>, AllocError>
-        requires slot_is_node { slot < length forest.now.names }
+        requires slot_is_node { IsNode forest.now slot }
         requires hosts { HostsAreNodes forest.now.names self.now.hosts }
-        ensures value { IfOk result (λ keys. map (name_at forest.now.names) keys.items ≡ assigned_at (shadows forest.now self.now.hosts)
-            (name_at forest.now.names slot)) }
-        ensures nodes { IfOk result (λ keys. All (λ k. k < length forest.now.names) keys.items) }
+        ensures value { IfOk result (λ keys. map (name_of forest.now) keys.items ≡ assigned_at (shadows forest.now self.now.hosts)
+            (name_of forest.now slot)) }
+        ensures nodes { IfOk result (λ keys. All (IsNode forest.now) keys.items) }
     {
         forest.nodes_stand_once();
         match self.host_of(forest.root(slot)) {
@@ -95,12 +95,12 @@ impl Slots {
 
     /// The children of a host whose slot this one is: where it is the first of its name, those that look for that name.
     fn assigned_under(&self, forest: &Forest, host: Key, slot: Key) -> Result<Vec<Key>, AllocError>
-        requires host_is_node { host < length forest.now.names }
-        requires slot_is_node { slot < length forest.now.names }
+        requires host_is_node { IsNode forest.now host }
+        requires slot_is_node { IsNode forest.now slot }
         requires hosts { HostsAreNodes forest.now.names self.now.hosts }
-        ensures value { IfOk result (λ keys. map (name_at forest.now.names) keys.items ≡ assigned_under (shadows forest.now self.now.hosts)
-            (name_at forest.now.names slot) (name_at forest.now.names host)) }
-        ensures nodes { IfOk result (λ keys. All (λ k. k < length forest.now.names) keys.items) }
+        ensures value { IfOk result (λ keys. map (name_of forest.now) keys.items ≡ assigned_under (shadows forest.now self.now.hosts)
+            (name_of forest.now slot) (name_of forest.now host)) }
+        ensures nodes { IfOk result (λ keys. All (IsNode forest.now) keys.items) }
     {
         forest.nodes_stand_once();
         let mut keys = Vec::new(self.alloc);
@@ -121,10 +121,10 @@ impl Slots {
     /// Whether a slot is the first of its name in the shadow tree of a host. This walks through that tree, and none of the
     /// host's children needs to.
     fn is_first(&self, forest: &Forest, host: Key, slot: Key) -> bool
-        requires host_is_node { host < length forest.now.names }
-        requires slot_is_node { slot < length forest.now.names }
+        requires host_is_node { IsNode forest.now host }
+        requires slot_is_node { IsNode forest.now slot }
         requires hosts { HostsAreNodes forest.now.names self.now.hosts }
-        ensures { result ≡ is_first_at (shadows forest.now self.now.hosts) (name_at forest.now.names host) (name_at forest.now.names slot) }
+        ensures { result ≡ is_first_at (shadows forest.now self.now.hosts) (name_of forest.now host) (name_of forest.now slot) }
     {
         forest.nodes_stand_once();
         match self.root_of(host) {

@@ -1,10 +1,10 @@
 //! Steps that are made inside of shadow trees.
-ghost use Rattle.std.specs.Prelude.{◌≡◌, ◌⊎◌, ℕ, ◌<◌, ◌++◌, [], false, Bool as Truth, List, map, length, filter, All, OnOk, IfOk};
+ghost use Rattle.std.specs.Prelude.{◌≡◌, ◌⊎◌, ℕ, ◌++◌, [], false, Bool as Truth, List, map, filter, All, OnOk, IfOk};
 ghost use Rattle.std.specs.Option.{ForSome};
 ghost use Rattle.dom_base.specs.declared.NodeName.{NodeName as Name};
 ghost use Rattle.dom_model.specs.Slots.{is_slot_element, slots_among};
 ghost use Rattle.dom_model.specs.Tree.{node_in, subtree};
-ghost use Rattle.dom_tree.specs.Forest.{name_at};
+ghost use Rattle.dom_tree.specs.Forest.{IsNode, name_of};
 ghost use Rattle.dom_slots.specs.Hosts.{HostsAreNodes};
 ghost use Rattle.dom_slots.specs.Insides.{tree_slots, bare_around, left_slots, MovesNone, MayMove, IsInside};
 ghost use Rattle.dom_slots.specs.Renewals.{AreRenewed, IsButFor};
@@ -31,8 +31,8 @@ impl Slots {
     ) -> Result<Vec<Key>, AllocError>
         requires hosts { HostsAreNodes forest.now.names self.old.hosts }
         requires nodes { StepHasNodes forest.now.names begun.step }
-        requires left { ForSome begun.left (λ k. k < length forest.now.names) }
-        requires slot { ForSome begun.slot (λ k. k < length forest.now.names) }
+        requires left { ForSome begun.left (IsNode forest.now) }
+        requires slot { ForSome begun.slot (IsNode forest.now) }
         ensures hosts { IfOk result (λ keys. self.new.hosts ≡ self.old.hosts) }
         ensures begun { IfOk result (λ keys. self.new.begun ≡ self.old.begun) }
         ensures renewed { (p : Name → Truth) →
@@ -52,8 +52,8 @@ impl Slots {
     fn still_signals(&mut self, forest: &Forest, begun: Begun) -> Result<Vec<Key>, AllocError>
         requires hosts { HostsAreNodes forest.now.names self.old.hosts }
         requires nodes { StepHasNodes forest.now.names begun.step }
-        requires left { ForSome begun.left (λ k. k < length forest.now.names) }
-        requires slot { ForSome begun.slot (λ k. k < length forest.now.names) }
+        requires left { ForSome begun.left (IsNode forest.now) }
+        requires slot { ForSome begun.slot (IsNode forest.now) }
         requires still { MovesNone forest.now self.old.hosts begun.step }
         ensures hosts { IfOk result (λ keys. self.new.hosts ≡ self.old.hosts) }
         ensures begun { IfOk result (λ keys. self.new.begun ≡ self.old.begun) }
@@ -78,10 +78,10 @@ impl Slots {
     ) -> Result<Vec<Key>, AllocError>
         requires hosts { HostsAreNodes forest.now.names self.old.hosts }
         requires nodes { StepHasNodes forest.now.names begun.step }
-        requires left { ForSome begun.left (λ k. k < length forest.now.names) }
-        requires slot { ForSome begun.slot (λ k. k < length forest.now.names) }
-        requires moved { map (name_at forest.now.names) moved.now ≡ slots_among (subtree forest.now.trees (name_at forest.now.names (step_node begun.step))) }
-        requires moved_nodes { All (λ k. k < length forest.now.names) moved.now }
+        requires left { ForSome begun.left (IsNode forest.now) }
+        requires slot { ForSome begun.slot (IsNode forest.now) }
+        requires moved { map (name_of forest.now) moved.now ≡ slots_among (subtree forest.now.trees (name_of forest.now (step_node begun.step))) }
+        requires moved_nodes { All (IsNode forest.now) moved.now }
         ensures hosts { IfOk result (λ keys. self.new.hosts ≡ self.old.hosts) }
         ensures begun { IfOk result (λ keys. self.new.begun ≡ self.old.begun) }
         ensures renewed { (p : Name → Truth) (old : SlotTable) → AreRenewed forest.now self.old.hosts p old [] [] self.old.table [] →
@@ -106,11 +106,11 @@ impl Slots {
         signals: &mut Vec<Key>,
     ) -> Result<(), AllocError>
         requires hosts { HostsAreNodes forest.now.names self.now.hosts }
-        requires around { around < length forest.now.names }
+        requires around { IsNode forest.now around }
         ensures { (p : Name → Truth) (old : SlotTable) (done told : List Name) (table : SlotTable) →
             AreRenewed forest.now self.now.hosts p old done told table signals.old.items →
             OnOk result (AreRenewed forest.now self.now.hosts p old done
-            (told ++ bare_around forest.now self.now.hosts step (name_at forest.now.names around)) table signals.new.items) }
+            (told ++ bare_around forest.now self.now.hosts step (name_of forest.now around)) table signals.new.items) }
     {
         forest.nodes_stand_once();
         if step.is_move() && self.is_bare(forest, around)? {
@@ -122,8 +122,8 @@ impl Slots {
     /// Whether a node is a slot of a shadow tree and nothing is assigned to it.
     fn is_bare(&self, forest: &Forest, key: Key) -> Result<bool, AllocError>
         requires hosts { HostsAreNodes forest.now.names self.now.hosts }
-        requires node { key < length forest.now.names }
-        ensures { IfOk result (λ bare. bare ≡ is_bare_at (shadows forest.now self.now.hosts) (name_at forest.now.names key)) }
+        requires node { IsNode forest.now key }
+        ensures { IfOk result (λ bare. bare ≡ is_bare_at (shadows forest.now self.now.hosts) (name_of forest.now key)) }
     {
         forest.nodes_stand_once();
         if !is_slot(forest, key) || self.host_of(forest.root(key)).is_none() {
@@ -145,15 +145,15 @@ impl Slots {
     ) -> Result<(), AllocError>
         requires hosts { HostsAreNodes forest.now.names self.old.hosts }
         requires nodes { StepHasNodes forest.now.names begun.step }
-        requires left { ForSome begun.left (λ k. k < length forest.now.names) }
-        requires around { around < length forest.now.names }
-        requires moved { map (name_at forest.now.names) moved.now ≡ slots_among (subtree forest.now.trees (name_at forest.now.names (step_node begun.step))) }
-        requires moved_nodes { All (λ k. k < length forest.now.names) moved.now }
+        requires left { ForSome begun.left (IsNode forest.now) }
+        requires around { IsNode forest.now around }
+        requires moved { map (name_of forest.now) moved.now ≡ slots_among (subtree forest.now.trees (name_of forest.now (step_node begun.step))) }
+        requires moved_nodes { All (IsNode forest.now) moved.now }
         ensures hosts { OnOk result (self.new.hosts ≡ self.old.hosts) }
         ensures begun { OnOk result (self.new.begun ≡ self.old.begun) }
         ensures renewed { (p : Name → Truth) (old : SlotTable) (done told : List Name) →
             AreRenewed forest.now self.old.hosts p old done told self.old.table signals.old.items →
-            OnOk result (MayMove forest.now self.old.hosts p old done told begun.step begun.left (name_at forest.now.names around) self.new.table
+            OnOk result (MayMove forest.now self.old.hosts p old done told begun.step begun.left (name_of forest.now around) self.new.table
             signals.new.items) }
     {
         self.renew_tree(forest, around, signals)?;
@@ -165,10 +165,10 @@ impl Slots {
     fn moved_slots(&self, forest: &Forest, begun: Begun) -> Result<Vec<Key>, AllocError>
         requires { StepHasNodes forest.now.names begun.step }
         ensures value { IfOk result (λ keys.
-            (map (name_at forest.now.names) keys.items ≡ slots_among (subtree forest.now.trees (name_at forest.now.names (step_node begun.step))))
+            (map (name_of forest.now) keys.items ≡ slots_among (subtree forest.now.trees (name_of forest.now (step_node begun.step))))
             ⊎ ((keys.items ≡ []) × (is_move begun.step ≡ false) ×
-            (is_slot_element (node_in forest.now.trees (name_at forest.now.names (step_node begun.step))) ≡ false))) }
-        ensures nodes { IfOk result (λ keys. All (λ k. k < length forest.now.names) keys.items) }
+            (is_slot_element (node_in forest.now.trees (name_of forest.now (step_node begun.step))) ≡ false))) }
+        ensures nodes { IfOk result (λ keys. All (IsNode forest.now) keys.items) }
     {
         if !begun.step.is_move() && !is_slot(forest, begun.step.node()) {
             return Ok(Vec::new(self.alloc));
@@ -184,13 +184,13 @@ impl Slots {
         signals: &mut Vec<Key>,
     ) -> Result<(), AllocError>
         requires hosts { HostsAreNodes forest.now.names self.old.hosts }
-        requires node { node < length forest.now.names }
+        requires node { IsNode forest.now node }
         ensures hosts { OnOk result (self.new.hosts ≡ self.old.hosts) }
         ensures begun { OnOk result (self.new.begun ≡ self.old.begun) }
         ensures renewed { (p : Name → Truth) (old : SlotTable) (done told : List Name) →
             AreRenewed forest.now self.old.hosts p old done told self.old.table signals.old.items →
-            OnOk result (AreRenewed forest.now self.old.hosts p old (done ++ tree_slots forest.now.trees (name_at forest.now.names node))
-            (told ++ filter p (tree_slots forest.now.trees (name_at forest.now.names node))) self.new.table signals.new.items) }
+            OnOk result (AreRenewed forest.now self.old.hosts p old (done ++ tree_slots forest.now.trees (name_of forest.now node))
+            (told ++ filter p (tree_slots forest.now.trees (name_of forest.now node))) self.new.table signals.new.items) }
     {
         let slots = slots_below(self.alloc, forest, forest.root(node))?;
         self.renew(forest, &slots, signals)
@@ -199,7 +199,7 @@ impl Slots {
     /// Renews the lists of the slots in the tree that a placed node left.
     fn renew_left(&mut self, forest: &Forest, begun: Begun) -> Result<(), AllocError>
         requires hosts { HostsAreNodes forest.now.names self.old.hosts }
-        requires left { ForSome begun.left (λ k. k < length forest.now.names) }
+        requires left { ForSome begun.left (IsNode forest.now) }
         ensures hosts { OnOk result (self.new.hosts ≡ self.old.hosts) }
         ensures begun { OnOk result (self.new.begun ≡ self.old.begun) }
         ensures renewed { (q : Name → Truth) → AreRenewed forest.now self.old.hosts q self.old.table [] [] self.old.table [] →

@@ -1,9 +1,9 @@
 //! Steps that move no slot: their node leaves the list of its old slot and joins that of its new one.
-ghost use Rattle.std.specs.Prelude.{◌≡◌, ℕ, ◌<◌, ◌++◌, [], true, Bool as Truth, List, Some, map, length, filter, option_to_list, OnOk, IfOk};
+ghost use Rattle.std.specs.Prelude.{◌≡◌, ℕ, ◌++◌, [], true, Bool as Truth, List, Some, map, filter, option_to_list, OnOk, IfOk};
 ghost use Rattle.std.specs.Option.{option_map, ForSome};
 ghost use Rattle.dom_base.specs.declared.NodeName.{NodeName as Name};
 ghost use Rattle.dom_model.specs.Tree.{parent_of, root_of};
-ghost use Rattle.dom_tree.specs.Forest.{name_at};
+ghost use Rattle.dom_tree.specs.Forest.{IsNode, name_of};
 ghost use Rattle.node_arena.specs.Nodes.{without};
 ghost use Rattle.dom_slots.specs.Hosts.{HostsAreNodes, host_named};
 ghost use Rattle.dom_slots.specs.Insides.{own_slots};
@@ -30,7 +30,7 @@ impl Slots {
     ) -> Result<Vec<Key>, AllocError>
         requires hosts { HostsAreNodes forest.now.names self.old.hosts }
         requires nodes { StepHasNodes forest.now.names begun.step }
-        requires slot { ForSome begun.slot (λ k. k < length forest.now.names) }
+        requires slot { ForSome begun.slot (IsNode forest.now) }
         ensures hosts { IfOk result (λ keys. self.new.hosts ≡ self.old.hosts) }
         ensures begun { IfOk result (λ keys. self.new.begun ≡ self.old.begun) }
         ensures renewed { (p : Name → Truth) → IsButFor forest.now self.old.hosts self.old.table begun.slot begun.step →
@@ -61,16 +61,16 @@ impl Slots {
         node: Key,
         signals: &mut Vec<Key>,
     ) -> Result<(), AllocError>
-        requires node { node < length forest.now.names }
-        requires slot { ForSome slot (λ k. k < length forest.now.names) }
+        requires node { IsNode forest.now node }
+        requires slot { ForSome slot (IsNode forest.now) }
         ensures hosts { OnOk result (self.new.hosts ≡ self.old.hosts) }
         ensures begun { OnOk result (self.new.begun ≡ self.old.begun) }
         ensures renewed { (p : Name → Truth) (old : SlotTable) (done told : List Name) →
-            ((k : ℕ) → slot ≡ Some k → map (name_at forest.now.names) (without node (list_of self.old.table k)) ≡ assigned_at
-            (shadows forest.now self.old.hosts) (name_at forest.now.names k)) →
+            ((k : ℕ) → slot ≡ Some k → map (name_of forest.now) (without node (list_of self.old.table k)) ≡ assigned_at
+            (shadows forest.now self.old.hosts) (name_of forest.now k)) →
             AreRenewed forest.now self.old.hosts p old done told self.old.table signals.old.items →
-            OnOk result (AreRenewed forest.now self.old.hosts p old (done ++ option_to_list (option_map (name_at forest.now.names) slot))
-            (told ++ filter p (option_to_list (option_map (name_at forest.now.names) slot))) self.new.table signals.new.items) }
+            OnOk result (AreRenewed forest.now self.old.hosts p old (done ++ option_to_list (option_map (name_of forest.now) slot))
+            (told ++ filter p (option_to_list (option_map (name_of forest.now) slot))) self.new.table signals.new.items) }
     {
         forest.nodes_stand_once();
         let Some(key) = slot else {
@@ -92,17 +92,17 @@ impl Slots {
         signals: &mut Vec<Key>,
     ) -> Result<(), AllocError>
         requires hosts { HostsAreNodes forest.now.names self.old.hosts }
-        requires node { node < length forest.now.names }
-        requires slot { ForSome slot (λ k. k < length forest.now.names) }
-        requires own { option_map (name_at forest.now.names) slot ≡ slot_at (shadows forest.now self.old.hosts) (name_at forest.now.names node) }
+        requires node { IsNode forest.now node }
+        requires slot { ForSome slot (IsNode forest.now) }
+        requires own { option_map (name_of forest.now) slot ≡ slot_at (shadows forest.now self.old.hosts) (name_of forest.now node) }
         ensures hosts { OnOk result (self.new.hosts ≡ self.old.hosts) }
         ensures begun { OnOk result (self.new.begun ≡ self.old.begun) }
         ensures renewed { (p : Name → Truth) (old : SlotTable) (done told : List Name) →
-            ((k : ℕ) → slot ≡ Some k → map (name_at forest.now.names) (list_of self.old.table k) ≡ names_but (name_at forest.now.names node)
-            (assigned_at (shadows forest.now self.old.hosts) (name_at forest.now.names k))) →
+            ((k : ℕ) → slot ≡ Some k → map (name_of forest.now) (list_of self.old.table k) ≡ names_but (name_of forest.now node)
+            (assigned_at (shadows forest.now self.old.hosts) (name_of forest.now k))) →
             AreRenewed forest.now self.old.hosts p old done told self.old.table signals.old.items →
-            OnOk result (AreRenewed forest.now self.old.hosts p old (done ++ option_to_list (option_map (name_at forest.now.names) slot))
-            (told ++ filter p (option_to_list (option_map (name_at forest.now.names) slot))) self.new.table signals.new.items) }
+            OnOk result (AreRenewed forest.now self.old.hosts p old (done ++ option_to_list (option_map (name_of forest.now) slot))
+            (told ++ filter p (option_to_list (option_map (name_of forest.now) slot))) self.new.table signals.new.items) }
     {
         forest.nodes_stand_once();
         let Some(key) = slot else {
@@ -119,11 +119,11 @@ impl Slots {
     /// Whether a slot stands in the shadow tree of the parent of a node.
     fn is_of_parent(&self, forest: &Forest, slot: Key, node: Key) -> bool
         requires hosts { HostsAreNodes forest.now.names self.now.hosts }
-        requires slot { slot < length forest.now.names }
-        requires node { node < length forest.now.names }
+        requires slot { IsNode forest.now slot }
+        requires node { IsNode forest.now node }
         ensures { result ≡ true → (h : Name) ×
-            (host_named forest.now.names self.now.hosts (root_of forest.now.trees (name_at forest.now.names slot)) ≡ Some h) ×
-            (parent_of forest.now.trees (name_at forest.now.names node) ≡ Some h) }
+            (host_named forest.now.names self.now.hosts (root_of forest.now.trees (name_of forest.now slot)) ≡ Some h) ×
+            (parent_of forest.now.trees (name_of forest.now node) ≡ Some h) }
     {
         forest.nodes_stand_once();
         match self.host_of(forest.root(slot)) {

@@ -1,7 +1,7 @@
 //! The lists of slots that a step may have changed.
-ghost use Rattle.std.specs.Prelude.{◌≡◌, ◌<◌, ◌++◌, ◌∷◌, [], Bool as Truth, List, map, length, filter, All, OnOk};
+ghost use Rattle.std.specs.Prelude.{◌≡◌, ◌++◌, ◌∷◌, [], Bool as Truth, List, map, filter, All, OnOk};
 ghost use Rattle.dom_base.specs.declared.NodeName.{NodeName as Name};
-ghost use Rattle.dom_tree.specs.Forest.{name_at};
+ghost use Rattle.dom_tree.specs.Forest.{IsNode, name_of};
 ghost use Rattle.dom_slots.specs.Hosts.{HostsAreNodes};
 ghost use Rattle.dom_slots.specs.Renewals.{AreRenewed};
 ghost use Rattle.dom_slots.specs.Tables.{SlotTable};
@@ -21,13 +21,13 @@ impl Slots {
         signals: &mut Vec<Key>,
     ) -> Result<(), AllocError>
         requires hosts { HostsAreNodes forest.now.names self.old.hosts }
-        requires nodes { All (λ k. k < length forest.now.names) slots.now }
+        requires nodes { All (IsNode forest.now) slots.now }
         ensures hosts { OnOk result (self.new.hosts ≡ self.old.hosts) }
         ensures begun { OnOk result (self.new.begun ≡ self.old.begun) }
         ensures renewed { (p : Name → Truth) (old : SlotTable) (done told : List Name) →
             AreRenewed forest.now self.old.hosts p old done told self.old.table signals.old.items →
-            OnOk result (AreRenewed forest.now self.old.hosts p old (done ++ map (name_at forest.now.names) slots.now)
-            (told ++ filter p (map (name_at forest.now.names) slots.now)) self.new.table signals.new.items) }
+            OnOk result (AreRenewed forest.now self.old.hosts p old (done ++ map (name_of forest.now) slots.now)
+            (told ++ filter p (map (name_of forest.now) slots.now)) self.new.table signals.new.items) }
     {
         for slot in slots {
             self.renew_slot(forest, *slot, signals)?;
@@ -43,13 +43,13 @@ impl Slots {
         signals: &mut Vec<Key>,
     ) -> Result<(), AllocError>
         requires hosts { HostsAreNodes forest.now.names self.old.hosts }
-        requires node { slot < length forest.now.names }
+        requires node { IsNode forest.now slot }
         ensures hosts { OnOk result (self.new.hosts ≡ self.old.hosts) }
         ensures begun { OnOk result (self.new.begun ≡ self.old.begun) }
         ensures renewed { (p : Name → Truth) (old : SlotTable) (done told : List Name) →
             AreRenewed forest.now self.old.hosts p old done told self.old.table signals.old.items →
-            OnOk result (AreRenewed forest.now self.old.hosts p old (done ++ name_at forest.now.names slot ∷ [])
-            (told ++ filter p (name_at forest.now.names slot ∷ [])) self.new.table signals.new.items) }
+            OnOk result (AreRenewed forest.now self.old.hosts p old (done ++ name_of forest.now slot ∷ [])
+            (told ++ filter p (name_of forest.now slot ∷ [])) self.new.table signals.new.items) }
     {
         forest.nodes_stand_once();
         let list = self.assigned_now(forest, slot)?;

@@ -1,9 +1,9 @@
 //! Steps that are begun and ended, and the slots that they signal.
-ghost use Rattle.std.specs.Prelude.{◌≡◌, ◌<◌, [], Bool as Truth, None, Some, map, length, filter, All, OnOk, IfOk};
+ghost use Rattle.std.specs.Prelude.{◌≡◌, [], Bool as Truth, None, Some, map, filter, All, OnOk, IfOk};
 ghost use Rattle.std.specs.Option.{ForSome};
 ghost use Rattle.dom_base.specs.declared.NodeName.{NodeName as Name};
 ghost use Rattle.dom_model.specs.Tree.{Trees};
-ghost use Rattle.dom_tree.specs.Forest.{name_at};
+ghost use Rattle.dom_tree.specs.Forest.{IsNode, name_of};
 ghost use Rattle.dom_slots.specs.Hosts.{HostsAreNodes};
 ghost use Rattle.dom_slots.specs.Insides.{own_slots};
 ghost use Rattle.dom_slots.specs.Kept.{BegunStep, AreSlotsOf, IsBegun, IsEndOf};
@@ -56,9 +56,9 @@ impl Slots {
     pub fn end(&mut self, forest: &Forest) -> Result<Vec<Key>, AllocError>
         requires { (was : Trees) × (b : BegunStep) × IsEndOf was forest.now self.old b }
         ensures value { (was : Trees) (b : BegunStep) → IsEndOf was forest.now self.old b →
-            IfOk result (λ keys. map (name_at forest.now.names) keys.items ≡ step_signals forest.now.names
+            IfOk result (λ keys. map (name_of forest.now) keys.items ≡ step_signals forest.now.names
             (shadow_trees forest.now.names was self.old.hosts) (shadows forest.now self.old.hosts) b.step b.left) }
-        ensures nodes { IfOk result (λ keys. All (λ k. k < length forest.now.names) keys.items) }
+        ensures nodes { IfOk result (λ keys. All (IsNode forest.now) keys.items) }
         ensures hosts { OnOk result (self.new.hosts ≡ self.old.hosts) }
         ensures free { OnOk result (self.new.begun ≡ None) }
         ensures slots { OnOk result (AreSlotsOf forest.now self.new) }
@@ -85,7 +85,7 @@ impl Slots {
     ) -> Result<Vec<Key>, AllocError>
         requires hosts { HostsAreNodes forest.now.names self.old.hosts }
         requires nodes { StepHasNodes forest.now.names begun.step }
-        requires slot { ForSome begun.slot (λ k. k < length forest.now.names) }
+        requires slot { ForSome begun.slot (IsNode forest.now) }
         ensures hosts { IfOk result (λ keys. self.new.hosts ≡ self.old.hosts) }
         ensures begun { IfOk result (λ keys. self.new.begun ≡ self.old.begun) }
         ensures renewed { (p : Name → Truth) (old : SlotTable) → AreRenewed forest.now self.old.hosts p old [] [] self.old.table [] →

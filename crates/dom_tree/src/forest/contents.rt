@@ -1,10 +1,10 @@
 //! What nodes hold: their kinds, names of elements, attributes, data and node documents.
-ghost use Rattle.std.specs.Prelude.{◌≡◌, ◌<◌, length, Some, None, slice_get, OnOk, OnErr};
+ghost use Rattle.std.specs.Prelude.{◌≡◌, Some, None, slice_get, OnOk, OnErr};
 ghost use Rattle.std.specs.Option.{option_map, ForSome};
 ghost use Rattle.dom_model.specs.Tree.{kind_of, node_in, attribute_value};
 ghost use Rattle.dom_model.specs.TreeChanges.{change_node, with_text, under_document, with_attribute};
 ghost use Rattle.dom_tree.specs.Attributes.{HaveOwnNames};
-ghost use Rattle.dom_tree.specs.Forest.{name_at, attribute_from};
+ghost use Rattle.dom_tree.specs.Forest.{attribute_from, IsNode, name_of};
 
 use crate::Forest;
 use dom_base::{DomStr, Kind};
@@ -14,33 +14,33 @@ use std::alloc::AllocError;
 impl Forest {
     /// The kind of a node (DOM Standard, interface Node; own rule for a shadow root).
     pub fn kind(&self, key: Key) -> Kind
-        requires { key < length self.now.names }
-        ensures { result ≡ kind_of self.now.trees (name_at self.now.names key) }
+        requires { IsNode self.now key }
+        ensures { result ≡ kind_of self.now.trees (name_of self.now key) }
     {
         self.arena.payload(key).node.kind
     }
 
     /// The local name of an element (DOM Standard, concept: local name).
     pub fn element(&self, key: Key) -> &str
-        requires { key < length self.now.names }
-        ensures { result.now ≡ (node_in self.now.trees (name_at self.now.names key)).element }
+        requires { IsNode self.now key }
+        ensures { result.now ≡ (node_in self.now.trees (name_of self.now key)).element }
     {
         self.arena.payload(key).node.element.as_str()
     }
 
     /// The data of a Text or a Comment, in code units (DOM Standard, concept: data).
     pub fn text(&self, key: Key) -> &[u16]
-        requires { key < length self.now.names }
-        ensures { result.now ≡ (node_in self.now.trees (name_at self.now.names key)).text }
+        requires { IsNode self.now key }
+        ensures { result.now ≡ (node_in self.now.trees (name_of self.now key)).text }
     {
         self.arena.payload(key).node.text.as_slice()
     }
 
     /// The node document of a node, none for a document (DOM Standard, concept: node document).
     pub fn document(&self, key: Key) -> Option<Key>
-        requires { key < length self.now.names }
-        ensures value { option_map (name_at self.now.names) result ≡ (node_in self.now.trees (name_at self.now.names key)).document }
-        ensures node { ForSome result (λ d. d < length self.now.names) }
+        requires { IsNode self.now key }
+        ensures value { option_map (name_of self.now) result ≡ (node_in self.now.trees (name_of self.now key)).document }
+        ensures node { ForSome result (IsNode self.now) }
     {
         self.arena.payload(key).node.document
     }
@@ -48,10 +48,10 @@ impl Forest {
     /// Gives one node another node document, or none; the nodes below it keep theirs (DOM Standard, concept: node
     /// document).
     pub fn set_document(&mut self, key: Key, document: Option<Key>)
-        requires key_is_node { key < length self.old.names }
-        requires document_is_node { ForSome document (λ d. d < length self.old.names) }
+        requires key_is_node { IsNode self.old key }
+        requires document_is_node { ForSome document (IsNode self.old) }
         ensures names { self.new.names ≡ self.old.names }
-        ensures trees { self.new.trees ≡ change_node (under_document (option_map (name_at self.old.names) document)) (name_at self.old.names key)
+        ensures trees { self.new.trees ≡ change_node (under_document (option_map (name_of self.old) document)) (name_of self.old key)
             self.old.trees }
     {
         self.arena.payload_mut(key).node.document = document;
@@ -59,9 +59,9 @@ impl Forest {
 
     /// Gives a Text or a Comment other data, in code units (DOM Standard, concept: data).
     pub fn set_data(&mut self, key: Key, text: DomStr)
-        requires { key < length self.old.names }
+        requires { IsNode self.old key }
         ensures names { self.new.names ≡ self.old.names }
-        ensures trees { self.new.trees ≡ change_node (with_text text.items) (name_at self.old.names key) self.old.trees }
+        ensures trees { self.new.trees ≡ change_node (with_text text.items) (name_of self.old key) self.old.trees }
     {
         self.arena.payload_mut(key).node.text = text;
     }
@@ -69,8 +69,8 @@ impl Forest {
     /// The value of an attribute in code units, if there is one of this name (DOM Standard, concept: get an attribute
     /// by name).
     pub fn attr(&self, key: Key, name: &str) -> Option<&[u16]>
-        requires { key < length self.now.names }
-        ensures { option_map (λ value. value.now) result ≡ attribute_value (node_in self.now.trees (name_at self.now.names key)) name.now }
+        requires { IsNode self.now key }
+        ensures { option_map (λ value. value.now) result ≡ attribute_value (node_in self.now.trees (name_of self.now key)) name.now }
     {
         let value = self.arena.payload(key).node.attributes.get(name)?;
         Some(value.as_slice())
@@ -79,8 +79,8 @@ impl Forest {
     /// The name and the value of the attribute at an index in the attributes' order, if there are so many (DOM
     /// Standard, concept: attribute list).
     pub fn attr_at(&self, key: Key, index: usize) -> Option<(&str, &[u16])>
-        requires { key < length self.now.names }
-        ensures { option_map (λ a. attribute_from a.0.now a.1.now) result ≡ slice_get (node_in self.now.trees (name_at self.now.names key)).attributes index }
+        requires { IsNode self.now key }
+        ensures { option_map (λ a. attribute_from a.0.now a.1.now) result ≡ slice_get (node_in self.now.trees (name_of self.now key)).attributes index }
     {
         let (name, value) = self.arena.payload(key).node.attributes.get_index(index)?;
         Some((name.as_str(), value.as_slice()))
@@ -88,8 +88,8 @@ impl Forest {
 
     /// Holds of every node (DOM Standard, concept: attribute list): no two of its attributes have one name.
     pub fn attributes_have_own_names(&self, key: Key)
-        requires { key < length self.now.names }
-        ensures { HaveOwnNames (node_in self.now.trees (name_at self.now.names key)).attributes }
+        requires { IsNode self.now key }
+        ensures { HaveOwnNames (node_in self.now.trees (name_of self.now key)).attributes }
     {
         let _count = self.arena.payload(key).node.attributes.len();
     }
@@ -97,9 +97,9 @@ impl Forest {
     /// Sets an attribute to a value in code units. One that is there keeps its place, and a new one goes last (DOM
     /// Standard, concept: set an attribute value). Where memory is refused, the forest is as it was.
     pub fn set_attr(&mut self, key: Key, name: &str, value: DomStr) -> Result<(), AllocError>
-        requires { key < length self.old.names }
+        requires { IsNode self.old key }
         ensures names { self.new.names ≡ self.old.names }
-        ensures ok { OnOk result (self.new.trees ≡ change_node (with_attribute name.now (Some value.items)) (name_at self.old.names key) self.old.trees) }
+        ensures ok { OnOk result (self.new.trees ≡ change_node (with_attribute name.now (Some value.items)) (name_of self.old key) self.old.trees) }
         ensures err { OnErr result (self.new ≡ self.old) }
     {
         let name = String::from_str(self.alloc, name)?;
@@ -114,10 +114,10 @@ impl Forest {
     /// Takes an attribute away, and gives its value in code units, if there is one of this name; the others keep
     /// their order (DOM Standard, concept: remove an attribute by name).
     pub fn remove_attr(&mut self, key: Key, name: &str) -> Option<DomStr>
-        requires { key < length self.old.names }
-        ensures value { option_map (λ value. value.items) result ≡ attribute_value (node_in self.old.trees (name_at self.old.names key)) name.now }
+        requires { IsNode self.old key }
+        ensures value { option_map (λ value. value.items) result ≡ attribute_value (node_in self.old.trees (name_of self.old key)) name.now }
         ensures names { self.new.names ≡ self.old.names }
-        ensures trees { self.new.trees ≡ change_node (with_attribute name.now None) (name_at self.old.names key) self.old.trees }
+        ensures trees { self.new.trees ≡ change_node (with_attribute name.now None) (name_of self.old key) self.old.trees }
     {
         self.arena
             .payload_mut(key)

@@ -1,9 +1,9 @@
 //! The order of the nodes of a tree, and the places of nodes among their siblings.
-ghost use Rattle.std.specs.Prelude.{◌≡◌, ◌<◌, length, true};
+ghost use Rattle.std.specs.Prelude.{◌≡◌, length, true};
 ghost use Rattle.std.specs.Option.{option_map, ForSome};
 ghost use Rattle.dom_model.specs.Names.{first_of, last_of, items_after, items_before, name_eq};
 ghost use Rattle.dom_model.specs.Tree.{children_of, is_inclusive_ancestor, index_of, length_of, inclusive_descendants};
-ghost use Rattle.dom_tree.specs.Forest.{name_at};
+ghost use Rattle.dom_tree.specs.Forest.{IsNode, name_of};
 
 use crate::Forest;
 use dom_base::Kind;
@@ -13,13 +13,13 @@ impl Forest {
     /// The node just after a node in tree order, within the tree of a node `top` in which it stands (DOM Standard,
     /// concept: following). A walk through a tree takes each link at most twice.
     pub fn following(&self, key: Key, top: Key) -> Option<Key>
-        requires key_is_node { key < length self.now.names }
-        requires top_is_node { top < length self.now.names }
-        requires within { is_inclusive_ancestor self.now.trees (name_at self.now.names top) (name_at self.now.names key) ≡ true }
-        ensures value { option_map (name_at self.now.names) result ≡ first_of
-            (items_after name_eq (name_at self.now.names key) (inclusive_descendants self.now.trees (name_at self.now.names top))) }
-        ensures node { ForSome result (λ k. k < length self.now.names) }
-        ensures within { ForSome result (λ k. is_inclusive_ancestor self.now.trees (name_at self.now.names top) (name_at self.now.names k) ≡ true) }
+        requires key_is_node { IsNode self.now key }
+        requires top_is_node { IsNode self.now top }
+        requires within { is_inclusive_ancestor self.now.trees (name_of self.now top) (name_of self.now key) ≡ true }
+        ensures value { option_map (name_of self.now) result ≡ first_of
+            (items_after name_eq (name_of self.now key) (inclusive_descendants self.now.trees (name_of self.now top))) }
+        ensures node { ForSome result (IsNode self.now) }
+        ensures within { ForSome result (λ k. is_inclusive_ancestor self.now.trees (name_of self.now top) (name_of self.now k) ≡ true) }
     {
         let first = self.arena.first(key);
         if first.is_some() {
@@ -42,13 +42,13 @@ impl Forest {
     /// The node just before a node in tree order, within the tree of a node `top` in which it stands (DOM Standard,
     /// concept: preceding). A walk through a tree takes each link at most twice.
     pub fn preceding(&self, key: Key, top: Key) -> Option<Key>
-        requires key_is_node { key < length self.now.names }
-        requires top_is_node { top < length self.now.names }
-        requires within { is_inclusive_ancestor self.now.trees (name_at self.now.names top) (name_at self.now.names key) ≡ true }
-        ensures value { option_map (name_at self.now.names) result ≡ last_of
-            (items_before name_eq (name_at self.now.names key) (inclusive_descendants self.now.trees (name_at self.now.names top))) }
-        ensures node { ForSome result (λ k. k < length self.now.names) }
-        ensures within { ForSome result (λ k. is_inclusive_ancestor self.now.trees (name_at self.now.names top) (name_at self.now.names k) ≡ true) }
+        requires key_is_node { IsNode self.now key }
+        requires top_is_node { IsNode self.now top }
+        requires within { is_inclusive_ancestor self.now.trees (name_of self.now top) (name_of self.now key) ≡ true }
+        ensures value { option_map (name_of self.now) result ≡ last_of
+            (items_before name_eq (name_of self.now key) (inclusive_descendants self.now.trees (name_of self.now top))) }
+        ensures node { ForSome result (IsNode self.now) }
+        ensures within { ForSome result (λ k. is_inclusive_ancestor self.now.trees (name_of self.now top) (name_of self.now k) ≡ true) }
     {
         let parent = self.arena.parent(key)?;
         if key == top {
@@ -66,8 +66,8 @@ impl Forest {
 
     /// The number of siblings before a node (DOM Standard, concept: index), which are counted.
     pub fn index(&self, key: Key) -> usize
-        requires { key < length self.now.names }
-        ensures { result ≡ index_of self.now.trees (name_at self.now.names key) }
+        requires { IsNode self.now key }
+        ensures { result ≡ index_of self.now.trees (name_of self.now key) }
     {
         let mut index = 0;
         let mut at = self.arena.prev(key);
@@ -81,8 +81,8 @@ impl Forest {
     /// The number of code units of a Text or a Comment, and of another node that of its children, which are counted
     /// (DOM Standard, 4.2: length).
     pub fn length(&self, key: Key) -> usize
-        requires { key < length self.now.names }
-        ensures { result ≡ length_of self.now.trees (name_at self.now.names key) }
+        requires { IsNode self.now key }
+        ensures { result ≡ length_of self.now.trees (name_of self.now key) }
     {
         match self.kind(key) {
             Kind::Text | Kind::Comment => self.text(key).len(),
@@ -92,8 +92,8 @@ impl Forest {
 
     /// How many children a node has.
     fn child_count(&self, key: Key) -> usize
-        requires { key < length self.now.names }
-        ensures { result ≡ length (children_of self.now.trees (name_at self.now.names key)) }
+        requires { IsNode self.now key }
+        ensures { result ≡ length (children_of self.now.trees (name_of self.now key)) }
     {
         let mut count = 0;
         let mut at = self.arena.first(key);

@@ -1,10 +1,10 @@
 //! Which insertions and replacements are refused.
-ghost use Rattle.std.specs.Prelude.{◌≡◌, ◌<◌, length, ◌&&◌};
+ghost use Rattle.std.specs.Prelude.{◌≡◌, ◌&&◌};
 ghost use Rattle.std.specs.Option.{option_map, ForSome};
 ghost use Rattle.dom_model.specs.Tree.{kind_of, is_element, is_text, is_document, is_fragment, child_nodes};
 ghost use Rattle.dom_model.specs.Validity.{insertion_refusal, replacement_refusal, first_refusal, placing_tests, without_given, element_count};
 ghost use Rattle.dom_model.specs.Validity.{has_text, breaks_document, may_be_parent, may_be_inserted};
-ghost use Rattle.dom_tree.specs.Forest.{err_of};
+ghost use Rattle.dom_tree.specs.Forest.{err_of, IsNode, name_of};
 ghost use Rattle.dom_tree.specs.Forest.{name_at};
 
 use crate::Forest;
@@ -15,11 +15,11 @@ impl Forest {
     /// Tests whether a node may be put among the children of a parent, before the child given or last: `Hierarchy` or
     /// `NotFound` where not (DOM Standard, concept: ensure pre-insert validity; own rule for a shadow root).
     pub fn check_insert(&self, parent: Key, node: Key, child: Option<Key>) -> Result<(), Refusal>
-        requires parent_is_node { parent < length self.now.names }
-        requires node_is_node { node < length self.now.names }
-        requires child_is_node { ForSome child (λ c. c < length self.now.names) }
-        ensures { err_of result ≡ insertion_refusal self.now.trees (name_at self.now.names parent) (name_at self.now.names node)
-            (option_map (name_at self.now.names) child) }
+        requires parent_is_node { IsNode self.now parent }
+        requires node_is_node { IsNode self.now node }
+        requires child_is_node { ForSome child (IsNode self.now) }
+        ensures { err_of result ≡ insertion_refusal self.now.trees (name_of self.now parent) (name_of self.now node)
+            (option_map (name_of self.now) child) }
     {
         let is_lost = match child {
             Some(child) => self.arena.parent(child) != Some(parent),
@@ -31,11 +31,11 @@ impl Forest {
     /// Tests whether a node may take the place of a child of a parent: `Hierarchy` or `NotFound` where not (DOM
     /// Standard, concept: replace; own rule for a shadow root).
     pub fn check_replace(&self, parent: Key, node: Key, child: Key) -> Result<(), Refusal>
-        requires parent_is_node { parent < length self.now.names }
-        requires node_is_node { node < length self.now.names }
-        requires child_is_node { child < length self.now.names }
-        ensures { err_of result ≡ replacement_refusal self.now.trees (name_at self.now.names parent) (name_at self.now.names node)
-            (name_at self.now.names child) }
+        requires parent_is_node { IsNode self.now parent }
+        requires node_is_node { IsNode self.now node }
+        requires child_is_node { IsNode self.now child }
+        ensures { err_of result ≡ replacement_refusal self.now.trees (name_of self.now parent) (name_of self.now node)
+            (name_of self.now child) }
     {
         let is_lost = self.arena.parent(child) != Some(parent);
         self.check_placing(parent, node, is_lost, Some(child))
@@ -49,12 +49,12 @@ impl Forest {
         is_lost: bool,
         replaced: Option<Key>,
     ) -> Result<(), Refusal>
-        requires parent_is_node { parent < length self.now.names }
-        requires node_is_node { node < length self.now.names }
-        requires replaced_is_node { ForSome replaced (λ c. c < length self.now.names) }
+        requires parent_is_node { IsNode self.now parent }
+        requires node_is_node { IsNode self.now node }
+        requires replaced_is_node { ForSome replaced (IsNode self.now) }
         ensures { err_of result ≡ first_refusal
-            (placing_tests self.now.trees (name_at self.now.names parent) (name_at self.now.names node) is_lost
-            (without_given (option_map (name_at self.now.names) replaced) (child_nodes self.now.trees (name_at self.now.names parent)))) }
+            (placing_tests self.now.trees (name_of self.now parent) (name_of self.now node) is_lost
+            (without_given (option_map (name_of self.now) replaced) (child_nodes self.now.trees (name_of self.now parent)))) }
     {
         let into = self.kind(parent);
         let kind = self.kind(node);
@@ -84,11 +84,11 @@ impl Forest {
 
     /// Whether a node brings a document a Text or a second element; `replaced` is the child that gives way.
     fn breaks_document(&self, parent: Key, node: Key, replaced: Option<Key>) -> bool
-        requires parent_is_node { parent < length self.now.names }
-        requires node_is_node { node < length self.now.names }
-        requires replaced_is_node { ForSome replaced (λ c. c < length self.now.names) }
-        ensures { result ≡ breaks_document self.now.trees (name_at self.now.names node)
-            (without_given (option_map (name_at self.now.names) replaced) (child_nodes self.now.trees (name_at self.now.names parent))) }
+        requires parent_is_node { IsNode self.now parent }
+        requires node_is_node { IsNode self.now node }
+        requires replaced_is_node { ForSome replaced (IsNode self.now) }
+        ensures { result ≡ breaks_document self.now.trees (name_of self.now node)
+            (without_given (option_map (name_of self.now) replaced) (child_nodes self.now.trees (name_of self.now parent))) }
     {
         if !is_fragment(self.kind(node)) {
             return self.is_element(node) && self.element_count(parent, replaced) > 0;
@@ -102,9 +102,9 @@ impl Forest {
 
     /// How many elements there are among the children of a node, one child apart.
     fn element_count(&self, key: Key, apart: Option<Key>) -> usize
-        requires key_is_node { key < length self.now.names }
-        requires apart_is_node { ForSome apart (λ c. c < length self.now.names) }
-        ensures { result ≡ element_count (without_given (option_map (name_at self.now.names) apart) (child_nodes self.now.trees (name_at self.now.names key))) }
+        requires key_is_node { IsNode self.now key }
+        requires apart_is_node { ForSome apart (IsNode self.now) }
+        ensures { result ≡ element_count (without_given (option_map (name_of self.now) apart) (child_nodes self.now.trees (name_of self.now key))) }
     {
         let mut count = 0;
         let mut at = self.arena.first(key);
@@ -119,24 +119,24 @@ impl Forest {
 
     /// Whether a node is an element.
     fn is_element(&self, key: Key) -> bool
-        requires { key < length self.now.names }
-        ensures { result ≡ is_element (kind_of self.now.trees (name_at self.now.names key)) }
+        requires { IsNode self.now key }
+        ensures { result ≡ is_element (kind_of self.now.trees (name_of self.now key)) }
     {
         matches!(self.kind(key), Kind::Element)
     }
 
     /// Whether a node is a Text.
     fn is_text(&self, key: Key) -> bool
-        requires { key < length self.now.names }
-        ensures { result ≡ is_text (kind_of self.now.trees (name_at self.now.names key)) }
+        requires { IsNode self.now key }
+        ensures { result ≡ is_text (kind_of self.now.trees (name_of self.now key)) }
     {
         matches!(self.kind(key), Kind::Text)
     }
 
     /// Whether there is a Text among the children of a node.
     fn has_text(&self, key: Key) -> bool
-        requires { key < length self.now.names }
-        ensures { result ≡ has_text (child_nodes self.now.trees (name_at self.now.names key)) }
+        requires { IsNode self.now key }
+        ensures { result ≡ has_text (child_nodes self.now.trees (name_of self.now key)) }
     {
         let mut at = self.arena.first(key);
         while let Some(child) = at {
