@@ -152,7 +152,7 @@ impl Observers {
     /// owner without registrations takes no walk, and where nobody is interested one look for each inclusive ancestor serves,
     /// unless registrations have gone since the last change. After a refusal of memory some may have it and others not.
     pub fn queue_record(&mut self, forest: &Forest, change: Change) -> Result<bool, AllocError>
-        requires { target_of IsNode forest.now (change_of change) }
+        requires { IsNode forest.now (target_of (change_of change)) }
         ensures taken { IfOk result (λ taken. taken ≡ is_taken nat_eq (path_keys forest.now (target_of (change_of change)))
             (tables_of self.old (name_of forest.now (target_of (change_of change))).owner) (change_of change)) }
         ensures tables { OnOk result (ChangesTables (name_of forest.now (target_of (change_of change))).owner

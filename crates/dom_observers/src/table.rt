@@ -134,7 +134,7 @@ impl Table {
         forest: &Forest,
         change: Change,
     ) -> Result<bool, AllocError>
-        requires { target_of IsNode forest.now (change_of change) }
+        requires { IsNode forest.now (target_of (change_of change)) }
         ensures taken { IfOk result (λ taken. taken ≡ is_taken nat_eq (path_keys forest.now (target_of (change_of change))) (table_of self.old)
             (change_of change)) }
         ensures tables { OnOk result (table_of self.new ≡ told nat_eq (path_keys forest.now (target_of (change_of change))) (change_of change)

@@ -44,11 +44,11 @@ pub(crate) fn tree_steps<'a>(
 /// The place after this one, up to where the node given closes: behind an opening the first child opens, or else the node
 /// closes; behind a closing the next sibling opens, or else the parent closes.
 fn after(forest: &Forest, place: Place, top: Key) -> Option<Place>
-    requires place_is_node { key_of IsNode forest.now place }
+    requires place_is_node { IsNode forest.now (key_of place) }
     requires top_is_node { IsNode forest.now top }
     ensures value { option_map (place_view forest.now.names) result ≡ place_after forest.now.trees (name_of forest.now top)
         (place_view forest.now.names place) }
-    ensures node { ForSome result (λ at. key_of IsNode forest.now at) }
+    ensures node { ForSome result (λ at. IsNode forest.now (key_of at)) }
 {
     forest.nodes_stand_once();
     match place {
@@ -70,7 +70,7 @@ fn after(forest: &Forest, place: Place, top: Key) -> Option<Place>
 
 /// The step at a place.
 fn step<'a>(alloc: Global, forest: &'a Forest, place: Place) -> Result<TreeStep<'a>, AllocError>
-    requires { key_of IsNode forest.now place }
+    requires { IsNode forest.now (key_of place) }
     ensures { IfOk result (λ step. step_view step ≡ step_at forest.now.trees (place_view forest.now.names place)) }
 {
     match place {

@@ -83,7 +83,7 @@ fn close(live: &mut Slab<Points>, ends: &mut [RangeEnd], parent: Key, index: usi
 fn part_inside(forest: &Forest, top: Key, ends: &[RangeEnd]) -> Span
     requires sorted { IsSortedByNode ends.now }
     requires nodes { (k : ℕ) (d : RangeEnd) → k < length ends.now → (IsNode forest.now top) ×
-        ((slice_index_or ends.now k d).IsNode forest.now node) }
+        (IsNode forest.now (slice_index_or ends.now k d).node) }
     ensures within { result.behind ≤ length ends.now }
     ensures all { (k : ℕ) (d : RangeEnd) → k < length ends.now → is_in result k ≡ false → is_inside forest.now top (slice_index_or ends.now k d).node ≡ false }
 {
@@ -108,7 +108,7 @@ fn part_inside(forest: &Forest, top: Key, ends: &[RangeEnd]) -> Span
 /// The places of the ends inside a tree, where each end is tested by going up from its node.
 fn part_tested(forest: &Forest, top: Key, ends: &[RangeEnd]) -> Span
     requires nodes { (k : ℕ) (d : RangeEnd) → k < length ends.now → (IsNode forest.now top) ×
-        ((slice_index_or ends.now k d).IsNode forest.now node) }
+        (IsNode forest.now (slice_index_or ends.now k d).node) }
     ensures within { result.behind ≤ length ends.now }
     ensures all { (k : ℕ) (d : RangeEnd) → k < length ends.now → is_in result k ≡ false → is_inside forest.now top (slice_index_or ends.now k d).node ≡ false }
 {
