@@ -3,11 +3,10 @@ ghost use Rattle.std.specs.Prelude.{◌≡◌, IfOk, OnOk};
 ghost use Rattle.std.specs.Option.{ForSome};
 ghost use Rattle.dom_base.specs.declared.Kind.TheVariants.{Text};
 ghost use Rattle.dom_model.specs.Names.{node_of};
-ghost use Rattle.dom_mutation.specs.Doc.{name_in};
+ghost use Rattle.dom_mutation.specs.Doc.{name_in, HoldsNode};
 ghost use Rattle.dom_mutation.specs.Ready.{IsReady};
 ghost use Rattle.dom_mutation.specs.Still.{HasStillAll};
 ghost use Rattle.dom_callers.specs.Editing.{IsNodeOf, IsTextOf, IsRangeOf};
-ghost use Rattle.dom_parts.specs.Doc.{HoldsNode};
 
 use dom_base::{Fault, Owner};
 use dom_mutation::{Doc, law_new_node, law_newly_there, law_still};

@@ -8,7 +8,7 @@ ghost use Rattle.dom_model.specs.Effects.{new_document_of};
 ghost use Rattle.dom_model.specs.World.{part_of, is_there};
 ghost use Rattle.dom_admission.specs.Handled.{KeepsNames, IsDone, IsHandled};
 ghost use Rattle.dom_node_commands.specs.Making.{making, document_for};
-ghost use Rattle.dom_parts.specs.Doc.{HoldsNode, name_in};
+ghost use Rattle.dom_mutation.specs.Doc.{HoldsNode, name_in};
 
 use dom_admission::State;
 use dom_base::{DomStr, Fault, Kind, Owner, Refusal};

@@ -7,7 +7,7 @@ ghost use Rattle.dom_model.specs.World.{part_of, with_part};
 ghost use Rattle.dom_worlds.specs.Worlds.{IsThere};
 ghost use Rattle.dom_text.specs.Text.{output_text};
 ghost use Rattle.dom_admission.specs.Handled.{IsHandled, KeepsNames};
-ghost use Rattle.dom_parts.specs.Doc.{HoldsNode, name_in};
+ghost use Rattle.dom_mutation.specs.Doc.{HoldsNode, name_in};
 
 use crate::records::put_notices;
 use dom_admission::State;

@@ -12,7 +12,7 @@ ghost use Rattle.dom_printer.specs.Replies.{value_view};
 ghost use Rattle.dom_reader.specs.Views.{word_view};
 ghost use Rattle.dom_tree.specs.Forest.{IsNode, name_of};
 ghost use Rattle.dom_admission.specs.Handled.{KeepsNames, IsHandled};
-ghost use Rattle.dom_parts.specs.Doc.{HoldsNode, name_in};
+ghost use Rattle.dom_mutation.specs.Doc.{HoldsNode, name_in};
 
 use crate::tree_text::tree_steps;
 use dom_admission::{Operand, State};

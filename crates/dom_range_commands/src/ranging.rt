@@ -9,7 +9,7 @@ ghost use Rattle.dom_reader.specs.Views.{command_view, word_view};
 ghost use Rattle.dom_range_commands.specs.RangeWorlds.{HasFirstNodes, HasLoneShadowRoots, HasRangeEnds};
 ghost use Rattle.dom_admission.specs.Handled.{KeepsNames, IsHandled};
 ghost use Rattle.dom_range_commands.specs.RangeCommands.{is_range};
-ghost use Rattle.dom_parts.specs.Doc.{HoldsNode, name_in};
+ghost use Rattle.dom_mutation.specs.Doc.{HoldsNode, name_in};
 
 use dom_admission::{Operand, State};
 use dom_base::{Fault, Owner};
