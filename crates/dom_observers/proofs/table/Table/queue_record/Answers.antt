@@ -56,8 +56,8 @@ returns-clause-tables c =
     let ch = change_of c.args.change in
     let t : TablesOf ℕ = table_of c.args.self.now in
     let path = path_keys forest (target_of ch) in
-    let interested = c.in_ok-interested.interested in
-    let f = λ (s : TablesOf ℕ) (k : ℕ). given (record_of interested ch k) s k in
+    let told = c.in_ok-interested.interested in
+    let f = λ (s : TablesOf ℕ) (k : ℕ). given (record_of told ch k) s k in
     let way = c.as_slice.ensures.value ∙ (c.in_ok-path.ensures ∙ ap (path_keys forest) c.target-target.ensures) in
     let who = c.in_ok-interested.ensures.observers ∙
     (ap (λ p. interested nat_eq p c.refresh.new.self ch) way ∙ ap (λ rs. interested nat_eq path rs ch) c.in_ok-refresh.ensures) in
@@ -71,4 +71,4 @@ returns-clause-tables c =
     ∙ (ap (λ s. f s c.in-Some.last.now) (c.in_ok-give_copies.ensures ∙ ap (λ s. fold f s c.in-Some.others.now) here)
     ∙ (sym (fold-append f t c.in-Some.others.now (c.in-Some.last.now ∷ []))
     ∙ (ap (fold f t) (sym (sym who ∙ (sym c.as_slice-2.ensures.keys ∙ c.in-Some.ensures.cases.0)))
-    ∙ told-fold path ch t (record_of interested ch) (λ k. ap (λ b. cond b ch (without_old ch)) (old k))))))
+    ∙ told-fold path ch t (record_of told ch) (λ k. ap (λ b. cond b ch (without_old ch)) (old k))))))
