@@ -61,7 +61,8 @@ target_passes w o x e =
     ap (option_or early) (no_related (part_of w o).owner (part_of w o) (named (part_of w o) (word_view x))) ∙ or_none early)
 
 -- with one
-pub related_passes : (w : World) (o : Owner) (x y : NodeWord) (e : EventWords) (q : Option Refusal) → let_pass (early_refusal w o (Any x ∷ Any y ∷ [])) ≡ Ok tt →
+pub related_passes : (w : World) (o : Owner) (x y : NodeWord) (e : EventWords) (q : Option Refusal) →
+    let_pass (early_refusal w o (Any x ∷ Any y ∷ [])) ≡ Ok tt →
     q ≡ related_refusal o (part_of w o) (named (part_of w o) (word_view x)) (Some (word_view y)) →
     let_pass q ≡ let_pass (refusal w o (Command.dispatch (word_view x) e (Some (word_view y))))
 related_passes w o x y e q pass is =

@@ -167,7 +167,8 @@ impl Table {
         interested: &InterestedObservers,
         change: &Change,
     ) -> Result<(), AllocError>
-        ensures { OnOk result (table_of self.new ≡ fold (λ t k. given (record_of interested.now (change_of change.now) k) t k) (table_of self.old) observers.now) }
+        ensures { OnOk result (table_of self.new ≡
+            fold (λ t k. given (record_of interested.now (change_of change.now) k) t k) (table_of self.old) observers.now) }
     {
         let alloc = self.alloc;
         for observer in observers {

@@ -34,7 +34,8 @@ module _ (f : NamedTrees) {tables : AllTables} (held : IsDoc f.names f.trees tab
 
   -- and no other one has
   pub nodes_there : (o : Owner) → o ≢ Page → nat_lt 0 (count_of o f.names) ≡ is_there d.world o
-  nodes_there o other = subst (λ (e : DocState). nat_lt 0 (count_of o f.names) ≡ is_there e.world o) is_d (by (is_there (world_from f.names f.trees tables) o) refl)
+  nodes_there o other =
+      subst (λ (e : DocState). nat_lt 0 (count_of o f.names) ≡ is_there e.world o) is_d (by (is_there (world_from f.names f.trees tables) o) refl)
     where
       by : (b : Bool) → is_there (world_from f.names f.trees tables) o ≡ b → nat_lt 0 (count_of o f.names) ≡ is_there (world_from f.names f.trees tables) o
       by true there = lt-ltb 0 (count_of o f.names) (counted o other there) ∙ sym there

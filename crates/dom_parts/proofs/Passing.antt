@@ -35,10 +35,12 @@ module _ (f : NamedTrees) {tables : AllTables} (held : IsDoc f.names f.trees tab
     (is_d : state_from f.names f.trees tables ≡ d) (o : Owner) where
   -- whoever has a cursor is there
   pub there_iter : (k : ℕ) → is_some (slice_get (part_of d.world o).iterators k) ≡ true → is_there (world_from f.names f.trees tables) o ≡ true
-  there_iter k h = there_iterator f.names f.trees tables held o k (subst (λ (e : DocState). is_some (slice_get (part_of e.world o).iterators k) ≡ true) (sym is_d) h)
+  there_iter k h =
+      there_iterator f.names f.trees tables held o k (subst (λ (e : DocState). is_some (slice_get (part_of e.world o).iterators k) ≡ true) (sym is_d) h)
 
   pub there_walk : (k : ℕ) → is_some (slice_get (part_of d.world o).walkers k) ≡ true → is_there (world_from f.names f.trees tables) o ≡ true
-  there_walk k h = there_walker f.names f.trees tables held o k (subst (λ (e : DocState). is_some (slice_get (part_of e.world o).walkers k) ≡ true) (sym is_d) h)
+  there_walk k h =
+      there_walker f.names f.trees tables held o k (subst (λ (e : DocState). is_some (slice_get (part_of e.world o).walkers k) ≡ true) (sym is_d) h)
 
   -- whether an owner has an iterator, or a walker, of a number
   pub iter_is : (k : ℕ) → is_some (slice_get (tables.each o).iterators k) ≡ is_some (slice_get (part_of d.world o).iterators k)
@@ -66,7 +68,8 @@ module _ (f : NamedTrees) {tables : AllTables} (held : IsDoc f.names f.trees tab
   module _ (there : is_there (world_from f.names f.trees tables) o ≡ true) where
     -- a command that reads
     pub reads : (c : List NodeName → Command) (v : List NodeName → Value) →
-        effect (with_own f.names f.trees tables held o there (tables.each o)) (c f.names) ≡ Effect.tables (with_own f.names f.trees tables held o there (tables.each o)) []
+        effect (with_own f.names f.trees tables held o there (tables.each o)) (c f.names) ≡
+        Effect.tables (with_own f.names f.trees tables held o there (tables.each o)) []
         (v f.names) → Makes o (c d.names) (v d.names) d.world d.world
     reads c v is = subst (λ (e : DocState). Makes o (c e.names) (v e.names) e.world e.world) is_d
         (makes_read f.names f.trees tables held o there (c f.names) (v f.names) is)
@@ -85,12 +88,14 @@ module _ (f : NamedTrees) {tables : AllTables} (held : IsDoc f.names f.trees tab
 
       pub held_written : AreTablesOf f o w → IsDoc f.names f.trees (record tables { each = each })
       held_written h =
-          subst (λ (x : Owner → KeyedTables). IsDoc f.names f.trees (record tables { each = x })) (sym is_each) (held_set f.names f.trees tables held o there w h)
+          subst (λ (x : Owner → KeyedTables). IsDoc f.names f.trees (record tables { each = x })) (sym is_each)
+          (held_set f.names f.trees tables held o there w h)
 
   -- ---- what holds of the tables written
 
   pub iter_moved : (k : ℕ) (i : KeyedIterator) (before : Bool) (r : Option ℕ) → slice_get (tables.each o).iterators k ≡ Some i →
-      IsIteratorOf f (iterator_at i before r) → AreTablesOf f o (record (tables.each o) { iterators = slice_set (tables.each o).iterators k (iterator_at i before r) })
+      IsIteratorOf f (iterator_at i before r) →
+      AreTablesOf f o (record (tables.each o) { iterators = slice_set (tables.each o).iterators k (iterator_at i before r) })
   iter_moved k i before r e kept =
       let h = held.own o in
       record {
@@ -185,7 +190,8 @@ module _ (f : NamedTrees) {tables : AllTables} (held : IsDoc f.names f.trees tab
   module _ (root : ℕ) (filter : Filter) (own_root : (name_at f.names root).owner ≡ o) where
     pub iter_made : root < length f.names → StandOnce f → (each : Owner → KeyedTables) (r : Result ℕ Fault) →
         OnOk r (each ≡ with_cursors tables.each o (one_iterator (tables.each o) root filter))
-        → ((r ≡ Err (Refused Limit)) ↔ (length (tables.each o).iterators ≡ 1000000)) → OnErr r (each ≡ tables.each) → IsDoc f.names f.trees (record tables { each = each })
+        → ((r ≡ Err (Refused Limit)) ↔ (length (tables.each o).iterators ≡ 1000000))
+        → OnErr r (each ≡ tables.each) → IsDoc f.names f.trees (record tables { each = each })
     iter_made node once each (Ok n) is limit same =
         held_written f held is_d o there each
         (one_iterator (tables.each o) root filter) is
@@ -202,7 +208,8 @@ module _ (f : NamedTrees) {tables : AllTables} (held : IsDoc f.names f.trees tab
 
     pub walk_made : root < length f.names → (each : Owner → KeyedTables) (r : Result ℕ Fault) →
         OnOk r (each ≡ with_cursors tables.each o (one_walker (tables.each o) root filter))
-        → ((r ≡ Err (Refused Limit)) ↔ (length (tables.each o).walkers ≡ 1000000)) → OnErr r (each ≡ tables.each) → IsDoc f.names f.trees (record tables { each = each })
+        → ((r ≡ Err (Refused Limit)) ↔ (length (tables.each o).walkers ≡ 1000000))
+        → OnErr r (each ≡ tables.each) → IsDoc f.names f.trees (record tables { each = each })
     walk_made node each (Ok n) is limit same =
         held_written f held is_d o there each
         (one_walker (tables.each o) root filter) is

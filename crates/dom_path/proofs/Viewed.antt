@@ -33,7 +33,8 @@ module _ (f : NamedTrees) (hosts : List ShadowHost) (distinct : AreDistinct f.na
 
   module _ (depth : ℕ) (hosted : IsHosted f hosts depth) where
     -- by names
-    of-named : (a x : PathNode) → IsPathNode f hosts trees a → IsPathNode f hosts trees x → name (seen_of trees x.tree a) ≡ seen_at s depth (name x.node) (name a.node)
+    of-named : (a x : PathNode) → IsPathNode f hosts trees a → IsPathNode f hosts trees x →
+        name (seen_of trees x.tree a) ≡ seen_at s depth (name x.node) (name a.node)
     of-named a x h g = seen-named f hosts distinct trees are.nested are depth hosted x.tree (name x.node) (g.tree depth hosted) a.node a.tree
         (h.tree depth hosted)
 
@@ -43,7 +44,8 @@ module _ (f : NamedTrees) (hosts : List ShadowHost) (distinct : AreDistinct f.na
     related-named (Some a) x h g = ap Some (of-named a x (h a refl) g)
 
     -- whether a path ends before a place
-    pub ends-named : (t : PathNode) (r : Option PathNode) (x : PathNode) → IsPathNode f hosts trees t → ForSome r (IsPathNode f hosts trees) → IsPathNode f hosts trees x
+    pub ends-named : (t : PathNode) (r : Option PathNode) (x : PathNode) → IsPathNode f hosts trees t → ForSome r (IsPathNode f hosts trees) →
+        IsPathNode f hosts trees x
         → ends_before trees t r x ≡ ends_at s depth (name t.node) (related_name f.names r) (name x.node)
     ends-named t r x ht hr hx =
         let test_node = key-test f.names distinct x.node t.node hx.node ht.node in

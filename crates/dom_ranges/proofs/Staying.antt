@@ -75,7 +75,8 @@ brings names most more f step was within = (
 -- ---- what a caller takes from it, and gives
 
 pub none-within : NoneWithin
-none-within names most t none o = subst (λ (rs : RangeList). EachRange (BothEnds (IsWithin names most)) rs) (sym (none o)) (each_none (BothEnds (IsWithin names most)))
+none-within names most t none o =
+    subst (λ (rs : RangeList). EachRange (BothEnds (IsWithin names most)) rs) (sym (none o)) (each_none (BothEnds (IsWithin names most)))
 
 pub same-within : SameWithin
 same-within names most was now same within o =

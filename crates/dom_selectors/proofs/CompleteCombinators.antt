@@ -188,5 +188,5 @@ said_parsed text (x ∷ xs) h =
     ∙ ap (λ k. if is_empty k then Some (x ∷ xs) else None) (ap skip_space (sym (append-nil it.0)) ∙ skip-read it.0 [] it.1 refl)
 
 -- what is not read is not in the grammar
-pub not_said : (text : DomString) → parse_selectors text ≡ None → (s : List Complex) → IsSelector text s → ⊥
-not_said text none s h = none-some s (sym none ∙ said_parsed text s h)
+pub unsaid : (text : DomString) → parse_selectors text ≡ None → (s : List Complex) → IsSelector text s → ⊥
+unsaid text none s h = none-some s (sym none ∙ said_parsed text s h)

@@ -248,7 +248,7 @@ fn read_selector(alloc: Global, units: &[u16]) -> Result<Option<Selector>, Alloc
 impl Selector {
     /// The list of selectors that a text is (CSS Selectors Level 4, selector list, in this project's part). It is
     /// refused with `Selector` where the text is none, and with `Memory` where memory is refused.
-    #[tactic(auto, using(crate::proofs::CompleteCombinators::said_parsed, crate::proofs::CompleteCombinators::not_said, crate::proofs::SoundLists::parsed_says))]
+    #[tactic(auto, using(crate::proofs::CompleteCombinators::said_parsed, crate::proofs::CompleteCombinators::unsaid, crate::proofs::SoundLists::parsed_says))]
     pub fn parse(alloc: Global, text: &[u16]) -> Result<Selector, Fault>
         ensures said { IfOk result (λ s. IsSelector text.now (selector_view s)) }
         ensures read { IfOk result (λ s. parse_selectors text.now ≡ Some (selector_view s)) }

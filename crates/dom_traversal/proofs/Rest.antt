@@ -108,7 +108,8 @@ module _ (f : NamedTrees) (once : StandOnce f) (only : StandAlone f) where
       is_inclusive_ancestor f.trees (name_at f.names w.root) (name_at f.names w.current) ≡ true →
       o ≡ first_of (walker_nodes f.trees (walker_view f.names w) (behind f.trees (name_at f.names w.root) (name_at f.names w.current)))
   found-behind w o e h =
-      e ∙ ap (λ b. cond b (first_of (walker_nodes f.trees (walker_view f.names w) (behind f.trees (name_at f.names w.root) (name_at f.names w.current)))) None) h
+      e ∙ ap (λ b. cond b
+      (first_of (walker_nodes f.trees (walker_view f.names w) (behind f.trees (name_at f.names w.root) (name_at f.names w.current)))) None) h
 
   -- a walker that finds a node is within its root's tree
   pub walker-inside : (w : KeyedWalker) (y : NodeName) → Some y ≡ walker_move f.trees (walker_view f.names w) Next →

@@ -202,7 +202,8 @@ kinds-accepted w o c p t g r q i h =
     (peopled-opening w o t i) (kinds-opening w o h)
 
 -- refused or accepted
-kinds-command : (w : World) (o : Owner) (c : Command) → (o ≡ Page → IsPageTime w) → Invariant false w → IsPeopled w → AllKinds w → AllKinds (run_command o c w).0
+kinds-command : (w : World) (o : Owner) (c : Command) → (o ≡ Page → IsPageTime w) → Invariant false w → IsPeopled w → AllKinds w →
+    AllKinds (run_command o c w).0
 kinds-command w o c p q i h = from (refusal w o c) refl
   where
     from : (r : Option Refusal) → refusal w o c ≡ r → AllKinds (unless_refused o (refusal w o c) w (accepted w o c)).0

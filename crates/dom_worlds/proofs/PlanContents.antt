@@ -72,7 +72,8 @@ changed-inner into new p q r absent c d =
     }
 
 -- a new node below another one
-pub leads-making_below : (into : NodeName) (n : Node) (p : Part) → n.name ≡ next_name p → IsPart p → HasNode p into → Leads (Some into) p (making_below into n p)
+pub leads-making_below : (into : NodeName) (n : Node) (p : Part) → n.name ≡ next_name p → IsPart p → HasNode p into →
+    Leads (Some into) p (making_below into n p)
 leads-making_below into n p e i t =
     let spot = Some into in
     let first = leads-one p (make n) i tt in

@@ -180,7 +180,8 @@ pub next-there : (p : Part) (x : NodeName) → HasNode p x → IfSome (HasNode p
 next-there p x t = first-all (HasNode p) (items_after name_eq x (siblings p.trees x)) (after-all (HasNode p) x (siblings p.trees x) (siblings-there p x t))
 
 -- a reference
-pub reference-there : (p : Part) (node : NodeName) (o : Option NodeName) → HasNode p node → IfSome (HasNode p) o → IfSome (HasNode p) (reference_for p.trees node o)
+pub reference-there : (p : Part) (node : NodeName) (o : Option NodeName) → HasNode p node → IfSome (HasNode p) o →
+    IfSome (HasNode p) (reference_for p.trees node o)
 reference-there p node None t h = tt
 reference-there p node (Some c) t h = either_way (IfSome (HasNode p)) (name_eq c node) (next_sibling p.trees node) (Some c) (next-there p node t) h
 

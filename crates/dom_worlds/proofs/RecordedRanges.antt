@@ -123,7 +123,8 @@ tells-contents ts range p i t u = from (is_in_one_data ts range)
         (λ q c. tells-cutting ts range range.end.node q (still c range.end.node u))
 
 -- a deletion
-pub tells-deleting : (k : ℕ) (range : Range NodeName) (p : Part) → IsPart p → HasNode p range.start.node → HasNode p range.end.node → TellsIn p (deleting k range p)
+pub tells-deleting : (k : ℕ) (range : Range NodeName) (p : Part) → IsPart p → HasNode p range.start.node → HasNode p range.end.node →
+    TellsIn p (deleting k range p)
 tells-deleting k range p i t u =
     let last = set_range k (both_at (new_place p.trees range)) in
     either_way (TellsIn p) (is_collapsed name_eq range) [] ((deleting_contents p.trees range and_then doing last) p) tt

@@ -127,7 +127,8 @@ parent-of_range p range t = from (start_reference p.trees range)
     up x None e = tt
     up x (Some y) e = parent-there p.trees x y e
 
-    from : (o : Option NodeName) → HasNode p (Rattle.std.specs.Prelude.unwrap_or (Rattle.std.specs.Option.option_and_then (parent_of p.trees) o) range.start.node)
+    from : (o : Option NodeName) →
+        HasNode p (Rattle.std.specs.Prelude.unwrap_or (Rattle.std.specs.Option.option_and_then (parent_of p.trees) o) range.start.node)
     from None = t
     from (Some x) = of (parent_of p.trees x) (up x (parent_of p.trees x) refl)
 

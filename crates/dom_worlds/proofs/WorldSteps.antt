@@ -104,7 +104,8 @@ module _ {only_log : Bool} where
 
 module _ {only_log : Bool} where
   -- signals
-  quiet-each_signal : (ss : List NodeName) (w : World) → AllByRecursion (IsForeignTo Page) ss → Invariant only_log w → Invariant only_log (fold with_signal w ss)
+  quiet-each_signal : (ss : List NodeName) (w : World) → AllByRecursion (IsForeignTo Page) ss → Invariant only_log w →
+      Invariant only_log (fold with_signal w ss)
   quiet-each_signal [] w h q = q
   quiet-each_signal (s ∷ ss) w h q = quiet-each_signal ss (with_signal w s) h.1 (quiet-with_signal w s h.0 q)
 

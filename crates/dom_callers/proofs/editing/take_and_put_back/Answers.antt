@@ -41,8 +41,10 @@ returns-clause-still c =
     let d_nodes : HasNodes d = record { parts = c.laws.ensures.parts; stand = c.laws.ensures.stand } in
     let e_nodes : HasNodes e = record { parts = c.laws-2.ensures.parts; stand = c.laws-2.ensures.stand } in
     let f_nodes : HasNodes f = record { parts = c.laws-3.ensures.parts; stand = c.laws-3.ensures.stand } in
-    let taken : HasStillAll d e = c.law_still.ensures.plans d e o (λ p. plan_of_range p c.args.range (extracting c.args.range)) _ d_nodes e_nodes (c.in_ok-taken.ensures.names here.0 here.1)
+    let taken : HasStillAll d e = c.law_still.ensures.plans d e o (λ p. plan_of_range p c.args.range (extracting c.args.range)) _ d_nodes e_nodes
+    (c.in_ok-taken.ensures.names here.0 here.1)
     c.in_ok-taken.ensures.world in
-    let back : HasStillAll e f = c.law_still.ensures.plans e f o (inserting_node c.args.range (name_in e c.in_ok-taken.taken)) _ e_nodes f_nodes c.in_ok-insert_node.ensures.names
+    let back : HasStillAll e f = c.law_still.ensures.plans e f o (inserting_node c.args.range (name_in e c.in_ok-taken.taken)) _ e_nodes f_nodes
+    c.in_ok-insert_node.ensures.names
     c.in_ok-insert_node.ensures.world in
     c.law_still.ensures.next d e f taken back

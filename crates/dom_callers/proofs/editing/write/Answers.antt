@@ -108,4 +108,5 @@ returns-clause-tail c =
     let tail_node = new_text_node (next_name q) old.document (drop 1 old.text) in
     text-new g o c.in_ok-tail.tail (length f.names) c.in_ok-tail.ensures.key (c.law_new_node.ensures.node f g _ _ c.in_ok-tail.ensures.names)
     (c.law_new_node.ensures.owner f g (owner_in f text) _ c.in_ok-tail.ensures.names ∙ written.node.owner)
-    (c.law_new_node.ensures.kind f g (owner_in f text) (splitting (name_in f text) 1) tail_node _ f_nodes g_nodes c.in_ok-tail.ensures.names c.in_ok-tail.ensures.world refl)
+    (c.law_new_node.ensures.kind f g (owner_in f text) (splitting (name_in f text) 1) tail_node _ f_nodes g_nodes
+    c.in_ok-tail.ensures.names c.in_ok-tail.ensures.world refl)

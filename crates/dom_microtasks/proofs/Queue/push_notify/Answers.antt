@@ -91,7 +91,8 @@ invariant_of-self-2 c p =
     let now = ap (count_by (is_notify_of p)) last ∙ counted-more o p was in
     let there : contains OwnerImpl.ghosts.eq c.insert.new.self p ≡ cond (owner_eq o p) true (contains OwnerImpl.ghosts.eq c.self.inside.waiting p) =
     c.in_ok-insert.ensures.updates.0 p ∙ ap (λ b. cond b true (contains OwnerImpl.ghosts.eq c.self.inside.waiting p)) (same_owner o p) in
-    now ∙ by (owner_eq o p) refl (contains OwnerImpl.ghosts.eq c.self.inside.waiting p) refl (count_by (is_notify_of p) was) (c.self.invariant p) ∙ sym (ap one there)
+    now ∙ by (owner_eq o p) refl (contains OwnerImpl.ghosts.eq c.self.inside.waiting p) refl (count_by (is_notify_of p) was)
+    (c.self.invariant p) ∙ sym (ap one there)
   where
     by : (b : Bool) → owner_eq c.args.owner p ≡ b → (w : Bool) → contains OwnerImpl.ghosts.eq c.self.inside.waiting p ≡ w → (n : ℕ) → n ≡ one w →
         n + one b ≡ one (cond b true w)

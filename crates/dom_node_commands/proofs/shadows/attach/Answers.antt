@@ -54,4 +54,5 @@ returns-clause-handled c =
     (c.in_ok-root.ensures.world ∙ ap (λ (q : Owner). (attaching d.world q (name_in d c.key-host.result)).0) own)
     (ap (λ (x : NodeName). x.owner) (name-last d.names c.forest.result.now.names (shadow_root_of component) c.name-component.result root
     (c.forest.ensures.names ∙ c.in_ok-root.ensures.names
-    ∙ ap (λ (q : Owner). d.names ++ shadow_root_of (component_made q (length (part_of d.world q).attached)) ∷ []) own) c.in_ok-root.ensures.key c.name-component.ensures.at)) c.accept.ensures.done
+    ∙ ap (λ (q : Owner). d.names ++ shadow_root_of (component_made q (length (part_of d.world q).attached)) ∷ []) own)
+    c.in_ok-root.ensures.key c.name-component.ensures.at)) c.accept.ensures.done

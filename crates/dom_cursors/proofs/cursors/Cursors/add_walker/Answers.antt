@@ -23,13 +23,15 @@ add_walker-requires c =
 
 pub returns-clause-number : goal.returns-clause-number
 returns-clause-number c =
-    subst (λ (t : KeyedTables). IfOk c.add_walker.result (λ n. n ≡ length t.walkers)) (sym (had c.self.inside c.prepare.new.self c.args.owner c.in-Some.tables.now c.self.view_is c.in-Some.ensures.value) ∙
+    subst (λ (t : KeyedTables). IfOk c.add_walker.result (λ n. n ≡ length t.walkers))
+    (sym (had c.self.inside c.prepare.new.self c.args.owner c.in-Some.tables.now c.self.view_is c.in-Some.ensures.value) ∙
     ap (λ each. each c.args.owner) c.in_ok-prepare.ensures.keeps) c.add_walker.ensures.number
 
 pub returns-clause-added : goal.returns-clause-added
 returns-clause-added c =
     let r : Inside = record { tables = c.get_mut.follows.lender c.add_walker.new.self; alloc = c.self.inside.alloc } in
-    let now = sym (had c.self.inside c.prepare.new.self c.args.owner c.in-Some.tables.now c.self.view_is c.in-Some.ensures.value) ∙ ap (λ each. each c.args.owner) c.in_ok-prepare.ensures.keeps in
+    let now = sym (had c.self.inside c.prepare.new.self c.args.owner c.in-Some.tables.now c.self.view_is c.in-Some.ensures.value) ∙
+    ap (λ each. each c.args.owner) c.in_ok-prepare.ensures.keeps in
     let more : KeyedTables → KeyedTables = λ t. record t {
       walkers = t.walkers ++
           record { root = c.args.root; current = c.args.root; filter = filter_of c.args.filter } ∷ [];
@@ -44,13 +46,15 @@ returns-clause-added c =
 
 pub returns-clause-limit : goal.returns-clause-limit
 returns-clause-limit c =
-    subst (λ (t : KeyedTables). (c.add_walker.result ≡ Err (Refused Limit)) ↔ (length t.walkers ≡ 1000000)) (sym (had c.self.inside c.prepare.new.self c.args.owner c.in-Some.tables.now c.self.view_is c.in-Some.ensures.value) ∙
+    subst (λ (t : KeyedTables). (c.add_walker.result ≡ Err (Refused Limit)) ↔ (length t.walkers ≡ 1000000))
+    (sym (had c.self.inside c.prepare.new.self c.args.owner c.in-Some.tables.now c.self.view_is c.in-Some.ensures.value) ∙
     ap (λ each. each c.args.owner) c.in_ok-prepare.ensures.keeps) c.add_walker.ensures.limit
 
 pub returns-clause-err : goal.returns-clause-err
 returns-clause-err c =
     let r : Inside = record { tables = c.get_mut.follows.lender c.add_walker.new.self; alloc = c.self.inside.alloc } in
-    let now = sym (had c.self.inside c.prepare.new.self c.args.owner c.in-Some.tables.now c.self.view_is c.in-Some.ensures.value) ∙ ap (λ each. each c.args.owner) c.in_ok-prepare.ensures.keeps in
+    let now = sym (had c.self.inside c.prepare.new.self c.args.owner c.in-Some.tables.now c.self.view_is c.in-Some.ensures.value) ∙
+    ap (λ each. each c.args.owner) c.in_ok-prepare.ensures.keeps in
     let step : c.add_walker.new.self ≡ c.in-Some.tables.now → cursors_of r.tables.entries ≡ cursors_of c.args.self.now =
     λ e. written c.self.inside r c.prepare.new.self c.args.owner c.add_walker.new.self c.self.view_is
     ((c.get_mut.follows.holds c.add_walker.new.self).3 (subst IsSome c.in-Some.ensures.value refl)).0

@@ -9,7 +9,8 @@ use Rattle.dom_parts.proofs.parts.Parts.is_there.Goals.{in-Page, in_default}
 pub returns-then-matches : goal.returns-then-matches
 returns-then-matches c =
     elim c.match-matches.branch [
-      | in-Page w ↦ c.if-matches.true ∙ (page_there c.self.inside.forest c.self.invariant c.self.view_is ∙ ap (is_there c.args.self.now.world) (sym w.in-Page.is))
+      | in-Page w ↦ c.if-matches.true ∙
+          (page_there c.self.inside.forest c.self.invariant c.self.view_is ∙ ap (is_there c.args.self.now.world) (sym w.in-Page.is))
       | in_default w ↦ absurd (true≢false (sym c.if-matches.true ∙ w.matches-is))
     ]
 

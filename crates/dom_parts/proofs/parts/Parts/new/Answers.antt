@@ -24,7 +24,8 @@ invariant_of-result c =
     let slots = c.new-slots.result in
     let signalled = c.new-signalled.result in
     let ranges = c.new-ranges.result in
-    first_held c.add.new.self (tables_of (cursors_of c.new-cursors.result) seen tasks slots signalled ranges) (node_from [] (node_of Page 0) first) refl record {
+    first_held c.add.new.self (tables_of (cursors_of c.new-cursors.result) seen tasks slots signalled ranges)
+    (node_from [] (node_of Page 0) first) refl record {
       all = (λ j. tables_of (λ o. c.new-cursors.ensures o j) seen tasks slots signalled ranges)
           ∙ (λ j. tables_of (λ o. no_keyed_tables) (λ o. c.new-observers.ensures o j) tasks slots signalled ranges)
           ∙ ap (λ (ts : List Task). tables_of (λ o. no_keyed_tables) (λ o. no_observers) ts slots signalled ranges) c.new-queue.ensures

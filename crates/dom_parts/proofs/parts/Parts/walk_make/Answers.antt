@@ -49,6 +49,7 @@ pub returns-clause-err : goal.returns-clause-err
 returns-clause-err c =
     let f = c.self.inside.forest in
     let tables = all_tables c.self.inside in
-    let step : cursors_of c.add_walker.new.self ≡ tables.each → state_from f.names f.trees (record tables { each = cursors_of c.add_walker.new.self }) ≡ c.args.self.now =
+    let step : cursors_of c.add_walker.new.self ≡ tables.each →
+    state_from f.names f.trees (record tables { each = cursors_of c.add_walker.new.self }) ≡ c.args.self.now =
     λ e. ap (λ (each : Owner → KeyedTables). state_from f.names f.trees (record tables { each = each })) e ∙ c.self.view_is in
     on_err_weaker c.add_walker.result step c.add_walker.ensures.err

@@ -9,14 +9,16 @@ use Rattle.dom_ranges.proofs.numbers.Numbers.reserve.Goals as goal
 
 pub returns-in_err-reserve-clause-slots : goal.returns-in_err-reserve-clause-slots
 returns-in_err-reserve-clause-slots c =
-    let r : Numbers = record { page = c.begin.new.self.page; components = c.get_mut.follows.lender c.reserve-in-Some.new.self; alloc = c.begin.new.self.alloc } in
+    let r : Numbers =
+    record { page = c.begin.new.self.page; components = c.get_mut.follows.lender c.reserve-in-Some.new.self; alloc = c.begin.new.self.alloc } in
     λ o. slots-reserved c.begin.new.self r c.args.owner c.in-Some.slots.now c.reserve-in-Some.new.self refl
     (λ p. ((c.get_mut.follows.holds c.reserve-in-Some.new.self).3 (subst IsSome c.in-Some.ensures.value refl)).0 p) (sym c.in-Some.ensures.value)
     c.reserve-in-Some.ensures.items o ∙ c.begin.ensures.slots o
 
 pub returns-in_ok-reserve-clause-slots : goal.returns-in_ok-reserve-clause-slots
 returns-in_ok-reserve-clause-slots c =
-    let r : Numbers = record { page = c.begin.new.self.page; components = c.get_mut.follows.lender c.reserve-in-Some.new.self; alloc = c.begin.new.self.alloc } in
+    let r : Numbers =
+    record { page = c.begin.new.self.page; components = c.get_mut.follows.lender c.reserve-in-Some.new.self; alloc = c.begin.new.self.alloc } in
     λ o. slots-reserved c.begin.new.self r c.args.owner c.in-Some.slots.now c.reserve-in-Some.new.self refl
     (λ p. ((c.get_mut.follows.holds c.reserve-in-Some.new.self).3 (subst IsSome c.in-Some.ensures.value refl)).0 p) (sym c.in-Some.ensures.value)
     c.reserve-in-Some.ensures.items o ∙ c.begin.ensures.slots o

@@ -55,7 +55,8 @@ roomy : (c : goal.After-list_range) → Shows c.self.inside.live c.reserve.new.s
 roomy c = (
   Shows-same c.self.inside.live c.self.inside.live c.self.inside.numbers c.reserve.new.self _
       (Shows-view c.self.inside.live c.self.inside.numbers _ c.self.view_is) (λ s. refl) c.reserve.ensures.slots,
-  HaveNumbers-same c.self.inside.live c.self.inside.live c.self.inside.numbers c.reserve.new.self (λ s. (λ i. i, λ i. i)) c.reserve.ensures.slots c.self.invariant.0,
+  HaveNumbers-same c.self.inside.live c.self.inside.live c.self.inside.numbers c.reserve.new.self (λ s. (λ i. i, λ i. i))
+      c.reserve.ensures.slots c.self.invariant.0,
 )
 
 pub overflow_cast-result : goal.overflow_cast-result

@@ -18,4 +18,5 @@ returns-clause-fewer c =
     c.self.view_is c.in_ok-found.ensures.value in
     let less = iterator_fewer f c.nodes_stand_once.ensures.once c.nodes_stand_once.ensures.only i c.requires c.in_ok-found.found
     (found ∙ ap (λ xs. first_of (filter (accepts f.trees i.filter) xs)) c.ahead.ensures.value) in
-    λ _ _. subst (λ (j : KeyedIterator). iterator_left f record j { reference = c.in_ok-found.found; before = false } < iterator_left f i) (sym c.self.view_is) less
+    λ _ _. subst (λ (j : KeyedIterator). iterator_left f record j { reference = c.in_ok-found.found; before = false } < iterator_left f i)
+    (sym c.self.view_is) less

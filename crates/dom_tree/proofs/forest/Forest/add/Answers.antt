@@ -56,7 +56,8 @@ pub returns-clause-childless : goal.returns-clause-childless
 returns-clause-childless c = added_childless (invariant_of-self-2 c) c.in_ok-key.key (key_within c) c.in_ok-key.ensures.childless
 
 pub returns-clause-above_none : goal.returns-clause-above_none
-returns-clause-above_none c = added_above_none _ c.self.view_is c.self.invariant (invariant_of-self-2 c) c.in_ok-key.ensures.ok c.in_ok-key.key c.in_ok-key.ensures.key
+returns-clause-above_none c =
+    added_above_none _ c.self.view_is c.self.invariant (invariant_of-self-2 c) c.in_ok-key.ensures.ok c.in_ok-key.key c.in_ok-key.ensures.key
 
 pub returns-clause-named : goal.returns-clause-named
 returns-clause-named c = added_named _ c.self.view_is c.self.invariant c.in_ok-key.ensures.ok
