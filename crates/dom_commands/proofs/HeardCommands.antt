@@ -54,65 +54,11 @@ module _ (of : Owner → List (Listener NodeName)) where
 
   refusal-hearing : (p : Part) (c : Command) → part_refusal (hearing of p) c ≡ part_refusal p c
   refusal-hearing p (Command.new_element a) = refl
-  refusal-hearing p (Command.new_text s) = refl
-  refusal-hearing p (Command.new_comment s) = refl
-  refusal-hearing p Command.new_fragment = refl
-  refusal-hearing p Command.new_document = refl
-  refusal-hearing p (Command.attach x) = refl
-  refusal-hearing p (Command.append a x) = refl
-  refusal-hearing p (Command.insert a x c) = refl
-  refusal-hearing p (Command.replace a x c) = refl
-  refusal-hearing p (Command.remove x) = refl
-  refusal-hearing p (Command.adopt d x) = refl
-  refusal-hearing p (Command.normalize x) = refl
-  refusal-hearing p (Command.set_attribute x a v) = refl
-  refusal-hearing p (Command.unset_attribute x a) = refl
-  refusal-hearing p (Command.set_data x s) = refl
-  refusal-hearing p (Command.replace_data x i n s) = refl
-  refusal-hearing p (Command.split x i) = refl
-  refusal-hearing p (Command.set_text x s) = refl
-  refusal-hearing p (Command.tree x) = refl
-  refusal-hearing p (Command.attribute x a) = refl
-  refusal-hearing p (Command.parent x) = refl
-  refusal-hearing p (Command.document_of x) = refl
-  refusal-hearing p (Command.children x) = refl
-  refusal-hearing p (Command.contains x y) = refl
-  refusal-hearing p (Command.connected x) = refl
-  refusal-hearing p (Command.shadow_root x) = refl
-  refusal-hearing p (Command.slot_of x) = refl
-  refusal-hearing p (Command.assigned x) = refl
-  refusal-hearing p Command.range_new = refl
-  refusal-hearing p (Command.range_start r x i) = refl
-  refusal-hearing p (Command.range_end r x i) = refl
-  refusal-hearing p (Command.range_collapse r s) = refl
-  refusal-hearing p (Command.range_drop r) = refl
-  refusal-hearing p (Command.range_get r) = refl
-  refusal-hearing p (Command.range_text r) = refl
-  refusal-hearing p (Command.extract r) = refl
-  refusal-hearing p (Command.delete r) = refl
-  refusal-hearing p (Command.insert_node r x) = refl
-  refusal-hearing p (Command.iterator_new x f) = refl
-  refusal-hearing p (Command.walker_new x f) = refl
-  refusal-hearing p (Command.iterator_next i) = refl
-  refusal-hearing p (Command.iterator_previous i) = refl
-  refusal-hearing p (Command.iterator_at i) = refl
-  refusal-hearing p (Command.walk i m) = refl
-  refusal-hearing p (Command.walker_at i) = refl
-  refusal-hearing p (Command.walker_set i x) = refl
-  refusal-hearing p (Command.query x s) = refl
-  refusal-hearing p (Command.matches x s) = refl
-  refusal-hearing p (Command.listen x words) = refl
-  refusal-hearing p (Command.unlisten x e l c) = refl
   refusal-hearing p (Command.dispatch x e related) =
       let c = Command.dispatch x e related in
       ap (option_or (first_refusal ((not (nodes_exist p c && thing_exists p c), Unknown) ∷ (not (nodes_fit p c), WrongKind) ∷ [])))
       (related-hearing p.owner p (named p x) related)
-  refusal-hearing p Command.observer = refl
-  refusal-hearing p (Command.observe i x words) = refl
-  refusal-hearing p (Command.disconnect i) = refl
-  refusal-hearing p (Command.take i) = refl
-  refusal-hearing p (Command.micro label) = refl
-  refusal-hearing p Command.end_turn = refl
+  refusal-hearing p c = refl
 
   -- of a range, an iterator or a walker
   of_range-hearing : (p : Part) (k : ℕ) (f : Range NodeName → Plan) → ((r : Range NodeName) → f r (hearing of p) ≡ f r p) →
@@ -153,39 +99,14 @@ module _ (of : Owner → List (Listener NodeName)) where
   -- its effects
   effect-hearing : (p : Part) (c : Command) → is_plain c ≡ true → effect (hearing of p) c ≡ hearing_effect of (effect p c)
   effect-hearing p (Command.new_element a) plain = refl
-  effect-hearing p (Command.new_text s) plain = refl
-  effect-hearing p (Command.new_comment s) plain = refl
-  effect-hearing p Command.new_fragment plain = refl
-  effect-hearing p Command.new_document plain = refl
-  effect-hearing p (Command.attach x) plain = refl
   effect-hearing p (Command.append a x) plain = ap (λ (steps : List Step). changes steps nothing) (deaf-pre_inserting of (named p x) (named p a) None p)
   effect-hearing p (Command.insert a x c) plain =
       ap (λ (steps : List Step). changes steps nothing) (deaf-pre_inserting of (named p x) (named p a) (Some (named p c)) p)
   effect-hearing p (Command.replace a x c) plain = ap (λ (steps : List Step). changes steps nothing) (deaf-replacing of (named p a) (named p x) (named p c) p)
-  effect-hearing p (Command.remove x) plain = refl
   effect-hearing p (Command.adopt d x) plain = ap (λ (steps : List Step). changes steps nothing) (deaf-adopting of (named p d) (named p x) p)
   effect-hearing p (Command.normalize x) plain = ap (λ (steps : List Step). changes steps nothing) (deaf-normalizing of (named p x) p)
-  effect-hearing p (Command.set_attribute x a v) plain = refl
-  effect-hearing p (Command.unset_attribute x a) plain = refl
-  effect-hearing p (Command.set_data x s) plain = refl
-  effect-hearing p (Command.replace_data x i n s) plain = refl
   effect-hearing p (Command.split x i) plain = ap (λ (steps : List Step). changes steps (a_node (next_name p))) (deaf-splitting of (named p x) i p)
   effect-hearing p (Command.set_text x s) plain = ap (λ (steps : List Step). changes steps nothing) (deaf-setting_text of (named p x) s p)
-  effect-hearing p (Command.tree x) plain = refl
-  effect-hearing p (Command.attribute x a) plain = refl
-  effect-hearing p (Command.parent x) plain = refl
-  effect-hearing p (Command.document_of x) plain = refl
-  effect-hearing p (Command.children x) plain = refl
-  effect-hearing p (Command.contains x y) plain = refl
-  effect-hearing p (Command.connected x) plain = refl
-  effect-hearing p (Command.shadow_root x) plain = refl
-  effect-hearing p (Command.slot_of x) plain = refl
-  effect-hearing p (Command.assigned x) plain = refl
-  effect-hearing p Command.range_new plain = refl
-  effect-hearing p (Command.range_start r x i) plain = refl
-  effect-hearing p (Command.range_end r x i) plain = refl
-  effect-hearing p (Command.range_collapse r s) plain = refl
-  effect-hearing p (Command.range_drop r) plain = refl
   effect-hearing p (Command.range_get r) plain = range-hearing p r (λ range. answers p (boundaries range.start range.end))
   effect-hearing p (Command.range_text r) plain = range-hearing p r (λ range. answers p (a_string (range_text_of p.trees range)))
   effect-hearing p (Command.extract r) plain =
@@ -195,8 +116,6 @@ module _ (of : Owner → List (Listener NodeName)) where
   effect-hearing p (Command.insert_node r x) plain =
       ap (λ (steps : List Step). changes steps nothing)
       (of_range-hearing p r (λ range. inserting_into_range r range (named p x)) (λ range. deaf-into_range of r range (named p x) p))
-  effect-hearing p (Command.iterator_new x f) plain = refl
-  effect-hearing p (Command.walker_new x f) plain = refl
   effect-hearing p (Command.iterator_next i) plain =
       iterator-hearing p i (λ it. moves_iterator (hearing of p) i false it (iterator_next_node p.trees it))
       (λ it. moves_iterator p i false it (iterator_next_node p.trees it)) (λ it. refl)
@@ -215,17 +134,9 @@ module _ (of : Owner → List (Listener NodeName)) where
   effect-hearing p (Command.walker_set i x) plain =
       walker-hearing p i (λ w. sets_walker (hearing of p) i w (Some (named p x)) nothing) (λ w. sets_walker p i w (Some (named p x)) nothing)
       (λ w. refl)
-  effect-hearing p (Command.query x s) plain = refl
-  effect-hearing p (Command.matches x s) plain = refl
   effect-hearing p (Command.listen x words) plain = absurd cc
   effect-hearing p (Command.unlisten x e l c) plain = absurd cc
-  effect-hearing p (Command.dispatch x e related) plain = refl
-  effect-hearing p Command.observer plain = refl
-  effect-hearing p (Command.observe i x words) plain = refl
-  effect-hearing p (Command.disconnect i) plain = refl
-  effect-hearing p (Command.take i) plain = refl
-  effect-hearing p (Command.micro label) plain = refl
-  effect-hearing p Command.end_turn plain = refl
+  effect-hearing p c plain = refl
 
   -- ---- in the world
 
@@ -277,10 +188,6 @@ module _ (of : Owner → List (Listener NodeName)) where
   pub perform-heard : (w : World) → FitsIn of w → (o : Owner) (c : Command) → is_plain c ≡ true → IsNew w o c →
       perform (heard of w) o c ≡ heard_run (perform w o c)
   perform-heard w fits o (Command.new_element a) plain new = effected-heard w fits o (Command.new_element a) plain
-  perform-heard w fits o (Command.new_text s) plain new = effected-heard w fits o (Command.new_text s) plain
-  perform-heard w fits o (Command.new_comment s) plain new = effected-heard w fits o (Command.new_comment s) plain
-  perform-heard w fits o Command.new_fragment plain new = effected-heard w fits o Command.new_fragment plain
-  perform-heard w fits o Command.new_document plain new = effected-heard w fits o Command.new_document plain
   perform-heard w fits o (Command.attach x) plain new =
       let p = part_of w o in
       let c = component_made o (length p.attached) in
@@ -294,61 +201,18 @@ module _ (of : Owner → List (Listener NodeName)) where
       ∙ ap (λ (ls : List (Listener NodeName)). answering o (a_component c)
       (with_part (heard of (with_part w marked)) (record (part_with_root c Shadow d) { listeners = ls }))) (sym new)
       ∙ ap (answering o (a_component c)) (with_part-heard of (with_part w marked) (part_with_root c Shadow d))
-  perform-heard w fits o (Command.append a x) plain new = effected-heard w fits o (Command.append a x) plain
-  perform-heard w fits o (Command.insert a x c) plain new = effected-heard w fits o (Command.insert a x c) plain
-  perform-heard w fits o (Command.replace a x c) plain new = effected-heard w fits o (Command.replace a x c) plain
-  perform-heard w fits o (Command.remove x) plain new = effected-heard w fits o (Command.remove x) plain
-  perform-heard w fits o (Command.adopt d x) plain new = effected-heard w fits o (Command.adopt d x) plain
-  perform-heard w fits o (Command.normalize x) plain new = effected-heard w fits o (Command.normalize x) plain
-  perform-heard w fits o (Command.set_attribute x a v) plain new = effected-heard w fits o (Command.set_attribute x a v) plain
-  perform-heard w fits o (Command.unset_attribute x a) plain new = effected-heard w fits o (Command.unset_attribute x a) plain
-  perform-heard w fits o (Command.set_data x s) plain new = effected-heard w fits o (Command.set_data x s) plain
-  perform-heard w fits o (Command.replace_data x i n s) plain new = effected-heard w fits o (Command.replace_data x i n s) plain
-  perform-heard w fits o (Command.split x i) plain new = effected-heard w fits o (Command.split x i) plain
-  perform-heard w fits o (Command.set_text x s) plain new = effected-heard w fits o (Command.set_text x s) plain
-  perform-heard w fits o (Command.tree x) plain new = effected-heard w fits o (Command.tree x) plain
-  perform-heard w fits o (Command.attribute x a) plain new = effected-heard w fits o (Command.attribute x a) plain
-  perform-heard w fits o (Command.parent x) plain new = effected-heard w fits o (Command.parent x) plain
-  perform-heard w fits o (Command.document_of x) plain new = effected-heard w fits o (Command.document_of x) plain
-  perform-heard w fits o (Command.children x) plain new = effected-heard w fits o (Command.children x) plain
-  perform-heard w fits o (Command.contains x y) plain new = effected-heard w fits o (Command.contains x y) plain
   perform-heard w fits o (Command.connected x) plain new =
       ap (λ (p : Part). answering o (a_truth (is_connected (heard of w) (named p x))) (heard of w)) (part-heard of w fits o)
       ∙ ap (λ b. answering o (a_truth b) (heard of w)) (connected-heard of w fits (named (part_of w o) x))
-  perform-heard w fits o (Command.shadow_root x) plain new = effected-heard w fits o (Command.shadow_root x) plain
-  perform-heard w fits o (Command.slot_of x) plain new = effected-heard w fits o (Command.slot_of x) plain
   perform-heard w fits o (Command.assigned x) plain new =
       ap (λ (p : Part). answering o (a_list (assigned (heard of w) (named p x))) (heard of w)) (part-heard of w fits o)
       ∙ ap (λ xs. answering o (a_list xs) (heard of w)) (assigned-heard of w fits (named (part_of w o) x))
-  perform-heard w fits o Command.range_new plain new = effected-heard w fits o Command.range_new plain
-  perform-heard w fits o (Command.range_start r x i) plain new = effected-heard w fits o (Command.range_start r x i) plain
-  perform-heard w fits o (Command.range_end r x i) plain new = effected-heard w fits o (Command.range_end r x i) plain
-  perform-heard w fits o (Command.range_collapse r s) plain new = effected-heard w fits o (Command.range_collapse r s) plain
-  perform-heard w fits o (Command.range_drop r) plain new = effected-heard w fits o (Command.range_drop r) plain
-  perform-heard w fits o (Command.range_get r) plain new = effected-heard w fits o (Command.range_get r) plain
-  perform-heard w fits o (Command.range_text r) plain new = effected-heard w fits o (Command.range_text r) plain
-  perform-heard w fits o (Command.extract r) plain new = effected-heard w fits o (Command.extract r) plain
-  perform-heard w fits o (Command.delete r) plain new = effected-heard w fits o (Command.delete r) plain
-  perform-heard w fits o (Command.insert_node r x) plain new = effected-heard w fits o (Command.insert_node r x) plain
-  perform-heard w fits o (Command.iterator_new x f) plain new = effected-heard w fits o (Command.iterator_new x f) plain
-  perform-heard w fits o (Command.walker_new x f) plain new = effected-heard w fits o (Command.walker_new x f) plain
-  perform-heard w fits o (Command.iterator_next i) plain new = effected-heard w fits o (Command.iterator_next i) plain
-  perform-heard w fits o (Command.iterator_previous i) plain new = effected-heard w fits o (Command.iterator_previous i) plain
-  perform-heard w fits o (Command.iterator_at i) plain new = effected-heard w fits o (Command.iterator_at i) plain
-  perform-heard w fits o (Command.walk i m) plain new = effected-heard w fits o (Command.walk i m) plain
-  perform-heard w fits o (Command.walker_at i) plain new = effected-heard w fits o (Command.walker_at i) plain
-  perform-heard w fits o (Command.walker_set i x) plain new = effected-heard w fits o (Command.walker_set i x) plain
-  perform-heard w fits o (Command.query x s) plain new = effected-heard w fits o (Command.query x s) plain
-  perform-heard w fits o (Command.matches x s) plain new = effected-heard w fits o (Command.matches x s) plain
   perform-heard w fits o (Command.listen x words) plain new = absurd cc
   perform-heard w fits o (Command.unlisten x e l c) plain new = absurd cc
   perform-heard w fits o (Command.dispatch x e related) plain new = absurd cc
-  perform-heard w fits o Command.observer plain new = effected-heard w fits o Command.observer plain
-  perform-heard w fits o (Command.observe i x words) plain new = effected-heard w fits o (Command.observe i x words) plain
-  perform-heard w fits o (Command.disconnect i) plain new = effected-heard w fits o (Command.disconnect i) plain
-  perform-heard w fits o (Command.take i) plain new = effected-heard w fits o (Command.take i) plain
   perform-heard w fits o (Command.micro label) plain new = refl
   perform-heard w fits o Command.end_turn plain new = absurd cc
+  perform-heard w fits o c plain new = effected-heard w fits o c plain
 
   -- accepted commands
   pub accepted-heard : (w : World) → FitsIn of w → (o : Owner) (c : Command) → is_plain c ≡ true → IsNew (opening_turn w o) o c →

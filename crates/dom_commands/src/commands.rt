@@ -1,11 +1,10 @@
 //! Which handler does a command.
-ghost use Rattle.std.specs.Prelude.{◌≡◌, ◌||◌, true};
+ghost use Rattle.std.specs.Prelude.{◌≡◌, true, false};
 ghost use Rattle.dom_worlds.specs.Bounds.{IsBounded};
 ghost use Rattle.dom_reader.specs.Views.{command_view};
 ghost use Rattle.dom_admission.specs.Handled.{IsHandled, KeepsNames};
-ghost use Rattle.dom_range_commands.specs.RangeCommands.{is_range};
 ghost use Rattle.dom_range_commands.specs.RangeWorlds.{HasFirstNodes, HasLoneShadowRoots, HasRangeEnds};
-ghost use Rattle.dom_commands.specs.CommandGroups.{is_plain, is_question};
+ghost use Rattle.dom_commands.specs.CommandGroups.{is_plain, is_change};
 
 use dom_admission::State;
 use dom_base::{Fault, Owner};
@@ -66,7 +65,8 @@ pub(crate) fn perform(
 
 /// A command that asks or is on live ranges, by its handler.
 fn ask(state: &mut State, owner: Owner, command: Command, out: &mut Vec<u8>) -> Result<(), Fault>
-    requires question { (is_question (command_view command) || is_range (command_view command)) ≡ true }
+    requires plain { is_plain (command_view command) ≡ true }
+    requires unchanging { is_change (command_view command) ≡ false }
     requires bounds { IsBounded state.old.world }
     requires first { HasFirstNodes state.old.world }
     requires ends { HasRangeEnds state.old.world }

@@ -51,6 +51,10 @@ plain-string_or_null : (o : Option (List ℕ)) → IsPlainValue (string_or_null 
 plain-string_or_null None = tt
 plain-string_or_null (Some s) = tt
 
+-- a value without words
+plain-nothing : ⊤
+plain-nothing = tt
+
 -- of a thing that may not be there
 plain-some : {X : Type 0} (o : Option X) (f : X → Effect) (d : Effect) → ((x : X) → IsPlainEffect (f x)) → IsPlainEffect d → IsPlainEffect (option_map_or f o d)
 plain-some None f d h g = g
@@ -92,9 +96,6 @@ plain-effect p i (Command.extract a) h = tt
 plain-effect p i (Command.delete a) h = tt
 plain-effect p i (Command.insert_node a b) h = tt
 plain-effect p i (Command.tree a) h = (i, tt, nodes-subtree IsPlainNode p.trees (named p a) i.0)
-plain-effect p i (Command.attribute a b) h = (i, tt, plain-string_or_null (attribute_value (node_in p.trees (named p a)) b))
-plain-effect p i (Command.parent a) h = (i, tt, plain-node_or_null (parent_of p.trees (named p a)))
-plain-effect p i (Command.document_of a) h = (i, tt, plain-node_or_null (node_in p.trees (named p a)).document)
 plain-effect p i (Command.range_get a) h =
     plain-some (range_at p a) (λ (r : Range NodeName). answers p (boundaries r.start r.end)) (answers p nothing) (λ r. (i, tt, tt)) (i, tt, tt)
 plain-effect p i (Command.range_text a) h =
@@ -127,7 +128,7 @@ plain-effect p i (Command.take a) h = (
       (queue_of p.record_queues a) (plain-queue p.record_queues a i.2),
   tt,
 )
-plain-effect p i c h = (i, tt, tt)
+plain-effect p i c h = (i, tt, search (plain-node_or_null, plain-string_or_null, plain-nothing))
 
 -- what it makes, and the attributes that it names
 plain-may_do : (p : Part) (c : Command) → HasPlainWords c → MayDo IsPlainStep (λ x. ⊤) p c

@@ -4,18 +4,18 @@ use Rattle.dom_base.specs.declared.Owner.{Owner}
 use Rattle.dom_base.specs.declared.Owner.TheVariants.{Page, Component}
 use Rattle.dom_base.specs.declared.Kind.{Kind}
 use Rattle.dom_base.specs.declared.Kind.TheVariants as kinds
-use Rattle.dom_model.specs.Command.{Command, new_element, new_text, new_comment, new_fragment, new_document, attach, append, insert, replace, remove}
-use Rattle.dom_model.specs.Command.{adopt, normalize, set_attribute, unset_attribute, set_data, replace_data, split, set_text, tree, attribute}
-use Rattle.dom_model.specs.Command.{parent, document_of, children, contains, connected, shadow_root, slot_of, assigned, range_new, range_start}
+use Rattle.dom_model.specs.Command.{Command, NodeWord, new_element, new_text, new_comment, new_fragment, new_document, append, insert, replace}
+use Rattle.dom_model.specs.Command.{adopt, set_attribute, unset_attribute, set_data, replace_data, split, set_text, attribute}
+use Rattle.dom_model.specs.Command.{contains, assigned, range_new, range_start}
 use Rattle.dom_model.specs.Command.{range_end, range_collapse, range_drop, range_get, range_text, extract, delete, insert_node, iterator_new}
 use Rattle.dom_model.specs.Command.{walker_new, iterator_next, iterator_previous, iterator_at, walk, walker_at, walker_set, query, matches, listen}
 use Rattle.dom_model.specs.Command.{unlisten, dispatch, observer, observe, disconnect, take, micro, end_turn}
 use Rattle.dom_text.specs.declared.Keyword.{Keyword}
 use Rattle.dom_text.specs.declared.Keyword.TheVariants as keyword
 use Rattle.dom_text.specs.Words.{kind_word, new_kinds, keyword_word}
-use Rattle.dom_text.specs.Grammar.{LinePart, key, word, string, parts, MayUse, Spells}
+use Rattle.dom_text.specs.Grammar.{LinePart, key, word, string, node, parts, MayUse, Spells}
 use Rattle.dom_text.specs.Readers.{◌>>=◌, next_as, named}
-use Rattle.dom_text.specs.Decode.{new_of, new_at, command_behind, keyword_of, command_at}
+use Rattle.dom_text.specs.Decode.{new_of, new_at, node_at, one, command_behind, keyword_of, command_at}
 use Rattle.dom_text.proofs.PartLaws.{next_word_reads, next_as_reads, Spells-ends, at_end_complete, one_complete, two_complete, three_complete, four_complete}
 use Rattle.dom_text.proofs.StringLaws.{next_string_reads}
 use Rattle.dom_text.proofs.CommandParts.{node_reads, number_reads, range_reads, iterator_reads, walker_reads, observer_reads, label_reads, move_reads}
@@ -28,13 +28,10 @@ use Rattle.dom_text.proofs.EventForms.{dispatch_sound, dispatch_complete, observ
 pub command_sound : (k : Keyword) (o : Owner) (bytes : List ℕ) (c : Command) → command_behind k o bytes ≡ Some c → IsBehind k o bytes c
 command_sound keyword.New o bytes c e = new_behind o bytes c e
 command_sound keyword.Document o bytes c e = none_behind new_document keyword.Document o bytes c (λ s. (tt, s)) e
-command_sound keyword.Attach o bytes c e = one_behind (node_reads o) attach keyword.Attach o bytes c (λ a s. (tt, s)) e
 command_sound keyword.Append o bytes c e = two_behind (node_reads o) (node_reads o) append keyword.Append o bytes c (λ a b s. (tt, s)) e
 command_sound keyword.Insert o bytes c e = three_behind (node_reads o) (node_reads o) (node_reads o) insert keyword.Insert o bytes c (λ a b d s. (tt, s)) e
 command_sound keyword.Replace o bytes c e = three_behind (node_reads o) (node_reads o) (node_reads o) replace keyword.Replace o bytes c (λ a b d s. (tt, s)) e
-command_sound keyword.Remove o bytes c e = one_behind (node_reads o) remove keyword.Remove o bytes c (λ a s. (tt, s)) e
 command_sound keyword.Adopt o bytes c e = two_behind (node_reads o) (node_reads o) adopt keyword.Adopt o bytes c (λ a b s. (tt, s)) e
-command_sound keyword.Normalize o bytes c e = one_behind (node_reads o) normalize keyword.Normalize o bytes c (λ a s. (tt, s)) e
 command_sound keyword.Set o bytes c e = three_behind (node_reads o) next_word_reads next_string_reads set_attribute keyword.Set o bytes c (λ a b d s. (tt, s)) e
 command_sound keyword.Unset o bytes c e = two_behind (node_reads o) next_word_reads unset_attribute keyword.Unset o bytes c (λ a b s. (tt, s)) e
 command_sound keyword.Data o bytes c e = two_behind (node_reads o) next_string_reads set_data keyword.Data o bytes c (λ a b s. (tt, s)) e
@@ -42,15 +39,8 @@ command_sound keyword.ReplaceData o bytes c e =
     four_behind (node_reads o) number_reads number_reads next_string_reads replace_data keyword.ReplaceData o bytes c (λ a b d e s. (tt, s)) e
 command_sound keyword.Split o bytes c e = two_behind (node_reads o) number_reads split keyword.Split o bytes c (λ a b s. (tt, s)) e
 command_sound keyword.Text o bytes c e = two_behind (node_reads o) next_string_reads set_text keyword.Text o bytes c (λ a b s. (tt, s)) e
-command_sound keyword.Tree o bytes c e = one_behind (node_reads o) tree keyword.Tree o bytes c (λ a s. (tt, s)) e
 command_sound keyword.Attr o bytes c e = two_behind (node_reads o) next_word_reads attribute keyword.Attr o bytes c (λ a b s. (tt, s)) e
-command_sound keyword.Parent o bytes c e = one_behind (node_reads o) parent keyword.Parent o bytes c (λ a s. (tt, s)) e
-command_sound keyword.Docof o bytes c e = one_behind (node_reads o) document_of keyword.Docof o bytes c (λ a s. (tt, s)) e
-command_sound keyword.Children o bytes c e = one_behind (node_reads o) children keyword.Children o bytes c (λ a s. (tt, s)) e
 command_sound keyword.Contains o bytes c e = two_behind (node_reads o) (node_reads o) contains keyword.Contains o bytes c (λ a b s. (tt, s)) e
-command_sound keyword.Connected o bytes c e = one_behind (node_reads o) connected keyword.Connected o bytes c (λ a s. (tt, s)) e
-command_sound keyword.ShadowRoot o bytes c e = one_behind (node_reads o) shadow_root keyword.ShadowRoot o bytes c (λ a s. (tt, s)) e
-command_sound keyword.SlotOf o bytes c e = one_behind (node_reads o) slot_of keyword.SlotOf o bytes c (λ a s. (tt, s)) e
 command_sound keyword.Assigned o bytes c e = assigned_behind o bytes c e
 command_sound keyword.RangeNew o bytes c e = none_behind range_new keyword.RangeNew o bytes c (λ s. (tt, s)) e
 command_sound keyword.RangeStart o bytes c e =
@@ -86,6 +76,8 @@ command_sound keyword.Disconnect o bytes c e = one_behind observer_reads disconn
 command_sound keyword.Take o bytes c e = one_behind observer_reads take keyword.Take o bytes c (λ a s. (tt, s)) e
 command_sound keyword.Micro o bytes c e = one_behind label_reads micro keyword.Micro o bytes c (λ a s. (tt, s)) e
 command_sound keyword.End o bytes c e = none_behind end_turn keyword.End o bytes c (λ s. (tt, s)) e
+-- a keyword and a node
+command_sound k o bytes c e = one_behind (node_reads o) _ k o bytes c (λ a s. (tt, s)) e
 
 -- ---- each command is read
 
@@ -109,16 +101,24 @@ at_kind k behind bytes s found =
     rw (s.4) (kind_reads.complete s.0 s.1 k (s.2, ap (named kind_word new_kinds) s.2 ∙ found) (Spells-ends behind s.1 s.3)) in
     ap (λ (x : Option (Kind × List ℕ)). x >>= λ kind. new_of kind.0 kind.1) read
 
+-- a line with a keyword and a node in front is read to its end
+node_complete : (makes : NodeWord → Command) (k : Keyword) (name : List ℕ) (o : Owner) (n : NodeWord) (said : List ℕ) → keyword_of name ≡ Some k →
+    ((bytes : List ℕ) → command_behind k o bytes ≡ one (node_at o) makes bytes) → Spells (key name ∷ node o n ∷ []) said →
+    command_at o said ≡ Some (makes n)
+node_complete makes k name o n said found is s =
+    let spelled : Spells (key (keyword_word k) ∷ node o n ∷ []) said =
+    subst (λ w. Spells (key w ∷ node o n ∷ []) said) (keyword_says.sound name k found) s in
+    at k o (node o n ∷ []) said spelled ∙ is spelled.1 ∙ one_complete (node_reads o) makes spelled.1 n spelled.3
+
 pub command_complete : (o : Owner) (c : Command) (said : List ℕ) → MayUse c o → Spells (parts o c) said → command_at o said ≡ Some c
+unfolding keyword_of
 command_complete o new_document said u s = at keyword.Document o [] said s ∙ at_end_complete new_document s.1 s.3
 command_complete o (append a b) said u s = at keyword.Append o (others o (append a b)) said s ∙ two_complete (node_reads o) (node_reads o) append s.1 a b s.3
 command_complete o (insert a b d) said u s =
     at keyword.Insert o (others o (insert a b d)) said s ∙ three_complete (node_reads o) (node_reads o) (node_reads o) insert s.1 a b d s.3
 command_complete o (replace a b d) said u s =
     at keyword.Replace o (others o (replace a b d)) said s ∙ three_complete (node_reads o) (node_reads o) (node_reads o) replace s.1 a b d s.3
-command_complete o (remove a) said u s = at keyword.Remove o (others o (remove a)) said s ∙ one_complete (node_reads o) remove s.1 a s.3
 command_complete o (adopt a b) said u s = at keyword.Adopt o (others o (adopt a b)) said s ∙ two_complete (node_reads o) (node_reads o) adopt s.1 a b s.3
-command_complete o (normalize a) said u s = at keyword.Normalize o (others o (normalize a)) said s ∙ one_complete (node_reads o) normalize s.1 a s.3
 command_complete o (set_attribute a b d) said u s =
     at keyword.Set o (others o (set_attribute a b d)) said s ∙ three_complete (node_reads o) next_word_reads next_string_reads set_attribute s.1 a
     b d s.3
@@ -132,17 +132,10 @@ command_complete o (replace_data a b d e) said u s =
 command_complete o (split a b) said u s = at keyword.Split o (others o (split a b)) said s ∙ two_complete (node_reads o) number_reads split s.1 a b s.3
 command_complete o (set_text a b) said u s =
     at keyword.Text o (others o (set_text a b)) said s ∙ two_complete (node_reads o) next_string_reads set_text s.1 a b s.3
-command_complete o (tree a) said u s = at keyword.Tree o (others o (tree a)) said s ∙ one_complete (node_reads o) tree s.1 a s.3
 command_complete o (attribute a b) said u s =
     at keyword.Attr o (others o (attribute a b)) said s ∙ two_complete (node_reads o) next_word_reads attribute s.1 a b s.3
-command_complete o (parent a) said u s = at keyword.Parent o (others o (parent a)) said s ∙ one_complete (node_reads o) parent s.1 a s.3
-command_complete o (document_of a) said u s = at keyword.Docof o (others o (document_of a)) said s ∙ one_complete (node_reads o) document_of s.1 a s.3
-command_complete o (children a) said u s = at keyword.Children o (others o (children a)) said s ∙ one_complete (node_reads o) children s.1 a s.3
 command_complete o (contains a b) said u s =
     at keyword.Contains o (others o (contains a b)) said s ∙ two_complete (node_reads o) (node_reads o) contains s.1 a b s.3
-command_complete o (connected a) said u s = at keyword.Connected o (others o (connected a)) said s ∙ one_complete (node_reads o) connected s.1 a s.3
-command_complete o (shadow_root a) said u s = at keyword.ShadowRoot o (others o (shadow_root a)) said s ∙ one_complete (node_reads o) shadow_root s.1 a s.3
-command_complete o (slot_of a) said u s = at keyword.SlotOf o (others o (slot_of a)) said s ∙ one_complete (node_reads o) slot_of s.1 a s.3
 command_complete o range_new said u s = at keyword.RangeNew o [] said s ∙ at_end_complete range_new s.1 s.3
 command_complete o (range_start a b d) said u s =
     at keyword.RangeStart o (others o (range_start a b d)) said s ∙ three_complete range_reads (node_reads o) number_reads range_start s.1 a b d s.3
@@ -184,7 +177,6 @@ command_complete o (new_comment d) said u s =
     one_complete next_string_reads new_comment s.3.1 d s.3.3
 command_complete o new_fragment said u s =
     at keyword.New o (others o new_fragment) said s ∙ at_kind kinds.Fragment [] s.1 s.3 refl ∙ at_end_complete new_fragment s.3.1 s.3.3
-command_complete o (attach e) said u s = at keyword.Attach o (others o (attach e)) said s ∙ one_complete (node_reads o) attach s.1 e s.3
 command_complete Page (assigned e) said u s = absurd u
 command_complete (Component q) (assigned e) said u s =
     at keyword.Assigned (Component q) (others (Component q) (assigned e)) said s ∙ one_complete (node_reads (Component q)) assigned s.1 e s.3
@@ -195,3 +187,5 @@ command_complete o (unlisten n event l capture) said u s =
     at keyword.Unlisten o (others o (unlisten n event l capture)) said s ∙ unlisten_complete o n event l capture s.1 s.3
 command_complete o (dispatch n e r) said u s = at keyword.Dispatch o (others o (dispatch n e r)) said s ∙ dispatch_complete o n e r s.1 s.3
 command_complete o (observe k n w) said u s = at keyword.Observe o (others o (observe k n w)) said s ∙ observe_complete o k n w s.1 s.3
+-- a keyword and a node
+command_complete o c said u s = node_complete _ _ _ o _ said refl (λ bytes. refl) s

@@ -9,13 +9,10 @@ use Rattle.dom_base.specs.declared.Owner.{Owner}
 use Rattle.dom_base.specs.declared.Move.{Move}
 use Rattle.dom_base.specs.declared.Action.{Action}
 use Rattle.dom_model.specs.Names.{Word}
-use Rattle.dom_model.specs.Command.{NodeWord, Filter, ListenerWords, EventWords, ObserveWords, Command, new_element, new_text, new_comment}
-use Rattle.dom_model.specs.Command.{new_fragment, new_document, attach, append, insert, replace, remove, adopt, normalize, set_attribute}
-use Rattle.dom_model.specs.Command.{unset_attribute, set_data, replace_data, split, set_text, tree, attribute, parent, document_of, children}
-use Rattle.dom_model.specs.Command.{contains, connected, shadow_root, slot_of, assigned, range_new, range_start, range_end, range_collapse}
-use Rattle.dom_model.specs.Command.{range_drop, range_get, range_text, extract, delete, insert_node, iterator_new, walker_new, iterator_next}
-use Rattle.dom_model.specs.Command.{iterator_previous, iterator_at, walk, walker_at, walker_set, query, matches, listen, unlisten, dispatch, observer}
-use Rattle.dom_model.specs.Command.{observe, disconnect, take, micro, end_turn}
+use Rattle.dom_model.specs.Command.{NodeWord, Filter, ListenerWords, EventWords, ObserveWords, Command, new_element}
+use Rattle.dom_model.specs.Command.{iterator_new, walker_new}
+use Rattle.dom_model.specs.Command.{listen, unlisten, dispatch}
+use Rattle.dom_model.specs.Command.{observe}
 use Rattle.dom_text.specs.Words.{end_word, move_word, action_word}
 use Rattle.dom_text.specs.Tokens.{IsWord, IsItem, itself, quote, backslash, by_digits, AreItems, IsNameFilter, IsAttributeFilter}
 use Rattle.dom_text.specs.Grammar.{LinePart, key, word, label, string, number, node, range, iterator, walker, observed, flag, perhaps, filter_parts}
@@ -145,69 +142,29 @@ printable_observe w = printable_flag w.child_list (codes "childList") _ refl
 
 printable_parts : (o : Owner) (c : Command) → PrintableParts (parts o c)
 printable_parts o (new_element name) = (printable_key (codes "new") refl, (printable_key (codes "element") refl, (printable_word name, tt)))
-printable_parts o (new_text data') = (printable_key (codes "new") refl, (printable_key (codes "text") refl, (printable_string data', tt)))
-printable_parts o (new_comment data') = (printable_key (codes "new") refl, (printable_key (codes "comment") refl, (printable_string data', tt)))
-printable_parts o new_fragment = (printable_key (codes "new") refl, (printable_key (codes "fragment") refl, tt))
-printable_parts o new_document = (printable_key (codes "document") refl, tt)
-printable_parts o (attach e) = (printable_key (codes "attach") refl, (printable_node o e, tt))
-printable_parts o (append p n) = (printable_key (codes "append") refl, (printable_node o p, (printable_node o n, tt)))
-printable_parts o (insert p n c) = (printable_key (codes "insert") refl, (printable_node o p, (printable_node o n, (printable_node o c, tt))))
-printable_parts o (replace p n c) = (printable_key (codes "replace") refl, (printable_node o p, (printable_node o n, (printable_node o c, tt))))
-printable_parts o (remove n) = (printable_key (codes "remove") refl, (printable_node o n, tt))
-printable_parts o (adopt d n) = (printable_key (codes "adopt") refl, (printable_node o d, (printable_node o n, tt)))
-printable_parts o (normalize n) = (printable_key (codes "normalize") refl, (printable_node o n, tt))
-printable_parts o (set_attribute e name value) = (printable_key (codes "set") refl, (printable_node o e, (printable_word name, (printable_string value, tt))))
-printable_parts o (unset_attribute e name) = (printable_key (codes "unset") refl, (printable_node o e, (printable_word name, tt)))
-printable_parts o (set_data t data') = (printable_key (codes "data") refl, (printable_node o t, (printable_string data', tt)))
-printable_parts o (replace_data t offset count data') = (
-  printable_key (codes "replace-data") refl,
-  (printable_node o t, (printable_number offset, (printable_number count, (printable_string data', tt)))),
-)
-printable_parts o (split n offset) = (printable_key (codes "split") refl, (printable_node o n, (printable_number offset, tt)))
-printable_parts o (set_text n data') = (printable_key (codes "text") refl, (printable_node o n, (printable_string data', tt)))
-printable_parts o (tree n) = (printable_key (codes "tree") refl, (printable_node o n, tt))
-printable_parts o (attribute e name) = (printable_key (codes "attr") refl, (printable_node o e, (printable_word name, tt)))
-printable_parts o (parent n) = (printable_key (codes "parent") refl, (printable_node o n, tt))
-printable_parts o (document_of n) = (printable_key (codes "docof") refl, (printable_node o n, tt))
-printable_parts o (children n) = (printable_key (codes "children") refl, (printable_node o n, tt))
-printable_parts o (contains a n) = (printable_key (codes "contains") refl, (printable_node o a, (printable_node o n, tt)))
-printable_parts o (connected n) = (printable_key (codes "connected") refl, (printable_node o n, tt))
-printable_parts o (shadow_root e) = (printable_key (codes "shadow-root") refl, (printable_node o e, tt))
-printable_parts o (slot_of n) = (printable_key (codes "slot-of") refl, (printable_node o n, tt))
-printable_parts o (assigned e) = (printable_key (codes "assigned") refl, (printable_node o e, tt))
-printable_parts o range_new = (printable_key (codes "range-new") refl, tt)
-printable_parts o (range_start r n offset) =
-    (printable_key (codes "range-start") refl, (printable_range r, (printable_node o n, (printable_number offset, tt))))
-printable_parts o (range_end r n offset) = (printable_key (codes "range-end") refl, (printable_range r, (printable_node o n, (printable_number offset, tt))))
-printable_parts o (range_collapse r to_start) = (printable_key (codes "range-collapse") refl, (printable_range r, (printable_end to_start, tt)))
-printable_parts o (range_drop r) = (printable_key (codes "range-drop") refl, (printable_range r, tt))
-printable_parts o (range_get r) = (printable_key (codes "range-get") refl, (printable_range r, tt))
-printable_parts o (range_text r) = (printable_key (codes "range-text") refl, (printable_range r, tt))
-printable_parts o (extract r) = (printable_key (codes "extract") refl, (printable_range r, tt))
-printable_parts o (delete r) = (printable_key (codes "delete") refl, (printable_range r, tt))
-printable_parts o (insert_node r n) = (printable_key (codes "insert-node") refl, (printable_range r, (printable_node o n, tt)))
 printable_parts o (iterator_new n filter) = (printable_key (codes "iter-new") refl, (printable_node o n, printable_filter filter))
 printable_parts o (walker_new n filter) = (printable_key (codes "walk-new") refl, (printable_node o n, printable_filter filter))
-printable_parts o (iterator_next i) = (printable_key (codes "iter-next") refl, (printable_iterator i, tt))
-printable_parts o (iterator_previous i) = (printable_key (codes "iter-prev") refl, (printable_iterator i, tt))
-printable_parts o (iterator_at i) = (printable_key (codes "iter-at") refl, (printable_iterator i, tt))
-printable_parts o (walk w move) = (printable_key (codes "walk") refl, (printable_walker w, (printable_move move, tt)))
-printable_parts o (walker_at w) = (printable_key (codes "walk-at") refl, (printable_walker w, tt))
-printable_parts o (walker_set w n) = (printable_key (codes "walk-set") refl, (printable_walker w, (printable_node o n, tt)))
-printable_parts o (query n selector) = (printable_key (codes "query") refl, (printable_node o n, (printable_string selector, tt)))
-printable_parts o (matches e selector) = (printable_key (codes "matches") refl, (printable_node o e, (printable_string selector, tt)))
 printable_parts o (listen n l) = (printable_key (codes "listen") refl, (printable_node o n, printable_listener l))
 printable_parts o (unlisten n event l capture) = (
   printable_key (codes "unlisten") refl,
   (printable_node o n, (printable_label event, (printable_label l, printable_flag capture (codes "capture") [] refl tt))),
 )
 printable_parts o (dispatch n e related) = (printable_key (codes "dispatch") refl, (printable_node o n, printable_event o e related))
-printable_parts o observer = (printable_key (codes "observer") refl, tt)
 printable_parts o (observe b n w) = (printable_key (codes "observe") refl, (printable_observed b, (printable_node o n, printable_observe w)))
-printable_parts o (disconnect b) = (printable_key (codes "disconnect") refl, (printable_observed b, tt))
-printable_parts o (take b) = (printable_key (codes "take") refl, (printable_observed b, tt))
-printable_parts o (micro l) = (printable_key (codes "micro") refl, (printable_label l, tt))
-printable_parts o end_turn = (printable_key (codes ".") refl, tt)
+printable_parts o c = search (
+  printable_key,
+  printable_word,
+  printable_label,
+  printable_string,
+  printable_number,
+  printable_node,
+  printable_range,
+  printable_iterator,
+  printable_walker,
+  printable_observed,
+  printable_end,
+  printable_move,
+)
 
 spelled_printable : (those : List LinePart) (text : List ℕ) → PrintableParts those → Spells those text → IsPrintable text
 spelled_printable [] text h s = rw s tt
