@@ -15,9 +15,9 @@ use Rattle.dom_admission.specs.Refusals.{number_in}
 use Rattle.dom_model.specs.World.{World, part_of}
 use Rattle.dom_model.proofs.PartLaws.{owner-part_of}
 use Rattle.dom_model.specs.Tree.{Trees, Node, nodes, names_of, has_node, node_in, no_node, is_document}
+use Rattle.dom_model.proofs.OwnerLaws.{name_eq-turned}
 use Rattle.dom_tree.specs.Forest.{name_at}
 use Rattle.dom_tree.specs.Owners.{trees_of_owner, AreOwned}
-use Rattle.dom_tree.proofs.Names.{name_eq-turned}
 use Rattle.dom_tree.proofs.Owned.{read_own}
 
 -- a node that is counted once is there

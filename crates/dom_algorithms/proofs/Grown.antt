@@ -16,10 +16,9 @@ use Rattle.dom_model.specs.Steps.{make}
 use Rattle.dom_model.specs.World.{World, part_of}
 use Rattle.dom_model.specs.Changes.{◌and_then◌, doing}
 use Rattle.dom_model.specs.TextChanges.{new_text_node, placing_tail, replacing_data, splitting}
-use Rattle.dom_model.proofs.OwnerLaws.{name_eq-same}
+use Rattle.dom_model.proofs.OwnerLaws.{name_eq-same, name_eq-true}
 use Rattle.dom_model.proofs.PartLaws.{owner-part_of}
 use Rattle.dom_tree.specs.Forest.{name_at}
-use Rattle.dom_tree.proofs.Names.{name_eq-true}
 use Rattle.dom_tree.proofs.Once.{times_in, times_in-none, times_in-tree, one-true}
 use Rattle.dom_parts.specs.Doc.{DocState, made, planned, name_in, owner_in, trees_in, cutting_tail}
 use Rattle.dom_tree_laws.proofs.Paths.{lacks_to, IsOnce, path_after, path_lacks}

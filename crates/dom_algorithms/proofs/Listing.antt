@@ -7,8 +7,7 @@ use Rattle.dom_base.specs.declared.NodeName.{NodeName}
 use Rattle.dom_model.specs.Names.{name_eq, first_of, items_after, items_before, is_in}
 use Rattle.dom_model.specs.Tree.{parent_of, children_of, next_sibling}
 use Rattle.dom_model.specs.World.{part_of}
-use Rattle.dom_model.proofs.OwnerLaws.{name_eq-same}
-use Rattle.dom_tree.proofs.Names.{name_eq-true}
+use Rattle.dom_model.proofs.OwnerLaws.{name_eq-same, name_eq-true}
 use Rattle.dom_parts.specs.Doc.{DocState, name_in, owner_in, trees_in, IsOwnNode}
 use Rattle.dom_tree_laws.proofs.Relatives.{Each, children_parent, children_once, next_walked}
 use Rattle.dom_tree_laws.proofs.Covering.{walked, left, StandsIn, Walks, walks}

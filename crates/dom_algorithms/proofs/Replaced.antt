@@ -9,8 +9,8 @@ use Rattle.dom_model.specs.Output.{child_list}
 use Rattle.dom_model.specs.Steps.{queue_record}
 use Rattle.dom_model.specs.World.{part_of}
 use Rattle.dom_model.specs.Changes.{◌and_then◌, doing, suppressed, removing, inserting, placed_nodes, reference_for, replacing}
+use Rattle.dom_model.proofs.OwnerLaws.{name_eq-true}
 use Rattle.dom_tree.specs.Forest.{name_at}
-use Rattle.dom_tree.proofs.Names.{name_eq-true}
 use Rattle.dom_parts.specs.Doc.{DocState, planned, stepped, name_in, owner_in, trees_in, IsChild}
 use Rattle.dom_parts.specs.Hosting.{IsAlone}
 use Rattle.dom_tree_laws.proofs.Paths.{Lacks, lacks_both, lacks_to, swapped, IsOnce, once_parts, path_here, path_after, path_below, path_lacks}

@@ -7,7 +7,7 @@ use Rattle.dom_model.specs.Steps.{split_at}
 use Rattle.dom_model.specs.World.{part_of}
 use Rattle.dom_model.specs.Changes.{Plan, ◌and_then◌, doing, observed, inserting}
 use Rattle.dom_model.specs.TextChanges.{placing_tail}
-use Rattle.dom_tree.proofs.Names.{name_eq-true}
+use Rattle.dom_model.proofs.OwnerLaws.{name_eq-true}
 use Rattle.dom_parts.specs.Doc.{DocState, planned, stepped, name_in, owner_in, trees_in, MayMove, IsChild}
 use Rattle.dom_parts.specs.Hosting.{IsAlone}
 use Rattle.dom_tree_laws.proofs.Paths.{Lacks, lacks_from, lacks_to}

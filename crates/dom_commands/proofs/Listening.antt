@@ -19,10 +19,9 @@ use Rattle.dom_model.specs.Listeners.{Listener, Visit, Dispatching, after_action
 use Rattle.dom_model.specs.Listeners.{called, hears, visited}
 use Rattle.dom_model.specs.Names.{Word, owner_eq, name_eq, text_eq, node_of}
 use Rattle.dom_model.specs.World.{World, is_there}
-use Rattle.dom_model.proofs.OwnerLaws.{owner_eq-true, owner_eq-same, ne-owner_eq}
+use Rattle.dom_model.proofs.OwnerLaws.{owner_eq-true, owner_eq-same, ne-owner_eq, name_eq-true}
 use Rattle.dom_model.proofs.PartLaws.{owner-part_of}
 use Rattle.dom_worlds.proofs.Lists.{all-filter, all-append}
-use Rattle.dom_worlds.proofs.Trees.{name_eq-true}
 use Rattle.dom_worlds.proofs.Tests.{by_cases, either_way}
 use Rattle.dom_tree.specs.Forest.{name_at}
 use Rattle.dom_dispatch.specs.Kept.{is_of_owner, HasListeners}

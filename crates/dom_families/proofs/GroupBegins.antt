@@ -18,8 +18,9 @@ use Rattle.dom_model.specs.Turns.{is_other_component, has_other_turn, ending_oth
 use Rattle.dom_model.specs.Groups.{KeepsFamilies, group_world, group_turn, group_run, is_task_of}
 use Rattle.dom_model.specs.Trace.{is_of}
 use Rattle.dom_model.proofs.OwnerLaws.{owner_eq-true, ne-owner_eq}
+use Rattle.dom_model.proofs.TurnLaws.{turn-ending_turn}
 use Rattle.dom_worlds.specs.Reached.{IsQuiet}
-use Rattle.dom_worlds.proofs.LineBegins.{turn-ending_turn, quiet-opening}
+use Rattle.dom_worlds.proofs.LineBegins.{quiet-opening}
 use Rattle.dom_worlds.proofs.Tests.{by_cases}
 use Rattle.dom_worlds.proofs.Visits.{rest-visits}
 use Rattle.dom_families.specs.Laws.{IsCalm}

@@ -1,6 +1,6 @@
 -- A dispatch as a group has it: of one of its nodes the same in two worlds of which it has the same, and of another node nothing, or the
 -- outward event at its host.
-use Rattle.std.proofs.Common.{◌≡◌, Bool, true, false, ◌&&◌, [], ◌++◌, filter, Option, Some, None, option_map, unwrap_or}
+use Rattle.std.proofs.Common.{◌≡◌, Bool, true, false, ◌&&◌, [], ◌++◌, filter, Option, Some, None, unwrap_or}
 use Rattle.std.proofs.Common.{refl, sym, ap, ◌∙◌, subst, true≢false, append-nil}
 use Rattle.std.specs.Prelude.{if◌then◌else◌, is_some, option_to_list}
 use Rattle.std.specs.List.{AllByRecursion}
@@ -20,7 +20,7 @@ use Rattle.dom_model.specs.Trace.{OutwardEvent, is_page, is_of, owner_of_output,
 use Rattle.dom_model.proofs.OwnerLaws.{owner_eq-true, owner_eq-false}
 use Rattle.dom_worlds.specs.Reached.{IsQuiet}
 use Rattle.dom_worlds.proofs.Chains.{below-host, hosts-alone, no_host}
-use Rattle.dom_isolation.proofs.ComponentEvents.{outward_at, HasSameRoot, above-sibling}
+use Rattle.dom_isolation.proofs.ComponentEvents.{outward_at, HasSameRoot, above-sibling, no_outward-kept, no_outward-outside, outward-composed}
 use Rattle.dom_worlds.proofs.Tests.{by_cases}
 use Rattle.dom_families.proofs.GroupParts.{in_node}
 use Rattle.dom_families.proofs.GroupVisits.{in_view, group_dispatched, same_dispatch, no_dispatch}
@@ -100,31 +100,17 @@ module _ (g : Owner → Bool) (closed : KeepsFamilies g) where
           group_run g (dispatch_in w x r e).run ≡ group_run g (outward_run w (outward_at w x e r))
       none r o k = no_dispatch g closed w x r e (q.logs refl) k ∙ sym (ap (λ o. group_run g (outward_run w o)) o)
 
-      kept_none : (r : Option NodeName) → e.composed ≡ false → outward_at w x e r ≡ None
-      kept_none None c = ap (λ b. if b then option_map (outward_of e) (outermost_host w x) else None) c
-      kept_none (Some y) c = refl
-
       kept : e.composed ≡ false → group_run g (dispatch_in w x r e).run ≡ group_run g (outward_run w (outward_at w x e r))
-      kept c = none r (kept_none r c) (subst (NoView w x r) (sym c) (views-kept_in g closed w q.world x r h))
-
-      outside_none : (r : Option NodeName) → is_in_shadow_tree w x ≡ false → e.composed ≡ true → outward_at w x e r ≡ None
-      outside_none None t c =
-          ap (λ b. if b then option_map (outward_of e) (outermost_host w x) else None) c
-          ∙ ap (λ b. option_map (outward_of e)
-          (if b && is_page (unwrap_or (last_of (host_chain w x)) x).owner then Some (unwrap_or (last_of (host_chain w x)) x) else None)) t
-      outside_none (Some y) t c = refl
+      kept c = none r (no_outward-kept w x e r c) (subst (NoView w x r) (sym c) (views-kept_in g closed w q.world x r h))
 
       outside : e.composed ≡ true → is_in_shadow_tree w x ≡ false → group_run g (dispatch_in w x r e).run ≡ group_run g (outward_run w (outward_at w x e r))
       outside c t =
-          none r (outside_none r t c) (views-far g closed w q.world x r e.composed
+          none r (no_outward-outside w x e r t c) (views-far g closed w q.world x r e.composed
           (subst (AllByRecursion (λ y. in_node g y ≡ false)) (sym (hosts-alone (owner_depth x.owner) w x (no_host (host_above w x) t))) (h, tt)))
 
       exit_is : is_in_shadow_tree w x ≡ true → (k : HasExit g closed w q.world x) → (b : Bool) → is_page k.last.owner ≡ b →
           outermost_host w x ≡ (if b then Some k.last else None)
       exit_is t k b p = exit-host g closed w q.world x k t ∙ ap (λ b. if b then Some k.last else None) p
-
-      at_exit : e.composed ≡ true → (o : Option NodeName) → outermost_host w x ≡ o → outward_at w x e None ≡ option_map (outward_of e) o
-      at_exit c o t = ap (λ b. if b then option_map (outward_of e) (outermost_host w x) else None) c ∙ ap (option_map (outward_of e)) t
 
       alone : e.composed ≡ true → is_in_shadow_tree w x ≡ true →
           group_run g (dispatch_in w x None e).run ≡ group_run g (outward_run w (outward_at w x e None))
@@ -139,8 +125,8 @@ module _ (g : Owner → Bool) (closed : KeepsFamilies g) where
           ap (λ (d : Dispatched World). d.run) (same_dispatch g closed w w x host None None e (q.logs refl) (q.logs refl) refl seen)
           ∙ ap (λ e. group_run g (dispatch_in w host None e).run) words
           ∙ sym (ap (group_run g) (outward-alone w (outward_of e host)))
-          ∙ sym (ap (λ o. group_run g (outward_run w o)) (at_exit c (Some host) (exit_is t k true p))))
-          (λ p. none None (at_exit c None (exit_is t k false p))
+          ∙ sym (ap (λ o. group_run g (outward_run w o)) (outward-composed w x e c (Some host) (exit_is t k true p))))
+          (λ p. none None (outward-composed w x e c None (exit_is t k false p))
           (views-far g closed w q.world x None e.composed (exit-away g closed w q.world x k (owner_eq-false host.owner Page p))))
 
       inside : e.composed ≡ true → is_in_shadow_tree w x ≡ true → (r : Option NodeName) → HasSameRoot w x r →

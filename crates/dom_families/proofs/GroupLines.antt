@@ -18,6 +18,7 @@ use Rattle.dom_model.specs.Turns.{ending_turn, has_other_turn, ending_other_turn
 use Rattle.dom_model.specs.DocumentMachine.{refusal, effect_in, perform, accepted, run_command, step}
 use Rattle.dom_model.specs.Groups.{KeepsFamilies, group_world, group_turn, group_outputs, group_run, is_task_of, outward_words, ends_group_turn}
 use Rattle.dom_model.specs.Trace.{OutwardEvent, is_page, is_log, is_of, owner_of_line, owner_of_output, outward_event, outward_command, may_stop, line_may_stop}
+use Rattle.dom_model.proofs.TurnLaws.{turn-dispatch_in}
 use Rattle.dom_worlds.specs.Reached.{IsQuiet, IsReached}
 use Rattle.dom_worlds.specs.Tables.{IsWhole}
 use Rattle.dom_worlds.proofs.Acceptance.{accepted-facts}
@@ -27,7 +28,6 @@ use Rattle.dom_worlds.proofs.TableCommands.{Holds}
 use Rattle.dom_worlds.proofs.TableLines.{ending-keeps_whole}
 use Rattle.dom_worlds.proofs.TableRegisters.{holds-effect}
 use Rattle.dom_worlds.proofs.Tests.{by_cases}
-use Rattle.dom_worlds.proofs.TurnEndings.{turn-dispatch}
 use Rattle.dom_worlds.proofs.WorldSteps.{turn-world_after}
 use Rattle.dom_families.specs.Laws.{IsCalm}
 use Rattle.dom_families.proofs.GroupParts.{filter-away}
@@ -114,7 +114,7 @@ module _ (g : Owner → Bool) (closed : KeepsFamilies g) where
   calm-outward w calm None = calm
   calm-outward w calm (Some e) =
       λ h. ap (filter (is_task_of g)) (tasks-dispatch w e.host None (outward_words e))
-      ∙ calm (sym (ap (group_turn g) (turn-dispatch w e.host None (outward_words e))) ∙ h)
+      ∙ calm (sym (ap (group_turn g) (turn-dispatch_in w e.host None (outward_words e))) ∙ h)
 
   -- and so does each command of the group. In a turn of the group,
   open-calm : (w u : World) → is_of g w.turn ≡ true → u.turn ≡ w.turn → IsCalm g u
@@ -129,7 +129,7 @@ module _ (g : Owner → Bool) (closed : KeepsFamilies g) where
   perform-calm w o t (Command.connected a) = open-calm w (perform w o (Command.connected a)).0 t refl
   perform-calm w o t (Command.assigned a) = open-calm w (perform w o (Command.assigned a)).0 t refl
   perform-calm w o t (Command.dispatch a e r) =
-      open-calm w (perform w o (Command.dispatch a e r)).0 t (turn-dispatch w (named (part_of w o) a) (option_map (named (part_of w o)) r) e)
+      open-calm w (perform w o (Command.dispatch a e r)).0 t (turn-dispatch_in w (named (part_of w o) a) (option_map (named (part_of w o)) r) e)
   perform-calm w o t (Command.micro a) = open-calm w (perform w o (Command.micro a)).0 t refl
   perform-calm w o t Command.end_turn = λ h. ap (filter (is_task_of g)) (tasks-ending_turn w)
   perform-calm w o t c = open-calm w (perform w o c).0 t (turn-effect w o (effect (part_of w o) c))

@@ -13,10 +13,10 @@ use Rattle.dom_model.specs.World.{World, part_of, trees_with, node_at, root_at, 
 use Rattle.dom_model.specs.World.{components_below}
 use Rattle.dom_model.specs.Slots.{assigned, is_changed, slot_of, slots_among, is_slot_element, is_bare_slot, own_slots, other_slots, signals}
 use Rattle.dom_model.specs.Groups.{KeepsFamilies, group_world}
+use Rattle.dom_model.proofs.OwnerLaws.{name_eq-true}
 use Rattle.dom_worlds.specs.Worlds.{IsOf}
 use Rattle.dom_worlds.proofs.Lists.{all-filter, all-then, all-passed, all-distinct, all-map, filter_all, filter_none, filter_same, filter-filter}
 use Rattle.dom_worlds.proofs.Tests.{by_cases}
-use Rattle.dom_worlds.proofs.Trees.{name_eq-true}
 use Rattle.dom_families.proofs.GroupParts.{in_node, part-in, part-out, filter-here, filter-away}
 use Rattle.dom_families.proofs.GroupSlots.{IsGround, nodes-of, component-outside, slot-group, host_above-in, assigned-in}
 

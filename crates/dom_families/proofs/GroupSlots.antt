@@ -15,7 +15,7 @@ use Rattle.dom_model.specs.World.{World, part_of, trees_with, node_at, root_at, 
 use Rattle.dom_model.specs.World.{host_above, some_if, shadow_root_of, shadow_tree}
 use Rattle.dom_model.specs.Slots.{slot_of, slot_in, slottable_name, has_slot_name, assigned, assigned_below, is_assigned_to}
 use Rattle.dom_model.specs.Groups.{KeepsFamilies, group_world}
-use Rattle.dom_model.proofs.OwnerLaws.{owner_eq-true, owner_eq-false, made_by-is}
+use Rattle.dom_model.proofs.OwnerLaws.{owner_eq-true, owner_eq-false, made_by-is, name_eq-true}
 use Rattle.dom_worlds.specs.Worlds.{IsPart, IsWorld, IsOf, HasMakers, times_in}
 use Rattle.dom_model.proofs.PartLaws.{owner-part_of}
 use Rattle.dom_worlds.proofs.ShadowTrees.{slot_in-there}
@@ -24,7 +24,7 @@ use Rattle.dom_worlds.proofs.Lists.{get-all, get-below}
 use Rattle.dom_worlds.proofs.Chains.{above-host}
 use Rattle.dom_worlds.proofs.Makers.{component-made, component-maker, hosted, hosted-maker}
 use Rattle.dom_worlds.proofs.Tests.{by_cases}
-use Rattle.dom_worlds.proofs.Trees.{name_eq-true, ancestors-there, times-subtree, nodes-there}
+use Rattle.dom_worlds.proofs.Trees.{ancestors-there, times-subtree, nodes-there}
 use Rattle.dom_families.proofs.GroupParts.{in_node, part-in, part-out, filter-here, filter-away}
 
 -- What is asked of a world: nodes and hosts are their owners', and whoever has hosts may attach.

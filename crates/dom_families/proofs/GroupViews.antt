@@ -10,12 +10,12 @@ use Rattle.dom_model.specs.World.{World, ancestors_at}
 use Rattle.dom_model.specs.Paths.{is_hidden_from, retarget, retarget_related, is_node, with_slots, way_up, whole_path, ends_at, event_path, view_at, views}
 use Rattle.dom_model.specs.Paths.{View}
 use Rattle.dom_model.specs.Groups.{KeepsFamilies, group_world}
+use Rattle.dom_model.proofs.OwnerLaws.{name_eq-true}
 use Rattle.dom_worlds.specs.Worlds.{IsWorld}
 use Rattle.dom_worlds.proofs.Lists.{all-then, all-passed, all-flat_map, all-take_while, filter-map, map_same}
 use Rattle.dom_isolation.proofs.PagePaths.{IsInSome, slot_way-in_some}
 use Rattle.dom_worlds.proofs.ShadowTrees.{slot_way, slots-behind}
 use Rattle.dom_worlds.proofs.Tests.{by_cases, either_way}
-use Rattle.dom_worlds.proofs.Trees.{name_eq-true}
 use Rattle.dom_families.proofs.GroupParts.{in_node}
 use Rattle.dom_families.proofs.GroupSlots.{IsGround, ground-of}
 use Rattle.dom_families.proofs.GroupVisits.{in_view}

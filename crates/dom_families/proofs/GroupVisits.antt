@@ -6,12 +6,10 @@ use Rattle.std.specs.List.{AllByRecursion}
 use Rattle.std.proofs.lemmas.List.Elements.{filter-append}
 use Rattle.dom_base.specs.declared.Owner.{Owner}
 use Rattle.dom_base.specs.declared.NodeName.{NodeName}
-use Rattle.dom_base.specs.declared.Action.{Action}
-use Rattle.dom_base.specs.declared.Action.TheVariants.{Log, Stop, StopNow, Cancel}
 use Rattle.dom_model.specs.Names.{name_eq}
 use Rattle.dom_model.specs.Command.{EventWords}
 use Rattle.dom_model.specs.Output.{EventLine}
-use Rattle.dom_model.specs.Listeners.{Listener, Visit, visited, called, hears, is_listener, kept_after, after_action, may_cancel, line_of}
+use Rattle.dom_model.specs.Listeners.{Listener, Visit, visited, called, hears, kept_after, after_action, may_cancel, line_of}
 use Rattle.dom_model.specs.Listeners.{begun}
 use Rattle.dom_model.specs.Part.{Part}
 use Rattle.dom_model.specs.Paths.{View, views}
@@ -23,30 +21,9 @@ use Rattle.dom_model.proofs.PartLaws.{owner-part_of}
 use Rattle.dom_worlds.specs.Worlds.{OnlyLogs, ComponentsOnlyLog}
 use Rattle.dom_worlds.proofs.Lists.{all-filter, filter-filter, filter-map, filter-reverse}
 use Rattle.dom_worlds.proofs.Tests.{by_cases}
-use Rattle.dom_worlds.proofs.Visits.{Going, InWorld, logs-visit, with_listeners}
+use Rattle.dom_worlds.proofs.Visits.{Going, InWorld, logs-visit, with_listeners, call, call-of, no_call, all-kept, sifted-after_action}
 use Rattle.dom_families.proofs.GroupParts.{part-in, with_part-in, with_part-out, group-twice, filter-here, filter-away, filter-twice}
 use Rattle.dom_families.proofs.GroupSlots.{outside-no_page}
-
--- a call, where none was stopped at once
-call : EventWords → Visit NodeName → Going → Listener NodeName → Going
-call e v d l = after_action l.words.action (may_cancel e l.words)
-    (record d { listeners = kept_after name_eq l d.listeners; lines = d.lines ++ line_of v l.words ∷ [] })
-
--- a call, unless the others are stopped
-call-of : (e : EventWords) (v : Visit NodeName) (d : Going) (l : Listener NodeName) → d.stopped_now ≡ false → called name_eq e v d l ≡ call e v d l
-unfolding call
-call-of e v d l s = cond-false d.stopped_now d (call e v d l) s
-
--- no call, where they are
-no_call : (e : EventWords) (v : Visit NodeName) (d : Going) (l : Listener NodeName) → d.stopped_now ≡ true → called name_eq e v d l ≡ d
-unfolding call
-no_call e v d l s = cond-true d.stopped_now d (call e v d l) s
-
--- listeners that only log, without one that was for once
-all-kept : (l : Listener NodeName) (ls : List (Listener NodeName)) → AllByRecursion OnlyLogs ls → AllByRecursion OnlyLogs (kept_after name_eq l ls)
-all-kept l ls h =
-    by_cases l.words.once (λ e. rw e (all-filter OnlyLogs (λ k. not (is_listener name_eq l.node l.words.event l.words.label l.words.capture k)) ls h))
-    (λ e. rw e h)
 
 module _ (g : Owner → Bool) where
   -- whether a line of a listener is of the group; a visit at one of its nodes; a view there
@@ -65,18 +42,11 @@ module _ (g : Owner → Bool) where
   abbrev seen : Going → Going
   seen d = record d { lines = filter in_line d.lines }
 
-  -- At a node of the group a call, and so a visit, does the same to what is seen.
-  seen-after_action : (a : Action) (c : Bool) (d : Going) → seen (after_action a c d) ≡ after_action a c (seen d)
-  seen-after_action Log c d = refl
-  seen-after_action Stop c d = refl
-  seen-after_action StopNow c d = refl
-  seen-after_action Cancel c d = refl
-
   -- a call
   seen-call : (e : EventWords) (v : Visit NodeName) → in_visit v ≡ true → (d : Going) (l : Listener NodeName) → seen (call e v d l) ≡ call e v (seen d) l
   unfolding call
   seen-call e v h d l =
-      seen-after_action l.words.action (may_cancel e l.words)
+      sifted-after_action in_line l.words.action (may_cancel e l.words)
       (record d { listeners = kept_after name_eq l d.listeners; lines = d.lines ++ line_of v l.words ∷ [] })
       ∙ ap (λ ls. after_action l.words.action (may_cancel e l.words) (record d { listeners = kept_after name_eq l d.listeners; lines = ls }))
       (filter-append in_line d.lines (line_of v l.words ∷ []) ∙ ap (λ ls. filter in_line d.lines ++ ls) (filter-here in_line (line_of v l.words) [] h))

@@ -10,7 +10,7 @@ use Rattle.dom_base.specs.declared.NodeName.{NodeName}
 use Rattle.dom_base.specs.declared.Kind.TheVariants.{Shadow}
 use Rattle.dom_base.specs.declared.Refusal.{Refusal}
 use Rattle.dom_model.specs.Names.{ComponentName, owner_eq}
-use Rattle.dom_model.specs.Tree.{node_in, root_of}
+use Rattle.dom_model.specs.Tree.{node_in}
 use Rattle.dom_model.specs.Command.{Command, NodeWord, EventWords}
 use Rattle.dom_model.specs.Output.{Output, Said, Value, says, replied, refused, nothing, a_truth, a_component}
 use Rattle.dom_model.specs.Part.{Part}
@@ -30,13 +30,13 @@ use Rattle.dom_model.proofs.PartLaws.{owner-part_of}
 use Rattle.dom_model.proofs.StepLaws.{Component-IsNoPage}
 use Rattle.dom_worlds.specs.Reached.{IsQuiet}
 use Rattle.dom_worlds.proofs.Acceptance.{accepted-facts, attach-may}
-use Rattle.dom_isolation.proofs.ComponentCommands.{related-near, opened-event}
-use Rattle.dom_isolation.proofs.ComponentEvents.{outward_at, HasSameRoot}
+use Rattle.dom_isolation.proofs.ComponentCommands.{opened-event, related-same_root, outward-same}
+use Rattle.dom_isolation.proofs.ComponentEvents.{outward_at}
 use Rattle.dom_worlds.proofs.LineBegins.{part_of-opening}
 use Rattle.dom_worlds.proofs.Owners.{owner-named}
 use Rattle.dom_worlds.proofs.TableCommands.{Holds}
 use Rattle.dom_worlds.proofs.TableEffects.{KeepsBase, base-effect}
-use Rattle.dom_worlds.proofs.Tests.{by_cases}
+use Rattle.dom_worlds.proofs.Tests.{by_cases, and-true_false}
 use Rattle.dom_families.specs.Laws.{IsCalm}
 use Rattle.dom_families.proofs.GroupParts.{with_part-out, filter-away}
 use Rattle.dom_families.proofs.GroupSlots.{IsGround, ground-of}
@@ -117,9 +117,9 @@ module _ (g : Owner → Bool) (closed : KeepsFamilies g) where
       let o = Component k in
       let p = part_of w o in
       let d = dispatch_in w (named p x) (option_map (named p) r) e in
-      let shown = dispatch-out g closed w q (named p x) (option_map (named p) r) e (ap g (owner-named p x ∙ owner-part_of w o) ∙ h) (near r a) in
+      let shown = dispatch-out g closed w q (named p x) (option_map (named p) r) e (ap g (owner-named p x ∙ owner-part_of w o) ∙ h) (related-same_root w k x e r a) in
       after_reply d.run (outward_run w (outward_at w (named p x) e (option_map (named p) r))) (a_truth d.answer) shown
-      ∙ ap (λ v. group_run g (outward_run w v)) (same_event r)
+      ∙ ap (λ v. group_run g (outward_run w v)) (outward-same w k x e r)
     where
       after_reply : (u s : Run World) (v : Value) → group_run g u ≡ group_run g s → group_run g (run_then u (answering (Component k) v)) ≡ group_run g s
       after_reply u s v same =
@@ -128,27 +128,6 @@ module _ (g : Owner → Bool) (closed : KeepsFamilies g) where
           (filter-append test u.1 (says (Component k) (replied v) ∷ [])
           ∙ ap (λ ls. group_outputs g u.1 ++ ls) (filter-away test (says (Component k) (replied v)) [] h) ∙ append-nil (group_outputs g u.1))
           ∙ same
-
-      near : (r : Option NodeWord) → part_refusal (part_of w (Component k)) (Command.dispatch x e r) ≡ None →
-          HasSameRoot w (named (part_of w (Component k)) x) (option_map (named (part_of w (Component k))) r)
-      near None a = tt
-      near (Some y) a =
-          let p = part_of w (Component k) in
-          let o = owner-part_of w (Component k) in
-          let at_y : (named p y).owner ≡ Component k = owner-named p y ∙ o in
-          let at_x : (named p x).owner ≡ Component k = owner-named p x ∙ o in (
-            (
-              at_y ∙ sym at_x,
-              ap (λ q. root_of (part_of w q).trees (named p y)) at_y ∙ related-near p k x e y o a ∙
-                  ap (λ q. root_of (part_of w q).trees (named p x)) (sym at_x),
-            ),
-            tt,
-          )
-
-      same_event : (r : Option NodeWord) → outward_at w (named (part_of w (Component k)) x) e
-          (option_map (named (part_of w (Component k))) r) ≡ outward_dispatch w (Component k) (Command.dispatch x e r)
-      same_event None = refl
-      same_event (Some y) = refl
 
   -- Any accepted command.
   perform-out : (w : World) (k : ComponentName) → IsQuiet w → g (Component k) ≡ false → IsCalm g w → is_of g w.turn ≡ false → (c : Command) →
@@ -220,10 +199,6 @@ module _ (g : Owner → Bool) (closed : KeepsFamilies g) where
       Shows w (run_command (Component k) c w) (outward_command w (Component k) c)
   command-out w k q h calm a c f = from (refusal w (Component k) c) refl
     where
-      not_open : (b : Bool) → (b && true) ≡ false → b ≡ false
-      not_open true e = absurd (true≢false e)
-      not_open false e = refl
-
       from : (r : Option Refusal) → refusal w (Component k) c ≡ r →
           Shows w (unless_refused (Component k) (refusal w (Component k) c) w (accepted w (Component k) c))
           (if is_none (refusal w (Component k) c) then outward_dispatch w (Component k) c else None)
@@ -234,5 +209,5 @@ module _ (g : Owner → Bool) (closed : KeepsFamilies g) where
       from None e =
           let known = accepted-facts w (Component k) c e in
           ap (λ o. group_run g (unless_refused (Component k) o w (accepted w (Component k) c))) e
-          ∙ accepted-out w k q h calm a (turn-out w k h a (not_open (is_page_turn w.turn) known.calm)) c known.grammar known.part (f e)
+          ∙ accepted-out w k q h calm a (turn-out w k h a (and-true_false (is_page_turn w.turn) known.calm)) c known.grammar known.part (f e)
           ∙ sym (ap (λ o. group_run g (outward_run w (if is_none o then outward_dispatch w (Component k) c else None))) e)

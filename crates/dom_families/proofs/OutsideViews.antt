@@ -2,13 +2,13 @@
 use Rattle.std.proofs.Common.{◌≡◌, ◌≢◌, ℕ, zero, suc, ◌≤◌, Bool, true, false, not, ◌&&◌, List, [], ◌∷◌, ◌++◌, filter, find, flat_map, map}
 use Rattle.std.proofs.Common.{Option, Some, None, unwrap_or, refl, sym, ap, ◌∙◌, subst, true≢false, append-nil, arith}
 use Rattle.std.specs.Prelude.{if◌then◌else◌, is_some}
-use Rattle.std.specs.List.{AllByRecursion, last_or}
+use Rattle.std.specs.List.{AllByRecursion}
 use Rattle.std.proofs.lemmas.Bool.{cond-true, cond-false}
 use Rattle.std.proofs.lemmas.Grind.{flat_map-append}
 use Rattle.dom_base.specs.declared.Owner.{Owner}
 use Rattle.dom_base.specs.declared.Owner.TheVariants.{Page}
 use Rattle.dom_base.specs.declared.NodeName.{NodeName}
-use Rattle.dom_model.specs.Names.{name_eq, owner_eq, owner_depth, max_depth, last_of}
+use Rattle.dom_model.specs.Names.{owner_eq, owner_depth, max_depth, last_of}
 use Rattle.dom_model.specs.World.{World, trees_with, ancestors_at, host_above, host_chain, is_in_shadow_tree}
 use Rattle.dom_model.specs.Paths.{View, is_hidden_from, retarget, retarget_related, is_node, with_slots, way_up, whole_path, ends_at, event_path, view_at}
 use Rattle.dom_model.specs.Paths.{views}
@@ -17,7 +17,7 @@ use Rattle.dom_model.specs.Trace.{is_page, outermost_host}
 use Rattle.dom_model.proofs.OwnerLaws.{owner_eq-true, owner_eq-false, made_by-is}
 use Rattle.dom_worlds.specs.Worlds.{IsWorld, times_in}
 use Rattle.dom_worlds.proofs.Chains.{IsBelow, below-host, hosts-alone, chain-below, chain-first, absent-host, above-host}
-use Rattle.dom_isolation.proofs.ComponentPaths.{cut_at, ends-at_host}
+use Rattle.dom_isolation.proofs.ComponentPaths.{cut_at, ends-at_host, no_end}
 use Rattle.dom_worlds.proofs.ShadowTrees.{IsInTree, ancestors-in_tree}
 use Rattle.dom_isolation.proofs.Hiding.{host_chain-page, page-not_hidden}
 use Rattle.dom_worlds.proofs.Lists.{all-append, all-then, all-from, all-passed, all-flat_map, all-take_while, all-before, filter-map, filter_none, map_same}
@@ -25,27 +25,18 @@ use Rattle.dom_worlds.proofs.Makers.{hosted, hosted-owned, hosted-maker}
 use Rattle.dom_isolation.proofs.PagePaths.{IsInSome, slot_way-in_some, uncut}
 use Rattle.dom_worlds.proofs.ShadowTrees.{slot_way, slots-behind, slots-first}
 use Rattle.dom_worlds.proofs.Tests.{by_cases, either_way}
-use Rattle.dom_worlds.proofs.Trees.{by_times, ancestors-absent, ancestors-present}
+use Rattle.dom_worlds.proofs.Trees.{by_times, ancestors-absent, ancestors-present, last-push}
 use Rattle.std.proofs.lemmas.List.Elements.{filter-append}
 use Rattle.dom_families.proofs.GroupParts.{in_node}
 use Rattle.dom_families.proofs.GroupVisits.{in_view}
 use Rattle.dom_families.proofs.GroupPaths.{hidden-outside, way-outside}
-use Rattle.dom_families.proofs.GroupViews.{ground, Inside, Outside, veiled-hidden, and-no}
-
--- the last item of a list that has one behind
-last-push : (o : Option NodeName) (xs : List NodeName) (y : NodeName) → last_or o (xs ++ y ∷ []) ≡ Some y
-last-push o [] y = refl
-last-push o (z ∷ zs) y = last-push (Some z) zs y
+use Rattle.dom_families.proofs.GroupViews.{ground, Inside, Outside, veiled-hidden}
 
 -- what follows of each item from two things
 all-both-then : (P Q R : NodeName → Type 0) → ((x : NodeName) → P x → Q x → R x) → (xs : List NodeName) → AllByRecursion P xs → AllByRecursion Q xs →
     AllByRecursion R xs
 all-both-then P Q R f [] a b = tt
 all-both-then P Q R f (x ∷ xs) a b = (f x a.0 b.0, all-both-then P Q R f xs a.1 b.1)
-
--- without a related node no path ends early
-no_end : (w : World) (target y : NodeName) → ends_at w target None y ≡ false
-no_end w target y = ap (λ b. not (name_eq y target) && b) (and-no (name_eq y (retarget w target y))) ∙ and-no (not (name_eq y target))
 
 module _ (g : Owner → Bool) (closed : KeepsFamilies g) (w : World) (i : IsWorld w) where
   -- nodes outside

@@ -25,16 +25,15 @@ use Rattle.dom_model.specs.Turns.{ending_turn, opening_turn, is_page_turn}
 use Rattle.dom_model.specs.DocumentMachine.{refusal, effect_in, attaching, part_with_root, perform, accepted, run_command}
 use Rattle.dom_model.specs.Trace.{outputs_for, is_page, outward_of, outward_dispatch, outward_command}
 use Rattle.dom_model.specs.PageMachine.{PageState, page_of, is_page_task}
-use Rattle.dom_model.proofs.OwnerLaws.{component_made-no_page}
+use Rattle.dom_model.proofs.OwnerLaws.{component_made-no_page, name_eq-true}
 use Rattle.dom_model.proofs.PartLaws.{part_of-with_part-other, owner-part_of}
 use Rattle.dom_model.proofs.StepLaws.{Component-IsNoPage}
 use Rattle.dom_isolation.specs.Laws.{ComponentDispatchAgrees, page_run}
 use Rattle.dom_worlds.specs.Reached.{IsQuiet}
-use Rattle.dom_worlds.proofs.Tests.{by_cases}
+use Rattle.dom_worlds.proofs.Tests.{by_cases, and-true_false}
 use Rattle.dom_isolation.proofs.SeenRuns.{run_then-square, same_page_of, outputs_for_page-other}
 use Rattle.dom_isolation.proofs.PageSteps.{page_of-world_after-other}
 use Rattle.dom_worlds.proofs.Acceptance.{next-test, part-accepted, accepted-facts}
-use Rattle.dom_worlds.proofs.Trees.{name_eq-true}
 use Rattle.dom_isolation.proofs.ComponentEvents.{outward_run, outward_at, run_then-quiet_end, HasSameRoot, dispatch-component}
 use Rattle.dom_isolation.proofs.PageTurns.{quiet_then}
 use Rattle.dom_isolation.proofs.PageTurns.{ending-component, opening-component}
@@ -68,6 +67,31 @@ related-near p k x e y o h =
     from true g = refl
     from false g = absurd (true≢false g)
 
+-- in the world, where a related node is given
+pub related-same_root : (w : World) (k : ComponentName) (x : NodeWord) (e : EventWords) (r : Option NodeWord) →
+    part_refusal (part_of w (Component k)) (Command.dispatch x e r) ≡ None →
+    HasSameRoot w (named (part_of w (Component k)) x) (option_map (named (part_of w (Component k))) r)
+related-same_root w k x e None g = tt
+related-same_root w k x e (Some y) g =
+    let p = part_of w (Component k) in
+    let o = owner-part_of w (Component k) in
+    let at_y : (named p y).owner ≡ Component k = owner-named p y ∙ o in
+    let at_x : (named p x).owner ≡ Component k = owner-named p x ∙ o in (
+      (
+        at_y ∙ sym at_x,
+        ap (λ q. root_of (part_of w q).trees (named p y)) at_y ∙ related-near p k x e y o g ∙
+            ap (λ q. root_of (part_of w q).trees (named p x)) (sym at_x),
+      ),
+      tt,
+    )
+
+-- the outward event of a dispatch is that of its words
+pub outward-same : (w : World) (k : ComponentName) (x : NodeWord) (e : EventWords) (r : Option NodeWord) →
+    outward_at w (named (part_of w (Component k)) x) e (option_map (named (part_of w (Component k))) r) ≡
+    outward_dispatch w (Component k) (Command.dispatch x e r)
+outward-same w k x e None = refl
+outward-same w k x e (Some y) = refl
+
 -- A dispatch.
 dispatched-component : (w : World) (k : ComponentName) → IsQuiet w → (x : NodeWord) (e : EventWords) (related : Option NodeWord) →
     part_refusal (part_of w (Component k)) (Command.dispatch x e related) ≡ None →
@@ -79,31 +103,10 @@ dispatched-component w k q x e related h =
     let target = named p x in
     let mine : target.owner ≡ Component k = owner-named p x ∙ o in
     let d = dispatch_in w target (option_map (named p) related) e in
-    let seen = dispatch-component w q target (option_map (named p) related) e (λ z. Component-IsNoPage k (sym mine ∙ z)) (near related h) in
+    let seen = dispatch-component w q target (option_map (named p) related) e (λ z. Component-IsNoPage k (sym mine ∙ z)) (related-same_root w k x e related h) in
     run_then-square d.run (answering (Component k) (a_truth d.answer)) quiet refl
     ∙ ap (λ r. run_then r quiet) seen ∙ run_then-quiet_end (outward_run (page_of w) (outward_at w target e (option_map (named p) related)))
-    ∙ ap (outward_run (page_of w)) (same_event related)
-  where
-    near : (r : Option NodeWord) → part_refusal (part_of w (Component k)) (Command.dispatch x e r) ≡ None →
-        HasSameRoot w (named (part_of w (Component k)) x) (option_map (named (part_of w (Component k))) r)
-    near None g = tt
-    near (Some y) g =
-        let p = part_of w (Component k) in
-        let o = owner-part_of w (Component k) in
-        let at_y : (named p y).owner ≡ Component k = owner-named p y ∙ o in
-        let at_x : (named p x).owner ≡ Component k = owner-named p x ∙ o in (
-          (
-            at_y ∙ sym at_x,
-            ap (λ q. root_of (part_of w q).trees (named p y)) at_y ∙ related-near p k x e y o g ∙
-                ap (λ q. root_of (part_of w q).trees (named p x)) (sym at_x),
-          ),
-          tt,
-        )
-
-    same_event : (r : Option NodeWord) → outward_at w (named (part_of w (Component k)) x) e
-        (option_map (named (part_of w (Component k))) r) ≡ outward_dispatch w (Component k) (Command.dispatch x e r)
-    same_event None = refl
-    same_event (Some y) = refl
+    ∙ ap (outward_run (page_of w)) (outward-same w k x e related)
 
 -- any component's
 pub component_dispatch-agrees : ComponentDispatchAgrees
@@ -188,10 +191,6 @@ pub command-component : (w : World) (k : ComponentName) → IsQuiet w → (c : C
     page_run (run_command (Component k) c w) ≡ outward_run (page_of w) (outward_command w (Component k) c)
 command-component w k q c = from (refusal w (Component k) c) refl
   where
-    not_open : (b : Bool) → (b && true) ≡ false → b ≡ false
-    not_open true h = absurd (true≢false h)
-    not_open false h = refl
-
     from : (r : Option Refusal) → refusal w (Component k) c ≡ r →
         page_run (unless_refused (Component k) (refusal w (Component k) c) w (accepted w (Component k) c)) ≡ outward_run (page_of w)
         (if is_none (refusal w (Component k) c) then outward_dispatch w (Component k) c else None)
@@ -201,5 +200,5 @@ command-component w k q c = from (refusal w (Component k) c) refl
     from None e =
         let a = accepted-facts w (Component k) c e in
         ap (λ o. page_run (unless_refused (Component k) o w (accepted w (Component k) c))) e
-        ∙ accepted-component w k q (not_open (is_page_turn w.turn) a.calm) c a.grammar a.part
+        ∙ accepted-component w k q (and-true_false (is_page_turn w.turn) a.calm) c a.grammar a.part
         ∙ sym (ap (λ o. outward_run (page_of w) (if is_none o then outward_dispatch w (Component k) c else None)) e)

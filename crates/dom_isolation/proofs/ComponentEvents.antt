@@ -1,10 +1,10 @@
 -- A dispatch of a component, as the page sees it: nothing, or the outward event at its host.
 use Rattle.dom_isolation.proofs.PagePaths.{views-page}
 use Rattle.dom_model.proofs.OwnerLaws.{owner_eq-true, owner_eq-false}
-use Rattle.std.proofs.Common.{◌≡◌, ◌≢◌, Bool, true, false, ◌&&◌, List, [], ◌∷◌, ◌++◌, filter, Option, Some, None, option_map, unwrap_or, refl, sym}
+use Rattle.std.proofs.Common.{◌≡◌, ◌≢◌, Bool, true, false, ◌&&◌, [], ◌∷◌, filter, Option, Some, None, option_map, unwrap_or, refl, sym}
 use Rattle.std.proofs.Common.{ap, ◌∙◌, true≢false, subst, append-nil}
 use Rattle.std.specs.Prelude.{is_some, if◌then◌else◌, option_to_list}
-use Rattle.std.specs.List.{AllByRecursion, last_or}
+use Rattle.std.specs.List.{AllByRecursion}
 use Rattle.std.specs.Option.{option_and_then}
 use Rattle.dom_base.specs.declared.Owner.{Owner}
 use Rattle.dom_base.specs.declared.Owner.TheVariants.{Page}
@@ -24,6 +24,7 @@ use Rattle.dom_worlds.proofs.Chains.{HasChain, has-chain, below-host, hosts-alon
 use Rattle.dom_worlds.proofs.ShadowTrees.{IsInTree}
 use Rattle.dom_worlds.proofs.Lists.{all-append, all-then}
 use Rattle.dom_worlds.proofs.Tests.{by_cases}
+use Rattle.dom_worlds.proofs.Trees.{last-push}
 use Rattle.dom_isolation.proofs.ComponentPaths.{Foreign, IsUnder, views-kept_in, views-far, views-outward, views-related}
 use Rattle.dom_isolation.proofs.Dispatches.{is_page_view, dispatch-page, dispatch-nothing, page_visits_of}
 
@@ -49,10 +50,6 @@ outermost-last : (w : World) (x : NodeName) → (k : HasChain w x) → is_in_sha
 outermost-last w x k h =
     ap (λ b. if b && is_page (unwrap_or (last_of (host_chain w x)) x).owner then Some (unwrap_or (last_of (host_chain w x)) x) else None) h
     ∙ ap (λ o. if is_page (unwrap_or o x).owner then Some (unwrap_or o x) else None) (ap last_of k.chain ∙ last-push None k.inner k.last)
-  where
-    last-push : (o : Option NodeName) (xs : List NodeName) (y : NodeName) → last_or o (xs ++ y ∷ []) ≡ Some y
-    last-push o [] y = refl
-    last-push o (z ∷ zs) y = last-push (Some z) zs y
 
 -- an outward event is one at the host, as the page sees it
 outward-event : (o : Owner) → o ≢ Page → (w : World) (x : NodeName) (e : EventWords) → IsQuiet w → e.composed ≡ true → (host : NodeName) → IsUnder w x host →
@@ -67,6 +64,25 @@ outward-event o f w x e q c host u =
 abbrev pub outward_at : World → NodeName → EventWords → Option NodeName → Option OutwardEvent
 outward_at w x e None = if e.composed then option_map (outward_of e) (outermost_host w x) else None
 outward_at w x e (Some y) = None
+
+-- an event that is not composed stays inside
+pub no_outward-kept : (w : World) (x : NodeName) (e : EventWords) (r : Option NodeName) → e.composed ≡ false → outward_at w x e r ≡ None
+no_outward-kept w x e None c = ap (λ b. if b then option_map (outward_of e) (outermost_host w x) else None) c
+no_outward-kept w x e (Some y) c = refl
+
+-- so does one of a node in no shadow tree
+pub no_outward-outside : (w : World) (x : NodeName) (e : EventWords) (r : Option NodeName) → is_in_shadow_tree w x ≡ false → e.composed ≡ true →
+    outward_at w x e r ≡ None
+no_outward-outside w x e None h c =
+    ap (λ b. if b then option_map (outward_of e) (outermost_host w x) else None) c
+    ∙ ap (λ b. option_map (outward_of e)
+    (if b && is_page (unwrap_or (last_of (host_chain w x)) x).owner then Some (unwrap_or (last_of (host_chain w x)) x) else None)) h
+no_outward-outside w x e (Some y) h c = refl
+
+-- a composed one is seen at the outermost host
+pub outward-composed : (w : World) (x : NodeName) (e : EventWords) → e.composed ≡ true → (o : Option NodeName) → outermost_host w x ≡ o →
+    outward_at w x e None ≡ option_map (outward_of e) o
+outward-composed w x e c o t = ap (λ b. if b then option_map (outward_of e) (outermost_host w x) else None) c ∙ ap (option_map (outward_of e)) t
 
 -- where a related node is given, it has the target's root
 abbrev pub HasSameRoot : World → NodeName → Option NodeName → Type 0
@@ -86,31 +102,17 @@ dispatch-component w q x related e f same =
         page_run (dispatch_in w x related e).run ≡ outward_run (page_of w) (outward_at w x e related)
     none o h = dispatch-nothing w x related e (q.logs refl) h ∙ sym (ap (outward_run (page_of w)) o)
 
-    kept_none : (r : Option NodeName) → e.composed ≡ false → outward_at w x e r ≡ None
-    kept_none None c = ap (λ b. if b then option_map (outward_of e) (outermost_host w x) else None) c
-    kept_none (Some y) c = refl
-
     kept : e.composed ≡ false → page_run (dispatch_in w x related e).run ≡ outward_run (page_of w) (outward_at w x e related)
-    kept c = none (kept_none related c) (subst (NoView w x related) (sym c) (views-kept_in w q.world x related f))
-
-    outside_none : (r : Option NodeName) → is_in_shadow_tree w x ≡ false → e.composed ≡ true → outward_at w x e r ≡ None
-    outside_none None h c =
-        ap (λ b. if b then option_map (outward_of e) (outermost_host w x) else None) c
-        ∙ ap (λ b. option_map (outward_of e)
-        (if b && is_page (unwrap_or (last_of (host_chain w x)) x).owner then Some (unwrap_or (last_of (host_chain w x)) x) else None)) h
-    outside_none (Some y) h c = refl
+    kept c = none (no_outward-kept w x e related c) (subst (NoView w x related) (sym c) (views-kept_in w q.world x related f))
 
     outside : e.composed ≡ true → is_in_shadow_tree w x ≡ false → page_run (dispatch_in w x related e).run ≡ outward_run (page_of w) (outward_at w x e related)
     outside c h =
-        none (outside_none related h c) (views-far w q.world x related e.composed
+        none (no_outward-outside w x e related h c) (views-far w q.world x related e.composed
         (subst (AllByRecursion Foreign) (sym (hosts-alone (owner_depth x.owner) w x (no_host (host_above w x) h))) (f, tt)))
 
     outermost : is_in_shadow_tree w x ≡ true → (k : HasChain w x) → (p : Bool) → is_page k.last.owner ≡ p →
         outermost_host w x ≡ (if p then Some k.last else None)
     outermost h k p t = outermost-last w x k h ∙ ap (λ b. if b then Some k.last else None) t
-
-    at_outermost : e.composed ≡ true → (o : Option NodeName) → outermost_host w x ≡ o → outward_at w x e None ≡ option_map (outward_of e) o
-    at_outermost c o t = ap (λ b. if b then option_map (outward_of e) (outermost_host w x) else None) c ∙ ap (option_map (outward_of e)) t
 
     alone : e.composed ≡ true → is_in_shadow_tree w x ≡ true → page_run (dispatch_in w x None e).run ≡ outward_run (page_of w) (outward_at w x e None)
     alone c h =
@@ -118,9 +120,9 @@ dispatch-component w q x related e f same =
         by_cases (is_page k.last.owner)
         (λ p. outward-event x.owner f w x e q c k.last (record { inner = k.inner; chain = k.chain; trees = k.trees; page = owner_eq-true k.last.owner Page p })
         ∙ sym (run_then-quiet_end (page_outward (page_of w) (outward_of e k.last)))
-        ∙ sym (ap (outward_run (page_of w)) (at_outermost c (Some k.last) (outermost h k true p))))
+        ∙ sym (ap (outward_run (page_of w)) (outward-composed w x e c (Some k.last) (outermost h k true p))))
         (λ p. dispatch-nothing w x None e (q.logs refl) (views-far w q.world x None e.composed (far k p))
-        ∙ sym (ap (outward_run (page_of w)) (at_outermost c None (outermost h k false p))))
+        ∙ sym (ap (outward_run (page_of w)) (outward-composed w x e c None (outermost h k false p))))
       where
         far : (k : HasChain w x) → is_page k.last.owner ≡ false → AllByRecursion Foreign (host_chain w x)
         far k p =

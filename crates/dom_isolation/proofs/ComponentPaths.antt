@@ -124,7 +124,7 @@ none_ends true false = refl
 none_ends false b = refl
 
 -- without a related node no path ends early
-no_end : (w : World) (target y : NodeName) → ends_at w target None y ≡ false
+pub no_end : (w : World) (target y : NodeName) → ends_at w target None y ≡ false
 no_end w target y = none_ends (not (name_eq y target)) (name_eq y (retarget w target y))
 
 -- so it is the whole path

@@ -1,12 +1,10 @@
 -- Visits at page nodes do to what the page sees what they do alone; those at components' nodes, whose listeners only log, are unseen.
-use Rattle.std.proofs.Common.{◌≡◌, Bool, List, [], ◌∷◌, ◌++◌, filter, fold, refl, sym, ap, ◌∙◌, subst, append-nil}
+use Rattle.std.proofs.Common.{◌≡◌, List, [], ◌∷◌, ◌++◌, filter, fold, refl, sym, ap, ◌∙◌, subst, append-nil}
 use Rattle.std.proofs.lemmas.Bool.{cond-true, cond-false}
 use Rattle.std.proofs.lemmas.List.Elements.{filter-append}
 use Rattle.dom_base.specs.declared.Owner.{Owner}
 use Rattle.dom_base.specs.declared.Owner.TheVariants.{Page}
 use Rattle.dom_base.specs.declared.NodeName.{NodeName}
-use Rattle.dom_base.specs.declared.Action.{Action}
-use Rattle.dom_base.specs.declared.Action.TheVariants.{Log, Stop, StopNow, Cancel}
 use Rattle.dom_model.specs.Names.{name_eq}
 use Rattle.dom_model.specs.Command.{EventWords}
 use Rattle.dom_model.specs.Listeners.{Listener, Visit, visited, called, hears, kept_after, after_action, may_cancel, line_of}
@@ -20,24 +18,17 @@ use Rattle.dom_isolation.specs.Laws.{is_page_line, page_going, is_page_visit, Vi
 use Rattle.std.specs.List.{AllByRecursion}
 use Rattle.dom_worlds.proofs.Lists.{all-filter}
 use Rattle.dom_worlds.proofs.Tests.{by_cases}
-use Rattle.dom_worlds.proofs.Visits.{Going, call, call-of, no_call, InWorld, with_listeners, logs-visit}
+use Rattle.dom_worlds.proofs.Visits.{Going, call, call-of, no_call, InWorld, with_listeners, logs-visit, sifted-after_action}
 
 -- what the page sees of the lines of a dispatch
 abbrev pub seen : Going → Going
 seen d = record d { lines = filter is_page_line d.lines }
 
--- At a page node a call, and so a visit, does the same to what is seen.
-seen-after_action : (a : Action) (c : Bool) (d : Going) → seen (after_action a c d) ≡ after_action a c (seen d)
-seen-after_action Log c d = refl
-seen-after_action Stop c d = refl
-seen-after_action StopNow c d = refl
-seen-after_action Cancel c d = refl
-
 -- a call at a page node, as it is seen
 seen-call : (e : EventWords) (v : Visit NodeName) → v.current.owner ≡ Page → (d : Going) (l : Listener NodeName) → seen (call e v d l) ≡ call e v (seen d) l
 unfolding call
 seen-call e v h d l =
-    seen-after_action l.words.action (may_cancel e l.words)
+    sifted-after_action is_page_line l.words.action (may_cancel e l.words)
     (record d { listeners = kept_after name_eq l d.listeners; lines = d.lines ++ line_of v l.words ∷ [] })
     ∙ ap (λ ls. after_action l.words.action (may_cancel e l.words) (record d { listeners = kept_after name_eq l d.listeners; lines = ls }))
     (filter-append is_page_line d.lines (line_of v l.words ∷ []) ∙ rw h refl)

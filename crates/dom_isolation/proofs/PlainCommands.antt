@@ -10,7 +10,7 @@ use Rattle.dom_base.specs.declared.Kind.TheVariants.{Shadow}
 use Rattle.dom_base.specs.declared.Refusal.{Refusal}
 use Rattle.dom_base.specs.declared.Refusal.TheVariants.{Syntax}
 use Rattle.dom_model.specs.Names.{name_eq}
-use Rattle.dom_model.specs.Tree.{node_in, parent_of, attribute_value}
+use Rattle.dom_model.specs.Tree.{node_in}
 use Rattle.dom_model.specs.Command.{Command, Line, no_owner, no_command, command, ListenerWords}
 use Rattle.dom_model.specs.CommandNames.{named}
 use Rattle.dom_model.specs.DocumentMachine.{first_world, part_with_root, refusal, effect_in, attaching, perform, accepted, run_command, step}

@@ -7,7 +7,7 @@ use Rattle.dom_base.specs.declared.NodeName.{NodeName}
 use Rattle.dom_model.specs.Names.{Word, DomString, name_eq, is_in, text_eq}
 use Rattle.dom_model.specs.Tree.{Node, Attribute, nodes, node_in, no_node, children_of, parent_of, inclusive_ancestors, inclusive_descendants}
 use Rattle.dom_model.specs.TreeChanges.{with_name, with_document, with_data_replaced, with_attribute, attributes_with, attributes_without}
-use Rattle.dom_model.specs.Extract.{pieces_of, clone}
+use Rattle.dom_model.specs.Extract.{pieces_of}
 use Rattle.dom_model.specs.Listeners.{Listener}
 use Rattle.dom_model.specs.Observers.{Registration, target_of, without_old, fitting, asks_for_old}
 use Rattle.dom_model.specs.Output.{Change, child_list, attributes, character_data}
@@ -16,7 +16,7 @@ use Rattle.dom_model.specs.Steps.{Step, make, place, take_out, set_document, set
 use Rattle.dom_model.specs.Steps.{interested_in}
 use Rattle.dom_worlds.specs.Worlds.{AllNodes}
 use Rattle.dom_isolation.specs.Words.{HasNoFeed}
-use Rattle.dom_worlds.proofs.Lists.{all-append, all-from}
+use Rattle.dom_worlds.proofs.Lists.{all-append, all-from, all-set}
 use Rattle.dom_worlds.proofs.Tests.{either_way}
 use Rattle.dom_worlds.proofs.TreeChangeLaws.{nodes-with_node, nodes-taken_out, nodes-placed, nodes-map_nodes, nodes-listed}
 use Rattle.dom_worlds.proofs.Plans.{IsKept}
@@ -54,12 +54,6 @@ IsPlainStep (make n) = IsPlainNode n
 IsPlainStep (set_attribute x a v) = HasNoFeed a
 IsPlainStep (queue_record c) = IsPlainChange c
 IsPlainStep s = ⊤
-
--- Lists of which one item is written or read.
-all-set : {X : Type 0} (P : X → Type 0) (xs : List X) (k : ℕ) (x : X) → AllByRecursion P xs → P x → AllByRecursion P (slice_set xs k x)
-all-set P [] k x h g = tt
-all-set P (y ∷ ys) zero x h g = (g, h.1)
-all-set P (y ∷ ys) (suc k) x h g = (h.0, all-set P ys k x h.1 g)
 
 -- a queue that is read
 pub plain-queue : (queues : List (List (Change NodeName))) (k : ℕ) → AllByRecursion IsPlainQueue queues → IsPlainQueue (queue_of queues k)

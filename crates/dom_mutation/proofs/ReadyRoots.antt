@@ -14,7 +14,7 @@ use Rattle.dom_model.specs.Steps.{Step, make, place, take_out, set_document, set
 use Rattle.dom_model.specs.Tree.{Trees, none, tree, Node, no_node, node_in, kind_of, is_shadow, has_data, parent_of, children_of, subtree}
 use Rattle.dom_model.specs.Tree.{trees_below, inclusive_descendants}
 use Rattle.dom_model.specs.TreeChanges.{map_nodes, with_name, with_document, with_data_replaced, with_attribute}
-use Rattle.dom_model.proofs.OwnerLaws.{name_eq-same}
+use Rattle.dom_model.proofs.OwnerLaws.{name_eq-same, name_eq-true}
 use Rattle.dom_worlds.specs.Worlds.{times_in, IsPart, AllNodes, IsShadowAt}
 use Rattle.dom_worlds.proofs.FitPieces.{common_below, whole-pieces}
 use Rattle.dom_worlds.proofs.FollowPaths.{shadow-kind}
@@ -28,7 +28,7 @@ use Rattle.dom_worlds.proofs.ReachedFacts.{root-alone}
 use Rattle.dom_worlds.proofs.ShadowRoots.{kind-root, found-absent}
 use Rattle.dom_worlds.proofs.Tests.{by_cases}
 use Rattle.dom_worlds.proofs.TreeChangeLaws.{nodes-then, nodes-named, nodes-with_node, nodes-placed, nodes-taken_out, nodes-map_nodes, root-below_none}
-use Rattle.dom_worlds.proofs.Trees.{name_eq-true, by_times}
+use Rattle.dom_worlds.proofs.Trees.{by_times}
 
 -- no shadow root has a parent
 abbrev pub LoneRoots : Trees → Type 0

@@ -27,10 +27,9 @@ use Rattle.dom_worlds.specs.Tables.{IsNodeIn, HasEnds, EndsIn}
 use Rattle.dom_worlds.proofs.BoundLines.{under-at}
 use Rattle.dom_worlds.proofs.Bounds.{RangeUnder, reach, nowhere}
 use Rattle.dom_worlds.proofs.KeptOffsets.{room-of}
-use Rattle.dom_worlds.proofs.Lists.{all-append}
+use Rattle.dom_worlds.proofs.Lists.{all-append, all-set}
 use Rattle.dom_worlds.proofs.PlanRoots.{ends-at}
 use Rattle.dom_worlds.proofs.Roots.{roots-equal, roots-same}
-use Rattle.dom_worlds.proofs.TableSteps.{all-set}
 use Rattle.dom_worlds.proofs.Tests.{which_way}
 use Rattle.dom_worlds.specs.Worlds.{IsPart}
 use Rattle.dom_mutation.specs.Ready.{IsReadyPart, AreReady}

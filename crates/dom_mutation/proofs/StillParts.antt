@@ -16,7 +16,6 @@ use Rattle.dom_worlds.proofs.PartSteps.{KeepsNames, some-keeps, attribute-keeps}
 use Rattle.dom_worlds.proofs.ShadowRoots.{found-there}
 use Rattle.dom_worlds.proofs.Tests.{by_cases}
 use Rattle.dom_worlds.proofs.TreeChangeLaws.{nodes-with_node, nodes-taken_out, nodes-placed, nodes-map_nodes, nodes-listed, nodes-then}
-use Rattle.dom_worlds.proofs.Trees.{name_eq-true}
 use Rattle.dom_model.specs.Names.{name_eq, is_in}
 use Rattle.dom_model.specs.Part.{Part, next_name, queue_of}
 use Rattle.dom_model.specs.Place.{Boundary}
@@ -25,6 +24,7 @@ use Rattle.dom_model.specs.Steps.{Step, make, make_room, place, take_out, set_do
 use Rattle.dom_model.specs.Steps.{queue_record, part_step, leave, after, interested_in, record_in}
 use Rattle.dom_model.specs.Tree.{Trees, Node, nodes, node_in, no_node, kind_of, has_node, parent_of, inclusive_descendants}
 use Rattle.dom_model.specs.TreeChanges.{map_nodes, with_name, with_document, with_data_replaced, with_attribute}
+use Rattle.dom_model.proofs.OwnerLaws.{name_eq-true}
 use Rattle.dom_mutation.specs.Still.{HasStill, HasStillTables}
 
 -- Places of lists.

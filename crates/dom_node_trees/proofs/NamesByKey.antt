@@ -13,8 +13,7 @@ use Rattle.dom_base.specs.declared.Owner.{Owner}
 use Rattle.dom_base.specs.declared.Owner.TheVariants.{Page}
 use Rattle.dom_model.specs.Names.{name_eq, is_in, append_once, node_of}
 use Rattle.dom_model.specs.Turns.{is_owned_by}
-use Rattle.dom_model.proofs.OwnerLaws.{name_eq-same}
-use Rattle.dom_tree.proofs.Names.{name_eq-true}
+use Rattle.dom_model.proofs.OwnerLaws.{name_eq-same, name_eq-true}
 use Rattle.dom_tree.specs.Forest.{name_at}
 use Rattle.dom_node_trees.specs.Signalled.{AreNames}
 

@@ -11,8 +11,8 @@ use Rattle.dom_base.specs.declared.NodeName.{NodeName}
 use Rattle.dom_base.specs.declared.Owner.TheVariants.{Page}
 use Rattle.dom_model.specs.Names.{name_eq, node_of, append_once, is_in}
 use Rattle.dom_model.specs.Tree.{Trees}
-use Rattle.dom_tree.proofs.Names.{name_eq-true}
 use Rattle.dom_model.specs.World.{Task, queued_notify}
+use Rattle.dom_model.proofs.OwnerLaws.{name_eq-true}
 use Rattle.dom_slots.specs.Hosts.{ShadowHost}
 use Rattle.dom_slots.specs.Kept.{SlotsNow, BegunStep, AreSlotsOf, IsBegun, IsEndOf}
 use Rattle.dom_slots.specs.Shadows.{shadow_trees}

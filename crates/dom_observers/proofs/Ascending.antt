@@ -9,9 +9,8 @@ use Rattle.std.proofs.lemmas.List.{append_assoc, append-nil, map_push, map-appen
 use Rattle.dom_base.specs.declared.NodeName.{NodeName}
 use Rattle.dom_model.specs.Names.{name_eq}
 use Rattle.dom_model.specs.Tree.{inclusive_ancestors, parent_of, nodes, names_of}
-use Rattle.dom_model.proofs.OwnerLaws.{name_eq-same}
+use Rattle.dom_model.proofs.OwnerLaws.{name_eq-same, name_eq-other, name_eq-true}
 use Rattle.dom_tree.specs.Forest.{NamedTrees, name_at}
-use Rattle.dom_tree.proofs.Names.{name_eq-other, name_eq-true}
 use Rattle.dom_traversal.proofs.Counts.{StandOnce, StandAlone, Once-forest, Has-forest}
 use Rattle.dom_traversal.proofs.Shapes.{above-parent, above-present, above-root, Has-above}
 use Rattle.dom_traversal.proofs.Lists.{In, is_in-from}

@@ -13,9 +13,8 @@ use Rattle.dom_model.specs.Output.{Change, child_list, attributes, character_dat
 use Rattle.dom_model.specs.Observers.{Registration, Source, asked_for, copied_from, copied_from_transient, is_transient, target_of, without_old}
 use Rattle.dom_model.specs.Observers.{registrations_on, fits, fitting, interested, asks_for, asks_for_old, record_for, transients_for, copied_source}
 use Rattle.dom_model.specs.Observers.{options_of, is_asked_for, stems_from, with_options, without_observer, without_transients}
-use Rattle.dom_model.proofs.OwnerLaws.{name_eq-same}
+use Rattle.dom_model.proofs.OwnerLaws.{name_eq-same, name_eq-other}
 use Rattle.dom_tree.specs.Forest.{name_at}
-use Rattle.dom_tree.proofs.Names.{name_eq-other}
 use Rattle.dom_observers.specs.Tables.{TablesOf, queue_at}
 use Rattle.dom_observers.specs.Naming.{named_change, named_source, named_registration, named_tables, IsSourceOf, AreRegistered, AreAll, IsKey}
 use Rattle.dom_observers.specs.Naming.{TellApart, ObservingLaw, TakenLaw, ToldLaw, LeftLaw, MakingLaw, EmptiedLaw, DisconnectedLaw, NotifiedLaw}

@@ -18,11 +18,10 @@ use Rattle.dom_model.specs.CommandRefusals.{may_be_host}
 use Rattle.dom_model.specs.Part.{Part}
 use Rattle.dom_base.specs.Owners.{has_word, may_attach, owner_depth, max_depth}
 use Rattle.dom_model.specs.World.{MayAttach, is_there, part_of, component_made, shadow_root_of}
-use Rattle.dom_model.proofs.OwnerLaws.{owner_eq-false, word-made, may_attach-word, may_attach-from}
+use Rattle.dom_model.proofs.OwnerLaws.{owner_eq-false, word-made, may_attach-word, may_attach-from, name_eq-other}
 use Rattle.dom_slots.specs.Hosts.{ShadowHost, HostsAreNodes, root_of_host}
 use Rattle.dom_slots.specs.Kept.{SlotsNow, AreSlotsOf}
 use Rattle.dom_slots.proofs.Hosted.{AreDistinct, key-test}
-use Rattle.dom_traversal.proofs.Lists.{name_eq-other}
 use Rattle.dom_tree.specs.Forest.{NamedTrees, name_at, next_name, count_of}
 use Rattle.dom_tree.specs.Owners.{trees_of_owner}
 use Rattle.dom_tree.proofs.Owned.{read_own}

@@ -15,11 +15,11 @@ use Rattle.dom_model.specs.Names.{owner_eq, name_eq}
 use Rattle.dom_model.specs.Part.{Part}
 use Rattle.dom_model.specs.Tree.{inclusive_descendants}
 use Rattle.dom_model.specs.World.{MayAttach, part_of, is_there, component_at, component_made, made_by, components_below, host_of, shadow_root_of, trees_with}
-use Rattle.dom_model.proofs.OwnerLaws.{owner_eq-true, owner_eq-false, made_by-is, made_by-made}
+use Rattle.dom_model.proofs.OwnerLaws.{owner_eq-true, owner_eq-false, made_by-is, made_by-made, name_eq-other}
 use Rattle.dom_worlds.specs.Worlds.{HasMakers}
 use Rattle.dom_slots.specs.Hosts.{ShadowHost, host_named, root_named}
 use Rattle.dom_slots.specs.Shadows.{IsShownBy, shadow_trees}
-use Rattle.dom_traversal.proofs.Lists.{name_eq-from, name_eq-other}
+use Rattle.dom_traversal.proofs.Lists.{name_eq-from}
 use Rattle.dom_tree.specs.Forest.{name_at}
 use Rattle.dom_tree.specs.Owners.{trees_of_owner}
 use Rattle.dom_tree.proofs.Owned.{read_own}

@@ -6,8 +6,8 @@ use Rattle.dom_model.specs.Names.{name_eq}
 use Rattle.dom_model.specs.Tree.{Trees, is_inclusive_ancestor}
 use Rattle.dom_model.specs.Place.{Boundary}
 use Rattle.dom_model.specs.Ranges.{at, boundary_eq, after_insert, after_removal, after_replace_data, after_split, after_join}
+use Rattle.dom_model.proofs.OwnerLaws.{name_eq-other}
 use Rattle.dom_tree.specs.Owners.{AreOwned}
-use Rattle.dom_tree.proofs.Names.{name_eq-other}
 use Rattle.dom_parts.specs.Ranging.{IsRuleOf}
 use Rattle.dom_parts.proofs.Keeping.{apart_above}
 

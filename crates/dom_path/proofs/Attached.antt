@@ -6,11 +6,10 @@ use Rattle.std.proofs.lemmas.Bool.{cond-true, cond-false}
 use Rattle.dom_base.specs.declared.NodeName.{NodeName}
 use Rattle.dom_model.specs.Names.{name_eq, owner_depth}
 use Rattle.dom_model.specs.Tree.{parent_of, root_of}
-use Rattle.dom_model.proofs.OwnerLaws.{name_eq-same}
+use Rattle.dom_model.proofs.OwnerLaws.{name_eq-same, name_eq-true}
 use Rattle.dom_worlds.proofs.Tests.{by_cases}
 use Rattle.dom_tree.specs.Forest.{NamedTrees, name_at}
 use Rattle.dom_tree.proofs.Owned.{stays_own}
-use Rattle.dom_traversal.proofs.Lists.{name_eq-true}
 use Rattle.dom_slots.specs.Hosts.{ShadowHost, host_named, root_named}
 use Rattle.dom_slots.specs.Shadows.{ShadowTrees, shadows}
 use Rattle.dom_path.specs.Hosted.{IsHosted, IsAttached, AreApart, AreAttached}

@@ -13,7 +13,7 @@ use Rattle.dom_model.specs.Slots.{slot_of, is_assigned_to}
 use Rattle.dom_model.specs.Tree.{Trees, Node, is_shadow, has_node, node_in, parent_of, root_of}
 use Rattle.dom_model.specs.World.{World, part_of, component_at, shadow_root_of, some_if, host_above, host_chain, hosts_from, kind_at, node_at}
 use Rattle.dom_model.specs.World.{parent_at, root_at}
-use Rattle.dom_model.proofs.OwnerLaws.{depth-maker}
+use Rattle.dom_model.proofs.OwnerLaws.{depth-maker, name_eq-true}
 use Rattle.dom_worlds.specs.Tables.{IsNodeAt}
 use Rattle.dom_worlds.proofs.Chains.{above-host, below-host, hosts-alone, chain-below, hidden-by_chain}
 use Rattle.dom_worlds.proofs.FollowPaths.{shadow-name}
@@ -21,7 +21,7 @@ use Rattle.dom_worlds.proofs.Makers.{hosted, hosted-maker, hosted-owned, hosted-
 use Rattle.dom_worlds.proofs.ReachedFacts.{shadow_roots-are_roots}
 use Rattle.dom_tree.specs.Forest.{NamedTrees}
 use Rattle.dom_tree.proofs.Owned.{read_own, stays_own}
-use Rattle.dom_traversal.proofs.Lists.{name_eq-true, name_eq-from}
+use Rattle.dom_traversal.proofs.Lists.{name_eq-from}
 use Rattle.dom_slots.specs.Hosts.{ShadowHost, host_named, root_named}
 use Rattle.dom_slots.specs.Shadows.{ShadowTrees, shadows, IsShownBy, slot_at, is_assigned_at}
 use Rattle.dom_slots.proofs.Shown.{slot-shown}

@@ -6,9 +6,8 @@ use Rattle.std.proofs.lemmas.Bool.{cases_Bool, or_left, or_right, or_cases}
 use Rattle.dom_base.specs.declared.NodeName.{NodeName}
 use Rattle.dom_model.specs.Names.{name_eq, first_of, is_in}
 use Rattle.dom_model.specs.Tree.{Trees, none, tree, Node, names_of, roots, subtree, node_in, parent_of, next_sibling, is_inclusive_ancestor}
-use Rattle.dom_model.proofs.OwnerLaws.{name_eq-same}
+use Rattle.dom_model.proofs.OwnerLaws.{name_eq-same, name_eq-true, name_eq-turned}
 use Rattle.dom_text.specs.Text.{TreeStep, opens, closes}
-use Rattle.dom_tree.proofs.Names.{name_eq-true, name_eq-turned}
 use Rattle.dom_printer.specs.Steps.{shown, shown_steps}
 use Rattle.dom_tree.specs.Forest.{name_at}
 use Rattle.dom_query_commands.specs.declared.tree_text.Place.{Place}

@@ -9,9 +9,8 @@ use Rattle.dom_base.specs.declared.NodeName.{NodeName}
 use Rattle.dom_model.specs.Names.{name_eq, first_of, items_after}
 use Rattle.dom_model.specs.Tree.{Trees, none, tree, Node, nodes, names_of, roots, or_else, subtree, no_node, node_in, trees_below, children_of}
 use Rattle.dom_model.specs.Tree.{inclusive_ancestors, on_top, parent_of, siblings, next_sibling}
-use Rattle.dom_model.proofs.OwnerLaws.{name_eq-same}
+use Rattle.dom_model.proofs.OwnerLaws.{name_eq-same, name_eq-true, name_eq-turned}
 use Rattle.dom_text.specs.Text.{TreeStep}
-use Rattle.dom_tree.proofs.Names.{name_eq-true, name_eq-turned}
 use Rattle.dom_query_commands.proofs.Spots.{Spot, spot_of, IsSpot, IsRoot, IsChild, closed, times, times-here, times-elsewhere, spot_of-spot}
 use Rattle.dom_query_commands.proofs.Spots.{times-root, times-below, above-root}
 

@@ -7,9 +7,8 @@ use Rattle.std.proofs.lemmas.List.Sums.{sum_by-cons, sum_by-append}
 use Rattle.dom_base.specs.declared.NodeName.{NodeName}
 use Rattle.dom_model.specs.Names.{name_eq}
 use Rattle.dom_model.specs.Tree.{Trees, none, tree, Node, nodes}
-use Rattle.dom_model.proofs.OwnerLaws.{name_eq-same}
+use Rattle.dom_model.proofs.OwnerLaws.{name_eq-same, name_eq-true}
 use Rattle.dom_text.specs.Text.{TreeStep, closes}
-use Rattle.dom_tree.proofs.Names.{name_eq-true}
 use Rattle.dom_printer.specs.Steps.{shown_steps}
 
 -- a node where it stands: the trees of its children, the trees right of it, the names of its ancestors from its parent on, and

@@ -9,10 +9,11 @@ use Rattle.dom_model.specs.Names.{name_eq, is_in}
 use Rattle.dom_model.specs.Place.{is_before, place_of}
 use Rattle.dom_model.specs.Ranges.{Range}
 use Rattle.dom_model.specs.Tree.{Trees, none, tree, nodes, names_of, root_of, inclusive_ancestors, inclusive_descendants, is_inclusive_ancestor}
+use Rattle.dom_model.proofs.OwnerLaws.{name_eq-true}
 use Rattle.dom_ranges.proofs.Before.{before-up, before-down, before-beside}
 use Rattle.dom_traversal.proofs.Children.{names-tree, Has-names}
 use Rattle.dom_traversal.proofs.Lists.{In, In-from, In-left, In-right, In-parts, is_in-from, is_in-not, filter-none, filter-same, filter-yes}
-use Rattle.dom_traversal.proofs.Lists.{filter-no, name_eq-true}
+use Rattle.dom_traversal.proofs.Lists.{filter-no}
 use Rattle.dom_traversal.proofs.Order.{IsWithin, stands_in, splits, inside-test}
 use Rattle.dom_traversal.proofs.Shapes.{Once, Has, Has-above, above-here, above-below, above-beside}
 use Rattle.dom_traversal.specs.Within.{ahead_of, beyond}

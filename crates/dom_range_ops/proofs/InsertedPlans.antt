@@ -4,13 +4,13 @@ use Rattle.std.specs.Option.{ForSome}
 use Rattle.std.proofs.lemmas.Bool.{cond-false}
 use Rattle.dom_base.specs.declared.NodeName.{NodeName}
 use Rattle.dom_base.specs.declared.Owner.{Owner}
-use Rattle.dom_worlds.proofs.Trees.{name_eq-sym}
 use Rattle.dom_model.specs.Changes.{Plan, ◌and_then◌, observed, removing, inserting, reference_for}
 use Rattle.dom_model.specs.Names.{name_eq}
 use Rattle.dom_model.specs.Ranges.{at}
 use Rattle.dom_model.specs.RangeOps.{ending_at, inserting_before, inserting_at}
 use Rattle.dom_model.specs.Tree.{Trees, next_sibling, inclusive_ancestors, is_inclusive_ancestor}
 use Rattle.dom_model.specs.World.{part_of}
+use Rattle.dom_model.proofs.OwnerLaws.{name_eq-turned}
 use Rattle.dom_tree.specs.Forest.{name_at}
 use Rattle.dom_mutation.specs.Doc.{DocState, made, planned, name_in, owner_in, trees_in, IsChild}
 use Rattle.dom_mutation.specs.Hosting.{IsAlone}
@@ -30,7 +30,7 @@ state-is d e o f names world = λ j. record { names = names j; world = world j }
 pub kept-reference : (ts : Trees) (x : NodeName) (name : ℕ → NodeName) (reference : Option ℕ) →
     ForSome reference (λ b. name_eq x (name b) ≡ false) → reference_for ts x (option_map name reference) ≡ option_map name reference
 kept-reference ts x name None apart = refl
-kept-reference ts x name (Some b) apart = cond-false (name_eq (name b) x) (next_sibling ts x) (Some (name b)) (name_eq-sym (name b) x ∙ apart b refl)
+kept-reference ts x name (Some b) apart = cond-false (name_eq (name b) x) (next_sibling ts x) (Some (name b)) (name_eq-turned (name b) x ∙ apart b refl)
 
 module _ (d : DocState) (o : Owner) (k : ℕ) (parent node : ℕ) (alone : IsAlone d.world o) (own : owner_in d parent ≡ o) (node_own : owner_in d node ≡ o) where
   abbrev x : NodeName

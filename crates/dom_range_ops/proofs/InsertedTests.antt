@@ -18,7 +18,7 @@ use Rattle.dom_model.specs.Tree.{Trees, kind_of, is_text, parent_of, is_inclusiv
 use Rattle.dom_model.specs.Validity.{may_be_parent, has_parent, placing_tests, insertion_refusal}
 use Rattle.dom_model.specs.World.{World, part_of}
 use Rattle.dom_model.specs.WorldSteps.{world_after}
-use Rattle.dom_tree.proofs.Names.{name_eq-true}
+use Rattle.dom_model.proofs.OwnerLaws.{name_eq-true}
 use Rattle.dom_mutation.specs.Doc.{made}
 use Rattle.dom_range_ops.specs.Insertions.{inserting_node, inserting_before_tail, node_refusal, inserting_refusal}
 

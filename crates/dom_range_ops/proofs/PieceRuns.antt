@@ -7,12 +7,13 @@ use Rattle.std.proofs.lemmas.List.{append-nil, map_push, take-append-drop}
 use Rattle.dom_base.specs.declared.NodeName.{NodeName}
 use Rattle.dom_model.specs.Names.{name_eq, first_of, items_after}
 use Rattle.dom_model.specs.Tree.{Trees, parent_of, children_of, siblings, next_sibling}
+use Rattle.dom_model.proofs.OwnerLaws.{name_eq-other}
 use Rattle.dom_range_ops.specs.Pieces.{Item, whole_item, item_in, IsPieceIn, AreItems, Adds, from_sibling, up_to}
 use Rattle.dom_range_ops.specs.declared.pieces.Piece.{Piece}
 use Rattle.dom_range_ops.specs.declared.pieces.Piece.TheVariants.{Whole}
 use Rattle.dom_slots.proofs.Siblings.{from_item, from-next, children-single}
 use Rattle.dom_traversal.proofs.Children.{parent-of_child, child-of_parent}
-use Rattle.dom_traversal.proofs.Lists.{In, In-right, Single, Single-apart, first_split, after-in, after-split, before-split, name_eq-from, name_eq-other}
+use Rattle.dom_traversal.proofs.Lists.{In, In-right, Single, Single-apart, first_split, after-in, after-split, before-split, name_eq-from}
 use Rattle.dom_traversal.proofs.Shapes.{Has, Once}
 use Rattle.dom_traversal.proofs.Climbing.{TellApart}
 use Rattle.dom_traversal.proofs.Counts.{StandOnce, StandAlone, Once-forest, Has-forest}

@@ -9,12 +9,11 @@ use Rattle.std.proofs.lemmas.Option.{same_Some, none-some, slice_get-map}
 use Rattle.dom_base.specs.declared.Owner.{Owner}
 use Rattle.dom_base.specs.declared.NodeName.{NodeName}
 use Rattle.dom_model.specs.Names.{name_eq, owner_eq}
-use Rattle.dom_model.proofs.OwnerLaws.{name_eq-same, owner_eq-true}
+use Rattle.dom_model.proofs.OwnerLaws.{name_eq-same, owner_eq-true, name_eq-other}
 use Rattle.dom_model.specs.Place.{Boundary}
 use Rattle.dom_model.specs.Ranges.{Range, at, from_to, map_ends, boundary_eq, after_insert, after_removal, after_replace_data, after_split, after_join}
 use Rattle.dom_model.specs.Tree.{is_inclusive_ancestor}
 use Rattle.dom_tree.specs.Forest.{name_at}
-use Rattle.dom_tree.proofs.Names.{name_eq-other}
 use Rattle.dom_ranges.specs.Naming.{AreApart, StandAtNodes, IsNamedRule, InsertNamed, RemovalNamed, ReplaceDataNamed, SplitNamed, JoinNamed}
 use Rattle.dom_ranges.specs.Naming.{StartNamed, EndNamed, GrownNamed, MadeNamed, RemovedNamed, RewrittenNamed, CollapsedNamed, named_ends_by}
 use Rattle.dom_ranges.specs.Rules.{IsAtNode, is_inside}

@@ -12,10 +12,9 @@ use Rattle.dom_model.specs.Place.{Boundary, place_from, place_of, list_before, i
 use Rattle.dom_model.specs.Ranges.{Range, from_to, with_start, with_end}
 use Rattle.dom_model.specs.Tree.{Trees, none, tree, root_of}
 use Rattle.dom_tree.specs.Owners.{AreOf, HaveOwners, AreOwned, trees_of_owner}
-use Rattle.dom_model.proofs.OwnerLaws.{owner_eq-false}
+use Rattle.dom_model.proofs.OwnerLaws.{owner_eq-false, name_eq-turned}
 use Rattle.dom_ranges.proofs.Places.{place-at_root, known, path-tree}
 use Rattle.dom_traversal.proofs.Shapes.{Has, Once}
-use Rattle.dom_tree.proofs.Names.{name_eq-turned}
 use Rattle.dom_tree.proofs.Owned.{name_apart, read_own}
 
 -- ---- places

@@ -8,7 +8,8 @@ use Rattle.dom_base.specs.declared.NodeName.{NodeName}
 use Rattle.dom_model.specs.Names.{name_eq, first_of, last_of, items_before}
 use Rattle.dom_model.specs.Place.{place_from, place_of, same_root}
 use Rattle.dom_model.specs.Tree.{Trees, none, tree, Node, names_of, roots, trees_below, inclusive_ancestors, parent_of, root_of, index_of, children_of}
-use Rattle.dom_traversal.proofs.Lists.{name_eq-from, name_eq-other, name_eq-true, last_of-end}
+use Rattle.dom_model.proofs.OwnerLaws.{name_eq-other, name_eq-true}
+use Rattle.dom_traversal.proofs.Lists.{name_eq-from, last_of-end}
 use Rattle.dom_traversal.proofs.Shapes.{Has, Once, subtree-here, subtree-below, subtree-beside, above-here, above-below, above-beside, above-present}
 use Rattle.dom_traversal.proofs.Shapes.{above-parent, above-root}
 

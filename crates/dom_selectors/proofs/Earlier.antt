@@ -12,8 +12,9 @@ use Rattle.dom_base.specs.declared.NodeName.{NodeName}
 use Rattle.dom_model.specs.Names.{name_eq, last_of, items_before, items_after}
 use Rattle.dom_model.specs.Tree.{Trees, Node, nodes, names_of, no_node, is_element, kind_of, ancestors, inclusive_ancestors, parent_of}
 use Rattle.dom_model.specs.Selectors.{compound_matches, elements_before, CompoundPart}
+use Rattle.dom_model.proofs.OwnerLaws.{name_eq-other}
 use Rattle.dom_tree.specs.Forest.{NamedTrees, name_at}
-use Rattle.dom_traversal.proofs.Lists.{In, split_at, last_split, no_last, name_eq-other, filter-yes, filter-no}
+use Rattle.dom_traversal.proofs.Lists.{In, split_at, last_split, no_last, filter-yes, filter-no}
 use Rattle.dom_traversal.proofs.Shapes.{Has, Once, has_or_not, Has-above}
 use Rattle.dom_traversal.proofs.Children.{Has-names}
 use Rattle.dom_traversal.proofs.Opening.{above-proper, proper-parent}

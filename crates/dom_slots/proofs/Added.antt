@@ -18,9 +18,10 @@ use Rattle.dom_model.specs.Tree.{Trees, none, tree, Node, nodes, roots, names_of
 use Rattle.dom_model.specs.Tree.{root_of, trees_below, children_of}
 use Rattle.dom_model.specs.TreeChanges.{with_node, put_root}
 use Rattle.dom_model.specs.Slots.{is_slot_element, slots_among, slot_in}
+use Rattle.dom_model.proofs.OwnerLaws.{name_eq-other}
 use Rattle.dom_tree.specs.Forest.{NamedTrees, name_at}
 use Rattle.dom_traversal.proofs.Counts.{Once-forest}
-use Rattle.dom_traversal.proofs.Lists.{name_eq-from, name_eq-other, same_or_not}
+use Rattle.dom_traversal.proofs.Lists.{name_eq-from, same_or_not}
 use Rattle.dom_traversal.proofs.Removal.{above-put_others}
 use Rattle.dom_traversal.proofs.Shapes.{Has, Once, above-absent, subtree-absent}
 use Rattle.dom_slots.specs.Hosts.{ShadowHost, HostsAreNodes, host_named, root_named, host_of_root}

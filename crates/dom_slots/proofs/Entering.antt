@@ -8,8 +8,9 @@ use Rattle.dom_base.specs.declared.NodeName.{NodeName}
 use Rattle.dom_model.specs.Names.{DomString, name_eq, is_in}
 use Rattle.dom_model.specs.Tree.{Node, nodes, names_of, node_in, parent_of, root_of, children_of, subtree}
 use Rattle.dom_model.specs.Slots.{slots_among, slot_in, has_slot_name, slottable_name, is_slot_element}
+use Rattle.dom_model.proofs.OwnerLaws.{name_eq-true}
 use Rattle.dom_tree.specs.Forest.{NamedTrees, name_at}
-use Rattle.dom_traversal.proofs.Lists.{name_eq-from, name_eq-true, filter-none}
+use Rattle.dom_traversal.proofs.Lists.{name_eq-from, filter-none}
 use Rattle.dom_slots.specs.Hosts.{ShadowHost, root_named}
 use Rattle.dom_slots.specs.Shadows.{shadows, slot_at, assigned_at, assigned_under, is_assigned_at}
 use Rattle.dom_slots.specs.Tables.{SlotTable, list_of}

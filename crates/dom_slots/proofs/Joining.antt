@@ -11,9 +11,10 @@ use Rattle.dom_base.specs.declared.NodeName.{NodeName}
 use Rattle.dom_model.specs.Names.{name_eq, list_eq, is_in, first_of, items_before, items_after}
 use Rattle.dom_model.specs.Slots.{slot_name}
 use Rattle.dom_model.specs.Tree.{node_in, parent_of, root_of, children_of, siblings}
+use Rattle.dom_model.proofs.OwnerLaws.{name_eq-other}
 use Rattle.dom_tree.specs.Forest.{NamedTrees, name_at}
 use Rattle.dom_traversal.proofs.Children.{parent-of_child, child-of_parent}
-use Rattle.dom_traversal.proofs.Lists.{In, Single, Single-apart, Single-right, In-parts, after-in, name_eq-from, name_eq-other, filter-same}
+use Rattle.dom_traversal.proofs.Lists.{In, Single, Single-apart, Single-right, In-parts, after-in, name_eq-from, filter-same}
 use Rattle.dom_traversal.proofs.Lists.{filter-yes, first_split, split_at}
 use Rattle.dom_traversal.proofs.Shapes.{Once, Has}
 use Rattle.node_arena.specs.Nodes.{put_before, insert_before}

@@ -5,8 +5,8 @@ use Rattle.std.proofs.lemmas.Bool.{eqb-true, eq-eqb, or_parts, false_from_ne_tru
 use Rattle.std.proofs.lemmas.List.Elements.{All-head, All-tail}
 use Rattle.dom_base.specs.declared.NodeName.{NodeName}
 use Rattle.dom_model.specs.Names.{name_eq, list_eq, is_in}
+use Rattle.dom_model.proofs.OwnerLaws.{name_eq-turned}
 use Rattle.dom_tree.specs.Forest.{name_at}
-use Rattle.dom_tree.proofs.Names.{name_eq-turned}
 use Rattle.node_arena.specs.Nodes.{without}
 use Rattle.dom_slots.specs.Renewals.{names_but}
 use Rattle.dom_slots.specs.Tables.{SlotTable, list_of}

@@ -6,7 +6,8 @@ use Rattle.std.proofs.lemmas.Bool.{cases_Bool}
 use Rattle.dom_base.specs.declared.NodeName.{NodeName}
 use Rattle.dom_model.specs.Names.{name_eq, first_of}
 use Rattle.dom_model.specs.Tree.{Trees, none, tree, Node, nodes, names_of, node_in, no_node, subtree, or_else, inclusive_descendants}
-use Rattle.dom_traversal.proofs.Lists.{In, Single, name_eq-from, name_eq-other}
+use Rattle.dom_model.proofs.OwnerLaws.{name_eq-other}
+use Rattle.dom_traversal.proofs.Lists.{In, Single, name_eq-from}
 use Rattle.dom_traversal.proofs.Shapes.{Once}
 use Rattle.dom_traversal.proofs.Children.{Single-names}
 

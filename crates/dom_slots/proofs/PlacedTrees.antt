@@ -6,8 +6,9 @@ use Rattle.dom_base.specs.declared.NodeName.{NodeName}
 use Rattle.dom_model.specs.Names.{name_eq, name_before, first_of}
 use Rattle.dom_model.specs.Tree.{Trees, none, tree, Node, roots, names_of, or_else, subtree, on_top, inclusive_ancestors, parent_of}
 use Rattle.dom_model.specs.TreeChanges.{without, is_given, put_before, put_below, put_root}
+use Rattle.dom_model.proofs.OwnerLaws.{name_eq-other}
 use Rattle.dom_slots.specs.Renewals.{names_but}
-use Rattle.dom_traversal.proofs.Lists.{same_or_not, name_eq-from, name_eq-other, filter-no}
+use Rattle.dom_traversal.proofs.Lists.{same_or_not, name_eq-from, filter-no}
 use Rattle.dom_traversal.proofs.Removal.{Has-without}
 use Rattle.dom_traversal.proofs.Shapes.{Has, Once, above-absent, subtree-absent, subtree-here, subtree-below, subtree-beside}
 

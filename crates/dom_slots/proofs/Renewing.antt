@@ -8,9 +8,9 @@ use Rattle.std.proofs.lemmas.List.Elements.{All-nil}
 use Rattle.std.proofs.lemmas.List.Folds.{list_any-append}
 use Rattle.dom_base.specs.declared.NodeName.{NodeName}
 use Rattle.dom_model.specs.Names.{name_eq, list_eq, is_in, append_once}
+use Rattle.dom_model.proofs.OwnerLaws.{name_eq-turned, name_eq-true}
 use Rattle.dom_tree.specs.Forest.{NamedTrees, name_at}
-use Rattle.dom_tree.proofs.Names.{name_eq-turned}
-use Rattle.dom_traversal.proofs.Lists.{name_eq-true, filter-yes, filter-no}
+use Rattle.dom_traversal.proofs.Lists.{filter-yes, filter-no}
 use Rattle.dom_slots.specs.Hosts.{ShadowHost}
 use Rattle.dom_slots.specs.Renewals.{AreRenewed}
 use Rattle.dom_slots.specs.Shadows.{shadows, assigned_at}

@@ -9,9 +9,9 @@ use Rattle.std.proofs.lemmas.List.Folds.{list_any-append}
 use Rattle.std.proofs.lemmas.List.Sums.{fold-append}
 use Rattle.dom_base.specs.declared.NodeName.{NodeName}
 use Rattle.dom_model.specs.Names.{name_eq, is_in, append_once, distinct, list_eq}
+use Rattle.dom_model.proofs.OwnerLaws.{name_eq-turned, name_eq-true}
 use Rattle.dom_tree.specs.Forest.{name_at}
-use Rattle.dom_tree.proofs.Names.{name_eq-turned}
-use Rattle.dom_traversal.proofs.Lists.{name_eq-from, name_eq-true, filter-yes, filter-no}
+use Rattle.dom_traversal.proofs.Lists.{name_eq-from, filter-yes, filter-no}
 use Rattle.dom_slots.proofs.Hosted.{AreDistinct, key-test}
 
 -- ---- names added one by one are those of the list, each at its first place

@@ -11,10 +11,11 @@ use Rattle.dom_base.specs.declared.Move.TheVariants as moves
 use Rattle.dom_model.specs.Names.{name_eq, first_of}
 use Rattle.dom_model.specs.Traversal.{Walker, accepts, walker_siblings, walker_step, walker_move, sibling_top}
 use Rattle.dom_model.specs.Tree.{Trees, inclusive_ancestors, ancestors, children_of, is_inclusive_ancestor, inclusive_descendants}
+use Rattle.dom_model.proofs.OwnerLaws.{name_eq-other}
 use Rattle.dom_tree.specs.Forest.{NamedTrees, name_at}
 use Rattle.dom_traversal.specs.Walkers.{KeyedWalker, walker_view, is_opened, is_reached, stop_above, stop_of, BeginsForward}
 use Rattle.dom_traversal.specs.Within.{ahead_of, behind, beyond, from_node, StandsBelow}
-use Rattle.dom_traversal.proofs.Lists.{In, Single, Single-right, Single-apart, is_in-from, is_in-not, name_eq-from, name_eq-other, no_first, first_split}
+use Rattle.dom_traversal.proofs.Lists.{In, Single, Single-right, Single-apart, is_in-from, is_in-not, name_eq-from, no_first, first_split}
 use Rattle.dom_traversal.proofs.Children.{parent-of_child}
 use Rattle.dom_traversal.proofs.Order.{IsWithin, stands_in, all_single, here, below, splits, behind_is}
 use Rattle.dom_traversal.proofs.Steps.{within-itself, top_places, first_child, no_child}

@@ -8,10 +8,11 @@ use Rattle.dom_base.specs.declared.Move.TheVariants as moves
 use Rattle.dom_model.specs.Names.{name_eq, last_of}
 use Rattle.dom_model.specs.Traversal.{Walker, walker_children, walker_siblings, walker_step, walker_move, sibling_top}
 use Rattle.dom_model.specs.Tree.{Trees, inclusive_ancestors, ancestors, children_of, inclusive_descendants}
+use Rattle.dom_model.proofs.OwnerLaws.{name_eq-other}
 use Rattle.dom_tree.specs.Forest.{NamedTrees, name_at}
 use Rattle.dom_traversal.specs.Walkers.{KeyedWalker, walker_view, is_opened, is_reached, is_candidate, stop_above, stop_of, StepsBehind, BeginsBackward}
 use Rattle.dom_traversal.specs.Within.{ahead_of, up_to_tree, StandsBelow}
-use Rattle.dom_traversal.proofs.Lists.{In, In-left, In-right, is_in-from, In-from, name_eq-from, name_eq-other, not_before, last_split, filter-no, filter-same}
+use Rattle.dom_traversal.proofs.Lists.{In, In-left, In-right, is_in-from, In-from, name_eq-from, not_before, last_split, filter-no, filter-same}
 use Rattle.dom_traversal.proofs.Order.{IsWithin, here, below}
 use Rattle.dom_traversal.proofs.Steps.{within-itself, top_places, last_child, no_last_child}
 use Rattle.dom_traversal.proofs.Counts.{above-within}

@@ -6,8 +6,9 @@ use Rattle.dom_base.specs.declared.NodeName.{NodeName}
 use Rattle.dom_model.specs.Names.{name_eq, items_before}
 use Rattle.dom_model.specs.Traversal.{Walker, accepts, skips, between, walker_children}
 use Rattle.dom_model.specs.Tree.{Trees, none, tree, inclusive_ancestors, ancestors, is_inclusive_ancestor}
+use Rattle.dom_model.proofs.OwnerLaws.{name_eq-other}
 use Rattle.dom_traversal.specs.Walkers.{is_opened, is_reached}
-use Rattle.dom_traversal.proofs.Lists.{In, In-left, Single, Single-apart, is_in-not, name_eq-other, filter-same}
+use Rattle.dom_traversal.proofs.Lists.{In, In-left, Single, Single-apart, is_in-not, filter-same}
 use Rattle.dom_traversal.proofs.Shapes.{Has, Once, Has-above, above-here, above-below, above-beside, above-from_below}
 use Rattle.dom_traversal.proofs.Children.{Single-append}
 use Rattle.dom_traversal.proofs.Order.{IsWithin, stands_in, all_single, here, below}

@@ -5,8 +5,9 @@ use Rattle.std.proofs.lemmas.Bool.{cases_Bool, not-true}
 use Rattle.dom_base.specs.declared.NodeName.{NodeName}
 use Rattle.dom_model.specs.Names.{name_eq, first_of, last_of, items_before}
 use Rattle.dom_model.specs.Tree.{Trees, none, tree, inclusive_ancestors, is_inclusive_ancestor, inclusive_descendants}
+use Rattle.dom_model.proofs.OwnerLaws.{name_eq-other}
 use Rattle.dom_traversal.specs.Within.{ahead_of, behind, beyond}
-use Rattle.dom_traversal.proofs.Lists.{In, In-left, In-right, In-parts, Single, Single-apart, same_or_not, name_eq-from, name_eq-other, before-split}
+use Rattle.dom_traversal.proofs.Lists.{In, In-left, In-right, In-parts, Single, Single-apart, same_or_not, name_eq-from, before-split}
 use Rattle.dom_traversal.proofs.Lists.{no_last, last_split}
 use Rattle.dom_traversal.proofs.Shapes.{Has, Once, Has-above, above-here, above-below, above-beside}
 use Rattle.dom_traversal.proofs.Order.{IsWithin, all_single, here, below, splits, outside-test}

@@ -8,8 +8,9 @@ use Rattle.dom_base.specs.declared.Owner.TheVariants.{Page}
 use Rattle.dom_base.specs.declared.NodeName.{NodeName}
 use Rattle.dom_model.specs.Names.{name_eq, node_of}
 use Rattle.dom_model.specs.Tree.{Trees, none, tree, Node, nodes, names_of, has_node, is_inclusive_ancestor, inclusive_ancestors}
+use Rattle.dom_model.proofs.OwnerLaws.{name_eq-true}
 use Rattle.dom_tree.specs.Forest.{NamedTrees, name_at}
-use Rattle.dom_traversal.proofs.Lists.{In, is_in-from, In-from, name_eq-from, name_eq-true}
+use Rattle.dom_traversal.proofs.Lists.{In, is_in-from, In-from, name_eq-from}
 use Rattle.dom_traversal.proofs.Shapes.{Has, Once, has_or_not, Has-above, above-present, above-from_below, below-from_above}
 use Rattle.dom_traversal.proofs.Children.{In-names}
 use Rattle.dom_traversal.proofs.Order.{IsWithin}

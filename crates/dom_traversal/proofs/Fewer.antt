@@ -9,11 +9,12 @@ use Rattle.dom_base.specs.declared.Move.TheVariants.{Next}
 use Rattle.dom_model.specs.Names.{name_eq, first_of, items_before, items_after}
 use Rattle.dom_model.specs.Tree.{inclusive_descendants, is_inclusive_ancestor}
 use Rattle.dom_model.specs.Traversal.{accepts, nodes_ahead, iterator_next_node, walker_move}
+use Rattle.dom_model.proofs.OwnerLaws.{name_eq-other}
 use Rattle.dom_tree.specs.Forest.{NamedTrees, name_at}
 use Rattle.dom_traversal.specs.Within.{behind, StandsIn}
 use Rattle.dom_traversal.specs.Iterators.{KeyedIterator, IsIteratorOf, iterator_left, iterator_view}
 use Rattle.dom_traversal.specs.Walkers.{KeyedWalker, IsWalkerOf, walker_left, walker_view}
-use Rattle.dom_traversal.proofs.Lists.{In, Single, split_at, after-in, same_or_not, name_eq-from, name_eq-other, filter-yes, filter-no}
+use Rattle.dom_traversal.proofs.Lists.{In, Single, split_at, after-in, same_or_not, name_eq-from, filter-yes, filter-no}
 use Rattle.dom_traversal.proofs.Order.{all_single}
 use Rattle.dom_traversal.proofs.Counts.{StandOnce, StandAlone}
 use Rattle.dom_traversal.proofs.Searching.{IsWithin-key}

@@ -6,18 +6,7 @@ use Rattle.std.proofs.lemmas.Bool.{eqb-true, and_parts, cases_Bool, or_cases, or
 use Rattle.dom_base.specs.declared.NodeName.{NodeName}
 use Rattle.dom_base.specs.declared.Owner.{Owner}
 use Rattle.dom_model.specs.Names.{owner_eq, name_eq, is_in, items_before, items_after, first_of, last_of}
-use Rattle.dom_model.proofs.OwnerLaws.{owner_eq-true, name_eq-same}
-
--- the test on names tells just when two are the same
-pub name_eq-true : (x y : NodeName) → name_eq x y ≡ true → x ≡ y
-name_eq-true x y e =
-    let parts = and_parts (owner_eq x.owner y.owner) _ e in
-    let joined : Owner → ℕ → NodeName = λ o k. record { owner = o; number = k } in
-    ap (λ o. joined o x.number) (owner_eq-true x.owner y.owner parts.0) ∙ ap (joined y.owner) (eqb-true x.number y.number parts.1)
-
--- the test at two names that differ
-pub name_eq-other : (x y : NodeName) → (x ≡ y → ⊥) → name_eq x y ≡ false
-name_eq-other x y other = false_from_ne_true (name_eq x y) (λ e. other (name_eq-true x y e))
+use Rattle.dom_model.proofs.OwnerLaws.{owner_eq-true, name_eq-same, name_eq-true, name_eq-other}
 
 -- the test at one name
 pub name_eq-from : (x y : NodeName) → x ≡ y → name_eq x y ≡ true

@@ -9,10 +9,11 @@ use Rattle.dom_base.specs.declared.NodeName.{NodeName}
 use Rattle.dom_model.specs.Names.{name_eq, is_in, items_before, items_after}
 use Rattle.dom_model.specs.Traversal.{Walker, accepts, between, walker_siblings, sibling_top}
 use Rattle.dom_model.specs.Tree.{Trees, subtree, inclusive_ancestors, ancestors, is_inclusive_ancestor, inclusive_descendants}
+use Rattle.dom_model.proofs.OwnerLaws.{name_eq-other}
 use Rattle.dom_traversal.specs.Walkers.{is_opened, is_reached, is_stop, is_candidate}
 use Rattle.dom_traversal.specs.Within.{ahead_of, behind, beyond}
 use Rattle.dom_traversal.proofs.Lists.{In, In-left, In-right, In-parts, In-from, before-in, after-in, not_before, Single, Single-right, Single-apart}
-use Rattle.dom_traversal.proofs.Lists.{same_or_not, is_in-from, is_in-not, name_eq-from, name_eq-other, filter-none, filter-same}
+use Rattle.dom_traversal.proofs.Lists.{same_or_not, is_in-from, is_in-not, name_eq-from, filter-none, filter-same}
 use Rattle.dom_traversal.proofs.Shapes.{Has, has_or_not, Has-above, above-absent, below-from_above}
 use Rattle.dom_traversal.proofs.Children.{In-names}
 use Rattle.dom_traversal.proofs.Order.{IsWithin, stands_in, all_single, here, below, splits, split_is, behind_is, inside-test, outside-test}

@@ -6,7 +6,8 @@ use Rattle.dom_base.specs.declared.NodeName.{NodeName}
 use Rattle.dom_model.specs.Names.{name_eq}
 use Rattle.dom_model.specs.Traversal.{Walker, accepts}
 use Rattle.dom_model.specs.Tree.{Trees, inclusive_ancestors, ancestors, parent_of, is_inclusive_ancestor}
-use Rattle.dom_traversal.proofs.Lists.{In, same_or_not, name_eq-from, name_eq-other, is_in-not}
+use Rattle.dom_model.proofs.OwnerLaws.{name_eq-other}
+use Rattle.dom_traversal.proofs.Lists.{In, same_or_not, name_eq-from, is_in-not}
 use Rattle.dom_traversal.proofs.Order.{IsWithin, stands_in}
 use Rattle.dom_traversal.proofs.Steps.{within-parent, within-top}
 use Rattle.dom_traversal.proofs.Counts.{above-within}

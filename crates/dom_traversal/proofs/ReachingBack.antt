@@ -15,11 +15,12 @@ use Rattle.dom_model.specs.Command.{Filter}
 use Rattle.dom_model.specs.Names.{name_eq, last_of}
 use Rattle.dom_model.specs.Traversal.{Walker, answer_at, accepts, skips, is_skip}
 use Rattle.dom_model.specs.Tree.{Trees, subtree, inclusive_ancestors, ancestors, is_inclusive_ancestor, inclusive_descendants}
+use Rattle.dom_model.proofs.OwnerLaws.{name_eq-other}
 use Rattle.dom_tree.specs.Forest.{NamedTrees, name_at}
 use Rattle.dom_traversal.specs.Walkers.{KeyedWalker, walker_view, is_opened, is_reached, is_candidate, is_accepted_but, is_entered, entered_by}
 use Rattle.dom_traversal.specs.Walkers.{is_stop, stop_above, StepsBehind, BeginsBackward}
 use Rattle.dom_traversal.specs.Within.{ahead_of, up_to_tree, StandsBelow}
-use Rattle.dom_traversal.proofs.Lists.{In, In-left, In-right, In-parts, Single, Single-apart, is_in-from, is_in-not, last_of-end, name_eq-other}
+use Rattle.dom_traversal.proofs.Lists.{In, In-left, In-right, In-parts, Single, Single-apart, is_in-from, is_in-not, last_of-end}
 use Rattle.dom_traversal.proofs.Lists.{filter-none, filter-no}
 use Rattle.dom_traversal.proofs.Shapes.{Has, below-from_above}
 use Rattle.dom_traversal.proofs.Children.{In-names}

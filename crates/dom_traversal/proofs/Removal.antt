@@ -6,7 +6,8 @@ use Rattle.dom_base.specs.declared.NodeName.{NodeName}
 use Rattle.dom_model.specs.Names.{name_eq, name_before}
 use Rattle.dom_model.specs.Tree.{Trees, none, tree, Node, subtree, on_top, inclusive_ancestors, is_inclusive_ancestor}
 use Rattle.dom_model.specs.TreeChanges.{without, put_root, taken_out}
-use Rattle.dom_traversal.proofs.Lists.{In, In-from, is_in-from, same_or_not, name_eq-from, name_eq-other}
+use Rattle.dom_model.proofs.OwnerLaws.{name_eq-other}
+use Rattle.dom_traversal.proofs.Lists.{In, In-from, is_in-from, same_or_not, name_eq-from}
 use Rattle.dom_traversal.proofs.Shapes.{Has, Once, IsTreeOf, has_or_not, subtree-here, subtree-below, subtree-beside, subtree-absent, subtree-present}
 use Rattle.dom_traversal.proofs.Shapes.{subtree-within, Has-subtree, Once-subtree, above-here, above-beside, above-absent, above-present}
 use Rattle.dom_traversal.proofs.Shapes.{above-from_below, below-from_above}

@@ -11,11 +11,12 @@ use Rattle.dom_model.specs.Names.{name_eq, first_of, items_after}
 use Rattle.dom_model.specs.Tree.{ancestors, inclusive_descendants, is_inclusive_ancestor, node_in}
 use Rattle.dom_model.specs.Command.{Filter}
 use Rattle.dom_model.specs.Traversal.{Walker, accepts, rejects, verdict_at, is_reject, is_shown, iterator_next_node, walker_nodes, walker_move}
+use Rattle.dom_model.proofs.OwnerLaws.{name_eq-other}
 use Rattle.dom_tree.specs.Forest.{NamedTrees, name_at}
 use Rattle.dom_traversal.specs.Within.{behind, StandsIn}
 use Rattle.dom_traversal.specs.Iterators.{KeyedIterator, IsIteratorOf, iterator_rest, iterator_view}
 use Rattle.dom_traversal.specs.Walkers.{KeyedWalker, IsWalkerOf, walker_rest, walker_view}
-use Rattle.dom_traversal.proofs.Lists.{In, Single, after-in, name_eq-from, name_eq-other, filter-yes, filter-no, filter-same, no_first}
+use Rattle.dom_traversal.proofs.Lists.{In, Single, after-in, name_eq-from, filter-yes, filter-no, filter-same, no_first}
 use Rattle.dom_traversal.proofs.Order.{all_single}
 use Rattle.dom_traversal.proofs.Steps.{within-member}
 use Rattle.dom_traversal.proofs.Counts.{StandOnce, StandAlone, above-within}

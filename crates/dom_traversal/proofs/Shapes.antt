@@ -5,7 +5,8 @@ use Rattle.std.proofs.lemmas.Option.{same_Some, none-some}
 use Rattle.dom_base.specs.declared.NodeName.{NodeName}
 use Rattle.dom_model.specs.Names.{name_eq, first_of}
 use Rattle.dom_model.specs.Tree.{Trees, none, tree, Node, or_else, subtree, on_top, inclusive_ancestors, parent_of}
-use Rattle.dom_traversal.proofs.Lists.{In, In-left, In-right, In-parts, same_or_not, name_eq-from, name_eq-other, no_first}
+use Rattle.dom_model.proofs.OwnerLaws.{name_eq-other}
+use Rattle.dom_traversal.proofs.Lists.{In, In-left, In-right, In-parts, same_or_not, name_eq-from, no_first}
 
 -- x stands in trees
 abbrev pub Has : Trees → NodeName → Type 0

@@ -7,9 +7,10 @@ use Rattle.dom_model.specs.Command.{Filter}
 use Rattle.dom_model.specs.Names.{name_eq, first_of}
 use Rattle.dom_model.specs.Traversal.{accepts}
 use Rattle.dom_model.specs.Tree.{Trees, inclusive_ancestors, ancestors, parent_of, children_of, next_sibling, previous_sibling, inclusive_descendants}
+use Rattle.dom_model.proofs.OwnerLaws.{name_eq-other}
 use Rattle.dom_traversal.specs.Within.{ahead_of, beyond}
 use Rattle.dom_traversal.specs.Walkers.{is_stop, stop_above}
-use Rattle.dom_traversal.proofs.Lists.{In, name_eq-from, name_eq-other, no_first}
+use Rattle.dom_traversal.proofs.Lists.{In, name_eq-from, no_first}
 use Rattle.dom_traversal.proofs.Shapes.{Has, Once, Has-above, below-from_above}
 use Rattle.dom_traversal.proofs.Children.{parent-of_child}
 use Rattle.dom_traversal.proofs.Order.{IsWithin, stands_in, here}

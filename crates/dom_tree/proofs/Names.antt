@@ -27,23 +27,6 @@ same_parts x y o n =
     let joined : Owner → ℕ → NodeName = λ p k. record { owner = p; number = k } in
     ap (λ p. joined p x.number) o ∙ ap (joined y.owner) n
 
--- names that pass the test are one
-pub name_eq-true : (x y : NodeName) → name_eq x y ≡ true → x ≡ y
-name_eq-true x y e =
-    let parts = and_parts (owner_eq x.owner y.owner) (eqb x.number y.number) e in
-    same_parts x y (owner_eq-true x.owner y.owner parts.0) (eqb-true x.number y.number parts.1)
-
--- names that differ do not pass it
-pub name_eq-other : (x y : NodeName) → (x ≡ y → ⊥) → name_eq x y ≡ false
-name_eq-other x y other = false_from_ne_true (name_eq x y) (λ e. other (name_eq-true x y e))
-
--- the test does not turn on which comes first
-pub name_eq-turned : (x y : NodeName) → name_eq x y ≡ name_eq y x
-name_eq-turned x y = elim (cases_Bool (name_eq x y)) [
-  | inl e ↦ e ∙ sym (ap (λ z. name_eq z x) (sym (name_eq-true x y e)) ∙ name_eq-same x)
-  | inr e ↦ e ∙ sym (name_eq-other y x (λ same. true≢false (sym (name_eq-same x) ∙ (ap (name_eq x) (sym same) ∙ e))))
-]
-
 -- whether an owner comes before another one
 abbrev OwnerBefore : Owner → Owner → Type 0
 OwnerBefore o p = list_before (owner_place o) (owner_place p) ≡ true

@@ -17,8 +17,7 @@ use Rattle.node_arena.proofs.Forests.{cases_Option, contains-no_parent, contains
 use Rattle.dom_tree.specs.declared.data.Stored.{Stored}
 use Rattle.dom_tree.specs.Rows.{node_at, put_key, in_order, is_root, root_keys, trees_of}
 use Rattle.dom_tree.specs.Forest.{NamedTrees, IsKept, stored_names, nodes_of, name_at}
-use Rattle.dom_model.proofs.OwnerLaws.{name_eq-same}
-use Rattle.dom_tree.proofs.Names.{name_eq-true}
+use Rattle.dom_model.proofs.OwnerLaws.{name_eq-same, name_eq-true}
 use Rattle.dom_tree.proofs.Rows.{Stands, IsNamed, same_name, name_of_key}
 use Rattle.dom_tree.proofs.Reach.{has_node-reaches}
 use Rattle.dom_tree.proofs.Roots.{IsOnce-range, contains-filter, contains-in_order, contains-passing, passing-within}

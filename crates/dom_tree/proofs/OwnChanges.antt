@@ -6,9 +6,9 @@ use Rattle.dom_base.specs.declared.NodeName.{NodeName}
 use Rattle.dom_model.specs.Names.{owner_eq, name_eq, name_before}
 use Rattle.dom_model.specs.Tree.{Trees, none, tree, Node, subtree, or_else}
 use Rattle.dom_model.specs.TreeChanges.{followed_by, without, put_root}
-use Rattle.dom_model.proofs.OwnerLaws.{owner_eq-same, name_eq-same}
+use Rattle.dom_model.proofs.OwnerLaws.{owner_eq-same, name_eq-same, name_eq-true}
 use Rattle.dom_tree.specs.Owners.{trees_of_owner, AreOf, HaveOwners, NoneBefore, AreInOrder, AreOwned}
-use Rattle.dom_tree.proofs.Names.{name_eq-true, name_before-trans, name_before-not_both, name_before-total}
+use Rattle.dom_tree.proofs.Names.{name_before-trans, name_before-not_both, name_before-total}
 use Rattle.dom_tree.proofs.Owned.{AreOf-own, name_apart}
 
 -- an owner is itself

@@ -7,9 +7,8 @@ use Rattle.dom_model.specs.Names.{owner_eq, name_eq, name_before, is_in}
 use Rattle.dom_model.specs.Tree.{Trees, none, tree, Node, subtree, inclusive_descendants}
 use Rattle.dom_model.specs.TreeChanges.{without, is_given, put_before, put_below, put_root, taken_out, placed, with_node, map_nodes}
 use Rattle.dom_model.specs.TreeChanges.{change_node, change_subtree}
-use Rattle.dom_model.proofs.OwnerLaws.{owner_eq-true, owner_eq-same, ne-owner_eq}
+use Rattle.dom_model.proofs.OwnerLaws.{owner_eq-true, owner_eq-same, ne-owner_eq, name_eq-true}
 use Rattle.dom_tree.specs.Owners.{trees_of_owner, AreOf, HaveOwners, NoneBefore, AreInOrder, AreOwned, IsOwnChange}
-use Rattle.dom_tree.proofs.Names.{name_eq-true}
 use Rattle.dom_tree.proofs.Owned.{HaveOwners-one, AreOf-own, AreOf-alone, name_apart, read_own, stays_own}
 use Rattle.dom_tree.proofs.OwnChanges.{AreOf-followed_by, IsAlone-subtree, AreInOrder-put_root, HaveOwners-put_root, own-put_root, others-put_root}
 use Rattle.dom_tree.proofs.OwnChanges.{owned-without, own-without, others-without}

@@ -15,9 +15,8 @@ use Rattle.dom_model.specs.Tree.{Trees, none, tree, Node, nodes, roots, names_of
 use Rattle.dom_model.specs.Tree.{trees_below, on_top, inclusive_ancestors, is_inclusive_ancestor, inclusive_descendants, child_nodes, children_of}
 use Rattle.dom_model.specs.Tree.{parent_of, siblings, has_data}
 use Rattle.dom_model.specs.Validity.{first_refusal, placing_tests, has_parent, without_given, breaks_document, insertion_refusal, replacement_refusal}
-use Rattle.dom_model.proofs.OwnerLaws.{owner_eq-true}
+use Rattle.dom_model.proofs.OwnerLaws.{owner_eq-true, name_eq-true}
 use Rattle.dom_tree.specs.Owners.{trees_of_owner, AreOf, HaveOwners, NoneBefore, AreInOrder, AreOwned, IsReadOwn, StaysOwn}
-use Rattle.dom_tree.proofs.Names.{name_eq-true}
 use Rattle.dom_tree.proofs.Reach.{reaches, has_node-reaches, subtree-none, inclusive_ancestors-none, find-none}
 
 -- ---- the trees

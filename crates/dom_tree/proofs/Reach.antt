@@ -11,11 +11,11 @@ use Rattle.std.proofs.lemmas.Option.{slice_get-get_or, get_or_from_slice_get, no
 use Rattle.dom_base.specs.declared.NodeName.{NodeName}
 use Rattle.dom_model.specs.Names.{name_eq}
 use Rattle.dom_model.specs.Tree.{Trees, none, tree, Node, nodes as nodes_in, names_of, has_node, subtree, or_else, inclusive_ancestors, roots, trees_below}
+use Rattle.dom_model.proofs.OwnerLaws.{name_eq-turned}
 use Rattle.node_arena.specs.Nodes.{children_of, contains, parent_of, ancestors_of, IsForest}
 use Rattle.node_arena.proofs.Forests.{cases_Option, parent_within, parent_of_is, contains-parent, ancestors_of-child}
 use Rattle.node_arena.proofs.Lists.{contains-head}
 use Rattle.dom_tree.specs.Rows.{node_at}
-use Rattle.dom_tree.proofs.Names.{name_eq-turned}
 use Rattle.dom_tree.proofs.Rows.{Stands, IsNamed, same_name, name_of_key}
 
 -- a node of this name stands in the trees

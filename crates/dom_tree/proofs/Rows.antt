@@ -14,8 +14,7 @@ use Rattle.node_arena.specs.Nodes.{children_of, contains, ancestors_of, IsForest
 use Rattle.node_arena.proofs.Forests.{parent_of_is, ancestors_of-child, length-ancestors_of, children_of-without}
 use Rattle.node_arena.proofs.Lists.{contains-head}
 use Rattle.dom_tree.specs.Rows.{node_at, row, below_within, trees_on, put_key}
-use Rattle.dom_model.proofs.OwnerLaws.{name_eq-same}
-use Rattle.dom_tree.proofs.Names.{name_eq-other}
+use Rattle.dom_model.proofs.OwnerLaws.{name_eq-same, name_eq-other}
 
 -- the trees stand for the keys
 abbrev pub Stands : List Node → List (List ℕ) → Trees → List ℕ → Type 0

@@ -5,7 +5,8 @@ use Rattle.dom_base.specs.declared.NodeName.{NodeName}
 use Rattle.dom_model.specs.Names.{name_eq, is_in}
 use Rattle.dom_model.specs.Tree.{Trees, none, tree, Node, subtree, on_top, inclusive_ancestors, is_inclusive_ancestor, inclusive_descendants, parent_of}
 use Rattle.dom_model.specs.TreeChanges.{without, put_before, put_below, placed, with_node, is_given, map_nodes, change_node, change_subtree}
-use Rattle.dom_traversal.proofs.Lists.{In, In-from, is_in-from, In-left, same_or_not, name_eq-from, name_eq-other}
+use Rattle.dom_model.proofs.OwnerLaws.{name_eq-other}
+use Rattle.dom_traversal.proofs.Lists.{In, In-from, is_in-from, In-left, same_or_not, name_eq-from}
 use Rattle.dom_traversal.proofs.Shapes.{Has, Once, IsTreeOf, has_or_not, above-absent, above-present, above-here, Has-above, above-root}
 use Rattle.dom_traversal.proofs.Shapes.{subtree-present, subtree-within, Once-subtree, above-from_below, below-from_above}
 use Rattle.dom_traversal.proofs.Removal.{Has-without, without-apart, above-without, above-put_others}

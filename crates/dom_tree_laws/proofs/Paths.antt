@@ -6,8 +6,7 @@ use Rattle.dom_base.specs.declared.NodeName.{NodeName}
 use Rattle.dom_model.specs.Names.{name_eq, is_in}
 use Rattle.dom_model.specs.Tree.{Trees, none, tree, Node, subtree, or_else, on_top, inclusive_ancestors}
 use Rattle.dom_model.specs.TreeChanges.{without}
-use Rattle.dom_model.proofs.OwnerLaws.{name_eq-same}
-use Rattle.dom_tree.proofs.Names.{name_eq-true, name_eq-turned}
+use Rattle.dom_model.proofs.OwnerLaws.{name_eq-same, name_eq-true, name_eq-turned}
 use Rattle.dom_tree.proofs.Once.{one, times_in, times_in-none, times_in-tree, one-true, one-false}
 
 -- ---- names that a list has not

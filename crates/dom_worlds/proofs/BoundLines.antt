@@ -29,11 +29,10 @@ use Rattle.dom_model.specs.Validity.{first_refusal, has_parent, may_be_parent, p
 use Rattle.dom_worlds.specs.Worlds.{IsPart}
 use Rattle.dom_worlds.proofs.Acceptance.{next-test, part-accepted}
 use Rattle.dom_worlds.proofs.Bounds.{Under, RangeUnder, reach, nowhere, HasRoom, room-make}
-use Rattle.dom_worlds.proofs.Lists.{all-append}
+use Rattle.dom_worlds.proofs.Lists.{all-append, all-set}
 use Rattle.dom_worlds.proofs.PlanBounds.{room-removing, room-adopting, room-inserting, room-replacing, room-setting_attribute}
 use Rattle.dom_worlds.proofs.PlanBounds.{room-unsetting_attribute, room-replacing_data}
 use Rattle.dom_worlds.proofs.TableCommands.{named-may, insertion-apart, replacement-apart, exists-first, exists-second}
-use Rattle.dom_worlds.proofs.TableSteps.{all-set}
 use Rattle.dom_worlds.proofs.Tests.{either_way}
 use Rattle.dom_worlds.proofs.TextBounds.{text-data, room-splitting, room-normalizing, room-setting_text}
 

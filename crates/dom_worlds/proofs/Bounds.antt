@@ -15,17 +15,18 @@ use Rattle.dom_model.specs.Output.{Change}
 use Rattle.dom_model.specs.Part.{Part, next_name}
 use Rattle.dom_model.specs.Steps.{make, make_room, place, take_out, set_document, set_attribute, replace_data, split_at, join_at, set_range}
 use Rattle.dom_model.specs.Steps.{queue_record, part_step, leave}
+use Rattle.dom_model.proofs.OwnerLaws.{name_eq-true, name_eq-turned}
 use Rattle.dom_worlds.specs.Worlds.{times_in, IsPart}
 use Rattle.dom_worlds.proofs.Insides.{times-taken_out_all}
 use Rattle.dom_worlds.proofs.ChildCounts.{kids, kids-absent, one_at, kids-taken_out, kids-placed, kids-with_node, kids-map_nodes, index-below}
 use Rattle.dom_worlds.proofs.NodesRead.{node-taken_out, node-placed, node-with_node, node-map_nodes, length-data, length-kids, length-absent}
-use Rattle.dom_worlds.proofs.Lists.{all-then, all-map}
+use Rattle.dom_worlds.proofs.Lists.{all-then, all-map, all-set}
 use Rattle.dom_worlds.proofs.PartSteps.{KeepsNames, some-keeps, attribute-keeps, part-step}
 use Rattle.dom_worlds.proofs.PlanTexts.{next-not}
 use Rattle.dom_worlds.proofs.ShadowRoots.{found-absent}
-use Rattle.dom_worlds.proofs.TableSteps.{HasNode, Fits, all-set}
+use Rattle.dom_worlds.proofs.TableSteps.{HasNode, Fits}
 use Rattle.dom_worlds.proofs.Tests.{by_cases, either_way, which_way}
-use Rattle.dom_worlds.proofs.Trees.{IsUnique, by_times, name_eq-true, name_eq-sym}
+use Rattle.dom_worlds.proofs.Trees.{IsUnique, by_times}
 
 -- A boundary is not past what is allowed at its node.
 abbrev pub Under : (NodeName → ℕ) → Boundary NodeName → Type 0
@@ -242,7 +243,7 @@ room-left e p x parent g i h =
           (λ k. by_cases (name_eq b.node parent)
           (λ s. let low = ltb-false index b.offset (sym (ap (λ t. t && nat_lt index b.offset) s) ∙ k) in let l = ap d
           (name_eq-true b.node parent s) in omega arith)
-          (λ s. let l = elsewhere b.node (name_eq-sym parent b.node ∙ s) in omega arith)))) p.ranges h.bounds;
+          (λ s. let l = elsewhere b.node (name_eq-turned parent b.node ∙ s) in omega arith)))) p.ranges h.bounds;
       leaves = λ y k. by_times (times_in ts y) (λ a. let c = count y in let z = kids-absent ts y a in omega arith)
           (λ t. let c = count y in let z = h.leaves y (sym (ap (λ (n : Node). has_data n.kind) (same y t)) ∙ k) in omega arith);
     }
@@ -289,7 +290,7 @@ room-replace e p x offset count new k few i h =
     λ y g. by_times (times_in ts y) (λ a. let l = length-absent ts y i.unique a in omega arith)
     (λ t. let other : node_in us y ≡ node_in ts y =
     same y t ∙ cond-false (name_eq (node_in ts y).name x) (with_data_replaced offset count new (node_in ts y)) (node_in ts y)
-    (ap (λ z. name_eq z x) (Rattle.dom_worlds.proofs.NodeKinds.name-node_in ts y) ∙ name_eq-sym y x ∙ g) in
+    (ap (λ z. name_eq z x) (Rattle.dom_worlds.proofs.NodeKinds.name-node_in ts y) ∙ name_eq-turned y x ∙ g) in
     let l = length-like ts us y i.unique v (ap (λ (n : Node). n.kind) other) (ap (λ (n : Node). n.text) other) (kids-map_nodes f named ts y) in omega arith) in
     let d : NodeName → ℕ = λ y. length_of us y + e y in
     record {
@@ -299,7 +300,7 @@ room-replace e p x offset count new k few i h =
           (λ t. by_cases (name_eq b.node x)
           (λ s. let l = ap d (name_eq-true b.node x s) in let m = ap (reach e p) (name_eq-true b.node x s) in
           let low = leb-true b.offset offset (sym (ap (λ t. not t || nat_le b.offset offset) s) ∙ t) in omega arith)
-          (λ s. let l = elsewhere b.node (name_eq-sym x b.node ∙ s) in omega arith))
+          (λ s. let l = elsewhere b.node (name_eq-turned x b.node ∙ s) in omega arith))
           (λ t. let both = or_parts (not (name_eq b.node x)) (nat_le b.offset offset) t in
           let s = not-false (name_eq b.node x) both.0 in
           let m = ap (reach e p) (name_eq-true b.node x s) in

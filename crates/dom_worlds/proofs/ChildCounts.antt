@@ -9,7 +9,7 @@ use Rattle.dom_model.specs.Names.{name_eq, is_in, items_before, first_of}
 use Rattle.dom_model.specs.Tree.{Trees, none, tree, Node, names_of, roots, subtree, or_else, trees_below, children_of, parent_of, index_of}
 use Rattle.dom_model.specs.Tree.{inclusive_ancestors, on_top}
 use Rattle.dom_model.specs.TreeChanges.{followed_by, without, put_before, put_below, put_root, taken_out, placed, with_node, map_nodes}
-use Rattle.dom_model.proofs.OwnerLaws.{name_eq-same}
+use Rattle.dom_model.proofs.OwnerLaws.{name_eq-same, name_eq-turned, name_eq-true}
 use Rattle.dom_worlds.specs.Worlds.{times_in}
 use Rattle.dom_worlds.proofs.Insides.{inside, times-inside, times-parted, without-absent, or_else-none}
 use Rattle.dom_worlds.proofs.InsideAncestors.{parent-there, no_parent-root}
@@ -17,7 +17,7 @@ use Rattle.dom_worlds.proofs.Tests.{by_cases, or-later}
 use Rattle.dom_worlds.proofs.TreeChangeLaws.{put_where, where-here, where-later, put_before-where, put_root-where, HasRoot, without-here}
 use Rattle.dom_worlds.proofs.TreeChangeLaws.{without-elsewhere, subtree-here, subtree-elsewhere, put_below-here, put_below-elsewhere}
 use Rattle.dom_worlds.proofs.TreeChangeLaws.{put_below-absent}
-use Rattle.dom_worlds.proofs.Trees.{IsUnique, by_times, times-here, times-elsewhere, times-more, subtree-absent, name_eq-sym, name_eq-true}
+use Rattle.dom_worlds.proofs.Trees.{IsUnique, by_times, times-here, times-elsewhere, times-more, subtree-absent}
 use Rattle.dom_worlds.proofs.Trees.{root-there, ancestors-absent, ancestors-present}
 
 -- how many roots there are
@@ -162,7 +162,7 @@ rooted-without (tree n c r) x u h =
     by_cases (name_eq n.name x)
     (λ e. let g = times-here n c r x e in let s = ap rooted (without-here n c r x e ∙ without-absent r x (omega arith)) in omega arith)
     (λ e. let s = ap rooted (without-elsewhere n c r x e) in
-    let later = or-later (name_eq x n.name) (is_in name_eq x (names_of (roots r))) (name_eq-sym x n.name ∙ e) h in
+    let later = or-later (name_eq x n.name) (is_in name_eq x (names_of (roots r))) (name_eq-turned x n.name ∙ e) h in
     let b = rooted-without r x (λ k. let o = u k in let m = times-more n c r k in omega arith) later in omega arith)
 
 -- and its children, and all others
@@ -175,7 +175,7 @@ kids-parted (tree n c r) x y u h =
     let s = ap (λ t. kids t y) (without-here n c r x e ∙ without-absent r x (omega arith)) in let t =
     ap (λ t. kids t y) (subtree-here n c r x e) in omega arith)
     (λ e. let g = times-elsewhere n c r x e in
-    let later = or-later (name_eq x n.name) (is_in name_eq x (names_of (roots r))) (name_eq-sym x n.name ∙ e) h in
+    let later = or-later (name_eq x n.name) (is_in name_eq x (names_of (roots r))) (name_eq-turned x n.name ∙ e) h in
     let there = root-there r x later in
     let s = ap (λ t. kids t y) (without-elsewhere n c r x e ∙ ap (λ t. tree n t (without x r)) (without-absent c x (omega arith))) in
     let t = ap (λ t. kids t y) (subtree-elsewhere n c r x e ∙ ap (λ t. or_else t (subtree r x)) (subtree-absent c x (omega arith))) in

@@ -8,7 +8,7 @@ use Rattle.dom_base.specs.declared.NodeName.{NodeName}
 use Rattle.dom_model.specs.Names.{name_eq, is_in, first_of}
 use Rattle.dom_model.specs.Tree.{Trees, none, tree, Node, names_of, roots, subtree, or_else, trees_below, children_of, parent_of, inclusive_ancestors, on_top}
 use Rattle.dom_model.specs.TreeChanges.{followed_by, without, put_before, put_below, put_root, taken_out, placed, with_node, map_nodes}
-use Rattle.dom_model.proofs.OwnerLaws.{name_eq-same}
+use Rattle.dom_model.proofs.OwnerLaws.{name_eq-same, name_eq-turned, name_eq-true}
 use Rattle.dom_worlds.specs.Worlds.{times_in, times_among}
 use Rattle.dom_worlds.proofs.Insides.{inside, times-inside, times-parted, without-absent, or_else-none}
 use Rattle.dom_worlds.proofs.ChildCounts.{rooted, kids}
@@ -18,7 +18,7 @@ use Rattle.dom_worlds.proofs.Tests.{by_cases, or-later}
 use Rattle.dom_worlds.proofs.TreeChangeLaws.{put_where, where-here, where-later, put_before-where, put_root-where, HasRoot, root-first}
 use Rattle.dom_worlds.proofs.TreeChangeLaws.{root-second, without-here, without-elsewhere, subtree-here, subtree-elsewhere, put_below-here}
 use Rattle.dom_worlds.proofs.TreeChangeLaws.{put_below-elsewhere, put_below-absent}
-use Rattle.dom_worlds.proofs.Trees.{IsUnique, by_times, times-here, times-elsewhere, times-more, subtree-absent, name_eq-sym, name_eq-true}
+use Rattle.dom_worlds.proofs.Trees.{IsUnique, by_times, times-here, times-elsewhere, times-more, subtree-absent}
 use Rattle.dom_worlds.proofs.Trees.{ancestors-absent, ancestors-present}
 
 -- how often a name is a root's
@@ -205,7 +205,7 @@ child-placed ts z parent before u t h k =
     root-counted (tree n c r) x h =
         by_cases (name_eq x n.name)
         (λ e. let o : root_times (tree n c r) x ≡ 1 + root_times r x = ap (λ k. k + root_times r x)
-        (cond-true (name_eq n.name x) 1 0 (name_eq-sym n.name x ∙ e)) in omega arith)
+        (cond-true (name_eq n.name x) 1 0 (name_eq-turned n.name x ∙ e)) in omega arith)
         (λ e. let b = root-counted r x (or-later (name_eq x n.name) (is_in name_eq x (names_of (roots r))) e h) in omega arith)
 
 -- beside a new node
@@ -263,7 +263,7 @@ childs-parent (tree n c r) x y u h =
     counted-root : (us : Trees) (x : NodeName) → 1 ≤ root_times us x → HasRoot us x
     counted-root none x h = absurd (omega arith)
     counted-root (tree n c r) x h =
-        by_cases (name_eq n.name x) (λ e. root-first n c r x (name_eq-sym x n.name ∙ e))
+        by_cases (name_eq n.name x) (λ e. root-first n c r x (name_eq-turned x n.name ∙ e))
         (λ e. let o : root_times (tree n c r) x ≡ 0 + root_times r x = ap (λ k. k + root_times r x) (cond-false (name_eq n.name x) 1 0 e) in
         root-second n c r x (counted-root r x (omega arith)))
 
@@ -314,10 +314,10 @@ held_roots-split n c r (x ∷ xs) =
     by_cases (name_eq n.name x)
     (λ e. let a : root_times (tree n c r) x ≡ 1 + root_times r x = ap (λ k. k + root_times r x) (cond-true (name_eq n.name x) 1 0 e) in
     let b : times_among (x ∷ xs) n.name ≡ 1 + times_among xs n.name =
-    ap (λ k. k + times_among xs n.name) (cond-true (name_eq x n.name) 1 0 (name_eq-sym x n.name ∙ e)) in omega arith)
+    ap (λ k. k + times_among xs n.name) (cond-true (name_eq x n.name) 1 0 (name_eq-turned x n.name ∙ e)) in omega arith)
     (λ e. let a : root_times (tree n c r) x ≡ 0 + root_times r x = ap (λ k. k + root_times r x) (cond-false (name_eq n.name x) 1 0 e) in
     let b : times_among (x ∷ xs) n.name ≡ 0 + times_among xs n.name =
-    ap (λ k. k + times_among xs n.name) (cond-false (name_eq x n.name) 1 0 (name_eq-sym x n.name ∙ e)) in omega arith)
+    ap (λ k. k + times_among xs n.name) (cond-false (name_eq x n.name) 1 0 (name_eq-turned x n.name ∙ e)) in omega arith)
 
 -- no more than roots
 held_roots-rooted : (ts : Trees) (xs : List NodeName) → ((z : NodeName) → times_among xs z ≤ 1) → held_roots ts xs ≤ rooted ts

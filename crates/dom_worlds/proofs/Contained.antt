@@ -11,7 +11,7 @@ use Rattle.dom_model.specs.Names.{name_eq, is_in, items_before}
 use Rattle.dom_model.specs.Place.{place_from, list_before, boundary_place, is_before}
 use Rattle.dom_model.specs.Ranges.{Range, at}
 use Rattle.dom_model.specs.Tree.{Trees, none, tree, Node, names_of, roots, subtree, or_else, trees_below, children_of, parent_of, is_inclusive_ancestor}
-use Rattle.dom_model.proofs.OwnerLaws.{name_eq-same}
+use Rattle.dom_model.proofs.OwnerLaws.{name_eq-same, name_eq-turned, name_eq-true}
 use Rattle.dom_worlds.specs.Worlds.{times_in}
 use Rattle.dom_worlds.proofs.Descents.{ancestor-inside}
 use Rattle.dom_worlds.proofs.Insides.{or_else-none}
@@ -22,8 +22,8 @@ use Rattle.dom_worlds.proofs.Roots.{self-above, parent-above}
 use Rattle.dom_worlds.proofs.TableRecords.{inside-alone, above-above}
 use Rattle.dom_worlds.proofs.Tests.{by_cases, or-later}
 use Rattle.dom_worlds.proofs.TreeChangeLaws.{HasRoot, subtree-here, subtree-elsewhere, times-below}
-use Rattle.dom_worlds.proofs.Trees.{IsUnique, by_times, times-here, times-elsewhere, times-more, times-subtree, subtree-absent, name_eq-sym}
-use Rattle.dom_worlds.proofs.Trees.{name_eq-true, root-there}
+use Rattle.dom_worlds.proofs.Trees.{IsUnique, by_times, times-here, times-elsewhere, times-more, times-subtree, subtree-absent}
+use Rattle.dom_worlds.proofs.Trees.{root-there}
 
 -- Places. A name without a node has none.
 place-absent : (k : ℕ) (ts : Trees) (x : NodeName) → times_in ts x ≡ 0 → place_from k ts x ≡ None
@@ -150,7 +150,7 @@ roots-up_to k (tree n c r) a u h =
     (λ e. let same = name_eq-true a n.name e in
     let number : k ≡ k + 0 = omega arith in (
       0,
-      place-here k n c r a (name_eq-sym n.name a ∙ e) ∙ ap (λ i. Some (i ∷ [])) number,
+      place-here k n c r a (name_eq-turned n.name a ∙ e) ∙ ap (λ i. Some (i ∷ [])) number,
       subst (λ xs. AllByRecursion (IsRootAt k (tree n c r) 0) (xs ++ a ∷ []))
           (sym (cond-true (name_eq a n.name) [] (n.name ∷ items_before name_eq a rest) e))
           (subst (IsRootAt k (tree n c r) 0) (sym same) (first-root k n c r 0), tt),
@@ -159,7 +159,7 @@ roots-up_to k (tree n c r) a u h =
     let more = roots-up_to (k + 1) r a (λ y. let o = u y in let g = times-more n c r y in omega arith) later in
     let there = root-there r a later in
     let once = u a in
-    let other = name_eq-sym n.name a ∙ e in
+    let other = name_eq-turned n.name a ∙ e in
     let q = times-elsewhere n c r a other in
     let number : (k + 1) + more.0 ≡ k + suc more.0 = omega arith in (
       suc more.0,

@@ -9,12 +9,12 @@ use Rattle.dom_model.specs.Names.{name_eq, is_in, items_before}
 use Rattle.dom_model.specs.Tree.{Trees, none, tree, Node, nodes, names_of, roots, subtree, or_else, trees_below, inclusive_ancestors}
 use Rattle.dom_model.specs.Tree.{inclusive_descendants, is_inclusive_ancestor, on_top}
 use Rattle.dom_model.specs.TreeChanges.{without, put_before, put_below, placed, with_node}
-use Rattle.dom_model.proofs.OwnerLaws.{name_eq-same}
+use Rattle.dom_model.proofs.OwnerLaws.{name_eq-same, name_eq-turned, name_eq-true}
 use Rattle.dom_worlds.specs.Worlds.{times_in}
 use Rattle.dom_worlds.proofs.Lists.{all-then, all-append, all-from}
 use Rattle.dom_worlds.proofs.Tests.{by_cases, or-later}
 use Rattle.dom_worlds.proofs.Trees.{IsUnique, by_times, times-here, times-elsewhere, times-more, times-parts, times-subtree, subtree-absent}
-use Rattle.dom_worlds.proofs.Trees.{name_eq-sym, name_eq-true, root-there, nodes-there, ancestors-absent, ancestors-present}
+use Rattle.dom_worlds.proofs.Trees.{root-there, nodes-there, ancestors-absent, ancestors-present}
 use Rattle.dom_worlds.proofs.TreeChangeLaws.{HasRoot, without-here, without-elsewhere, subtree-here, subtree-elsewhere, put_below-here}
 use Rattle.dom_worlds.proofs.TreeChangeLaws.{put_below-elsewhere, put_below-absent, times-put_before}
 use Rattle.dom_worlds.proofs.Insides.{inside, inside-here, inside-elsewhere, inside-times, inside-absent, times-inside, inside-put_root}
@@ -53,7 +53,7 @@ ancestor-inside (tree n c r) a z h =
     by_cases (is_in name_eq a (inclusive_ancestors c z)) (λ j. let below = ancestor-inside c a z j in omega arith)
     (λ j. absurd (true≢false (sym (among-two a n.name (z ∷ at.0)
     (sym (ap (λ p. is_in name_eq a (on_top p n.name (inclusive_ancestors r z))) at.1) ∙ k)
-    (λ l. true≢false (sym (ap (is_in name_eq a) at.1 ∙ l) ∙ j))) ∙ name_eq-sym a n.name ∙ f))))))
+    (λ l. true≢false (sym (ap (is_in name_eq a) at.1 ∙ l) ∙ j))) ∙ name_eq-turned a n.name ∙ f))))))
 
 -- and the other way round
 pub inside-ancestor : (ts : Trees) (a z : NodeName) → IsUnique ts → 1 ≤ inside ts a z → is_inclusive_ancestor ts a z ≡ true
@@ -76,7 +76,7 @@ inside-parted (tree n c r) y a z u h =
     let s = ap (λ t. inside t a z) (without-here n c r y e ∙ without-absent r y (omega arith)) in let t =
     ap (λ t. inside t a z) (subtree-here n c r y e) in omega arith)
     (λ e. let g = times-elsewhere n c r y e in
-    let later = or-later (name_eq y n.name) (is_in name_eq y (names_of (roots r))) (name_eq-sym y n.name ∙ e) h in
+    let later = or-later (name_eq y n.name) (is_in name_eq y (names_of (roots r))) (name_eq-turned y n.name ∙ e) h in
     let there = root-there r y later in
     let s = ap (λ t. inside t a z) (without-elsewhere n c r y e ∙ ap (λ t. tree n t (without y r)) (without-absent c y (omega arith))) in
     let t = ap (λ t. inside t a z) (subtree-elsewhere n c r y e ∙ ap (λ t. or_else t (subtree r y)) (subtree-absent c y (omega arith))) in
@@ -278,7 +278,7 @@ before-apart (tree n c r) x u =
     let rest = items_before name_eq x (names_of (nodes c ++ nodes r)) in
     by_cases (name_eq x n.name)
     (λ e. subst (AllByRecursion T) (sym (cond-true (name_eq x n.name) [] (n.name ∷ rest) e)) tt)
-    (λ e. let other : name_eq n.name x ≡ false = name_eq-sym n.name x ∙ e in
+    (λ e. let other : name_eq n.name x ≡ false = name_eq-turned n.name x ∙ e in
     let here : T n.name = (
       (let g = times-here n c r n.name (name_eq-same n.name) in omega arith),
       (let once = u n.name in let g = times-here n c r n.name (name_eq-same n.name) in let i = inside-elsewhere n c r x n.name other in

@@ -15,7 +15,7 @@ use Rattle.dom_model.specs.Changes.{observed, inserting}
 use Rattle.dom_model.specs.TextChanges.{replacing_data}
 use Rattle.dom_model.specs.Extract.{Pieces, nothing, cut, tree_holding, pieces_of, common_ancestor, is_in_one_data, clone_part}
 use Rattle.dom_model.specs.Extract.{making_below, taking, new_fragment_node, own_document, new_place, both_at, extracting}
-use Rattle.dom_model.proofs.OwnerLaws.{name_eq-same}
+use Rattle.dom_model.proofs.OwnerLaws.{name_eq-same, name_eq-true}
 use Rattle.dom_worlds.specs.Worlds.{times_in, IsPart, AllNodes}
 use Rattle.dom_worlds.proofs.Bounds.{nowhere, HasRoom, room-make}
 use Rattle.dom_worlds.proofs.Bounds as bounds
@@ -41,7 +41,7 @@ use Rattle.dom_worlds.proofs.RangeEnds.{room-at, above-kids, room-place_new}
 use Rattle.dom_worlds.proofs.TableSteps.{HasNode}
 use Rattle.dom_worlds.proofs.Tests.{by_cases, either_way, which_way}
 use Rattle.dom_worlds.proofs.TreeChangeLaws.{nodes-subtree, nodes-then, nodes-named}
-use Rattle.dom_worlds.proofs.Trees.{IsUnique, name_eq-true}
+use Rattle.dom_worlds.proofs.Trees.{IsUnique}
 use Rattle.dom_worlds.proofs.RangePlans.{IsProper, zero_one, data-left, early-not}
 use Rattle.dom_worlds.proofs.RangePlans.{room-last}
 

@@ -7,12 +7,12 @@ use Rattle.dom_base.specs.declared.NodeName.{NodeName}
 use Rattle.dom_model.specs.Names.{name_eq, is_in, first_of}
 use Rattle.dom_model.specs.Tree.{Trees, none, tree, Node, nodes, names_of, roots, has_node, subtree, or_else, trees_below, children_of}
 use Rattle.dom_model.specs.Tree.{inclusive_ancestors, is_inclusive_ancestor, on_top, parent_of}
-use Rattle.dom_model.proofs.OwnerLaws.{name_eq-same}
+use Rattle.dom_model.proofs.OwnerLaws.{name_eq-same, name_eq-turned, name_eq-true}
 use Rattle.dom_worlds.specs.Worlds.{times_in}
 use Rattle.dom_worlds.proofs.Lists.{all-then}
 use Rattle.dom_worlds.proofs.Tests.{by_cases, or-first, or-second, or-later}
 use Rattle.dom_worlds.proofs.Trees.{IsUnique, by_times, times-here, times-elsewhere, times-more, times-parts, times-subtree}
-use Rattle.dom_worlds.proofs.Trees.{subtree-absent, name_eq-sym, name_eq-true, ancestors-absent, ancestors-present, ancestors-there}
+use Rattle.dom_worlds.proofs.Trees.{subtree-absent, ancestors-absent, ancestors-present, ancestors-there}
 use Rattle.dom_worlds.proofs.TreeChangeLaws.{subtree-here, subtree-elsewhere, HasRoot}
 use Rattle.dom_worlds.proofs.TreeChangeLaws.{root-first, root-second}
 use Rattle.dom_worlds.proofs.TreeChangeLaws.{times-below}
@@ -54,7 +54,7 @@ inside-no_ancestor (tree n c r) a z u h =
     by_cases (name_eq n.name z)
     (λ e. let is = cond-true (name_eq n.name z) (z ∷ []) top e in
     let other : name_eq a z ≡ false = not-first (name_eq a z) false (sym (ap (is_in name_eq a) is) ∙ h) in
-    let other_name : name_eq n.name a ≡ false = ap (λ y. name_eq y a) (name_eq-true n.name z e) ∙ name_eq-sym z a ∙ other in
+    let other_name : name_eq n.name a ≡ false = ap (λ y. name_eq y a) (name_eq-true n.name z e) ∙ name_eq-turned z a ∙ other in
     let g = times-here n c r z e in
     let k = inside-elsewhere n c r a z other_name in let below = inside-times c a z in let behind = inside-times r a z in omega arith)
     (λ e. let is = cond-false (name_eq n.name z) (z ∷ []) top e in
@@ -70,7 +70,7 @@ inside-no_ancestor (tree n c r) a z u h =
     let split : is_in name_eq a ((z ∷ at.0) ++ n.name ∷ []) ≡ false = sym (ap (λ p. is_in name_eq a (on_top p n.name (inclusive_ancestors r z))) at.1) ∙ k in
     let below = inside-no_ancestor c a z uc (ap (is_in name_eq a) at.1 ∙ not_in-front a (z ∷ at.0) (n.name ∷ []) split) in
     let other = not-first (name_eq a n.name) false (not_in-back a (z ∷ at.0) (n.name ∷ []) split) in
-    let i = inside-elsewhere n c r a z (name_eq-sym n.name a ∙ other) in
+    let i = inside-elsewhere n c r a z (name_eq-turned n.name a ∙ other) in
     let behind = inside-times r a z in omega arith))
 
 -- the tree of a node in the tree of another one
@@ -160,7 +160,7 @@ times-has_node none x h = absurd (omega arith)
 times-has_node (tree n c r) x h =
     let others = is_in name_eq x (names_of (nodes c ++ nodes r)) in
     by_cases (name_eq x n.name) (λ e. or-first (name_eq x n.name) others e)
-    (λ e. let g = times-elsewhere n c r x (name_eq-sym n.name x ∙ e) in
+    (λ e. let g = times-elsewhere n c r x (name_eq-turned n.name x ∙ e) in
     or-second (name_eq x n.name) others
     (by_times (times_in c x) (λ z. in-later x (nodes c) (nodes r) (times-has_node r x (omega arith)))
     (λ z. in-front x (nodes c) (nodes r) (times-has_node c x z))))
@@ -170,7 +170,7 @@ pub no_parent-root : (ts : Trees) (x : NodeName) → 1 ≤ times_in ts x → par
 no_parent-root none x h e = absurd (omega arith)
 no_parent-root (tree n c r) x h e =
     let top = on_top (inclusive_ancestors c x) n.name (inclusive_ancestors r x) in
-    by_cases (name_eq n.name x) (λ k. root-first n c r x (name_eq-sym x n.name ∙ k))
+    by_cases (name_eq n.name x) (λ k. root-first n c r x (name_eq-turned x n.name ∙ k))
     (λ k. let g = times-elsewhere n c r x k in
     let is = cond-false (name_eq n.name x) (x ∷ []) top k in
     by_times (times_in c x)

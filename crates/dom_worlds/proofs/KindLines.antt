@@ -26,7 +26,7 @@ use Rattle.dom_model.specs.Part.{Part}
 use Rattle.dom_model.specs.Runs.{Run, quiet, unless_refused}
 use Rattle.dom_model.specs.Turns.{ending_turn, has_other_turn, ending_other_turn, opening_turn}
 use Rattle.dom_model.specs.World.{World, part_of, with_part, component_made, shadow_root_of}
-use Rattle.dom_model.proofs.OwnerLaws.{component_made-no_page}
+use Rattle.dom_model.proofs.OwnerLaws.{component_made-no_page, name_eq-turned, name_eq-true}
 use Rattle.dom_worlds.specs.Reached.{Invariant}
 use Rattle.dom_worlds.specs.Worlds.{times_in, AllNodes, IsElementAt, IsHost, MayBeShadow, times_among, HasKinds, IsThere}
 use Rattle.dom_worlds.proofs.TableEffects.{base-effect}
@@ -39,7 +39,7 @@ use Rattle.dom_worlds.proofs.OwnerDispatches.{peopled-ending_other}
 use Rattle.dom_worlds.proofs.OwnerCommands.{there-opening, peopled-opening}
 use Rattle.dom_worlds.proofs.ShadowRoots.{found-absent, found-there}
 use Rattle.dom_worlds.proofs.Acceptance.{next-test, part-accepted, accepted-facts}
-use Rattle.dom_worlds.proofs.Trees.{IsUnique, by_times, times-here, times-elsewhere, times-more, name_eq-sym, name_eq-true}
+use Rattle.dom_worlds.proofs.Trees.{IsUnique, by_times, times-here, times-elsewhere, times-more}
 use Rattle.dom_worlds.proofs.TurnEndings.{alike-dispatch, alike-ending_turn}
 use Rattle.dom_worlds.proofs.WorldParts.{holds-with_part}
 use Rattle.dom_worlds.proofs.KindCommands.{document-no_shadow, AllKinds, kind-steps, all-kinds, kinds-same, no_shadow-steps}
@@ -96,7 +96,7 @@ elements-at ts x u h e =
 -- a node that is there is counted
 not_listed : (x : NodeName) (ns : List Node) → AllByRecursion (λ n. name_eq n.name x ≡ false) ns → is_in name_eq x (names_of ns) ≡ false
 not_listed x [] h = refl
-not_listed x (n ∷ ns) h = rw (name_eq-sym x n.name ∙ h.0) (not_listed x ns h.1)
+not_listed x (n ∷ ns) h = rw (name_eq-turned x n.name ∙ h.0) (not_listed x ns h.1)
 
 -- a node that is there is counted, by how often it is there
 pub has_node-times : (ts : Trees) (x : NodeName) → has_node ts x ≡ true → 1 ≤ times_in ts x
@@ -115,9 +115,9 @@ times_among-push (z ∷ zs) x y = let h = times_among-push zs x y in omega arith
 absent-among : (xs : List NodeName) (x : NodeName) → is_in name_eq x xs ≡ false → times_among xs x ≡ 0
 absent-among [] x h = refl
 absent-among (y ∷ ys) x h =
-    by_cases (name_eq y x) (λ e. absurd (true≢false (sym (ap (λ b. b || is_in name_eq x ys) (name_eq-sym x y ∙ e)) ∙ h)))
+    by_cases (name_eq y x) (λ e. absurd (true≢false (sym (ap (λ b. b || is_in name_eq x ys) (name_eq-turned x y ∙ e)) ∙ h)))
     (λ e. let none_here : times_among (y ∷ ys) x ≡ 0 + times_among ys x = ap (λ k. k + times_among ys x) (cond-false (name_eq y x) 1 0 e) in
-    let later = absent-among ys x (sym (ap (λ b. b || is_in name_eq x ys) (name_eq-sym x y ∙ e)) ∙ h) in omega arith)
+    let later = absent-among ys x (sym (ap (λ b. b || is_in name_eq x ys) (name_eq-turned x y ∙ e)) ∙ h) in omega arith)
 
 -- one more that was not there
 once-push : (xs : List NodeName) (x y : NodeName) → is_in name_eq x xs ≡ false → times_among xs y ≤ 1 → times_among (xs ++ x ∷ []) y ≤ 1

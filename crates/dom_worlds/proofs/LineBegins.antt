@@ -1,39 +1,20 @@
 -- What comes before a line: another component's turn is ended; then the line may open a turn. Both keep what holds of the world.
-use Rattle.std.proofs.Common.{◌≡◌, true, false, List, [], ◌∷◌, filter, Option, Some, None, refl, sym, ap, ◌∙◌, true≢false, subst, Bool}
+use Rattle.std.proofs.Common.{◌≡◌, true, false, [], filter, Option, Some, None, refl, sym, ap, ◌∙◌, true≢false, subst, Bool}
 use Rattle.std.specs.Prelude.{is_some, if◌then◌else◌}
 use Rattle.std.specs.Option.{option_map_or}
 use Rattle.std.proofs.lemmas.Bool.{cond-true, cond-false}
 use Rattle.dom_base.specs.declared.Owner.{Owner}
 use Rattle.dom_base.specs.declared.Owner.TheVariants.{Page, Component}
-use Rattle.dom_base.specs.declared.NodeName.{NodeName}
-use Rattle.dom_model.specs.Runs.{Run, quiet, run_each}
-use Rattle.dom_model.specs.World.{World, Task, micro_task, notify_task, part_of, with_part}
-use Rattle.dom_model.specs.Turns.{slotchange, firing_slotchange, is_owned_by, without_signals, notified, running_task, ending_turn, is_other_component}
+use Rattle.dom_model.specs.Runs.{Run, quiet}
+use Rattle.dom_model.specs.World.{World, part_of}
+use Rattle.dom_model.specs.Turns.{ending_turn, is_other_component}
 use Rattle.dom_model.specs.Turns.{has_other_turn, ending_other_turn, opening_turn, is_page_turn}
 use Rattle.dom_model.specs.PageMachine.{page_of, is_page_task}
+use Rattle.dom_model.proofs.TurnLaws.{turn-ending_turn}
 use Rattle.dom_worlds.specs.Reached.{Invariant}
 use Rattle.dom_worlds.proofs.Tests.{by_cases}
 use Rattle.dom_worlds.proofs.SameInvariant.{world-alike}
-use Rattle.dom_worlds.proofs.TurnEndings.{turn-dispatch, quiet-ending_turn}
-
--- The turn stays while tasks run.
-turn-firings : (ss : List NodeName) (w : World) → (run_each firing_slotchange w ss).0.turn ≡ w.turn
-turn-firings [] w = refl
-turn-firings (s ∷ ss) w = turn-firings ss (firing_slotchange w s).0 ∙ turn-dispatch w s None slotchange
-
--- one task
-turn-running : (w : World) (t : Task) → (running_task w t).0.turn ≡ w.turn
-turn-running w (micro_task o label) = refl
-turn-running w (notify_task o) = turn-firings (filter (is_owned_by o) w.signalled) (with_part (without_signals w o) (notified (part_of w o)))
-
--- all of them
-turn-running_all : (ts : List Task) (w : World) → (run_each running_task w ts).0.turn ≡ w.turn
-turn-running_all [] w = refl
-turn-running_all (t ∷ ts) w = turn-running_all ts (running_task w t).0 ∙ turn-running w t
-
--- after the ending no turn is open
-pub turn-ending_turn : (w : World) → (ending_turn w).0.turn ≡ None
-turn-ending_turn w = turn-running_all w.tasks (record w { tasks = []; turn = None })
+use Rattle.dom_worlds.proofs.TurnEndings.{quiet-ending_turn}
 
 module _ {only_log : Bool} where
   -- and keeps what holds

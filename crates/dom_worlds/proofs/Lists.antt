@@ -3,7 +3,7 @@ use Rattle.std.proofs.Common.{◌≡◌, ℕ, zero, ◌<◌, Some, length, true�
 use Rattle.std.proofs.Common.{take_while, reverse, refl, sym, ap, ◌∙◌, arith, append-nil, take, drop, subst, suc, ◌+◌}
 use Rattle.std.proofs.lemmas.Bool.{cond-true, cond-false}
 use Rattle.std.proofs.lemmas.List.{reverse-append}
-use Rattle.std.specs.Prelude.{is_some, slice_get}
+use Rattle.std.specs.Prelude.{is_some, slice_get, slice_set}
 use Rattle.std.specs.List.{AllByRecursion, prefix_len}
 use Rattle.std.proofs.lemmas.List.Elements.{filter-append}
 use Rattle.dom_model.specs.Names.{distinct}
@@ -150,3 +150,9 @@ module _ {X : Type 0} where
   get-all P [] k x h e = cc
   get-all P (y ∷ xs) zero x h e = let same : y ≡ x = cc in subst P same h.0
   get-all P (y ∷ xs) (suc k) x h e = get-all P xs k x h.1 e
+
+-- A list with one item set.
+pub all-set : {X : Type 0} (P : X → Type 0) (xs : List X) (k : ℕ) (x : X) → AllByRecursion P xs → P x → AllByRecursion P (slice_set xs k x)
+all-set P [] k x h g = tt
+all-set P (y ∷ xs) zero x h g = (g, h.1)
+all-set P (y ∷ xs) (suc k) x h g = (h.0, all-set P xs k x h.1 g)

@@ -10,10 +10,9 @@ use Rattle.dom_base.specs.declared.Owner.TheVariants.{Page}
 use Rattle.dom_base.specs.declared.NodeName.{NodeName}
 use Rattle.dom_model.specs.Names.{name_eq, owner_depth}
 use Rattle.dom_model.specs.World.{World, part_of, component_at, component_made, made_by, host_of, MayAttach}
-use Rattle.dom_model.proofs.OwnerLaws.{made_by-made, depth-made}
+use Rattle.dom_model.proofs.OwnerLaws.{made_by-made, depth-made, name_eq-true}
 use Rattle.dom_worlds.specs.Worlds.{IsWorld, IsOf, HasMakers}
 use Rattle.dom_worlds.proofs.Lists.{get-below, get-all}
-use Rattle.dom_worlds.proofs.Trees.{name_eq-true}
 
 -- other worlds with the same hosts
 pub makers-same : (v w : World) → ((o : Owner) → (part_of v o).attached ≡ (part_of w o).attached) → HasMakers w → HasMakers v

@@ -13,13 +13,13 @@ use Rattle.dom_model.specs.TreeChanges.{map_nodes, with_name, with_document, wit
 use Rattle.dom_model.specs.Part.{Part, next_name}
 use Rattle.dom_model.specs.Steps.{Step, make, place, take_out, set_document, set_attribute, replace_data, part_step, leave}
 use Rattle.dom_model.proofs.StepLaws.{owner-part_step}
+use Rattle.dom_model.proofs.OwnerLaws.{name_eq-true}
 use Rattle.dom_worlds.specs.Worlds.{AllNodes, IsElementAt, IsHost, MayBeShadow, IsShadowOf, times_among, HasKinds}
 use Rattle.dom_worlds.proofs.SameInvariant.{IsAlike}
 use Rattle.dom_worlds.proofs.Lists.{all-then}
 use Rattle.dom_worlds.proofs.Tests.{by_cases}
 use Rattle.dom_worlds.proofs.PartSteps.{KeepsNames, some-keeps, attribute-keeps, count-step, rest-step}
 use Rattle.dom_worlds.proofs.TreeChangeLaws.{nodes-with_node, nodes-taken_out, nodes-placed, nodes-map_nodes, nodes-listed}
-use Rattle.dom_worlds.proofs.Trees.{name_eq-true}
 
 -- A property of nodes that speaks of their names and kinds alone.
 abbrev OfKinds : (Node → Type 0) → Type 0

@@ -15,7 +15,7 @@ use Rattle.dom_model.specs.Changes.{in_turn, steps_of, Observing, observed, supp
 use Rattle.dom_model.specs.Changes.{has_document, changing_document, adopting, document_below, placed_nodes, emptying, making_room, placing}
 use Rattle.dom_model.specs.Changes.{sibling_before, inserting_nodes, inserting}
 use Rattle.dom_model.specs.TextChanges.{replacing_data}
-use Rattle.dom_model.proofs.OwnerLaws.{name_eq-same}
+use Rattle.dom_model.proofs.OwnerLaws.{name_eq-same, name_eq-true}
 use Rattle.dom_worlds.specs.Worlds.{IsPart}
 use Rattle.dom_worlds.proofs.ChildPairs.{childs, childs-taken_out, childs-placed, child-placed, childs-with_node, childs-map_nodes, childs-parent}
 use Rattle.dom_worlds.proofs.ChildPairs.{children-childs}
@@ -25,7 +25,7 @@ use Rattle.dom_worlds.proofs.PartSteps.{some-keeps}
 use Rattle.dom_worlds.proofs.PlanPlaces.{MayGo, may-still, taken-step, telling-trees, after-append, emptied_of, leads-then, leads-eased}
 use Rattle.dom_worlds.proofs.PlanPlaces.{leads-removing, leads-adopting, leads-placing, leads-emptied, leads-making_room, placed-may}
 use Rattle.dom_worlds.proofs.Tests.{by_cases, either_way}
-use Rattle.dom_worlds.proofs.Trees.{name_eq-true, all-in}
+use Rattle.dom_worlds.proofs.Trees.{all-in}
 
 -- The trees with another node document
 pub documented : (d x : NodeName) (q : Part) (P : Trees → Type 0) → P q.trees → P (part_step q (set_document x d)).trees →

@@ -14,12 +14,13 @@ use Rattle.dom_model.specs.Changes.{Plan, in_turn, steps_of, Observing, observed
 use Rattle.dom_model.specs.Changes.{has_document, changing_document, adopting, document_below, placed_nodes, emptying, making_room, placing}
 use Rattle.dom_model.specs.Changes.{sibling_before, inserting_nodes, inserting}
 use Rattle.dom_model.proofs.StepLaws.{owner-part_step}
+use Rattle.dom_model.proofs.OwnerLaws.{name_eq-true}
 use Rattle.dom_worlds.specs.Worlds.{times_in, IsPart}
 use Rattle.dom_worlds.proofs.NodesRead.{node-taken_out, node-placed, node-with_node, node-map_nodes}
 use Rattle.dom_worlds.proofs.Lists.{all-then, all-from}
 use Rattle.dom_worlds.proofs.Tests.{by_cases, either_way}
 use Rattle.dom_worlds.proofs.TreeChangeLaws.{HasRoot, root-put_root_new, root-subtree, root-map_nodes}
-use Rattle.dom_worlds.proofs.Trees.{times-subtree, name_eq-true}
+use Rattle.dom_worlds.proofs.Trees.{times-subtree}
 use Rattle.dom_worlds.proofs.PartSteps.{KeepsNames, some-keeps, attribute-keeps, part-step, next-absent}
 use Rattle.dom_worlds.proofs.NodeKinds.{count-grows}
 use Rattle.dom_worlds.proofs.TableSteps.{HasNode, Fits, MadeIn, stays-step}

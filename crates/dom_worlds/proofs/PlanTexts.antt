@@ -17,7 +17,7 @@ use Rattle.dom_model.specs.Changes.{Plan, ◌and_then◌, in_turn, doing, steps_
 use Rattle.dom_model.specs.Changes.{placed_nodes, inserting, reference_for, replacing, setting_attribute, unsetting_attribute}
 use Rattle.dom_model.specs.TextChanges.{replacing_data, new_text_node, replacing_all_data, placing_tail, splitting, texts_after, joins, joining}
 use Rattle.dom_model.specs.TextChanges.{normalizing_text, normalizing, replacing_children, setting_text}
-use Rattle.dom_model.proofs.OwnerLaws.{name_eq-same}
+use Rattle.dom_model.proofs.OwnerLaws.{name_eq-same, name_eq-true}
 use Rattle.dom_worlds.specs.Worlds.{times_in, IsPart}
 use Rattle.dom_worlds.proofs.ChildPairs.{children-childs}
 use Rattle.dom_worlds.proofs.Lists.{all-dropped, all-then, all-from, all-map, all-filter, all-take_while}
@@ -26,7 +26,7 @@ use Rattle.dom_worlds.proofs.PlanChildren.{IsChild, IsNot, parent-child, child-p
 use Rattle.dom_worlds.proofs.Roots.{root-parent_of}
 use Rattle.dom_worlds.proofs.TableRecords.{after-all}
 use Rattle.dom_worlds.proofs.Tests.{by_cases}
-use Rattle.dom_worlds.proofs.Trees.{times-here, times-subtree, name_eq-true, nodes-there}
+use Rattle.dom_worlds.proofs.Trees.{times-here, times-subtree, nodes-there}
 use Rattle.dom_worlds.proofs.TreeChangeLaws.{times-with_node}
 use Rattle.dom_worlds.proofs.PartSteps.{next-absent}
 use Rattle.dom_worlds.proofs.TableSteps.{HasNode}

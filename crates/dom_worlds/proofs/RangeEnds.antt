@@ -12,6 +12,7 @@ use Rattle.dom_model.specs.Part.{Part}
 use Rattle.dom_model.specs.Place.{Boundary, same_root}
 use Rattle.dom_model.specs.Ranges.{Range, at}
 use Rattle.dom_model.specs.Extract.{new_place, behind_node}
+use Rattle.dom_model.proofs.OwnerLaws.{name_eq-true, name_eq-turned}
 use Rattle.dom_worlds.specs.Worlds.{times_in, times_among, IsPart}
 use Rattle.dom_worlds.proofs.Bounds.{nowhere, HasRoom}
 use Rattle.dom_worlds.proofs.ChildPairs.{children-childs, held-length}
@@ -30,7 +31,7 @@ use Rattle.dom_worlds.proofs.TableRecords.{IfSome, last-all, before-all, inside-
 use Rattle.dom_worlds.proofs.Lists.{all-append, all-then}
 use Rattle.dom_worlds.proofs.Tests.{by_cases, or-later}
 use Rattle.dom_worlds.proofs.TextBounds.{children-among, kids-open}
-use Rattle.dom_worlds.proofs.Trees.{IsUnique, name_eq-true, name_eq-sym, ancestors-root, ancestors-there, times-here, all-in}
+use Rattle.dom_worlds.proofs.Trees.{IsUnique, ancestors-root, ancestors-there, times-here, all-in}
 
 -- Some children of a node before which a boundary does not come: so many that it is within the node, and they are spared.
 pub record IsRoomAt (p : Part) (r : Range NodeName) (b : Boundary NodeName) : Type 0 where

@@ -22,7 +22,7 @@ use Rattle.dom_model.specs.Changes.{placed_nodes, emptying, inserting, reference
 use Rattle.dom_model.specs.TextChanges.{replacing_data, new_text_node, placing_tail, splitting}
 use Rattle.dom_model.specs.RangeOps.{start_reference, insertion_parent, is_comment, cannot_take_node, ending_at, inserting_before, inserting_at}
 use Rattle.dom_model.specs.RangeOps.{inserting_into_range}
-use Rattle.dom_model.proofs.OwnerLaws.{name_eq-same}
+use Rattle.dom_model.proofs.OwnerLaws.{name_eq-same, name_eq-true, name_eq-turned}
 use Rattle.dom_worlds.specs.Worlds.{times_among, IsPart}
 use Rattle.dom_worlds.proofs.BoundLines.{under-at}
 use Rattle.dom_worlds.proofs.Bounds.{RangeUnder, reach, nowhere, HasRoom, room-set}
@@ -43,7 +43,7 @@ use Rattle.dom_worlds.proofs.TableRecords.{IfSome, first-all, after-all, all-get
 use Rattle.dom_worlds.proofs.Tests.{by_cases, either_way, which_way}
 use Rattle.dom_worlds.proofs.TextBounds.{none-among, among-behind, children-among, text-data, room-splitting}
 use Rattle.dom_worlds.proofs.TreeChangeLaws.{HasRoot, root-taken_out}
-use Rattle.dom_worlds.proofs.Trees.{all-both, name_eq-true, name_eq-sym}
+use Rattle.dom_worlds.proofs.Trees.{all-both}
 
 -- Children of a fragment: each is another.
 distinct-among : (xs : List NodeName) → ((z : NodeName) → times_among xs z ≤ 1) → Distinct xs
@@ -213,7 +213,7 @@ reference-stays node parent p i (Some c) h =
     let still_all = all-then (λ z. IsChild z parent p × (name_eq node z ≡ false)) C (λ z g. child-removing z parent observed node p i g.1 g.0) behind all in
     subst (λ (s : Option NodeName). IfSome C (first_of (items_after name_eq node (option_map_or (children_of ts) s (node ∷ []))))) (sym up)
     (first-all C behind still_all))
-    (λ e. child-removing c parent observed node p i (name_eq-sym node c ∙ e) h)
+    (λ e. child-removing c parent observed node p i (name_eq-turned node c ∙ e) h)
 
 -- a node that left its parent first
 room-inserting_at : (k : ℕ) (node parent : NodeName) (child : Option NodeName) (p : Part) → IsPart p → MayGo parent p node → IsOpen p parent →

@@ -17,7 +17,7 @@ use Rattle.dom_model.specs.TextChanges.{replacing_data}
 use Rattle.dom_model.specs.Extract.{cut_start, cut_end, is_in_one_data}
 use Rattle.dom_model.specs.Extract.{new_place, both_at}
 use Rattle.dom_model.specs.RangeOps.{cutting_data, outermost_contained, deleting_contents, deleting}
-use Rattle.dom_model.proofs.OwnerLaws.{name_eq-same}
+use Rattle.dom_model.proofs.OwnerLaws.{name_eq-same, name_eq-true}
 use Rattle.dom_worlds.specs.Worlds.{IsPart}
 use Rattle.dom_worlds.proofs.Bounds.{nowhere, HasRoom, room-set}
 use Rattle.dom_worlds.proofs.Bounds as bounds
@@ -34,7 +34,6 @@ use Rattle.dom_worlds.proofs.RangeEnds.{room-at, above-kids, room-place_new}
 use Rattle.dom_worlds.proofs.TableSteps.{HasNode}
 use Rattle.dom_worlds.proofs.Tests.{by_cases, either_way}
 use Rattle.dom_worlds.proofs.TextBounds.{replaced-here}
-use Rattle.dom_worlds.proofs.Trees.{name_eq-true}
 
 -- What is asked of a range: its ends are nodes of one tree, and its start is within its node.
 pub record IsProper (p : Part) (r : Range NodeName) : Type 0 where

@@ -8,11 +8,10 @@ use Rattle.dom_model.specs.DocumentMachine.{first_world, step, run_lines}
 use Rattle.dom_model.specs.Names.{name_eq}
 use Rattle.dom_model.specs.Runs.{Run, quiet}
 use Rattle.dom_model.specs.Slots.{assigned_below, is_assigned_to}
-use Rattle.dom_model.specs.Tree.{Trees, none, tree, names_of, roots, trees_below, subtree, children_of}
+use Rattle.dom_model.specs.Tree.{names_of, roots, trees_below, subtree, children_of}
 use Rattle.dom_model.specs.Trace.{line_may_stop, no_component_stops_from}
 use Rattle.dom_model.specs.Turns.{ending_turn, has_other_turn}
 use Rattle.dom_model.specs.World.{World, trees_with, some_if, root_at, shadow_root_of}
-use Rattle.dom_model.proofs.OwnerLaws.{name_eq-same}
 use Rattle.dom_worlds.specs.Reached.{Invariant, IsReached, FirstIsReached, StepKeepsReached, EndingKeepsReached, FinishKeepsReached, ScriptsReach}
 use Rattle.dom_worlds.specs.Reached.{QuietScriptsReach, AssignedAreSiblings}
 use Rattle.dom_worlds.specs.Worlds.{IsWorld, IsOf, times_in}
@@ -29,8 +28,9 @@ use Rattle.dom_worlds.proofs.TurnEndings.{quiet-ending_turn, alike-ending_turn}
 use Rattle.std.proofs.lemmas.Bool.{and_parts, not-true}
 use Rattle.std.specs.Prelude.{is_some}
 use Rattle.dom_worlds.proofs.StepKeeps.{quiet-step}
-use Rattle.dom_worlds.proofs.Trees.{times-here, times-more, times-subtree}
+use Rattle.dom_worlds.proofs.Trees.{times-subtree}
 use Rattle.dom_worlds.proofs.TreeChangeLaws.{times-below}
+use Rattle.dom_worlds.proofs.InsideAncestors.{roots-there}
 
 -- what the laws ask for
 pub sound : {only_log : Bool} (w : World) → IsReached only_log w → Invariant only_log w
@@ -98,15 +98,6 @@ module _ {L : Type 0} (read : L → Line) where
   -- from the first world on
   pub quiet_scripts-reach : QuietScriptsReach read
   quiet_scripts-reach ls h = quiet_lines-reach ls first_world h (first-is_reached true)
-
--- The children of a node are of its owner.
-roots-there : (ts : Trees) → AllByRecursion (λ y. 1 ≤ times_in ts y) (names_of (roots ts))
-roots-there none = tt
-roots-there (tree n c r) = (
-  (let g = times-here n c r n.name (name_eq-same n.name) in omega arith),
-  all-then (λ y. 1 ≤ times_in r y) (λ y. 1 ≤ times_in (tree n c r) y)
-      (λ y h. let g = times-more n c r y in omega arith) (names_of (roots r)) (roots-there r),
-)
 
 -- the children in a world
 children-owned : (w : World) → IsWorld w → (x : NodeName) → AllByRecursion (IsOf x.owner) (children_of (trees_with w x) x)

@@ -11,7 +11,7 @@ use Rattle.dom_base.specs.Owners.{has_word}
 use Rattle.dom_model.specs.Names.{owner_eq, name_eq, is_in, first_of}
 use Rattle.dom_model.specs.Tree.{Trees, none, tree, nodes, names_of, roots, has_node, inclusive_ancestors, on_top}
 use Rattle.dom_model.specs.World.{World, part_of, is_there, host_of, component_made, shadow_root_of}
-use Rattle.dom_model.proofs.OwnerLaws.{owner_eq-true, owner_eq-false, name_eq-same, made_by-is, word-made}
+use Rattle.dom_model.proofs.OwnerLaws.{owner_eq-true, owner_eq-false, name_eq-same, made_by-is, word-made, name_eq-turned}
 use Rattle.dom_model.proofs.PartLaws.{owner-part_of}
 use Rattle.dom_worlds.specs.Reached.{ShadowRootsAreRoots, NoOtherShadowRoots, AttachedAreThere, OwnersHaveWords, HostsAreTheirs}
 use Rattle.dom_worlds.specs.Worlds.{IsWorld, IsShadowOf, MayBeShadow, times_among}
@@ -22,7 +22,7 @@ use Rattle.dom_worlds.proofs.Owners.{hosted-there, there-hosted}
 use Rattle.dom_worlds.proofs.ShadowRoots.{kind-root}
 use Rattle.dom_worlds.proofs.Tests.{by_cases, or-first, or-second, or-later}
 use Rattle.dom_worlds.proofs.TreeChangeLaws.{HasRoot}
-use Rattle.dom_worlds.proofs.Trees.{IsUnique, unique-rest, times-elsewhere, root-there, name_eq-sym, ancestors-absent}
+use Rattle.dom_worlds.proofs.Trees.{IsUnique, unique-rest, times-elsewhere, root-there, ancestors-absent}
 use Rattle.dom_worlds.proofs.WorldSteps.{own-part}
 
 -- and so a node of the trees
@@ -38,7 +38,7 @@ pub root-alone : (ts : Trees) → IsUnique ts → (x : NodeName) → HasRoot ts 
 root-alone none u x h = absurd (true≢false (sym h))
 root-alone (tree n c r) u x h =
     by_cases (name_eq n.name x) (λ e. cond-true (name_eq n.name x) (x ∷ []) (on_top (inclusive_ancestors c x) n.name (inclusive_ancestors r x)) e)
-    (λ e. let later = or-later (name_eq x n.name) (is_in name_eq x (names_of (roots r))) (name_eq-sym x n.name ∙ e) h in
+    (λ e. let later = or-later (name_eq x n.name) (is_in name_eq x (names_of (roots r))) (name_eq-turned x n.name ∙ e) h in
     let there = root-there r x later in
     let once = u x in
     let g = times-elsewhere n c r x e in
@@ -91,7 +91,7 @@ place-of (y ∷ ys) (suc k) x e u =
     let later = got-among ys k x e in
     let other : name_eq x y ≡ false =
     by_cases (name_eq x y) (λ t. absurd (let one : times_among (y ∷ ys) x ≡ 1 + times_among ys x = ap (λ n. n + times_among ys x)
-    (cond-true (name_eq y x) 1 0 (name_eq-sym y x ∙ t)) in omega arith)) (λ t. t) in
+    (cond-true (name_eq y x) 1 0 (name_eq-turned y x ∙ t)) in omega arith)) (λ t. t) in
     let at = place-of ys k x e (omega arith) in
     let next : position_or_len (name_eq x) (y ∷ ys) ≡ 1 + position_or_len (name_eq x) ys =
     cond-true (not (name_eq x y)) (1 + position_or_len (name_eq x) ys) 0 (ap not other) in

@@ -21,11 +21,11 @@ use Rattle.dom_worlds.specs.Worlds.{times_in, IsPart}
 use Rattle.dom_worlds.specs.Tables.{IsNodeIn, IsNodeIf, IsRecordIn, HasRecords}
 use Rattle.dom_worlds.proofs.Insides.{times-taken_out_all}
 use Rattle.dom_worlds.proofs.InsideAncestors.{children-inside, child-there, parent-there, times-has_node}
-use Rattle.dom_worlds.proofs.Lists.{all-then, all-append, all-from}
+use Rattle.dom_worlds.proofs.Lists.{all-then, all-append, all-from, all-set}
 use Rattle.dom_worlds.proofs.PlanPlaces.{Changed, Leads, MayGo, may-still, still, emptied_of, leads-then, leads-eased, leads-one, leads-each}
 use Rattle.dom_worlds.proofs.PlanPlaces.{leads-removing, leads-placing, leads-emptied, leads-making_room, leads-inserting, placed-may}
 use Rattle.dom_worlds.proofs.PlanTexts.{leads-plan, leads-removals}
-use Rattle.dom_worlds.proofs.TableSteps.{HasNode, Fits, Grows, grows-step, grows-times, all-set}
+use Rattle.dom_worlds.proofs.TableSteps.{HasNode, Fits, Grows, grows-step, grows-times}
 use Rattle.dom_worlds.proofs.TableRecords.{IfSome, first-all, last-all, before-all, after-all, all-get}
 use Rattle.dom_worlds.proofs.Tests.{either_way}
 use Rattle.dom_worlds.proofs.Trees.{times-subtree}

@@ -20,14 +20,13 @@ use Rattle.dom_model.specs.Tree.{has_node, length_of}
 use Rattle.dom_worlds.specs.Worlds.{IsPart}
 use Rattle.dom_worlds.specs.Tables.{IsRecordIn, HasTables, HasRecords}
 use Rattle.dom_worlds.proofs.Acceptance.{part-accepted}
-use Rattle.dom_worlds.proofs.Lists.{all-append}
+use Rattle.dom_worlds.proofs.Lists.{all-append, all-set}
 use Rattle.dom_worlds.proofs.PlanContents.{range-ends}
 use Rattle.dom_worlds.proofs.Recorded.{TellsIn, reference-there, tells-removing, tells-adopting, tells-inserting, tells-replacing}
 use Rattle.dom_worlds.proofs.Recorded.{tells-setting_attribute, tells-unsetting_attribute, tells-replacing_data}
 use Rattle.dom_worlds.proofs.RecordedTexts.{tells-splitting, tells-normalizing, tells-setting_text}
 use Rattle.dom_worlds.proofs.TableCommands.{named-may, insertion-apart, replacement-apart, exists-first, exists-second, exists-third}
 use Rattle.dom_worlds.proofs.TableRegisters.{insert_node-may}
-use Rattle.dom_worlds.proofs.TableSteps.{all-set}
 use Rattle.dom_worlds.proofs.RecordedRanges.{tells-extracting, tells-deleting, tells-inserting_into_range}
 
 -- What an effect leaves, or its steps record.

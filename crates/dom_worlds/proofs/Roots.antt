@@ -7,13 +7,13 @@ use Rattle.dom_model.specs.Names.{name_eq, is_in, first_of}
 use Rattle.dom_model.specs.Place.{same_root}
 use Rattle.dom_model.specs.Tree.{Trees, none, tree, inclusive_ancestors, is_inclusive_ancestor, on_top, parent_of, root_of, subtree}
 use Rattle.dom_model.specs.TreeChanges.{taken_out, without}
-use Rattle.dom_model.proofs.OwnerLaws.{name_eq-same}
+use Rattle.dom_model.proofs.OwnerLaws.{name_eq-same, name_eq-true}
 use Rattle.dom_worlds.specs.Worlds.{times_in}
 use Rattle.dom_worlds.proofs.Descents.{ancestor-inside, inside-ancestor, inside-left}
 use Rattle.dom_worlds.proofs.Insides.{inside, inside-absent, inside-elsewhere, inside-times, inside-put_root}
 use Rattle.dom_worlds.proofs.InsideAncestors.{parent-there}
 use Rattle.dom_worlds.proofs.Tests.{by_cases, or-first, or-second, or-later}
-use Rattle.dom_worlds.proofs.Trees.{IsUnique, all-in, last_from, last-is, last-in, by_times, times-here, times-elsewhere, times-more, name_eq-true}
+use Rattle.dom_worlds.proofs.Trees.{IsUnique, all-in, last_from, last-is, last-in, by_times, times-here, times-elsewhere, times-more}
 use Rattle.dom_worlds.proofs.Trees.{ancestors-absent, ancestors-present, ancestors-root}
 
 -- Ancestors: a node's are it and its parent's.

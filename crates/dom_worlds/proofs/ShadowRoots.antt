@@ -21,10 +21,11 @@ use Rattle.dom_model.specs.CommandRefusals.{own_refusal, limit_on, made_by_inser
 use Rattle.dom_model.specs.RangeOps.{cannot_take_node, insert_node_refusal, insertion_parent, start_reference}
 use Rattle.dom_model.specs.Extract.{pieces_of, common_ancestor}
 use Rattle.dom_model.specs.Effects.{Effect, effect}
+use Rattle.dom_model.proofs.OwnerLaws.{name_eq-true}
 use Rattle.std.proofs.lemmas.List.Folds.{find-append}
 use Rattle.dom_worlds.specs.Worlds.{times_in, IsShadowAt}
 use Rattle.dom_worlds.proofs.Tests.{by_cases}
-use Rattle.dom_worlds.proofs.Trees.{name_eq-true, root-there, times-here, times-elsewhere, times-more, by_times}
+use Rattle.dom_worlds.proofs.Trees.{root-there, times-here, times-elsewhere, times-more, by_times}
 use Rattle.dom_worlds.proofs.TreeChangeLaws.{nodes-listed, nodes-named, root-below_none}
 use Rattle.dom_worlds.proofs.PartSteps.{Allowed, IsOwn, own-step, next-other}
 use Rattle.dom_worlds.proofs.Plans.{AllWhole, IsKept}

@@ -22,10 +22,11 @@ use Rattle.dom_worlds.proofs.InsideAncestors.{inside-no_ancestor}
 use Rattle.dom_worlds.proofs.KindLines.{has_node-times}
 use Rattle.dom_worlds.proofs.Owners.{owner-named}
 use Rattle.dom_worlds.proofs.PlanPlaces.{MayGo}
-use Rattle.dom_worlds.proofs.TableSteps.{HasNode, MadeIn, all-set}
+use Rattle.dom_worlds.proofs.TableSteps.{HasNode, MadeIn}
 use Rattle.dom_worlds.proofs.TableRecords.{IfSome}
 use Rattle.dom_worlds.proofs.Roots.{roots-equal, roots-same}
 use Rattle.dom_worlds.proofs.Tests.{which_way}
+use Rattle.dom_worlds.proofs.Lists.{all-set}
 
 -- the tables after an effect, or its steps
 abbrev pub Holds : Part → Effect → Type 0

@@ -15,8 +15,7 @@ use Rattle.dom_model.specs.Tree.{Trees, ancestors, inclusive_ancestors, inclusiv
 use Rattle.dom_worlds.specs.Worlds.{times_in}
 use Rattle.dom_worlds.specs.Tables.{IsNodeIn, IsIteratorIn, IsWalkerIn, HasTables}
 use Rattle.dom_worlds.proofs.InsideAncestors.{times-has_node}
-use Rattle.dom_worlds.proofs.Lists.{all-dropped, all-append, all-then, all-filter}
-use Rattle.dom_worlds.proofs.TableSteps.{all-set}
+use Rattle.dom_worlds.proofs.Lists.{all-dropped, all-append, all-then, all-filter, all-set}
 use Rattle.dom_worlds.proofs.TableRecords.{StandsIn, all-stand, IfSome, first-all, last-all, before-all, after-all, all-descend, iterator-moved}
 use Rattle.dom_worlds.proofs.Tests.{either_way}
 use Rattle.dom_worlds.proofs.Trees.{IsUnique, ancestors-there}

@@ -47,7 +47,7 @@ use Rattle.dom_worlds.proofs.ReachedFacts.{shadow_roots-are_roots}
 use Rattle.dom_worlds.proofs.Recorded.{records-emptied}
 use Rattle.dom_worlds.proofs.RecordedCommands.{Records, records-effect}
 use Rattle.dom_worlds.proofs.TableCommands.{Holds}
-use Rattle.dom_worlds.proofs.TableRegisters.{holds-effect, more-registered}
+use Rattle.dom_worlds.proofs.TableRegisters.{holds-effect, more-registered, tables-listeners}
 use Rattle.dom_worlds.proofs.TableEffects.{KeepsBase, base-effect}
 use Rattle.dom_worlds.proofs.TableSteps.{Grows}
 use Rattle.dom_worlds.proofs.TableRecords.{queues-set}
@@ -86,18 +86,6 @@ after-visit P e v d h =
     let hearing = filter (hears name_eq e v) d.listeners in
     either_way (λ (s : Dispatching NodeName). AllByRecursion P s.listeners) d.stopped d (fold (called name_eq e v) d hearing) h (after-calls P e v hearing d h)
 
--- a part with other listeners
-tables-heard : (p : Part) (ls : List (Listener NodeName)) → HasTables p → AllByRecursion (IsListenerIn p.trees) ls → HasTables (record p { listeners = ls })
-tables-heard p ls h g = record {
-  hosts = h.hosts;
-  ranges = h.ranges;
-  iterators = h.iterators;
-  walkers = h.walkers;
-  registrations = h.registrations;
-  pending = h.pending;
-  listeners = g;
-}
-
 -- visits in the world
 frame-visits : (e : EventWords) (vs : List (Visit NodeName)) (w : World) (d : Dispatching NodeName) → Frame w → Frame (fold (world_visit e) (w, d) vs).0
 frame-visits e [] w d f = f
@@ -105,7 +93,7 @@ frame-visits e (v ∷ vs) w d f =
     let o = v.current.owner in
     let p = part_of w o in
     let heard = visited name_eq e (record d { listeners = p.listeners }) v in
-    let t = tables-heard p heard.listeners (f.tables o)
+    let t = tables-listeners p heard.listeners (f.tables o)
     (after-visit (IsListenerIn p.trees) e v (record d { listeners = p.listeners }) (f.tables o).listeners) in
     frame-visits e vs (with_part w (record p { listeners = heard.listeners })) heard
     (frame-with_part w (record p { listeners = heard.listeners }) o (owner-part_of w o) t (f.records o) (λ y h. h) f)

@@ -1,6 +1,6 @@
 -- Steps with removals, records and iterators keep the tables of their part; and so does every step that fits.
 use Rattle.std.proofs.Common.{zero, suc, ◌≡◌, ◌≤◌, ◌<◌, ℕ, Bool, true, false, not, ◌||◌, List, [], ◌∷◌, ◌++◌, map, filter, fold, length, Option, Some}
-use Rattle.std.proofs.Common.{None, option_map, refl, sym, ap, ◌∙◌, arith, true≢false, subst}
+use Rattle.std.proofs.Common.{None, option_map, refl, sym, ap, ◌∙◌, arith, subst}
 use Rattle.std.specs.Prelude.{if◌then◌else◌, IsTrue, ⊤, slice_get, slice_set, nat_eq}
 use Rattle.std.specs.List.{AllByRecursion, last_or}
 use Rattle.std.specs.Option.{option_map_or}
@@ -18,12 +18,13 @@ use Rattle.dom_model.specs.Output.{Change}
 use Rattle.dom_model.specs.Part.{Part, queue_of}
 use Rattle.dom_model.specs.Steps.{Step, make, make_room, place, take_out, set_document, set_attribute, replace_data, split_at, join_at, set_range}
 use Rattle.dom_model.specs.Steps.{queue_record, part_step, leave, told, interested_in, record_in, after}
+use Rattle.dom_model.proofs.OwnerLaws.{name_eq-true}
 use Rattle.dom_worlds.specs.Worlds.{times_in, IsPart}
 use Rattle.dom_worlds.specs.Tables.{IsNodeIn, EndsIn, IsIteratorIn, IsWalkerIn, IsSourceIn, IsRegistrationIn, IsListenerIn, HasTables}
-use Rattle.dom_worlds.proofs.Lists.{all-distinct, all-append, all-then, all-filter, all-from, all-flat_map, all-map}
+use Rattle.dom_worlds.proofs.Lists.{all-distinct, all-append, all-then, all-filter, all-from, all-flat_map, all-map, all-set}
 use Rattle.dom_worlds.proofs.Roots.{roots-equal, roots-same, roots-left}
-use Rattle.dom_worlds.proofs.Tests.{by_cases, either_way, or-second, or-neither}
-use Rattle.dom_worlds.proofs.Trees.{IsUnique, by_times, times-subtree, nodes-there, name_eq-true, root-there}
+use Rattle.dom_worlds.proofs.Tests.{by_cases, either_way, or-second, or-neither, or-first}
+use Rattle.dom_worlds.proofs.Trees.{IsUnique, by_times, times-subtree, nodes-there, root-there}
 use Rattle.dom_worlds.proofs.TreeChangeLaws.{root-subtree}
 use Rattle.dom_worlds.proofs.PartSteps.{part-step}
 use Rattle.dom_worlds.proofs.KindLines.{has_node-times}
@@ -33,7 +34,7 @@ use Rattle.dom_worlds.proofs.InsideAncestors.{inside-nested, inside-no_ancestor}
 use Rattle.dom_worlds.proofs.Insides.{times-taken_out_all}
 use Rattle.dom_worlds.proofs.InsideAncestors.{child-there, times-has_node}
 use Rattle.dom_worlds.proofs.TableSteps.{Fits, MadeIn, Grows, grows-times, grows-step, ancestors-step, tables-trees, tables-ends, moves-insert}
-use Rattle.dom_worlds.proofs.TableSteps.{moves-removal, moves-data, moves-split, moves-join, all-set, walker-grows, registration-grows}
+use Rattle.dom_worlds.proofs.TableSteps.{moves-removal, moves-data, moves-split, moves-join, walker-grows, registration-grows}
 
 -- Records and transient registrations: of the registrations on a path.
 all-registered : (P : Registration NodeName → Type 0) (path : List NodeName) (rs : List (Registration NodeName)) → AllByRecursion P rs →
@@ -200,11 +201,6 @@ adjusted-not : (ts : Trees) (x : NodeName) (i : Iterator) →
     (is_inclusive_ancestor ts x i.root || not (is_inclusive_ancestor ts x i.reference)) ≡ true → adjusted_iterator ts x i ≡ i
 adjusted-not ts x i e = cond-true (is_inclusive_ancestor ts x i.root || not (is_inclusive_ancestor ts x i.reference)) i _ e
 
--- by whether the node is above the root, or the reference not in its tree
-test-true : (a b : Bool) → a ≡ true → (a || b) ≡ true
-test-true true b e = refl
-test-true false b e = absurd (true≢false (sym e))
-
 -- the nodes in the tree of a node, read alone
 pub inside-alone : (ts : Trees) (x y : NodeName) → IsUnique ts → inside ts x y ≤ times_in (subtree ts x) y
 inside-alone ts x y u =
@@ -234,7 +230,7 @@ iterator-left ts x i u v g h =
     let there : NodeName → Type 0 = StandsIn us root in
     let put = λ (a z : NodeName). inside-put_root x (subtree ts x) (without x ts) a z in
     by_cases (here root)
-    (λ e. subst P (sym (adjusted-not ts x i (test-true (here root) (not (here i.reference)) e)))
+    (λ e. subst P (sym (adjusted-not ts x i (or-first (here root) (not (here i.reference)) e)))
     (record {
       root = g root h.root;
       reference = g i.reference h.reference;

@@ -58,7 +58,7 @@ all-heard P x w ls g h =
     either_way (AllByRecursion P) (list_any (is_listener name_eq x w.event w.label w.capture) ls) ls (ls ++ one ∷ []) h (all-append P ls (one ∷ []) h (g, tt))
 
 -- with other listeners
-tables-listeners : (p : Part) (ls : List (Listener NodeName)) → HasTables p → AllByRecursion (IsListenerIn p.trees) ls → HasTables (record p { listeners = ls })
+pub tables-listeners : (p : Part) (ls : List (Listener NodeName)) → HasTables p → AllByRecursion (IsListenerIn p.trees) ls → HasTables (record p { listeners = ls })
 tables-listeners p ls h g = record {
   hosts = h.hosts;
   ranges = h.ranges;
@@ -151,6 +151,11 @@ insert_node-may p k x i h t r range e =
     named-may p x (insertion_parent p.trees range) i t (parent-of_range p range (range-ends p k h range e).0)
     (insertion-apart p.trees (insertion_parent p.trees range) (named p x) (start_reference p.trees range) valid)
 
+-- any thing or none
+some-any : {X : Type 0} (o : Option X) → IfSome (λ x. ⊤) o
+some-any None = tt
+some-any (Some x) = tt
+
 -- Every accepted command.
 pub holds-effect : (p : Part) → IsPart p → HasTables p → IsNodeIn p.trees (first_node p) → (c : Command) → part_refusal p c ≡ None → Holds p (effect p c)
 holds-effect p i h f (Command.new_element a) r = (tt, tt)
@@ -213,17 +218,9 @@ holds-effect p i h f (Command.range_drop k) r = tables-range p k None h tt
 holds-effect p i h f (Command.range_get k) r =
     some-holds (λ x. ⊤) p (range_at p k) (λ (r : Range NodeName). answers p (boundaries r.start r.end)) (answers p nothing)
     (some-any (range_at p k)) (λ x t. h) h
-  where
-    some-any : {X : Type 0} (o : Option X) → IfSome (λ x. ⊤) o
-    some-any None = tt
-    some-any (Some x) = tt
 holds-effect p i h f (Command.range_text k) r =
     some-holds (λ x. ⊤) p (range_at p k) (λ (r : Range NodeName). answers p (a_string (range_text_of p.trees r))) (answers p nothing)
     (some-any (range_at p k)) (λ x t. h) h
-  where
-    some-any : {X : Type 0} (o : Option X) → IfSome (λ x. ⊤) o
-    some-any None = tt
-    some-any (Some x) = tt
 holds-effect p i h f (Command.extract k) r =
     range-made p k (λ range. extracting k range p) (λ range e. (leads-extracting k range p i (range-ends p k h range e).0).made)
 holds-effect p i h f (Command.delete k) r =

@@ -1,7 +1,7 @@
 -- A step that loses no node keeps the tables of its part, where what it names is there.
-use Rattle.std.proofs.Common.{zero, suc, ◌≡◌, ◌≤◌, ℕ, Bool, true, false, not, ◌&&◌, ◌||◌, List, [], ◌∷◌, map, length, Option, Some, None, option_map}
+use Rattle.std.proofs.Common.{◌≡◌, ◌≤◌, ℕ, Bool, true, false, not, ◌&&◌, ◌||◌, List, [], ◌∷◌, map, length, Option, Some, None, option_map}
 use Rattle.std.proofs.Common.{refl, sym, ap, ◌∙◌, arith, subst}
-use Rattle.std.specs.Prelude.{if◌then◌else◌, IsTrue, ⊤, slice_set, nat_eq, nat_lt, nat_le, ◌+◌, ◌-◌}
+use Rattle.std.specs.Prelude.{if◌then◌else◌, IsTrue, ⊤, nat_eq, nat_lt, nat_le, ◌+◌, ◌-◌}
 use Rattle.std.specs.List.{AllByRecursion}
 use Rattle.std.specs.Option.{option_map_or}
 use Rattle.std.proofs.lemmas.Bool.{and_parts}
@@ -16,12 +16,13 @@ use Rattle.dom_model.specs.Observers.{Registration, Source, asked_for, copied_fr
 use Rattle.dom_model.specs.Part.{Part, next_name}
 use Rattle.dom_model.specs.Steps.{Step, make, place, take_out, set_document, set_attribute, replace_data, split_at, join_at, set_range, part_step}
 use Rattle.dom_model.specs.Steps.{leave, with_ends}
+use Rattle.dom_model.proofs.OwnerLaws.{name_eq-true}
 use Rattle.dom_worlds.specs.Worlds.{times_in, IsPart}
 use Rattle.dom_worlds.specs.Tables.{IsNodeIn, EndsIn, IsIteratorIn, IsWalkerIn, IsSourceIn, IsRegistrationIn, IsListenerIn, HasTables}
 use Rattle.dom_worlds.proofs.Lists.{all-then, all-map}
 use Rattle.dom_worlds.proofs.Roots.{KeepsRoots, parent-apart, root-one, root-parent_of, roots-equal, roots-same, roots-stay}
 use Rattle.dom_worlds.proofs.Tests.{either_way, which_way}
-use Rattle.dom_worlds.proofs.Trees.{IsUnique, name_eq-true}
+use Rattle.dom_worlds.proofs.Trees.{IsUnique}
 use Rattle.dom_worlds.proofs.TreeChangeLaws.{times-with_node, times-map_nodes, HasRoot}
 use Rattle.dom_worlds.proofs.PartSteps.{KeepsNames, some-keeps, attribute-keeps, part-step}
 use Rattle.dom_worlds.proofs.KindLines.{has_node-times}
@@ -273,9 +274,3 @@ moves-join ts first size next parent index k e f b h =
     (λ t. (k, e ∙ ap (root_of ts) (sym (name_eq-true b.node next t))))
     (λ t. which_way (IsUnder ts b.node) (boundary_eq name_eq b (at parent index)) (at first size) b
     (λ s. (k, f ∙ ap (root_of ts) (sym (name_eq-true b.node parent (and_parts (name_eq b.node parent) (nat_eq b.offset index) s).0)))) (λ s. (h, refl)))
-
--- A list with one item set.
-pub all-set : {X : Type 0} (P : X → Type 0) (xs : List X) (k : ℕ) (x : X) → AllByRecursion P xs → P x → AllByRecursion P (slice_set xs k x)
-all-set P [] k x h g = tt
-all-set P (y ∷ xs) zero x h g = (g, h.1)
-all-set P (y ∷ xs) (suc k) x h g = (h.0, all-set P xs k x h.1 g)

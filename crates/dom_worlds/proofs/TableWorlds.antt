@@ -19,7 +19,7 @@ use Rattle.dom_model.specs.World.{shadow_tree, is_in_shadow_tree}
 use Rattle.dom_model.specs.WorldSteps.{world_step, world_after, stepped, with_signals, with_removal_signals, with_notify_if, with_shadow_document}
 use Rattle.dom_model.proofs.OwnerLaws.{owner_eq-true, owner_eq-false}
 use Rattle.dom_model.proofs.PartLaws.{part_of-with_part, part_of-with_part-other, owner-part_of}
-use Rattle.dom_model.proofs.StepLaws.{owner-part_step, IsOther, IsApart, part_of-own_step}
+use Rattle.dom_model.proofs.StepLaws.{IsOther, IsApart, part_of-own_step}
 use Rattle.dom_worlds.specs.Worlds.{times_in, IsPart, IsWorld, HasMakers}
 use Rattle.dom_worlds.specs.Tables.{IsNodeIn, HasTables, HasRecords, IsNodeAt}
 use Rattle.dom_worlds.proofs.InsideAncestors.{times-has_node}
@@ -32,7 +32,7 @@ use Rattle.dom_worlds.proofs.TableSteps.{Fits, MadeIn, Grows, grows-step}
 use Rattle.dom_worlds.proofs.TableRecords.{tables-step, IfSome}
 use Rattle.dom_worlds.proofs.Tests.{by_cases, either_way}
 use Rattle.dom_worlds.proofs.Trees.{by_times, times-subtree, nodes-there}
-use Rattle.dom_worlds.proofs.WorldSteps.{attached-with_part}
+use Rattle.dom_worlds.proofs.WorldSteps.{attached-with_part, stepped_owner}
 
 -- All parts keep the nodes that they have.
 abbrev pub AllGrow : World → World → Type 0
@@ -92,23 +92,19 @@ ground-with_part w p o e i a g =
 abbrev pub Suits : Part → Step → Type 0
 Suits p s = Fits p s × Tells p s
 
--- A step in its part.
-owner-stepped : (w : World) (o : Owner) (s : Step) → (part_step (part_of w o) s).owner ≡ o
-owner-stepped w o s = owner-part_step (part_of w o) s ∙ owner-part_of w o
-
 -- names and hosts
 pub ground-stepped : (o : Owner) (w : World) (s : Step) → Ground w → Ground (stepped o w s)
-ground-stepped o w s g = ground-with_part w (part_step (part_of w o) s) o (owner-stepped w o s) (part-step (part_of w o) s (g.parts o))
+ground-stepped o w s g = ground-with_part w (part_step (part_of w o) s) o (stepped_owner w o s) (part-step (part_of w o) s (g.parts o))
     (rest-step (part_of w o) s).0 g
 
 -- nodes
 grow-stepped : (o : Owner) (w : World) (s : Step) → Fits (part_of w o) s → Ground w → AllGrow w (stepped o w s)
-grow-stepped o w s h g = grow-with_part w (part_step (part_of w o) s) o (owner-stepped w o s) (grows-step (part_of w o) s (g.parts o) h)
+grow-stepped o w s h g = grow-with_part w (part_step (part_of w o) s) o (stepped_owner w o s) (grows-step (part_of w o) s (g.parts o) h)
 
 -- tables
 frame-stepped : (o : Owner) (w : World) (s : Step) → Suits (part_of w o) s → Ground w → Frame w → Frame (stepped o w s)
 frame-stepped o w s h g f =
-    frame-with_part w (part_step (part_of w o) s) o (owner-stepped w o s) (tables-step (part_of w o) s (g.parts o) h.0 (f.tables o))
+    frame-with_part w (part_step (part_of w o) s) o (stepped_owner w o s) (tables-step (part_of w o) s (g.parts o) h.0 (f.tables o))
     (records-step (part_of w o) s (g.parts o) h.0 h.1 (f.records o)) (grows-step (part_of w o) s (g.parts o) h.0) f
 
 -- Slots that are signalled are nodes. First, a node of a part is one of its owner's trees.

@@ -1,5 +1,5 @@
 -- Tests and cases of tests.
-use Rattle.std.proofs.Common.{◌≡◌, Bool, true, false, ◌||◌, refl, sym, ◌∙◌, true≢false}
+use Rattle.std.proofs.Common.{◌≡◌, Bool, true, false, ◌&&◌, ◌||◌, refl, sym, ◌∙◌, true≢false}
 use Rattle.std.specs.Prelude.{if◌then◌else◌}
 
 -- by whether a test holds
@@ -41,3 +41,8 @@ or-neither false b h g = g
 pub which_way : {X : Type 0} (P : X → Type 0) (b : Bool) (x y : X) → (b ≡ true → P x) → (b ≡ false → P y) → P (if b then x else y)
 which_way P true x y f g = f refl
 which_way P false x y f g = g refl
+
+-- what always holds beside it makes no test false
+pub and-true_false : (b : Bool) → (b && true) ≡ false → b ≡ false
+and-true_false true h = absurd (true≢false h)
+and-true_false false h = refl

@@ -19,7 +19,7 @@ use Rattle.dom_model.specs.Steps.{Step, make, split_at, join_at, replace_data, q
 use Rattle.dom_model.specs.Changes.{Plan, ◌and_then◌, in_turn, doing, steps_of, only_if, observed, suppressed, removing, document_below, inserting}
 use Rattle.dom_model.specs.TextChanges.{replacing_data, new_text_node, replacing_all_data, placing_tail, splitting, texts_after, joins, joining}
 use Rattle.dom_model.specs.TextChanges.{normalizing_text, normalizing, replacing_children, setting_text}
-use Rattle.dom_model.proofs.OwnerLaws.{name_eq-same}
+use Rattle.dom_model.proofs.OwnerLaws.{name_eq-same, name_eq-turned}
 use Rattle.dom_worlds.specs.Worlds.{times_in, times_among, IsPart}
 use Rattle.dom_worlds.proofs.Bounds.{nowhere, HasRoom, room-make, room-record, room-split, room-join, length-replaced, length-like}
 use Rattle.dom_worlds.proofs.ChildCounts.{kids, index-below}
@@ -38,7 +38,7 @@ use Rattle.dom_worlds.proofs.TableSteps.{HasNode}
 use Rattle.dom_worlds.proofs.TableRecords.{all-kept}
 use Rattle.dom_worlds.proofs.Tests.{by_cases, either_way}
 use Rattle.dom_worlds.proofs.TreeChangeLaws.{HasRoot, put_where, where-here, where-later, put_root-where, root-put_root_new, root-first, times-below}
-use Rattle.dom_worlds.proofs.Trees.{times-here, times-elsewhere, times-more, times-subtree, name_eq-sym, ancestors-absent, all-both}
+use Rattle.dom_worlds.proofs.Trees.{times-here, times-elsewhere, times-more, times-subtree, ancestors-absent, all-both}
 
 -- A new node changes no ancestors.
 ancestors-followed : (new ts : Trees) (x : NodeName) → times_in new x ≡ 0 → inclusive_ancestors (followed_by new ts) x ≡ inclusive_ancestors ts x
@@ -175,7 +175,7 @@ replaced-elsewhere p x offset count new y t e =
     let f : Node → Node = λ n. if name_eq n.name x then with_data_replaced offset count new n else n in
     node-map_nodes f (λ n. (some-keeps (λ (n : Node). name_eq n.name x) (with_data_replaced offset count new) (λ n. (refl, refl)) n).0) p.trees y t
     ∙ cond-false (name_eq (node_in p.trees y).name x) (with_data_replaced offset count new (node_in p.trees y)) (node_in p.trees y)
-    (ap (λ z. name_eq z x) (name-node_in p.trees y) ∙ name_eq-sym y x ∙ e)
+    (ap (λ z. name_eq z x) (name-node_in p.trees y) ∙ name_eq-turned y x ∙ e)
 
 -- Joins: of all lengths of some nodes.
 abbrev pub total : Trees → List NodeName → ℕ
@@ -205,16 +205,16 @@ none-among x (y ∷ xs) h =
     by_cases (name_eq y x)
     (λ e. absurd (let one : times_among (y ∷ xs) x ≡ 1 + times_among xs x = ap (λ k. k + times_among xs x) (cond-true (name_eq y x) 1 0 e) in omega arith))
     (λ e. let zero_more : times_among (y ∷ xs) x ≡ 0 + times_among xs x = ap (λ k. k + times_among xs x) (cond-false (name_eq y x) 1 0 e) in
-    (name_eq-sym x y ∙ e, none-among x xs (omega arith)))
+    (name_eq-turned x y ∙ e, none-among x xs (omega arith)))
 
 -- what stands behind an item among others is another, where it is there once
 pub among-behind : (x : NodeName) (xs : List NodeName) → times_among xs x ≤ 1 → AllByRecursion (λ y. name_eq x y ≡ false) (items_after name_eq x xs)
 among-behind x [] h = tt
 among-behind x (y ∷ xs) h =
     by_cases (name_eq x y)
-    (λ e. let one : times_among (y ∷ xs) x ≡ 1 + times_among xs x = ap (λ k. k + times_among xs x) (cond-true (name_eq y x) 1 0 (name_eq-sym y x ∙ e)) in
+    (λ e. let one : times_among (y ∷ xs) x ≡ 1 + times_among xs x = ap (λ k. k + times_among xs x) (cond-true (name_eq y x) 1 0 (name_eq-turned y x ∙ e)) in
     subst (AllByRecursion (λ z. name_eq x z ≡ false)) (sym (cond-true (name_eq x y) xs (items_after name_eq x xs) e)) (none-among x xs (omega arith)))
-    (λ e. let zero_more : times_among (y ∷ xs) x ≡ 0 + times_among xs x = ap (λ k. k + times_among xs x) (cond-false (name_eq y x) 1 0 (name_eq-sym y x ∙ e)) in
+    (λ e. let zero_more : times_among (y ∷ xs) x ≡ 0 + times_among xs x = ap (λ k. k + times_among xs x) (cond-false (name_eq y x) 1 0 (name_eq-turned y x ∙ e)) in
     subst (AllByRecursion (λ z. name_eq x z ≡ false)) (sym (cond-false (name_eq x y) xs (items_after name_eq x xs) e)) (among-behind x xs (omega arith)))
 
 -- roots are there as often as nodes, or less

@@ -7,12 +7,12 @@ use Rattle.dom_base.specs.declared.NodeName.{NodeName}
 use Rattle.dom_model.specs.Names.{name_eq, name_before, is_in}
 use Rattle.dom_model.specs.Tree.{Trees, none, tree, Node, nodes, names_of, roots, subtree, or_else, trees_below}
 use Rattle.dom_model.specs.TreeChanges.{followed_by, without, is_given, put_before, put_below, put_root, taken_out, placed, with_node, map_nodes}
-use Rattle.dom_model.proofs.OwnerLaws.{name_eq-same}
+use Rattle.dom_model.proofs.OwnerLaws.{name_eq-same, name_eq-turned, name_eq-true}
 use Rattle.dom_worlds.specs.Worlds.{times_in, AllNodes}
 use Rattle.dom_worlds.proofs.Lists.{all-append}
 use Rattle.dom_worlds.proofs.Tests.{by_cases, or-later, or-first, or-second}
 use Rattle.dom_worlds.proofs.Trees.{IsUnique, by_times, times-here, times-elsewhere, times-more, times-parts, times-subtree, times-or_else}
-use Rattle.dom_worlds.proofs.Trees.{subtree-absent, root-there, name_eq-sym, name_eq-true}
+use Rattle.dom_worlds.proofs.Trees.{subtree-absent, root-there}
 
 -- How often a name is there.
 pub times-followed : (a b : Trees) (x : NodeName) → times_in (followed_by a b) x ≡ times_in a x + times_in b x
@@ -298,7 +298,7 @@ root-without none y x d h = h
 root-without (tree n c r) y x d h =
     by_cases (name_eq n.name y)
     (λ e. subst (λ t. HasRoot t x) (sym (without-here n c r y e))
-    (root-cases n c r x h (λ f. absurd (true≢false (sym f ∙ ap (name_eq x) (name_eq-true n.name y e) ∙ name_eq-sym x y ∙ d))) (λ g. root-without r y x d g)))
+    (root-cases n c r x h (λ f. absurd (true≢false (sym f ∙ ap (name_eq x) (name_eq-true n.name y e) ∙ name_eq-turned x y ∙ d))) (λ g. root-without r y x d g)))
     (λ e. subst (λ t. HasRoot t x) (sym (without-elsewhere n c r y e))
     (root-cases n c r x h (λ f. root-first n (without y c) (without y r) x f) (λ g. root-second n (without y c) (without y r) x (root-without r y x d g))))
 
@@ -311,7 +311,7 @@ root-or_else_left (tree n c r) b x h = h
 pub root-subtree : (ts : Trees) (x : NodeName) → 1 ≤ times_in ts x → HasRoot (subtree ts x) x
 root-subtree none x h = absurd (omega arith)
 root-subtree (tree n c r) x h =
-    by_cases (name_eq n.name x) (λ e. subst (λ t. HasRoot t x) (sym (subtree-here n c r x e)) (root-first n c none x (name_eq-sym x n.name ∙ e)))
+    by_cases (name_eq n.name x) (λ e. subst (λ t. HasRoot t x) (sym (subtree-here n c r x e)) (root-first n c none x (name_eq-turned x n.name ∙ e)))
     (λ e. subst (λ t. HasRoot t x) (sym (subtree-elsewhere n c r x e))
     (let g = times-elsewhere n c r x e in
     by_times (times_in c x) (λ z. subst (λ t. HasRoot (or_else t (subtree r x)) x) (sym (subtree-absent c x z)) (root-subtree r x (omega arith)))
@@ -363,11 +363,11 @@ root-below_none (tree n c r) u x h y =
     let once = u x in
     let parts = times-parts n c r x in
     let not_inside : times_in c x ≡ 0 =
-    root-cases n c r x h (λ e. let g = times-here n c r x (name_eq-sym n.name x ∙ e) in omega arith)
+    root-cases n c r x h (λ e. let g = times-here n c r x (name_eq-turned n.name x ∙ e) in omega arith)
     (λ k. let there = root-there r x k in let g = times-more n c none x in omega arith) in
     by_cases (name_eq n.name y) (λ e. ap (λ t. times_in (trees_below t) x) (subtree-here n c r y e) ∙ not_inside)
     (λ e. ap (λ t. times_in (trees_below t) x) (subtree-elsewhere n c r y e)
     ∙ below-or_else (subtree c y) (subtree r y) x (let s = times-subtree c y x in omega arith)
     (root-cases n c r x h
-    (λ f. let g = times-here n c r x (name_eq-sym n.name x ∙ f) in let s = times-subtree r y x in let b = times-below (subtree r y) x in omega arith)
+    (λ f. let g = times-here n c r x (name_eq-turned n.name x ∙ f) in let s = times-subtree r y x in let b = times-below (subtree r y) x in omega arith)
     (λ k. root-below_none r (λ z. let p = times-parts n c r z in let o = u z in omega arith) x k y)))

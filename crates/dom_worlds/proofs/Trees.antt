@@ -1,22 +1,15 @@
 -- Where the nodes of a list of trees stand, by how often their names are there.
-use Rattle.std.proofs.Common.{eqb, ◌≡◌, ℕ, zero, suc, ◌+◌, ◌≤◌, ◌||◌, Bool, true, false, List, [], ◌∷◌, ◌++◌, Option, Some, unwrap_or, refl, sym, ap}
+use Rattle.std.proofs.Common.{◌≡◌, ℕ, zero, suc, ◌+◌, ◌≤◌, ◌||◌, Bool, true, false, List, [], ◌∷◌, ◌++◌, Option, Some, unwrap_or, refl, sym, ap}
 use Rattle.std.proofs.Common.{◌∙◌, arith, true≢false, subst}
 use Rattle.std.specs.List.{AllByRecursion, last_or}
-use Rattle.std.proofs.lemmas.Bool.{cond-true, cond-false, and_parts, eqb-true}
+use Rattle.std.proofs.lemmas.Bool.{cond-true, cond-false}
 use Rattle.dom_base.specs.declared.NodeName.{NodeName}
-use Rattle.dom_model.specs.Names.{name_eq, owner_eq, is_in, last_of}
+use Rattle.dom_model.specs.Names.{name_eq, is_in, last_of}
 use Rattle.dom_model.specs.Tree.{Trees, none, tree, Node, nodes, names_of, roots, subtree, or_else, inclusive_ancestors, on_top, root_of}
-use Rattle.dom_model.proofs.OwnerLaws.{name_eq-same, owner_eq-true}
+use Rattle.dom_model.proofs.OwnerLaws.{name_eq-same, name_eq-true, name_eq-turned}
 use Rattle.dom_worlds.specs.Worlds.{times_in}
 use Rattle.dom_worlds.proofs.Lists.{all-append, all-then}
 use Rattle.dom_worlds.proofs.Tests.{by_cases, or-first, or-later}
-
--- names
-pub name_eq-true : (x y : NodeName) → name_eq x y ≡ true → x ≡ y
-name_eq-true x y h =
-    let both = and_parts (owner_eq x.owner y.owner) (eqb x.number y.number) h in
-    ap (λ o. record { owner = o; number = x.number }) (owner_eq-true x.owner y.owner both.0) ∙ ap (λ k. record { owner = y.owner; number = k })
-    (eqb-true x.number y.number both.1)
 
 -- What holds of all nodes of a list holds of one of them.
 pub all-in : (P : NodeName → Type 0) (x : NodeName) (ys : List NodeName) → AllByRecursion P ys → is_in name_eq x ys ≡ true → P x
@@ -107,7 +100,7 @@ ancestors-there (tree n c r) x =
     (all-on_top P (inclusive_ancestors c x) n.name (inclusive_ancestors r x) below top beside))
 
 -- Roots.
-last-push : (o : Option NodeName) (xs : List NodeName) (x : NodeName) → last_or o (xs ++ x ∷ []) ≡ Some x
+pub last-push : (o : Option NodeName) (xs : List NodeName) (x : NodeName) → last_or o (xs ++ x ∷ []) ≡ Some x
 last-push o [] x = refl
 last-push o (y ∷ xs) x = last-push (Some y) xs x
 
@@ -168,12 +161,6 @@ ancestors-root (tree n c r) u s =
     subst (λ path. AllByRecursion P (on_top path n.name (inclusive_ancestors r s))) (sym at.1)
     (all-append P (s ∷ at.0) (n.name ∷ []) (subst (AllByRecursion P) at.1 below) (own, tt)))))
 
--- Subtrees and roots.
-pub name_eq-sym : (x y : NodeName) → name_eq x y ≡ name_eq y x
-name_eq-sym x y =
-    by_cases (name_eq x y) (λ e. let same = name_eq-true x y e in e ∙ sym (ap (λ z. name_eq y z) same ∙ name_eq-same y))
-    (λ e. by_cases (name_eq y x) (λ f. absurd (true≢false (sym (name_eq-same x) ∙ ap (λ z. name_eq x z) (sym (name_eq-true y x f)) ∙ e))) (λ f. e ∙ sym f))
-
 -- a node that is not there has no tree
 pub subtree-absent : (ts : Trees) (x : NodeName) → times_in ts x ≡ 0 → subtree ts x ≡ none
 subtree-absent none x h = refl
@@ -205,7 +192,7 @@ root-there none r h = absurd (true≢false (sym h))
 root-there (tree n c rest) r h =
     by_cases (name_eq n.name r) (λ e. let g = times-here n c rest r e in omega arith)
     (λ e. let g = times-elsewhere n c rest r e in
-    let later = root-there rest r (or-later (name_eq r n.name) (is_in name_eq r (names_of (roots rest))) (name_eq-sym r n.name ∙ e) h) in omega arith)
+    let later = root-there rest r (or-later (name_eq r n.name) (is_in name_eq r (names_of (roots rest))) (name_eq-turned r n.name ∙ e) h) in omega arith)
 
 -- the nodes of a root's tree have that root
 pub root-of-root : (ts : Trees) → IsUnique ts → (x : NodeName) → is_in name_eq x (names_of (roots ts)) ≡ true → (s : NodeName) →
@@ -215,7 +202,7 @@ root-of-root (tree n c r) u x h s t =
     by_cases (name_eq n.name x)
     (λ e. root-in_tree n c r s (subst (λ ts. 1 ≤ times_in ts s)
     (cond-true (name_eq n.name x) (tree n c none) (or_else (subtree c x) (subtree r x)) e) t) ∙ name_eq-true n.name x e)
-    (λ e. let later = or-later (name_eq x n.name) (is_in name_eq x (names_of (roots r))) (name_eq-sym x n.name ∙ e) h in
+    (λ e. let later = or-later (name_eq x n.name) (is_in name_eq x (names_of (roots r))) (name_eq-turned x n.name ∙ e) h in
     let there = root-there r x later in
     let once = u x in
     let g = times-elsewhere n c r x e in

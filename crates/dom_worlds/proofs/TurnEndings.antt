@@ -56,10 +56,6 @@ module _ {only_log : Bool} where
         logs = λ y. logs-visits e (visits_of name_eq e.bubbles (views w x related e.composed)) (w, begun []) (q.logs y);
       }
 
--- the turn stays
-pub turn-dispatch : (w : World) (x : NodeName) (related : Option NodeName) (e : EventWords) → (dispatch_in w x related e).run.0.turn ≡ w.turn
-turn-dispatch w x related e = ap (λ (v : World). v.turn) (rest-visits e (visits_of name_eq e.bubbles (views w x related e.composed)) (w, begun []))
-
 module _ {only_log : Bool} where
   -- they keep what holds
   keeps-firings : (ss : List NodeName) (w : World) → Invariant only_log w → Invariant only_log (run_each firing_slotchange w ss).0

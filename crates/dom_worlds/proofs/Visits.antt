@@ -1,10 +1,13 @@
 -- A visit changes listeners alone, and those of components still only log.
-use Rattle.std.proofs.Common.{◌≡◌, true, false, not, List, [], ◌∷◌, ◌++◌, filter, fold, refl, sym, ap, ◌∙◌, subst}
+use Rattle.std.proofs.Common.{◌≡◌, Bool, true, false, not, List, [], ◌∷◌, ◌++◌, filter, fold, refl, sym, ap, ◌∙◌, subst}
 use Rattle.std.proofs.lemmas.Bool.{cond-true, cond-false}
 use Rattle.std.specs.List.{AllByRecursion}
 use Rattle.dom_base.specs.declared.Owner.{Owner}
 use Rattle.dom_base.specs.declared.Owner.TheVariants.{Page}
+use Rattle.dom_base.specs.declared.Action.{Action}
+use Rattle.dom_base.specs.declared.Action.TheVariants.{Log, Stop, StopNow, Cancel}
 use Rattle.dom_base.specs.declared.NodeName.{NodeName}
+use Rattle.dom_model.specs.Output.{EventLine}
 use Rattle.dom_model.specs.Names.{owner_eq, name_eq}
 use Rattle.dom_model.specs.Command.{EventWords}
 use Rattle.dom_model.specs.Listeners.{Listener, Visit, Dispatching, visited, called, hears, is_listener, kept_after, after_action, may_cancel, line_of}
@@ -36,8 +39,16 @@ pub no_call : (e : EventWords) (v : Visit NodeName) (d : Going) (l : Listener No
 unfolding call
 no_call e v d l s = cond-true d.stopped_now d (call e v d l) s
 
+-- An action does to some of the lines what it does to all.
+pub sifted-after_action : (p : EventLine NodeName → Bool) (a : Action) (c : Bool) (d : Going) →
+    record (after_action a c d) { lines = filter p (after_action a c d).lines } ≡ after_action a c (record d { lines = filter p d.lines })
+sifted-after_action p Log c d = refl
+sifted-after_action p Stop c d = refl
+sifted-after_action p StopNow c d = refl
+sifted-after_action p Cancel c d = refl
+
 -- listeners that only log, without one that was for once
-all-kept : (l : Listener NodeName) (ls : List (Listener NodeName)) → AllByRecursion OnlyLogs ls → AllByRecursion OnlyLogs (kept_after name_eq l ls)
+pub all-kept : (l : Listener NodeName) (ls : List (Listener NodeName)) → AllByRecursion OnlyLogs ls → AllByRecursion OnlyLogs (kept_after name_eq l ls)
 all-kept l ls h =
     by_cases l.words.once (λ e. rw e (all-filter OnlyLogs (λ k. not (is_listener name_eq l.node l.words.event l.words.label l.words.capture k)) ls
     h)) (λ e. rw e h)

@@ -69,7 +69,7 @@ pub own-part : (w : World) → IsWorld w → (o : Owner) → IsTrue (is_some (ho
 own-part w i o h = record { part = i.parts o; root = i.shadow_roots o h }
 
 -- a step leaves a part its owner
-stepped_owner : (w : World) (o : Owner) (s : Step) → (part_step (part_of w o) s).owner ≡ o
+pub stepped_owner : (w : World) (o : Owner) (s : Step) → (part_step (part_of w o) s).owner ≡ o
 stepped_owner w o s = owner-part_step (part_of w o) s ∙ owner-part_of w o
 
 module _ {only_log : Bool} where

@@ -7,10 +7,11 @@ use Rattle.dom_base.specs.declared.NodeName.{NodeName}
 use Rattle.dom_model.specs.Names.{name_eq, first_of}
 use Rattle.dom_model.specs.RangeOps.{text_part}
 use Rattle.dom_model.specs.Tree.{root_of}
+use Rattle.dom_model.proofs.OwnerLaws.{name_eq-other}
 use Rattle.dom_tree.specs.Forest.{name_at}
 use Rattle.dom_traversal.specs.Within.{from_node, behind}
 use Rattle.dom_traversal.proofs.Climbing.{other_name}
-use Rattle.dom_traversal.proofs.Lists.{name_eq-from, name_eq-other}
+use Rattle.dom_traversal.proofs.Lists.{name_eq-from}
 use Rattle.dom_traversal.proofs.Searching.{following_step, length-behind}
 use Rattle.dom_range_ops.specs.Points.{nodes_after}
 use Rattle.dom_range_ops.specs.Texts.{range_at_points, contained_text, nodes_around}
