@@ -1,12 +1,11 @@
 use Rattle.std.proofs.Common.{ap, refl, sym, codes, true, ◌≡◌, ◌∙◌, List, Option, None, Some, is_some, option_map, true≢false}
 use Rattle.std.specs.Option.{option_and_then}
 use Rattle.clap.specs.Words.{Row, Text, first_of, found_of, rows_of}
-use Rattle.clap.specs.declared.parser.matches.ArgMatches.{ArgMatches}
 use Rattle.clap.proofs.WalkLemmas.{first_value-rows}
 use Rattle.dom_base.specs.declared.Owner.{Owner}
 use Rattle.dom_text.specs.Readers.{owner_of}
-use Rattle.domrun.specs.Words.{NamesAnOwner, owner_among}
-use Rattle.domrun.proofs.words.request_in.Goals as goal
+use Rattle.dom_program.specs.Words.{NamesAnOwner}
+use Rattle.dom_program.proofs.words.request_in.Goals as goal
 
 -- where no word stands in the row of `--view`, no owner's is asked for
 none-named : (rows : List Row) → first_of (codes "view") rows ≡ None → NamesAnOwner rows

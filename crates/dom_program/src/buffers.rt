@@ -2,7 +2,7 @@
 ghost use Rattle.std.specs.Prelude.{◌≡◌};
 ghost use Rattle.std.specs.Io.{WritesAtMost};
 
-use std::alloc::Global;
+use std::alloc::{AllocError, Global};
 use std::cell::{Cell, RefCell};
 use std::io;
 use std::io::{BufReader, BufWriter, ErrorKind, Read, Write};
@@ -18,9 +18,9 @@ pub struct Output<W: Write + Drop> {
 }
 
 impl<W: Write + Drop> Output<W> {
-    /// Output before its first byte. An error is want of memory.
-    pub fn new(alloc: Global, writer: W) -> io::Result<Output<W>> {
-        let kept = BufWriter::with_capacity(alloc, ROOM, writer)?;
+    /// Output before its first byte.
+    pub fn new(alloc: Global, writer: W) -> Result<Output<W>, AllocError> {
+        let kept = BufWriter::with_capacity(alloc, ROOM, writer).map_err(|_| AllocError)?;
         Ok(Output {
             kept: RefCell::new(kept),
             has_failed: Cell::new(false),
@@ -94,9 +94,13 @@ pub struct Input<'a, R: Read + Drop, W: Write + Drop> {
 }
 
 impl<'a, R: Read + Drop, W: Write + Drop> Input<'a, R, W> {
-    /// The reader behind this output. An error is want of memory.
-    pub fn new(alloc: Global, reader: R, output: &'a Output<W>) -> io::Result<Input<'a, R, W>> {
-        let reader = BufReader::with_capacity(alloc, ROOM, reader)?;
+    /// The reader behind this output.
+    pub fn new(
+        alloc: Global,
+        reader: R,
+        output: &'a Output<W>,
+    ) -> Result<Input<'a, R, W>, AllocError> {
+        let reader = BufReader::with_capacity(alloc, ROOM, reader).map_err(|_| AllocError)?;
         Ok(Input { reader, output })
     }
 }

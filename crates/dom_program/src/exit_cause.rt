@@ -1,13 +1,15 @@
 //! Why the program stops.
 use clap::Error;
 use clap::error::ErrorKind;
-use dom_engine::RunFault;
+use dom_streams::RunFault;
 use std::alloc::AllocError;
 
-/// Why the program stopped: its words, or the run.
+/// Why the program stopped before the end of its input.
 #[derive(Clone, Copy)]
 pub enum ExitCause {
+    /// Its words are not those that it takes.
     Usage,
+    /// The run met this fault, or memory was refused before it.
     Run(RunFault),
 }
 
@@ -17,11 +19,11 @@ impl From<Error> for ExitCause {
     ghost use Rattle.clap.specs.Words.{kind_of};
     ghost use Rattle.clap.specs.declared.error.kind.ErrorKind.TheVariants.{OutOfMemory};
     ghost use Rattle.dom_streams.specs.declared.fault.RunFault.TheVariants.{Memory};
-    ghost use Rattle.domrun.specs.declared.exit_cause.ExitCause.TheVariants as stop_variant;
+    ghost use Rattle.dom_program.specs.declared.exit_cause.ExitCause.TheVariants as exit_cause;
 
-    ghost from_gives = { λ error stop.
-        (kind_of error ≡ OutOfMemory → stop ≡ stop_variant.Run Memory) ×
-        ((kind_of error ≡ OutOfMemory → ⊥) → stop ≡ stop_variant.Usage) };
+    ghost from_gives = { λ error cause.
+        (kind_of error ≡ OutOfMemory → cause ≡ exit_cause.Run Memory) ×
+        ((kind_of error ≡ OutOfMemory → ⊥) → cause ≡ exit_cause.Usage) };
 
     fn from(error: Error) -> ExitCause {
         match error.kind() {
@@ -34,9 +36,9 @@ impl From<Error> for ExitCause {
 impl From<AllocError> for ExitCause {
     ghost use Rattle.std.specs.Prelude.{◌≡◌};
     ghost use Rattle.dom_streams.specs.declared.fault.RunFault.TheVariants.{Memory};
-    ghost use Rattle.domrun.specs.declared.exit_cause.ExitCause.TheVariants as stop_variant;
+    ghost use Rattle.dom_program.specs.declared.exit_cause.ExitCause.TheVariants as exit_cause;
 
-    ghost from_gives = { λ _ stop. stop ≡ stop_variant.Run Memory };
+    ghost from_gives = { λ _ cause. cause ≡ exit_cause.Run Memory };
 
     fn from(_error: AllocError) -> ExitCause {
         ExitCause::Run(RunFault::Memory)

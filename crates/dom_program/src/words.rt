@@ -1,15 +1,18 @@
 //! The program's words: whose lines are written, and which file is read.
 ghost use Rattle.std.specs.Prelude.{◌≡◌, IfErr, IfOk, option_map};
+ghost use Rattle.std.specs.IoError.{error_kind};
 ghost use Rattle.clap.specs.Words.{app_of, found_of, matches_of, rows_of};
 ghost use Rattle.dom_text.specs.Readers.{owner_of as spec_owner_of};
 ghost use Rattle.dom_streams.specs.declared.fault.RunFault.TheVariants.{Memory};
-ghost use Rattle.domrun.specs.Words.{AreTaken, HaveForm, NamesAnOwner, command_line as spec_command_line, file_among, file_in, owner_among, texts_of, view_in};
+ghost use Rattle.dom_program.specs.Words.{AreTaken, HaveForm, NamesAnOwner, command_line as spec_command_line, file_among, file_in, owner_among, texts_of, view_in};
 
 use crate::exit_cause::ExitCause;
 use clap::{Arg, ArgMatches, Command};
 use dom_base::Owner;
 use dom_reader::owner_of;
+use dom_streams::RunFault;
 use std::alloc::{AllocError, Global};
+use std::io::{Error, ErrorKind};
 
 /// What the words ask for: the owner whose lines are written, all of them where there is none, and the file that is read.
 #[derive(Clone, Copy)]
@@ -26,6 +29,18 @@ pub fn view_of(word: &str) -> Option<Owner>
     owner_of(word.as_bytes())
 }
 
+/// Why the program stops where its words could not be read: want of memory, or bytes that are no text, which is `Usage` (own
+/// rule).
+pub fn words_refused(error: &Error) -> ExitCause
+    ensures memory { error_kind error.now ≡ ErrorKind.OutOfMemory → result ≡ ExitCause.Run Memory }
+    ensures usage { (error_kind error.now ≡ ErrorKind.OutOfMemory → ⊥) → result ≡ ExitCause.Usage }
+{
+    match error.kind() {
+        ErrorKind::OutOfMemory => ExitCause::Run(RunFault::Memory),
+        _ => ExitCause::Usage,
+    }
+}
+
 /// What the program's words ask for, the first of them being its own name: `--view` with an owner's word behind it or after
 /// `=`, and one word beside it, behind `--` too, in any order and each at most once (own rule). Other words are refused as
 /// `Usage`, and words that are taken never are; every other error is want of memory.
@@ -33,8 +48,8 @@ pub fn request_of<'a>(alloc: Global, words: &'a [String]) -> Result<Request<'a>,
     ensures taken { IfOk result (λ _. AreTaken (texts_of words.now)) }
     ensures view { IfOk result (λ request. request.view ≡ view_in (texts_of words.now)) }
     ensures file { IfOk result (λ request. option_map (λ file. file.now) request.file ≡ file_in (texts_of words.now)) }
-    ensures usage { IfErr result (λ stop. stop ≡ ExitCause.Usage → AreTaken (texts_of words.now) → ⊥) }
-    ensures memory { IfErr result (λ stop. (stop ≡ ExitCause.Usage → ⊥) → stop ≡ ExitCause.Run Memory) }
+    ensures usage { IfErr result (λ cause. cause ≡ ExitCause.Usage → AreTaken (texts_of words.now) → ⊥) }
+    ensures memory { IfErr result (λ cause. (cause ≡ ExitCause.Usage → ⊥) → cause ≡ ExitCause.Run Memory) }
 {
     request_in(&matches_in(alloc, words)?)
 }
@@ -45,7 +60,7 @@ fn request_in<'a>(matches: &ArgMatches<'a>) -> Result<Request<'a>, ExitCause>
     ensures taken { IfOk result (λ _. NamesAnOwner (rows_of (found_of matches.now))) }
     ensures view { IfOk result (λ request. request.view ≡ owner_among (rows_of (found_of matches.now))) }
     ensures file { IfOk result (λ request. option_map (λ file. file.now) request.file ≡ file_among (rows_of (found_of matches.now))) }
-    ensures refused { IfErr result (λ stop. (stop ≡ ExitCause.Usage) × (NamesAnOwner (rows_of (found_of matches.now)) → ⊥)) }
+    ensures refused { IfErr result (λ cause. (cause ≡ ExitCause.Usage) × (NamesAnOwner (rows_of (found_of matches.now)) → ⊥)) }
 {
     let file = matches.get_str("file");
     match matches.get_str("view") {
@@ -61,8 +76,8 @@ fn request_in<'a>(matches: &ArgMatches<'a>) -> Result<Request<'a>, ExitCause>
 fn matches_in<'a>(alloc: Global, words: &'a [String]) -> Result<ArgMatches<'a>, ExitCause>
     ensures form { IfOk result (λ _. HaveForm (texts_of words.now)) }
     ensures rows { IfOk result (λ found. rows_of (found_of found) ≡ matches_of spec_command_line (texts_of words.now)) }
-    ensures usage { IfErr result (λ stop. stop ≡ ExitCause.Usage → HaveForm (texts_of words.now) → ⊥) }
-    ensures memory { IfErr result (λ stop. (stop ≡ ExitCause.Usage → ⊥) → stop ≡ ExitCause.Run Memory) }
+    ensures usage { IfErr result (λ cause. cause ≡ ExitCause.Usage → HaveForm (texts_of words.now) → ⊥) }
+    ensures memory { IfErr result (λ cause. (cause ≡ ExitCause.Usage → ⊥) → cause ≡ ExitCause.Run Memory) }
 {
     let command = command_line(alloc)?;
     Ok(command.try_get_matches_from(words)?)

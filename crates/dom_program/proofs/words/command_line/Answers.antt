@@ -2,8 +2,8 @@ use Rattle.std.proofs.Common.{rules, ap, ap₂, codes, ◌≡◌, ◌∙◌}
 use Rattle.std.proofs.lemmas.Result.{IfOk-weaker}
 use Rattle.clap.specs.Words.{app_of, new_app, new_rule, rule_of, with_rule}
 use Rattle.clap.specs.Simple.{app_of_fields}
-use Rattle.domrun.specs.Words.{helpless, view_rule}
-use Rattle.domrun.proofs.words.command_line.Goals as goal
+use Rattle.dom_program.specs.Words.{helpless, view_rule}
+use Rattle.dom_program.proofs.words.command_line.Goals as goal
 
 pub returns : goal.returns
 returns c =

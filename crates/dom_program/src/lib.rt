@@ -1,0 +1,12 @@
+//! What the program `domrun` is made of, but for its runs: what its words ask for, buffers for its input and output, and how it ends.
+#![tactic(auto)]
+
+mod buffers;
+mod exit_cause;
+mod exits;
+mod words;
+
+pub use buffers::{Input, Keeper, Output};
+pub use exit_cause::ExitCause;
+pub use exits::{ending_of, exit_of};
+pub use words::{Request, request_of, view_of, words_refused};
