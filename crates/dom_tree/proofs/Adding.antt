@@ -14,10 +14,9 @@ use Rattle.dom_model.specs.Tree.{Node}
 use Rattle.dom_model.specs.TreeChanges.{with_node}
 use Rattle.node_arena.specs.Nodes.{Nodes, IsSound}
 use Rattle.node_arena.proofs.Forests.{cases_Option}
-use Rattle.dom_tree.specs.declared.data.NodeData.{NodeData}
-use Rattle.dom_tree.specs.declared.data.Stored.{Stored}
+use Rattle.dom_tree.specs.Contents.{Contents, Stored}
 use Rattle.dom_tree.specs.Rows.{trees_of}
-use Rattle.dom_tree.specs.Forest.{IsKept, stored_names, nodes_with, nodes_of, name_at, node_from, count_of, next_name}
+use Rattle.dom_tree.specs.Forest.{IsKept, stored_names, nodes_with, nodes_of, name_at, node_with, count_of, next_name}
 use Rattle.dom_model.proofs.OwnerLaws.{owner_eq-true, owner_eq-same}
 use Rattle.dom_tree.proofs.Names.{same_parts}
 use Rattle.dom_tree.proofs.Rows.{IsNamed}
@@ -160,14 +159,14 @@ module _ (ps : List Stored) (lists : List (List ℕ)) (keys more : Owner → Lis
       documents_at t k d (inr at) e = omega (arith, adds.document d (ap (λ (u : Stored). u.node.document) at.1 ∙ e), length_push ps s)
 
   -- a document is named as before
-  node_from-push : (x : NodeName) (d : NodeData) → ((k : ℕ) → d.document ≡ Some k → k < length ps) →
-      node_from (stored_names ps ++ s.name ∷ []) x d ≡ node_from (stored_names ps) x d
-  node_from-push x d within = ap (λ o. record {
+  node_with-push : (x : NodeName) (d : Contents) → ((k : ℕ) → d.document ≡ Some k → k < length ps) →
+      node_with (stored_names ps ++ s.name ∷ []) x d ≡ node_with (stored_names ps) x d
+  node_with-push x d within = ap (λ o. record {
     name = x;
     kind = d.kind;
-    element = (node_from (stored_names ps) x d).element;
-    attributes = (node_from (stored_names ps) x d).attributes;
-    text = d.text.items;
+    element = (node_with (stored_names ps) x d).element;
+    attributes = (node_with (stored_names ps) x d).attributes;
+    text = d.text;
     document = o;
   }) (by (cases_Option d.document))
     where
@@ -180,33 +179,33 @@ module _ (ps : List Stored) (lists : List (List ℕ)) (keys more : Owner → Lis
       nodes_with (stored_names ps ++ s.name ∷ []) qs ≡ nodes_with (stored_names ps) qs
   nodes_with-push [] within = refl
   nodes_with-push (t ∷ qs) within =
-      let here = node_from-push t.name t.node (λ d e. within t 0 d refl e) in
+      let here = node_with-push t.name t.node (λ d e. within t 0 d refl e) in
       let rest = nodes_with-push qs (λ u k d at e. within u (suc k) d at e) in
       cc
 
-  nodes_of-push : nodes_of (ps ++ s ∷ []) ≡ nodes_of ps ++ node_from (stored_names ps) (next_name o (stored_names ps)) s.node ∷ []
+  nodes_of-push : nodes_of (ps ++ s ∷ []) ≡ nodes_of ps ++ node_with (stored_names ps) (next_name o (stored_names ps)) s.node ∷ []
   nodes_of-push =
       ap (λ ns. nodes_with ns (ps ++ s ∷ [])) (stored_names-push ps s)
-      ∙ (map-append (λ t. node_from (stored_names ps ++ s.name ∷ []) t.name t.node) ps (s ∷ [])
-      ∙ (ap (λ ns. ns ++ node_from (stored_names ps ++ s.name ∷ []) s.name s.node ∷ []) (nodes_with-push ps adds.kept.documents)
-      ∙ ap (λ n. nodes_of ps ++ n ∷ []) (node_from-push s.name s.node adds.document ∙ ap (λ x. node_from (stored_names ps) x s.node) adds.name_is)))
+      ∙ (map-append (λ t. node_with (stored_names ps ++ s.name ∷ []) t.name t.node) ps (s ∷ [])
+      ∙ (ap (λ ns. ns ++ node_with (stored_names ps ++ s.name ∷ []) s.name s.node ∷ []) (nodes_with-push ps adds.kept.documents)
+      ∙ ap (λ n. nodes_of ps ++ n ∷ []) (node_with-push s.name s.node adds.document ∙ ap (λ x. node_with (stored_names ps) x s.node) adds.name_is)))
 
   pub trees_of-add : (after : Nodes Stored) → IsSound after → after ≡ record { payloads = ps ++ s ∷ []; children = lists ++ [] ∷ [] }
-      → trees_of (nodes_of after.payloads) after.children ≡ with_node (node_from (stored_names ps) (next_name o (stored_names ps)) s.node)
+      → trees_of (nodes_of after.payloads) after.children ≡ with_node (node_with (stored_names ps) (next_name o (stored_names ps)) s.node)
       (trees_of (nodes_of ps) lists)
   trees_of-add after sound e =
       ap (λ a. trees_of (nodes_of a.payloads) a.children) e
       ∙ (ap (λ ns. trees_of ns (lists ++ [] ∷ [])) nodes_of-push
-      ∙ trees_of-push (nodes_of ps) lists (node_from (stored_names ps) (next_name o (stored_names ps)) s.node) (IsWhole-kept adds.kept) named)
+      ∙ trees_of-push (nodes_of ps) lists (node_with (stored_names ps) (next_name o (stored_names ps)) s.node) (IsWhole-kept adds.kept) named)
     where
       whole_after : IsWhole (nodes_of after.payloads) after.children
       whole_after = IsWhole-kept (IsKept-add after sound (ap (λ a. a.payloads) e))
 
-      named : IsNamed (nodes_of ps ++ node_from (stored_names ps) (next_name o (stored_names ps)) s.node ∷ [])
+      named : IsNamed (nodes_of ps ++ node_with (stored_names ps) (next_name o (stored_names ps)) s.node ∷ [])
       named = subst (λ (ns : List Node). IsNamed ns) (ap (λ a. nodes_of a.payloads) e ∙ nodes_of-push) whole_after.named
 
 -- how the code gives what a node that is added asks
-pub adds_from : (ps : List Stored) (lists : List (List ℕ)) (keys roomy more : Owner → List ℕ) (o : Owner) (number key : ℕ) (d : NodeData)
+pub adds_from : (ps : List Stored) (lists : List (List ℕ)) (keys roomy more : Owner → List ℕ) (o : Owner) (number key : ℕ) (d : Contents)
     → IsKept ps lists keys → number ≡ length (keys o) → (number ≡ 1000000 → ⊥) → ((k : ℕ) → d.document ≡ Some k → k < length ps) →
     key ≡ length ps → key < 2 ^ 64
     → ((p : Owner) → roomy p ≡ keys p) → ((p : Owner) → more p ≡ cond (owner_eq o p) (roomy p ++ key ∷ []) (roomy p))

@@ -11,14 +11,14 @@ use Rattle.dom_base.specs.declared.NodeName.{NodeName}
 use Rattle.dom_model.specs.Names.{text_eq, name_eq}
 use Rattle.dom_model.specs.Tree.{Trees, none, tree, Node, Attribute}
 use Rattle.dom_model.specs.TreeChanges.{attributes_with, attributes_without, change_node}
-use Rattle.dom_tree.specs.declared.data.Stored.{Stored}
-use Rattle.dom_tree.specs.Forest.{NamedTrees, IsKept, name_at, node_from}
+use Rattle.dom_tree.specs.Contents.{Stored}
+use Rattle.dom_tree.specs.Forest.{NamedTrees, IsKept, name_at, node_with}
 use Rattle.dom_tree.proofs.Kept.{seen}
 use Rattle.dom_tree.proofs.Setting.{set_done}
 
 -- what is stored of a node, with these attributes
 abbrev pub holding : List NodeName → Stored → List Attribute → Node
-holding names s bs = record (node_from names s.name s.node) { attributes = bs }
+holding names s bs = record (node_with names s.name s.node) { attributes = bs }
 
 -- the code's test of texts is that of the definitions
 pub text_test : (x y : List ℕ) → bytes_eq x y ≡ text_eq x y
@@ -76,7 +76,7 @@ change_node-same x (tree n c r) =
 
 -- a node stored anew that is seen as before
 pub set_same : {f : NamedTrees} {ps : List Stored} {lists : List (List ℕ)} {keys : Owner → List ℕ} → seen ps lists ≡ f → IsKept ps lists keys
-    → (x : ℕ) (s t : Stored) → slice_get ps x ≡ Some s → t.name ≡ s.name → node_from f.names t.name t.node ≡ node_from f.names s.name s.node →
+    → (x : ℕ) (s t : Stored) → slice_get ps x ≡ Some s → t.name ≡ s.name → node_with f.names t.name t.node ≡ node_with f.names s.name s.node →
     seen (set ps x t) lists ≡ f
 set_same {f = f} {ps = ps} {lists = lists} {keys = keys} is kept x s t at same seen_same =
     set_done is kept x s t (λ n. n) at same (λ y. refl) seen_same ∙ ap (λ ts. record f { trees = ts }) (change_node-same (name_at f.names x) f.trees)

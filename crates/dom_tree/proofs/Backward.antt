@@ -13,7 +13,7 @@ use Rattle.node_arena.specs.Nodes.{prev_in, prev_of}
 use Rattle.node_arena.proofs.Lists.{contains-append, contains-prev_in, contains-last_of, IsOnce-append_left, IsOnce-append_right, IsOnce-apart}
 use Rattle.node_arena.proofs.Lists.{last_from-append, prev_from-append}
 use Rattle.node_arena.proofs.Forests.{contains-parent, ancestors_of-child, length-ancestors_of}
-use Rattle.dom_tree.specs.declared.data.Stored.{Stored}
+use Rattle.dom_tree.specs.Contents.{Stored}
 use Rattle.dom_tree.specs.Rows.{trees_of}
 use Rattle.dom_tree.specs.Forest.{NamedTrees, IsKept, stored_names, nodes_of, name_at}
 use Rattle.dom_tree.proofs.Rows.{Stands, name_of_key}

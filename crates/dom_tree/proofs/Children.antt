@@ -17,7 +17,7 @@ use Rattle.dom_model.specs.Validity.{without_given, element_count, has_text}
 use Rattle.node_arena.specs.Nodes.{contains, children_of, IsForest, IsOnce, head_of, next_in, next_of}
 use Rattle.node_arena.proofs.Lists.{contains-next_in}
 use Rattle.node_arena.proofs.Forests.{parent_of_is}
-use Rattle.dom_tree.specs.declared.data.Stored.{Stored}
+use Rattle.dom_tree.specs.Contents.{Stored}
 use Rattle.dom_tree.specs.Rows.{node_at, trees_of}
 use Rattle.dom_tree.specs.Forest.{NamedTrees, IsKept, stored_names, nodes_of, name_at}
 use Rattle.dom_tree.proofs.Rows.{name_of_key}

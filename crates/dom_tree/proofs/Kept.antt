@@ -15,9 +15,9 @@ use Rattle.dom_model.specs.TreeChanges.{placed, taken_out}
 use Rattle.node_arena.specs.Nodes.{Nodes, IsSound, IsForest, children_of, contains, parent_of, ancestors_of, without}
 use Rattle.node_arena.proofs.Lists.{contains-head}
 use Rattle.node_arena.proofs.Forests.{cases_Option, contains-parent, parent_within, ancestors_of-child, ancestors_of-root}
-use Rattle.dom_tree.specs.declared.data.Stored.{Stored}
+use Rattle.dom_tree.specs.Contents.{Stored}
 use Rattle.dom_tree.specs.Rows.{node_at, trees_on, trees_of}
-use Rattle.dom_tree.specs.Forest.{NamedTrees, IsKept, stored_names, nodes_with, nodes_of, name_at, node_from}
+use Rattle.dom_tree.specs.Forest.{NamedTrees, IsKept, stored_names, nodes_with, nodes_of, name_at, node_with}
 use Rattle.dom_tree.proofs.Rows.{name_of_key}
 use Rattle.dom_tree.proofs.Changes.{IsWhole, node_here, linked, LinkAsked, trees_of-linked, trees_of-unlinked}
 use Rattle.dom_tree.proofs.Reading.{node_in-at, parent_in-at, inclusive_ancestors-at, name_of_key-eq}
@@ -88,15 +88,15 @@ within_names {f = f} {ps = ps} is kept x node =
 
 -- what is stored of a node is its node in the trees
 pub node_at-stored : (names : List NodeName) (ps : List Stored) (x : ℕ) (s : Stored) → slice_get ps x ≡ Some s →
-    node_at (nodes_with names ps) x ≡ node_from names s.name s.node
+    node_at (nodes_with names ps) x ≡ node_with names s.name s.node
 node_at-stored names [] x s e = absurd (none-some s e)
-node_at-stored names (t ∷ ps) zero s e = ap (λ (u : Stored). node_from names u.name u.node) (same_Some t s e)
+node_at-stored names (t ∷ ps) zero s e = ap (λ (u : Stored). node_with names u.name u.node) (same_Some t s e)
 node_at-stored names (t ∷ ps) (suc x) s e = node_at-stored names ps x s e
 
 pub shows_node : {f : NamedTrees} {ps : List Stored} {lists : List (List ℕ)} {keys : Owner → List ℕ} → seen ps lists ≡ f → IsKept ps lists keys
-    → (x : ℕ) (s : Stored) → x < length f.names → slice_get ps x ≡ Some s → node_in f.trees (name_at f.names x) ≡ node_from f.names s.name s.node
+    → (x : ℕ) (s : Stored) → x < length f.names → slice_get ps x ≡ Some s → node_in f.trees (name_at f.names x) ≡ node_with f.names s.name s.node
 shows_node {f = f} {ps = ps} {lists = lists} {keys = keys} is kept x s node at =
-    subst (λ (g : NamedTrees). node_in g.trees (name_at g.names x) ≡ node_from g.names s.name s.node) is
+    subst (λ (g : NamedTrees). node_in g.trees (name_at g.names x) ≡ node_with g.names s.name s.node) is
     (ap (node_in (trees_of (nodes_of ps) lists)) (name_at-same (stored_names ps) ps x)
     ∙ (node_in-at (nodes_of ps) lists (IsWhole-kept kept) x within
     ∙ node_at-stored (stored_names ps) ps x s at))

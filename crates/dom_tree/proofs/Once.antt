@@ -14,7 +14,7 @@ use Rattle.dom_model.specs.Names.{name_eq, name_before, is_in}
 use Rattle.dom_model.specs.Tree.{Trees, none, tree, Node, nodes as nodes_in, names_of, has_node}
 use Rattle.node_arena.specs.Nodes.{children_of, contains, parent_of, ancestors_of, IsForest, IsOnce}
 use Rattle.node_arena.proofs.Forests.{cases_Option, contains-no_parent, contains-parent, parent_within, ancestors_of-child}
-use Rattle.dom_tree.specs.declared.data.Stored.{Stored}
+use Rattle.dom_tree.specs.Contents.{Stored}
 use Rattle.dom_tree.specs.Rows.{node_at, put_key, in_order, is_root, root_keys, trees_of}
 use Rattle.dom_tree.specs.Forest.{NamedTrees, IsKept, stored_names, nodes_of, name_at}
 use Rattle.dom_model.proofs.OwnerLaws.{name_eq-same, name_eq-true}

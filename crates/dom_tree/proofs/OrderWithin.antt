@@ -13,14 +13,14 @@ use Rattle.node_arena.specs.Nodes.{children_of, contains, parent_of, ancestors_o
 use Rattle.node_arena.proofs.Lists.{head_or}
 use Rattle.node_arena.proofs.Lists.{next_from, next_in_is}
 use Rattle.node_arena.proofs.Forests.{cases_Option, contains-parent, ancestors_of-child, ancestors_of-root}
-use Rattle.dom_tree.specs.declared.data.Stored.{Stored}
+use Rattle.dom_tree.specs.Contents.{Stored}
 use Rattle.dom_tree.specs.Rows.{trees_of}
 use Rattle.dom_tree.specs.Forest.{NamedTrees, IsKept, stored_names, nodes_of, name_at}
 use Rattle.dom_tree.proofs.Rows.{Stands, name_of_key}
 use Rattle.dom_tree.proofs.Changes.{IsWhole, subtree_here}
 use Rattle.dom_tree.proofs.Reading.{name_of_key-eq, first_of-items_after, Tells}
 use Rattle.dom_tree.proofs.Kept.{seen, IsWhole-kept, name_at-same, names_option, within}
-use Rattle.dom_tree.proofs.Once.{one, times, times_in, once-within}
+use Rattle.dom_tree.proofs.Once.{times, times_in, once-within}
 use Rattle.dom_tree.proofs.Order.{in_trees, name_here, names-in_trees, root-in_trees, child-in_trees, key-in_trees, times-in_trees, times_in-subtree}
 use Rattle.dom_tree.proofs.Order.{IsOnce-times, behind, behind-child, next-in_trees}
 

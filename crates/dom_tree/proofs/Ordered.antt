@@ -7,7 +7,7 @@ use Rattle.dom_base.specs.declared.Owner.{Owner}
 use Rattle.dom_model.specs.Tree.{Trees, Node}
 use Rattle.dom_model.specs.TreeChanges.{put_root}
 use Rattle.node_arena.specs.Nodes.{contains}
-use Rattle.dom_tree.specs.declared.data.Stored.{Stored}
+use Rattle.dom_tree.specs.Contents.{Stored}
 use Rattle.dom_tree.specs.Rows.{in_order, trees_on, is_root}
 use Rattle.dom_tree.specs.Forest.{NamedTrees, IsKept, nodes_of}
 use Rattle.dom_tree.specs.Owners.{AreInOrder}

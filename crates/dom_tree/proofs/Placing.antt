@@ -11,7 +11,7 @@ use Rattle.dom_model.specs.Names.{name_eq}
 use Rattle.dom_model.specs.Tree.{Node, kind_of, is_fragment, child_nodes, parent_of as parent_in}
 use Rattle.dom_model.specs.Validity.{without_given, element_count, has_text, has_parent, breaks_document}
 use Rattle.node_arena.specs.Nodes.{parent_of}
-use Rattle.dom_tree.specs.declared.data.Stored.{Stored}
+use Rattle.dom_tree.specs.Contents.{Stored}
 use Rattle.dom_tree.specs.Forest.{NamedTrees, IsKept, stored_names, nodes_of, name_at}
 use Rattle.dom_tree.proofs.Rows.{name_of_key}
 use Rattle.dom_tree.proofs.Reading.{name_of_key-eq, parent_in-at}

@@ -11,9 +11,9 @@ use Rattle.dom_base.specs.declared.Owner.{Owner}
 use Rattle.dom_model.specs.Names.{name_eq}
 use Rattle.dom_model.specs.Tree.{Node}
 use Rattle.dom_model.specs.TreeChanges.{change_node}
-use Rattle.dom_tree.specs.declared.data.Stored.{Stored}
+use Rattle.dom_tree.specs.Contents.{Stored}
 use Rattle.dom_tree.specs.Rows.{trees_of}
-use Rattle.dom_tree.specs.Forest.{NamedTrees, IsKept, stored_names, nodes_with, nodes_of, name_at, node_from, count_of}
+use Rattle.dom_tree.specs.Forest.{NamedTrees, IsKept, stored_names, nodes_with, nodes_of, name_at, node_with, count_of}
 use Rattle.dom_model.proofs.OwnerLaws.{name_eq-same}
 use Rattle.dom_tree.proofs.Rows.{same_name}
 use Rattle.dom_tree.proofs.Changes.{IsWhole, trees_of-map}
@@ -78,7 +78,7 @@ set_names {ps = ps} is kept x s t at same = stored_names-set ps x s t at same �
 -- a change of what is stored is that change of the node
 pub set_done : {f : NamedTrees} {ps : List Stored} {lists : List (List ℕ)} {keys : Owner → List ℕ} → seen ps lists ≡ f → IsKept ps lists keys
     → (x : ℕ) (s t : Stored) (h : Node → Node) → slice_get ps x ≡ Some s → t.name ≡ s.name → ((y : Node) → (h y).name ≡ y.name) →
-    node_from f.names t.name t.node ≡ h (node_from f.names s.name s.node)
+    node_with f.names t.name t.node ≡ h (node_with f.names s.name s.node)
     → seen (set ps x t) lists ≡ record f { trees = change_node h (name_at f.names x) f.trees }
 set_done {f = f} {ps = ps} {lists = lists} {keys = keys} is kept x s t h at same keeps changed =
     subst (λ (g : NamedTrees). seen (set ps x t) lists ≡ record g { trees = change_node h (name_at g.names x) g.trees }) is
@@ -104,29 +104,29 @@ set_done {f = f} {ps = ps} {lists = lists} {keys = keys} is kept x s t h at same
       | inr e ↦ rw e refl
     ]
 
-    here : slice_get (nodes_of ps) x ≡ Some (node_from (stored_names ps) s.name s.node)
-    here = slice_get-map (λ u. node_from (stored_names ps) u.name u.node) ps x ∙ ap (option_map (λ u. node_from (stored_names ps) u.name u.node)) at
+    here : slice_get (nodes_of ps) x ≡ Some (node_with (stored_names ps) s.name s.node)
+    here = slice_get-map (λ u. node_with (stored_names ps) u.name u.node) ps x ∙ ap (option_map (λ u. node_with (stored_names ps) u.name u.node)) at
 
-    new_here : slice_get others x ≡ Some (h (node_from (stored_names ps) s.name s.node))
-    new_here = slice_get-map (λ u. node_from (stored_names ps) u.name u.node) (set ps x t) x
-        ∙ (ap (option_map (λ u. node_from (stored_names ps) u.name u.node)) (slice_get-set_same ps x s t at)
-        ∙ ap Some (subst (λ (g : NamedTrees). node_from g.names t.name t.node ≡ h (node_from g.names s.name s.node)) (sym is) changed))
+    new_here : slice_get others x ≡ Some (h (node_with (stored_names ps) s.name s.node))
+    new_here = slice_get-map (λ u. node_with (stored_names ps) u.name u.node) (set ps x t) x
+        ∙ (ap (option_map (λ u. node_with (stored_names ps) u.name u.node)) (slice_get-set_same ps x s t at)
+        ∙ ap Some (subst (λ (g : NamedTrees). node_with g.names t.name t.node ≡ h (node_with g.names s.name s.node)) (sym is) changed))
 
     own_name : s.name ≡ name_at (stored_names ps) x
-    own_name = ap (λ (y : Node). y.name) (sym (get_or_from_slice_get (nodes_of ps) x (node_from (stored_names ps) s.name s.node) _ here)) ∙
+    own_name = ap (λ (y : Node). y.name) (sym (get_or_from_slice_get (nodes_of ps) x (node_with (stored_names ps) s.name s.node) _ here)) ∙
         sym (name_at-same (stored_names ps) ps x)
 
     each : (k : ℕ) (y : Node) → slice_get (nodes_of ps) k ≡ Some y → slice_get others k ≡ Some (cond (name_eq y.name (name_at (stored_names ps) x)) (h y) y)
     each k y at_k = elim (eqb_tells k x) [
       | inl e ↦
-          let is_y : y ≡ node_from (stored_names ps) s.name s.node = same_Some y _ (sym at_k ∙ (ap (slice_get (nodes_of ps)) e.1 ∙ here)) in
+          let is_y : y ≡ node_with (stored_names ps) s.name s.node = same_Some y _ (sym at_k ∙ (ap (slice_get (nodes_of ps)) e.1 ∙ here)) in
           let named : name_eq y.name (name_at (stored_names ps) x) ≡ true =
           ap (λ (z : Node). name_eq z.name (name_at (stored_names ps) x)) is_y ∙ (ap (name_eq s.name) (sym own_name) ∙ name_eq-same s.name) in
           ap (slice_get others) e.1 ∙ (new_here ∙ (ap (λ z. Some (h z)) (sym is_y) ∙ ap (λ b. Some (cond b (h y) y)) (sym named)))
       | inr e ↦
           let apart : name_eq y.name (name_at (stored_names ps) x) ≡ false =
-          ap (name_eq y.name) (sym own_name) ∙ (same_name (nodes_of ps) whole.named k x y (node_from (stored_names ps) s.name s.node) at_k here ∙ e.0) in
-          slice_get-map (λ u. node_from (stored_names ps) u.name u.node) (set ps x t) k
-          ∙ (ap (option_map (λ u. node_from (stored_names ps) u.name u.node)) (slice_get-set_other ps x k t e.1)
-          ∙ (sym (slice_get-map (λ u. node_from (stored_names ps) u.name u.node) ps k) ∙ (at_k ∙ ap (λ b. Some (cond b (h y) y)) (sym apart))))
+          ap (name_eq y.name) (sym own_name) ∙ (same_name (nodes_of ps) whole.named k x y (node_with (stored_names ps) s.name s.node) at_k here ∙ e.0) in
+          slice_get-map (λ u. node_with (stored_names ps) u.name u.node) (set ps x t) k
+          ∙ (ap (option_map (λ u. node_with (stored_names ps) u.name u.node)) (slice_get-set_other ps x k t e.1)
+          ∙ (sym (slice_get-map (λ u. node_with (stored_names ps) u.name u.node) ps k) ∙ (at_k ∙ ap (λ b. Some (cond b (h y) y)) (sym apart))))
     ]

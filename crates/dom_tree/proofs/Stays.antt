@@ -12,7 +12,7 @@ use Rattle.node_arena.specs.Nodes.{Nodes, IsSound, IsForest, children_of, contai
 use Rattle.node_arena.proofs.Forests.{cases_Option, ancestors_of-child, ancestors_of-root, parent_of_same, parent_of_none, parent_of_is}
 use Rattle.node_arena.proofs.Forests.{children_of-without, children_of-push}
 use Rattle.node_arena.proofs.Lists.{contains-without_same, contains-without_other}
-use Rattle.dom_tree.specs.declared.data.Stored.{Stored}
+use Rattle.dom_tree.specs.Contents.{Stored}
 use Rattle.dom_tree.specs.Rows.{trees_of}
 use Rattle.dom_tree.specs.Forest.{NamedTrees, IsKept, stored_names, nodes_of, name_at}
 use Rattle.dom_tree.proofs.Rows.{name_of_key}

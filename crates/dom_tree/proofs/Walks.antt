@@ -13,7 +13,7 @@ use Rattle.node_arena.specs.Nodes.{contains, parent_of, children_of, ancestors_o
 use Rattle.node_arena.specs.Nodes.{prev_in, prev_of}
 use Rattle.node_arena.proofs.Lists.{contains-head, length-IsOnce, contains-next_in}
 use Rattle.node_arena.proofs.Forests.{cases_Option, contains-parent, parent_within, parent_of_is, ancestors_of-child, ancestors_of-root}
-use Rattle.dom_tree.specs.declared.data.Stored.{Stored}
+use Rattle.dom_tree.specs.Contents.{Stored}
 use Rattle.dom_tree.specs.Rows.{trees_of}
 use Rattle.dom_tree.specs.Forest.{NamedTrees, IsKept, stored_names, nodes_of, name_at}
 use Rattle.dom_tree.proofs.Rows.{name_of_key}

@@ -14,7 +14,7 @@ use Rattle.dom_model.proofs.OwnerLaws.{name_eq-same}
 use Rattle.node_arena.specs.Nodes.{children_of, contains, parent_of, ancestors_of}
 use Rattle.node_arena.proofs.Forests.{cases_Option, contains-parent, parent_within, ancestors_of-child, ancestors_of-root}
 use Rattle.node_arena.proofs.Lists.{contains-head}
-use Rattle.dom_tree.specs.declared.data.Stored.{Stored}
+use Rattle.dom_tree.specs.Contents.{Stored}
 use Rattle.dom_tree.specs.Rows.{node_at, trees_of}
 use Rattle.dom_tree.specs.Forest.{NamedTrees, IsKept, stored_names, nodes_of, name_at}
 use Rattle.dom_tree.proofs.Rows.{Stands, same_name, name_of_key}

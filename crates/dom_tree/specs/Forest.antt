@@ -1,7 +1,8 @@
 -- What a contract sees of a `Forest`: the names of the nodes by their keys, and the trees.
-use Rattle.std.specs.Prelude.{◌≡◌, ℕ, ◌^◌, ◌<◌, ◌≤◌, List, map, length, slice_get, slice_index_or, Option, Some, None, Result, Ok, Err, count_by, refl}
+use Rattle.std.specs.Prelude.{◌≡◌, ℕ, ◌^◌, ◌<◌, ◌≤◌, List, map, length, slice_get, slice_index_or, Option, Some, None, Result, Ok, Err, Vec, String, count_by, refl}
 use Rattle.std.specs.Option.{option_map}
 use Rattle.std.specs.String.{string_bytes}
+use Rattle.std.specs.declared.alloc.Global.{Global}
 use Rattle.std.specs.Coded.{Coded, code_by, coded×, coded_list}
 use Rattle.dom_base.specs.declared.Owner.{Owner}
 use Rattle.dom_base.specs.declared.Owner.TheVariants.{Page}
@@ -11,7 +12,7 @@ use Rattle.dom_model.specs.Tree.{Trees, Node, Attribute}
 use Rattle.dom_model.specs.Codes.{name_code, trees_code}
 use Rattle.node_arena.specs.Nodes.{IsForest}
 use Rattle.dom_tree.specs.declared.data.NodeData.{NodeData}
-use Rattle.dom_tree.specs.declared.data.Stored.{Stored}
+use Rattle.dom_tree.specs.Contents.{Contents, Stored}
 
 -- the names of the nodes, by their keys, and the trees in which they stand, in the order of their roots' names
 pub record NamedTrees : Type 0 where
@@ -47,9 +48,13 @@ next_name o names = node_of o (count_of o names)
 abbrev pub attribute_from : List ℕ → List ℕ → Attribute
 attribute_from a v = record { name = a; value = v }
 
--- a node with what the code holds of it
+-- attributes from the entries of the code's map
+abbrev pub attributes_from : List (String Global × Vec ℕ Global) → List Attribute
+attributes_from es = map (λ e. attribute_from (string_bytes e.0) e.1.items) es
+
+-- the attributes of a node that the code holds
 abbrev pub attributes_of : NodeData → List Attribute
-attributes_of d = map (λ e. attribute_from (string_bytes e.0) e.1.items) d.attributes.entries
+attributes_of d = attributes_from d.attributes.entries
 
 -- a node from its name and what the code holds of it
 abbrev pub node_from : List NodeName → NodeName → NodeData → Node
@@ -62,13 +67,28 @@ node_from names x d = record {
   document = option_map (name_at names) d.document;
 }
 
+-- what a node holds, from what the code hands over
+abbrev pub contents_of : NodeData → Contents
+contents_of d = record { kind = d.kind; element = string_bytes d.element; attributes = attributes_of d; text = d.text.items; document = d.document }
+
+-- a node from its name and what it holds
+abbrev pub node_with : List NodeName → NodeName → Contents → Node
+node_with names x d = record {
+  name = x;
+  kind = d.kind;
+  element = d.element;
+  attributes = d.attributes;
+  text = d.text;
+  document = option_map (name_at names) d.document;
+}
+
 -- the names of what is stored, by its keys
 abbrev pub stored_names : List Stored → List NodeName
 stored_names ps = map (λ s. s.name) ps
 
 -- the nodes of what is stored, where these are the names of all
 abbrev pub nodes_with : List NodeName → List Stored → List Node
-nodes_with names ps = map (λ s. node_from names s.name s.node) ps
+nodes_with names ps = map (λ s. node_with names s.name s.node) ps
 
 -- the nodes of what is stored
 abbrev pub nodes_of : List Stored → List Node

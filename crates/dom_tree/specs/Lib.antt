@@ -1,6 +1,7 @@
 -- Unmarked: own rules, about what the code holds and its contracts say.
 pub mod Table
 pub mod Rows
+pub mod Contents
 pub mod Forest
 pub mod Owners
 pub mod EachNode

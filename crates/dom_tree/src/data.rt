@@ -1,5 +1,5 @@
 //! What a node holds.
-use dom_base::{DomStr, Kind, NodeName};
+use dom_base::{DomStr, Kind};
 use indexmap::IndexMap;
 use node_arena::Key;
 
@@ -13,11 +13,4 @@ pub struct NodeData {
     pub attributes: IndexMap<String, DomStr>,
     pub text: DomStr,
     pub document: Option<Key>,
-}
-
-/// A node under its name.
-#[derive(Drop)]
-pub(crate) struct Stored {
-    pub(crate) name: NodeName,
-    pub(crate) node: NodeData,
 }

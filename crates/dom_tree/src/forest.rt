@@ -14,7 +14,9 @@ mod links;
 mod order;
 mod validity;
 
-use crate::data::{NodeData, Stored};
+use crate::data::NodeData;
+use crate::shared::SharedTable;
+use crate::stored::StoredNode;
 use crate::table::KeyTable;
 use dom_base::{Fault, MAX_NODES, NodeName, Owner, Refusal};
 use node_arena::{Arena, Key};
@@ -24,8 +26,9 @@ use std::marker::Model;
 /// The nodes of all owners, and the trees in which they stand. Nodes are never taken away.
 #[derive(Drop)]
 pub struct Forest {
-    arena: Arena<Stored>,
+    arena: Arena<StoredNode>,
     keys: KeyTable,
+    shared: SharedTable,
     alloc: Global,
 }
 
@@ -51,6 +54,7 @@ impl Forest {
         Forest {
             arena: Arena::new(alloc),
             keys: KeyTable::new(alloc),
+            shared: SharedTable::new(alloc),
             alloc,
         }
     }
@@ -85,7 +89,8 @@ impl Forest {
             owner,
             number: number as u32,
         };
-        let key = self.arena.add(Stored { name, node })?;
+        let stored = StoredNode::of(self.alloc, &mut self.shared, name, node)?;
+        let key = self.arena.add(stored)?;
         self.keys.push(owner, key);
         Ok(key)
     }
@@ -129,6 +134,6 @@ impl Forest {
         ensures value { slice_get self.now.names key ≡ Some result }
         ensures at { name_of self.now key ≡ result }
     {
-        self.arena.payload(key).name
+        self.arena.payload(key).name()
     }
 }

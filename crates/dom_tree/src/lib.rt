@@ -6,9 +6,12 @@
 //! the key of a node of that forest.
 #![tactic(auto)]
 
+mod attribute_list;
 mod data;
 mod forest;
 mod owners;
+mod shared;
+mod stored;
 mod table;
 
 pub use data::NodeData;

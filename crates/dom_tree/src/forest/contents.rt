@@ -17,7 +17,7 @@ impl Forest {
         requires { IsNode self.now key }
         ensures { result ≡ kind_of self.now.trees (name_of self.now key) }
     {
-        self.arena.payload(key).node.kind
+        self.arena.payload(key).kind()
     }
 
     /// The local name of an element (DOM Standard, concept: local name).
@@ -25,7 +25,7 @@ impl Forest {
         requires { IsNode self.now key }
         ensures { result.now ≡ (node_in self.now.trees (name_of self.now key)).element }
     {
-        self.arena.payload(key).node.element.as_str()
+        self.arena.payload(key).element()
     }
 
     /// The data of a Text or a Comment, in code units (DOM Standard, concept: data).
@@ -33,7 +33,7 @@ impl Forest {
         requires { IsNode self.now key }
         ensures { result.now ≡ (node_in self.now.trees (name_of self.now key)).text }
     {
-        self.arena.payload(key).node.text.as_slice()
+        self.arena.payload(key).text()
     }
 
     /// The node document of a node, none for a document (DOM Standard, concept: node document).
@@ -42,7 +42,7 @@ impl Forest {
         ensures value { option_map (name_of self.now) result ≡ (node_in self.now.trees (name_of self.now key)).document }
         ensures node { ForSome result (IsNode self.now) }
     {
-        self.arena.payload(key).node.document
+        self.arena.payload(key).document()
     }
 
     /// Gives one node another node document, or none; the nodes below it keep theirs (DOM Standard, concept: node
@@ -54,7 +54,7 @@ impl Forest {
         ensures trees { self.new.trees ≡ change_node (under_document (option_map (name_of self.old) document)) (name_of self.old key)
             self.old.trees }
     {
-        self.arena.payload_mut(key).node.document = document;
+        self.arena.payload_mut(key).set_document(document);
     }
 
     /// Gives a Text or a Comment other data, in code units (DOM Standard, concept: data).
@@ -63,7 +63,7 @@ impl Forest {
         ensures names { self.new.names ≡ self.old.names }
         ensures trees { self.new.trees ≡ change_node (with_text text.items) (name_of self.old key) self.old.trees }
     {
-        self.arena.payload_mut(key).node.text = text;
+        self.arena.payload_mut(key).set_text(text);
     }
 
     /// The value of an attribute in code units, if there is one of this name (DOM Standard, concept: get an attribute
@@ -72,8 +72,7 @@ impl Forest {
         requires { IsNode self.now key }
         ensures { option_map (λ value. value.now) result ≡ attribute_value (node_in self.now.trees (name_of self.now key)) name.now }
     {
-        let value = self.arena.payload(key).node.attributes.get(name)?;
-        Some(value.as_slice())
+        self.arena.payload(key).attributes().get(name)
     }
 
     /// The name and the value of the attribute at an index in the attributes' order, if there are so many (DOM
@@ -82,8 +81,7 @@ impl Forest {
         requires { IsNode self.now key }
         ensures { option_map (λ a. attribute_from a.0.now a.1.now) result ≡ slice_get (node_in self.now.trees (name_of self.now key)).attributes index }
     {
-        let (name, value) = self.arena.payload(key).node.attributes.get_index(index)?;
-        Some((name.as_str(), value.as_slice()))
+        self.arena.payload(key).attributes().get_at(index)
     }
 
     /// Holds of every node (DOM Standard, concept: attribute list): no two of its attributes have one name.
@@ -91,7 +89,7 @@ impl Forest {
         requires { IsNode self.now key }
         ensures { HaveOwnNames (node_in self.now.trees (name_of self.now key)).attributes }
     {
-        let _count = self.arena.payload(key).node.attributes.len();
+        self.arena.payload(key).attributes().have_own_names();
     }
 
     /// Sets an attribute to a value in code units. One that is there keeps its place, and a new one goes last (DOM
@@ -102,12 +100,11 @@ impl Forest {
         ensures ok { OnOk result (self.new.trees ≡ change_node (with_attribute name.now (Some value.items)) (name_of self.old key) self.old.trees) }
         ensures err { OnErr result (self.new ≡ self.old) }
     {
-        let name = String::from_str(self.alloc, name)?;
+        let alloc = self.alloc;
+        let name = String::from_str(alloc, name)?;
         self.arena
             .payload_mut(key)
-            .node
-            .attributes
-            .insert(name, value)?;
+            .set_attribute(alloc, name, value)?;
         Ok(())
     }
 
@@ -119,10 +116,6 @@ impl Forest {
         ensures names { self.new.names ≡ self.old.names }
         ensures trees { self.new.trees ≡ change_node (with_attribute name.now None) (name_of self.old key) self.old.trees }
     {
-        self.arena
-            .payload_mut(key)
-            .node
-            .attributes
-            .shift_remove(name)
+        self.arena.payload_mut(key).remove_attribute(name)
     }
 }

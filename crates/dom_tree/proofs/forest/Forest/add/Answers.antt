@@ -2,12 +2,13 @@ use Rattle.std.proofs.Common.{rules, ℕ, ◌^◌, ◌<◌, ap, sym, ◌∙◌, 
 use Rattle.std.proofs.lemmas.List.{length-map, length_push}
 use Rattle.dom_model.specs.TreeChanges.{with_node}
 use Rattle.node_arena.specs.Nodes.{Nodes}
-use Rattle.dom_tree.specs.declared.data.Stored.{Stored}
+use Rattle.dom_model.specs.Names.{node_of}
+use Rattle.dom_tree.specs.Contents.{Stored, stored_from}
 use Rattle.dom_tree.specs.Table.{keys_of}
-use Rattle.dom_tree.specs.Forest.{NamedTrees, next_name, node_from}
+use Rattle.dom_tree.specs.Forest.{NamedTrees, next_name, node_from, contents_of}
 use Rattle.dom_tree.proofs.Kept.{kept_with}
 use Rattle.dom_tree.proofs.Adding.{Adds, adds_from, IsKept-keys, IsKept-add, trees_of-add}
-use Rattle.dom_tree.proofs.Stays.{added_root, added_childless, added_above_none, added_named, added_above}
+use Rattle.dom_tree.proofs.Stays.{IsAdded, added_root, added_childless, added_above_none, added_named, added_above}
 use Rattle.dom_tree.proofs.forest.Forest.add.Goals as goal
 
 pub invariant_of-self-in_err-key : goal.invariant_of-self-in_err-key
@@ -24,9 +25,9 @@ overflow_cast-name c =
 -- the node that is added
 adds : (c : goal.After-push) → Adds c.self.inside.arena.payloads c.self.inside.arena.children (keys_of c.self.inside.keys)
     (keys_of c.push.new.self) c.args.owner
-    (record { name = record { owner = c.args.owner; number = length c.of-number.result.now }; node = c.args.node })
+    (stored_from (node_of c.args.owner (length c.of-number.result.now)) (contents_of c.args.node))
 adds c = adds_from c.self.inside.arena.payloads c.self.inside.arena.children (keys_of c.self.inside.keys) (keys_of c.reserve.new.self) (keys_of c.push.new.self)
-    c.args.owner (length c.of-number.result.now) c.in_ok-key.key c.args.node c.self.invariant
+    c.args.owner (length c.of-number.result.now) c.in_ok-key.key (contents_of c.args.node) c.self.invariant
     (ap (length {A = ℕ}) c.of-number.ensures)
     c.if-number.false
     (λ k e. subst (λ (n : ℕ). k < n) (ap (λ (f : NamedTrees). length f.names) (sym c.self.view_is) ∙
@@ -36,8 +37,13 @@ adds c = adds_from c.self.inside.arena.payloads c.self.inside.arena.children (ke
     c.reserve.ensures.keys
     c.push.ensures
 
+-- what the arena then has
+added : (c : goal.After-push) → IsAdded c.self.inside.arena c.add.new.self
+    (stored_from (node_of c.args.owner (length c.of-number.result.now)) (contents_of c.args.node))
+added c = subst (λ (s : Stored). IsAdded c.self.inside.arena c.add.new.self s) c.in_ok-stored.ensures c.in_ok-key.ensures.ok
+
 pub invariant_of-self-2 : goal.invariant_of-self-2
-invariant_of-self-2 c = IsKept-add _ _ _ _ _ _ (adds c) c.add.new.self c.add.ensures.sound (ap (λ a. a.payloads) c.in_ok-key.ensures.ok)
+invariant_of-self-2 c = IsKept-add _ _ _ _ _ _ (adds c) c.add.new.self c.add.ensures.sound (ap (λ a. a.payloads) (added c))
 
 key_within : (c : goal.After-push) → c.in_ok-key.key < length c.add.new.self.payloads
 key_within c =
@@ -46,7 +52,7 @@ key_within c =
 
 pub returns-clause-trees : goal.returns-clause-trees
 returns-clause-trees c =
-    trees_of-add _ _ _ _ _ _ (adds c) c.add.new.self c.add.ensures.sound c.in_ok-key.ensures.ok
+    trees_of-add _ _ _ _ _ _ (adds c) c.add.new.self c.add.ensures.sound (added c)
     ∙ ap (λ f. with_node (node_from f.names (next_name c.args.owner f.names) c.args.node) f.trees) c.self.view_is
 
 pub returns-clause-unlinked : goal.returns-clause-unlinked

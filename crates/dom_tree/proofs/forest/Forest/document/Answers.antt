@@ -1,6 +1,9 @@
-use Rattle.std.proofs.Common.{ap, sym}
+use Rattle.std.proofs.Common.{ap, sym, ◌∙◌}
+use Rattle.std.specs.Option.{option_map}
+use Rattle.dom_tree.specs.Forest.{name_at}
 use Rattle.dom_tree.proofs.Kept.{shows_node}
 use Rattle.dom_tree.proofs.forest.Forest.document.Goals as goal
 
 pub returns-clause-value : goal.returns-clause-value
-returns-clause-value c = ap (λ n. n.document) (sym (shows_node c.self.view_is c.self.invariant c.args.key _ c.requires c.payload.ensures.value))
+returns-clause-value c = ap (option_map (name_at c.args.self.now.names)) c.document.ensures ∙
+    ap (λ n. n.document) (sym (shows_node c.self.view_is c.self.invariant c.args.key _ c.requires c.payload.ensures.value))

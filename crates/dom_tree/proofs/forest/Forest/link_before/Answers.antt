@@ -1,7 +1,7 @@
 use Rattle.std.proofs.Common.{◌≡◌, ◌<◌, ℕ, List, Some, length, ap, subst, sym, ◌∙◌, arith}
 use Rattle.std.proofs.lemmas.Bool.{both_ways}
 use Rattle.node_arena.specs.Nodes.{Nodes, IsForest, parent_of}
-use Rattle.dom_tree.specs.declared.data.Stored.{Stored}
+use Rattle.dom_tree.specs.Contents.{Stored}
 use Rattle.dom_tree.proofs.Changes.{linked}
 use Rattle.dom_tree.proofs.Kept.{link_asked, link_done, kept_with, within}
 use Rattle.dom_tree.proofs.Stays.{AreSameBut, moved_above, parent_shown, linked_apart, linked_parent}

@@ -1,15 +1,20 @@
 use Rattle.std.proofs.Common.{ap, refl}
 use Rattle.dom_model.specs.TreeChanges.{with_text}
+use Rattle.dom_tree.specs.Contents.{Stored}
+use Rattle.dom_tree.specs.Forest.{node_with}
 use Rattle.dom_tree.proofs.Setting.{IsKept-set_same, set_names, set_done}
 use Rattle.dom_tree.proofs.forest.Forest.set_data.Goals as goal
 
 pub invariant_of-self : goal.invariant_of-self
-invariant_of-self c = IsKept-set_same c.self.invariant c.args.key c.payload_mut.result.now _ c.payload_mut.ensures.value refl refl
+invariant_of-self c = IsKept-set_same c.self.invariant c.args.key c.payload_mut.result.now _ c.payload_mut.ensures.value
+    (ap (λ (s : Stored). s.name) c.set_text.ensures) (ap (λ (s : Stored). s.node.document) c.set_text.ensures)
 
 pub returns-clause-names : goal.returns-clause-names
-returns-clause-names c = set_names c.self.view_is c.self.invariant c.args.key c.payload_mut.result.now _ c.payload_mut.ensures.value refl
+returns-clause-names c = set_names c.self.view_is c.self.invariant c.args.key c.payload_mut.result.now _ c.payload_mut.ensures.value
+    (ap (λ (s : Stored). s.name) c.set_text.ensures)
 
 pub returns-clause-trees : goal.returns-clause-trees
 returns-clause-trees c = ap (λ f. f.trees)
-    (set_done c.self.view_is c.self.invariant c.args.key c.payload_mut.result.now _ (with_text c.args.text.items) c.payload_mut.ensures.value refl
-    (λ y. refl) refl)
+    (set_done c.self.view_is c.self.invariant c.args.key c.payload_mut.result.now _ (with_text c.args.text.items) c.payload_mut.ensures.value
+    (ap (λ (s : Stored). s.name) c.set_text.ensures) (λ y. refl)
+    (ap (λ (s : Stored). node_with c.args.self.now.names s.name s.node) c.set_text.ensures))

@@ -1,19 +1,25 @@
-use Rattle.std.proofs.Common.{ap, refl}
+use Rattle.std.proofs.Common.{ap, sym, refl, ◌∙◌}
 use Rattle.std.specs.Option.{option_map}
 use Rattle.dom_model.specs.TreeChanges.{under_document}
-use Rattle.dom_tree.specs.Forest.{name_at}
+use Rattle.dom_tree.specs.Contents.{Stored}
+use Rattle.dom_tree.specs.Forest.{name_at, node_with}
 use Rattle.dom_tree.proofs.Kept.{within}
 use Rattle.dom_tree.proofs.Setting.{IsKept-set, set_names, set_done}
 use Rattle.dom_tree.proofs.forest.Forest.set_document.Goals as goal
 
 pub invariant_of-self : goal.invariant_of-self
-invariant_of-self c = IsKept-set c.self.invariant c.args.key c.payload_mut.result.now _ c.payload_mut.ensures.value refl
-    (λ d e. within c.self.view_is c.self.invariant d (c.requires.document_is_node d e))
+invariant_of-self c = IsKept-set c.self.invariant c.args.key c.payload_mut.result.now _ c.payload_mut.ensures.value
+    (ap (λ (s : Stored). s.name) c.set_document.ensures)
+    (λ d e. within c.self.view_is c.self.invariant d
+    (c.requires.document_is_node d (ap (λ (s : Stored). s.node.document) (sym c.set_document.ensures) ∙ e)))
 
 pub returns-clause-names : goal.returns-clause-names
-returns-clause-names c = set_names c.self.view_is c.self.invariant c.args.key c.payload_mut.result.now _ c.payload_mut.ensures.value refl
+returns-clause-names c = set_names c.self.view_is c.self.invariant c.args.key c.payload_mut.result.now _ c.payload_mut.ensures.value
+    (ap (λ (s : Stored). s.name) c.set_document.ensures)
 
 pub returns-clause-trees : goal.returns-clause-trees
 returns-clause-trees c = ap (λ f. f.trees)
     (set_done c.self.view_is c.self.invariant c.args.key c.payload_mut.result.now _
-    (under_document (option_map (name_at c.args.self.now.names) c.args.document)) c.payload_mut.ensures.value refl (λ y. refl) refl)
+    (under_document (option_map (name_at c.args.self.now.names) c.args.document)) c.payload_mut.ensures.value
+    (ap (λ (s : Stored). s.name) c.set_document.ensures) (λ y. refl)
+    (ap (λ (s : Stored). node_with c.args.self.now.names s.name s.node) c.set_document.ensures))

@@ -1,6 +1,6 @@
-use Rattle.std.proofs.Common.{◌≡◌, ℕ, List, None, ap, subst, sym, ◌∙◌}
+use Rattle.std.proofs.Common.{ℕ, List, None, ap, subst, sym, ◌∙◌}
 use Rattle.node_arena.specs.Nodes.{Nodes, parent_of}
-use Rattle.dom_tree.specs.declared.data.Stored.{Stored}
+use Rattle.dom_tree.specs.Contents.{Stored}
 use Rattle.dom_tree.proofs.Kept.{unlink_done, kept_with}
 use Rattle.dom_tree.proofs.Stays.{AreSameBut, moved_above, parent_shown, unlinked_apart, unlinked_root}
 use Rattle.dom_tree.proofs.forest.Forest.unlink.Goals as goal
