@@ -1,5 +1,6 @@
 -- What a contract sees of a `Forest`: the names of the nodes by their keys, and the trees.
-use Rattle.std.specs.Prelude.{◌≡◌, ℕ, ◌^◌, ◌<◌, ◌≤◌, List, map, length, slice_get, slice_index_or, Option, Some, None, Result, Ok, Err, Vec, String, count_by, refl}
+use Rattle.std.specs.Prelude.{◌≡◌, ℕ, ◌^◌, ◌<◌, ◌≤◌, List, map, length, slice_get, slice_index_or, Option, Some, None, Result, Ok, Err, Vec, String}
+use Rattle.std.specs.Prelude.{count_by, refl}
 use Rattle.std.specs.Option.{option_map}
 use Rattle.std.specs.String.{string_bytes}
 use Rattle.std.specs.declared.alloc.Global.{Global}
