@@ -1,5 +1,5 @@
 //! The order of the nodes of a tree, and the places of nodes among their siblings.
-ghost use Rattle.std.specs.Prelude.{◌≡◌, length, true};
+ghost use Rattle.std.specs.Prelude.{◌≡◌, ◌<◌, ℕ, length, true};
 ghost use Rattle.std.specs.Option.{option_map, ForSome};
 ghost use Rattle.dom_model.specs.Names.{first_of, last_of, items_after, items_before, name_eq};
 ghost use Rattle.dom_model.specs.Tree.{children_of, is_inclusive_ancestor, index_of, length_of, inclusive_descendants};
@@ -76,6 +76,13 @@ impl Forest {
             at = self.arena.prev(sibling);
         }
         index
+    }
+
+    /// Holds of every forest (own rule): a node has fewer siblings before it than there are nodes.
+    pub fn law_index(&self)
+        ensures { (k : ℕ) → IsNode self.now k → index_of self.now.trees (name_of self.now k) < length self.now.names }
+    {
+        let _ = &self.arena;
     }
 
     /// The number of code units of a Text or a Comment, and of another node that of its children, which are counted

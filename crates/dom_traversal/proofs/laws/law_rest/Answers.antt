@@ -1,6 +1,8 @@
 use Rattle.std.proofs.Common.{sym}
 use Rattle.dom_traversal.specs.Iterators.{iterator_rest}
+use Rattle.dom_traversal.proofs.Counts.{above-itself}
 use Rattle.dom_traversal.proofs.Lists.{no_first}
+use Rattle.dom_tree.specs.Forest.{name_at}
 use Rattle.dom_traversal.proofs.Rest.{iterator-rest, walker-rest, walker-stays, walker-end}
 use Rattle.dom_traversal.proofs.laws.law_rest.Goals as goal
 
@@ -18,3 +20,7 @@ returns-clause-walker_stays c = walker-stays c.args.forest.now c.nodes_stand_onc
 
 pub returns-clause-walker_end : goal.returns-clause-walker_end
 returns-clause-walker_end c = walker-end c.args.forest.now c.nodes_stand_once.ensures.once c.nodes_stand_once.ensures.only
+
+pub returns-clause-itself : goal.returns-clause-itself
+returns-clause-itself c = λ k node.
+    above-itself c.args.forest.now.trees (name_at c.args.forest.now.names k) (c.nodes_stand_once.ensures.once k node)
