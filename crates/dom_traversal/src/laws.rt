@@ -1,9 +1,9 @@
 //! Laws of walkers and iterators, for a caller that goes over all nodes.
-ghost use Rattle.std.specs.Prelude.{◌≡◌, ◌<◌, ◌∷◌, [], ℕ, length, true, false, Some, None};
+ghost use Rattle.std.specs.Prelude.{◌≡◌, ◌∷◌, [], ℕ, true, false, Some, None};
 ghost use Rattle.dom_base.specs.declared.Move.TheVariants as moves;
 ghost use Rattle.dom_model.specs.Traversal.{iterator_next_node, walker_move};
 ghost use Rattle.dom_model.specs.Tree.{is_inclusive_ancestor};
-ghost use Rattle.dom_tree.specs.Forest.{name_of};
+ghost use Rattle.dom_tree.specs.Forest.{IsNode, name_of};
 ghost use Rattle.dom_traversal.specs.Iterators.{KeyedIterator, IsIteratorOf, iterator_rest, iterator_view};
 ghost use Rattle.dom_traversal.specs.Walkers.{KeyedWalker, IsWalkerOf, walker_rest, walker_view};
 
