@@ -1,6 +1,6 @@
 -- What the caller of a `Doc` has in hand is still there after a call.
-use Rattle.std.proofs.Common.{◌≡◌, ◌<◌, ℕ, true, List, [], ◌++◌, length, Option, Some, None, is_some, refl}
-use Rattle.std.proofs.Common.{ap, sym, subst, ◌∙◌, true≢false}
+use Rattle.std.proofs.Common.{◌≡◌, ◌<◌, ℕ, List, [], ◌++◌, length}
+use Rattle.std.proofs.Common.{ap, sym, subst, ◌∙◌}
 use Rattle.std.proofs.lemmas.List.{append-nil}
 use Rattle.dom_base.specs.declared.Kind.TheVariants.{Text}
 use Rattle.dom_base.specs.declared.NodeName.{NodeName}
@@ -32,8 +32,3 @@ pub still-same : ((was now : DocState) (o : Owner) (plan : Plan) (more : List No
     (was now : DocState) (o : Owner) (plan : Plan) → HasNodes was → HasNodes now → now.names ≡ was.names → now.world ≡ made o plan was.world →
     HasStillAll was now
 still-same law was now o plan h g e w = law was now o plan [] h g (e ∙ sym (append-nil was.names)) w
-
--- what is there
-pub there-is : {X : Type 0} (o : Option X) → is_some o ≡ true → (x : X) × (o ≡ Some x)
-there-is None h = absurd (true≢false (sym h))
-there-is (Some x) h = (x, refl)

@@ -26,7 +26,8 @@ use Rattle.dom_worlds.specs.Tables.{IsWhole}
 use Rattle.dom_worlds.proofs.Tests.{which_way, either_way}
 use Rattle.dom_text.specs.Text.{output_text}
 use Rattle.dom_tree.specs.Forest.{name_at}
-use Rattle.dom_dispatch.specs.ListenersByName.{TellApart, IsListenerAt}
+use Rattle.dom_tree.specs.Apart.{TellApart}
+use Rattle.dom_dispatch.specs.ListenersByName.{IsListenerAt}
 use Rattle.dom_admission.specs.declared.admission.Operand.{Operand}
 use Rattle.dom_admission.specs.Handled.{IsDone, IsHandled, let_pass}
 use Rattle.dom_commands.specs.WithListeners.{heard, own_listeners}

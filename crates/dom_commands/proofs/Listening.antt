@@ -21,13 +21,14 @@ use Rattle.dom_model.specs.Names.{Word, owner_eq, name_eq, text_eq, node_of}
 use Rattle.dom_model.specs.World.{World, is_there}
 use Rattle.dom_model.proofs.OwnerLaws.{owner_eq-true, owner_eq-same, ne-owner_eq, name_eq-true}
 use Rattle.dom_model.proofs.PartLaws.{owner-part_of}
-use Rattle.dom_worlds.proofs.Lists.{all-filter, all-append}
+use Rattle.dom_worlds.proofs.Lists.{all-filter, all-append, filter-filter}
 use Rattle.dom_worlds.proofs.Tests.{by_cases, either_way}
 use Rattle.dom_tree.specs.Forest.{name_at}
+use Rattle.dom_tree.specs.Apart.{TellApart}
 use Rattle.dom_dispatch.specs.Kept.{is_of_owner, HasListeners}
-use Rattle.dom_dispatch.specs.ListenersByName.{TellApart, listener_named, IsListenerAt}
+use Rattle.dom_dispatch.specs.ListenersByName.{listener_named, IsListenerAt}
 use Rattle.dom_dispatch.proofs.Naming.{listened-named, unlistened-named}
-use Rattle.dom_dispatch.proofs.Narrowing.{filter-swap, filter-wider}
+use Rattle.dom_dispatch.proofs.Narrowing.{filter-wider}
 use Rattle.dom_admission.specs.Handled.{BeginsWith}
 use Rattle.dom_commands.specs.WithListeners.{heard, own_listeners}
 use Rattle.dom_commands.proofs.ListenerWorlds.{FitsIn, part-heard}
@@ -123,7 +124,7 @@ module _ (x : NodeName) where
   unlistened-own : (event label : Word) (capture : Bool) (ms : List (Listener NodeName)) →
       filter (is_of_owner x.owner) (unlistened name_eq x event label capture ms) ≡ unlistened name_eq x event label capture
       (filter (is_of_owner x.owner) ms)
-  unlistened-own event label capture ms = filter-swap (is_of_owner x.owner) (λ m. not (is_listener name_eq x event label capture m)) ms
+  unlistened-own event label capture ms = filter-filter (is_of_owner x.owner) (λ m. not (is_listener name_eq x event label capture m)) ms
 
   unlistened-other : (event label : Word) (capture : Bool) (o : Owner) → x.owner ≢ o → (ms : List (Listener NodeName)) →
       filter (is_of_owner o) (unlistened name_eq x event label capture ms) ≡ filter (is_of_owner o) ms

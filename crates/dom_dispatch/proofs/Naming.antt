@@ -19,8 +19,9 @@ use Rattle.dom_worlds.proofs.Tests.{by_cases}
 use Rattle.dom_worlds.proofs.Lists.{all-reverse}
 use Rattle.dom_slots.proofs.Hosted.{key-test}
 use Rattle.dom_tree.specs.Forest.{name_at}
+use Rattle.dom_tree.specs.Apart.{TellApart}
 use Rattle.dom_path.specs.Items.{view_named}
-use Rattle.dom_dispatch.specs.ListenersByName.{TellApart, listener_named, visit_named, line_named, dispatching_named, IsListenerAt, IsViewOf}
+use Rattle.dom_dispatch.specs.ListenersByName.{listener_named, visit_named, line_named, dispatching_named, IsListenerAt, IsViewOf}
 
 -- two lists mapped are both mapped
 map-join : {X Y : Type 0} (f : X → Y) (xs ys : List X) → map f (xs ++ ys) ≡ map f xs ++ map f ys

@@ -9,25 +9,9 @@ use Rattle.dom_model.specs.Command.{EventWords}
 use Rattle.dom_model.specs.Listeners.{Listener, Visit, Dispatching, after_action, may_cancel, line_of, is_listener, unlistened, kept_after, called}
 use Rattle.dom_model.specs.Listeners.{hears, visited}
 use Rattle.dom_worlds.proofs.Tests.{by_cases}
+use Rattle.dom_worlds.proofs.Lists.{filter-filter}
 
 module _ {X : Type 0} where
-  -- two tests in either order
-  pub filter-swap : (p q : X → Bool) (xs : List X) → filter p (filter q xs) ≡ filter q (filter p xs)
-  filter-swap p q [] = refl
-  filter-swap p q (x ∷ xs) =
-      let rest = filter-swap p q xs in
-      by_cases (p x)
-      (λ e. by_cases (q x)
-      (λ g. ap (filter p) (cond-true (q x) (x ∷ filter q xs) (filter q xs) g) ∙ cond-true (p x) (x ∷ filter p (filter q xs))
-      (filter p (filter q xs)) e ∙ ap (λ ys. x ∷ ys) rest
-      ∙ sym (ap (filter q) (cond-true (p x) (x ∷ filter p xs) (filter p xs) e) ∙ cond-true (q x) (x ∷ filter q (filter p xs)) (filter q (filter p xs)) g))
-      (λ g. ap (filter p) (cond-false (q x) (x ∷ filter q xs) (filter q xs) g) ∙ rest
-      ∙ sym (ap (filter q) (cond-true (p x) (x ∷ filter p xs) (filter p xs) e) ∙ cond-false (q x) (x ∷ filter q (filter p xs)) (filter q (filter p xs)) g)))
-      (λ e. by_cases (q x)
-      (λ g. ap (filter p) (cond-true (q x) (x ∷ filter q xs) (filter q xs) g) ∙ cond-false (p x) (x ∷ filter p (filter q xs)) (filter p (filter q xs)) e ∙ rest
-      ∙ sym (ap (filter q) (cond-false (p x) (x ∷ filter p xs) (filter p xs) e)))
-      (λ g. ap (filter p) (cond-false (q x) (x ∷ filter q xs) (filter q xs) g) ∙ rest
-      ∙ sym (ap (filter q) (cond-false (p x) (x ∷ filter p xs) (filter p xs) e))))
 
   -- a test that all pass which pass another one
   pub filter-wider : (p q : X → Bool) → ((x : X) → p x ≡ true → q x ≡ true) → (xs : List X) → filter p (filter q xs) ≡ filter p xs
@@ -62,7 +46,7 @@ module _ {N : Type 0} (same : N → N → Bool) (e : EventWords) where
       where
         by : (b : Bool) → filter c (if b then unlistened same l.node l.words.event l.words.label l.words.capture ls else ls)
             ≡ (if b then unlistened same l.node l.words.event l.words.label l.words.capture (filter c ls) else filter c ls)
-        by true = filter-swap c (λ m. not (is_listener same l.node l.words.event l.words.label l.words.capture m)) ls
+        by true = filter-filter c (λ m. not (is_listener same l.node l.words.event l.words.label l.words.capture m)) ls
         by false = refl
 
     -- one call

@@ -15,6 +15,7 @@ use Rattle.dom_model.specs.Output.{EventLine}
 use Rattle.dom_model.specs.Paths.{View}
 use Rattle.dom_model.specs.World.{part_of}
 use Rattle.dom_tree.specs.Forest.{NamedTrees, name_at}
+use Rattle.dom_tree.specs.Apart.{TellApart}
 use Rattle.dom_slots.specs.Hosts.{ShadowHost}
 use Rattle.dom_path.specs.declared.item.Item.{Item}
 use Rattle.dom_path.specs.declared.trees.Tree.{Tree}
@@ -23,7 +24,7 @@ use Rattle.dom_path.specs.PathNodes.{view_in}
 use Rattle.dom_dispatch.specs.declared.event.Outcome.{Outcome}
 use Rattle.dom_dispatch.specs.Dispatches.{IsDispatched, IsDispatchedIn}
 use Rattle.dom_dispatch.specs.Kept.{is_of_owner}
-use Rattle.dom_dispatch.specs.ListenersByName.{TellApart, listener_named, line_named, IsListenerAt, IsViewOf}
+use Rattle.dom_dispatch.specs.ListenersByName.{listener_named, line_named, IsListenerAt, IsViewOf}
 use Rattle.dom_dispatch.proofs.Among.{dispatched-along}
 
 -- one or none, mapped

@@ -10,7 +10,8 @@ use Rattle.dom_model.specs.Dispatch.{dispatch_in, event_output, visits_of}
 use Rattle.dom_model.specs.Paths.{View, views}
 use Rattle.dom_model.specs.World.{World, part_of}
 use Rattle.dom_path.specs.Items.{view_named}
-use Rattle.dom_dispatch.specs.ListenersByName.{TellApart, listener_named, line_named, IsListenerAt, IsViewOf}
+use Rattle.dom_dispatch.specs.ListenersByName.{listener_named, line_named, IsListenerAt, IsViewOf}
+use Rattle.dom_tree.specs.Apart.{TellApart}
 
 -- whether a listener is at an owner's node
 abbrev pub is_of_owner : Owner → Listener NodeName → Bool

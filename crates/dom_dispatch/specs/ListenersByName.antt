@@ -9,11 +9,8 @@ use Rattle.dom_model.specs.Listeners.{Listener, Visit, Dispatching, listened, un
 use Rattle.dom_model.specs.Paths.{View}
 use Rattle.dom_model.specs.Dispatch.{visits_of}
 use Rattle.dom_tree.specs.Forest.{name_at}
+use Rattle.dom_tree.specs.Apart.{TellApart}
 use Rattle.dom_path.specs.Items.{view_named}
-
--- names tell nodes apart
-abbrev pub TellApart : List NodeName → Type 0
-TellApart names = (j k : ℕ) → j < length names → k < length names → name_at names j ≡ name_at names k → j ≡ k
 
 module _ (names : List NodeName) where
   -- a listener by names

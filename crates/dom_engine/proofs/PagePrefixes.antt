@@ -13,7 +13,7 @@ use Rattle.dom_model.specs.Trace.{trace_of, no_component_stops}
 use Rattle.dom_text.specs.Lines.{Cut, cut_of, last_line, lines_of, begins_with, owner_prefix, page_lines, text_of_lines}
 use Rattle.dom_text.specs.Text.{output_line, output_text}
 use Rattle.dom_text.specs.Decode.{decode}
-use Rattle.dom_text.proofs.LineLaws.{lines_of-cut, cut_of-pieces}
+use Rattle.dom_text.proofs.LineLaws.{lines_of-cut, cut_of-pieces, cut_of-append}
 use Rattle.dom_text.proofs.OutputLaws.{text_of_lines-append, output_text-append}
 use Rattle.dom_isolation.proofs.PageRuns.{page_output-goes_on, first_lines-stop_nothing}
 use Rattle.dom_isolation.proofs.PlainLines.{decode-reads_plain_words}
@@ -67,15 +67,6 @@ page-at_end {view = view} {from = from} {to = to} {old = old} {new = new} r =
 
 -- ---- what more bytes add
 
--- to the lines of some
-lines_of-more : (bytes more : List ℕ) → lines_of (bytes ++ more) ≡ (cut_of bytes).finished ++ lines_of ((cut_of bytes).rest ++ more)
-lines_of-more bytes more =
-    let next = cut_of ((cut_of bytes).rest ++ more) in
-    lines_of-cut (bytes ++ more)
-    ∙ ap (λ (cut : Cut). cut.finished ++ last_line cut.rest) (cut_of-pieces bytes more)
-    ∙ append_assoc (cut_of bytes).finished next.finished (last_line next.rest)
-    ∙ ap (λ (ls : List (List ℕ)). (cut_of bytes).finished ++ ls) (sym (lines_of-cut ((cut_of bytes).rest ++ more)))
-
 -- to some first lines
 lines_of-taken : (count : ℕ) (bytes more : List ℕ) → (count ≤ length (cut_of bytes).finished) ⊎ (more ≡ [])
     → (others : List (List ℕ)) × (lines_of (bytes ++ more) ≡ take count (lines_of bytes) ++ others)
@@ -84,7 +75,7 @@ lines_of-taken count bytes more (inl few) =
     let later = lines_of ((cut_of bytes).rest ++ more) in
     let front = ap (take count) (lines_of-cut bytes) ∙ take-append-le count ended (last_line (cut_of bytes).rest) few in (
       drop count ended ++ later,
-      lines_of-more bytes more
+      cut_of-append bytes more
           ∙ ap (λ (ls : List (List ℕ)). ls ++ later) (sym (take-append-drop count ended))
           ∙ append_assoc (take count ended) (drop count ended) later
           ∙ ap (λ (ls : List (List ℕ)). ls ++ (drop count ended ++ later)) (sym front),
@@ -100,7 +91,7 @@ page-more lines others all e =
 
 -- lines that are ended
 page-ended : (bytes more : List ℕ) → (rest : List ℕ) × (page_text (bytes ++ more) ≡ page_text_so_far (cut_of bytes).finished ++ rest)
-page-ended bytes more = page-more (cut_of bytes).finished (lines_of ((cut_of bytes).rest ++ more)) (lines_of (bytes ++ more)) (lines_of-more bytes more)
+page-ended bytes more = page-more (cut_of bytes).finished (lines_of ((cut_of bytes).rest ++ more)) (lines_of (bytes ++ more)) (cut_of-append bytes more)
 
 -- ---- faults
 

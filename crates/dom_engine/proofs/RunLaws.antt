@@ -1,12 +1,11 @@
 -- Laws of the text of lines that are run one after another.
-use Rattle.std.proofs.Common.{◌≡◌, ℕ, List, [], ◌∷◌, ◌++◌, map, filter, Option, Some, None, refl, sym, ap, subst, ◌∙◌, append_assoc, append-nil, arith}
+use Rattle.std.proofs.Common.{◌≡◌, ℕ, List, [], ◌∷◌, ◌++◌, map, filter, Option, Some, None, refl, sym, ap, subst, ◌∙◌, append-nil, arith}
 use Rattle.std.proofs.lemmas.List.{map-append}
 use Rattle.std.proofs.lemmas.List.Elements.{filter-append}
 use Rattle.std.specs.Io.KnownBytes.{Appends}
 use Rattle.std.proofs.KnownBytes.{Appends-nil}
 use Rattle.dom_base.specs.declared.Owner.{Owner}
 use Rattle.dom_model.specs.Command.{Line}
-use Rattle.dom_model.specs.Output.{Output}
 use Rattle.dom_model.specs.Runs.{Run, run_then, run_each}
 use Rattle.dom_model.specs.World.{World}
 use Rattle.dom_model.specs.DocumentMachine.{first_world, step, run_lines, finish}
@@ -19,17 +18,9 @@ use Rattle.dom_text.proofs.OutputLaws.{text_of_lines-append, output_text-append}
 use Rattle.dom_text.specs.Decode.{decode}
 use Rattle.dom_engine.specs.Run.{world_after, answers, answers_to_end, ending, shown, WritesSome}
 use Rattle.dom_streams.specs.Views.{viewed}
+use Rattle.dom_isolation.proofs.PageRuns.{run_each-append}
 
 -- ---- runs
-
--- a run over two lists is a run over the first and then over the second
-run_each-append : {S A : Type 0} (f : S → A → Run S) (s : S) (xs ys : List A) → run_each f s (xs ++ ys) ≡ run_then (run_each f s xs) (λ t. run_each f t ys)
-run_each-append {S = S} f s [] ys = refl
-run_each-append {S = S} f s (x ∷ xs) ys =
-    let r = f s x in
-    let first = run_each f r.0 xs in
-    let second = run_each f first.0 ys in
-    ap (λ (m : Run S). (m.0, r.1 ++ m.1)) (run_each-append f r.0 xs ys) ∙ ap (λ (out : List Output). (second.0, out)) (sym (append_assoc r.1 first.1 second.1))
 
 -- ---- answers
 

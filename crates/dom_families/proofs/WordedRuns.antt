@@ -13,7 +13,7 @@ use Rattle.dom_base.specs.declared.Action.TheVariants.{Log, Stop, StopNow, Cance
 use Rattle.dom_base.specs.declared.Kind.TheVariants.{Shadow}
 use Rattle.dom_base.specs.declared.Refusal.{Refusal}
 use Rattle.dom_base.specs.declared.Refusal.TheVariants.{Syntax}
-use Rattle.dom_model.specs.Names.{name_eq, append_once, distinct}
+use Rattle.dom_model.specs.Names.{name_eq, append_once}
 use Rattle.dom_model.specs.Tree.{node_in, parent_of, inclusive_ancestors}
 use Rattle.dom_model.specs.Command.{Command, Line, no_owner, no_command, command, EventWords}
 use Rattle.dom_model.specs.CommandNames.{named}
@@ -22,8 +22,8 @@ use Rattle.dom_model.specs.DocumentMachine.{finish, outputs_of}
 use Rattle.dom_model.specs.Dispatch.{dispatch_in, world_visit, visits_of, event_output}
 use Rattle.dom_model.specs.Effects.{Effect, tables, changes, effect}
 use Rattle.dom_model.specs.Listeners.{Listener, Visit, Dispatching, begun, visited, called, hears, kept_after, after_action, may_cancel, line_of}
-use Rattle.dom_model.specs.Observers.{Registration, registrations_on, fits, copied_source, interested, target_of, transients_for, without_transients}
-use Rattle.dom_model.specs.Output.{Output, Change, bad_owner, EventLine, Said, says, nothing}
+use Rattle.dom_model.specs.Observers.{interested, target_of, transients_for, without_transients}
+use Rattle.dom_model.specs.Output.{Output, bad_owner, EventLine, Said, says, nothing}
 use Rattle.dom_model.specs.Part.{Part}
 use Rattle.dom_model.specs.Paths.{views}
 use Rattle.dom_model.specs.Runs.{Run, quiet, run_then, run_each, answering, refusing, unless_refused}
@@ -35,6 +35,7 @@ use Rattle.dom_model.specs.World.{World, Task, micro_task, notify_task, part_of,
 use Rattle.dom_model.specs.Trace.{owner_of_line}
 use Rattle.dom_model.proofs.PartLaws.{owner-part_of}
 use Rattle.dom_model.proofs.StepLaws.{owner-part_step}
+use Rattle.dom_model.proofs.ObserverLaws.{none_interested, none_transient}
 use Rattle.dom_text.proofs.TextLaws.{HasWord, HasOwner}
 use Rattle.dom_worlds.proofs.Lists.{all-append, all-from, all-then, all-map}
 use Rattle.dom_worlds.proofs.TableEffects.{KeepsBase, base-effect}
@@ -62,26 +63,6 @@ IsWordedWorld w = HoldsIn IsWorded IsWordedTask w
 -- a run that ends in such a world, and writes lines of such owners
 abbrev IsWordedRun : Run World → Type 0
 IsWordedRun r = IsWordedWorld r.0 × AllByRecursion HasOwner r.1
-
--- where there are no registrations there are none on a path
-none_on : (path : List NodeName) → registrations_on name_eq path [] ≡ []
-none_on [] = refl
-none_on (x ∷ path) = none_on path
-
--- so nobody is interested, and nothing is transient
-none_interested : (path : List NodeName) (c : Change NodeName) → interested name_eq path [] c ≡ []
-none_interested path c =
-    ap (λ (rs : List (Registration NodeName)). distinct nat_eq (map (λ (r : Registration NodeName). r.observer) (filter (fits name_eq c) rs))) (none_on path)
-
--- nothing is transient
-none_transient : (x : NodeName) (path : List NodeName) → transients_for name_eq x path [] ≡ []
-none_transient x path =
-    ap (λ (rs : List (Registration NodeName)). map (λ (r : Registration NodeName). record {
-      node = x;
-      observer = r.observer;
-      options = r.options;
-      source = copied_source name_eq r;
-    }) (filter (λ (r : Registration NodeName). r.options.subtree) rs)) (none_on path)
 
 -- A step leaves a silent part silent.
 silent-step : (p : Part) (s : Step) → IsSilent p → IsSilent (part_step p s)

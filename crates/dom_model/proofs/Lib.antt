@@ -5,3 +5,5 @@ pub mod OwnerTests
 pub mod PartLaws
 pub mod StepLaws
 pub mod TurnLaws
+pub mod KindLaws
+pub mod ObserverLaws

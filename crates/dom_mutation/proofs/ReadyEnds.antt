@@ -1,17 +1,18 @@
 -- Steps keep both ends of a live range at nodes of one tree, whatever else the part holds. The laws for this speak of all tables, so
 -- they are read of a part without the others.
-use Rattle.std.proofs.Common.{◌≡◌, ℕ, List, [], ◌∷◌, ◌++◌, filter, fold, map, Option, Some, None, refl, sym, ap, subst, ◌∙◌}
+use Rattle.std.proofs.Common.{◌≡◌, ℕ, List, [], ◌∷◌, ◌++◌, fold, Option, Some, None, refl, sym, ap, subst, ◌∙◌}
 use Rattle.std.specs.Prelude.{nat_eq, slice_set}
 use Rattle.std.specs.List.{AllByRecursion}
 use Rattle.std.specs.Option.{option_map_or}
 use Rattle.dom_base.specs.declared.NodeName.{NodeName}
-use Rattle.dom_model.specs.Names.{name_eq, distinct, append_once}
-use Rattle.dom_model.specs.Observers.{Registration, target_of, registrations_on, interested, fits, transients_for, copied_source}
+use Rattle.dom_model.specs.Names.{append_once}
+use Rattle.dom_model.specs.Observers.{Registration, target_of, fits}
 use Rattle.dom_model.specs.Output.{Change}
 use Rattle.dom_model.specs.Part.{Part, queue_of}
 use Rattle.dom_model.specs.Steps.{Step, make, make_room, place, take_out, set_document, set_attribute, replace_data, split_at, join_at, set_range}
 use Rattle.dom_model.specs.Steps.{queue_record, part_step, leave, after, record_in}
 use Rattle.dom_model.specs.Tree.{inclusive_ancestors, parent_of}
+use Rattle.dom_model.proofs.ObserverLaws.{none_interested, none_transient}
 use Rattle.dom_worlds.specs.Bounds.{HasBounds}
 use Rattle.dom_worlds.specs.Tables.{EndsIn, HasTables}
 use Rattle.dom_worlds.specs.Worlds.{IsPart}
@@ -22,22 +23,6 @@ use Rattle.dom_worlds.proofs.TableSteps.{Fits, MadeIn}
 abbrev pub bare : Part → Part
 bare p = record p { iterators = []; walkers = []; registrations = []; record_queues = []; pending = []; listeners = []; attached = [] }
 
--- there are no registrations on a path
-none-on : (path : List NodeName) → registrations_on name_eq path [] ≡ []
-none-on [] = refl
-none-on (x ∷ path) = none-on path
-
--- so nobody is interested, and nothing is copied
-none-interested : (path : List NodeName) (c : Change NodeName) → interested name_eq path [] c ≡ []
-none-interested path c = ap (λ (rs : List (Registration NodeName)). distinct nat_eq
-    (map (λ (r : Registration NodeName). r.observer) (filter (fits name_eq c) rs))) (none-on path)
-
-none-copied : (x : NodeName) (path : List NodeName) → transients_for name_eq x path [] ≡ []
-none-copied x path =
-    ap (λ (rs : List (Registration NodeName)). map
-    (λ (r : Registration NodeName). record { node = x; observer = r.observer; options = r.options; source = copied_source name_eq r })
-    (filter (λ (r : Registration NodeName). r.options.subtree) rs)) (none-on path)
-
 -- a step does the same with the others left out
 pub bare-step : (p : Part) (s : Step) → part_step (bare p) s ≡ bare (part_step p s)
 bare-step p (take_out x) = by (parent_of p.trees x)
@@ -45,12 +30,12 @@ bare-step p (take_out x) = by (parent_of p.trees x)
     by : (o : Option NodeName) → option_map_or (leave (bare p) x) o (bare p) ≡ bare (option_map_or (leave p x) o p)
     by None = refl
     by (Some parent) = ap (λ (rs : List (Registration NodeName)). record (bare (leave p x parent)) { registrations = rs })
-        (none-copied x (inclusive_ancestors p.trees parent))
+        (none_transient x (inclusive_ancestors p.trees parent))
 bare-step p (queue_record c) =
     let add : List (List (Change NodeName)) → ℕ → List (List (Change NodeName)) =
     λ queues k. slice_set queues k (queue_of queues k ++ record_in (bare p) c k ∷ []) in
     ap (λ (ks : List ℕ). record (bare p) { record_queues = fold add [] ks; pending = fold (append_once nat_eq) [] ks })
-    (none-interested (inclusive_ancestors p.trees (target_of c)) c)
+    (none_interested (inclusive_ancestors p.trees (target_of c)) c)
 bare-step p (make n) = refl
 bare-step p (make_room parent index count) = refl
 bare-step p (place x parent before) = refl

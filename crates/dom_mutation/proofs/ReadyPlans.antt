@@ -20,6 +20,7 @@ use Rattle.dom_model.specs.Steps.{Step, make, set_document, set_range, after}
 use Rattle.dom_model.specs.TextChanges.{replacing_data, splitting, normalizing, setting_text}
 use Rattle.dom_model.specs.Tree.{Trees, Node, has_node, kind_of, has_data, is_text, is_shadow, child_nodes, is_inclusive_ancestor}
 use Rattle.dom_model.specs.Validity.{first_refusal, has_parent, may_be_parent, may_be_inserted, placing_tests, insertion_refusal, replacement_refusal}
+use Rattle.dom_model.proofs.KindLaws.{parent-open}
 use Rattle.dom_worlds.specs.Bounds.{HasBounds, IsWithin}
 use Rattle.dom_worlds.specs.Tables.{EndsIn, HasEnds}
 use Rattle.dom_worlds.specs.Worlds.{IsPart}
@@ -64,15 +65,6 @@ record MayPlace (ts : Trees) (parent x : NodeName) : Type 0 where
   opened : has_data (kind_of ts parent) ≡ false
   plain : is_shadow (kind_of ts x) ≡ false
 
--- by the kinds
-parent-opened : (k : Kind) → may_be_parent k ≡ true → has_data k ≡ false
-parent-opened Text h = absurd (true≢false (sym h))
-parent-opened Comment h = absurd (true≢false (sym h))
-parent-opened Document h = refl
-parent-opened Fragment h = refl
-parent-opened Shadow h = refl
-parent-opened Element h = refl
-
 inserted-plain : (k : Kind) → may_be_inserted k ≡ true → is_shadow k ≡ false
 inserted-plain Shadow h = absurd (true≢false (sym h))
 inserted-plain Document h = refl
@@ -92,7 +84,7 @@ tested ts parent x is_lost others h =
     let d = next-test (not (may_be_inserted (kind_of ts x))) Hierarchy (drop 4 tests) c.1 in
     record {
       apart = b.0;
-      opened = parent-opened (kind_of ts parent) (not-false (may_be_parent (kind_of ts parent)) a.0);
+      opened = parent-open (kind_of ts parent) (not-false (may_be_parent (kind_of ts parent)) a.0);
       plain = inserted-plain (kind_of ts x) (not-false (may_be_inserted (kind_of ts x)) d.0);
     }
 

@@ -11,13 +11,14 @@ use Rattle.dom_model.specs.Names.{name_eq, first_of, is_in, items_before, items_
 use Rattle.dom_model.specs.Tree.{inclusive_descendants, is_inclusive_ancestor, subtree}
 use Rattle.dom_model.proofs.OwnerLaws.{name_eq-same}
 use Rattle.dom_slots.specs.Hosts.{ShadowHost, HostsAreNodes, root_of_host, root_named}
-use Rattle.dom_slots.proofs.Hosted.{AreDistinct, root-named, root-node}
+use Rattle.dom_slots.proofs.Hosted.{root-named, root-node}
 use Rattle.dom_tree.specs.Forest.{NamedTrees, name_at}
 use Rattle.dom_tree_laws.proofs.Covering.{walked, left, StandsIn, Walks, walks, first_inside, above_inside}
 use Rattle.dom_tree_laws.proofs.Relatives.{once_subtree}
 use Rattle.dom_tree_laws.proofs.Once.{names_once}
 use Rattle.dom_tree_laws.proofs.Paths.{IsOnce}
 use Rattle.dom_tree.proofs.Once.{times_in}
+use Rattle.dom_tree.specs.Apart.{TellApart}
 
 -- `deeper` has the names behind each shadow root, `earlier` those that were listed before
 module _ (f : NamedTrees) (hosts : List ShadowHost) (deeper : NodeName → List NodeName) (earlier : List NodeName) (top : ℕ) where
@@ -70,7 +71,7 @@ module _ (f : NamedTrees) (hosts : List ShadowHost) (deeper : NodeName → List 
       pub lists_fewer : left below (option_map (name_at f.names) next) < left below (option_map (name_at f.names) at)
       lists_fewer = subst (λ (o : Option ℕ). left below (option_map (name_at f.names) next) < left below (option_map (name_at f.names) o)) (sym is) walk.fewer
 
-      module _ (distinct : AreDistinct f.names) (nodes : HostsAreNodes f.names hosts) (near : ForSome next (λ j. j < length f.names)) where
+      module _ (distinct : TellApart f.names) (nodes : HostsAreNodes f.names hosts) (near : ForSome next (λ j. j < length f.names)) where
         -- the roots of the hosts among those that were looked at
         abbrev met : List NodeName
         met = filter_map (root_named f.names hosts) (items_before name_eq y below)

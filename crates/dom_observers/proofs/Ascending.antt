@@ -11,12 +11,13 @@ use Rattle.dom_model.specs.Names.{name_eq}
 use Rattle.dom_model.specs.Tree.{inclusive_ancestors, parent_of, nodes, names_of}
 use Rattle.dom_model.proofs.OwnerLaws.{name_eq-same, name_eq-other, name_eq-true}
 use Rattle.dom_tree.specs.Forest.{NamedTrees, name_at}
+use Rattle.dom_tree.specs.Apart.{TellApart}
 use Rattle.dom_traversal.proofs.Counts.{StandOnce, StandAlone, Once-forest, Has-forest}
 use Rattle.dom_traversal.proofs.Shapes.{above-parent, above-present, above-root, Has-above}
 use Rattle.dom_traversal.proofs.Lists.{In, is_in-from}
 use Rattle.dom_traversal.proofs.Children.{In-names}
 use Rattle.dom_observers.specs.Paths.{key_of, path_keys}
-use Rattle.dom_observers.specs.Naming.{IsKey, AreAll, TellApart}
+use Rattle.dom_observers.specs.Naming.{IsKey, AreAll}
 
 -- a name has its key back
 pub key_of-name : (names : List NodeName) → TellApart names → (k : ℕ) → k < length names → key_of names (name_at names k) ≡ k

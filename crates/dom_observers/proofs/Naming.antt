@@ -15,9 +15,10 @@ use Rattle.dom_model.specs.Observers.{registrations_on, fits, fitting, intereste
 use Rattle.dom_model.specs.Observers.{options_of, is_asked_for, stems_from, with_options, without_observer, without_transients}
 use Rattle.dom_model.proofs.OwnerLaws.{name_eq-same, name_eq-other}
 use Rattle.dom_tree.specs.Forest.{name_at}
+use Rattle.dom_tree.specs.Apart.{TellApart}
 use Rattle.dom_observers.specs.Tables.{TablesOf, queue_at}
 use Rattle.dom_observers.specs.Naming.{named_change, named_source, named_registration, named_tables, IsSourceOf, AreRegistered, AreAll, IsKey}
-use Rattle.dom_observers.specs.Naming.{TellApart, ObservingLaw, TakenLaw, ToldLaw, LeftLaw, MakingLaw, EmptiedLaw, DisconnectedLaw, NotifiedLaw}
+use Rattle.dom_observers.specs.Naming.{ObservingLaw, TakenLaw, ToldLaw, LeftLaw, MakingLaw, EmptiedLaw, DisconnectedLaw, NotifiedLaw}
 use Rattle.dom_observers.specs.Naming.{NoticesLaw}
 use Rattle.dom_observers.proofs.Folds.{list_any_of_map}
 use Rattle.dom_observers.proofs.Tables.{filter_of_map}

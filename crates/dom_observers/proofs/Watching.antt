@@ -15,10 +15,11 @@ use Rattle.dom_model.specs.Tree.{parent_of}
 use Rattle.dom_model.specs.Output.{Change}
 use Rattle.dom_model.specs.Observers.{Registration, registrations_on, asks_for, fits, interested, transients_for, target_of}
 use Rattle.dom_tree.specs.Forest.{NamedTrees, name_at}
+use Rattle.dom_tree.specs.Apart.{TellApart}
 use Rattle.dom_traversal.proofs.Counts.{StandOnce, StandAlone}
 use Rattle.dom_observers.specs.declared.registered.Registered.{Registered}
 use Rattle.dom_observers.specs.declared.watched.Watched.{Watched}
-use Rattle.dom_observers.specs.Naming.{IsKey, TellApart}
+use Rattle.dom_observers.specs.Naming.{IsKey}
 use Rattle.dom_observers.specs.Paths.{path_keys}
 use Rattle.dom_observers.specs.Taking.{Found, found_by, found_on, transient_copy, copied_by, copied_on}
 use Rattle.dom_observers.specs.Views.{registration_of}

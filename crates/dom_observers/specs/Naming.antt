@@ -7,6 +7,7 @@ use Rattle.dom_model.specs.Command.{ObserveWords}
 use Rattle.dom_model.specs.Output.{Change, child_list, attributes, character_data}
 use Rattle.dom_model.specs.Observers.{Registration, Source, asked_for, copied_from, copied_from_transient, target_of}
 use Rattle.dom_tree.specs.Forest.{name_at}
+use Rattle.dom_tree.specs.Apart.{TellApart}
 use Rattle.dom_observers.specs.Tables.{TablesOf, with_observer, emptied, disconnected, notices, notified, observing, is_taken, told, left}
 
 module _ {M N : Type 0} (f : M → N) where
@@ -66,10 +67,6 @@ pub record SpeaksOf {M : Type 0} (P : M → Type 0) (t : TablesOf M) : Type 0 wh
 -- keys of nodes with these names
 abbrev pub IsKey : List NodeName → ℕ → Type 0
 IsKey names k = k < length names
-
--- the names tell keys apart
-abbrev pub TellApart : List NodeName → Type 0
-TellApart names = (j k : ℕ) → j < length names → k < length names → name_at names j ≡ name_at names k → j ≡ k
 
 -- ---- the laws
 

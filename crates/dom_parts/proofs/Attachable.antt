@@ -21,10 +21,11 @@ use Rattle.dom_model.specs.World.{MayAttach, is_there, part_of, component_made, 
 use Rattle.dom_model.proofs.OwnerLaws.{owner_eq-false, word-made, may_attach-word, may_attach-from, name_eq-other}
 use Rattle.dom_slots.specs.Hosts.{ShadowHost, HostsAreNodes, root_of_host}
 use Rattle.dom_slots.specs.Kept.{SlotsNow, AreSlotsOf}
-use Rattle.dom_slots.proofs.Hosted.{AreDistinct, key-test}
+use Rattle.dom_slots.proofs.Hosted.{key-test}
 use Rattle.dom_tree.specs.Forest.{NamedTrees, name_at, next_name, count_of}
 use Rattle.dom_tree.specs.Owners.{trees_of_owner}
 use Rattle.dom_tree.proofs.Owned.{read_own}
+use Rattle.dom_tree.specs.Apart.{TellApart}
 use Rattle.dom_parts.specs.Contents.{part_in}
 use Rattle.dom_parts.specs.Hosting.{maker_of, hosts_of, host_names, attached_of, host_owners, AreMadeBehind}
 use Rattle.dom_parts.specs.AllTables.{AllTables}
@@ -36,7 +37,7 @@ use Rattle.dom_parts.proofs.HostsOfOwners.{count_hosts, own-host, other-host, ow
 use Rattle.dom_parts.proofs.Worlds.{In, part_at, there_in}
 
 -- a node is a host by its key where it is one by its name
-hosted_key : (names : List NodeName) → AreDistinct names → (hosts : List ShadowHost) → HostsAreNodes names hosts → (k : ℕ) → k < length names →
+hosted_key : (names : List NodeName) → TellApart names → (hosts : List ShadowHost) → HostsAreNodes names hosts → (k : ℕ) → k < length names →
     is_some (root_of_host hosts k) ≡ is_in name_eq (name_at names k) (host_names names hosts)
 hosted_key names distinct [] nodes k at = refl
 hosted_key names distinct (h ∷ hosts) nodes k at =
@@ -150,7 +151,7 @@ module _ (f : NamedTrees) (was : AllTables) (held : IsDoc f.names f.trees was) (
 
 -- ---- the refusal
 
-module _ (f : NamedTrees) (was : AllTables) (held : IsDoc f.names f.trees was) (distinct : AreDistinct f.names) (d : DocState)
+module _ (f : NamedTrees) (was : AllTables) (held : IsDoc f.names f.trees was) (distinct : TellApart f.names) (d : DocState)
     (is_d : state_from f.names f.trees was ≡ d) (host : ℕ)
     (within : host < length d.names) where
   abbrev hosted : Bool

@@ -21,11 +21,12 @@ use Rattle.dom_model.specs.Part.{Part}
 use Rattle.dom_model.specs.World.{World, MayAttach, with_part, is_there, component_made, made_by, shadow_root_of}
 use Rattle.dom_model.proofs.OwnerLaws.{owner_eq-true, owner_eq-false, owner_eq-same, ne-owner_eq, made_by-made, component_made-no_page, component_made-other}
 use Rattle.dom_slots.specs.Hosts.{ShadowHost, HostsAreNodes, root_of_host}
-use Rattle.dom_slots.proofs.Hosted.{AreDistinct, key-test}
+use Rattle.dom_slots.proofs.Hosted.{key-test}
 use Rattle.dom_tree.specs.Forest.{name_at, count_of}
 use Rattle.dom_tree.specs.Owners.{AreOwned, IsOwnChange, trees_of_owner}
 use Rattle.dom_tree.proofs.OwnPlacings.{added}
 use Rattle.dom_tree.proofs.Owned.{read_own}
+use Rattle.dom_tree.specs.Apart.{TellApart}
 use Rattle.dom_parts.specs.Contents.{Contents, Tables, part_with, part_in, world_of}
 use Rattle.dom_parts.specs.Hosting.{maker_of, hosts_of, IsMadeAs, AreMadeBehind, host_names, attached_of, host_owners, AreHostsOf, IsAttached}
 use Rattle.dom_parts.proofs.Numbers.{count_more}
@@ -44,7 +45,7 @@ made_pushed names earlier (g ∷ hosts) h made one =
     (made.0, made_pushed names (earlier ++ g ∷ []) hosts h made.1 (subst (λ gs. IsMadeAs names gs h) (sym (append_assoc earlier (g ∷ []) hosts)) one))
 
 -- a node that is no host by its name is none by its key: what `attach` of dom_slots asks of a host
-pub unhosted_key : (names : List NodeName) → AreDistinct names → (hosts : List ShadowHost) → HostsAreNodes names hosts → (k : ℕ) →
+pub unhosted_key : (names : List NodeName) → TellApart names → (hosts : List ShadowHost) → HostsAreNodes names hosts → (k : ℕ) →
     k < length names → is_in name_eq (name_at names k) (host_names names hosts) ≡ false → root_of_host hosts k ≡ None
 unhosted_key names distinct [] nodes k at off = refl
 unhosted_key names distinct (h ∷ hosts) nodes k at off =

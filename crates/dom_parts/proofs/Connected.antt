@@ -6,7 +6,6 @@ use Rattle.std.specs.Prelude.{option_to_list, count_by}
 use Rattle.std.specs.Option.{option_and_then, option_map_or}
 use Rattle.std.proofs.lemmas.Bool.{cases_Bool, true≢false}
 use Rattle.std.proofs.lemmas.List.{append-nil}
-use Rattle.std.proofs.lemmas.Option.{none-some, same_Some}
 use Rattle.dom_base.specs.declared.NodeName.{NodeName}
 use Rattle.dom_base.specs.declared.Owner.{Owner}
 use Rattle.std.specs.List.{last_or}
@@ -14,8 +13,9 @@ use Rattle.dom_model.specs.Names.{name_eq, last_of, owner_depth}
 use Rattle.dom_model.specs.Tree.{Trees, Node, nodes, inclusive_ancestors, kind_of, is_document, root_of}
 use Rattle.dom_model.specs.World.{World, part_of, host_of, host_above, some_if, shadow_root_of, hosts_from, ancestors_at, kind_at, root_at, is_connected}
 use Rattle.dom_model.proofs.OwnerLaws.{name_eq-true}
-use Rattle.dom_slots.specs.Hosts.{ShadowHost, HostsAreNodes, host_named}
+use Rattle.dom_slots.specs.Hosts.{host_named}
 use Rattle.dom_slots.specs.Shadows.{ShadowTrees, IsShownBy, shadows}
+use Rattle.dom_slots.proofs.Ended.{host-key}
 use Rattle.dom_traversal.proofs.Lists.{name_eq-from}
 use Rattle.dom_tree.specs.Forest.{NamedTrees, name_at}
 use Rattle.dom_tree.proofs.Once.{times_in}
@@ -153,15 +153,6 @@ module _ (s : ShadowTrees) (w : World) (shown : IsShownBy s w) (stands : (r h : 
 
 -- ---- in what is held
 
--- a host that is found is a node
-host_is_node : (names : List NodeName) (hosts : List ShadowHost) → HostsAreNodes names hosts → (r h : NodeName) → host_named names hosts r ≡ Some h →
-    (k : ℕ) × (k < length names) × (name_at names k ≡ h)
-host_is_node names [] nodes r h e = absurd (none-some h e)
-host_is_node names (g ∷ hosts) nodes r h e = elim (cases_Bool (name_eq r (name_at names g.root))) [
-  | inl is ↦ (g.host, nodes.0, same_Some (name_at names g.host) h (rw is at e))
-  | inr is ↦ host_is_node names hosts nodes.2 r h (rw is at e)
-]
-
 pub connected_held : (f : NamedTrees) {tables : AllTables} → IsDoc f.names f.trees tables →
     ((k : ℕ) → k < length f.names → count_by (λ n. name_eq n.name (name_at f.names k)) (nodes f.trees) ≡ 1) → (x : NodeName) →
     is_connected (world_from f.names f.trees tables) x ≡ is_document (kind_of f.trees (outermost_root (shadows f tables.slots.hosts)
@@ -172,7 +163,7 @@ connected_held f {tables} held once x =
   where
     stands : (r h : NodeName) → host_named f.names tables.slots.hosts r ≡ Some h → 1 ≤ times_in f.trees h
     stands r h e =
-        let is = host_is_node f.names tables.slots.hosts held.signals.slots.hosts r h e in
+        let is = host-key f.names tables.slots.hosts held.signals.slots.hosts r h e in
         let times = times_count f.trees (name_at f.names is.0) in
         let one = once is.0 is.1 in
         subst (λ (y : NodeName). 1 ≤ times_in f.trees y) is.2 (omega (arith, times, one))

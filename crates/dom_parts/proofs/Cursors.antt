@@ -40,11 +40,6 @@ same_item [] k x e = refl
 same_item (z ∷ xs) zero x e = ap (λ y. y ∷ xs) (sym (same_Some z x e))
 same_item (z ∷ xs) (suc k) x e = ap (λ ys. z ∷ ys) (same_item xs k x e)
 
--- an item that is there
-pub item_there : {X : Type 0} (o : Option X) → is_some o ≡ true → (x : X) × (o ≡ Some x)
-item_there None h = cc
-item_there (Some x) h = (x, refl)
-
 is_some_map : {X Y : Type 0} (f : X → Y) (o : Option X) → is_some (option_map f o) ≡ is_some o
 is_some_map f None = refl
 is_some_map f (Some x) = refl

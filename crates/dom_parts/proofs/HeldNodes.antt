@@ -25,6 +25,7 @@ use Rattle.dom_model.proofs.OwnerLaws.{owner_eq-same, owner_eq-true, ne-owner_eq
 use Rattle.dom_tree.specs.Forest.{NamedTrees, name_at, next_name, count_of}
 use Rattle.dom_tree.specs.Owners.{trees_of_owner, IsOwnChange}
 use Rattle.dom_tree.proofs.OwnPlacings.{added}
+use Rattle.dom_tree.specs.Apart.{TellApart}
 use Rattle.dom_ranges.specs.Settings.{named_ranges}
 use Rattle.dom_ranges.specs.Tables.{RangeLists, ranges_of}
 use Rattle.dom_observers.specs.Naming.{IsKey}
@@ -150,10 +151,6 @@ abbrev pub Added : NamedTrees → AllTables → Owner → (List NodeName → Nod
 Added g tables o n r d =
     OnOk r (g.names ≡ d.names ++ part_next (part_of d.world o) ∷ [])
     × OnOk r (world_from g.names g.trees tables ≡ world_step o d.world (make (n d.names (part_next (part_of d.world o)))))
-
--- names that tell the nodes apart
-abbrev pub TellApart : List NodeName → Type 0
-TellApart names = (j k : ℕ) → j < length names → k < length names → name_at names j ≡ name_at names k → j ≡ k
 
 module _ (f g : NamedTrees) {tables : AllTables} (held : IsDoc f.names f.trees tables) (o : Owner)
     (there : is_there (world_from f.names f.trees tables) o ≡ true)

@@ -20,9 +20,10 @@ use Rattle.dom_model.specs.Turns.{notified}
 use Rattle.dom_model.specs.World.{part_of, with_part, is_there}
 use Rattle.dom_model.specs.Effects.{Effect, effect}
 use Rattle.dom_tree.specs.Forest.{NamedTrees, name_at}
+use Rattle.dom_tree.specs.Apart.{TellApart}
 use Rattle.dom_observers.specs.Tables.{TablesOf, no_tables as no_observers, with_observer, observing, disconnected, emptied, notices as keyed_notices}
 use Rattle.dom_observers.specs.Tables.{notified as keyed_notified}
-use Rattle.dom_observers.specs.Naming.{named_tables, named_change, IsKey, SpeaksOf, IsChangeAt, AreAll, TellApart}
+use Rattle.dom_observers.specs.Naming.{named_tables, named_change, IsKey, SpeaksOf, IsChangeAt, AreAll}
 use Rattle.dom_observers.proofs.Naming.{making_law, observing_law, disconnected_law, emptied_law, notified_law, notices_law}
 use Rattle.dom_observers.specs.Views.{change_of, notice_of}
 use Rattle.dom_observers.specs.declared.change.Change.{Change as Record}

@@ -1,10 +1,10 @@
 -- What cursors read of an owner's nodes in the trees of all owners is what they read in the owner's own trees.
-use Rattle.std.proofs.Common.{◌≡◌, ◌⊎◌, Bool, true, false, ◌&&◌, ◌||◌, List, [], ◌∷◌, ◌++◌, Option, Some, None, refl, ap, subst, ◌∙◌, inl, inr}
+use Rattle.std.proofs.Common.{◌≡◌, Bool, true, false, ◌&&◌, ◌||◌, List, [], ◌∷◌, ◌++◌, Option, Some, None, refl, ap, subst, ◌∙◌, inl, inr}
 use Rattle.std.specs.Prelude.{filter, find, drop, if◌then◌else◌}
 use Rattle.std.specs.List.{list_any, list_all, last_or}
 use Rattle.std.proofs.lemmas.Option.{none-some, same_Some}
 use Rattle.dom_base.specs.declared.NodeName.{NodeName}
-use Rattle.dom_model.specs.Names.{name_eq, items_before, items_after, first_of, last_of}
+use Rattle.dom_model.specs.Names.{name_eq, items_before, first_of, last_of}
 use Rattle.dom_traversal.proofs.Lists.{In}
 use Rattle.dom_tree_laws.proofs.Relatives.{Each}
 
@@ -17,22 +17,6 @@ filter_same p q (x ∷ xs) h = ap (λ b. if b then x ∷ filter p xs else filter
 pub each_in : (P : NodeName → Type 0) (xs : List NodeName) → ((y : NodeName) → In y xs → P y) → Each P xs
 each_in P [] h = tt
 each_in P (x ∷ xs) h = (h x (inl refl), each_in P xs (λ y i. h y (inr i)))
-
-pub In-after : (x y : NodeName) (xs : List NodeName) → In y (items_after name_eq x xs) → In y xs
-In-after x y [] i = i
-In-after x y (z ∷ xs) i = by (name_eq x z) i (In-after x y xs)
-  where
-    by : (b : Bool) → In y (if b then xs else items_after name_eq x xs) → (In y (items_after name_eq x xs) → In y xs) → (y ≡ z) ⊎ In y xs
-    by true i deeper = inr i
-    by false i deeper = inr (deeper i)
-
-pub each_after : (P : NodeName → Type 0) (x : NodeName) (xs : List NodeName) → Each P xs → Each P (items_after name_eq x xs)
-each_after P x [] h = tt
-each_after P x (z ∷ xs) h = by (name_eq x z) (each_after P x xs h.1)
-  where
-    by : (b : Bool) → Each P (items_after name_eq x xs) → Each P (if b then xs else items_after name_eq x xs)
-    by true g = h.1
-    by false g = g
 
 pub each_before : (P : NodeName → Type 0) (x : NodeName) (xs : List NodeName) → Each P xs → Each P (items_before name_eq x xs)
 each_before P x [] h = tt

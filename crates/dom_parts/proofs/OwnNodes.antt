@@ -19,9 +19,9 @@ use Rattle.dom_model.specs.Traversal.{walker_step, walker_move, nodes_ahead, nod
 use Rattle.dom_model.specs.Command.{Filter}
 use Rattle.dom_tree.specs.Owners.{AreOwned, trees_of_owner}
 use Rattle.dom_tree.proofs.Owned.{read_own, stays_own}
-use Rattle.dom_traversal.proofs.Lists.{In, is_in-from}
-use Rattle.dom_tree_laws.proofs.Relatives.{Each, each_all}
-use Rattle.dom_parts.proofs.Own.{filter_same, each_in, In-after, each_after, each_before, each_append, each_drop, all_same, any_same, find_same}
+use Rattle.dom_traversal.proofs.Lists.{In, is_in-from, after-in}
+use Rattle.dom_tree_laws.proofs.Relatives.{Each, each_all, behind_all}
+use Rattle.dom_parts.proofs.Own.{filter_same, each_in, each_before, each_append, each_drop, all_same, any_same, find_same}
 use Rattle.dom_parts.proofs.Own.{each_filter, each_first, each_last, each_find}
 
 -- ---- an owner's nodes
@@ -57,7 +57,7 @@ module _ (ts : Trees) (owned : AreOwned ts) (o : Owner) where
       let behind : filter (λ y. not (is_inclusive_ancestor ts x y)) (items_after name_eq x all) ≡ filter
       (λ y. not (is_inclusive_ancestor (trees_of_owner o ts) x y)) (items_after name_eq x all) =
       filter_same _ _ (items_after name_eq x all)
-      (each_in _ (items_after name_eq x all) (λ y j. ap not (above_own x y (owner_inside i.root y own_root (In-after x y all j))))) in
+      (each_in _ (items_after name_eq x all) (λ y j. ap not (above_own x y (owner_inside i.root y own_root (after-in x y all j))))) in
       ap (λ b. with_tests b (is_inclusive_ancestor ts x i.reference)
       (first_of (filter (λ y. not (is_inclusive_ancestor ts x y)) (items_after name_eq x all))) (last_of (items_before name_eq x all)))
       (above_own x i.root own_root)
@@ -84,7 +84,7 @@ module _ (ts : Trees) (owned : AreOwned ts) (o : Owner) where
     all_own = each_in (λ y. y.owner ≡ o) (inclusive_descendants ts i.root) (λ y j. owner_inside i.root y own_root j)
 
     ahead_own : Each (λ y. y.owner ≡ o) (nodes_ahead ts i)
-    ahead_own = by i.before (each_after (λ y. y.owner ≡ o) i.reference (inclusive_descendants ts i.root) all_own)
+    ahead_own = by i.before (behind_all (λ y. y.owner ≡ o) i.reference (inclusive_descendants ts i.root) all_own)
       where
         by : (b : Bool) → Each (λ y. y.owner ≡ o) (items_after name_eq i.reference (inclusive_descendants ts i.root))
             → Each (λ y. y.owner ≡ o) (if b then i.reference ∷ items_after name_eq i.reference (inclusive_descendants ts i.root) else items_after
@@ -240,7 +240,7 @@ module _ (ts : Trees) (owned : AreOwned ts) (o : Owner) where
     front_own = each_before (λ y. y.owner ≡ o) w.current (inclusive_descendants ts w.root) (owners_below w.root own_root)
 
     back_own : Each (λ y. y.owner ≡ o) (items_after name_eq w.current (inclusive_descendants ts w.root))
-    back_own = each_after (λ y. y.owner ≡ o) w.current (inclusive_descendants ts w.root) (owners_below w.root own_root)
+    back_own = behind_all (λ y. y.owner ≡ o) w.current (inclusive_descendants ts w.root) (owners_below w.root own_root)
 
     step_own : (m : Move) → walker_step ts w m ≡ walker_step (trees_of_owner o ts) w m
     step_own Parent = parent_own
@@ -326,7 +326,7 @@ module _ (ts : Trees) (owned : AreOwned ts) (o : Owner) where
 
   pub next_near : (x y : NodeName) → x.owner ≡ o → next_sibling ts x ≡ Some y → y.owner ≡ o
   next_near x y own e = each_first (λ z. z.owner ≡ o) (items_after name_eq x (siblings ts x)) y
-      (each_after (λ z. z.owner ≡ o) x (siblings ts x) (siblings_near x own)) e
+      (behind_all (λ z. z.owner ≡ o) x (siblings ts x) (siblings_near x own)) e
 
   pub previous_near : (x y : NodeName) → x.owner ≡ o → previous_sibling ts x ≡ Some y → y.owner ≡ o
   previous_near x y own e = each_last (λ z. z.owner ≡ o) (items_before name_eq x (siblings ts x)) y

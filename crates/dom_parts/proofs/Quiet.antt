@@ -1,17 +1,14 @@
 -- Where there are no registrations no record is taken.
-use Rattle.std.proofs.Common.{◌≡◌, ℕ, false, not, List, [], ◌∷◌, ◌++◌, map, filter, fold, refl, ap, ◌∙◌}
+use Rattle.std.proofs.Common.{◌≡◌, ℕ, false, not, List, [], ◌∷◌, ◌++◌, map, filter, fold, ap, ◌∙◌}
 use Rattle.std.specs.Prelude.{slice_set, nat_eq}
 use Rattle.dom_base.specs.declared.NodeName.{NodeName}
 use Rattle.dom_model.specs.Names.{name_eq, distinct, append_once, is_empty}
 use Rattle.dom_model.specs.Tree.{inclusive_ancestors}
-use Rattle.dom_model.specs.Observers.{Registration, registrations_on, target_of, fits, interested}
+use Rattle.dom_model.specs.Observers.{Registration, target_of, fits, interested}
 use Rattle.dom_model.specs.Output.{Change}
 use Rattle.dom_model.specs.Part.{Part, queue_of}
 use Rattle.dom_model.specs.Steps.{queue_record, part_step, interested_in, is_taken, record_in}
-
-pub registrations_none : (path : List NodeName) → registrations_on name_eq path [] ≡ []
-registrations_none [] = refl
-registrations_none (x ∷ path) = registrations_none path
+use Rattle.dom_model.proofs.ObserverLaws.{registrations_none}
 
 -- no observer is interested
 none_interested : (p : Part) → p.registrations ≡ [] → (c : Change NodeName) → interested_in p c ≡ []

@@ -27,6 +27,7 @@ use Rattle.dom_traversal.proofs.Counts.{StandOnce, StandAlone}
 use Rattle.dom_tree.specs.Forest.{NamedTrees, name_at, count_of}
 use Rattle.dom_tree.specs.Owners.{IsOwnChange}
 use Rattle.dom_tree.proofs.OwnPlacings.{changed_node}
+use Rattle.dom_tree.specs.Apart.{TellApart}
 use Rattle.dom_slots.specs.Kept.{AreSlotsOf}
 use Rattle.dom_parts.specs.Contents.{part_in, part_with}
 use Rattle.dom_parts.specs.Doc.{DocState, named_trees, contents, state_from, world_from, IsDoc, name_in, owner_in, trees_in, stepped, planned}
@@ -35,7 +36,6 @@ use Rattle.dom_parts.specs.AllTables.{AllTables, with_live}
 use Rattle.dom_parts.specs.Ranging.{AreRangesOf}
 use Rattle.dom_parts.proofs.BoundedPlans.{length_few}
 use Rattle.dom_parts.proofs.DocInvariant.{are_hosts, held_changed, due_kept}
-use Rattle.dom_parts.proofs.HeldNodes.{TellApart}
 use Rattle.dom_parts.proofs.OwnParts.{own_part}
 use Rattle.dom_parts.proofs.RangedFits.{room_fits, data_fits, data_fits_shorter, join_fits}
 use Rattle.dom_parts.proofs.RangedSteps.{data_ranged}

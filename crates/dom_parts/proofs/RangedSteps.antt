@@ -14,7 +14,7 @@ use Rattle.dom_model.specs.Steps.{make_room, take_out, replace_data, split_at, j
 use Rattle.dom_model.specs.Traversal.{adjusted_iterator}
 use Rattle.dom_model.specs.Tree.{parent_of, index_of, inclusive_ancestors, is_inclusive_ancestor}
 use Rattle.dom_model.specs.TreeChanges.{taken_out, change_node, with_data_replaced}
-use Rattle.dom_ranges.specs.Naming.{AreApart, IsNamedRule, KeepsNodes, named_ends_by}
+use Rattle.dom_ranges.specs.Naming.{IsNamedRule, KeepsNodes, named_ends_by}
 use Rattle.dom_ranges.specs.Rules.{Fits, is_inside}
 use Rattle.dom_ranges.specs.Settings.{named_ranges}
 use Rattle.dom_ranges.specs.Tables.{RangeLists, EachRange, BothEnds, ends_by, ranges_of}
@@ -22,6 +22,7 @@ use Rattle.dom_ranges.proofs.Naming.{insert-named, removal-named, replace_data-n
 use Rattle.dom_tree.specs.Forest.{name_at}
 use Rattle.dom_tree.specs.Owners.{AreOwned}
 use Rattle.dom_tree.proofs.Owned.{read_own, stays_own}
+use Rattle.dom_tree.specs.Apart.{TellApart}
 use Rattle.dom_parts.specs.Contents.{Contents, part_in}
 use Rattle.dom_parts.specs.Doc.{named_trees}
 use Rattle.dom_parts.specs.Ranging.{AreOwnRanges, AreRangesOf, ranged, IsRuleOf}
@@ -71,7 +72,7 @@ same_part c o = record { owners = refl; signalled = refl; tasks = refl; own = re
 
 -- ---- the steps
 
-module _ (c : Contents) (t u : RangeLists) (ranges : AreRangesOf c t) (apart : AreApart c.names) (o : Owner) where
+module _ (c : Contents) (t u : RangeLists) (ranges : AreRangesOf c t) (apart : TellApart c.names) (o : Owner) where
   -- what holds after a step whose rule over keys is f
   abbrev pub Holds : (Boundary ℕ → Boundary ℕ) → Contents → Type 0
   Holds f b = ((q : Owner) → EachRange (BothEnds (λ p. Fits (f p))) (ranges_of t q)) → AreRangesOf (ranged u b) u

@@ -9,11 +9,11 @@ use Rattle.dom_model.specs.Steps.{make_room, replace_data, split_at, join_at}
 use Rattle.dom_model.specs.TreeChanges.{change_node, with_data_replaced}
 use Rattle.dom_model.specs.World.{is_there}
 use Rattle.dom_model.specs.WorldSteps.{world_step}
-use Rattle.dom_ranges.specs.Naming.{AreApart}
 use Rattle.dom_ranges.specs.Tables.{RangeLists, ends_by, ranges_of}
 use Rattle.dom_slots.specs.Hosts.{ShadowHost}
 use Rattle.dom_tree.specs.Forest.{name_at, count_of}
 use Rattle.dom_tree.specs.Owners.{IsOwnChange}
+use Rattle.dom_tree.specs.Apart.{TellApart}
 use Rattle.dom_parts.specs.Contents.{Contents, part_with, world_of}
 use Rattle.dom_parts.specs.Hosting.{AreHostsOf}
 use Rattle.dom_parts.specs.Ranging.{AreRangesOf, ranged}
@@ -21,7 +21,7 @@ use Rattle.dom_parts.proofs.HostedSteps.{plain_step}
 use Rattle.dom_parts.proofs.RangedSteps.{room_ranged, data_ranged, split_ranged, join_ranged}
 
 module _ (c : Contents) (hosts : List ShadowHost) (held : AreHostsOf c hosts) (t u : RangeLists) (ranges : AreRangesOf c t)
-    (apart : AreApart c.names) (o : Owner) (there : is_there (world_of c) o ≡ true) where
+    (apart : TellApart c.names) (o : Owner) (there : is_there (world_of c) o ≡ true) where
   -- room is made for children of a node
   pub room_told : (parent index count : ℕ) → parent < length c.names → (name_at c.names parent).owner ≡ o →
       ((q : Owner) → ranges_of u q ≡ ends_by (after_insert nat_eq parent index count) (ranges_of t q))

@@ -14,10 +14,11 @@ use Rattle.dom_model.specs.WorldSteps.{world_step}
 use Rattle.dom_tree.specs.Forest.{NamedTrees, name_at}
 use Rattle.dom_tree.specs.Owners.{trees_of_owner}
 use Rattle.dom_tree.proofs.Owned.{read_own}
+use Rattle.dom_tree.specs.Apart.{TellApart}
 use Rattle.dom_traversal.proofs.Counts.{StandOnce, StandAlone}
 use Rattle.dom_observers.specs.Tables.{TablesOf, is_taken as keyed_taken, told as keyed_told}
 use Rattle.dom_observers.specs.Paths.{path_keys}
-use Rattle.dom_observers.specs.Naming.{named_tables, named_change, IsKey, IsChangeAt, AreAll, TellApart}
+use Rattle.dom_observers.specs.Naming.{named_tables, named_change, IsKey, IsChangeAt, AreAll}
 use Rattle.dom_observers.proofs.Naming.{taken_law, told_law}
 use Rattle.dom_observers.proofs.Ascending.{path_keys-named}
 use Rattle.dom_observers.proofs.Speaking.{speaks_told}

@@ -20,13 +20,14 @@ use Rattle.dom_tree.specs.Forest.{NamedTrees, name_at}
 use Rattle.dom_tree.specs.Owners.{IsOwnChange}
 use Rattle.dom_tree.proofs.Owned.{read_own}
 use Rattle.dom_tree.proofs.OwnPlacings.{taken}
+use Rattle.dom_tree.specs.Apart.{TellApart}
 use Rattle.dom_model.specs.Ranges.{after_removal}
 use Rattle.dom_ranges.specs.Rules.{is_inside}
 use Rattle.dom_ranges.specs.Tables.{RangeLists, ends_by, ranges_of}
 use Rattle.dom_traversal.proofs.Counts.{StandOnce, StandAlone}
 use Rattle.dom_observers.specs.Tables.{TablesOf, no_tables as no_observers, left as keyed_left}
 use Rattle.dom_observers.specs.Paths.{path_keys}
-use Rattle.dom_observers.specs.Naming.{IsKey, SpeaksOf, TellApart}
+use Rattle.dom_observers.specs.Naming.{IsKey, SpeaksOf}
 use Rattle.dom_parts.specs.Contents.{Contents, part_in, world_of}
 use Rattle.dom_parts.specs.Hosting.{host_owners, signals_in}
 use Rattle.dom_node_trees.specs.Signalled.{SignalTables, HasSignalled, HasLeft}

@@ -9,9 +9,10 @@ use Rattle.dom_base.specs.declared.NodeName.{NodeName}
 use Rattle.dom_model.specs.Names.{name_eq, is_in}
 use Rattle.dom_model.specs.Tree.{root_of}
 use Rattle.dom_tree.specs.Forest.{NamedTrees, name_at}
+use Rattle.dom_tree.specs.Apart.{TellApart}
 use Rattle.dom_slots.specs.Hosts.{ShadowHost, host_named}
 use Rattle.dom_slots.specs.Shadows.{ShadowTrees, shadows}
-use Rattle.dom_slots.proofs.Hosted.{AreDistinct, key-test, is_some-named}
+use Rattle.dom_slots.proofs.Hosted.{key-test, is_some-named}
 use Rattle.dom_path.specs.declared.trees.Tree.{Tree}
 use Rattle.dom_path.specs.Hosted.{IsHosted}
 use Rattle.dom_path.specs.Nests.{AreNested, roots_up, roots_around, hiding_host, outer_of, seen_up, seen_from}
@@ -43,7 +44,7 @@ module _ (s : ShadowTrees) where
   ends-outside (suc depth) x e = λ h g. let both : None ≡ Some h = sym e ∙ g in cc
 
 -- the test of a key among others is that of its name
-in-named : (names : List NodeName) → AreDistinct names → (k : ℕ) (ks : List ℕ) → k < length names → AllByRecursion (λ j. j < length names) ks
+in-named : (names : List NodeName) → TellApart names → (k : ℕ) (ks : List ℕ) → k < length names → AllByRecursion (λ j. j < length names) ks
     → is_in nat_eq k ks ≡ is_in name_eq (name_at names k) (map (name_at names) ks)
 in-named names distinct k [] h g = refl
 in-named names distinct k (j ∷ ks) h g = λ i. key-test names distinct k j h g.0 i || in-named names distinct k ks h g.1 i
@@ -101,7 +102,7 @@ module _ (f : NamedTrees) (hosts : List ShadowHost) (trees : List Tree) (are : A
 
 -- ---- by names
 
-module _ (f : NamedTrees) (hosts : List ShadowHost) (distinct : AreDistinct f.names) (trees : List Tree) (nested : AreNested trees)
+module _ (f : NamedTrees) (hosts : List ShadowHost) (distinct : TellApart f.names) (trees : List Tree) (nested : AreNested trees)
     (are : AreTrees f hosts trees)
     (depth : ℕ) (hosted : IsHosted f hosts depth) where
   abbrev name : ℕ → NodeName

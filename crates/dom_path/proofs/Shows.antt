@@ -8,9 +8,10 @@ use Rattle.dom_base.specs.declared.NodeName.{NodeName}
 use Rattle.dom_model.specs.Names.{name_eq}
 use Rattle.dom_worlds.proofs.Tests.{by_cases}
 use Rattle.dom_tree.specs.Forest.{NamedTrees, name_at}
+use Rattle.dom_tree.specs.Apart.{TellApart}
 use Rattle.dom_slots.specs.Hosts.{ShadowHost}
 use Rattle.dom_slots.specs.Shadows.{ShadowTrees, shadows, is_assigned_at}
-use Rattle.dom_slots.proofs.Hosted.{AreDistinct, key-test}
+use Rattle.dom_slots.proofs.Hosted.{key-test}
 use Rattle.dom_path.specs.declared.item.Item.{Item}
 use Rattle.dom_path.specs.declared.trees.Tree.{Tree}
 use Rattle.dom_path.specs.Built.{IsItemOf, IsBuilt, GoesOn}
@@ -26,7 +27,7 @@ key_if-named : (names : List NodeName) (b : Bool) (k : ℕ) → option_map (name
 key_if-named names true k = refl
 key_if-named names false k = refl
 
-module _ (f : NamedTrees) (hosts : List ShadowHost) (distinct : AreDistinct f.names) (t : NodeName) (r : Option NodeName) (composed : Bool)
+module _ (f : NamedTrees) (hosts : List ShadowHost) (distinct : TellApart f.names) (t : NodeName) (r : Option NodeName) (composed : Bool)
     (trees : List Tree) (are : AreTrees f hosts trees)
     (depth : ℕ) (hosted : IsHosted f hosts depth) where
   abbrev s : ShadowTrees

@@ -24,21 +24,11 @@ use Rattle.dom_tree.proofs.Owned.{read_own, stays_own}
 use Rattle.dom_traversal.proofs.Lists.{name_eq-from}
 use Rattle.dom_slots.specs.Hosts.{ShadowHost, host_named, root_named}
 use Rattle.dom_slots.specs.Shadows.{ShadowTrees, shadows, IsShownBy, slot_at, is_assigned_at}
-use Rattle.dom_slots.proofs.Shown.{slot-shown}
+use Rattle.dom_slots.proofs.Shown.{slot-shown, some_if-dropped, some_if-kept}
 use Rattle.dom_path.specs.Hosted.{IsHosted}
 use Rattle.dom_path.specs.Items.{IsWorldOf}
 use Rattle.dom_path.specs.Ways.{host_above_at, EndsWithin, chain_at, is_hidden_at, seen_at, related_at, event_parent_at, ends_at, is_empty_at}
 use Rattle.dom_path.proofs.Places.{chain-alone, chain-host, ends-outside}
-
--- a value that is there is kept, or not
-kept : (o : Option NodeName) (b : Bool) → b ≡ true → option_and_then (some_if b) o ≡ o
-kept None b e = refl
-kept (Some x) b e = ap (λ c. some_if c x) e
-
--- one that is not
-dropped : (o : Option NodeName) (b : Bool) → b ≡ false → option_and_then (some_if b) o ≡ None
-dropped None b e = refl
-dropped (Some x) b e = ap (λ c. some_if c x) e
 
 module _ (f : NamedTrees) (hosts : List ShadowHost) (w : World) (is : IsWorldOf f hosts w) where
   abbrev s : ShadowTrees
@@ -70,10 +60,10 @@ module _ (f : NamedTrees) (hosts : List ShadowHost) (w : World) (is : IsWorldOf 
       let o = Rattle.dom_model.specs.World.host_of w x.owner in
       let its = shadow_root_of x.owner in
       ap (λ y. option_and_then (some_if (name_eq y its)) o) (root-is x) ∙ elim (cases_Bool (name_eq r its)) [
-        | inl e ↦ kept o (name_eq r its) e ∙ (sym (shown.hosts x.owner) ∙ ap s.host_of (sym (name_eq-true r its e)))
+        | inl e ↦ some_if-kept o (name_eq r its) e ∙ (sym (shown.hosts x.owner) ∙ ap s.host_of (sym (name_eq-true r its e)))
         | inr e ↦
             let owner : r.owner ≡ x.owner = (stays_own f.trees shown.owned x.owner x refl).root in
-            dropped o (name_eq r its) e ∙ sym (shown.only r (λ same. both_ways _ e (name_eq-from r its (same ∙ ap shadow_root_of owner))))
+            some_if-dropped o (name_eq r its) e ∙ sym (shown.only r (λ same. both_ways _ e (name_eq-from r its (same ∙ ap shadow_root_of owner))))
       ]
 
   -- ---- chains of hosts

@@ -7,12 +7,13 @@ use Rattle.dom_model.specs.Names.{DomString, name_eq}
 use Rattle.dom_model.specs.Slots.{slot_in, has_slot_name, slottable_name}
 use Rattle.dom_model.specs.Tree.{Trees, Node, nodes, names_of, node_in, parent_of, root_of, subtree}
 use Rattle.dom_tree.specs.Forest.{NamedTrees, name_at}
+use Rattle.dom_tree.specs.Apart.{TellApart}
 use Rattle.dom_traversal.proofs.Children.{Has-names}
 use Rattle.dom_traversal.proofs.Lists.{In}
 use Rattle.dom_traversal.proofs.Shapes.{Has, Once}
 use Rattle.dom_slots.specs.Hosts.{ShadowHost, host_named, root_named}
 use Rattle.dom_slots.specs.Shadows.{shadows, slot_at}
-use Rattle.dom_slots.proofs.Hosted.{AreDistinct, key-test}
+use Rattle.dom_slots.proofs.Hosted.{key-test}
 use Rattle.dom_slots.proofs.Rooted.{root-alone, root-parent, root-below}
 use Rattle.dom_path.specs.declared.path_node.PathNode.{PathNode}
 use Rattle.dom_path.specs.declared.trees.Tree.{Tree}
@@ -95,7 +96,7 @@ module _ (f : NamedTrees) (hosts : List ShadowHost) (once : Once f.trees) where
 
 -- ---- the event parent
 
-module _ (f : NamedTrees) (hosts : List ShadowHost) (distinct : AreDistinct f.names) (composed : Bool) (top : ℕ) (trees : List Tree) (x : PathNode)
+module _ (f : NamedTrees) (hosts : List ShadowHost) (distinct : TellApart f.names) (composed : Bool) (top : ℕ) (trees : List Tree) (x : PathNode)
     (place : IsPathNode f hosts trees x)
     (top_node : top < length f.names) where
   abbrev named : NodeName

@@ -5,9 +5,10 @@ use Rattle.std.specs.Option.{ForSome}
 use Rattle.dom_base.specs.declared.NodeName.{NodeName}
 use Rattle.dom_model.specs.Names.{name_eq, is_in}
 use Rattle.dom_tree.specs.Forest.{NamedTrees, name_at}
+use Rattle.dom_tree.specs.Apart.{TellApart}
 use Rattle.dom_slots.specs.Hosts.{ShadowHost}
 use Rattle.dom_slots.specs.Shadows.{ShadowTrees, shadows}
-use Rattle.dom_slots.proofs.Hosted.{AreDistinct, key-test, found-test}
+use Rattle.dom_slots.proofs.Hosted.{key-test, found-test}
 use Rattle.dom_path.specs.declared.path_node.PathNode.{PathNode}
 use Rattle.dom_path.specs.declared.trees.Tree.{Tree}
 use Rattle.dom_path.specs.Built.{IsEvent, IsItemOf, related_name}
@@ -16,7 +17,7 @@ use Rattle.dom_path.specs.PathNodes.{AreTrees, IsPathNode, seen_of, related_from
 use Rattle.dom_path.specs.Ways.{seen_at, related_at, ends_at, is_empty_at}
 use Rattle.dom_path.proofs.Places.{seen-node, seen-named}
 
-module _ (f : NamedTrees) (hosts : List ShadowHost) (distinct : AreDistinct f.names) (trees : List Tree) (are : AreTrees f hosts trees) where
+module _ (f : NamedTrees) (hosts : List ShadowHost) (distinct : TellApart f.names) (trees : List Tree) (are : AreTrees f hosts trees) where
   abbrev name : ℕ → NodeName
   name k = name_at f.names k
 

@@ -24,10 +24,11 @@ use Rattle.dom_tree.specs.Forest.{NamedTrees, name_at}
 use Rattle.dom_tree.specs.Owners.{AreOwned, trees_of_owner}
 use Rattle.dom_traversal.proofs.Counts.{StandOnce, StandAlone}
 use Rattle.dom_traversal.proofs.Lists.{In}
+use Rattle.dom_traversal.proofs.Climbing.{was_some}
 use Rattle.dom_range_ops.specs.Deletions.{AreLeaves, IsRangeIn}
 use Rattle.dom_range_ops.specs.Texts.{range_at_points, AreBounded, nodes_around}
 use Rattle.dom_range_ops.proofs.OneTree.{HasOneTree}
-use Rattle.dom_range_ops.proofs.DocTexts.{are-bounded, start-there, end-there, one-tree, some-of, read-points, within-at}
+use Rattle.dom_range_ops.proofs.DocTexts.{are-bounded, start-there, end-there, one-tree, read-points, within-at}
 use Rattle.dom_range_ops.proofs.DeletionOwn.{outermost-own, outermost-owner, one-own, cutting-own, place-own, place-owner, keys-own}
 
 -- a state by its parts
@@ -132,7 +133,7 @@ module _ (f : NamedTrees) (once : StandOnce f) (only : StandAlone f) (owned : Ar
       (boundaries (at (name_in d points.start.0) points.start.1) (at (name_in d points.end.0) points.end.1)) → IsOfPoints d o k points
   of-points start end known ends bounds read =
       let p = part_of d.world o in
-      let found = some-of (range_at p k) known in
+      let found = was_some (range_at p k) known in
       let same : found.0 ≡ range_at_points d.names points =
       read-points p p k found.0 (at (name_in d points.start.0) points.start.1) (at (name_in d points.end.0) points.end.1) found.1 read in
       let there : range_at p k ≡ Some (range_at_points d.names points) = found.1 ∙ ap Some same in

@@ -16,7 +16,6 @@ use Rattle.dom_model.specs.Ranges.{Range}
 use Rattle.dom_model.specs.RangeOps.{outermost_contained}
 use Rattle.dom_model.specs.Tree.{Trees, root_of, inclusive_descendants, inclusive_ancestors, is_inclusive_ancestor}
 use Rattle.dom_ranges.specs.declared.table.Points.{Points}
-use Rattle.dom_ranges.proofs.Climbing.{TellApart}
 use Rattle.dom_traversal.proofs.Chains.{above-along, first-passes}
 use Rattle.dom_traversal.proofs.Counts.{StandOnce, StandAlone}
 use Rattle.dom_traversal.proofs.Lists.{In, In-from, is_in-from, Single, Single-apart, first_split, no_first, after-split, filter-yes, filter-no, filter-none}
@@ -24,6 +23,7 @@ use Rattle.dom_traversal.proofs.Order.{IsWithin, all_single, splits, behind_is, 
 use Rattle.dom_traversal.proofs.Searching.{following_step, IsWithin-key}
 use Rattle.dom_traversal.specs.Within.{ahead_of, behind, beyond, from_node, StandsIn}
 use Rattle.dom_tree.specs.Forest.{NamedTrees, name_at}
+use Rattle.dom_tree.specs.Apart.{TellApart}
 use Rattle.dom_range_ops.specs.Deletions.{AreLeaves}
 use Rattle.dom_range_ops.specs.Points.{nodes_after}
 use Rattle.dom_range_ops.specs.Texts.{range_at_points, AreBounded, nodes_around}
@@ -100,7 +100,7 @@ pub record Finds (f : NamedTrees) (r : Range NodeName) (top : ℕ) (o : Option �
   pub left : map (name_at f.names) found ++ filter (is_outermost f.trees r) (left_at f top o) ≡ outermost_contained f.trees r
   pub path : LeadsTo f.names (filter (λ y. is_inclusive_ancestor f.trees y r.end.node) (left_at f top o)) partial others
 
-module _ (f : NamedTrees) (once : StandOnce f) (only : StandAlone f) (distinct : TellApart f) (points : Points) (bounds : AreBounded f points)
+module _ (f : NamedTrees) (once : StandOnce f) (only : StandAlone f) (distinct : TellApart f.names) (points : Points) (bounds : AreBounded f points)
     (are_leaves : AreLeaves f points) (top : ℕ) (root_is : name_at f.names top ≡ root_of f.trees (name_at f.names points.start.0)) where
   abbrev r : Range NodeName
   r = range_at_points f.names points

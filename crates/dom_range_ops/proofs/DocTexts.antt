@@ -1,6 +1,6 @@
 -- The text between the points of a live range of a `Doc`.
-use Rattle.std.proofs.Common.{◌≡◌, ℕ, zero, suc, ◌<◌, ◌≤◌, true, true≢false, List, [], ◌∷◌, length, Option, Some, None, is_some, Result, Ok, Err}
-use Rattle.std.proofs.Common.{refl, sym, ap, subst, ◌∙◌}
+use Rattle.std.proofs.Common.{◌≡◌, ℕ, zero, suc, ◌<◌, ◌≤◌, true, List, [], ◌∷◌, length, Option, Some, None, Result, Ok, Err}
+use Rattle.std.proofs.Common.{sym, ap, subst, ◌∙◌}
 use Rattle.std.specs.Prelude.{IfOk, IsTrue, slice_get}
 use Rattle.std.specs.List.{AllByRecursion}
 use Rattle.std.specs.Option.{option_flatten, option_map_or}
@@ -30,11 +30,6 @@ use Rattle.dom_traversal.proofs.Shapes.{Has}
 use Rattle.dom_range_ops.specs.Texts.{range_at_points, AreEnds, AreBounded, text_among, nodes_around}
 use Rattle.dom_range_ops.proofs.OneTree.{HasOneTree}
 use Rattle.dom_range_ops.proofs.OwnTexts.{text-is}
-
--- what is there
-pub some-of : {X : Type 0} (o : Option X) → is_some o ≡ true → (x : X) × (o ≡ Some x)
-some-of None h = absurd (true≢false (sym h))
-some-of (Some x) h = (x, refl)
 
 -- what follows for a value that was given
 pub if-ok : {X E : Type 0} {P Q : X → Type 0} (m : Result X E) → ((x : X) → P x → Q x) → IfOk m P → IfOk m Q

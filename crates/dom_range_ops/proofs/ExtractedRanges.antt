@@ -1,7 +1,6 @@
 -- The extraction of a live range of a `Doc`: what its pieces are, that they may be taken, and what is left.
-use Rattle.std.proofs.Common.{◌≡◌, ◌≤◌, ◌+◌, ℕ, suc, true, false, List, [], ◌∷◌, ◌++◌, length, map, Option, Some, None, Result, Ok, Err, sym, ap}
+use Rattle.std.proofs.Common.{◌≡◌, ◌≤◌, ◌+◌, ℕ, suc, true, false, List, [], ◌∷◌, ◌++◌, length, map, Option, Some, None, sym, ap}
 use Rattle.std.proofs.Common.{subst, ◌∙◌, refl, arith}
-use Rattle.std.specs.Prelude.{OnOk}
 use Rattle.std.specs.List.{AllByRecursion}
 use Rattle.std.specs.Option.{ForSome, option_map_or}
 use Rattle.std.proofs.lemmas.Bool.{ltb-false}
@@ -33,11 +32,6 @@ use Rattle.dom_range_ops.proofs.DeletionDocs.{IsOfPoints}
 use Rattle.dom_range_ops.proofs.PieceSteps.{made-pieces}
 use Rattle.dom_range_ops.proofs.TakingItems.{items-extracting}
 use Rattle.dom_range_ops.proofs.TakingRanges.{extract-may_take}
-
--- what follows where a call was done
-pub if-done : {X E : Type 0} {P Q : Type 0} (m : Result X E) → (P → Q) → OnOk m P → OnOk m Q
-if-done (Ok x) f p = f p
-if-done (Err e) f p = tt
 
 -- pieces whose nodes are below a number are pieces of as many names
 pub pieces-of_names : (names : List NodeName) (pieces : List Piece) → AllByRecursion (IsPieceIn (length names)) pieces → AllByRecursion (IsPieceOf names) pieces

@@ -9,8 +9,8 @@ use Rattle.dom_model.specs.Place.{is_before}
 use Rattle.dom_model.specs.Ranges.{Range}
 use Rattle.dom_model.specs.Tree.{Trees, root_of}
 use Rattle.dom_tree.specs.Forest.{NamedTrees, name_at}
+use Rattle.dom_tree.specs.Apart.{TellApart}
 use Rattle.dom_ranges.specs.declared.table.Points.{Points}
-use Rattle.dom_ranges.proofs.Climbing.{TellApart}
 use Rattle.dom_traversal.proofs.Counts.{StandOnce, StandAlone, Once-forest, Has-forest, above-within}
 use Rattle.dom_traversal.proofs.Lists.{In, is_in-from, first_split}
 use Rattle.dom_traversal.proofs.Order.{IsWithin}
@@ -22,7 +22,7 @@ use Rattle.dom_range_ops.proofs.Between.{IsBounded, IsBetween, Leads, start-with
 use Rattle.dom_range_ops.proofs.Sides.{after-yes}
 
 -- a key is found by its name
-pub key-found : (f : NamedTrees) → TellApart f → (o : Option ℕ) (k : ℕ) → ForSome o (λ j. j < length f.names) → k < length f.names →
+pub key-found : (f : NamedTrees) → TellApart f.names → (o : Option ℕ) (k : ℕ) → ForSome o (λ j. j < length f.names) → k < length f.names →
     option_map (name_at f.names) o ≡ Some (name_at f.names k) → o ≡ Some k
 key-found f distinct None k node at e = cc
 key-found f distinct (Some j) k node at e = ap Some (distinct j k (node j refl) at (same_Some (name_at f.names j) (name_at f.names k) e))

@@ -9,8 +9,7 @@ use Rattle.dom_model.specs.Names.{name_eq, items_before, items_after}
 use Rattle.dom_model.specs.Place.{place_of}
 use Rattle.dom_model.specs.Tree.{Trees, subtree, inclusive_ancestors, inclusive_descendants, parent_of, children_of, index_of}
 use Rattle.dom_ranges.proofs.Places.{path-child}
-use Rattle.dom_slots.proofs.Siblings.{children-single}
-use Rattle.dom_traversal.proofs.Children.{parent-of_child, child-of_parent, Has-names}
+use Rattle.dom_traversal.proofs.Children.{parent-of_child, child-of_parent, Has-names, children-single}
 use Rattle.dom_traversal.proofs.Lists.{In, In-right, In-parts, Single, Single-apart, same_or_not, split_at, before-split}
 use Rattle.dom_traversal.proofs.Order.{IsWithin, stands_in, joined}
 use Rattle.dom_traversal.proofs.Shapes.{Has, Once, above-parent, above-present}

@@ -7,9 +7,10 @@ use Rattle.std.proofs.lemmas.List.Concat.{flat_map-cons}
 use Rattle.dom_base.specs.declared.NodeName.{NodeName}
 use Rattle.dom_model.specs.Extract.{Pieces, nothing, whole, cut, clone, pieces_along, all_whole, ◌followed_by◌}
 use Rattle.dom_model.specs.Tree.{Trees, none, tree, Node, nodes, names_of, roots, subtree, trees_below, children_of, is_inclusive_ancestor, kind_of, has_data}
-use Rattle.dom_slots.proofs.NamesOfNodes.{InNodes, node_in-self}
+use Rattle.dom_slots.proofs.NamesOfNodes.{InNodes, node_in-self, in_left, in_right}
 use Rattle.dom_traversal.proofs.Lists.{In}
 use Rattle.dom_traversal.proofs.Shapes.{Has, Once, subtree-here, subtree-below, subtree-beside, subtree-present, subtree-within, Once-subtree}
+use Rattle.dom_traversal.proofs.Children.{Has-root}
 use Rattle.dom_range_ops.specs.Pieces.{Item, whole_item, cut_item, clone_item, end_item, items_of, wholes_if}
 
 -- the items of some pieces and then others
@@ -34,23 +35,6 @@ flat-same f g (x ∷ xs) h =
     ∙ (ap (λ ys. ys ++ flat_map f xs) (h x (inl refl))
     ∙ (ap (λ ys. g x ++ ys) (flat-same f g xs (λ y i. h y (inr i))) ∙ sym (flat_map-cons g x xs)))
 
--- a root stands in its trees
-pub root-there : (d : Trees) (x : NodeName) → In x (names_of (roots d)) → Has d x
-root-there none x i = i
-root-there (tree n c rest) x (inl e) = inl (sym e)
-root-there (tree n c rest) x (inr i) = inr (inr (root-there rest x i))
-
--- a node of the second of two lists
-node-right : (m : Node) (xs ys : List Node) → InNodes m ys → InNodes m (xs ++ ys)
-node-right m [] ys h = h
-node-right m (x ∷ xs) ys h = inr (node-right m xs ys h)
-
--- or of the first
-node-left : (m : Node) (xs ys : List Node) → InNodes m xs → InNodes m (xs ++ ys)
-node-left m [] ys h = absurd h
-node-left m (x ∷ xs) ys (inl e) = inl e
-node-left m (x ∷ xs) ys (inr h) = inr (node-left m xs ys h)
-
 -- the first node of a tree
 top-is : (n m : Node) (c d : Trees) → tree n c none ≡ tree m d none → n ≡ m
 top-is n m c d e = cc
@@ -60,9 +44,9 @@ node-there : (ts : Trees) (x : NodeName) (n : Node) (c : Trees) → Once ts → 
 node-there none x n c once h is = absurd h
 node-there (tree m d s) x n c once (inl e) is = inl (top-is n m c d (sym is ∙ subtree-here m d s x e))
 node-there (tree m d s) x n c once (inr (inl h)) is =
-    inr (node-left n (nodes d) (nodes s) (node-there d x n c once.3 h (sym (subtree-below m d s x once h) ∙ is)))
+    inr (in_left n (nodes d) (nodes s) (node-there d x n c once.3 h (sym (subtree-below m d s x once h) ∙ is)))
 node-there (tree m d s) x n c once (inr (inr h)) is =
-    inr (node-right n (nodes d) (nodes s) (node-there s x n c once.4 h (sym (subtree-beside m d s x once h) ∙ is)))
+    inr (in_right n (nodes d) (nodes s) (node-there s x n c once.4 h (sym (subtree-beside m d s x once h) ∙ is)))
 
 module _ (ts : Trees) (p : NodeName) (once : Once ts) (h : Has ts p) where
   -- what is below a node stands once
@@ -77,7 +61,7 @@ module _ (ts : Trees) (p : NodeName) (once : Once ts) (h : Has ts p) where
   child-tree y i =
       let w = subtree-present ts p h in
       let all : Once (tree w.0 w.1 none) = subst Once w.2 (Once-subtree ts p once h) in
-      let there : Has w.1 y = root-there w.1 y (subst (λ (us : Trees). In y (names_of (roots (trees_below us)))) w.2 i) in
+      let there : Has w.1 y = Has-root w.1 y (subst (λ (us : Trees). In y (names_of (roots (trees_below us)))) w.2 i) in
       ap (λ (us : Trees). subtree (trees_below us) y) w.2
       ∙ (sym (subtree-below w.0 w.1 none y all there) ∙
       (ap (λ (us : Trees). subtree us y) (sym w.2) ∙ subtree-within ts p y once h (subst (λ (us : Trees). Has us y) (sym w.2) (inr (inl there)))))
@@ -127,7 +111,7 @@ module _ (ts : Trees) (x : NodeName) (taken : NodeName → Bool) (from to : ℕ)
       let own : List Item = items_with (is_inclusive_ancestor ts n.name x) (taken n.name) (has_data n.kind) n.name (along c) in
       let first : f n.name ≡ own = ap along (subtree-here n c rest n.name refl) ∙ (tree-items n c none ∙ append-nil own) in
       let others : flat_map f (names_of (roots rest)) ≡ flat_map g (names_of (roots rest)) =
-      flat-same f g (names_of (roots rest)) (λ y i. ap along (subtree-beside n c rest y once (root-there rest y i))) in
+      flat-same f g (names_of (roots rest)) (λ y i. ap along (subtree-beside n c rest y once (Has-root rest y i))) in
       tree-items n c rest
       ∙ (ap (λ xs. xs ++ along rest) (sym first) ∙
       (ap (λ xs. f n.name ++ xs) (roots-items rest once.4 ∙ sym others) ∙ sym (flat_map-cons f n.name (names_of (roots rest)))))

@@ -17,7 +17,7 @@ use Rattle.dom_tree.proofs.Owned.{read_own, stays_own}
 use Rattle.dom_ranges.specs.declared.table.Points.{Points}
 use Rattle.dom_tree.specs.Forest.{NamedTrees}
 use Rattle.dom_tree.specs.Owners.{AreOwned, trees_of_owner}
-use Rattle.dom_traversal.proofs.Children.{In-names}
+use Rattle.dom_traversal.proofs.Children.{In-names, Has-root}
 use Rattle.dom_traversal.proofs.Counts.{StandOnce, StandAlone}
 use Rattle.dom_traversal.proofs.Lists.{In, filter-same, is_in-from}
 use Rattle.dom_traversal.proofs.Shapes.{Has, Has-subtree, Has-above, above-present, above-from_below, subtree-present}
@@ -27,7 +27,6 @@ use Rattle.dom_range_ops.specs.Texts.{range_at_points}
 use Rattle.dom_range_ops.proofs.DocTexts.{are-ends, start-there, end-there, one-tree}
 use Rattle.dom_range_ops.proofs.OneTree.{HasOneTree, root-path}
 use Rattle.dom_range_ops.proofs.OwnTexts.{behind-own, in_front-own, contained-own}
-use Rattle.dom_range_ops.proofs.PieceItems.{root-there}
 
 -- what is found is a member
 found-in : (p : NodeName → Bool) (d : NodeName) (xs all : List NodeName) → ((x : NodeName) → In x xs → In x all) → In d all → In (unwrap_or (find p xs) d) all
@@ -160,7 +159,7 @@ module _ (ts : Trees) (owned : AreOwned ts) (o : Owner) (r : Range NodeName) (en
       ∙ ap (pieces_behind own r.start) (holding-own r.start.node r.end.node starts-own ends-own below) in
       let middle : filter (is_contained ts r) (names_of (roots below)) ≡ filter (is_contained own r) (names_of (roots below)) =
       filter-same (is_contained ts r) (is_contained own r) (names_of (roots below))
-      (λ y i. let w = common-near y (root-there below y i) in contained-own ts owned o r ends start end y w.there w.root w.owner) in
+      (λ y i. let w = common-near y (Has-root below y i) in contained-own ts owned o r ends start end y w.there w.root w.owner) in
       let later : pieces_in_front ts r.end (tree_holding ts r.end.node r.start.node below) ≡ pieces_in_front own r.end
       (tree_holding own r.end.node r.start.node below) =
       end-own (tree_holding ts r.end.node r.start.node below) (λ x h. common-near x (holding-in ts r.end.node r.start.node below x h))

@@ -11,11 +11,11 @@ use Rattle.dom_model.specs.Names.{last_of}
 use Rattle.dom_model.specs.Tree.{inclusive_ancestors, root_of}
 use Rattle.dom_model.proofs.OwnerLaws.{name_eq-true}
 use Rattle.dom_ranges.specs.declared.table.Points.{Points}
-use Rattle.dom_traversal.proofs.Climbing.{TellApart}
 use Rattle.dom_traversal.proofs.Counts.{StandOnce, StandAlone, Has-forest}
 use Rattle.dom_traversal.proofs.Lists.{last_of-end}
 use Rattle.dom_traversal.proofs.Shapes.{above-present}
 use Rattle.dom_tree.specs.Forest.{NamedTrees, name_at}
+use Rattle.dom_tree.specs.Apart.{TellApart}
 use Rattle.dom_range_ops.specs.Pieces.{EndAlike, ArePaths}
 use Rattle.dom_range_ops.specs.Texts.{AreEnds}
 
@@ -54,7 +54,7 @@ all-taken (k ∷ ks) (suc m) l = ap (λ js. k ∷ js) (all-taken ks m (omega (ar
 
 -- ---- where the paths part
 
-module _ (f : NamedTrees) (once : StandOnce f) (only : StandAlone f) (distinct : TellApart f) (points : Points) (ends : AreEnds f points)
+module _ (f : NamedTrees) (once : StandOnce f) (only : StandAlone f) (distinct : TellApart f.names) (points : Points) (ends : AreEnds f points)
     (first second : List ℕ) where
   abbrev above : ℕ → List NodeName
   above k = inclusive_ancestors f.trees (name_at f.names k)

@@ -11,13 +11,13 @@ use Rattle.dom_model.proofs.OwnerLaws.{name_eq-other}
 use Rattle.dom_range_ops.specs.Pieces.{Item, whole_item, item_in, IsPieceIn, AreItems, Adds, from_sibling, up_to}
 use Rattle.dom_range_ops.specs.declared.pieces.Piece.{Piece}
 use Rattle.dom_range_ops.specs.declared.pieces.Piece.TheVariants.{Whole}
-use Rattle.dom_slots.proofs.Siblings.{from_item, from-next, children-single}
-use Rattle.dom_traversal.proofs.Children.{parent-of_child, child-of_parent}
+use Rattle.dom_slots.proofs.Siblings.{from_item, from-next}
+use Rattle.dom_traversal.proofs.Children.{parent-of_child, child-of_parent, children-single}
 use Rattle.dom_traversal.proofs.Lists.{In, In-right, Single, Single-apart, first_split, after-in, after-split, before-split, name_eq-from}
 use Rattle.dom_traversal.proofs.Shapes.{Has, Once}
-use Rattle.dom_traversal.proofs.Climbing.{TellApart}
 use Rattle.dom_traversal.proofs.Counts.{StandOnce, StandAlone, Once-forest, Has-forest}
 use Rattle.dom_tree.specs.Forest.{NamedTrees, name_at}
+use Rattle.dom_tree.specs.Apart.{TellApart}
 use Rattle.dom_range_ops.proofs.KeyedWalks.{key-found}
 
 -- ---- adding
@@ -113,7 +113,7 @@ pub record Passes (ts : Trees) (names : List NodeName) (from until at : Option �
   pub node : ForSome at (λ k. k < length names)
   pub added : Adds names old new (map whole_item done)
 
-module _ (f : NamedTrees) (once : StandOnce f) (only : StandAlone f) (distinct : TellApart f) (from until : Option ℕ) (old : List Piece) where
+module _ (f : NamedTrees) (once : StandOnce f) (only : StandAlone f) (distinct : TellApart f.names) (from until : Option ℕ) (old : List Piece) where
   -- at the beginning
   pub passes-first : ForSome from (λ k. k < length f.names) → Passes f.trees f.names from until from old old
   passes-first node = record { done = []; whole = refl; node = node; added = adds-none f.names old }

@@ -5,13 +5,10 @@ use Rattle.dom_model.specs.Names.{first_of}
 use Rattle.dom_model.specs.Place.{same_root}
 use Rattle.dom_model.specs.Tree.{parent_of, index_of}
 use Rattle.dom_tree.specs.Forest.{NamedTrees, name_at}
+use Rattle.dom_tree.specs.Apart.{TellApart}
 use Rattle.dom_traversal.proofs.Counts.{StandOnce, StandAlone, Once-forest, Has-forest}
 use Rattle.dom_ranges.specs.Climbs.{path_at, depth_at, Reaches, AreBeside}
 use Rattle.dom_ranges.proofs.Places.{place-present, known, path-child, path-root, path-same, path-tree}
-
--- names tell a forest's nodes apart
-abbrev pub TellApart : NamedTrees → Type 0
-TellApart f = (j k : ℕ) → j < length f.names → k < length f.names → name_at f.names j ≡ name_at f.names k → j ≡ k
 
 -- a list of one item
 one-item : (xs : List ℕ) → length xs ≡ 1 → (n : ℕ) × (xs ≡ n ∷ [])
@@ -92,7 +89,7 @@ module _ (f : NamedTrees) (once : StandOnce f) (only : StandAlone f) where
   first-same j k node other e = path-tree f.trees (Once-forest f once only) (name_at f.names j) (name_at f.names k) (Has-forest f once j node)
       (Has-forest f once k other) e
 
-  module _ (distinct : TellApart f) where
+  module _ (distinct : TellApart f.names) where
     -- nodes at one path are one
     pub key-same : (j k : ℕ) → j < length f.names → k < length f.names → path_at f j ≡ path_at f k → j ≡ k
     key-same j k node other e =

@@ -14,7 +14,8 @@ use Rattle.dom_model.specs.Place.{Boundary}
 use Rattle.dom_model.specs.Ranges.{Range, at, from_to, map_ends, boundary_eq, after_insert, after_removal, after_replace_data, after_split, after_join}
 use Rattle.dom_model.specs.Tree.{is_inclusive_ancestor}
 use Rattle.dom_tree.specs.Forest.{name_at}
-use Rattle.dom_ranges.specs.Naming.{AreApart, StandAtNodes, IsNamedRule, InsertNamed, RemovalNamed, ReplaceDataNamed, SplitNamed, JoinNamed}
+use Rattle.dom_tree.specs.Apart.{TellApart}
+use Rattle.dom_ranges.specs.Naming.{StandAtNodes, IsNamedRule, InsertNamed, RemovalNamed, ReplaceDataNamed, SplitNamed, JoinNamed}
 use Rattle.dom_ranges.specs.Naming.{StartNamed, EndNamed, GrownNamed, MadeNamed, RemovedNamed, RewrittenNamed, CollapsedNamed, named_ends_by}
 use Rattle.dom_ranges.specs.Rules.{IsAtNode, is_inside}
 use Rattle.dom_ranges.specs.Settings.{named_boundary, named_range, named_ranges, with_named, have_one_root, is_key_before}
@@ -65,7 +66,7 @@ module _ (names : List NodeName) where
   at-if false x y p q = q
 
   -- the tests of keys and of names agree
-  pub same-test : AreApart names → (j k : ℕ) → j < length names → k < length names → eqb j k ≡ name_eq (name_at names j) (name_at names k)
+  pub same-test : TellApart names → (j k : ℕ) → j < length names → k < length names → eqb j k ≡ name_eq (name_at names j) (name_at names k)
   same-test apart j k p q = elim (cases_Bool (eqb j k)) [
     | inl e ↦ e ∙ sym (ap (λ i. name_eq (name_at names j) (name_at names i)) (sym (eqb-true j k e)) ∙ name_eq-same (name_at names j))
     | inr e ↦ e ∙ sym (name_eq-other (name_at names j) (name_at names k) (λ same. both e (eq-eqb j k (apart j k p q same))))

@@ -12,6 +12,7 @@ use Rattle.dom_model.proofs.OwnerLaws.{name_eq-other, name_eq-true}
 use Rattle.dom_traversal.proofs.Lists.{name_eq-from, last_of-end}
 use Rattle.dom_traversal.proofs.Shapes.{Has, Once, subtree-here, subtree-below, subtree-beside, above-here, above-below, above-beside, above-present}
 use Rattle.dom_traversal.proofs.Shapes.{above-parent, above-root}
+use Rattle.dom_traversal.proofs.Children.{two_or_more}
 
 -- a name that stands nowhere has no place
 place-absent : (ts : Trees) (k : ℕ) (x : NodeName) → (Has ts x → ⊥) → place_from k ts x ≡ None
@@ -52,11 +53,6 @@ place-present (tree n c r) k x once (inr (inr h)) =
 -- lists with different first items
 apart_heads : (k m : ℕ) (xs ys : List ℕ) → k < m → k ∷ xs ≡ m ∷ ys → ⊥
 apart_heads k m xs ys l e = let f : k ≡ m = cc in omega (arith, f, l)
-
--- a list of two items or more is none of one item
-two_or_more : (x : NodeName) (xs : List NodeName) (a : NodeName) → x ∷ (xs ++ a ∷ []) ≡ x ∷ [] → ⊥
-two_or_more x [] a e = cc
-two_or_more x (y ∷ xs) a e = cc
 
 -- nodes at one place are one
 pub place-same : (ts : Trees) (k : ℕ) (x y : NodeName) → Once ts → Has ts x → Has ts y → place_from k ts x ≡ place_from k ts y → x ≡ y

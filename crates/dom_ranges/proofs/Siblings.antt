@@ -1,35 +1,17 @@
 -- The index of a node by the sibling before it.
-use Rattle.std.proofs.Common.{◌≡◌, inl, inr, ℕ, ◌+◌, ◌<◌, true, [], ◌∷◌, ◌++◌, length, Option, Some, None, refl, sym, ap, subst, ◌∙◌, arith}
+use Rattle.std.proofs.Common.{◌≡◌, inl, ℕ, ◌+◌, ◌<◌, true, [], ◌∷◌, ◌++◌, length, Option, Some, None, refl, sym, ap, subst, ◌∙◌, arith}
 use Rattle.std.proofs.Common.{append_assoc, length-append}
 use Rattle.std.specs.Option.{option_map, option_map_or}
 use Rattle.std.proofs.lemmas.Option.{none-some}
 use Rattle.dom_base.specs.declared.NodeName.{NodeName}
 use Rattle.dom_model.specs.Names.{name_eq, last_of, items_before, items_after}
 use Rattle.dom_model.proofs.OwnerLaws.{name_eq-same}
-use Rattle.dom_model.specs.Tree.{Trees, none, tree, roots, names_of, trees_below, children_of, parent_of, siblings, previous_sibling, index_of}
+use Rattle.dom_model.specs.Tree.{Trees, children_of, parent_of, siblings, previous_sibling, index_of}
 use Rattle.dom_tree.specs.Forest.{NamedTrees, name_at}
 use Rattle.dom_traversal.proofs.Lists.{In, In-right, Single, Single-apart, no_last, last_split, split_at, before-split}
-use Rattle.dom_traversal.proofs.Shapes.{Has, Once, subtree-present, Once-subtree}
-use Rattle.dom_traversal.proofs.Children.{parent-of_child, child-of_parent}
+use Rattle.dom_traversal.proofs.Shapes.{Has, Once}
+use Rattle.dom_traversal.proofs.Children.{parent-of_child, child-of_parent, children-single}
 use Rattle.dom_traversal.proofs.Counts.{StandOnce, StandAlone, Once-forest, Has-forest}
-
--- roots stand in their trees
-root_stands : (ts : Trees) (x : NodeName) → In x (names_of (roots ts)) → Has ts x
-root_stands none x i = i
-root_stands (tree n c r) x (inl e) = inl (sym e)
-root_stands (tree n c r) x (inr i) = inr (inr (root_stands r x i))
-
--- each once
-roots_single : (ts : Trees) → Once ts → Single (names_of (roots ts))
-roots_single none once = tt
-roots_single (tree n c r) once = (λ i. once.1 (root_stands r n.name i), roots_single r once.4)
-
--- so do children
-children_single : (ts : Trees) (p : NodeName) → Once ts → Has ts p → Single (children_of ts p)
-children_single ts p once h =
-    let w = subtree-present ts p h in
-    let below : Once (tree w.0 w.1 none) = subst Once w.2 (Once-subtree ts p once h) in
-    subst (λ (us : Trees). Single (names_of (roots (trees_below us)))) (sym w.2) (roots_single w.1 below.3)
 
 module _ (ts : Trees) (once : Once ts) where
   -- without a sibling before it its index is 0
@@ -58,7 +40,7 @@ module _ (ts : Trees) (once : Once ts) where
           let split : kids ≡ front.0 ++ s ∷ (x ∷ items_after name_eq x kids) =
           split_at x kids at.1 ∙ (ap (λ ys. ys ++ x ∷ items_after name_eq x kids) front.1 ∙ append_assoc front.0 (s ∷ []) (x ∷ items_after name_eq x kids)) in
           let among : In s kids = subst (In s) (sym split) (In-right s front.0 (s ∷ (x ∷ items_after name_eq x kids)) (inl refl)) in
-          let single : Single (front.0 ++ s ∷ (x ∷ items_after name_eq x kids)) = subst Single split (children_single ts p once at.0) in
+          let single : Single (front.0 ++ s ∷ (x ∷ items_after name_eq x kids)) = subst Single split (children-single ts p once at.0) in
           let its : index_of ts s ≡ length front.0 =
           ap (λ ys. length (items_before name_eq s ys)) (siblings_are s p (parent-of_child ts p s once at.0 among).0 ∙ split)
           ∙ ap (length {A = NodeName}) (before-split s front.0 (x ∷ items_after name_eq x kids)

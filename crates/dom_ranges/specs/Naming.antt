@@ -7,13 +7,10 @@ use Rattle.dom_model.specs.Place.{Boundary}
 use Rattle.dom_model.specs.Ranges.{Range, at, from_to, map_ends, after_insert, after_removal, after_replace_data, after_split, after_join, with_start, with_end}
 use Rattle.dom_model.specs.Tree.{is_inclusive_ancestor}
 use Rattle.dom_tree.specs.Forest.{NamedTrees, name_at}
+use Rattle.dom_tree.specs.Apart.{TellApart}
 use Rattle.dom_ranges.specs.Rules.{IsAtNode, is_inside}
 use Rattle.dom_ranges.specs.Settings.{named_boundary, named_range, named_ranges, start_set, end_set}
 use Rattle.dom_ranges.specs.Tables.{RangeList, EachRange, BothEnds, ends_by, range_in, collapsed_range}
-
--- names tell keys apart
-abbrev pub AreApart : List NodeName → Type 0
-AreApart names = (j k : ℕ) → j < length names → k < length names → name_at names j ≡ name_at names k → j ≡ k
 
 -- the ends of all ranges of a list are at nodes with these names
 abbrev pub StandAtNodes : List NodeName → RangeList → Type 0
@@ -33,33 +30,33 @@ KeepsNodes names f = (rs : RangeList) → StandAtNodes names rs → StandAtNodes
 
 -- insertions
 abbrev pub InsertNamed : Type 0
-InsertNamed = (names : List NodeName) → AreApart names → (parent index count : ℕ) → parent < length names
+InsertNamed = (names : List NodeName) → TellApart names → (parent index count : ℕ) → parent < length names
     → IsNamedRule names (after_insert nat_eq parent index count) (after_insert name_eq (name_at names parent) index count) ×
     KeepsNodes names (after_insert nat_eq parent index count)
 
 -- removals
 abbrev pub RemovalNamed : Type 0
-RemovalNamed = (f : NamedTrees) → AreApart f.names → (node parent index : ℕ) → parent < length f.names
+RemovalNamed = (f : NamedTrees) → TellApart f.names → (node parent index : ℕ) → parent < length f.names
     → IsNamedRule f.names (after_removal nat_eq (is_inside f node) parent index)
     (after_removal name_eq (is_inclusive_ancestor f.trees (name_at f.names node)) (name_at f.names parent) index)
     × KeepsNodes f.names (after_removal nat_eq (is_inside f node) parent index)
 
 -- replaced data
 abbrev pub ReplaceDataNamed : Type 0
-ReplaceDataNamed = (names : List NodeName) → AreApart names → (node offset count size : ℕ) → node < length names
+ReplaceDataNamed = (names : List NodeName) → TellApart names → (node offset count size : ℕ) → node < length names
     → IsNamedRule names (after_replace_data nat_eq node offset count size) (after_replace_data name_eq (name_at names node) offset count size)
     × KeepsNodes names (after_replace_data nat_eq node offset count size)
 
 -- split Texts
 abbrev pub SplitNamed : Type 0
-SplitNamed = (names : List NodeName) → AreApart names → (node offset new parent index : ℕ) → node < length names → new < length names → parent < length names
+SplitNamed = (names : List NodeName) → TellApart names → (node offset new parent index : ℕ) → node < length names → new < length names → parent < length names
     → IsNamedRule names (after_split nat_eq node offset new parent index)
     (after_split name_eq (name_at names node) offset (name_at names new) (name_at names parent) index)
     × KeepsNodes names (after_split nat_eq node offset new parent index)
 
 -- joined Texts
 abbrev pub JoinNamed : Type 0
-JoinNamed = (names : List NodeName) → AreApart names → (first size next parent index : ℕ) → first < length names → next < length names → parent < length names
+JoinNamed = (names : List NodeName) → TellApart names → (first size next parent index : ℕ) → first < length names → next < length names → parent < length names
     → IsNamedRule names (after_join nat_eq first size next parent index)
     (after_join name_eq (name_at names first) size (name_at names next) (name_at names parent) index)
     × KeepsNodes names (after_join nat_eq first size next parent index)

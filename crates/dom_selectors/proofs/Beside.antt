@@ -1,15 +1,15 @@
 -- The siblings before a node and behind it, by the links.
 use Rattle.std.proofs.Common.{◌≡◌, ℕ, suc, ◌<◌, List, [], ◌∷◌, ◌++◌, length, Option, Some, None, refl, ap, sym, subst, ◌∙◌, append_assoc, arith}
-use Rattle.std.proofs.Common.{length-append, inl, inr}
+use Rattle.std.proofs.Common.{length-append, inl}
 use Rattle.std.specs.Option.{option_map, option_map_or}
 use Rattle.std.proofs.lemmas.Option.{none-some}
 use Rattle.dom_base.specs.declared.NodeName.{NodeName}
 use Rattle.dom_model.specs.Names.{name_eq, first_of, last_of, items_before, items_after}
-use Rattle.dom_model.specs.Tree.{Trees, none, tree, names_of, roots, trees_below, subtree, children_of, siblings, parent_of, previous_sibling, next_sibling}
+use Rattle.dom_model.specs.Tree.{Trees, none, children_of, siblings, parent_of, previous_sibling, next_sibling}
 use Rattle.dom_tree.specs.Forest.{NamedTrees, name_at}
 use Rattle.dom_traversal.proofs.Lists.{In, In-right, Single, Single-apart, split_at, before-split, after-split, first_split, last_split, no_first, no_last}
-use Rattle.dom_traversal.proofs.Shapes.{Has, Once, Once-subtree, subtree-present}
-use Rattle.dom_traversal.proofs.Children.{parent-of_child, child-of_parent}
+use Rattle.dom_traversal.proofs.Shapes.{Has, Once}
+use Rattle.dom_traversal.proofs.Children.{parent-of_child, child-of_parent, children-single}
 use Rattle.dom_traversal.proofs.Counts.{StandOnce, StandAlone, Once-forest, Has-forest}
 
 -- the siblings before a node
@@ -30,25 +30,6 @@ abbrev pub from : Trees → Option NodeName → List NodeName
 from ts None = []
 from ts (Some x) = x ∷ after_list ts x
 
--- a root stands in the trees
-has_root : (ts : Trees) (x : NodeName) → In x (names_of (roots ts)) → Has ts x
-has_root none x i = i
-has_root (tree n c r) x (inl e) = inl (sym e)
-has_root (tree n c r) x (inr i) = inr (inr (has_root r x i))
-
--- no root stands twice
-single_roots : (ts : Trees) → Once ts → Single (names_of (roots ts))
-single_roots none once = tt
-single_roots (tree n c r) once = (λ i. once.1 (has_root r n.name i), single_roots r once.4)
-
--- no child stands twice
-single_children : (ts : Trees) (p : NodeName) → Once ts → Has ts p → Single (children_of ts p)
-single_children ts p once h =
-    let w = subtree-present ts p h in
-    let mine : Once (subtree ts p) = Once-subtree ts p once h in
-    let its = subst Once w.2 mine in
-    subst (λ (us : Trees). Single (names_of (roots (trees_below us)))) (sym w.2) (single_roots w.1 its.3)
-
 -- how the children of a node's parent split at it
 record Splits (ts : Trees) (x p : NodeName) : Type 0 where
   all : siblings ts x ≡ children_of ts p
@@ -67,7 +48,7 @@ splits ts x p once h up =
     record {
       all = same;
       parts = sym same ∙ split_at x (siblings ts x) (subst (In x) (sym same) child.1);
-      single = single_children ts p once child.0;
+      single = children-single ts p once child.0;
       its = λ s i. siblings_are ts s p (parent-of_child ts p s once child.0 i).0;
     }
 

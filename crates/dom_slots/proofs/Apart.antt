@@ -13,6 +13,7 @@ use Rattle.dom_model.specs.Slots.{is_slot_element, slots_among}
 use Rattle.dom_model.specs.Tree.{Trees, none, tree, Node, node_in, subtree, parent_of, root_of}
 use Rattle.dom_model.specs.TreeChanges.{placed, taken_out, with_attribute}
 use Rattle.dom_tree.specs.Forest.{NamedTrees, name_at}
+use Rattle.dom_tree.specs.Apart.{TellApart}
 use Rattle.dom_traversal.proofs.Lists.{In, In-parts}
 use Rattle.dom_traversal.proofs.Shapes.{Has}
 use Rattle.dom_slots.specs.Hosts.{ShadowHost, host_named}
@@ -28,7 +29,6 @@ use Rattle.dom_slots.proofs.Attributed.{parent-changed, changed-keeps, changed-s
 use Rattle.dom_slots.proofs.Choices.{third-fails}
 use Rattle.dom_slots.proofs.Ended.{told-signals, there-was, there-now, both-stand, not-own, none-own, but-for, others-among, renewed-table}
 use Rattle.dom_slots.proofs.PlacedTrees.{Spot, grafted}
-use Rattle.dom_slots.proofs.Hosted.{AreDistinct}
 use Rattle.dom_slots.proofs.Moved.{AreBoth, IsAside, Outside, root-aside, moved-keeps}
 use Rattle.dom_slots.proofs.OwnSignals.{own-signalled}
 use Rattle.dom_slots.proofs.Settled.{KeepsAssigned, assigned-kept}
@@ -181,7 +181,7 @@ module _ (was : Trees) (f : NamedTrees) (s : SlotsNow) (b : BegunStep) (ended : 
       (keeps.0 (name_at f.names k) (there-was was f s b ended stands k within) (there-now was f s b ended stands k within))
 
   -- before the first list is renewed all are those of the trees now but for the node of the step
-  pub apart-but-for : AreDistinct f.names → IsButFor f s.hosts s.table b.slot b.step
+  pub apart-but-for : TellApart f.names → IsButFor f s.hosts s.table b.slot b.step
   apart-but-for distinct = but-for was f s b ended stands distinct keeps.0 keeps.3
 
   abbrev is_other : NodeName → Bool

@@ -12,6 +12,7 @@ use Rattle.dom_model.specs.Names.{name_eq, is_in, list_eq, node_of}
 use Rattle.dom_model.specs.Slots.{slot_in, slots_among}
 use Rattle.dom_model.specs.Tree.{Trees, node_in, has_node, subtree, parent_of}
 use Rattle.dom_tree.specs.Forest.{NamedTrees, name_at}
+use Rattle.dom_tree.specs.Apart.{TellApart}
 use Rattle.dom_traversal.proofs.Counts.{Once-forest, Has-forest}
 use Rattle.dom_traversal.proofs.Lists.{In}
 use Rattle.dom_traversal.proofs.Shapes.{Has}
@@ -25,7 +26,7 @@ use Rattle.dom_slots.specs.declared.step.Step.{Step}
 use Rattle.dom_slots.specs.declared.step.Step.TheVariants.{Place, Removal, Attribute}
 use Rattle.dom_slots.specs.Tables.{SlotTable, list_of, IsTableOf}
 use Rattle.dom_slots.proofs.Assigned.{listed-slot}
-use Rattle.dom_slots.proofs.Hosted.{AreDistinct, named-key}
+use Rattle.dom_slots.proofs.Hosted.{named-key}
 use Rattle.dom_slots.proofs.Moved.{AreBoth}
 use Rattle.dom_slots.proofs.Settled.{KeepsBut}
 use Rattle.dom_slots.proofs.Signalled.{list_eq-self}
@@ -77,7 +78,7 @@ step-ends old new before after step b names nodes slots hosts table begun is mov
 
 -- ---- hosts are nodes
 
-host-key : (names : List NodeName) (hosts : List ShadowHost) → HostsAreNodes names hosts → (r h : NodeName) → host_named names hosts r ≡ Some h →
+pub host-key : (names : List NodeName) (hosts : List ShadowHost) → HostsAreNodes names hosts → (r h : NodeName) → host_named names hosts r ≡ Some h →
     (k : ℕ) × (k < length names) × (name_at names k ≡ h)
 host-key names [] nodes r h e = absurd (none-some h e)
 host-key names (g ∷ hosts) nodes r h e = by (name_eq r (name_at names g.root)) e (host-key names hosts nodes.2 r h)
@@ -139,7 +140,7 @@ module _ (was : Trees) (f : NamedTrees) (s : SlotsNow) (b : BegunStep) (ended : 
 
   -- where all others than the node stay where they are assigned, and the node too if it is not moved and has the slot that it
   -- had, the lists are those of the trees now but for the node
-  pub but-for : AreDistinct f.names → ((y : NodeName) → Has was y → Has f.trees y → KeepsBut f.names s.hosts x was f.trees y)
+  pub but-for : TellApart f.names → ((y : NodeName) → Has was y → Has f.trees y → KeepsBut f.names s.hosts x was f.trees y)
       → (is_move b.step ≡ false → slot_at before x ≡ slot_at after x → (y : NodeName) → Has was y → Has f.trees y →
       assigned_at before y ≡ assigned_at after y) → IsButFor f s.hosts s.table b.slot b.step
   but-for distinct kept still = record {

@@ -10,13 +10,13 @@ use Rattle.dom_model.specs.Tree.{Node, nodes, names_of, node_in, parent_of, root
 use Rattle.dom_model.specs.Slots.{slots_among, slot_in, has_slot_name, slottable_name, is_slot_element}
 use Rattle.dom_model.proofs.OwnerLaws.{name_eq-true}
 use Rattle.dom_tree.specs.Forest.{NamedTrees, name_at}
+use Rattle.dom_tree.specs.Apart.{TellApart}
 use Rattle.dom_traversal.proofs.Lists.{name_eq-from, filter-none}
 use Rattle.dom_slots.specs.Hosts.{ShadowHost, root_named}
 use Rattle.dom_slots.specs.Shadows.{shadows, slot_at, assigned_at, assigned_under, is_assigned_at}
 use Rattle.dom_slots.specs.Tables.{SlotTable, list_of}
-use Rattle.dom_slots.proofs.Hosted.{AreDistinct}
 
-module _ (f : NamedTrees) (hosts : List ShadowHost) (apart : AreDistinct f.names) where
+module _ (f : NamedTrees) (hosts : List ShadowHost) (apart : TellApart f.names) where
   -- a list of nodes is entered
   pub entered_nodes : (s : ℕ) (list : List ℕ) → All (λ j. j < length f.names) list → (mid new : SlotTable) →
       ((k : ℕ) → list_of new k ≡ (if nat_eq s k then list else list_of mid k))

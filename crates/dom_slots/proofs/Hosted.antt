@@ -10,6 +10,7 @@ use Rattle.dom_model.specs.Tree.{Node, node_in, nodes, parent_of, subtree}
 use Rattle.dom_model.specs.Slots.{has_slot_name, slottable_name, slot_in}
 use Rattle.dom_model.proofs.OwnerLaws.{name_eq-other}
 use Rattle.dom_tree.specs.Forest.{name_at}
+use Rattle.dom_tree.specs.Apart.{TellApart}
 use Rattle.dom_traversal.proofs.Lists.{name_eq-from}
 use Rattle.node_arena.specs.contracts.key.KeyPartialEq.TheImpl as KeyImpl
 use Rattle.dom_slots.specs.Hosts.{ShadowHost, HostsAreNodes, host_of_root, root_of_host, host_named, root_named}
@@ -28,11 +29,7 @@ is_none-named f o named b told is = twice b ∙ ap not (sym told ∙ (is_some-na
     twice true = refl
     twice false = refl
 
--- names tell nodes apart
-abbrev pub AreDistinct : List NodeName → Type 0
-AreDistinct names = (j k : ℕ) → j < length names → k < length names → name_at names j ≡ name_at names k → j ≡ k
-
-module _ (names : List NodeName) (distinct : AreDistinct names) where
+module _ (names : List NodeName) (distinct : TellApart names) where
   -- the test of keys is that of names
   pub key-test : (j k : ℕ) → j < length names → k < length names → nat_eq j k ≡ name_eq (name_at names j) (name_at names k)
   key-test j k h i = elim (cases_Bool (nat_eq j k)) [
@@ -67,7 +64,7 @@ module _ (names : List NodeName) (distinct : AreDistinct names) where
   ]
 
 -- a key that has the name of another one is that one
-pub named-key : (names : List NodeName) → AreDistinct names → (o : Option ℕ) → ForSome o (λ k. k < length names) → (k : ℕ) → k < length names →
+pub named-key : (names : List NodeName) → TellApart names → (o : Option ℕ) → ForSome o (λ k. k < length names) → (k : ℕ) → k < length names →
     option_map (name_at names) o ≡ Some (name_at names k) → o ≡ Some k
 named-key names distinct None nodes k within e = absurd (none-some (name_at names k) e)
 named-key names distinct (Some j) nodes k within e = ap Some (distinct j k (nodes j refl) within (same_Some (name_at names j) (name_at names k) e))

@@ -13,6 +13,7 @@ use Rattle.dom_model.specs.Slots.{is_slot_element, slots_among}
 use Rattle.dom_model.specs.Tree.{Trees, none, tree, Node, node_in, subtree, parent_of, root_of}
 use Rattle.dom_model.specs.TreeChanges.{with_attribute}
 use Rattle.dom_tree.specs.Forest.{NamedTrees, name_at}
+use Rattle.dom_tree.specs.Apart.{TellApart}
 use Rattle.dom_traversal.proofs.Lists.{In, is_in-from, In-parts}
 use Rattle.dom_traversal.proofs.Shapes.{Has, subtree-present}
 use Rattle.dom_slots.specs.Hosts.{ShadowHost}
@@ -27,7 +28,6 @@ use Rattle.dom_slots.specs.declared.step.Step.TheVariants.{Place, Removal, Attri
 use Rattle.dom_slots.proofs.Ended.{told-signals, there-was, there-now, both-stand, not-own, none-own, but-for, others-among, renewed-table}
 use Rattle.dom_slots.proofs.Far.{IsAway, IsFar, KeepsFar, slot-among, far-kept, alone-kept, changed-far, changed-still}
 use Rattle.dom_slots.proofs.PlacedTrees.{Spot, grafted}
-use Rattle.dom_slots.proofs.Hosted.{AreDistinct}
 use Rattle.dom_slots.proofs.Moved.{AreBoth}
 use Rattle.dom_slots.proofs.OwnSignals.{own-signalled}
 use Rattle.dom_slots.proofs.Renewing.{renewed-anew}
@@ -264,7 +264,7 @@ module _ (was : Trees) (f : NamedTrees) (s : SlotsNow) (b : BegunStep) (ended : 
       (stays (name_at f.names k) (here_was k within) (here_now k within) (inl moves))
 
   -- and before the first list is renewed all are those of the trees now but for the node of the step
-  pub inside-but-for : AreDistinct f.names → MovesNone f s.hosts b.step → IsButFor f s.hosts s.table b.slot b.step
+  pub inside-but-for : TellApart f.names → MovesNone f s.hosts b.step → IsButFor f s.hosts s.table b.slot b.step
   inside-but-for distinct moves = but-for was f s b ended stands distinct (λ y h i. stays y h i (inl moves)) (still moves)
 
   -- the slots that are renewed with a signal

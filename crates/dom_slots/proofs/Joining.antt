@@ -13,7 +13,8 @@ use Rattle.dom_model.specs.Slots.{slot_name}
 use Rattle.dom_model.specs.Tree.{node_in, parent_of, root_of, children_of, siblings}
 use Rattle.dom_model.proofs.OwnerLaws.{name_eq-other}
 use Rattle.dom_tree.specs.Forest.{NamedTrees, name_at}
-use Rattle.dom_traversal.proofs.Children.{parent-of_child, child-of_parent}
+use Rattle.dom_tree.specs.Apart.{TellApart}
+use Rattle.dom_traversal.proofs.Children.{parent-of_child, child-of_parent, children-single}
 use Rattle.dom_traversal.proofs.Lists.{In, Single, Single-apart, Single-right, In-parts, after-in, name_eq-from, filter-same}
 use Rattle.dom_traversal.proofs.Lists.{filter-yes, first_split, split_at}
 use Rattle.dom_traversal.proofs.Shapes.{Once, Has}
@@ -25,11 +26,10 @@ use Rattle.dom_slots.specs.Shadows.{ShadowTrees, shadows, slot_at, is_assigned_a
 use Rattle.dom_slots.proofs.Assigned.{names-in}
 use Rattle.dom_slots.proofs.Attaching.{in_filter}
 use Rattle.dom_slots.proofs.Firsts.{assigned-first}
-use Rattle.dom_slots.proofs.Hosted.{AreDistinct}
 use Rattle.dom_slots.proofs.Mapping.{in-inserted}
 use Rattle.dom_slots.proofs.Renewing.{same_keys}
 use Rattle.dom_slots.proofs.Shortened.{but-none}
-use Rattle.dom_slots.proofs.Siblings.{children-single, parent-stands, siblings-children}
+use Rattle.dom_slots.proofs.Siblings.{parent-stands, siblings-children}
 
 -- keys that are the same, if they are there
 pub same-option : (a b : Option ℕ) → option_eq KeyImpl.ghosts.eq a b ≡ true → a ≡ b
@@ -60,7 +60,7 @@ but-between x (z ∷ zs) b off_a off_b =
     ap (λ d. if not d then z ∷ names_but x (zs ++ x ∷ b) else names_but x (zs ++ x ∷ b)) (name_eq-other x z (λ e. off_a (inl e))) ∙
     ap (λ ys. z ∷ ys) (but-between x zs b (λ i. off_a (inr i)) off_b)
 
-module _ (names : List NodeName) (distinct : AreDistinct names) (n : ℕ) where
+module _ (names : List NodeName) (distinct : TellApart names) (n : ℕ) where
   -- a key that is put just before another one has its name there
   put-named : (c : ℕ) → c < length names → (a b : List NodeName) → (In (name_at names c) a → ⊥) → first_of b ≡ Some (name_at names c) →
       (ks : List ℕ) → All (λ k. k < length names) ks → map (name_at names) ks ≡ a ++ b
@@ -98,7 +98,7 @@ inserted-differs n before xs off =
     true≢false (sym (ap (is_in nat_eq n) (same_keys xs (insert_before xs n before) same) ∙
     (in-inserted n n before xs ∙ or_right (is_in nat_eq n xs) (nat_eq n n) (eq-eqb n n refl))) ∙ off))))
 
-module _ (f : NamedTrees) (once : Once f.trees) (distinct : AreDistinct f.names) (hosts : List ShadowHost) (n k : ℕ) (h : NodeName)
+module _ (f : NamedTrees) (once : Once f.trees) (distinct : TellApart f.names) (hosts : List ShadowHost) (n k : ℕ) (h : NodeName)
     (at : Has f.trees (name_at f.names n)) (up : parent_of f.trees (name_at f.names n) ≡ Some h)
     (hosted : host_named f.names hosts (root_of f.trees (name_at f.names k)) ≡ Some h)
     (own : slot_at (shadows f hosts) (name_at f.names n) ≡ Some (name_at f.names k)) where

@@ -7,10 +7,11 @@ use Rattle.dom_base.specs.declared.NodeName.{NodeName}
 use Rattle.dom_model.specs.Names.{name_eq, list_eq, is_in}
 use Rattle.dom_model.proofs.OwnerLaws.{name_eq-turned}
 use Rattle.dom_tree.specs.Forest.{name_at}
+use Rattle.dom_tree.specs.Apart.{TellApart}
 use Rattle.node_arena.specs.Nodes.{without}
 use Rattle.dom_slots.specs.Renewals.{names_but}
 use Rattle.dom_slots.specs.Tables.{SlotTable, list_of}
-use Rattle.dom_slots.proofs.Hosted.{AreDistinct, key-test}
+use Rattle.dom_slots.proofs.Hosted.{key-test}
 use Rattle.dom_slots.proofs.Renewing.{same_keys}
 
 -- ---- keys
@@ -61,7 +62,7 @@ at-slot change k table new lists j = lists j ∙ by (nat_eq k j) refl
 
 -- ---- names
 
-module _ (names : List NodeName) (distinct : AreDistinct names) (n : ℕ) (node : n < length names) where
+module _ (names : List NodeName) (distinct : TellApart names) (n : ℕ) (node : n < length names) where
   -- a list of names without the name of a node is that of the keys without it
   pub without-named : (ks : List ℕ) → All (λ k. k < length names) ks → map (name_at names) (without n ks) ≡ names_but (name_at names n) (map (name_at names) ks)
   without-named [] inside = refl

@@ -16,12 +16,12 @@ abbrev pub InNodes : Node → List Node → Type 0
 InNodes m [] = ⊥
 InNodes m (n ∷ ns) = (m ≡ n) ⊎ InNodes m ns
 
-in_left : (m : Node) (xs ys : List Node) → InNodes m xs → InNodes m (xs ++ ys)
+pub in_left : (m : Node) (xs ys : List Node) → InNodes m xs → InNodes m (xs ++ ys)
 in_left m [] ys h = absurd h
 in_left m (x ∷ xs) ys (inl e) = inl e
 in_left m (x ∷ xs) ys (inr h) = inr (in_left m xs ys h)
 
-in_right : (m : Node) (xs ys : List Node) → InNodes m ys → InNodes m (xs ++ ys)
+pub in_right : (m : Node) (xs ys : List Node) → InNodes m ys → InNodes m (xs ++ ys)
 in_right m [] ys h = h
 in_right m (x ∷ xs) ys h = inr (in_right m xs ys h)
 

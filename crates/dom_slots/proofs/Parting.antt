@@ -9,6 +9,7 @@ use Rattle.std.proofs.lemmas.List.Elements.{filter-append}
 use Rattle.dom_base.specs.declared.NodeName.{NodeName}
 use Rattle.dom_model.specs.Names.{name_eq, is_in}
 use Rattle.dom_tree.specs.Forest.{NamedTrees, name_at}
+use Rattle.dom_tree.specs.Apart.{TellApart}
 use Rattle.node_arena.specs.Nodes.{without}
 use Rattle.node_arena.specs.contracts.key.KeyPartialEq.TheImpl as KeyImpl
 use Rattle.dom_slots.specs.Hosts.{ShadowHost}
@@ -19,12 +20,12 @@ use Rattle.dom_slots.specs.Steps.{step_node}
 use Rattle.dom_slots.specs.Tables.{SlotTable, list_of}
 use Rattle.dom_slots.specs.declared.step.Step.{Step}
 use Rattle.dom_slots.proofs.Assigned.{slot-assigned}
-use Rattle.dom_slots.proofs.Hosted.{AreDistinct, key-test, named-key}
+use Rattle.dom_slots.proofs.Hosted.{key-test, named-key}
 use Rattle.dom_slots.proofs.Leaving.{without-named, without-same, list_same}
 use Rattle.dom_slots.proofs.Renewing.{renewed-stays}
 use Rattle.dom_slots.proofs.Shortened.{but-none}
 
-module _ (f : NamedTrees) (distinct : AreDistinct f.names) (hosts : List ShadowHost) (step : Step) (node : step_node step < length f.names)
+module _ (f : NamedTrees) (distinct : TellApart f.names) (hosts : List ShadowHost) (step : Step) (node : step_node step < length f.names)
     (old_slot new_slot : Option ℕ)
     (new_node : ForSome new_slot (λ k. k < length f.names))
     (own : option_map (name_at f.names) new_slot ≡ slot_at (shadows f hosts) (name_at f.names (step_node step))) where

@@ -8,8 +8,7 @@ use Rattle.dom_model.specs.Tree.{Trees, none, tree, Node, roots, names_of, or_el
 use Rattle.dom_model.specs.TreeChanges.{without, is_given, put_before, put_below, put_root}
 use Rattle.dom_model.proofs.OwnerLaws.{name_eq-other}
 use Rattle.dom_slots.specs.Renewals.{names_but}
-use Rattle.dom_traversal.proofs.Lists.{same_or_not, name_eq-from, filter-no}
-use Rattle.dom_traversal.proofs.Removal.{Has-without}
+use Rattle.dom_traversal.proofs.Lists.{name_eq-from, filter-no}
 use Rattle.dom_traversal.proofs.Shapes.{Has, Once, above-absent, subtree-absent, subtree-here, subtree-below, subtree-beside}
 
 -- where a tree is put into others: before the first of them, or below or behind that one's root
@@ -148,20 +147,6 @@ without-absent : (ts : Trees) (x : NodeName) → (Has ts x → ⊥) → without 
 without-absent none x off = refl
 without-absent (tree n c r) x off =
     rw (name_eq-other n.name x (λ e. off (inl e)), without-absent c x (λ i. off (inr (inl i))), without-absent r x (λ i. off (inr (inr i)))) refl
-
--- those that are left stand once too
-pub Once-without : (ts : Trees) (x : NodeName) → Once ts → Once (without x ts)
-Once-without none x once = tt
-Once-without (tree n c r) x once = elim (same_or_not n.name x) [
-  | inl e ↦ rw (name_eq-from n.name x e) (Once-without r x once.4)
-  | inr other ↦ rw (name_eq-other n.name x other) (
-    λ h. once.0 (Has-without c x n.name h),
-    λ h. once.1 (Has-without r x n.name h),
-    λ y h i. once.2 y (Has-without c x y h) (Has-without r x y i),
-    Once-without c x once.3,
-    Once-without r x once.4,
-  )
-]
 
 -- trees that have x are the others with the tree of x
 pub record Splits (ts : Trees) (x : NodeName) : Type 0 where

@@ -10,13 +10,14 @@ use Rattle.dom_base.specs.declared.NodeName.{NodeName}
 use Rattle.dom_model.specs.Names.{name_eq, list_eq, is_in, append_once}
 use Rattle.dom_model.proofs.OwnerLaws.{name_eq-turned, name_eq-true}
 use Rattle.dom_tree.specs.Forest.{NamedTrees, name_at}
+use Rattle.dom_tree.specs.Apart.{TellApart}
 use Rattle.dom_traversal.proofs.Lists.{filter-yes, filter-no}
 use Rattle.dom_slots.specs.Hosts.{ShadowHost}
 use Rattle.dom_slots.specs.Renewals.{AreRenewed}
 use Rattle.dom_slots.specs.Shadows.{shadows, assigned_at}
 use Rattle.dom_slots.specs.Tables.{SlotTable, list_of}
 use Rattle.dom_slots.proofs.Entering.{entered_nodes, entered_beyond}
-use Rattle.dom_slots.proofs.Hosted.{AreDistinct, key-test}
+use Rattle.dom_slots.proofs.Hosted.{key-test}
 use Rattle.dom_slots.proofs.OwnSignals.{again_added, passing}
 use Rattle.dom_slots.proofs.Signalled.{list_eq-self, list_eq-named, one_signalled, node_added}
 
@@ -29,7 +30,7 @@ same_keys (j ∷ js) (k ∷ ks) e =
     let parts = and_parts (nat_eq j k) (list_eq nat_eq js ks) e in
     ap (λ i. i ∷ js) (eqb-true j k parts.0) ∙ ap (λ is. k ∷ is) (same_keys js ks parts.1)
 
-module _ (f : NamedTrees) (apart : AreDistinct f.names) (hosts : List ShadowHost) (p : NodeName → Bool) (old : SlotTable)
+module _ (f : NamedTrees) (apart : TellApart f.names) (hosts : List ShadowHost) (p : NodeName → Bool) (old : SlotTable)
     (done told : List NodeName) (table : SlotTable) (keys : List ℕ) (r : AreRenewed f hosts p old done told table keys)
     (k : ℕ) (node : k < length f.names) (list : List ℕ) (right : map (name_at f.names) list ≡ assigned_at (shadows f hosts) (name_at f.names k))
     (inside : All (λ j. j < length f.names) list) where
@@ -195,7 +196,7 @@ renewed-anew f hosts p old done told table keys r = record {
         (sym (r.kept k within i))))
 
 -- A slot more is signalled, whatever its list.
-pub told-more : (f : NamedTrees) (apart : AreDistinct f.names) (hosts : List ShadowHost) (p : NodeName → Bool) (old : SlotTable)
+pub told-more : (f : NamedTrees) (apart : TellApart f.names) (hosts : List ShadowHost) (p : NodeName → Bool) (old : SlotTable)
     (done told : List NodeName) (table : SlotTable) (keys next : List ℕ) (k : ℕ)
     → AreRenewed f hosts p old done told table keys → k < length f.names → next ≡ append_once nat_eq keys k →
     AreRenewed f hosts p old done (told ++ name_at f.names k ∷ []) table next

@@ -15,12 +15,12 @@ use Rattle.dom_traversal.proofs.Lists.{name_eq-from}
 use Rattle.dom_slots.specs.Shadows.{ShadowTrees, IsShownBy, slot_at, assigned_at, assigned_under, is_assigned_at, signals_at}
 
 -- a value that is there is kept, or not
-some_if-kept : (o : Option NodeName) (b : Bool) → b ≡ true → option_and_then (some_if b) o ≡ o
+pub some_if-kept : (o : Option NodeName) (b : Bool) → b ≡ true → option_and_then (some_if b) o ≡ o
 some_if-kept None b e = refl
 some_if-kept (Some x) b e = ap (λ c. some_if c x) e
 
 -- one that is not
-some_if-dropped : (o : Option NodeName) (b : Bool) → b ≡ false → option_and_then (some_if b) o ≡ None
+pub some_if-dropped : (o : Option NodeName) (b : Bool) → b ≡ false → option_and_then (some_if b) o ≡ None
 some_if-dropped None b e = refl
 some_if-dropped (Some x) b e = ap (λ c. some_if c x) e
 

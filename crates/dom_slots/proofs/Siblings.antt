@@ -11,8 +11,7 @@ use Rattle.dom_tree.specs.Forest.{NamedTrees, name_at}
 use Rattle.dom_traversal.proofs.Lists.{In, In-left, In-right, Single, Single-right, Single-apart, no_first, first_split, split_at, after-split}
 use Rattle.dom_traversal.proofs.Lists.{after-in, name_eq-from}
 use Rattle.dom_traversal.proofs.Shapes.{Once, Has, above-present, above-parent, below-from_above}
-use Rattle.dom_traversal.proofs.Children.{In-names, parent-of_child, child-of_parent, descendants-children}
-use Rattle.dom_traversal.proofs.Order.{IsWithin, all_single}
+use Rattle.dom_traversal.proofs.Children.{In-names, parent-of_child, child-of_parent, children-single}
 
 -- the items from one on; none where there is none
 abbrev pub from_item : List NodeName → Option NodeName → List NodeName
@@ -52,17 +51,6 @@ single_from_flat f (x ∷ xs) own s =
 -- a node in its own tree
 itself : (ts : Trees) (x : NodeName) → Once ts → Has ts x → In x (inclusive_descendants ts x)
 itself ts x once h = In-names (subtree ts x) x (below-from_above ts x x once h (subst (In x) (sym (above-present ts x h).1) (inl refl)))
-
--- no child stands twice among the children
-pub children-single : (ts : Trees) (p : NodeName) → Once ts → Has ts p → Single (children_of ts p)
-children-single ts p once h =
-    let w : IsWithin ts p p = record {
-      once = once;
-      top_stands = h;
-      stands = below-from_above ts p p once h (subst (In p) (sym (above-present ts p h).1) (inl refl));
-    } in
-    let all : Single (p ∷ flat_map (inclusive_descendants ts) (children_of ts p)) = subst Single (descendants-children ts p once h) (all_single ts p p w) in
-    single_from_flat (inclusive_descendants ts) (children_of ts p) (λ y i. itself ts y once (parent-of_child ts p y once h i).1) all.1
 
 -- a parent stands where its child does
 pub parent-stands : (ts : Trees) → Once ts → (x h : NodeName) → Has ts x → parent_of ts x ≡ Some h → Has ts h

@@ -11,8 +11,9 @@ use Rattle.dom_base.specs.declared.NodeName.{NodeName}
 use Rattle.dom_model.specs.Names.{name_eq, is_in, append_once, distinct, list_eq}
 use Rattle.dom_model.proofs.OwnerLaws.{name_eq-turned, name_eq-true}
 use Rattle.dom_tree.specs.Forest.{name_at}
+use Rattle.dom_tree.specs.Apart.{TellApart}
 use Rattle.dom_traversal.proofs.Lists.{name_eq-from, filter-yes, filter-no}
-use Rattle.dom_slots.proofs.Hosted.{AreDistinct, key-test}
+use Rattle.dom_slots.proofs.Hosted.{key-test}
 
 -- ---- names added one by one are those of the list, each at its first place
 
@@ -86,7 +87,7 @@ list_eq-self (x ∷ xs) = rw (name_eq-from x x refl) (list_eq-self xs)
 
 -- ---- the same by keys
 
-module _ (names : List NodeName) (apart : AreDistinct names) where
+module _ (names : List NodeName) (apart : TellApart names) where
   -- a key is among keys just where its name is among their names
   is_in-named : (k : ℕ) (ks : List ℕ) → k < length names → All (λ j. j < length names) ks →
       is_in nat_eq k ks ≡ is_in name_eq (name_at names k) (map (name_at names) ks)

@@ -13,6 +13,7 @@ use Rattle.dom_model.specs.Names.{name_eq, is_in, node_of}
 use Rattle.dom_model.specs.Slots.{slot_in}
 use Rattle.dom_model.specs.Tree.{nodes, names_of, node_in, subtree, parent_of, root_of, children_of}
 use Rattle.dom_tree.specs.Forest.{NamedTrees, name_at}
+use Rattle.dom_tree.specs.Apart.{TellApart}
 use Rattle.dom_traversal.proofs.Children.{In-names, child-of_parent}
 use Rattle.dom_traversal.proofs.Lists.{In, is_in-from, name_eq-from}
 use Rattle.dom_traversal.proofs.Shapes.{Has, Once, Has-subtree, has_or_not}
@@ -21,12 +22,12 @@ use Rattle.dom_slots.specs.Kept.{StandsOnce}
 use Rattle.dom_slots.specs.Shadows.{ShadowTrees, shadows, slot_at, is_assigned_at, assigned_under, assigned_at}
 use Rattle.dom_slots.specs.Tables.{SlotTable, list_of, IsTableOf}
 use Rattle.dom_slots.proofs.Attaching.{to_filter}
-use Rattle.dom_slots.proofs.Hosted.{AreDistinct, key-test}
+use Rattle.dom_slots.proofs.Hosted.{key-test}
 use Rattle.dom_slots.proofs.Rooted.{root-alone, root-below}
 use Rattle.dom_slots.proofs.Settled.{slot-outside}
 
 -- a node whose name is among those of keys is among these
-in-keys : (names : List NodeName) → AreDistinct names → (n : ℕ) → n < length names → (ks : List ℕ) → All (λ k. k < length names) ks →
+in-keys : (names : List NodeName) → TellApart names → (n : ℕ) → n < length names → (ks : List ℕ) → All (λ k. k < length names) ks →
     In (name_at names n) (map (name_at names) ks) → is_in nat_eq n ks ≡ true
 in-keys names distinct n node [] inside i = absurd i
 in-keys names distinct n node (k ∷ ks) inside (inl same) =
@@ -35,7 +36,7 @@ in-keys names distinct n node (k ∷ ks) inside (inl same) =
 in-keys names distinct n node (k ∷ ks) inside (inr i) =
     or_right (nat_eq n k) _ (in-keys names distinct n node ks (All-tail (λ j. j < length names) k ks inside) i)
 
-module _ (f : NamedTrees) (stands : StandsOnce f) (once : Once f.trees) (distinct : AreDistinct f.names) (hosts : List ShadowHost)
+module _ (f : NamedTrees) (stands : StandsOnce f) (once : Once f.trees) (distinct : TellApart f.names) (hosts : List ShadowHost)
     (table : SlotTable) (is : IsTableOf f hosts table) (n : ℕ) (node : n < length f.names)
     (unlisted : (s : ℕ) → is_in nat_eq n (list_of table s) ≡ false) (at : Has f.trees (name_at f.names n)) (p r : NodeName)
     (up : parent_of f.trees (name_at f.names n) ≡ Some p) (shadow : root_named f.names hosts p ≡ Some r)

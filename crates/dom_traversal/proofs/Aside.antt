@@ -10,13 +10,14 @@ use Rattle.dom_model.specs.Names.{first_of}
 use Rattle.dom_model.specs.Traversal.{accepts}
 use Rattle.dom_model.specs.Tree.{is_inclusive_ancestor, inclusive_ancestors, ancestors, parent_of, children_of, next_sibling}
 use Rattle.dom_tree.specs.Forest.{NamedTrees, name_at}
+use Rattle.dom_tree.specs.Apart.{TellApart}
 use Rattle.dom_traversal.specs.Walkers.{is_stop, stop_above}
 use Rattle.dom_traversal.specs.Within.{behind, beyond, StandsBelow}
 use Rattle.dom_traversal.proofs.Lists.{In, In-from, is_in-from, first_split}
 use Rattle.dom_traversal.proofs.Order.{here, behind_is}
 use Rattle.dom_traversal.proofs.Steps.{first_child, no_child}
 use Rattle.dom_traversal.proofs.Counts.{StandOnce, StandAlone, Once-forest, Has-forest}
-use Rattle.dom_traversal.proofs.Climbing.{TellApart, was_none, was_some}
+use Rattle.dom_traversal.proofs.Climbing.{was_none, was_some}
 use Rattle.dom_traversal.proofs.Opening.{above-proper}
 use Rattle.dom_traversal.proofs.Stops.{IsBelow, within-below, root-below, below-stop, below-child, below-up, path_up, stop-above, aside_next}
 use Rattle.dom_traversal.proofs.Stops.{aside_ends, aside_up}
@@ -136,7 +137,7 @@ module _ (f : NamedTrees) (once : StandOnce f) (only : StandAlone f) (filter : F
       (sym is ∙ ap (option_map (name_at f.names)) (was_none next none_left)) (sym up) e
 
 -- a node that stands in the tree of another one and is not that one stands below it
-pub StandsBelow-walker : (f : NamedTrees) → StandOnce f → StandAlone f → TellApart f → (root current : ℕ) → root < length f.names → current < length f.names
+pub StandsBelow-walker : (f : NamedTrees) → StandOnce f → StandAlone f → TellApart f.names → (root current : ℕ) → root < length f.names → current < length f.names
     → eqb current root ≡ false → is_inclusive_ancestor f.trees (name_at f.names root) (name_at f.names current) ≡ true → StandsBelow f root current
 StandsBelow-walker f once only apart root current at_root at_current other above =
     let at = Has-forest f once current at_current in

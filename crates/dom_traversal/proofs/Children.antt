@@ -16,7 +16,7 @@ use Rattle.dom_traversal.proofs.Shapes.{above-here, above-below, above-beside, a
 -- ---- roots are the nodes with nothing above them
 
 -- roots stand in the trees
-Has-root : (d : Trees) (x : NodeName) → In x (names_of (roots d)) → Has d x
+pub Has-root : (d : Trees) (x : NodeName) → In x (names_of (roots d)) → Has d x
 Has-root none x i = i
 Has-root (tree n c r) x (inl e) = inl (sym e)
 Has-root (tree n c r) x (inr i) = inr (inr (Has-root r x i))
@@ -27,8 +27,20 @@ above-of_root none x once i = absurd i
 above-of_root (tree n c r) x once (inl e) = above-here n c r x (sym e)
 above-of_root (tree n c r) x once (inr i) = above-beside n c r x once (Has-root r x i) ∙ above-of_root r x once.4 i
 
+-- roots differ
+roots-single : (ts : Trees) → Once ts → Single (names_of (roots ts))
+roots-single none once = tt
+roots-single (tree n c r) once = (λ i. once.1 (Has-root r n.name i), roots-single r once.4)
+
+-- so do the children of a node
+pub children-single : (ts : Trees) (p : NodeName) → Once ts → Has ts p → Single (children_of ts p)
+children-single ts p once h =
+    let w = subtree-present ts p h in
+    let below : Once (tree w.0 w.1 none) = subst Once w.2 (Once-subtree ts p once h) in
+    subst (λ (us : Trees). Single (names_of (roots (trees_below us)))) (sym w.2) (roots-single w.1 below.3)
+
 -- a list of two items or more is none of one item
-two_or_more : (x : NodeName) (xs : List NodeName) (a : NodeName) → x ∷ (xs ++ a ∷ []) ≡ x ∷ [] → ⊥
+pub two_or_more : (x : NodeName) (xs : List NodeName) (a : NodeName) → x ∷ (xs ++ a ∷ []) ≡ x ∷ [] → ⊥
 two_or_more x [] a e = cc
 two_or_more x (y ∷ xs) a e = cc
 

@@ -7,16 +7,13 @@ use Rattle.dom_base.specs.declared.NodeName.{NodeName}
 use Rattle.dom_model.specs.Names.{first_of}
 use Rattle.dom_model.specs.Tree.{Trees, parent_of, next_sibling, inclusive_ancestors}
 use Rattle.dom_tree.specs.Forest.{NamedTrees, name_at}
+use Rattle.dom_tree.specs.Apart.{TellApart}
 use Rattle.dom_traversal.specs.Within.{beyond, StandsIn}
 use Rattle.dom_traversal.proofs.Shapes.{above-parent}
 use Rattle.dom_traversal.proofs.Order.{IsWithin, stands_in, here}
 use Rattle.dom_traversal.proofs.Steps.{within-parent, within-root, next_places, no_next}
 use Rattle.dom_traversal.proofs.Counts.{StandOnce, StandAlone, above-within}
 use Rattle.dom_traversal.proofs.Searching.{IsWithin-key, StandsIn-found}
-
--- the names tell the nodes apart
-abbrev pub TellApart : NamedTrees → Type 0
-TellApart f = (j k : ℕ) → j < length f.names → k < length f.names → name_at f.names j ≡ name_at f.names k → j ≡ k
 
 -- an option that is not there
 pub was_none : {X : Type 0} (o : Option X) → is_some o ≡ false → o ≡ None
@@ -96,11 +93,11 @@ climb_ends f once only top k up s other up_is e =
     within-root f.trees (name_at f.names top) (name_at f.names k) (IsWithin-key f once only top k s) other (sym up_is ∙ ap (option_map (name_at f.names)) e)
 
 -- two keys that differ have names that differ
-pub other_name : (f : NamedTrees) → TellApart f → (j k : ℕ) → j < length f.names → k < length f.names → not (eqb j k) ≡ true →
+pub other_name : (f : NamedTrees) → TellApart f.names → (j k : ℕ) → j < length f.names → k < length f.names → not (eqb j k) ≡ true →
     name_at f.names j ≡ name_at f.names k → ⊥
 other_name f apart j k at_j at_k e same = both_ways _ (not-true _ e) (eq-eqb j k (apart j k at_j at_k same))
 
 -- two keys of which the test says that they differ have names that differ
-pub other_key : (f : NamedTrees) → TellApart f → (j k : ℕ) → j < length f.names → k < length f.names → eqb j k ≡ false →
+pub other_key : (f : NamedTrees) → TellApart f.names → (j k : ℕ) → j < length f.names → k < length f.names → eqb j k ≡ false →
     name_at f.names j ≡ name_at f.names k → ⊥
 other_key f apart j k at_j at_k e = other_name f apart j k at_j at_k (ap not e)

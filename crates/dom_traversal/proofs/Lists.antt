@@ -1,12 +1,11 @@
 -- Lists of names: their members, their first places, and how they split at a name.
-use Rattle.std.proofs.Common.{◌≡◌, ◌⊎◌, inl, inr, ℕ, Bool, true, false, List, [], ◌∷◌, ◌++◌, Option, Some, None, refl, sym, ap, subst, ◌∙◌, true≢false}
+use Rattle.std.proofs.Common.{◌≡◌, ◌⊎◌, inl, inr, Bool, true, false, List, [], ◌∷◌, ◌++◌, Option, Some, None, refl, sym, ap, subst, ◌∙◌, true≢false}
 use Rattle.std.specs.Prelude.{filter}
 use Rattle.std.specs.List.{last_or}
-use Rattle.std.proofs.lemmas.Bool.{eqb-true, and_parts, cases_Bool, or_cases, or_left, or_right, false_from_ne_true, both_ways}
+use Rattle.std.proofs.lemmas.Bool.{cases_Bool, or_cases, or_left, or_right, false_from_ne_true, both_ways}
 use Rattle.dom_base.specs.declared.NodeName.{NodeName}
-use Rattle.dom_base.specs.declared.Owner.{Owner}
-use Rattle.dom_model.specs.Names.{owner_eq, name_eq, is_in, items_before, items_after, first_of, last_of}
-use Rattle.dom_model.proofs.OwnerLaws.{owner_eq-true, name_eq-same, name_eq-true, name_eq-other}
+use Rattle.dom_model.specs.Names.{name_eq, is_in, items_before, items_after, first_of, last_of}
+use Rattle.dom_model.proofs.OwnerLaws.{name_eq-same, name_eq-true, name_eq-other}
 
 -- the test at one name
 pub name_eq-from : (x y : NodeName) → x ≡ y → name_eq x y ≡ true

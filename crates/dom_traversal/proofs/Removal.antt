@@ -26,6 +26,20 @@ Has-without (tree n c r) x y h = elim (same_or_not n.name x) [
     by (inr (inl i)) in_c in_r = inr (inl (in_c i))
     by (inr (inr i)) in_c in_r = inr (inr (in_r i))
 
+-- those that are left stand once too
+pub Once-without : (ts : Trees) (x : NodeName) → Once ts → Once (without x ts)
+Once-without none x once = tt
+Once-without (tree n c r) x once = elim (same_or_not n.name x) [
+  | inl e ↦ rw (name_eq-from n.name x e) (Once-without r x once.4)
+  | inr other ↦ rw (name_eq-other n.name x other) (
+    λ h. once.0 (Has-without c x n.name h),
+    λ h. once.1 (Has-without r x n.name h),
+    λ y h i. once.2 y (Has-without c x y h) (Has-without r x y i),
+    Once-without c x once.3,
+    Once-without r x once.4,
+  )
+]
+
 -- where the tree of x is
 abbrev Place : Node → Trees → Trees → NodeName → Type 0
 Place n c r x = (n.name ≡ x) ⊎ (Has c x ⊎ (Has r x ⊎ (Has (tree n c r) x → ⊥)))
@@ -122,38 +136,45 @@ above-without (tree n c r) x y once (inr (inr g)) off = elim (same_or_not n.name
         (ap (λ path. on_top path n.name (inclusive_ancestors (without x r) y)) (above-absent (without x c) y (λ i. once.2 y (Has-without c x y i) g))
         ∙ (same ∙ sym (ap (λ path. on_top path n.name (inclusive_ancestors r y)) (above-absent c y (λ i. once.2 y i g)))))
 
+-- above a node of the first of some trees
+pub above-in_first : (m : Node) (d ts : Trees) (y : NodeName) → Has (tree m d none) y →
+    inclusive_ancestors (tree m d ts) y ≡ inclusive_ancestors (tree m d none) y
+above-in_first m d ts y h = by (same_or_not m.name y) h
+  where
+    by : (m.name ≡ y) ⊎ (m.name ≡ y → ⊥) → Has (tree m d none) y → inclusive_ancestors (tree m d ts) y ≡ inclusive_ancestors (tree m d none) y
+    by (inl same) g = above-here m d ts y same ∙ sym (above-here m d none y same)
+    by (inr other) (inl same) = absurd (other same)
+    by (inr other) (inr (inl i)) =
+        let w = above-present d y i in
+        rw (name_eq-other m.name y other)
+        (ap (λ path. on_top path m.name (inclusive_ancestors ts y)) w.1 ∙ sym (ap (λ path. on_top path m.name []) w.1))
+    by (inr other) (inr (inr i)) = absurd i
+
+-- and of one behind it
+pub above-behind_first : (m : Node) (d ts : Trees) (y : NodeName) → (Has (tree m d none) y → ⊥) → inclusive_ancestors (tree m d ts) y ≡ inclusive_ancestors ts y
+above-behind_first m d ts y off =
+    ap (λ b. if b then y ∷ [] else on_top (inclusive_ancestors d y) m.name (inclusive_ancestors ts y)) (name_eq-other m.name y (λ same. off (inl same)))
+    ∙ ap (λ path. on_top path m.name (inclusive_ancestors ts y)) (above-absent d y (λ i. off (inr (inl i))))
+
 -- a tree among the roots: above a node of the others
 pub above-put_others : (x : NodeName) (m : Node) (d ts : Trees) (y : NodeName) → (Has (tree m d none) y → ⊥) →
     inclusive_ancestors (put_root x (tree m d none) ts) y ≡ inclusive_ancestors ts y
 above-put_others x m d none y off = above-absent (tree m d none) y off
 above-put_others x m d (tree n c r) y off = elim (cases_Bool (name_before x n.name)) [
-  | inl e ↦ rw e (first (name_eq-other m.name y (λ same. off (inl same))) (above-absent d y (λ i. off (inr (inl i)))))
+  | inl e ↦ rw e (above-behind_first m d (tree n c r) y off)
   | inr e ↦ rw e (ap (λ path. if name_eq n.name y then y ∷ [] else on_top (inclusive_ancestors c y) n.name path) (above-put_others x m d r y off))
 ]
-  where
-    first : name_eq m.name y ≡ false → inclusive_ancestors d y ≡ [] → inclusive_ancestors (tree m d (tree n c r)) y ≡ inclusive_ancestors (tree n c r) y
-    first no_m empty = ap (λ b. if b then y ∷ [] else on_top (inclusive_ancestors d y) m.name (inclusive_ancestors (tree n c r) y)) no_m ∙
-        ap (λ path. on_top path m.name (inclusive_ancestors (tree n c r) y)) empty
 
 -- and above a node of its own
 above-put_own : (x : NodeName) (m : Node) (d ts : Trees) (y : NodeName) → Has (tree m d none) y → (Has ts y → ⊥) →
     inclusive_ancestors (put_root x (tree m d none) ts) y ≡ inclusive_ancestors (tree m d none) y
 above-put_own x m d none y h off = refl
 above-put_own x m d (tree n c r) y h off = elim (cases_Bool (name_before x n.name)) [
-  | inl e ↦ rw e (first (same_or_not m.name y) h)
+  | inl e ↦ rw e (above-in_first m d (tree n c r) y h)
   | inr e ↦ rw e (later (name_eq-other n.name y (λ same. off (inl same))) (above-absent c y (λ i. off (inr (inl i)))) ∙
       above-put_own x m d r y h (λ i. off (inr (inr i))))
 ]
   where
-    first : (m.name ≡ y) ⊎ (m.name ≡ y → ⊥) → Has (tree m d none) y → inclusive_ancestors (tree m d (tree n c r)) y ≡ inclusive_ancestors (tree m d none) y
-    first (inl same) g = above-here m d (tree n c r) y same ∙ sym (above-here m d none y same)
-    first (inr other) (inl same) = absurd (other same)
-    first (inr other) (inr (inl i)) =
-        let w = above-present d y i in
-        rw (name_eq-other m.name y other)
-        (ap (λ path. on_top path m.name (inclusive_ancestors (tree n c r) y)) w.1 ∙ sym (ap (λ path. on_top path m.name []) w.1))
-    first (inr other) (inr (inr i)) = absurd i
-
     later : name_eq n.name y ≡ false → inclusive_ancestors c y ≡ [] →
         inclusive_ancestors (tree n c (put_root x (tree m d none) r)) y ≡ inclusive_ancestors (put_root x (tree m d none) r) y
     later no_n empty =

@@ -9,8 +9,6 @@ use Rattle.std.specs.Option.{option_eq, option_map, option_map_or, option_and_th
 use Rattle.std.proofs.lemmas.Bool.{eq-eqb, ne_eqb, eqb-true, cases_Bool, both_ways, or_parts, false_from_ne_true}
 use Rattle.std.proofs.lemmas.List.Sums.{sum_by-append}
 use Rattle.dom_base.specs.declared.Owner.{Owner}
-use Rattle.dom_base.specs.declared.Kind.{Kind}
-use Rattle.dom_base.specs.declared.Kind.TheVariants.{Document, Fragment, Shadow, Element, Text, Comment}
 use Rattle.dom_model.specs.Tree.{Node, is_element, is_text, kind_of, node_in, child_nodes, trees_below, subtree}
 use Rattle.dom_model.specs.TreeChanges.{is_given}
 use Rattle.dom_model.specs.Validity.{without_given, element_count, has_text}
@@ -192,14 +190,6 @@ shows_counted {f = f} {ps = ps} {lists = lists} {keys = keys} is kept k apart no
 pub is_text_key-stored : (ps : List Stored) (k : ℕ) (s : Stored) → slice_get ps k ≡ Some s → is_text_key (nodes_of ps) k ≡ is_text s.node.kind
 unfolding is_text_key
 is_text_key-stored ps k s at = ap (λ n. is_text n.kind) (node_at-stored (stored_names ps) ps k s at)
-
-pub is_element-is : (k : Kind) → is_element k ≡ true → k ≡ Element
-is_element-is Element e = refl
-is_element-is Document e = absurd (true≢false (sym e))
-is_element-is Fragment e = absurd (true≢false (sym e))
-is_element-is Shadow e = absurd (true≢false (sym e))
-is_element-is Text e = absurd (true≢false (sym e))
-is_element-is Comment e = absurd (true≢false (sym e))
 
 pub shows_text : {f : NamedTrees} {ps : List Stored} {lists : List (List ℕ)} {keys : Owner → List ℕ} → seen ps lists ≡ f → IsKept ps lists keys
     → (k : ℕ) → k < length f.names → is_text (kind_of f.trees (name_at f.names k)) ≡ is_text_key (nodes_of ps) k

@@ -4,5 +4,6 @@ pub mod Rows
 pub mod Contents
 pub mod Forest
 pub mod Owners
+pub mod Apart
 pub mod EachNode
 pub mod Attributes

@@ -1,5 +1,5 @@
 -- What stands above a node stays above it when trees are placed, added and given other contents.
-use Rattle.std.proofs.Common.{◌≡◌, ◌⊎◌, inl, inr, Bool, true, false, cond, List, [], ◌∷◌, Option, None, refl, sym, ap, subst, ◌∙◌}
+use Rattle.std.proofs.Common.{◌≡◌, inl, inr, Bool, true, false, cond, List, [], ◌∷◌, Option, None, refl, sym, ap, subst, ◌∙◌}
 use Rattle.std.proofs.lemmas.Bool.{cases_Bool, both_ways}
 use Rattle.dom_base.specs.declared.NodeName.{NodeName}
 use Rattle.dom_model.specs.Names.{name_eq, is_in}
@@ -7,9 +7,9 @@ use Rattle.dom_model.specs.Tree.{Trees, none, tree, Node, subtree, on_top, inclu
 use Rattle.dom_model.specs.TreeChanges.{without, put_before, put_below, placed, with_node, is_given, map_nodes, change_node, change_subtree}
 use Rattle.dom_model.proofs.OwnerLaws.{name_eq-other}
 use Rattle.dom_traversal.proofs.Lists.{In, In-from, is_in-from, In-left, same_or_not, name_eq-from}
-use Rattle.dom_traversal.proofs.Shapes.{Has, Once, IsTreeOf, has_or_not, above-absent, above-present, above-here, Has-above, above-root}
+use Rattle.dom_traversal.proofs.Shapes.{Has, Once, IsTreeOf, has_or_not, above-absent, above-present, Has-above, above-root}
 use Rattle.dom_traversal.proofs.Shapes.{subtree-present, subtree-within, Once-subtree, above-from_below, below-from_above}
-use Rattle.dom_traversal.proofs.Removal.{Has-without, without-apart, above-without, above-put_others}
+use Rattle.dom_traversal.proofs.Removal.{without-apart, above-without, above-put_others, Once-without, above-in_first, above-behind_first}
 use Rattle.dom_traversal.proofs.Chains.{above-chain}
 use Rattle.dom_tree_laws.proofs.Paths.{IsOnce, lacks_from}
 use Rattle.dom_tree_laws.proofs.Moves.{path_placed}
@@ -59,20 +59,11 @@ above-put_before : (before : Option NodeName) (m : Node) (d ts : Trees) (y : Nod
     → inclusive_ancestors (put_before before (tree m d none) ts) y ≡ inclusive_ancestors (tree m d none) y
 above-put_before before m d none y h off = refl
 above-put_before before m d (tree n c r) y h off = elim (cases_Bool (is_given before n.name)) [
-  | inl e ↦ rw e (first (same_or_not m.name y) h)
+  | inl e ↦ rw e (above-in_first m d (tree n c r) y h)
   | inr e ↦ rw e (later (name_eq-other n.name y (λ same. off (inl same))) (above-absent c y (λ i. off (inr (inl i)))) ∙
       above-put_before before m d r y h (λ i. off (inr (inr i))))
 ]
   where
-    first : (m.name ≡ y) ⊎ (m.name ≡ y → ⊥) → Has (tree m d none) y → inclusive_ancestors (tree m d (tree n c r)) y ≡ inclusive_ancestors (tree m d none) y
-    first (inl same) g = above-here m d (tree n c r) y same ∙ sym (above-here m d none y same)
-    first (inr other) (inl same) = absurd (other same)
-    first (inr other) (inr (inl i)) =
-        let w = above-present d y i in
-        rw (name_eq-other m.name y other)
-        (ap (λ path. on_top path m.name (inclusive_ancestors (tree n c r) y)) w.1 ∙ sym (ap (λ path. on_top path m.name []) w.1))
-    first (inr other) (inr (inr i)) = absurd i
-
     later : name_eq n.name y ≡ false → inclusive_ancestors c y ≡ [] →
         inclusive_ancestors (tree n c (put_before before (tree m d none) r)) y ≡ inclusive_ancestors (put_before before (tree m d none) r) y
     later no_n empty =
@@ -84,13 +75,9 @@ above-put_before_others : (before : Option NodeName) (m : Node) (d ts : Trees) (
     inclusive_ancestors (put_before before (tree m d none) ts) y ≡ inclusive_ancestors ts y
 above-put_before_others before m d none y off = above-absent (tree m d none) y off
 above-put_before_others before m d (tree n c r) y off = elim (cases_Bool (is_given before n.name)) [
-  | inl e ↦ rw e (first (name_eq-other m.name y (λ same. off (inl same))) (above-absent d y (λ i. off (inr (inl i)))))
+  | inl e ↦ rw e (above-behind_first m d (tree n c r) y off)
   | inr e ↦ rw e (ap (λ path. cond (name_eq n.name y) (y ∷ []) (on_top (inclusive_ancestors c y) n.name path)) (above-put_before_others before m d r y off))
 ]
-  where
-    first : name_eq m.name y ≡ false → inclusive_ancestors d y ≡ [] → inclusive_ancestors (tree m d (tree n c r)) y ≡ inclusive_ancestors (tree n c r) y
-    first no_m empty = ap (λ b. cond b (y ∷ []) (on_top (inclusive_ancestors d y) m.name (inclusive_ancestors (tree n c r) y))) no_m ∙
-        ap (λ path. on_top path m.name (inclusive_ancestors (tree n c r) y)) empty
 
 -- put below a parent that is not there
 put_below-absent : (parent : NodeName) (before : Option NodeName) (new ts : Trees) → (Has ts parent → ⊥) → put_below parent before new ts ≡ ts
@@ -140,20 +127,6 @@ above-put_below parent before m d (tree n c r) a y once at h off i = elim (same_
         (inclusive_ancestors (put_below parent before (tree m d none) r) y))
     beside same j = subst (λ path. In a (on_top path n.name (inclusive_ancestors (put_below parent before (tree m d none) r) y)))
         (sym (ap (λ us. inclusive_ancestors us y) same ∙ above-absent c y (λ k. off (inr (inl k))))) j
-
--- the trees without one of them: each name stands once
-Once-without : (ts : Trees) (x : NodeName) → Once ts → Once (without x ts)
-Once-without none x once = tt
-Once-without (tree n c r) x once = elim (same_or_not n.name x) [
-  | inl e ↦ rw (name_eq-from n.name x e) (Once-without r x once.4)
-  | inr other ↦ rw (name_eq-other n.name x other) (
-    λ h. once.0 (Has-without c x n.name h),
-    λ h. once.1 (Has-without r x n.name h),
-    λ y h g. once.2 y (Has-without c x y h) (Has-without r x y g),
-    Once-without c x once.3,
-    Once-without r x once.4,
-  )
-]
 
 module _ (ts : Trees) (once : Once ts) (x parent : NodeName) (before : Option NodeName) (at_x : Has ts x) (at_parent : Has ts parent)
     (unlinked : parent_of ts x ≡ None) (apart : is_inclusive_ancestor ts x parent ≡ false) where

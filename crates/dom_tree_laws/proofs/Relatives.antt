@@ -171,7 +171,7 @@ behind_others x (y ∷ ys) once = elim (cases_Bool (name_eq x y)) [
   | inr h ↦ rw h (behind_others x ys once.1)
 ]
 
-behind_all : (P : NodeName → Type 0) (x : NodeName) (xs : List NodeName) → Each P xs → Each P (items_after name_eq x xs)
+pub behind_all : (P : NodeName → Type 0) (x : NodeName) (xs : List NodeName) → Each P xs → Each P (items_after name_eq x xs)
 behind_all P x [] h = tt
 behind_all P x (y ∷ ys) h = elim (cases_Bool (name_eq x y)) [
   | inl e ↦ rw e h.1

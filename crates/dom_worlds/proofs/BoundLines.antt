@@ -1,12 +1,11 @@
 -- Commands and lines keep the ends of ranges within their nodes.
 use Rattle.std.proofs.Common.{zero, suc, ◌≡◌, ℕ, ◌+◌, Bool, true, false, not, ◌&&◌, List, [], ◌∷◌, filter, drop, Option, Some, None, option_map, refl}
-use Rattle.std.proofs.Common.{sym, arith, true≢false, subst}
+use Rattle.std.proofs.Common.{sym, arith, subst}
 use Rattle.std.specs.Prelude.{⊤, slice_get}
 use Rattle.std.specs.List.{AllByRecursion}
 use Rattle.std.specs.Option.{option_map_or, option_flatten}
 use Rattle.std.proofs.lemmas.Bool.{and_parts, not-false, ltb-false}
-use Rattle.dom_base.specs.declared.Kind.{Kind}
-use Rattle.dom_base.specs.declared.Kind.TheVariants.{Document, Fragment, Shadow, Element, Text, Comment}
+use Rattle.dom_base.specs.declared.Kind.TheVariants.{Document, Fragment, Element, Text, Comment}
 use Rattle.dom_base.specs.declared.NodeName.{NodeName}
 use Rattle.dom_base.specs.declared.Refusal.TheVariants.{Hierarchy, IndexSize}
 use Rattle.dom_model.specs.Changes.{observed}
@@ -26,6 +25,7 @@ use Rattle.dom_model.specs.Steps.{Step, after}
 use Rattle.dom_model.specs.Traversal.{Iterator, Walker, iterator_next_node, iterator_previous_node, walker_move}
 use Rattle.dom_model.specs.Tree.{Trees, Node, node_in, kind_of, has_data, is_text, child_nodes, is_inclusive_ancestor, length_of, parent_of}
 use Rattle.dom_model.specs.Validity.{first_refusal, has_parent, may_be_parent, placing_tests, insertion_refusal, replacement_refusal}
+use Rattle.dom_model.proofs.KindLaws.{parent-open}
 use Rattle.dom_worlds.specs.Worlds.{IsPart}
 use Rattle.dom_worlds.proofs.Acceptance.{next-test, part-accepted}
 use Rattle.dom_worlds.proofs.Bounds.{Under, RangeUnder, reach, nowhere, HasRoom, room-make}
@@ -40,15 +40,6 @@ use Rattle.dom_worlds.proofs.TextBounds.{text-data, room-splitting, room-normali
 abbrev pub Roomy : Part → Effect → Type 0
 Roomy p (tables q lines v) = HasRoom nowhere q
 Roomy p (changes steps v) = HasRoom nowhere (after p steps)
-
--- The parent of an accepted insertion is open.
-parent-open : (k : Kind) → may_be_parent k ≡ true → has_data k ≡ false
-parent-open Text h = absurd (true≢false (sym h))
-parent-open Comment h = absurd (true≢false (sym h))
-parent-open Document h = refl
-parent-open Fragment h = refl
-parent-open Shadow h = refl
-parent-open Element h = refl
 
 -- by the first of the tests
 tested-open : (ts : Trees) (parent node : NodeName) (is_lost : Bool) (others : List Node) →

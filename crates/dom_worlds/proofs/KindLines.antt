@@ -9,8 +9,7 @@ use Rattle.std.proofs.lemmas.List.Folds.{find-append}
 use Rattle.dom_base.specs.declared.Owner.{Owner}
 use Rattle.dom_base.specs.declared.Owner.TheVariants.{Page, Component}
 use Rattle.dom_base.specs.declared.NodeName.{NodeName}
-use Rattle.dom_base.specs.declared.Kind.{Kind}
-use Rattle.dom_base.specs.declared.Kind.TheVariants.{Document, Fragment, Shadow, Element, Text, Comment}
+use Rattle.dom_base.specs.declared.Kind.TheVariants.{Shadow, Element}
 use Rattle.dom_base.specs.declared.Refusal.{Refusal}
 use Rattle.dom_base.specs.declared.Refusal.TheVariants.{NotSupported, Limit}
 use Rattle.dom_base.specs.declared.TheConstants.{MAX_COMPONENTS}
@@ -27,6 +26,7 @@ use Rattle.dom_model.specs.Runs.{Run, quiet, unless_refused}
 use Rattle.dom_model.specs.Turns.{ending_turn, has_other_turn, ending_other_turn, opening_turn}
 use Rattle.dom_model.specs.World.{World, part_of, with_part, component_made, shadow_root_of}
 use Rattle.dom_model.proofs.OwnerLaws.{component_made-no_page, name_eq-turned, name_eq-true}
+use Rattle.dom_model.proofs.KindLaws.{is_element-is}
 use Rattle.dom_worlds.specs.Reached.{Invariant}
 use Rattle.dom_worlds.specs.Worlds.{times_in, AllNodes, IsElementAt, IsHost, MayBeShadow, times_among, HasKinds, IsThere}
 use Rattle.dom_worlds.proofs.TableEffects.{base-effect}
@@ -77,20 +77,11 @@ all-found (tree n c r) x m u e =
     let is : Some at.0 ≡ Some m = ap (λ o. option_or o (find (λ n. name_eq n.name x) (nodes r))) (sym at.1) ∙ later in
     (here, all-found c x m (omega arith) (at.1 ∙ is), absent-any (λ k. k ≡ m) r x (omega arith))))
 
--- what is an element by its test
-element-kind : (k : Kind) → is_element k ≡ true → k ≡ Element
-element-kind Element h = refl
-element-kind Document h = absurd (true≢false (sym h))
-element-kind Fragment h = absurd (true≢false (sym h))
-element-kind Shadow h = absurd (true≢false (sym h))
-element-kind Text h = absurd (true≢false (sym h))
-element-kind Comment h = absurd (true≢false (sym h))
-
 -- so all nodes of an element's name are elements
 elements-at : (ts : Trees) (x : NodeName) → IsUnique ts → 1 ≤ times_in ts x → is_element (kind_of ts x) ≡ true → AllNodes (IsElementAt x) ts
 elements-at ts x u h e =
     let at = found-there ts x h in
-    let kind : at.0.kind ≡ Element = element-kind at.0.kind (ap (λ (o : Option Node). is_element (unwrap_or o (no_node x)).kind) (sym at.1) ∙ e) in
+    let kind : at.0.kind ≡ Element = is_element-is at.0.kind (ap (λ (o : Option Node). is_element (unwrap_or o (no_node x)).kind) (sym at.1) ∙ e) in
     nodes-then (λ n. name_eq n.name x ≡ true → n ≡ at.0) (IsElementAt x) (λ n f s. ap (λ (m : Node). m.kind) (f s) ∙ kind) ts (all-found ts x at.0 (u x) at.1)
 
 -- a node that is there is counted

@@ -12,7 +12,7 @@ use Rattle.dom_model.specs.Part.{Part}
 use Rattle.dom_model.specs.Place.{Boundary, same_root}
 use Rattle.dom_model.specs.Ranges.{Range, at}
 use Rattle.dom_model.specs.Extract.{new_place, behind_node}
-use Rattle.dom_model.proofs.OwnerLaws.{name_eq-true, name_eq-turned}
+use Rattle.dom_model.proofs.OwnerLaws.{name_eq-true}
 use Rattle.dom_worlds.specs.Worlds.{times_in, times_among, IsPart}
 use Rattle.dom_worlds.proofs.Bounds.{nowhere, HasRoom}
 use Rattle.dom_worlds.proofs.ChildPairs.{children-childs, held-length}

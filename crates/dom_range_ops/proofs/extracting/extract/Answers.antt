@@ -7,10 +7,10 @@ use Rattle.dom_model.specs.CommandRefusals.{past_limit}
 use Rattle.dom_model.specs.World.{part_of, is_there}
 use Rattle.dom_mutation.specs.Doc.{name_in}
 use Rattle.dom_range_ops.proofs.DeletionDocs.{of-points}
-use Rattle.dom_range_ops.proofs.ExtractedRanges.{if-done, own-may_take, names-own, world-own, limit-refused, limit-kept}
+use Rattle.dom_range_ops.proofs.ExtractedRanges.{own-may_take, names-own, world-own, limit-refused, limit-kept}
 use Rattle.dom_model.specs.Effects.{plan_of_range}
 use Rattle.dom_model.specs.Extract.{extracting}
-use Rattle.dom_mutation.proofs.ReadyCalls.{ready-planned}
+use Rattle.dom_mutation.proofs.ReadyCalls.{ready-planned, if-done}
 use Rattle.dom_mutation.proofs.ReadyPlans.{ready-extracting}
 use Rattle.dom_range_ops.proofs.InsertedRanges.{range-there}
 use Rattle.dom_range_ops.proofs.extracting.extract.Goals as goal

@@ -11,7 +11,7 @@ use Rattle.dom_mutation.specs.Doc.{made, name_in}
 use Rattle.dom_tree.specs.Forest.{err_of}
 use Rattle.dom_range_ops.specs.Insertions.{inserting_node}
 use Rattle.dom_range_ops.specs.Texts.{range_at_points}
-use Rattle.dom_range_ops.proofs.DocTexts.{some-of, read-points, within-at}
+use Rattle.dom_range_ops.proofs.DocTexts.{read-points, within-at}
 use Rattle.dom_range_ops.proofs.InsertedTests.{steps-at, tests-at, refusal-at}
 use Rattle.dom_base.specs.declared.NodeName.{NodeName}
 use Rattle.dom_model.specs.Ranges.{Range}
@@ -21,6 +21,7 @@ use Rattle.dom_mutation.proofs.ReadyCalls.{HasLaws, stands-in, ready-planned}
 use Rattle.dom_mutation.proofs.ReadyPlans.{ready-inserting_into_range}
 use Rattle.dom_range_ops.proofs.InsertedRanges.{range-there}
 use Rattle.dom_range_ops.proofs.inserting.insert_node.Goals as goal
+use Rattle.dom_traversal.proofs.Climbing.{was_some}
 
 pub returns-in-Err-clause-tested : goal.returns-in-Err-clause-tested
 returns-in-Err-clause-tested c q e =
@@ -29,7 +30,7 @@ returns-in-Err-clause-tested c q e =
     let p = part_of d.world o in
     let x = name_in d c.args.node in
     let r = range_at_points d.names c.range_points-points.result in
-    let some = some-of (range_at p c.args.number) c.requires.there in
+    let some = was_some (range_at p c.args.number) c.requires.there in
     let there : range_at p c.args.number ≡ Some r =
     some.1 ∙ ap (λ a. Some a) (read-points p _ c.args.number some.0 _ _ some.1 c.range_points-points.ensures.value.0) in
     let test : insert_node_refusal p.trees r x ≡ Some c.in-Err.refusal =
@@ -46,7 +47,7 @@ returns-in-Err-clause-stopped c q e =
     let p = part_of d.world o in
     let x = name_in d c.args.node in
     let r = range_at_points d.names c.range_points-points.result in
-    let some = some-of (range_at p c.args.number) c.requires.there in
+    let some = was_some (range_at p c.args.number) c.requires.there in
     let there : range_at p c.args.number ≡ Some r =
     some.1 ∙ ap (λ a. Some a) (read-points p _ c.args.number some.0 _ _ some.1 c.range_points-points.ensures.value.0) in
     let test : insert_node_refusal p.trees r x ≡ Some c.in-Err.refusal =
@@ -65,7 +66,7 @@ insert_tested-requires-clause-within c =
     let p = part_of d.world o in
     let x = name_in d c.args.node in
     let r = range_at_points d.names c.range_points-points.result in
-    let some = some-of (range_at p c.args.number) c.requires.there in
+    let some = was_some (range_at p c.args.number) c.requires.there in
     let there : range_at p c.args.number ≡ Some r =
     some.1 ∙ ap (λ a. Some a) (read-points p _ c.args.number some.0 _ _ some.1 c.range_points-points.ensures.value.0) in
     (within-at p c.args.number r c.requires.bounds there).0
@@ -77,7 +78,7 @@ returns-clause-world c =
     let p = part_of d.world o in
     let x = name_in d c.args.node in
     let r = range_at_points d.names c.range_points-points.result in
-    let some = some-of (range_at p c.args.number) c.requires.there in
+    let some = was_some (range_at p c.args.number) c.requires.there in
     let there : range_at p c.args.number ≡ Some r =
     some.1 ∙ ap (λ a. Some a) (read-points p _ c.args.number some.0 _ _ some.1 c.range_points-points.ensures.value.0) in
     let more : c.insert_tested.new.doc.world ≡ made o (inserting_into_range c.args.number r x) d.world →
@@ -91,7 +92,7 @@ returns-clause-stopped c q e =
     let p = part_of d.world o in
     let x = name_in d c.args.node in
     let r = range_at_points d.names c.range_points-points.result in
-    let some = some-of (range_at p c.args.number) c.requires.there in
+    let some = was_some (range_at p c.args.number) c.requires.there in
     let there : range_at p c.args.number ≡ Some r =
     some.1 ∙ ap (λ a. Some a) (read-points p _ c.args.number some.0 _ _ some.1 c.range_points-points.ensures.value.0) in
     let none : insert_node_refusal p.trees r x ≡ None =
@@ -109,7 +110,7 @@ returns-clause-ready c h =
     let x = name_in d c.args.node in
     let k = c.range_points-points.ensures in
     let r = range_at_points d.names c.range_points-points.result in
-    let some = some-of (range_at p n) c.requires.there in
+    let some = was_some (range_at p n) c.requires.there in
     let there : range_at p n ≡ Some r = some.1 ∙ ap (λ a. Some a) (read-points p _ n some.0 _ _ some.1 k.value.0) in
     let none : insert_node_refusal p.trees r x ≡ None =
     sym (c.check.ensures ∙ ap (λ w. insert_node_refusal (part_of d.world w).trees r x) k.own_start) ∙ ap err_of c.in_default.is in
@@ -131,7 +132,7 @@ returns-clause-there c h =
     let x = name_in d c.args.node in
     let k = c.range_points-points.ensures in
     let r = range_at_points d.names c.range_points-points.result in
-    let some = some-of (range_at p n) c.requires.there in
+    let some = was_some (range_at p n) c.requires.there in
     let there : range_at p n ≡ Some r = some.1 ∙ ap (λ a. Some a) (read-points p _ n some.0 _ _ some.1 k.value.0) in
     let none : insert_node_refusal p.trees r x ≡ None =
     sym (c.check.ensures ∙ ap (λ w. insert_node_refusal (part_of d.world w).trees r x) k.own_start) ∙ ap err_of c.in_default.is in

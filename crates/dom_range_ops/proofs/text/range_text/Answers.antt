@@ -3,8 +3,9 @@ use Rattle.dom_base.specs.declared.NodeName.{NodeName}
 use Rattle.dom_model.specs.Part.{range_at}
 use Rattle.dom_model.specs.World.{part_of}
 use Rattle.dom_range_ops.specs.Texts.{range_at_points}
-use Rattle.dom_range_ops.proofs.DocTexts.{read-points, are-bounded, within-at, text-points, some-of, if-ok}
+use Rattle.dom_range_ops.proofs.DocTexts.{read-points, are-bounded, within-at, text-points, if-ok}
 use Rattle.dom_range_ops.proofs.text.range_text.Goals as goal
+use Rattle.dom_traversal.proofs.Climbing.{was_some}
 
 pub text_between-requires : goal.text_between-requires
 text_between-requires c =
@@ -14,7 +15,7 @@ text_between-requires c =
     let points = c.range_points-points.result in
     let names = sym c.forest-forest.ensures.names in
     let node = λ (k : ℕ) (l : k < length c.args.doc.now.names). subst (λ (ns : List NodeName). k < length ns) names l in
-    let r = some-of (range_at p c.args.number) c.requires.there in
+    let r = was_some (range_at p c.args.number) c.requires.there in
     let is : r.0 ≡ range_at_points f.names points =
     read-points p _ c.args.number r.0 _ _ r.1 c.range_points-points.ensures.value.0 ∙
     ap (λ (ns : List NodeName). range_at_points ns points) names in

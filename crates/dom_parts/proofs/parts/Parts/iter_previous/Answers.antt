@@ -4,7 +4,8 @@ use Rattle.dom_model.specs.Command.{Command}
 use Rattle.dom_model.specs.Effects.{node_or_null}
 use Rattle.dom_tree.specs.Forest.{name_at}
 use Rattle.dom_traversal.specs.Iterators.{IsIteratorOf, iterator_at}
-use Rattle.dom_parts.proofs.Cursors.{item_there, previous_effect}
+use Rattle.dom_traversal.proofs.Climbing.{was_some}
+use Rattle.dom_parts.proofs.Cursors.{previous_effect}
 use Rattle.dom_parts.proofs.Passing.{there_iter, iter_there, iters_of, writes, held_written, iter_moved, name_known}
 use Rattle.dom_cursors.specs.Cursors.{cursors_of}
 use Rattle.dom_parts.specs.Doc.{all_tables}
@@ -25,7 +26,7 @@ invariant_of-self c =
     let f = c.self.inside.forest in
     let there = there_iter f c.self.invariant c.self.view_is c.args.owner c.args.number c.requires in
     let t = (all_tables c.self.inside).each c.args.owner in
-    let item = item_there (slice_get t.iterators c.args.number)
+    let item = was_some (slice_get t.iterators c.args.number)
     (iter_there f c.self.invariant c.self.view_is c.args.owner c.args.number c.requires) in
     held_written f c.self.invariant c.self.view_is c.args.owner there
     (cursors_of c.iter_previous.new.self) (record t { iterators = slice_set t.iterators c.args.number (iterator_at item.0 true c.iter_previous.result) })
@@ -37,7 +38,7 @@ pub returns-clause-node : goal.returns-clause-node
 returns-clause-node c j e =
     let f = c.self.inside.forest in
     let t = (all_tables c.self.inside).each c.args.owner in
-    let item = item_there (slice_get t.iterators c.args.number)
+    let item = was_some (slice_get t.iterators c.args.number)
     (iter_there f c.self.invariant c.self.view_is c.args.owner c.args.number c.requires) in
     let kept : IsIteratorOf f (iterator_at item.0 true (Some j)) =
     subst (λ r. IsIteratorOf f (iterator_at item.0 true r)) e (c.iter_previous.ensures.kept item.0 item.1) in
@@ -48,7 +49,7 @@ returns-clause-world c =
     let f = c.self.inside.forest in
     let there = there_iter f c.self.invariant c.self.view_is c.args.owner c.args.number c.requires in
     let t = (all_tables c.self.inside).each c.args.owner in
-    let item = item_there (slice_get t.iterators c.args.number)
+    let item = was_some (slice_get t.iterators c.args.number)
     (iter_there f c.self.invariant c.self.view_is c.args.owner c.args.number c.requires) in
     writes f c.self.invariant c.self.view_is c.args.owner there
     (cursors_of c.iter_previous.new.self) (record t { iterators = slice_set t.iterators c.args.number (iterator_at item.0 true c.iter_previous.result) })

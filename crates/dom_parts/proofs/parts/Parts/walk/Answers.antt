@@ -4,7 +4,8 @@ use Rattle.dom_model.specs.Command.{Command}
 use Rattle.dom_model.specs.Effects.{node_or_null}
 use Rattle.dom_tree.specs.Forest.{name_at}
 use Rattle.dom_traversal.specs.Walkers.{IsWalkerOf, walker_at}
-use Rattle.dom_parts.proofs.Cursors.{item_there, walk_effect}
+use Rattle.dom_traversal.proofs.Climbing.{was_some}
+use Rattle.dom_parts.proofs.Cursors.{walk_effect}
 use Rattle.dom_parts.proofs.Passing.{there_walk, walk_there, walks_of, writes, held_written, walk_moved, walk_stays, name_known}
 use Rattle.dom_cursors.specs.Cursors.{cursors_of}
 use Rattle.dom_parts.specs.Doc.{all_tables}
@@ -25,7 +26,7 @@ invariant_of-self c =
     let f = c.self.inside.forest in
     let there = there_walk f c.self.invariant c.self.view_is c.args.owner c.args.number c.requires in
     let t = (all_tables c.self.inside).each c.args.owner in
-    let item = item_there (slice_get t.walkers c.args.number)
+    let item = was_some (slice_get t.walkers c.args.number)
     (walk_there f c.self.invariant c.self.view_is c.args.owner c.args.number c.requires) in
     let kept = (c.self.invariant.own c.args.owner).walkers c.args.number item.0 item.1 in
     held_written f c.self.invariant c.self.view_is c.args.owner there
@@ -40,7 +41,7 @@ pub returns-clause-node : goal.returns-clause-node
 returns-clause-node c j e =
     let f = c.self.inside.forest in
     let t = (all_tables c.self.inside).each c.args.owner in
-    let item = item_there (slice_get t.walkers c.args.number)
+    let item = was_some (slice_get t.walkers c.args.number)
     (walk_there f c.self.invariant c.self.view_is c.args.owner c.args.number c.requires) in
     name_known f c.self.invariant c.self.view_is c.args.owner j (subst (λ r. IsWalkerOf f (walker_at item.0 r)) e (c.walk.ensures.kept item.0 item.1)).current
 
@@ -49,7 +50,7 @@ returns-clause-world c =
     let f = c.self.inside.forest in
     let there = there_walk f c.self.invariant c.self.view_is c.args.owner c.args.number c.requires in
     let t = (all_tables c.self.inside).each c.args.owner in
-    let item = item_there (slice_get t.walkers c.args.number)
+    let item = was_some (slice_get t.walkers c.args.number)
     (walk_there f c.self.invariant c.self.view_is c.args.owner c.args.number c.requires) in
     writes f c.self.invariant c.self.view_is c.args.owner there
     (cursors_of c.walk.new.self) (record t { walkers = slice_set t.walkers c.args.number (walker_at item.0 c.walk.result) })

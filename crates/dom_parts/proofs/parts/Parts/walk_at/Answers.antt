@@ -4,10 +4,11 @@ use Rattle.dom_model.specs.Command.{Command}
 use Rattle.dom_model.specs.Output.{a_node}
 use Rattle.dom_model.specs.Effects.{Effect}
 use Rattle.dom_tree.specs.Forest.{name_at}
-use Rattle.dom_parts.proofs.Cursors.{item_there, with_own, walk_at_effect}
+use Rattle.dom_parts.proofs.Cursors.{with_own, walk_at_effect}
 use Rattle.dom_parts.proofs.Passing.{there_walk, walk_there, reads, name_known}
 use Rattle.dom_parts.specs.Doc.{all_tables}
 use Rattle.dom_parts.proofs.parts.Parts.walk_at.Goals as goal
+use Rattle.dom_traversal.proofs.Climbing.{was_some}
 
 pub walker_at-requires : goal.walker_at-requires
 walker_at-requires c =
@@ -18,7 +19,7 @@ pub returns-clause-node : goal.returns-clause-node
 returns-clause-node c =
     let f = c.self.inside.forest in
     let t = (all_tables c.self.inside).each c.args.owner in
-    let item = item_there (slice_get t.walkers c.args.number)
+    let item = was_some (slice_get t.walkers c.args.number)
     (walk_there f c.self.invariant c.self.view_is c.args.owner c.args.number c.requires) in
     let h = (c.self.invariant.own c.args.owner).walkers
     c.args.number item.0 item.1 in
@@ -30,7 +31,7 @@ returns-clause-value c =
     let f = c.self.inside.forest in
     let there = there_walk f c.self.invariant c.self.view_is c.args.owner c.args.number c.requires in
     let t = (all_tables c.self.inside).each c.args.owner in
-    let item = item_there (slice_get t.walkers c.args.number)
+    let item = was_some (slice_get t.walkers c.args.number)
     (walk_there f c.self.invariant c.self.view_is c.args.owner c.args.number c.requires) in
     reads f c.self.invariant c.self.view_is c.args.owner there
     (λ ns. Command.walker_at c.args.number) (λ ns. a_node (name_at ns c.walker_at.result))

@@ -6,9 +6,10 @@ use Rattle.dom_tree.specs.Forest.{name_at}
 use Rattle.dom_cursors.specs.Cursors.{cursors_of}
 use Rattle.dom_parts.specs.Doc.{owner_in, all_tables}
 use Rattle.dom_parts.proofs.Shown.{known}
-use Rattle.dom_parts.proofs.Cursors.{item_there, walk_set_effect}
+use Rattle.dom_parts.proofs.Cursors.{walk_set_effect}
 use Rattle.dom_parts.proofs.Passing.{there_walk, walk_there, writes, held_written, walk_moved}
 use Rattle.dom_parts.proofs.parts.Parts.walk_set.Goals as goal
+use Rattle.dom_traversal.proofs.Climbing.{was_some}
 
 pub set_walker-requires : goal.set_walker-requires
 set_walker-requires c =
@@ -20,7 +21,7 @@ invariant_of-self c =
     let f = c.self.inside.forest in
     let there = there_walk f c.self.invariant c.self.view_is c.args.owner c.args.number c.requires.there in
     let t = (all_tables c.self.inside).each c.args.owner in
-    let item = item_there (slice_get t.walkers c.args.number)
+    let item = was_some (slice_get t.walkers c.args.number)
     (walk_there f c.self.invariant c.self.view_is c.args.owner c.args.number c.requires.there) in
     let kept = (c.self.invariant.own c.args.owner).walkers c.args.number item.0 item.1 in
     let current = known f c.self.invariant c.self.view_is (λ e. c.args.current < length e.names) c.requires.current_is_node in
@@ -37,7 +38,7 @@ returns-clause-world c =
     let f = c.self.inside.forest in
     let there = there_walk f c.self.invariant c.self.view_is c.args.owner c.args.number c.requires.there in
     let t = (all_tables c.self.inside).each c.args.owner in
-    let item = item_there (slice_get t.walkers c.args.number)
+    let item = was_some (slice_get t.walkers c.args.number)
     (walk_there f c.self.invariant c.self.view_is c.args.owner c.args.number c.requires.there) in
     let own_current = known f c.self.invariant c.self.view_is (λ e. owner_in e c.args.current ≡ c.args.owner) c.requires.own in
     writes f c.self.invariant c.self.view_is c.args.owner there

@@ -1,8 +1,5 @@
-use Rattle.std.proofs.Common.{◌≡◌, ◌≢◌, true≢false, refl, sym, subst, ap, Some, ◌∙◌}
-use Rattle.std.specs.HashMap.{get}
+use Rattle.std.proofs.Common.{refl, sym, subst, ◌∙◌}
 use Rattle.std.specs.Option.{IsSome}
-use Rattle.dom_base.specs.declared.Owner.TheVariants.{Page}
-use Rattle.dom_base.specs.contracts.OwnerPartialEq.TheImpl as OwnerImpl
 use Rattle.dom_tree.specs.declared.table.KeyTable.{KeyTable}
 use Rattle.dom_tree.proofs.KeyLists.{keys-reserved}
 use Rattle.dom_tree.proofs.table.KeyTable.reserve.Goals as goal
