@@ -12,7 +12,8 @@ ghost use Rattle.dom_model.specs.Validity.{insertion_refusal};
 ghost use Rattle.dom_model.specs.World.{part_of};
 ghost use Rattle.dom_worlds.specs.Bounds.{HasBounds};
 ghost use Rattle.dom_model.specs.Output.{child_list};
-ghost use Rattle.dom_parts.specs.Doc.{AreNodes, IsNodeIf, made, planned, placed_all, name_in, owner_in, trees_in, MayMove, IsChild, KeepsPaths, NoneAbove, HoldsNode};
+ghost use Rattle.dom_parts.specs.Doc.{AreNodes, IsNodeIf, made, planned, placed_all, name_in};
+ghost use Rattle.dom_parts.specs.Doc.{owner_in, trees_in, MayMove, IsChild, KeepsPaths, NoneAbove, HoldsNode};
 ghost use Rattle.dom_algorithms.specs.Observing.{observing_of};
 
 use crate::documents::document_below;

@@ -12,7 +12,6 @@ use Rattle.dom_worlds.proofs.Tests.{by_cases}
 use Rattle.dom_worlds.proofs.Lists.{filter-filter}
 
 module _ {X : Type 0} where
-
   -- a test that all pass which pass another one
   pub filter-wider : (p q : X → Bool) → ((x : X) → p x ≡ true → q x ≡ true) → (xs : List X) → filter p (filter q xs) ≡ filter p xs
   filter-wider p q wider [] = refl

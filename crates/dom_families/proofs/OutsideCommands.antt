@@ -117,7 +117,8 @@ module _ (g : Owner → Bool) (closed : KeepsFamilies g) where
       let o = Component k in
       let p = part_of w o in
       let d = dispatch_in w (named p x) (option_map (named p) r) e in
-      let shown = dispatch-out g closed w q (named p x) (option_map (named p) r) e (ap g (owner-named p x ∙ owner-part_of w o) ∙ h) (related-same_root w k x e r a) in
+      let shown = dispatch-out g closed w q (named p x) (option_map (named p) r) e
+      (ap g (owner-named p x ∙ owner-part_of w o) ∙ h) (related-same_root w k x e r a) in
       after_reply d.run (outward_run w (outward_at w (named p x) e (option_map (named p) r))) (a_truth d.answer) shown
       ∙ ap (λ v. group_run g (outward_run w v)) (outward-same w k x e r)
     where

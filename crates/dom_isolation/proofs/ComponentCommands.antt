@@ -103,7 +103,8 @@ dispatched-component w k q x e related h =
     let target = named p x in
     let mine : target.owner ≡ Component k = owner-named p x ∙ o in
     let d = dispatch_in w target (option_map (named p) related) e in
-    let seen = dispatch-component w q target (option_map (named p) related) e (λ z. Component-IsNoPage k (sym mine ∙ z)) (related-same_root w k x e related h) in
+    let seen = dispatch-component w q target (option_map (named p) related) e (λ z. Component-IsNoPage k (sym mine ∙ z))
+    (related-same_root w k x e related h) in
     run_then-square d.run (answering (Component k) (a_truth d.answer)) quiet refl
     ∙ ap (λ r. run_then r quiet) seen ∙ run_then-quiet_end (outward_run (page_of w) (outward_at w target e (option_map (named p) related)))
     ∙ ap (outward_run (page_of w)) (outward-same w k x e related)

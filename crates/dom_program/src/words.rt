@@ -4,7 +4,8 @@ ghost use Rattle.std.specs.IoError.{error_kind};
 ghost use Rattle.clap.specs.Words.{app_of, found_of, matches_of, rows_of};
 ghost use Rattle.dom_text.specs.Readers.{owner_of as spec_owner_of};
 ghost use Rattle.dom_streams.specs.declared.fault.RunFault.TheVariants.{Memory};
-ghost use Rattle.dom_program.specs.Words.{AreTaken, HaveForm, NamesAnOwner, command_line as spec_command_line, file_among, file_in, owner_among, texts_of, view_in};
+ghost use Rattle.dom_program.specs.Words.{AreTaken, HaveForm, NamesAnOwner, command_line as spec_command_line};
+ghost use Rattle.dom_program.specs.Words.{file_among, file_in, owner_among, texts_of, view_in};
 
 use crate::exit_cause::ExitCause;
 use clap::{Arg, ArgMatches, Command};

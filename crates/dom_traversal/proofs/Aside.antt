@@ -137,7 +137,8 @@ module _ (f : NamedTrees) (once : StandOnce f) (only : StandAlone f) (filter : F
       (sym is ∙ ap (option_map (name_at f.names)) (was_none next none_left)) (sym up) e
 
 -- a node that stands in the tree of another one and is not that one stands below it
-pub StandsBelow-walker : (f : NamedTrees) → StandOnce f → StandAlone f → TellApart f.names → (root current : ℕ) → root < length f.names → current < length f.names
+pub StandsBelow-walker : (f : NamedTrees) → StandOnce f → StandAlone f → TellApart f.names → (root current : ℕ) →
+    root < length f.names → current < length f.names
     → eqb current root ≡ false → is_inclusive_ancestor f.trees (name_at f.names root) (name_at f.names current) ≡ true → StandsBelow f root current
 StandsBelow-walker f once only apart root current at_root at_current other above =
     let at = Has-forest f once current at_current in

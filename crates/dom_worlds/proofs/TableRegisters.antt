@@ -58,7 +58,8 @@ all-heard P x w ls g h =
     either_way (AllByRecursion P) (list_any (is_listener name_eq x w.event w.label w.capture) ls) ls (ls ++ one ∷ []) h (all-append P ls (one ∷ []) h (g, tt))
 
 -- with other listeners
-pub tables-listeners : (p : Part) (ls : List (Listener NodeName)) → HasTables p → AllByRecursion (IsListenerIn p.trees) ls → HasTables (record p { listeners = ls })
+pub tables-listeners : (p : Part) (ls : List (Listener NodeName)) → HasTables p → AllByRecursion (IsListenerIn p.trees) ls →
+    HasTables (record p { listeners = ls })
 tables-listeners p ls h g = record {
   hosts = h.hosts;
   ranges = h.ranges;

@@ -214,7 +214,8 @@ among-behind x (y ∷ xs) h =
     by_cases (name_eq x y)
     (λ e. let one : times_among (y ∷ xs) x ≡ 1 + times_among xs x = ap (λ k. k + times_among xs x) (cond-true (name_eq y x) 1 0 (name_eq-turned y x ∙ e)) in
     subst (AllByRecursion (λ z. name_eq x z ≡ false)) (sym (cond-true (name_eq x y) xs (items_after name_eq x xs) e)) (none-among x xs (omega arith)))
-    (λ e. let zero_more : times_among (y ∷ xs) x ≡ 0 + times_among xs x = ap (λ k. k + times_among xs x) (cond-false (name_eq y x) 1 0 (name_eq-turned y x ∙ e)) in
+    (λ e. let zero_more : times_among (y ∷ xs) x ≡ 0 + times_among xs x = ap (λ k. k + times_among xs x)
+    (cond-false (name_eq y x) 1 0 (name_eq-turned y x ∙ e)) in
     subst (AllByRecursion (λ z. name_eq x z ≡ false)) (sym (cond-false (name_eq x y) xs (items_after name_eq x xs) e)) (among-behind x xs (omega arith)))
 
 -- roots are there as often as nodes, or less
