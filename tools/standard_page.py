@@ -13,7 +13,8 @@ For whoever knows the DOM Standard and asks where one of its algorithms stands h
 Beside each algorithm or concept of the Standard that is here stand
 
 - its definitions, in `specs/` of a crate: what the algorithm does, as a value that is computed from the state before it. These are the part
-  to read beside the Standard's text;
+  to read beside the Standard's text. The comments of changes say which of the Standard's numbered steps stand where; the numbers were
+  written without its text at hand (November 2026), so go by the words where they differ;
 - a public call whose contract leads to one of these definitions: its `ensures` clauses name it, or name what is defined by it. The prover has
   accepted the call with this contract. Where it is a law (`dom_worlds`, or a name such as `one_list_serves_all`), the contract is all of it;
 - a script that shows it. What it is answered stands in the file beside it that ends in `.out`.
