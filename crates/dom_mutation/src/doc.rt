@@ -1,22 +1,13 @@
 //! The documents of a run.
-ghost use Rattle.std.specs.Prelude.{◌≡◌, ℕ, ◌↔◌, ◌⊎◌, ◌++◌, ◌∷◌, [], true, false, length, None, IfOk, IfErr, OnOk, OnErr};
-ghost use Rattle.std.specs.Option.{ForSome};
+ghost use Rattle.std.specs.Prelude.{◌≡◌, ℕ, ◌∷◌, [], true, length, None, IfOk};
 ghost use Rattle.dom_base.specs.declared.Owner.{Owner as OwnerOf};
 ghost use Rattle.dom_base.specs.declared.Owner.TheVariants.{Page};
-ghost use Rattle.dom_base.specs.declared.Refusal.TheVariants.{Limit};
 ghost use Rattle.dom_model.specs.Names.{node_of};
-ghost use Rattle.dom_model.specs.Tree.{is_shadow};
-ghost use Rattle.dom_model.specs.Part.{next_name};
-ghost use Rattle.dom_model.specs.Steps.{make};
-ghost use Rattle.dom_model.specs.Changes.{doing};
 ghost use Rattle.dom_model.specs.World.{part_of, is_there};
-ghost use Rattle.dom_model.specs.CommandRefusals.{past_limit};
 ghost use Rattle.dom_model.specs.DocumentMachine.{first_world};
-ghost use Rattle.dom_tree.specs.Forest.{node_from};
 ghost use Rattle.dom_tree.specs.Owners.{trees_of_owner, AreOwned};
 ghost use Rattle.dom_slots.specs.Kept.{AreSlotsOf};
 ghost use Rattle.dom_slots.specs.Shadows.{shadows, IsShownBy};
-ghost use Rattle.dom_mutation.specs.Doc.{made};
 ghost use Rattle.dom_mutation.specs.Ready.{IsReady};
 ghost use Rattle.dom_parts.specs.Doc.{HoldsNode, name_in};
 
@@ -25,6 +16,7 @@ mod attributes;
 mod cursors;
 mod data;
 mod inserting;
+mod making;
 mod normalizing;
 mod observing;
 mod ranging;
@@ -36,11 +28,10 @@ mod tasks;
 mod texts;
 
 pub use attributes::is_name;
-use dom_base::{Fault, Owner};
+use dom_base::Owner;
 use dom_parts::Parts;
 use dom_slots::Slots;
-use dom_tree::{Forest, NodeData};
-use node_arena::Key;
+use dom_tree::Forest;
 use std::alloc::{AllocError, Global};
 use std::marker::Model;
 
@@ -107,26 +98,5 @@ impl Doc {
         ensures { result ≡ (part_of self.now.world owner).node_count }
     {
         self.parts.node_count(owner)
-    }
-
-    /// Makes a node with an owner's next number, in a tree of its own, and gives its key. It is refused with `Limit` where the
-    /// owner has as many nodes as it may, and then, as where memory is refused, nothing is changed.
-    pub fn add(&mut self, owner: Owner, node: NodeData) -> Result<Key, Fault>
-        requires owner_is_there { is_there self.old.world owner ≡ true }
-        requires no_shadow { is_shadow node.kind ≡ false }
-        requires document_is_node { ForSome node.document (HoldsNode self.old) }
-        ensures key { IfOk result (λ key. key ≡ length self.old.names) }
-        ensures names { OnOk result (self.new.names ≡ self.old.names ++ next_name (part_of self.old.world owner) ∷ []) }
-        ensures world { OnOk result (self.new.world ≡ made owner
-            (doing (make (node_from self.old.names (next_name (part_of self.old.world owner)) node))) self.old.world) }
-
-        // An owner's nodes are at most 1,000,000. Nothing else but memory stops one more.
-        ensures limit { (result ≡ Err (Fault.Refused Limit)) ↔ (past_limit (part_of self.old.world owner).node_count 1 ≡ true) }
-        ensures other { IfErr result (λ fault. (fault ≡ Fault.Refused Limit) ⊎ (fault ≡ Fault.Memory)) }
-        ensures err { OnErr result (self.new ≡ self.old) }
-        ensures ready { IsReady self.old → OnOk result (IsReady self.new) }
-    {
-        self.parts.laws();
-        self.parts.add(owner, node)
     }
 }

@@ -10,7 +10,7 @@ use Rattle.dom_base.specs.declared.NodeName.{NodeName}
 use Rattle.dom_model.specs.Tree.{kind_of, is_shadow, is_document, has_data}
 use Rattle.dom_model.specs.Command.{Command, NodeWord}
 use Rattle.dom_model.specs.CommandNames.{named}
-use Rattle.dom_model.specs.CommandRefusals.{own_refusal, past_end, past_limit, made_by_text, limit_on}
+use Rattle.dom_model.specs.CommandRefusals.{own_refusal, past_end, past_limit, made_by_text}
 use Rattle.dom_model.specs.Validity.{first_refusal, insertion_refusal, replacement_refusal}
 use Rattle.dom_model.specs.Changes.{Plan, pre_inserting, replacing, adopting}
 use Rattle.dom_model.specs.Names.{DomString, node_of, Word}
@@ -19,7 +19,7 @@ use Rattle.dom_base.specs.declared.Owner.TheVariants.{Page}
 use Rattle.std.proofs.Math.Seq.{get_or-append_seam}
 use Rattle.dom_model.specs.World.{World, part_of}
 use Rattle.dom_tree.specs.Forest.{name_at}
-use Rattle.dom_mutation.specs.Doc.{made, adoption_refusal, splitting_refusal}
+use Rattle.dom_mutation.specs.Doc.{made, adding_refusal, adoption_refusal, splitting_refusal}
 use Rattle.dom_admission.proofs.Finding.{owner-named, IsKey}
 use Rattle.dom_admission.proofs.Handling.{done, handled}
 use Rattle.dom_model.specs.Runs.{Run}
@@ -126,11 +126,11 @@ lacks_none false r h = absurd (h refl)
 -- a command that makes a node
 pub makes_node : (w new : World) (o : Owner) (c : Command) (k : Kind) (a e : Word) (s u : DomString) (before after : List ℕ)
     (r : Result (Unit {0}) Fault) → IsNaming c [] →
-    let_pass (early_refusal w o []) ≡ Ok tt → own_refusal (part_of w o) c ≡ limit_on (part_of w o).node_count 1 →
+    let_pass (early_refusal w o []) ≡ Ok tt → own_refusal (part_of w o) c ≡ adding_refusal (part_of w o) k a →
     accepted w o c ≡ making o k e u w → a ≡ e → s ≡ u →
-    IsDone (limit_on (part_of w o).node_count 1) (making o k a s w) w new before after r → IsHandled o c w new before after r
+    IsDone (adding_refusal (part_of w o) k a) (making o k a s w) w new before after r → IsHandled o c w new before after r
 makes_node w new o c k a e s u before after r is pass own runs element text done =
     let run : making o k a s w ≡ accepted w o c = ap (λ (b : Word). making o k b s w) element ∙ ap (λ (v : DomString). making o k e v w) text ∙ sym runs in
     handled w new o c [] before after r is pass
     (subst (λ q. IsDone q (accepted w o c) w new before after r) (sym own)
-    (subst (λ (q : Run World). IsDone (limit_on (part_of w o).node_count 1) q w new before after r) run done))
+    (subst (λ (q : Run World). IsDone (adding_refusal (part_of w o) k a) q w new before after r) run done))

@@ -3,16 +3,14 @@ ghost use Rattle.std.specs.Prelude.{◌≡◌, true, false, string_bytes};
 ghost use Rattle.std.specs.Option.{option_map, ForSome};
 ghost use Rattle.dom_model.specs.Tree.{is_document, is_shadow};
 ghost use Rattle.dom_model.specs.Command.{new_element, new_text, new_comment, new_fragment, new_document};
-ghost use Rattle.dom_model.specs.CommandRefusals.{limit_on};
 ghost use Rattle.dom_model.specs.Effects.{new_document_of};
 ghost use Rattle.dom_model.specs.World.{part_of, is_there};
 ghost use Rattle.dom_admission.specs.Handled.{KeepsNames, IsDone, IsHandled};
 ghost use Rattle.dom_node_commands.specs.Making.{making, document_for};
-ghost use Rattle.dom_mutation.specs.Doc.{HoldsNode, name_in};
+ghost use Rattle.dom_mutation.specs.Doc.{HoldsNode, adding_refusal, name_in};
 
 use dom_admission::State;
-use dom_base::{DomStr, Fault, Kind, Owner, Refusal};
-use dom_mutation::is_name;
+use dom_base::{DomStr, Fault, Kind, Owner};
 use dom_printer::Value;
 use dom_reader::NodeWord;
 use dom_tree::NodeData;
@@ -30,17 +28,8 @@ pub fn new_element(
     ensures names { KeepsNames state.old.names state.new.names result }
 {
     state.admit(owner, &[])?;
-    if !is_name(name.as_bytes()) {
-        return Err(Fault::Refused(Refusal::InvalidCharacter));
-    }
-    make(
-        state,
-        owner,
-        Kind::Element,
-        name,
-        Vec::new(state.alloc),
-        out,
-    )
+    let text = Vec::new(state.alloc);
+    make(state, owner, Kind::Element, name, text, out)
 }
 
 /// `new text STR`: a new Text.
@@ -93,7 +82,7 @@ pub fn new_document(state: &mut State, owner: Owner, out: &mut Vec<u8>) -> Resul
     make(state, owner, Kind::Document, element, text, out)
 }
 
-/// Makes a node of an owner without attributes, and replies with it.
+/// Makes a node of an owner without attributes, and replies with it. It is refused as the new node is.
 fn make(
     state: &mut State,
     owner: Owner,
@@ -104,7 +93,7 @@ fn make(
 ) -> Result<(), Fault>
     requires owner_is_there { is_there state.old.world owner ≡ true }
     requires no_shadow { is_shadow kind ≡ false }
-    ensures done { IsDone (limit_on (part_of state.old.world owner).node_count 1)
+    ensures done { IsDone (adding_refusal (part_of state.old.world owner) kind (string_bytes element))
         (making owner kind (string_bytes element) text.items state.old.world) state.old.world state.new.world out.old.items out.new.items result }
     ensures names { KeepsNames state.old.names state.new.names result }
 {

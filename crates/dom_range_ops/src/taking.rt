@@ -1,11 +1,11 @@
 //! How what an extraction takes goes into its fragment (DOM Standard, concept: extract).
-ghost use Rattle.std.specs.Prelude.{◌≡◌, ◌<◌, ◌-◌, ◌++◌, ◌∷◌, [], length, map, true, false, slice_get, unwrap_or, IfOk, IfErr, OnOk};
+ghost use Rattle.std.specs.Prelude.{◌≡◌, ◌<◌, ◌-◌, ◌++◌, ◌∷◌, [], length, map, true, false, slice_get, string_bytes, unwrap_or, IfOk, IfErr, OnOk};
 ghost use Rattle.std.specs.List.{AllByRecursion};
 ghost use Rattle.std.specs.Option.{ForSome};
 ghost use Rattle.dom_worlds.specs.Bounds.{HasBounds};
 ghost use Rattle.dom_model.specs.Extract.{making_below};
 ghost use Rattle.dom_model.specs.Part.{next_name};
-ghost use Rattle.dom_model.specs.Tree.{kind_of, has_data, is_shadow};
+ghost use Rattle.dom_model.specs.Tree.{kind_of, has_data, is_shadow, node_in};
 ghost use Rattle.dom_model.specs.World.{part_of};
 ghost use Rattle.dom_mutation.specs.Doc.{made, name_in, owner_in, trees_in, IsOwnNode};
 ghost use Rattle.dom_range_ops.specs.Pieces.{cut_item, clone_item, item_in, made_by};
@@ -121,7 +121,7 @@ fn take_units(
     doc.laws();
     let forest = doc.forest();
     let copy = clone_units(alloc, forest, node, from, to)?;
-    add_below(doc, top, copy)?;
+    add_below(doc, top, node, copy)?;
     doc.delete_data(node, from, to.saturating_sub(from))?;
     Ok(())
 }
@@ -143,12 +143,16 @@ fn take_clone(alloc: Global, doc: &mut Doc, top: Key, node: Key) -> Result<Key, 
 {
     let forest = doc.forest();
     let copy = clone_node(alloc, forest, node)?;
-    add_below(doc, top, copy)
+    add_below(doc, top, node, copy)
 }
 
-/// A new node becomes the last child of another one, with its owner, and is the answer.
-fn add_below(doc: &mut Doc, top: Key, node: NodeData) -> Result<Key, Fault>
+/// A clone of a node becomes the last child of another one of its owner, and is the answer.
+fn add_below(doc: &mut Doc, top: Key, of: Key, node: NodeData) -> Result<Key, Fault>
     requires top_is_node { HoldsNode doc.old top }
+    requires of_is_node { HoldsNode doc.old of }
+    requires owner { owner_in doc.old of ≡ owner_in doc.old top }
+    requires kind { node.kind ≡ kind_of (trees_in doc.old of) (name_in doc.old of) }
+    requires element { string_bytes node.element ≡ (node_in (trees_in doc.old of) (name_in doc.old of)).element }
     requires no_shadow { is_shadow node.kind ≡ false }
     requires document_is_node { ForSome node.document (HoldsNode doc.old) }
     requires bounds { HasBounds (part_of doc.old.world (owner_in doc.old top)) }
@@ -162,8 +166,7 @@ fn add_below(doc: &mut Doc, top: Key, node: NodeData) -> Result<Key, Fault>
     ensures other { IfErr result (λ fault. fault ≡ Fault.Memory) }
 {
     doc.laws();
-    let owner = doc.forest().name(top).owner;
-    let new = doc.add(owner, node)?;
+    let new = doc.add_clone(of, node)?;
     doc.laws();
     doc.insert_before(top, new, None)?;
     Ok(new)

@@ -23,6 +23,26 @@ add_below-requires-clause-no_shadow c =
     ap is_shadow (c.in_ok-copy.ensures.kind ∙ ap (λ (n : Node). n.kind) read) ∙
     data-no_shadow (kind_of (trees_in d c.args.top) (name_in d c.args.node)) c.requires.units
 
+pub add_below-requires-clause-kind : goal.add_below-requires-clause-kind
+add_below-requires-clause-kind c =
+    let d = c.args.doc.now in
+    let f = c.forest-forest.result.now in
+    let o = owner_in d c.args.top in
+    let read = node-read d f o c.args.node c.forest-forest.ensures.owned c.forest-forest.ensures.names (c.forest-forest.ensures.trees o)
+    c.requires.node_owner in
+    let own = ap (λ q. node_in (part_of d.world q).trees (name_in d c.args.node)) (sym c.requires.node_owner) in
+    c.in_ok-copy.ensures.kind ∙ ap (λ (n : Node). n.kind) (read ∙ own)
+
+pub add_below-requires-clause-element : goal.add_below-requires-clause-element
+add_below-requires-clause-element c =
+    let d = c.args.doc.now in
+    let f = c.forest-forest.result.now in
+    let o = owner_in d c.args.top in
+    let read = node-read d f o c.args.node c.forest-forest.ensures.owned c.forest-forest.ensures.names (c.forest-forest.ensures.trees o)
+    c.requires.node_owner in
+    let own = ap (λ q. node_in (part_of d.world q).trees (name_in d c.args.node)) (sym c.requires.node_owner) in
+    ap (λ (n : Node). n.element) (c.in_ok-copy.ensures.value (name_in d c.args.node)) ∙ ap (λ (n : Node). n.element) (read ∙ own)
+
 pub returns-clause-world : goal.returns-clause-world
 returns-clause-world c =
     let d = c.args.doc.now in
