@@ -1,4 +1,4 @@
-//! New nodes (DOM Standard, 4.5 Interface Document: createElement(); concept: create an element).
+//! New nodes (DOM Standard, createElement()).
 ghost use Rattle.std.specs.Prelude.{◌≡◌, ◌↔◌, ◌++◌, ◌∷◌, [], length, true, false, Some, string_bytes, IfOk, OnOk, OnErr};
 ghost use Rattle.std.specs.Option.{ForSome};
 ghost use Rattle.dom_base.specs.declared.Refusal.{Refusal as RefusalOf};

@@ -2,3 +2,7 @@ mod Moves
 mod Selections
 mod Hosting
 mod InHand
+mod Outlines
+mod Rearranged
+mod Rooms
+mod Written

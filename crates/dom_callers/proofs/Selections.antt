@@ -1,35 +1,58 @@
 -- The range that is made at the start of a node, and then ends behind all that is in the node.
-use Rattle.std.proofs.Common.{◌≡◌, inl, inr, ℕ, false, ltb, [], ◌∷◌, ◌++◌, length, Some, refl, arith}
-use Rattle.std.specs.Prelude.{option_map, slice_set}
-use Rattle.std.proofs.lemmas.Bool.{cases_Bool, false_from_ne_true, ltb-true}
+use Rattle.std.proofs.Common.{◌≡◌, inl, inr, ℕ, ◌+◌, ◌*◌, Bool, true, false, ◌&&◌, ◌==◌, ltb, List, [], ◌∷◌, ◌++◌, map, length, Some, refl, arith}
+use Rattle.std.specs.Prelude.{option_map, slice_get, slice_set}
+use Rattle.std.proofs.lemmas.Bool.{cases_Bool, false_from_ne_true, ltb-true, eq-eqb, and_from}
+use Rattle.std.proofs.lemmas.Cmp.{nat_list_eq_equiv}
 use Rattle.std.proofs.lemmas.List.{set_at}
 use Rattle.dom_base.specs.declared.Owner.{Owner}
-use Rattle.dom_model.specs.Names.{owner_eq}
+use Rattle.dom_base.specs.declared.Owner.TheVariants.{Page, Component}
+use Rattle.dom_base.specs.declared.NodeName.{NodeName}
+use Rattle.dom_model.specs.Names.{owner_eq, name_eq, list_before}
+use Rattle.dom_model.specs.Place.{is_before, place_of}
 use Rattle.dom_model.specs.Ranges.{at, from_to}
 use Rattle.dom_model.specs.Tree.{root_of}
-use Rattle.dom_model.proofs.OwnerLaws.{owner_eq-same, name_eq-same}
 use Rattle.dom_tree.specs.Forest.{NamedTrees, name_at}
 use Rattle.dom_ranges.specs.Settings.{end_set}
 use Rattle.dom_ranges.specs.Tables.{RangeLists, ranges_of, range_in, with_ranges}
-use Rattle.dom_ranges.proofs.Before.{before-same}
-use Rattle.dom_ranges.proofs.Lists.{append-last}
+
+-- an owner is itself, and so is a name
+pub owner-same : (o : Owner) → owner_eq o o ≡ true
+owner-same Page = refl
+owner-same (Component q) = and_from (q.depth == q.depth) _ (eq-eqb q.depth q.depth refl) (nat_list_eq_equiv.refl q.parts)
+
+pub name-same : (x : NodeName) → name_eq x x ≡ true
+name-same x = rw (owner-same x.owner) (eq-eqb x.number x.number refl)
+
+-- no place behind another one is before it
+no-later : (xs : List ℕ) (n : ℕ) → list_before (xs ++ (2 * n) ∷ []) (xs ++ 0 ∷ []) ≡ false
+no-later [] n = rw (false_from_ne_true (ltb (2 * n) 0) (λ e. omega (arith, ltb-true (2 * n) 0 e))) (neither (2 * n == 0))
+  where
+    neither : (b : Bool) → (b && false) ≡ false
+    neither true = refl
+    neither false = refl
+no-later (x ∷ xs) n = rw (false_from_ne_true (ltb x x) (λ e. omega (arith, ltb-true x x e)), eq-eqb x x refl) (no-later xs n)
+
+-- the item at the end
+last-item : {X : Type 0} (xs : List X) (x : X) → slice_get (xs ++ x ∷ []) (length xs) ≡ Some x
+last-item [] x = refl
+last-item (z ∷ xs) x = last-item xs x
 
 -- an end behind the start, in the same node, leaves the start
 pub end-behind : (f : NamedTrees) (node n : ℕ) → end_set f (at node n) (from_to (at node 0) (at node 0)) ≡ from_to (at node 0) (at node n)
 end-behind f node n =
     let x = name_at f.names node in
-    let behind : ltb n 0 ≡ false = false_from_ne_true (ltb n 0) (λ e. omega (arith, ltb-true n 0 e)) in
-    rw (name_eq-same (root_of f.trees x), before-same f.trees x x n 0 refl, behind) refl
+    let behind : is_before f.trees (at x n) (at x 0) ≡ false = no-later (map (λ k. 2 * k + 1) (place_of f.trees x)) n in
+    rw (name-same (root_of f.trees x), behind) refl
 
 module _ (t mid : RangeLists) (owner : Owner) (node : ℕ)
     (made : (o : Owner) → ranges_of mid o ≡ with_ranges t owner (ranges_of t owner ++ Some (from_to (at node 0) (at node 0)) ∷ []) o) where
   -- the owner's ranges, with the one that was made
   pub ranges-made : ranges_of mid owner ≡ ranges_of t owner ++ Some (from_to (at node 0) (at node 0)) ∷ []
-  ranges-made = rw (owner_eq-same owner) at (made owner)
+  ranges-made = rw (owner-same owner) at (made owner)
 
   -- the range that was made
   pub range-made : range_in (ranges_of mid owner) (length (ranges_of t owner)) ≡ Some (from_to (at node 0) (at node 0))
-  range-made = rw (ranges-made, append-last (ranges_of t owner) (Some (from_to (at node 0) (at node 0)))) refl
+  range-made = rw (ranges-made, last-item (ranges_of t owner) (Some (from_to (at node 0) (at node 0)))) refl
 
   -- the owner's ranges, with the one that was made and then ended
   pub ranges-ended : (f : NamedTrees) (n : ℕ) →

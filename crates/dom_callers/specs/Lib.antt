@@ -2,6 +2,9 @@
 pub mod Editing
 pub mod Focus
 pub mod Fronts
+pub mod Headings
 pub mod Labels
+pub mod Moving
+pub mod Notes
 pub mod Words
 pub mod Widgets

@@ -1,12 +1,16 @@
-//! Callers of the crates that serve alone, one a crate: each is a call that the author of a toolkit makes, with its
-//! exact result in the words of the crate called. `docs/CRATES.md` shows them.
+//! Callers of the crates that serve alone, each a call that the author of a toolkit makes, with its
+//! exact result in the words of the crate called; and a note that is written, asked and rearranged. `docs/CRATES.md` shows them.
 #![tactic(auto)]
 
 mod arena;
 mod editing;
+mod moving;
+mod notes;
 mod observing;
+mod outline;
 mod path;
 mod ranges;
+mod rearranging;
 mod selecting;
 mod traversal;
 mod tree;
@@ -14,9 +18,13 @@ mod widgets;
 
 pub use arena::move_to_front;
 pub use editing::rewrite;
+pub use moving::move_before;
+pub use notes::{Note, write_note};
 pub use observing::watch_attributes;
+pub use outline::headings;
 pub use path::count_visits;
 pub use ranges::select_contents;
+pub use rearranging::rearrange;
 pub use selecting::has_match;
 pub use traversal::next_focus;
 pub use tree::label;

@@ -1,15 +1,16 @@
 //! A caller of `dom_ranges`.
-ghost use Rattle.std.specs.Prelude.{◌≡◌, ◌++◌, ◌∷◌, [], ◌↔◌, ◌⊎◌, true, length, Some, IfOk, IfErr, OnOk, OnErr};
+ghost use Rattle.std.specs.Prelude.{◌≡◌, ℕ, ◌≤◌, ◌++◌, ◌∷◌, [], ◌↔◌, ◌⊎◌, true, length, Some, IfOk, IfErr, OnOk, OnErr};
 ghost use Rattle.dom_base.specs.declared.Owner.{Owner as Owners};
 ghost use Rattle.dom_model.specs.CommandRefusals.{past_limit};
 ghost use Rattle.dom_model.specs.Ranges.{at, from_to};
 ghost use Rattle.dom_model.specs.Tree.{length_of};
 ghost use Rattle.dom_tree.specs.Forest.{IsNode, name_of};
 ghost use Rattle.dom_ranges.specs.Rules.{IsAtNode};
+ghost use Rattle.dom_ranges.specs.Staying.{AreWithin};
 ghost use Rattle.dom_ranges.specs.Tables.{ranges_of, with_ranges, EachRange, BothEnds};
 
 use dom_base::{Fault, Owner, Refusal};
-use dom_ranges::RangeTable;
+use dom_ranges::{RangeTable, law_ends_stay};
 use dom_tree::Forest;
 use node_arena::Key;
 
@@ -31,7 +32,10 @@ pub fn select_contents(
     ensures limit { (result ≡ Err (Fault.Refused Refusal.Limit)) ↔ (past_limit (length (ranges_of ranges.old owner)) 1 ≡ true) }
     ensures other { IfErr result (λ fault. (fault ≡ Fault.Refused Refusal.Limit) ⊎ (fault ≡ Fault.Memory)) }
     ensures err { OnErr result ((o : Owners) → ranges_of ranges.new o ≡ ranges_of ranges.old o) }
+    ensures within { (most : ℕ) → length_of forest.now.trees (name_of forest.now node) ≤ most →
+        AreWithin forest.now.names most ranges.old → OnOk result (AreWithin forest.now.names most ranges.new) }
 {
+    law_ends_stay();
     let number = ranges.make(owner, node)?;
     let length = forest.length(node);
     let Ok(()) = ranges.set_end(owner, number, forest, node, length) else {

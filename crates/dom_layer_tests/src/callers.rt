@@ -3,7 +3,10 @@ ghost use Rattle.std.specs.Prelude.{◌≡◌, None, IfOk};
 ghost use Rattle.dom_tree.specs.Forest.{IsNode};
 
 use dom_base::{Kind, NodeName, Owner};
-use dom_callers::{has_match, label, move_to_front, next_focus, select_contents, watch_attributes};
+use dom_callers::{
+    has_match, headings, label, move_to_front, next_focus, rearrange, select_contents,
+    watch_attributes,
+};
 use dom_observers::Observers;
 use dom_ranges::RangeTable;
 use dom_traversal::Filter;
@@ -93,6 +96,23 @@ fn a_document_is_watched(rt: HostRuntime) -> Result<(), Fail> {
     let mut observers = Observers::new(rt.alloc());
     assert_eq!(rt; watch_attributes(&mut observers, Owner::Page, top)?, 0);
     assert!(rt; observers.is_watched(Owner::Page));
+    Ok(())
+}
+
+#[test]
+fn a_note_is_rearranged(rt: HostRuntime) -> Result<(), Fail> {
+    let mut forest = Forest::new(rt.alloc());
+    let mut ranges = RangeTable::new(rt.alloc());
+    let range = rearrange(rt.alloc(), &mut forest, &mut ranges)?;
+    let article = key_of(&rt, &forest, 1);
+    let heading = key_of(&rt, &forest, 2);
+    assert_eq!(rt; forest.last(article), Some(heading));
+    let found = headings(rt.alloc(), &forest, article)?;
+    assert!(rt; found.as_slice() == [heading].as_slice());
+    let points = ranges
+        .points(Owner::Page, range)
+        .expect(&rt, "the range is not there");
+    assert!(rt; points.start == (article, 0) && points.end == (article, 2));
     Ok(())
 }
 

@@ -1,12 +1,21 @@
 -- The steps of an extraction, one after another.
-use Rattle.std.proofs.Common.{suc, ◌≡◌, ◌<◌, ℕ, List, [], ◌∷◌, ◌++◌, length, map, is_some, true, refl, sym, ap, ◌∙◌, subst, arith, append_assoc, length-append}
+use Rattle.std.proofs.Common.{suc, ◌≡◌, ◌<◌, ◌+◌, ℕ, false, List, [], ◌∷◌, ◌++◌, length, map, is_some, true, Result, Ok, Err, Some, None, refl, sym, ap}
+use Rattle.std.proofs.Common.{◌∙◌, subst, arith, append_assoc, length-append}
+use Rattle.std.specs.Prelude.{◌↔◌, IfErr}
 use Rattle.std.specs.List.{AllByRecursion}
+use Rattle.std.proofs.lemmas.Bool.{false_from_ne_true, ltb-true}
 use Rattle.std.proofs.Math.Seq.{get_or-append_seam}
 use Rattle.dom_base.specs.declared.NodeName.{NodeName}
+use Rattle.dom_base.specs.declared.Fault.{Fault}
+use Rattle.dom_base.specs.declared.Fault.TheVariants.{Refused, Memory}
+use Rattle.dom_base.specs.declared.Refusal.{Refusal}
+use Rattle.dom_base.specs.declared.Refusal.TheVariants.{Limit}
 use Rattle.dom_base.specs.declared.Owner.{Owner}
 use Rattle.dom_base.specs.declared.Owner.TheVariants.{Page}
 use Rattle.dom_worlds.specs.Worlds.{IsPart}
 use Rattle.dom_model.proofs.PartLaws.{owner-part_of}
+use Rattle.dom_model.specs.CommandRefusals.{past_limit, limit_on}
+use Rattle.dom_model.specs.Validity.{first_refusal}
 use Rattle.dom_model.specs.Changes.{◌and_then◌, doing}
 use Rattle.dom_model.specs.Names.{node_of}
 use Rattle.dom_model.specs.Part.{Part, next_name, range_at}
@@ -121,3 +130,13 @@ module _ (d e : DocState) (o : Owner) (into : ℕ) (n : Node) (alone : IsAlone d
         ∙ ap (made o (doing (set_range k r))) first
         ∙ sym (made_then o (doing (make n) and_then fill) (doing (set_range k r)) d.world alone
         (plans_then o (doing (make n)) fill (λ q own. (tt, tt)) own-items))
+
+-- a fragment has no name to be tested, so where there is room for it, memory alone stops it
+pub room-faults : {X : Type 0} (m : Result X Fault) (have : ℕ) → have < 1000000 → ((r : Refusal) → (m ≡ Err (Refused r)) ↔ (limit_on have 1 ≡ Some r)) →
+    IfErr m (λ fault. fault ≡ Memory)
+room-faults (Ok x) have few h = tt
+room-faults (Err Memory) have few h = refl
+room-faults (Err (Refused r)) have few h =
+    let kept : past_limit have 1 ≡ false = false_from_ne_true (past_limit have 1) (λ e. omega (arith, few, ltb-true 1000000 (have + 1) e)) in
+    let no : None ≡ Some r = sym (ap (λ b. first_refusal ((b, Limit) ∷ [])) kept) ∙ (h r).0 refl in
+    absurd cc

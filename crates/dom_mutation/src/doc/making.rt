@@ -1,4 +1,4 @@
-//! New nodes (DOM Standard, 4.5 Interface Document: createElement(); concept: clone a single node).
+//! New nodes (DOM Standard, createElement(); concept: clone a single node).
 ghost use Rattle.std.specs.Prelude.{◌≡◌, ◌↔◌, ◌⊎◌, ◌++◌, ◌∷◌, [], length, true, false, Some, string_bytes, IfOk, IfErr, OnOk, OnErr};
 ghost use Rattle.std.specs.Option.{ForSome};
 ghost use Rattle.dom_base.specs.declared.Refusal.{Refusal as RefusalOf};

@@ -21,3 +21,12 @@ unreachable-requires c =
       | inl e ↦ let none = c.in_default.ensures.unknown.0 (ap Err e) in cc
       | inr e ↦ let past = (c.in_default.ensures.index_size.0 (ap Err e)).1 in omega (arith, past, c.length-length.ensures)
     ]
+
+pub returns-clause-within : goal.returns-clause-within
+returns-clause-within c = λ most fits within.
+    let f = c.args.forest.now in
+    let laws = c.law_ends_stay.ensures in
+    let mid = laws.made f.names most c.args.ranges.now c.make.new.self c.args.owner c.args.node c.requires.node_is_node c.in_ok-number.ensures.made within in
+    let short = c.length-length.ensures in
+    laws.end f most c.make.new.self c.set_end.new.self c.args.owner c.in_ok-number.number c.args.node c.length-length.result c.requires.node_is_node
+    (omega (arith, fits, short)) c.in-Ok.ensures.set mid

@@ -7,6 +7,6 @@ use Rattle.dom_mutation.proofs.doc.Doc.add.Goals as goal
 pub returns-clause-ready : goal.returns-clause-ready
 returns-clause-ready c =
     let o = c.args.owner in
-    node-made c.self.inside.parts c.args.self.now c.add.new.self c.self.view_is
+    node-made c.self.inside.parts c.args.self.now c.add.new.parts c.self.view_is
     (record { alone = c.laws.ensures.alone; parts = c.laws.ensures.parts; stand = c.laws.ensures.stand }) o
     (λ a. node_from a.names (next_name (part_of a.world o)) c.args.node) c.requires.no_shadow c.add.result c.add.ensures.world
