@@ -16,15 +16,16 @@ pub fed-rest : (kept kept' passed piece all : List ℕ) → kept' ≡ (fed kept 
 fed-rest kept kept' passed piece all k e =
     ap (λ x. (fed kept x).rest) e ∙ ap (λ cut. cut.rest) (fed-pieces kept passed piece) ∙ ap (λ x. (fed x piece).rest) (sym k)
 
--- bytes of which a piece more has passed
+-- bytes of which a front of the rest more has passed
+pub front-behind : (bytes passed rest front later : List ℕ) → bytes ≡ passed ++ rest → rest ≡ front ++ later → bytes ≡ (passed ++ front) ++ later
+front-behind bytes passed rest front later e cut = e ∙ ap (λ x. passed ++ x) cut ∙ sym (append_assoc passed front later)
+
+-- the same of a front that was taken
 pub piece-behind : (bytes passed rest piece later : List ℕ) (n : ℕ) → bytes ≡ passed ++ rest → piece ≡ take n rest → later ≡ drop n rest →
     bytes ≡ (passed ++ piece) ++ later
 piece-behind bytes passed rest piece later n e here behind =
-    e
-    ∙ ap (λ x. passed ++ x) (sym (take-append-drop n rest))
-    ∙ sym (append_assoc passed (take n rest) (drop n rest))
-    ∙ ap (λ x. (passed ++ x) ++ drop n rest) (sym here)
-    ∙ ap (λ x. (passed ++ piece) ++ x) (sym behind)
+    front-behind bytes passed rest piece later e
+    (sym (take-append-drop n rest) ∙ ap (λ x. x ++ drop n rest) (sym here) ∙ ap (λ x. piece ++ x) (sym behind))
 
 -- the lines of bytes around a piece
 pub fed-around : (kept kept' bytes passed piece later : List ℕ) → kept' ≡ (fed kept passed).rest → bytes ≡ (passed ++ piece) ++ later

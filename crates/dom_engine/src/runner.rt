@@ -103,8 +103,9 @@ impl Runner {
         self.run_lines(sink, &lines)
     }
 
-    /// Takes bytes of the input, and runs the lines that they end. Each piece of them has one line feed at most, so that
-    /// memory which is refused to a piece is refused to one line.
+    /// Takes bytes of the input, and runs the lines that they end: a line that lies whole in them where it stands, without a
+    /// copy. Each other piece of them has one line feed at most, so that memory which is refused to a piece is refused to one
+    /// line.
     fn take_bytes<W: Sink>(&mut self, sink: &mut W, bytes: &[u8]) -> Result<(), RunFault>
         requires writes { W.failures sink.old < u64.MAX }
         requires kept { IsKept self.old.splitter }
@@ -116,9 +117,14 @@ impl Runner {
     {
         let mut rest = bytes;
         while !rest.is_empty() {
-            let (piece, later) = rest.split_at(piece_len(rest));
-            self.take_piece(sink, piece)?;
-            rest = later;
+            if let Some((line, later)) = self.splitter.whole_line(rest) {
+                self.run_line(sink, line)?;
+                rest = later;
+            } else {
+                let (piece, later) = rest.split_at(piece_len(rest));
+                self.take_piece(sink, piece)?;
+                rest = later;
+            }
         }
         Ok(())
     }

@@ -41,7 +41,7 @@ further : (old front more : List ℕ) (lines : List (List ℕ)) (kept : List ℕ
 further old front more lines kept so_far = fed-pieces old front more ∙ ap (λ (c : Cut). after_lines c.finished (fed c.rest more)) so_far
 
 -- one line and its end
-line_fed : (kept line : List ℕ) → IsOneLine kept → IsOneLine line →
+pub line_fed : (kept line : List ℕ) → IsOneLine kept → IsOneLine line →
     fed kept (line ++ line_feed ∷ []) ≡ record { finished = kept_line (kept ++ line) ∷ []; rest = [] }
 line_fed kept line h k =
     ap (λ (x : List ℕ). kept_cut (cut_of x)) (sym (append_assoc kept line (line_feed ∷ [])))

@@ -5,4 +5,5 @@ mod Parts
 mod Lasts
 pub mod StreamLaws
 mod FedPieces
+pub mod WholeLines
 mod KeywordLaws

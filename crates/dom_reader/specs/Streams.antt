@@ -37,6 +37,18 @@ pub record IsKept (bytes : List ℕ) : Type 0 where
   pub one_line : IsOneLine bytes
   pub short : length bytes ≤ max_line + 1
 
+-- Where nothing is kept of a line: a line that lies whole in the bytes, cut as a line is that is kept, and the bytes behind its line feed.
+pub record IsWholeLine (kept bytes line later : List ℕ) : Type 0 where
+  pub fresh : kept ≡ []
+  pub whole : List ℕ
+  pub one_line : IsOneLine whole
+  pub split : bytes ≡ whole ++ line_feed ∷ later
+  pub cut : line ≡ kept_line whole
+
+-- no line lies whole in the bytes: something is kept of one, or there is no line feed
+abbrev pub HasNoWholeLine : List ℕ → List ℕ → Type 0
+HasNoWholeLine kept bytes = kept ≡ [] → IsOneLine bytes
+
 -- pieces fed one after another make of the bytes that are kept what their stream makes of them in one piece
 abbrev pub PiecesAreTheirStream : Type 0
 PiecesAreTheirStream = (kept : List ℕ) (pieces : List (List ℕ)) → IsKept kept → fed_all kept pieces ≡ fed kept (stream_of pieces)

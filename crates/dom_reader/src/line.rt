@@ -5,8 +5,8 @@ use dom_base::{Action, DomStr, Move, Owner, Verdict};
 
 /// A node as a line names it: by its number, a node of the line's own owner, or, by its spelling, another owner's.
 ///
-/// For the page `nJ` is its own, and `mJ` and `cK:mJ` are foreign; for a component `mJ` is its own, and `nJ` and every
-/// `cK:mJ` are foreign.
+/// For the page `nJ` is its own, and `mJ` and each full name, as `c1.2:m3`, are foreign; for a component `mJ` is its own, and
+/// `nJ` and each full name are foreign, its own nodes' too.
 #[derive(Clone, Copy)]
 pub enum NodeWord {
     Own(u32),

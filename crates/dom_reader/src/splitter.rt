@@ -1,8 +1,8 @@
 //! Bytes cut into lines as they come.
 
-ghost use Rattle.std.specs.Prelude.{◌≡◌, ◌++◌, ℕ, [], IfOk, OnErr, OnOk, map, option_to_list};
+ghost use Rattle.std.specs.Prelude.{◌≡◌, ◌++◌, ℕ, [], IfNone, IfOk, IfSome, OnErr, OnOk, map, option_to_list};
 ghost use Rattle.dom_text.specs.Lines.{kept_line, last_line};
-ghost use Rattle.dom_reader.specs.Streams.{fed, IsFedPart, IsKept};
+ghost use Rattle.dom_reader.specs.Streams.{fed, HasNoWholeLine, IsFedPart, IsKept, IsWholeLine};
 
 use dom_base::MAX_LINE;
 use memchr::memchr;
@@ -79,6 +79,22 @@ impl Splitter {
         ensures refused { OnErr result (IsFedPart self.old piece.now self.new) }
     {
         completed(self.alloc, &mut self.kept, piece)
+    }
+
+    /// The first line of bytes that come next, where it lies whole in them, and the bytes behind its line feed; none where
+    /// bytes of a line stayed, or there is no line feed. A line that is longer than a line may be is cut as `feed` cuts it.
+    /// Nothing is fed, and it takes no memory.
+    pub fn whole_line<'a>(&self, bytes: &'a [u8]) -> Option<(&'a [u8], &'a [u8])>
+        ensures some { IfSome result (λ r. IsWholeLine self.now bytes.now r.0.now r.1.now) }
+        ensures none { IfNone result (HasNoWholeLine self.now bytes.now) }
+    {
+        if !self.kept.is_empty() {
+            return None;
+        }
+        let end = memchr(b'\n', bytes)?;
+        let line = &bytes[..end];
+        let taken = line.len().min(MAX_LINE + 1);
+        Some((&line[..taken], &bytes[end + 1..]))
     }
 
     /// The last line, where the stream ended without a line feed and bytes stayed behind the last one. Nothing stays. It
