@@ -13,8 +13,12 @@ use Rattle.dom_model.specs.Part.{Part}
 use Rattle.dom_model.specs.Validity.{first_refusal}
 use Rattle.dom_model.specs.World.{World, part_of, is_there}
 use Rattle.dom_model.specs.DocumentMachine.{is_busy, refusal}
+use Rattle.dom_model.specs.Trace.{is_page}
 use Rattle.dom_admission.specs.declared.admission.Operand.{Operand}
 use Rattle.dom_admission.specs.Refusals.{has_foreign, are_there, are_fitting, early_refusal}
+use Rattle.dom_admission.specs.declared.admission.Operand.TheVariants.{Slot}
+use Rattle.dom_reader.specs.declared.line.NodeWord.{NodeWord}
+use Rattle.dom_reader.specs.Views.{word_view}
 
 -- a command of all owners that names these nodes, ranges, iterators, walkers and observers, and nothing else
 pub record IsNaming (c : Command) (names : List Operand) : Type 0 where
@@ -73,3 +77,13 @@ refusal-of_own w o c names is =
 pub refusal-of_names : (w : World) (o : Owner) (c : Command) (names : List Operand) → IsNaming c names →
     refusal w o c ≡ option_or (early_refusal w o names) (own_refusal (part_of w o) c)
 refusal-of_names w o c names is = refusal-of_own w o c names (naming_of o c names is)
+
+-- ---- what each command names
+
+-- That a command names what its handler admits follows by computation and these: a handler's proof says `search namings`.
+pub ruleset namings = (by_owner, and_true, and_last)
+
+-- only components may say it
+pub naming-assigned : (o : Owner) → is_page o ≡ false → (x : NodeWord) → IsNamingOf o (Command.assigned (word_view x)) (Slot x ∷ [])
+naming-assigned Page h x = absurd cc
+naming-assigned (Component k) h x = record { mine = refl; foreign = refl; exist = λ p. and_true _; fit = λ p. refl }

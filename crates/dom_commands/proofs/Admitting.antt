@@ -23,8 +23,7 @@ use Rattle.dom_admission.specs.declared.admission.Operand.TheVariants.{Any}
 use Rattle.dom_admission.specs.Handled.{IsHandled, let_pass}
 use Rattle.dom_admission.specs.Refusals.{early_refusal}
 use Rattle.dom_admission.proofs.Handling.{passed}
-use Rattle.dom_admission.proofs.Namings.{naming-dispatch, naming-dispatch_related}
-use Rattle.dom_admission.proofs.Refusing.{IsNaming, refusal-of_names}
+use Rattle.dom_admission.proofs.Refusing.{IsNaming, refusal-of_names, namings}
 
 -- a command that passes is refused by its own tests alone
 pub passes : (w : World) (o : Owner) (c : Command) (names : List Operand) (q : Option Refusal) → IsNaming c names →
@@ -57,7 +56,7 @@ pub target_passes : (w : World) (o : Owner) (x : NodeWord) (e : EventWords) →
     early_refusal w o (Any x ∷ []) ≡ refusal w o (Command.dispatch (word_view x) e None)
 target_passes w o x e =
     let early = early_refusal w o (Any x ∷ []) in
-    sym (refusal-of_names w o (Command.dispatch (word_view x) e None) (Any x ∷ []) (naming-dispatch x e) ∙
+    sym (refusal-of_names w o (Command.dispatch (word_view x) e None) (Any x ∷ []) (search namings) ∙
     ap (option_or early) (no_related (part_of w o).owner (part_of w o) (named (part_of w o) (word_view x))) ∙ or_none early)
 
 -- with one
@@ -66,12 +65,12 @@ pub related_passes : (w : World) (o : Owner) (x y : NodeWord) (e : EventWords) (
     q ≡ related_refusal o (part_of w o) (named (part_of w o) (word_view x)) (Some (word_view y)) →
     let_pass q ≡ let_pass (refusal w o (Command.dispatch (word_view x) e (Some (word_view y))))
 related_passes w o x y e q pass is =
-    passes w o (Command.dispatch (word_view x) e (Some (word_view y))) (Any x ∷ Any y ∷ []) q (naming-dispatch_related x y e) pass
+    passes w o (Command.dispatch (word_view x) e (Some (word_view y))) (Any x ∷ Any y ∷ []) q (search namings) pass
     (is ∙ ap (λ (a : Owner). related_refusal a (part_of w o) (named (part_of w o) (word_view x)) (Some (word_view y))) (sym (owner-part_of w o)))
 
 pub related_stops : (w : World) (o : Owner) (x y : NodeWord) (e : EventWords) (f : Fault) → let_pass (early_refusal w o (Any x ∷ Any y ∷ [])) ≡ Err f →
     Err f ≡ let_pass (refusal w o (Command.dispatch (word_view x) e (Some (word_view y))))
-related_stops w o x y e f h = stops w o (Command.dispatch (word_view x) e (Some (word_view y))) (Any x ∷ Any y ∷ []) f (naming-dispatch_related x y e) h
+related_stops w o x y e f h = stops w o (Command.dispatch (word_view x) e (Some (word_view y))) (Any x ∷ Any y ∷ []) f (search namings) h
 
 -- ---- what is refused, and what is not
 

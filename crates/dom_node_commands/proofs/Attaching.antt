@@ -25,7 +25,7 @@ use Rattle.dom_admission.specs.Handled.{IsDone, IsHandled, let_pass}
 use Rattle.dom_admission.specs.Refusals.{early_refusal}
 use Rattle.dom_admission.specs.Turned.{with_turn, turned}
 use Rattle.dom_admission.proofs.Handling.{handled, faulted, finished, opened, opened-part}
-use Rattle.dom_admission.proofs.Namings.{naming-attach}
+use Rattle.dom_admission.proofs.Refusing.{namings}
 
 -- In a state, a line of an owner that passes: it names this host.
 module _ (o : Owner) (t : Option Owner) (d s : DocState) (seen : turned t d ≡ s) (x : line.NodeWord) (key : ℕ)
@@ -46,7 +46,7 @@ module _ (o : Owner) (t : Option Owner) (d s : DocState) (seen : turned t d ≡ 
       IsHandled o c s.world new before after r
   in_world new before after r h =
       let Done : DocState → Type 0 = λ u. IsDone (own_refusal (part_of u.world o) c) (accepted u.world o c) u.world new before after r in
-      handled s.world new o c (Element x ∷ []) before after r (naming-attach x) pass (subst Done seen h)
+      handled s.world new o c (Element x ∷ []) before after r (search namings) pass (subst Done seen h)
 
   -- the attaching is refused, which changed nothing, or memory was refused
   pub attach-faults : (mid : World) (text : List ℕ) (f : Fault) →

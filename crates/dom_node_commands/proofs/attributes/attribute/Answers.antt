@@ -10,14 +10,14 @@ use Rattle.dom_printer.specs.Replies.{value_view}
 use Rattle.dom_reader.specs.Views.{word_view}
 use Rattle.dom_admission.specs.declared.admission.Operand.TheVariants.{Element}
 use Rattle.dom_admission.proofs.Handling.{refused, reads}
-use Rattle.dom_admission.proofs.Namings.{naming-attribute}
+use Rattle.dom_admission.proofs.Refusing.{namings}
 use Rattle.dom_node_commands.proofs.attributes.attribute.Goals as goal
 
 pub returns-in_err-admit-clause-handled : goal.returns-in_err-admit-clause-handled
 returns-in_err-admit-clause-handled c =
     let p = err_from_is_err_and c.from_residual.result c.from_residual.ensures.1 in
     rw (p.1, p.2) (refused c.args.state.now.world c.args.owner (Command.attribute (word_view c.args.element) (string_bytes c.args.name))
-    (Element c.args.element ∷ []) c.args.out.now.items c.in_err-admit.field-0.0 (naming-attribute c.args.element (string_bytes c.args.name))
+    (Element c.args.element ∷ []) c.args.out.now.items c.in_err-admit.field-0.0 (search namings)
     (sym c.admit.ensures ∙ c.in_err-admit.was))
 
 pub returns-clause-handled : goal.returns-clause-handled
@@ -26,7 +26,7 @@ returns-clause-handled c =
     (Command.attribute (word_view c.args.element) (string_bytes c.args.name)) (Element c.args.element ∷ [])
     (λ p. string_or_null (attribute_value (node_in p.trees (named p (word_view c.args.element))) (string_bytes c.args.name)))
     (value_view c.attribute_value.result) c.args.out.now.items c.put_reply.new.out.items (Ok tt)
-    (naming-attribute c.args.element (string_bytes c.args.name)) refl (sym c.admit.ensures ∙ c.in_ok-admit.was) refl
+    (search namings) refl (sym c.admit.ensures ∙ c.in_ok-admit.was) refl
     (c.attribute_value.ensures ∙ ap (λ a. string_or_null
     (attribute_value (node_in (part_of c.args.state.now.world c.args.owner).trees
     (named (part_of c.args.state.now.world c.args.owner) (word_view c.args.element))) a)) c.deref.ensures)

@@ -13,10 +13,10 @@ use Rattle.dom_tree.specs.Forest.{name_at}
 use Rattle.dom_reader.specs.Views.{word_view}
 use Rattle.dom_admission.specs.declared.admission.Operand.TheVariants.{Element}
 use Rattle.dom_admission.proofs.Handling.{refused, plans, faults}
-use Rattle.dom_admission.proofs.Namings.{naming-set_attribute}
 use Rattle.dom_admission.proofs.Finding.{IsKey}
 use Rattle.dom_node_commands.proofs.CommandPlans.{node-made, lacks, lacks_none}
 use Rattle.dom_admission.proofs.OwnRefusals.{only_refusal, accepted_not}
+use Rattle.dom_admission.proofs.Refusing.{namings}
 use Rattle.dom_node_commands.proofs.attributes.set_attribute.Goals as goal
 
 pub returns-in_err-admit-clause-handled : goal.returns-in_err-admit-clause-handled
@@ -24,7 +24,7 @@ returns-in_err-admit-clause-handled c =
     let p = err_from_is_err_and c.from_residual.result c.from_residual.ensures.1 in
     rw (p.1, p.2) (refused c.args.state.now.world c.args.owner
     (Command.set_attribute (word_view c.args.element) (string_bytes c.args.name) c.args.value.items) (Element c.args.element ∷ [])
-    c.args.out.now.items c.in_err-admit.field-0.0 (naming-set_attribute c.args.element (string_bytes c.args.name) c.args.value.items)
+    c.args.out.now.items c.in_err-admit.field-0.0 (search namings)
     (sym c.admit.ensures ∙ c.in_err-admit.was))
 
 pub returns-in_err-set_attr-clause-handled : goal.returns-in_err-set_attr-clause-handled
@@ -35,7 +35,7 @@ returns-in_err-set_attr-clause-handled c =
     rw (← c.state.view_is) at c.key-element.ensures.name in
     rw (p.1, p.2) (faults c.state.inside.turn d c.args.state.now c.state.view_is c.args.owner
     (Command.set_attribute (word_view c.args.element) (string_bytes c.args.name) c.args.value.items) (Element c.args.element ∷ [])
-    (naming-set_attribute c.args.element (string_bytes c.args.name) c.args.value.items) (sym c.admit.ensures ∙ c.in_ok-admit.was)
+    (search namings) (sym c.admit.ensures ∙ c.in_ok-admit.was)
     c.set_attr.new.self.world c.args.out.now.items c.in_err-set_attr.field-0.0
     (λ r e. (
       lacks (is_name (string_bytes c.args.name)) InvalidCharacter
@@ -56,7 +56,7 @@ returns-clause-handled c =
     rw (← c.state.view_is) at c.key-element.ensures.name in
     plans c.state.inside.turn d c.args.state.now c.state.view_is c.args.owner
     (Command.set_attribute (word_view c.args.element) (string_bytes c.args.name) c.args.value.items) (Element c.args.element ∷ [])
-    (naming-set_attribute c.args.element (string_bytes c.args.name) c.args.value.items) (sym c.admit.ensures ∙ c.in_ok-admit.was)
+    (search namings) (sym c.admit.ensures ∙ c.in_ok-admit.was)
     c.set_attr.new.self.world c.accept.new.self.world
     (λ p. setting_attribute (named p (word_view c.args.element)) (string_bytes c.args.name) c.args.value.items p) (λ p. nothing) nothing
     c.args.out.now.items c.accept.new.out.items c.accept.result refl

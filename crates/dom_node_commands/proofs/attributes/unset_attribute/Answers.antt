@@ -10,8 +10,8 @@ use Rattle.dom_tree.specs.Forest.{name_at}
 use Rattle.dom_reader.specs.Views.{word_view}
 use Rattle.dom_admission.specs.declared.admission.Operand.TheVariants.{Element}
 use Rattle.dom_admission.proofs.Handling.{refused, plans}
-use Rattle.dom_admission.proofs.Namings.{naming-unset_attribute}
 use Rattle.dom_admission.proofs.Finding.{IsKey}
+use Rattle.dom_admission.proofs.Refusing.{namings}
 use Rattle.dom_node_commands.proofs.CommandPlans.{node-made}
 use Rattle.dom_node_commands.proofs.attributes.unset_attribute.Goals as goal
 
@@ -20,7 +20,7 @@ returns-in_err-admit-clause-handled c =
     let p = err_from_is_err_and c.from_residual.result c.from_residual.ensures.1 in
     rw (p.1, p.2) (refused c.args.state.now.world c.args.owner (Command.unset_attribute (word_view c.args.element) (string_bytes c.args.name))
     (Element c.args.element ∷ []) c.args.out.now.items c.in_err-admit.field-0.0
-    (naming-unset_attribute c.args.element (string_bytes c.args.name)) (sym c.admit.ensures ∙ c.in_err-admit.was))
+    (search namings) (sym c.admit.ensures ∙ c.in_err-admit.was))
 
 pub returns-clause-handled : goal.returns-clause-handled
 returns-clause-handled c =
@@ -29,7 +29,7 @@ returns-clause-handled c =
     rw (← c.state.view_is) at c.key-element.ensures.name in
     plans c.state.inside.turn d c.args.state.now c.state.view_is c.args.owner
     (Command.unset_attribute (word_view c.args.element) (string_bytes c.args.name)) (Element c.args.element ∷ [])
-    (naming-unset_attribute c.args.element (string_bytes c.args.name)) (sym c.admit.ensures ∙ c.in_ok-admit.was) c.remove_attr.new.self.world
+    (search namings) (sym c.admit.ensures ∙ c.in_ok-admit.was) c.remove_attr.new.self.world
     c.accept.new.self.world (λ p. unsetting_attribute (named p (word_view c.args.element)) (string_bytes c.args.name) p) (λ p. nothing)
     nothing c.args.out.now.items c.accept.new.out.items c.accept.result refl
     (refl)

@@ -9,8 +9,8 @@ use Rattle.dom_reader.specs.Views.{word_view}
 use Rattle.dom_admission.specs.declared.admission.Operand.TheVariants.{Any}
 use Rattle.dom_admission.proofs.Turned.{bounded-inside}
 use Rattle.dom_admission.proofs.Handling.{refused, plans}
-use Rattle.dom_admission.proofs.Namings.{naming-normalize}
 use Rattle.dom_admission.proofs.Finding.{IsKey}
+use Rattle.dom_admission.proofs.Refusing.{namings}
 use Rattle.dom_node_commands.proofs.CommandPlans.{node-made}
 use Rattle.dom_node_commands.proofs.data.normalize.Goals as goal
 
@@ -18,14 +18,14 @@ pub returns-in_err-admit-clause-handled : goal.returns-in_err-admit-clause-handl
 returns-in_err-admit-clause-handled c =
     let p = err_from_is_err_and c.from_residual.result c.from_residual.ensures.1 in
     rw (p.1, p.2) (refused c.args.state.now.world c.args.owner (Command.normalize (word_view c.args.node)) (Any c.args.node ∷ [])
-    c.args.out.now.items c.in_err-admit.field-0.0 (naming-normalize c.args.node) (sym c.admit.ensures ∙ c.in_err-admit.was))
+    c.args.out.now.items c.in_err-admit.field-0.0 (search namings) (sym c.admit.ensures ∙ c.in_err-admit.was))
 
 pub returns-clause-handled : goal.returns-clause-handled
 returns-clause-handled c =
     let d = c.state.inside.doc in
     let node_is : IsKey d.names d.world c.args.owner c.key-node.result (word_view c.args.node) = rw (← c.state.view_is) at c.key-node.ensures.name in
     plans c.state.inside.turn d c.args.state.now c.state.view_is c.args.owner (Command.normalize (word_view c.args.node))
-    (Any c.args.node ∷ []) (naming-normalize c.args.node) (sym c.admit.ensures ∙ c.in_ok-admit.was) c.normalize.new.self.world
+    (Any c.args.node ∷ []) (search namings) (sym c.admit.ensures ∙ c.in_ok-admit.was) c.normalize.new.self.world
     c.accept.new.self.world (λ p. normalizing (named p (word_view c.args.node)) p) (λ p. nothing) nothing c.args.out.now.items
     c.accept.new.out.items c.accept.result refl
     (refl)

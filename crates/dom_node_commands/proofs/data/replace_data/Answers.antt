@@ -11,10 +11,10 @@ use Rattle.dom_reader.specs.Views.{word_view}
 use Rattle.dom_admission.specs.declared.admission.Operand.TheVariants.{Data}
 use Rattle.dom_admission.proofs.Turned.{bounded-inside}
 use Rattle.dom_admission.proofs.Handling.{refused, plans, faults, fitting}
-use Rattle.dom_admission.proofs.Namings.{naming-replace_data}
 use Rattle.dom_admission.proofs.Finding.{IsKey}
 use Rattle.dom_node_commands.proofs.CommandPlans.{node-made, past_end-key, has_data-key}
 use Rattle.dom_admission.proofs.OwnRefusals.{lone_holds, lone_fails, only_refusal, accepted_not}
+use Rattle.dom_admission.proofs.Refusing.{namings}
 use Rattle.dom_node_commands.proofs.data.replace_data.Goals as goal
 
 pub returns-in_err-admit-clause-handled : goal.returns-in_err-admit-clause-handled
@@ -22,7 +22,7 @@ returns-in_err-admit-clause-handled c =
     let p = err_from_is_err_and c.from_residual.result c.from_residual.ensures.1 in
     rw (p.1, p.2) (refused c.args.state.now.world c.args.owner
     (Command.replace_data (word_view c.args.node) c.args.offset c.args.count c.args.text.items) (Data c.args.node ∷ [])
-    c.args.out.now.items c.in_err-admit.field-0.0 (naming-replace_data c.args.node c.args.offset c.args.count c.args.text.items)
+    c.args.out.now.items c.in_err-admit.field-0.0 (search namings)
     (sym c.admit.ensures ∙ c.in_err-admit.was))
 
 pub returns-in_err-replace_data-clause-handled : goal.returns-in_err-replace_data-clause-handled
@@ -32,7 +32,7 @@ returns-in_err-replace_data-clause-handled c =
     let node_is : IsKey d.names d.world c.args.owner c.key-node.result (word_view c.args.node) = rw (← c.state.view_is) at c.key-node.ensures.name in
     rw (p.1, p.2) (faults c.state.inside.turn d c.args.state.now c.state.view_is c.args.owner
     (Command.replace_data (word_view c.args.node) c.args.offset c.args.count c.args.text.items) (Data c.args.node ∷ [])
-    (naming-replace_data c.args.node c.args.offset c.args.count c.args.text.items) (sym c.admit.ensures ∙ c.in_ok-admit.was)
+    (search namings) (sym c.admit.ensures ∙ c.in_ok-admit.was)
     c.replace_data.new.self.world c.args.out.now.items c.in_err-replace_data.field-0.0
     (λ r e. (
       lone_holds _ IndexSize (sym
@@ -52,7 +52,7 @@ returns-clause-handled c =
     let node_is : IsKey d.names d.world c.args.owner c.key-node.result (word_view c.args.node) = rw (← c.state.view_is) at c.key-node.ensures.name in
     plans c.state.inside.turn d c.args.state.now c.state.view_is c.args.owner
     (Command.replace_data (word_view c.args.node) c.args.offset c.args.count c.args.text.items) (Data c.args.node ∷ [])
-    (naming-replace_data c.args.node c.args.offset c.args.count c.args.text.items) (sym c.admit.ensures ∙ c.in_ok-admit.was)
+    (search namings) (sym c.admit.ensures ∙ c.in_ok-admit.was)
     c.replace_data.new.self.world c.accept.new.self.world
     (λ p. replacing_data (named p (word_view c.args.node)) c.args.offset c.args.count c.args.text.items p) (λ p. nothing) nothing
     c.args.out.now.items c.accept.new.out.items c.accept.result refl

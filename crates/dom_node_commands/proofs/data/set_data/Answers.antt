@@ -9,8 +9,8 @@ use Rattle.dom_reader.specs.Views.{word_view}
 use Rattle.dom_admission.specs.declared.admission.Operand.TheVariants.{Data}
 use Rattle.dom_admission.proofs.Turned.{bounded-inside}
 use Rattle.dom_admission.proofs.Handling.{refused, plans, fitting}
-use Rattle.dom_admission.proofs.Namings.{naming-set_data}
 use Rattle.dom_admission.proofs.Finding.{IsKey}
+use Rattle.dom_admission.proofs.Refusing.{namings}
 use Rattle.dom_node_commands.proofs.CommandPlans.{node-made, has_data-key}
 use Rattle.dom_node_commands.proofs.data.set_data.Goals as goal
 
@@ -18,7 +18,7 @@ pub returns-in_err-admit-clause-handled : goal.returns-in_err-admit-clause-handl
 returns-in_err-admit-clause-handled c =
     let p = err_from_is_err_and c.from_residual.result c.from_residual.ensures.1 in
     rw (p.1, p.2) (refused c.args.state.now.world c.args.owner (Command.set_data (word_view c.args.node) c.args.text.items)
-    (Data c.args.node ∷ []) c.args.out.now.items c.in_err-admit.field-0.0 (naming-set_data c.args.node c.args.text.items)
+    (Data c.args.node ∷ []) c.args.out.now.items c.in_err-admit.field-0.0 (search namings)
     (sym c.admit.ensures ∙ c.in_err-admit.was))
 
 pub returns-clause-handled : goal.returns-clause-handled
@@ -26,7 +26,7 @@ returns-clause-handled c =
     let d = c.state.inside.doc in
     let node_is : IsKey d.names d.world c.args.owner c.key-node.result (word_view c.args.node) = rw (← c.state.view_is) at c.key-node.ensures.name in
     plans c.state.inside.turn d c.args.state.now c.state.view_is c.args.owner (Command.set_data (word_view c.args.node) c.args.text.items)
-    (Data c.args.node ∷ []) (naming-set_data c.args.node c.args.text.items) (sym c.admit.ensures ∙ c.in_ok-admit.was)
+    (Data c.args.node ∷ []) (search namings) (sym c.admit.ensures ∙ c.in_ok-admit.was)
     c.set_data.new.self.world c.accept.new.self.world (λ p. replacing_all_data (named p (word_view c.args.node)) c.args.text.items p)
     (λ p. nothing) nothing c.args.out.now.items c.accept.new.out.items c.accept.result refl
     (refl)

@@ -11,17 +11,17 @@ use Rattle.dom_reader.specs.Views.{word_view}
 use Rattle.dom_admission.specs.declared.admission.Operand.TheVariants.{Any}
 use Rattle.dom_admission.proofs.Turned.{bounded-inside}
 use Rattle.dom_admission.proofs.Handling.{refused, plans, faults}
-use Rattle.dom_admission.proofs.Namings.{naming-set_text}
 use Rattle.dom_admission.proofs.Finding.{IsKey}
 use Rattle.dom_node_commands.proofs.CommandPlans.{node-made, text-limit}
 use Rattle.dom_admission.proofs.OwnRefusals.{lone_holds, lone_fails, only_refusal, accepted_not}
+use Rattle.dom_admission.proofs.Refusing.{namings}
 use Rattle.dom_node_commands.proofs.data.set_text.Goals as goal
 
 pub returns-in_err-admit-clause-handled : goal.returns-in_err-admit-clause-handled
 returns-in_err-admit-clause-handled c =
     let p = err_from_is_err_and c.from_residual.result c.from_residual.ensures.1 in
     rw (p.1, p.2) (refused c.args.state.now.world c.args.owner (Command.set_text (word_view c.args.node) c.args.text.items)
-    (Any c.args.node ∷ []) c.args.out.now.items c.in_err-admit.field-0.0 (naming-set_text c.args.node c.args.text.items)
+    (Any c.args.node ∷ []) c.args.out.now.items c.in_err-admit.field-0.0 (search namings)
     (sym c.admit.ensures ∙ c.in_err-admit.was))
 
 pub returns-in_err-set_text-clause-handled : goal.returns-in_err-set_text-clause-handled
@@ -30,7 +30,7 @@ returns-in_err-set_text-clause-handled c =
     let d = c.state.inside.doc in
     let node_is : IsKey d.names d.world c.args.owner c.key-node.result (word_view c.args.node) = rw (← c.state.view_is) at c.key-node.ensures.name in
     rw (p.1, p.2) (faults c.state.inside.turn d c.args.state.now c.state.view_is c.args.owner
-    (Command.set_text (word_view c.args.node) c.args.text.items) (Any c.args.node ∷ []) (naming-set_text c.args.node c.args.text.items)
+    (Command.set_text (word_view c.args.node) c.args.text.items) (Any c.args.node ∷ []) (search namings)
     (sym c.admit.ensures ∙ c.in_ok-admit.was) c.set_text.new.self.world c.args.out.now.items c.in_err-set_text.field-0.0
     (λ r e. (
       lone_holds _ Limit (sym (text-limit d.names d.world c.args.owner (word_view c.args.node) c.key-node.result c.args.text.items
@@ -47,7 +47,7 @@ returns-clause-handled c =
     let d = c.state.inside.doc in
     let node_is : IsKey d.names d.world c.args.owner c.key-node.result (word_view c.args.node) = rw (← c.state.view_is) at c.key-node.ensures.name in
     plans c.state.inside.turn d c.args.state.now c.state.view_is c.args.owner (Command.set_text (word_view c.args.node) c.args.text.items)
-    (Any c.args.node ∷ []) (naming-set_text c.args.node c.args.text.items) (sym c.admit.ensures ∙ c.in_ok-admit.was) c.set_text.new.self.world
+    (Any c.args.node ∷ []) (search namings) (sym c.admit.ensures ∙ c.in_ok-admit.was) c.set_text.new.self.world
     c.accept.new.self.world (λ p. setting_text (named p (word_view c.args.node)) c.args.text.items p) (λ p. nothing) nothing
     c.args.out.now.items c.accept.new.out.items c.accept.result refl
     (lone_fails _ Limit (λ h. accepted_not Limit

@@ -12,17 +12,17 @@ use Rattle.dom_reader.specs.Views.{word_view}
 use Rattle.dom_admission.specs.declared.admission.Operand.TheVariants.{Text}
 use Rattle.dom_admission.proofs.Turned.{bounded-inside}
 use Rattle.dom_admission.proofs.Handling.{refused, plans, faults}
-use Rattle.dom_admission.proofs.Namings.{naming-split}
 use Rattle.dom_admission.proofs.Finding.{IsKey}
 use Rattle.dom_node_commands.proofs.CommandPlans.{node-made, split-refused, name-last, next-key}
 use Rattle.dom_admission.proofs.OwnRefusals.{none_stopped}
+use Rattle.dom_admission.proofs.Refusing.{namings}
 use Rattle.dom_node_commands.proofs.data.split.Goals as goal
 
 pub returns-in_err-admit-clause-handled : goal.returns-in_err-admit-clause-handled
 returns-in_err-admit-clause-handled c =
     let p = err_from_is_err_and c.from_residual.result c.from_residual.ensures.1 in
     rw (p.1, p.2) (refused c.args.state.now.world c.args.owner (Command.split (word_view c.args.node) c.args.offset) (Text c.args.node ∷ [])
-    c.args.out.now.items c.in_err-admit.field-0.0 (naming-split c.args.node c.args.offset) (sym c.admit.ensures ∙ c.in_err-admit.was))
+    c.args.out.now.items c.in_err-admit.field-0.0 (search namings) (sym c.admit.ensures ∙ c.in_err-admit.was))
 
 pub returns-in_err-tail-clause-handled : goal.returns-in_err-tail-clause-handled
 returns-in_err-tail-clause-handled c =
@@ -30,7 +30,7 @@ returns-in_err-tail-clause-handled c =
     let d = c.state.inside.doc in
     let node_is : IsKey d.names d.world c.args.owner c.key-node.result (word_view c.args.node) = rw (← c.state.view_is) at c.key-node.ensures.name in
     rw (p.1, p.2) (faults c.state.inside.turn d c.args.state.now c.state.view_is c.args.owner
-    (Command.split (word_view c.args.node) c.args.offset) (Text c.args.node ∷ []) (naming-split c.args.node c.args.offset)
+    (Command.split (word_view c.args.node) c.args.offset) (Text c.args.node ∷ []) (search namings)
     (sym c.admit.ensures ∙ c.in_ok-admit.was) c.split.new.self.world c.args.out.now.items c.in_err-tail.field-0.0
     (λ r e. (
       sym (split-refused d.names d.world c.args.owner (word_view c.args.node) c.key-node.result c.args.offset node_is) ∙
@@ -43,7 +43,7 @@ returns-clause-handled c =
     let d = c.state.inside.doc in
     let node_is : IsKey d.names d.world c.args.owner c.key-node.result (word_view c.args.node) = rw (← c.state.view_is) at c.key-node.ensures.name in
     plans c.state.inside.turn d c.args.state.now c.state.view_is c.args.owner (Command.split (word_view c.args.node) c.args.offset)
-    (Text c.args.node ∷ []) (naming-split c.args.node c.args.offset) (sym c.admit.ensures ∙ c.in_ok-admit.was) c.split.new.self.world
+    (Text c.args.node ∷ []) (search namings) (sym c.admit.ensures ∙ c.in_ok-admit.was) c.split.new.self.world
     c.accept.new.self.world (λ p. splitting (named p (word_view c.args.node)) c.args.offset p) (λ p. a_node (next_name p))
     (a_node c.name-made.result) c.args.out.now.items c.accept.new.out.items c.accept.result refl
     (sym (split-refused d.names d.world c.args.owner (word_view c.args.node) c.key-node.result c.args.offset node_is) ∙

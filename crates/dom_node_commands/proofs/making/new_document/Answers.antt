@@ -4,18 +4,18 @@ use Rattle.std.proofs.lemmas.Result.{err_from_is_err_and}
 use Rattle.dom_model.specs.Command.{Command}
 use Rattle.dom_base.specs.declared.Kind.TheVariants.{Document}
 use Rattle.dom_admission.proofs.Handling.{refused}
+use Rattle.dom_admission.proofs.Refusing.{namings}
 use Rattle.dom_node_commands.proofs.CommandPlans.{makes_node}
-use Rattle.dom_admission.proofs.Namings.{naming-new_document}
 use Rattle.dom_node_commands.proofs.making.new_document.Goals as goal
 
 pub returns-in_err-admit-clause-handled : goal.returns-in_err-admit-clause-handled
 returns-in_err-admit-clause-handled c =
     let p = err_from_is_err_and c.from_residual.result c.from_residual.ensures.1 in
     rw (p.1, p.2) (refused c.args.state.now.world c.args.owner Command.new_document [] c.args.out.now.items c.in_err-admit.field-0.0
-    naming-new_document (sym c.admit.ensures ∙ c.in_err-admit.was))
+    (search namings) (sym c.admit.ensures ∙ c.in_err-admit.was))
 
 pub returns-clause-handled : goal.returns-clause-handled
 returns-clause-handled c =
     makes_node c.args.state.now.world c.make.new.state.world c.args.owner Command.new_document Document (string_bytes c.new-element.result) []
-    (c.new-text.result.items) [] c.args.out.now.items c.make.new.out.items c.make.result naming-new_document
+    (c.new-text.result.items) [] c.args.out.now.items c.make.new.out.items c.make.result (search namings)
     (sym c.admit.ensures ∙ c.in_ok-admit.was) refl refl c.new-element.ensures.bytes c.new-text.ensures.items c.make.ensures.done

@@ -11,8 +11,8 @@ use Rattle.dom_tree.specs.Forest.{name_at}
 use Rattle.dom_reader.specs.Views.{word_view}
 use Rattle.dom_admission.specs.declared.admission.Operand.TheVariants.{Any, Document}
 use Rattle.dom_admission.proofs.Handling.{refused, plans, faults, accepted_none}
-use Rattle.dom_admission.proofs.Namings.{naming-adopt}
 use Rattle.dom_admission.proofs.Finding.{IsKey}
+use Rattle.dom_admission.proofs.Refusing.{namings}
 use Rattle.dom_node_commands.proofs.CommandPlans.{adopt-refused, adopt-made}
 use Rattle.dom_node_commands.proofs.moving.adopt.Goals as goal
 
@@ -20,7 +20,7 @@ pub returns-in_err-admit-clause-handled : goal.returns-in_err-admit-clause-handl
 returns-in_err-admit-clause-handled c =
     let p = err_from_is_err_and c.from_residual.result c.from_residual.ensures.1 in
     rw (p.1, p.2) (refused c.args.state.now.world c.args.owner (Command.adopt (word_view c.args.document) (word_view c.args.node))
-    (Document c.args.document ∷ Any c.args.node ∷ []) c.args.out.now.items c.in_err-admit.field-0.0 (naming-adopt c.args.document c.args.node)
+    (Document c.args.document ∷ Any c.args.node ∷ []) c.args.out.now.items c.in_err-admit.field-0.0 (search namings)
     (sym c.admit.ensures ∙ c.in_err-admit.was))
 
 pub returns-in_err-adopt-clause-handled : goal.returns-in_err-adopt-clause-handled
@@ -32,7 +32,7 @@ returns-in_err-adopt-clause-handled c =
     let node_is : IsKey d.names d.world c.args.owner c.key-node.result (word_view c.args.node) = rw (← c.state.view_is) at c.key-node.ensures.name in
     rw (p.1, p.2) (faults c.state.inside.turn d c.args.state.now c.state.view_is c.args.owner
     (Command.adopt (word_view c.args.document) (word_view c.args.node)) (Document c.args.document ∷ Any c.args.node ∷ [])
-    (naming-adopt c.args.document c.args.node) (sym c.admit.ensures ∙ c.in_ok-admit.was) c.adopt.new.self.world c.args.out.now.items
+    (search namings) (sym c.admit.ensures ∙ c.in_ok-admit.was) c.adopt.new.self.world c.args.out.now.items
     c.in_err-adopt.field-0.0
     (λ r e. (
       sym (adopt-refused d.names d.world c.args.owner (word_view c.args.document) (word_view c.args.node) c.key-node.result node_is)
@@ -48,7 +48,7 @@ returns-clause-handled c =
     let node_is : IsKey d.names d.world c.args.owner c.key-node.result (word_view c.args.node) = rw (← c.state.view_is) at c.key-node.ensures.name in
     plans c.state.inside.turn d c.args.state.now c.state.view_is c.args.owner
     (Command.adopt (word_view c.args.document) (word_view c.args.node)) (Document c.args.document ∷ Any c.args.node ∷ [])
-    (naming-adopt c.args.document c.args.node) (sym c.admit.ensures ∙ c.in_ok-admit.was) c.adopt.new.self.world c.accept.new.self.world
+    (search namings) (sym c.admit.ensures ∙ c.in_ok-admit.was) c.adopt.new.self.world c.accept.new.self.world
     (λ p. adopting (named p (word_view c.args.document)) (named p (word_view c.args.node)) p) (λ p. nothing) nothing
     c.args.out.now.items c.accept.new.out.items c.accept.result refl
     (sym (adopt-refused d.names d.world c.args.owner (word_view c.args.document) (word_view c.args.node) c.key-node.result node_is) ∙

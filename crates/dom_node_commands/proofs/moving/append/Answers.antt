@@ -12,8 +12,8 @@ use Rattle.dom_reader.specs.Views.{word_view}
 use Rattle.dom_admission.specs.declared.admission.Operand.TheVariants.{Any}
 use Rattle.dom_admission.proofs.Turned.{bounded-inside}
 use Rattle.dom_admission.proofs.Handling.{refused, plans, faults, accepted_none}
-use Rattle.dom_admission.proofs.Namings.{naming-append}
 use Rattle.dom_admission.proofs.Finding.{IsKey}
+use Rattle.dom_admission.proofs.Refusing.{namings}
 use Rattle.dom_node_commands.proofs.CommandPlans.{append-refused, append-made}
 use Rattle.dom_node_commands.proofs.moving.append.Goals as goal
 
@@ -21,7 +21,7 @@ pub returns-in_err-admit-clause-handled : goal.returns-in_err-admit-clause-handl
 returns-in_err-admit-clause-handled c =
     let p = err_from_is_err_and c.from_residual.result c.from_residual.ensures.1 in
     rw (p.1, p.2) (refused c.args.state.now.world c.args.owner (Command.append (word_view c.args.parent) (word_view c.args.node))
-    (Any c.args.parent ∷ Any c.args.node ∷ []) c.args.out.now.items c.in_err-admit.field-0.0 (naming-append c.args.parent c.args.node)
+    (Any c.args.parent ∷ Any c.args.node ∷ []) c.args.out.now.items c.in_err-admit.field-0.0 (search namings)
     (sym c.admit.ensures ∙ c.in_err-admit.was))
 
 pub returns-in_err-insert-clause-handled : goal.returns-in_err-insert-clause-handled
@@ -32,7 +32,7 @@ returns-in_err-insert-clause-handled c =
     let node_is : IsKey d.names d.world c.args.owner c.key-node.result (word_view c.args.node) = rw (← c.state.view_is) at c.key-node.ensures.name in
     rw (p.1, p.2) (faults c.state.inside.turn d c.args.state.now c.state.view_is c.args.owner
     (Command.append (word_view c.args.parent) (word_view c.args.node)) (Any c.args.parent ∷ Any c.args.node ∷ [])
-    (naming-append c.args.parent c.args.node) (sym c.admit.ensures ∙ c.in_ok-admit.was) c.insert.new.self.world c.args.out.now.items
+    (search namings) (sym c.admit.ensures ∙ c.in_ok-admit.was) c.insert.new.self.world c.args.out.now.items
     c.in_err-insert.field-0.0
     (λ r e. (
       sym (append-refused d.names d.world c.args.owner (word_view c.args.parent) (word_view c.args.node) c.key-parent.result
@@ -48,7 +48,7 @@ returns-clause-handled c =
     let node_is : IsKey d.names d.world c.args.owner c.key-node.result (word_view c.args.node) = rw (← c.state.view_is) at c.key-node.ensures.name in
     plans c.state.inside.turn d c.args.state.now c.state.view_is c.args.owner
     (Command.append (word_view c.args.parent) (word_view c.args.node)) (Any c.args.parent ∷ Any c.args.node ∷ [])
-    (naming-append c.args.parent c.args.node) (sym c.admit.ensures ∙ c.in_ok-admit.was) c.insert.new.self.world c.accept.new.self.world
+    (search namings) (sym c.admit.ensures ∙ c.in_ok-admit.was) c.insert.new.self.world c.accept.new.self.world
     (λ p. pre_inserting (named p (word_view c.args.node)) (named p (word_view c.args.parent)) None p) (λ p. nothing) nothing
     c.args.out.now.items c.accept.new.out.items c.accept.result refl
     (sym (append-refused d.names d.world c.args.owner (word_view c.args.parent) (word_view c.args.node) c.key-parent.result

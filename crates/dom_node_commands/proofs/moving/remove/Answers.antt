@@ -7,8 +7,8 @@ use Rattle.dom_model.specs.Output.{nothing}
 use Rattle.dom_reader.specs.Views.{word_view}
 use Rattle.dom_admission.specs.declared.admission.Operand.TheVariants.{Child}
 use Rattle.dom_admission.proofs.Handling.{refused, plans}
-use Rattle.dom_admission.proofs.Namings.{naming-remove}
 use Rattle.dom_admission.proofs.Finding.{IsKey}
+use Rattle.dom_admission.proofs.Refusing.{namings}
 use Rattle.dom_node_commands.proofs.CommandPlans.{node-made}
 use Rattle.dom_node_commands.proofs.moving.remove.Goals as goal
 
@@ -16,14 +16,14 @@ pub returns-in_err-admit-clause-handled : goal.returns-in_err-admit-clause-handl
 returns-in_err-admit-clause-handled c =
     let p = err_from_is_err_and c.from_residual.result c.from_residual.ensures.1 in
     rw (p.1, p.2) (refused c.args.state.now.world c.args.owner (Command.remove (word_view c.args.node)) (Child c.args.node ∷ [])
-    c.args.out.now.items c.in_err-admit.field-0.0 (naming-remove c.args.node) (sym c.admit.ensures ∙ c.in_err-admit.was))
+    c.args.out.now.items c.in_err-admit.field-0.0 (search namings) (sym c.admit.ensures ∙ c.in_err-admit.was))
 
 pub returns-clause-handled : goal.returns-clause-handled
 returns-clause-handled c =
     let d = c.state.inside.doc in
     let node_is : IsKey d.names d.world c.args.owner c.key-node.result (word_view c.args.node) = rw (← c.state.view_is) at c.key-node.ensures.name in
     plans c.state.inside.turn d c.args.state.now c.state.view_is c.args.owner (Command.remove (word_view c.args.node)) (Child c.args.node ∷ [])
-    (naming-remove c.args.node) (sym c.admit.ensures ∙ c.in_ok-admit.was) c.remove.new.self.world c.accept.new.self.world
+    (search namings) (sym c.admit.ensures ∙ c.in_ok-admit.was) c.remove.new.self.world c.accept.new.self.world
     (λ p. removing observed (named p (word_view c.args.node)) p) (λ p. nothing) nothing c.args.out.now.items c.accept.new.out.items
     c.accept.result refl
     (refl)

@@ -12,8 +12,8 @@ use Rattle.dom_reader.specs.Views.{word_view}
 use Rattle.dom_admission.specs.declared.admission.Operand.TheVariants.{Any}
 use Rattle.dom_admission.proofs.Turned.{bounded-inside}
 use Rattle.dom_admission.proofs.Handling.{refused, plans, faults, accepted_none}
-use Rattle.dom_admission.proofs.Namings.{naming-replace}
 use Rattle.dom_admission.proofs.Finding.{IsKey}
+use Rattle.dom_admission.proofs.Refusing.{namings}
 use Rattle.dom_node_commands.proofs.CommandPlans.{replace-refused, replace-made}
 use Rattle.dom_node_commands.proofs.moving.replace.Goals as goal
 
@@ -23,7 +23,7 @@ returns-in_err-admit-clause-handled c =
     rw (p.1, p.2) (refused c.args.state.now.world c.args.owner
     (Command.replace (word_view c.args.parent) (word_view c.args.node) (word_view c.args.child))
     (Any c.args.parent ∷ Any c.args.node ∷ Any c.args.child ∷ []) c.args.out.now.items c.in_err-admit.field-0.0
-    (naming-replace c.args.parent c.args.node c.args.child) (sym c.admit.ensures ∙ c.in_err-admit.was))
+    (search namings) (sym c.admit.ensures ∙ c.in_err-admit.was))
 
 pub returns-in_err-replace-clause-handled : goal.returns-in_err-replace-clause-handled
 returns-in_err-replace-clause-handled c =
@@ -34,7 +34,7 @@ returns-in_err-replace-clause-handled c =
     let child_is : IsKey d.names d.world c.args.owner c.key-child.result (word_view c.args.child) = rw (← c.state.view_is) at c.key-child.ensures.name in
     rw (p.1, p.2) (faults c.state.inside.turn d c.args.state.now c.state.view_is c.args.owner
     (Command.replace (word_view c.args.parent) (word_view c.args.node) (word_view c.args.child))
-    (Any c.args.parent ∷ Any c.args.node ∷ Any c.args.child ∷ []) (naming-replace c.args.parent c.args.node c.args.child)
+    (Any c.args.parent ∷ Any c.args.node ∷ Any c.args.child ∷ []) (search namings)
     (sym c.admit.ensures ∙ c.in_ok-admit.was) c.replace.new.self.world c.args.out.now.items c.in_err-replace.field-0.0
     (λ r e. (
       sym (replace-refused d.names d.world c.args.owner (word_view c.args.parent) (word_view c.args.node) (word_view c.args.child)
@@ -50,7 +50,7 @@ returns-clause-handled c =
     let child_is : IsKey d.names d.world c.args.owner c.key-child.result (word_view c.args.child) = rw (← c.state.view_is) at c.key-child.ensures.name in
     plans c.state.inside.turn d c.args.state.now c.state.view_is c.args.owner
     (Command.replace (word_view c.args.parent) (word_view c.args.node) (word_view c.args.child))
-    (Any c.args.parent ∷ Any c.args.node ∷ Any c.args.child ∷ []) (naming-replace c.args.parent c.args.node c.args.child)
+    (Any c.args.parent ∷ Any c.args.node ∷ Any c.args.child ∷ []) (search namings)
     (sym c.admit.ensures ∙ c.in_ok-admit.was) c.replace.new.self.world c.accept.new.self.world
     (λ p. replacing (named p (word_view c.args.parent)) (named p (word_view c.args.node)) (named p (word_view c.args.child)) p)
     (λ p. nothing) nothing c.args.out.now.items c.accept.new.out.items c.accept.result refl

@@ -9,7 +9,7 @@ use Rattle.dom_reader.specs.Views.{word_view}
 use Rattle.dom_admission.specs.declared.admission.Operand.TheVariants.{Slot}
 use Rattle.dom_node_commands.proofs.Attaching.{assigned-opened}
 use Rattle.dom_admission.proofs.Handling.{refused_own, asks_own, one_there}
-use Rattle.dom_admission.proofs.Namings.{naming-assigned}
+use Rattle.dom_admission.proofs.Refusing.{naming-assigned}
 use Rattle.dom_node_commands.proofs.shadows.assigned.Goals as goal
 
 pub returns-in_err-admit-clause-handled : goal.returns-in_err-admit-clause-handled

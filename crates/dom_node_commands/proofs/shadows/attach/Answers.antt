@@ -14,14 +14,14 @@ use Rattle.dom_node_commands.proofs.CommandPlans.{name-last}
 use Rattle.dom_admission.proofs.OwnRefusals.{none_stopped}
 use Rattle.dom_admission.proofs.Finding.{owner-named}
 use Rattle.dom_admission.proofs.Handling.{refused}
-use Rattle.dom_admission.proofs.Namings.{naming-attach}
+use Rattle.dom_admission.proofs.Refusing.{namings}
 use Rattle.dom_node_commands.proofs.shadows.attach.Goals as goal
 
 pub returns-in_err-admit-clause-handled : goal.returns-in_err-admit-clause-handled
 returns-in_err-admit-clause-handled c =
     let p = err_from_is_err_and c.from_residual.result c.from_residual.ensures.1 in
     rw (p.1, p.2) (refused c.args.state.now.world c.args.owner (Command.attach (word_view c.args.host)) (Element c.args.host ∷ [])
-    c.args.out.now.items c.in_err-admit.field-0.0 (naming-attach c.args.host) (sym c.admit.ensures ∙ c.in_err-admit.was))
+    c.args.out.now.items c.in_err-admit.field-0.0 (search namings) (sym c.admit.ensures ∙ c.in_err-admit.was))
 
 pub returns-in_err-root-clause-handled : goal.returns-in_err-root-clause-handled
 returns-in_err-root-clause-handled c =

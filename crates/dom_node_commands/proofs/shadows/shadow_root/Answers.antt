@@ -5,17 +5,17 @@ use Rattle.dom_model.specs.Output.{null}
 use Rattle.dom_reader.specs.Views.{word_view}
 use Rattle.dom_admission.specs.declared.admission.Operand.TheVariants.{Element}
 use Rattle.dom_admission.proofs.Handling.{refused, reads}
-use Rattle.dom_admission.proofs.Namings.{naming-shadow_root}
+use Rattle.dom_admission.proofs.Refusing.{namings}
 use Rattle.dom_node_commands.proofs.shadows.shadow_root.Goals as goal
 
 pub returns-in_err-admit-clause-handled : goal.returns-in_err-admit-clause-handled
 returns-in_err-admit-clause-handled c =
     let p = err_from_is_err_and c.from_residual.result c.from_residual.ensures.1 in
     rw (p.1, p.2) (refused c.args.state.now.world c.args.owner (Command.shadow_root (word_view c.args.element)) (Element c.args.element ∷ [])
-    c.args.out.now.items c.in_err-admit.field-0.0 (naming-shadow_root c.args.element) (sym c.admit.ensures ∙ c.in_err-admit.was))
+    c.args.out.now.items c.in_err-admit.field-0.0 (search namings) (sym c.admit.ensures ∙ c.in_err-admit.was))
 
 pub returns-clause-handled : goal.returns-clause-handled
 returns-clause-handled c =
     reads c.args.state.now.world c.accept.new.self.world c.args.owner (Command.shadow_root (word_view c.args.element))
     (Element c.args.element ∷ []) (λ p. null) null c.args.out.now.items c.accept.new.out.items c.accept.result
-    (naming-shadow_root c.args.element) refl (sym c.admit.ensures ∙ c.in_ok-admit.was) refl refl c.accept.ensures.done
+    (search namings) refl (sym c.admit.ensures ∙ c.in_ok-admit.was) refl refl c.accept.ensures.done

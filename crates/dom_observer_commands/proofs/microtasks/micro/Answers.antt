@@ -10,7 +10,7 @@ use Rattle.dom_model.specs.World.{micro_task}
 use Rattle.dom_mutation.specs.Doc.{DocState, with_tasks}
 use Rattle.dom_admission.specs.Turned.{with_turn}
 use Rattle.dom_admission.proofs.Handling.{refused, in_state, finished}
-use Rattle.dom_admission.proofs.Namings.{naming-micro}
+use Rattle.dom_admission.proofs.Refusing.{namings}
 use Rattle.dom_observer_commands.proofs.ObserverLaws.{micro_queued}
 use Rattle.dom_observer_commands.proofs.microtasks.micro.Goals as goal
 
@@ -18,7 +18,7 @@ pub returns-in_err-admit-clause-handled : goal.returns-in_err-admit-clause-handl
 returns-in_err-admit-clause-handled c =
     let p = err_from_is_err_and c.from_residual.result c.from_residual.ensures.1 in
     rw (p.1, p.2) (refused c.args.state.now.world c.args.owner (Command.micro (string_bytes c.args.label)) [] c.args.out.now.items
-    c.in_err-admit.field-0.0 (naming-micro (string_bytes c.args.label)) (sym c.admit.ensures ∙ c.in_err-admit.was))
+    c.in_err-admit.field-0.0 (search namings) (sym c.admit.ensures ∙ c.in_err-admit.was))
 
 pub returns-clause-handled : goal.returns-clause-handled
 returns-clause-handled c =
@@ -26,7 +26,7 @@ returns-clause-handled c =
     let t = c.state.inside.turn in
     let o = c.args.owner in
     let label = string_bytes c.args.label in
-    in_state t d c.args.state.now c.state.view_is o (Command.micro label) [] (naming-micro label) (sym c.admit.ensures ∙ c.in_ok-admit.was)
+    in_state t d c.args.state.now c.state.view_is o (Command.micro label) [] (search namings) (sym c.admit.ensures ∙ c.in_ok-admit.was)
     c.accept.new.self.world c.args.out.now.items c.accept.new.out.items c.accept.result
     (finished None (opening_turn (with_turn t c.push_micro.new.self.world) o, says o (replied nothing) ∷ [])
     (accepted (with_turn t d.world) o (Command.micro label)) (with_turn t d.world) (with_turn t c.push_micro.new.self.world)

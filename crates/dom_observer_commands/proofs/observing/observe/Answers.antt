@@ -11,9 +11,9 @@ use Rattle.dom_reader.specs.Views.{word_view, observe_view}
 use Rattle.dom_admission.specs.declared.admission.Operand.TheVariants.{Any, Observer}
 use Rattle.dom_admission.proofs.Finding.{owner-named}
 use Rattle.dom_admission.proofs.Handling.{refused, tabled, faults}
-use Rattle.dom_admission.proofs.Namings.{naming-observe}
 use Rattle.dom_admission.proofs.Finding.{IsKey}
 use Rattle.dom_admission.proofs.OwnRefusals.{lone_holds, lone_fails, only_refusal, accepted_not}
+use Rattle.dom_admission.proofs.Refusing.{namings}
 use Rattle.dom_observer_commands.proofs.ObserverLaws.{observe-made}
 use Rattle.dom_observer_commands.proofs.observing.observe.Goals as goal
 
@@ -22,7 +22,7 @@ returns-in_err-admit-clause-handled c =
     let p = err_from_is_err_and c.from_residual.result c.from_residual.ensures.1 in
     rw (p.1, p.2) (refused c.args.state.now.world c.args.owner
     (Command.observe c.args.number (word_view c.args.node) (observe_view c.args.words)) (Any c.args.node ∷ Observer c.args.number ∷ [])
-    c.args.out.now.items c.in_err-admit.field-0.0 (naming-observe c.args.number c.args.node (observe_view c.args.words))
+    c.args.out.now.items c.in_err-admit.field-0.0 (search namings)
     (sym c.admit.ensures ∙ c.in_err-admit.was))
 
 pub returns-in_err-observe-clause-handled : goal.returns-in_err-observe-clause-handled
@@ -33,7 +33,7 @@ returns-in_err-observe-clause-handled c =
     let same_test = ap (λ (w : ObserveWords). asks_for_nothing (options_of w)) c.observer_options.ensures in
     rw (p.1, p.2) (faults c.state.inside.turn d c.args.state.now c.state.view_is c.args.owner
     (Command.observe c.args.number (word_view c.args.node) (observe_view c.args.words)) (Any c.args.node ∷ Observer c.args.number ∷ [])
-    (naming-observe c.args.number c.args.node (observe_view c.args.words))
+    (search namings)
     (sym c.admit.ensures ∙ c.in_ok-admit.was) c.observe.new.self.world c.args.out.now.items c.in_err-observe.field-0.0
     (λ r is.
     let same = only_refusal c.in_err-observe.field-0.0 TypeFault r e.other is in
@@ -46,7 +46,7 @@ returns-clause-handled c =
     let same_test = ap (λ (w : ObserveWords). asks_for_nothing (options_of w)) c.observer_options.ensures in
     tabled c.state.inside.turn d c.args.state.now c.state.view_is c.args.owner
     (Command.observe c.args.number (word_view c.args.node) (observe_view c.args.words)) (Any c.args.node ∷ Observer c.args.number ∷ [])
-    (naming-observe c.args.number c.args.node (observe_view c.args.words))
+    (search namings)
     (sym c.admit.ensures ∙ c.in_ok-admit.was) c.observe.new.self.world c.accept.new.self.world nothing nothing c.args.out.now.items
     c.accept.new.out.items c.accept.result refl
     (lone_fails _ TypeFault (λ h. accepted_not TypeFault (c.in_ok-observe.ensures.no_kind.1 (same_test ∙ h))))

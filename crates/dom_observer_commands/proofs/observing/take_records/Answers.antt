@@ -8,7 +8,7 @@ use Rattle.dom_text.specs.Text.{output_text}
 use Rattle.dom_observer_commands.specs.Recorded.{record_lines}
 use Rattle.dom_admission.specs.declared.admission.Operand.TheVariants.{Observer}
 use Rattle.dom_admission.proofs.Handling.{refused, tabled_saying}
-use Rattle.dom_admission.proofs.Namings.{naming-take}
+use Rattle.dom_admission.proofs.Refusing.{namings}
 use Rattle.dom_observer_commands.proofs.ObserverLaws.{record_lines_are}
 use Rattle.dom_observer_commands.proofs.observing.take_records.Goals as goal
 
@@ -16,7 +16,7 @@ pub returns-in_err-admit-clause-handled : goal.returns-in_err-admit-clause-handl
 returns-in_err-admit-clause-handled c =
     let p = err_from_is_err_and c.from_residual.result c.from_residual.ensures.1 in
     rw (p.1, p.2) (refused c.args.state.now.world c.args.owner (Command.take c.args.number) (Observer c.args.number ∷ []) c.args.out.now.items
-    c.in_err-admit.field-0.0 (naming-take c.args.number) (sym c.admit.ensures ∙ c.in_err-admit.was))
+    c.in_err-admit.field-0.0 (search namings) (sym c.admit.ensures ∙ c.in_err-admit.was))
 
 pub returns-clause-handled : goal.returns-clause-handled
 returns-clause-handled c =
@@ -26,7 +26,7 @@ returns-clause-handled c =
     let before = c.args.out.now.items in
     let records = c.take_records-records.result.items in
     let names = c.forest-forest.result.now.names in
-    tabled_saying c.state.inside.turn d c.args.state.now c.state.view_is o (Command.take k) (Observer k ∷ []) (naming-take k)
+    tabled_saying c.state.inside.turn d c.args.state.now c.state.view_is o (Command.take k) (Observer k ∷ []) (search namings)
     (sym c.admit.ensures ∙ c.in_ok-admit.was) c.take_records-records.new.self.world c.accept.new.self.world
     (map (λ r. recorded k (change_in d r)) records) (a_count (length records)) (a_count c.len.result) before c.put_records.new.out.items
     c.accept.new.out.items c.accept.result refl refl c.take_records-records.ensures.world

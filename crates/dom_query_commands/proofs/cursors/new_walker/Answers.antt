@@ -10,9 +10,9 @@ use Rattle.dom_admission.specs.declared.admission.Operand.TheVariants.{Any}
 use Rattle.dom_base.specs.declared.NodeName.{NodeName}
 use Rattle.dom_admission.proofs.Finding.{owner-named}
 use Rattle.dom_admission.proofs.Handling.{refused, tabled, faults}
-use Rattle.dom_admission.proofs.Namings.{naming-walker_new}
 use Rattle.dom_admission.proofs.Finding.{IsKey}
 use Rattle.dom_admission.proofs.OwnRefusals.{lone_holds, lone_fails, only_refusal, given_not}
+use Rattle.dom_admission.proofs.Refusing.{namings}
 use Rattle.dom_query_commands.proofs.CursorLaws.{new_walker-made}
 use Rattle.dom_query_commands.proofs.cursors.new_walker.Goals as goal
 
@@ -20,7 +20,7 @@ pub returns-in_err-admit-clause-handled : goal.returns-in_err-admit-clause-handl
 returns-in_err-admit-clause-handled c =
     let p = err_from_is_err_and c.from_residual.result c.from_residual.ensures.1 in
     rw (p.1, p.2) (refused c.args.state.now.world c.args.owner (Command.walker_new (word_view c.args.root) (filter_view c.args.filter))
-    (Any c.args.root ∷ []) c.args.out.now.items c.in_err-admit.field-0.0 (naming-walker_new c.args.root (filter_view c.args.filter))
+    (Any c.args.root ∷ []) c.args.out.now.items c.in_err-admit.field-0.0 (search namings)
     (sym c.admit.ensures ∙ c.in_err-admit.was))
 
 pub returns-in_err-number-clause-handled : goal.returns-in_err-number-clause-handled
@@ -30,7 +30,7 @@ returns-in_err-number-clause-handled c =
     let e = c.in_err-number.ensures in
     rw (p.1, p.2) (faults c.state.inside.turn d c.args.state.now c.state.view_is c.args.owner
     (Command.walker_new (word_view c.args.root) (filter_view c.args.filter)) (Any c.args.root ∷ [])
-    (naming-walker_new c.args.root (filter_view c.args.filter)) (sym c.admit.ensures ∙ c.in_ok-admit.was) c.walk_make.new.self.world
+    (search namings) (sym c.admit.ensures ∙ c.in_ok-admit.was) c.walk_make.new.self.world
     c.args.out.now.items c.in_err-number.field-0.0
     (λ r is.
     let same = only_refusal c.in_err-number.field-0.0 Limit r e.other is in
@@ -42,7 +42,7 @@ returns-clause-handled c =
     let root_is : IsKey d.names d.world c.args.owner c.key-root.result (word_view c.args.root) = rw (← c.state.view_is) at c.key-root.ensures.name in
     tabled c.state.inside.turn d c.args.state.now c.state.view_is c.args.owner
     (Command.walker_new (word_view c.args.root) (filter_view c.args.filter)) (Any c.args.root ∷ [])
-    (naming-walker_new c.args.root (filter_view c.args.filter)) (sym c.admit.ensures ∙ c.in_ok-admit.was) c.walk_make.new.self.world
+    (search namings) (sym c.admit.ensures ∙ c.in_ok-admit.was) c.walk_make.new.self.world
     c.accept.new.self.world
     (a_walker c.in_ok-number.number) (a_walker c.in_ok-number.number) c.args.out.now.items c.accept.new.out.items c.accept.result refl
     (lone_fails _ Limit (λ h. given_not c.in_ok-number.number Limit (c.in_ok-number.ensures.limit.1 h)))

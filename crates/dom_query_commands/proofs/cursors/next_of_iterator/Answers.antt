@@ -8,20 +8,20 @@ use Rattle.dom_printer.specs.Replies.{value_view}
 use Rattle.dom_tree.specs.Forest.{name_at}
 use Rattle.dom_admission.specs.declared.admission.Operand.TheVariants.{Iterator}
 use Rattle.dom_admission.proofs.Handling.{refused, tabled}
-use Rattle.dom_admission.proofs.Namings.{naming-iterator_next}
+use Rattle.dom_admission.proofs.Refusing.{namings}
 use Rattle.dom_query_commands.proofs.cursors.next_of_iterator.Goals as goal
 
 pub returns-in_err-admit-clause-handled : goal.returns-in_err-admit-clause-handled
 returns-in_err-admit-clause-handled c =
     let p = err_from_is_err_and c.from_residual.result c.from_residual.ensures.1 in
     rw (p.1, p.2) (refused c.args.state.now.world c.args.owner (Command.iterator_next c.args.number) (Iterator c.args.number ∷ [])
-    c.args.out.now.items c.in_err-admit.field-0.0 (naming-iterator_next c.args.number) (sym c.admit.ensures ∙ c.in_err-admit.was))
+    c.args.out.now.items c.in_err-admit.field-0.0 (search namings) (sym c.admit.ensures ∙ c.in_err-admit.was))
 
 pub returns-clause-handled : goal.returns-clause-handled
 returns-clause-handled c =
     let d = c.state.inside.doc in
     tabled c.state.inside.turn d c.args.state.now c.state.view_is c.args.owner (Command.iterator_next c.args.number) (Iterator c.args.number ∷ [])
-    (naming-iterator_next c.args.number) (sym c.admit.ensures ∙ c.in_ok-admit.was) c.iter_next-next.new.self.world c.accept.new.self.world
+    (search namings) (sym c.admit.ensures ∙ c.in_ok-admit.was) c.iter_next-next.new.self.world c.accept.new.self.world
     (node_or_null (option_map (name_at d.names) c.iter_next-next.result)) (value_view c.node_or_null-value.result) c.args.out.now.items
     c.accept.new.out.items c.accept.result refl refl c.iter_next-next.ensures.world
     (c.node_or_null-value.ensures ∙ ap (λ (names : List NodeName). node_or_null (option_map (name_at names) c.iter_next-next.result))

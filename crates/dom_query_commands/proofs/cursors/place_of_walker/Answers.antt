@@ -6,20 +6,20 @@ use Rattle.dom_model.specs.Output.{a_node}
 use Rattle.dom_tree.specs.Forest.{name_at}
 use Rattle.dom_admission.specs.declared.admission.Operand.TheVariants.{Walker}
 use Rattle.dom_admission.proofs.Handling.{refused, told}
-use Rattle.dom_admission.proofs.Namings.{naming-walker_at}
+use Rattle.dom_admission.proofs.Refusing.{namings}
 use Rattle.dom_query_commands.proofs.cursors.place_of_walker.Goals as goal
 
 pub returns-in_err-admit-clause-handled : goal.returns-in_err-admit-clause-handled
 returns-in_err-admit-clause-handled c =
     let p = err_from_is_err_and c.from_residual.result c.from_residual.ensures.1 in
     rw (p.1, p.2) (refused c.args.state.now.world c.args.owner (Command.walker_at c.args.number) (Walker c.args.number ∷ []) c.args.out.now.items
-    c.in_err-admit.field-0.0 (naming-walker_at c.args.number) (sym c.admit.ensures ∙ c.in_err-admit.was))
+    c.in_err-admit.field-0.0 (search namings) (sym c.admit.ensures ∙ c.in_err-admit.was))
 
 pub returns-clause-handled : goal.returns-clause-handled
 returns-clause-handled c =
     let d = c.state.inside.doc in
     told c.state.inside.turn d c.args.state.now c.state.view_is c.args.owner (Command.walker_at c.args.number) (Walker c.args.number ∷ [])
-    (naming-walker_at c.args.number) (sym c.admit.ensures ∙ c.in_ok-admit.was) c.accept.new.self.world
+    (search namings) (sym c.admit.ensures ∙ c.in_ok-admit.was) c.accept.new.self.world
     (a_node (name_at d.names c.walk_at-current.result)) (a_node c.name-node.result) c.args.out.now.items c.accept.new.out.items c.accept.result
     refl refl c.walk_at-current.ensures.value
     (ap a_node (sym c.name-node.ensures.at ∙ ap (λ (names : List NodeName). name_at names c.walk_at-current.result) c.forest.ensures.names))

@@ -7,8 +7,8 @@ use Rattle.dom_admission.specs.declared.admission.Operand.TheVariants.{Any, Walk
 use Rattle.dom_base.specs.declared.NodeName.{NodeName}
 use Rattle.dom_admission.proofs.Finding.{owner-named}
 use Rattle.dom_admission.proofs.Handling.{refused, tabled}
-use Rattle.dom_admission.proofs.Namings.{naming-walker_set}
 use Rattle.dom_admission.proofs.Finding.{IsKey}
+use Rattle.dom_admission.proofs.Refusing.{namings}
 use Rattle.dom_query_commands.proofs.CursorLaws.{set_walker-made}
 use Rattle.dom_query_commands.proofs.cursors.set_walker.Goals as goal
 
@@ -17,7 +17,7 @@ returns-in_err-admit-clause-handled c =
     let p = err_from_is_err_and c.from_residual.result c.from_residual.ensures.1 in
     rw (p.1, p.2) (refused c.args.state.now.world c.args.owner (Command.walker_set c.args.number (word_view c.args.current))
     (Any c.args.current ∷ Walker c.args.number ∷ []) c.args.out.now.items c.in_err-admit.field-0.0
-    (naming-walker_set c.args.number c.args.current) (sym c.admit.ensures ∙ c.in_err-admit.was))
+    (search namings) (sym c.admit.ensures ∙ c.in_err-admit.was))
 
 pub returns-clause-handled : goal.returns-clause-handled
 returns-clause-handled c =
@@ -25,7 +25,7 @@ returns-clause-handled c =
     let current_is : IsKey d.names d.world c.args.owner c.key-current.result (word_view c.args.current) =
     rw (← c.state.view_is) at c.key-current.ensures.name in
     tabled c.state.inside.turn d c.args.state.now c.state.view_is c.args.owner (Command.walker_set c.args.number (word_view c.args.current))
-    (Any c.args.current ∷ Walker c.args.number ∷ []) (naming-walker_set c.args.number c.args.current)
+    (Any c.args.current ∷ Walker c.args.number ∷ []) (search namings)
     (sym c.admit.ensures ∙ c.in_ok-admit.was) c.walk_set.new.self.world c.accept.new.self.world nothing nothing c.args.out.now.items
     c.accept.new.out.items c.accept.result refl refl
     (set_walker-made d.names d.world c.walk_set.new.self.world c.args.owner (word_view c.args.current) c.key-current.result current_is

@@ -8,8 +8,8 @@ use Rattle.dom_reader.specs.Views.{word_view}
 use Rattle.dom_mutation.specs.Doc.{DocState}
 use Rattle.dom_admission.specs.declared.admission.Operand.TheVariants.{Any}
 use Rattle.dom_admission.proofs.Handling.{refused, asks}
-use Rattle.dom_admission.proofs.Namings.{naming-connected}
 use Rattle.dom_admission.proofs.Finding.{IsKey}
+use Rattle.dom_admission.proofs.Refusing.{namings}
 use Rattle.dom_query_commands.proofs.Connecting.{connected-turned, connected-opened}
 use Rattle.dom_query_commands.proofs.reads.connected.Goals as goal
 
@@ -17,7 +17,7 @@ pub returns-in_err-admit-clause-handled : goal.returns-in_err-admit-clause-handl
 returns-in_err-admit-clause-handled c =
     let p = err_from_is_err_and c.from_residual.result c.from_residual.ensures.1 in
     rw (p.1, p.2) (refused c.args.state.now.world c.args.owner (Command.connected (word_view c.args.node)) (Any c.args.node ∷ [])
-    c.args.out.now.items c.in_err-admit.field-0.0 (naming-connected c.args.node) (sym c.admit.ensures ∙ c.in_err-admit.was))
+    c.args.out.now.items c.in_err-admit.field-0.0 (search namings) (sym c.admit.ensures ∙ c.in_err-admit.was))
 
 pub returns-clause-handled : goal.returns-clause-handled
 returns-clause-handled c =
@@ -31,5 +31,5 @@ returns-clause-handled c =
     (c.is_connected-connected.ensures ∙ ap (is_connected d.world) node_is ∙ sym (connected-turned c.state.inside.turn d.world (named (part_of d.world o) s))) in
     asks w c.accept.new.self.world o (Command.connected (word_view c.args.node)) (Any c.args.node ∷ [])
     (λ v. a_truth (is_connected v (named (part_of v o) s))) (a_truth c.is_connected-connected.result) c.args.out.now.items
-    c.accept.new.out.items c.accept.result (naming-connected c.args.node) refl (sym c.admit.ensures ∙ c.in_ok-admit.was) refl
+    c.accept.new.out.items c.accept.result (search namings) refl (sym c.admit.ensures ∙ c.in_ok-admit.was) refl
     (ap a_truth (here ∙ connected-opened w o s)) c.accept.ensures.done

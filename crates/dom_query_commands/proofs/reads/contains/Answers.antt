@@ -7,14 +7,14 @@ use Rattle.dom_model.specs.Output.{a_truth}
 use Rattle.dom_reader.specs.Views.{word_view}
 use Rattle.dom_admission.specs.declared.admission.Operand.TheVariants.{Any}
 use Rattle.dom_admission.proofs.Handling.{refused, reads}
-use Rattle.dom_admission.proofs.Namings.{naming-contains}
+use Rattle.dom_admission.proofs.Refusing.{namings}
 use Rattle.dom_query_commands.proofs.reads.contains.Goals as goal
 
 pub returns-in_err-admit-clause-handled : goal.returns-in_err-admit-clause-handled
 returns-in_err-admit-clause-handled c =
     let p = err_from_is_err_and c.from_residual.result c.from_residual.ensures.1 in
     rw (p.1, p.2) (refused c.args.state.now.world c.args.owner (Command.contains (word_view c.args.above) (word_view c.args.node))
-    (Any c.args.above ∷ Any c.args.node ∷ []) c.args.out.now.items c.in_err-admit.field-0.0 (naming-contains c.args.above c.args.node)
+    (Any c.args.above ∷ Any c.args.node ∷ []) c.args.out.now.items c.in_err-admit.field-0.0 (search namings)
     (sym c.admit.ensures ∙ c.in_err-admit.was))
 
 pub returns-clause-handled : goal.returns-clause-handled
@@ -22,6 +22,6 @@ returns-clause-handled c =
     reads c.args.state.now.world c.accept.new.self.world c.args.owner (Command.contains (word_view c.args.above) (word_view c.args.node))
     (Any c.args.above ∷ Any c.args.node ∷ [])
     (λ p. a_truth (is_inclusive_ancestor p.trees (named p (word_view c.args.above)) (named p (word_view c.args.node))))
-    (a_truth c.is_above-truth.result) c.args.out.now.items c.accept.new.out.items (c.accept.result) (naming-contains c.args.above c.args.node)
+    (a_truth c.is_above-truth.result) c.args.out.now.items c.accept.new.out.items (c.accept.result) (search namings)
     refl (sym c.admit.ensures ∙ c.in_ok-admit.was) refl
     (ap a_truth c.is_above-truth.ensures) c.accept.ensures.done

@@ -8,18 +8,18 @@ use Rattle.dom_printer.specs.Replies.{value_view}
 use Rattle.dom_reader.specs.Views.{word_view}
 use Rattle.dom_admission.specs.declared.admission.Operand.TheVariants.{Any}
 use Rattle.dom_admission.proofs.Handling.{refused, reads}
-use Rattle.dom_admission.proofs.Namings.{naming-parent}
+use Rattle.dom_admission.proofs.Refusing.{namings}
 use Rattle.dom_query_commands.proofs.reads.parent.Goals as goal
 
 pub returns-in_err-admit-clause-handled : goal.returns-in_err-admit-clause-handled
 returns-in_err-admit-clause-handled c =
     let p = err_from_is_err_and c.from_residual.result c.from_residual.ensures.1 in
     rw (p.1, p.2) (refused c.args.state.now.world c.args.owner (Command.parent (word_view c.args.node)) (Any c.args.node ∷ [])
-    c.args.out.now.items c.in_err-admit.field-0.0 (naming-parent c.args.node) (sym c.admit.ensures ∙ c.in_err-admit.was))
+    c.args.out.now.items c.in_err-admit.field-0.0 (search namings) (sym c.admit.ensures ∙ c.in_err-admit.was))
 
 pub returns-clause-handled : goal.returns-clause-handled
 returns-clause-handled c =
     reads c.args.state.now.world c.accept.new.self.world c.args.owner (Command.parent (word_view c.args.node)) (Any c.args.node ∷ [])
     (λ p. node_or_null (parent_of p.trees (named p (word_view c.args.node)))) (value_view c.node_or_null-value.result) c.args.out.now.items
-    c.accept.new.out.items (c.accept.result) (naming-parent c.args.node) refl (sym c.admit.ensures ∙ c.in_ok-admit.was) refl
+    c.accept.new.out.items (c.accept.result) (search namings) refl (sym c.admit.ensures ∙ c.in_ok-admit.was) refl
     (c.node_or_null-value.ensures ∙ ap node_or_null c.parent_of.ensures.value) c.accept.ensures.done

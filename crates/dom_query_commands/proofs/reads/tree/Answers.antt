@@ -8,14 +8,14 @@ use Rattle.dom_model.specs.World.{part_of}
 use Rattle.dom_reader.specs.Views.{word_view}
 use Rattle.dom_admission.specs.declared.admission.Operand.TheVariants.{Any}
 use Rattle.dom_admission.proofs.Handling.{refused, reads}
-use Rattle.dom_admission.proofs.Namings.{naming-tree}
+use Rattle.dom_admission.proofs.Refusing.{namings}
 use Rattle.dom_query_commands.proofs.reads.tree.Goals as goal
 
 pub returns-in_err-admit-clause-handled : goal.returns-in_err-admit-clause-handled
 returns-in_err-admit-clause-handled c =
     let p = err_from_is_err_and c.from_residual.result c.from_residual.ensures.1 in
     rw (p.1, p.2) (refused c.args.state.now.world c.args.owner (Command.tree (word_view c.args.node)) (Any c.args.node ∷ [])
-    c.args.out.now.items c.in_err-admit.field-0.0 (naming-tree c.args.node) (sym c.admit.ensures ∙ c.in_err-admit.was))
+    c.args.out.now.items c.in_err-admit.field-0.0 (search namings) (sym c.admit.ensures ∙ c.in_err-admit.was))
 
 pub returns-clause-handled : goal.returns-clause-handled
 returns-clause-handled c =
@@ -23,5 +23,5 @@ returns-clause-handled c =
     (λ p. a_tree (subtree p.trees (named p (word_view c.args.node))))
     (a_tree (subtree (part_of c.args.state.now.world c.args.owner).trees
     (named (part_of c.args.state.now.world c.args.owner) (word_view c.args.node)))) c.args.out.now.items c.reply_tree.new.out.items (Ok tt)
-    (naming-tree c.args.node) refl (sym c.admit.ensures ∙ c.in_ok-admit.was) refl
+    (search namings) refl (sym c.admit.ensures ∙ c.in_ok-admit.was) refl
     (refl) (refl, c.open_turn.ensures.world, c.in_ok-reply_tree.ensures)

@@ -10,7 +10,7 @@ use Rattle.dom_reader.specs.Views.{word_view}
 use Rattle.dom_selectors.specs.Views.{selector_view}
 use Rattle.dom_admission.specs.declared.admission.Operand.TheVariants.{Element}
 use Rattle.dom_admission.proofs.Handling.{refused, reads, unanswered, one_there}
-use Rattle.dom_admission.proofs.Namings.{naming-matches}
+use Rattle.dom_admission.proofs.Refusing.{namings}
 use Rattle.dom_query_commands.proofs.SelectorLaws.{unread, read_none, read_as}
 use Rattle.dom_query_commands.proofs.selecting.matches.Goals as goal
 
@@ -18,14 +18,14 @@ pub returns-in_err-admit-clause-handled : goal.returns-in_err-admit-clause-handl
 returns-in_err-admit-clause-handled c =
     let p = err_from_is_err_and c.from_residual.result c.from_residual.ensures.1 in
     rw (p.1, p.2) (refused c.args.state.now.world c.args.owner (Command.matches (word_view c.args.element) c.args.text.items)
-    (Element c.args.element ∷ []) c.args.out.now.items c.in_err-admit.field-0.0 (naming-matches c.args.element c.args.text.items)
+    (Element c.args.element ∷ []) c.args.out.now.items c.in_err-admit.field-0.0 (search namings)
     (sym c.admit.ensures ∙ c.in_err-admit.was))
 
 pub returns-in_err-selector-clause-handled : goal.returns-in_err-selector-clause-handled
 returns-in_err-selector-clause-handled c =
     let p = err_from_is_err_and c.from_residual-in_err-selector.result c.from_residual-in_err-selector.ensures.1 in
     rw (p.1, p.2) (unanswered c.args.state.now.world c.args.owner (Command.matches (word_view c.args.element) c.args.text.items)
-    (Element c.args.element ∷ []) c.args.out.now.items c.in_err-selector.field-0.0 (naming-matches c.args.element c.args.text.items)
+    (Element c.args.element ∷ []) c.args.out.now.items c.in_err-selector.field-0.0 (search namings)
     (sym c.admit.ensures ∙ c.in_ok-admit.was)
     (unread c.args.text.items c.deref.result.now c.in_err-selector.field-0.0 c.deref.ensures.value c.in_err-selector.ensures.unread))
 
@@ -36,7 +36,7 @@ returns-clause-handled c =
     let sel = selector_view c.in_ok-selector.selector in
     reads w c.accept.new.self.world c.args.owner (Command.matches (word_view c.args.element) c.args.text.items) (Element c.args.element ∷ [])
     (λ p. a_truth (selector_matches p.trees (selectors_of c.args.text.items) (named p s))) (a_truth c.is_selected-truth.result)
-    c.args.out.now.items c.accept.new.out.items c.accept.result (naming-matches c.args.element c.args.text.items) refl
+    c.args.out.now.items c.accept.new.out.items c.accept.result (search namings) refl
     (sym c.admit.ensures ∙ c.in_ok-admit.was)
     (read_none c.args.text.items c.deref.result.now sel c.deref.ensures.value c.in_ok-selector.ensures.read)
     (ap a_truth (c.is_selected-truth.ensures ∙ ap (λ q. selector_matches (part_of w c.args.owner).trees q (named (part_of w c.args.owner) s))

@@ -10,7 +10,7 @@ use Rattle.dom_reader.specs.Views.{word_view}
 use Rattle.dom_selectors.specs.Views.{selector_view}
 use Rattle.dom_admission.specs.declared.admission.Operand.TheVariants.{Parent}
 use Rattle.dom_admission.proofs.Handling.{refused, reads, unanswered, one_there}
-use Rattle.dom_admission.proofs.Namings.{naming-query}
+use Rattle.dom_admission.proofs.Refusing.{namings}
 use Rattle.dom_query_commands.proofs.SelectorLaws.{unread, read_none, read_as}
 use Rattle.dom_query_commands.proofs.selecting.query.Goals as goal
 
@@ -18,14 +18,14 @@ pub returns-in_err-admit-clause-handled : goal.returns-in_err-admit-clause-handl
 returns-in_err-admit-clause-handled c =
     let p = err_from_is_err_and c.from_residual.result c.from_residual.ensures.1 in
     rw (p.1, p.2) (refused c.args.state.now.world c.args.owner (Command.query (word_view c.args.node) c.args.text.items)
-    (Parent c.args.node ∷ []) c.args.out.now.items c.in_err-admit.field-0.0 (naming-query c.args.node c.args.text.items)
+    (Parent c.args.node ∷ []) c.args.out.now.items c.in_err-admit.field-0.0 (search namings)
     (sym c.admit.ensures ∙ c.in_err-admit.was))
 
 pub returns-in_err-selector-clause-handled : goal.returns-in_err-selector-clause-handled
 returns-in_err-selector-clause-handled c =
     let p = err_from_is_err_and c.from_residual-in_err-selector.result c.from_residual-in_err-selector.ensures.1 in
     rw (p.1, p.2) (unanswered c.args.state.now.world c.args.owner (Command.query (word_view c.args.node) c.args.text.items)
-    (Parent c.args.node ∷ []) c.args.out.now.items c.in_err-selector.field-0.0 (naming-query c.args.node c.args.text.items)
+    (Parent c.args.node ∷ []) c.args.out.now.items c.in_err-selector.field-0.0 (search namings)
     (sym c.admit.ensures ∙ c.in_ok-admit.was)
     (unread c.args.text.items c.deref.result.now c.in_err-selector.field-0.0 c.deref.ensures.value c.in_err-selector.ensures.unread))
 
@@ -36,7 +36,7 @@ returns-clause-handled c =
     let sel = selector_view c.in_ok-selector.selector in
     reads w c.accept.new.self.world c.args.owner (Command.query (word_view c.args.node) c.args.text.items) (Parent c.args.node ∷ [])
     (λ p. a_list (query_all p.trees (selectors_of c.args.text.items) (named p s))) (a_list c.deref-2.result.now) c.args.out.now.items
-    c.accept.new.out.items c.accept.result (naming-query c.args.node c.args.text.items) refl (sym c.admit.ensures ∙ c.in_ok-admit.was)
+    c.accept.new.out.items c.accept.result (search namings) refl (sym c.admit.ensures ∙ c.in_ok-admit.was)
     (read_none c.args.text.items c.deref.result.now sel c.deref.ensures.value c.in_ok-selector.ensures.read)
     (ap a_list (c.deref-2.ensures.value ∙ c.in_ok-found.ensures ∙
     ap (λ q. query_all (part_of w c.args.owner).trees q (named (part_of w c.args.owner) s))

@@ -8,19 +8,19 @@ use Rattle.dom_model.specs.RangeOps.{deleting}
 use Rattle.dom_admission.specs.declared.admission.Operand.TheVariants.{Range}
 use Rattle.dom_admission.proofs.Turned.{bounded-inside}
 use Rattle.dom_admission.proofs.Handling.{refused, plans, faults}
-use Rattle.dom_admission.proofs.Namings.{naming-delete}
+use Rattle.dom_admission.proofs.Refusing.{namings}
 use Rattle.dom_range_commands.proofs.ranging.delete.Goals as goal
 
 pub returns-in_err-admit-clause-handled : goal.returns-in_err-admit-clause-handled
 returns-in_err-admit-clause-handled c =
     let p = err_from_is_err_and c.from_residual.result c.from_residual.ensures.1 in
     rw (p.1, p.2) (refused c.args.state.now.world c.args.owner (Command.delete c.args.number) (Range c.args.number ∷ []) c.args.out.now.items
-    c.in_err-admit.field-0.0 (naming-delete c.args.number) (sym c.admit.ensures ∙ c.in_err-admit.was))
+    c.in_err-admit.field-0.0 (search namings) (sym c.admit.ensures ∙ c.in_err-admit.was))
 
 pub returns-clause-handled : goal.returns-clause-handled
 returns-clause-handled c =
     plans c.state.inside.turn c.state.inside.doc c.args.state.now c.state.view_is c.args.owner (Command.delete c.args.number)
-    (Range c.args.number ∷ []) (naming-delete c.args.number) (sym c.admit.ensures ∙ c.in_ok-admit.was) c.delete.new.doc.world
+    (Range c.args.number ∷ []) (search namings) (sym c.admit.ensures ∙ c.in_ok-admit.was) c.delete.new.doc.world
     c.accept.new.self.world
     (λ p. plan_of_range p c.args.number (deleting c.args.number)) (λ p. nothing) nothing c.args.out.now.items c.accept.new.out.items
     c.accept.result refl refl c.in_ok-delete.ensures.world refl c.accept.ensures.done

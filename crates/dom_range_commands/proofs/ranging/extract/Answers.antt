@@ -14,7 +14,7 @@ use Rattle.dom_admission.specs.declared.admission.Operand.TheVariants.{Range}
 use Rattle.dom_admission.proofs.Turned.{bounded-inside}
 use Rattle.dom_admission.proofs.OwnRefusals.{none_stopped}
 use Rattle.dom_admission.proofs.Handling.{refused, plans, faults, one_there}
-use Rattle.dom_admission.proofs.Namings.{naming-extract}
+use Rattle.dom_admission.proofs.Refusing.{namings}
 use Rattle.dom_range_commands.proofs.RangePlans.{extracted-name, extracted-kept, keeps_names}
 use Rattle.dom_range_commands.proofs.ranging.extract.Goals as goal
 
@@ -22,7 +22,7 @@ pub returns-in_err-admit-clause-handled : goal.returns-in_err-admit-clause-handl
 returns-in_err-admit-clause-handled c =
     let p = err_from_is_err_and c.from_residual.result c.from_residual.ensures.1 in
     rw (p.1, p.2) (refused c.args.state.now.world c.args.owner (Command.extract c.args.number) (Range c.args.number ∷ []) c.args.out.now.items
-    c.in_err-admit.field-0.0 (naming-extract c.args.number) (sym c.admit.ensures ∙ c.in_err-admit.was))
+    c.in_err-admit.field-0.0 (search namings) (sym c.admit.ensures ∙ c.in_err-admit.was))
 
 pub returns-clause-handled : goal.returns-clause-handled
 returns-clause-handled c =
@@ -35,7 +35,7 @@ returns-clause-handled c =
     extracted-name d.names c.extract.new.doc.names d.world o c.args.number known c.in_ok-fragment.ensures.names c.in_ok-fragment.fragment
     c.in_ok-fragment.ensures.key in
     plans c.state.inside.turn d c.args.state.now c.state.view_is o (Command.extract c.args.number) (Range c.args.number ∷ [])
-    (naming-extract c.args.number) pass c.extract.new.doc.world c.accept.new.self.world
+    (search namings) pass c.extract.new.doc.world c.accept.new.self.world
     (λ p. plan_of_range p c.args.number (extracting c.args.number)) (λ p. a_node (next_name p)) (a_node c.name-made.result) c.args.out.now.items
     c.accept.new.out.items c.accept.result refl
     (none_stopped c.in_ok-fragment.fragment _ c.in_ok-fragment.ensures.stopped) c.in_ok-fragment.ensures.world

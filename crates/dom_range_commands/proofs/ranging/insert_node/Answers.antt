@@ -9,7 +9,7 @@ use Rattle.dom_admission.specs.declared.admission.Operand.TheVariants.{Any, Rang
 use Rattle.dom_admission.proofs.Finding.{IsKey}
 use Rattle.dom_admission.proofs.OwnRefusals.{none_stopped}
 use Rattle.dom_admission.proofs.Handling.{refused, plans, faults}
-use Rattle.dom_admission.proofs.Namings.{naming-insert_node}
+use Rattle.dom_admission.proofs.Refusing.{namings}
 use Rattle.dom_range_commands.proofs.RangePlans.{inserted-own, inserted-refused, inserted-made}
 use Rattle.dom_range_commands.proofs.ranging.insert_node.Goals as goal
 
@@ -17,7 +17,7 @@ pub returns-in_err-admit-clause-handled : goal.returns-in_err-admit-clause-handl
 returns-in_err-admit-clause-handled c =
     let p = err_from_is_err_and c.from_residual.result c.from_residual.ensures.1 in
     rw (p.1, p.2) (refused c.args.state.now.world c.args.owner (Command.insert_node c.args.number (word_view c.args.node))
-    (Any c.args.node ∷ Range c.args.number ∷ []) c.args.out.now.items c.in_err-admit.field-0.0 (naming-insert_node c.args.number c.args.node)
+    (Any c.args.node ∷ Range c.args.number ∷ []) c.args.out.now.items c.in_err-admit.field-0.0 (search namings)
     (sym c.admit.ensures ∙ c.in_err-admit.was))
 
 pub insert_node-requires-clause-own : goal.insert_node-requires-clause-own
@@ -33,7 +33,7 @@ returns-in_err-insert_node-clause-handled c =
     let node_is : IsKey d.names d.world c.args.owner c.key-node.result (word_view c.args.node) = rw (← c.state.view_is) at c.key-node.ensures.name in
     rw (p.1, p.2) (faults c.state.inside.turn d c.args.state.now c.state.view_is c.args.owner
     (Command.insert_node c.args.number (word_view c.args.node)) (Any c.args.node ∷ Range c.args.number ∷ [])
-    (naming-insert_node c.args.number c.args.node) (sym c.admit.ensures ∙ c.in_ok-admit.was) c.insert_node.new.doc.world c.args.out.now.items
+    (search namings) (sym c.admit.ensures ∙ c.in_ok-admit.was) c.insert_node.new.doc.world c.args.out.now.items
     c.in_err-insert_node.field-0.0
     (λ r e. (
       sym (inserted-refused d.names d.world c.args.owner c.args.number (word_view c.args.node) c.key-node.result node_is) ∙
@@ -47,7 +47,7 @@ returns-clause-handled c =
     let x = word_view c.args.node in
     let node_is : IsKey d.names d.world c.args.owner c.key-node.result x = rw (← c.state.view_is) at c.key-node.ensures.name in
     plans c.state.inside.turn d c.args.state.now c.state.view_is c.args.owner (Command.insert_node c.args.number x)
-    (Any c.args.node ∷ Range c.args.number ∷ []) (naming-insert_node c.args.number c.args.node) (sym c.admit.ensures ∙ c.in_ok-admit.was)
+    (Any c.args.node ∷ Range c.args.number ∷ []) (search namings) (sym c.admit.ensures ∙ c.in_ok-admit.was)
     c.insert_node.new.doc.world c.accept.new.self.world
     (λ p. inserting_node c.args.number (named p x) p) (λ p. nothing) nothing c.args.out.now.items c.accept.new.out.items c.accept.result refl
     (sym (inserted-refused d.names d.world c.args.owner c.args.number x c.key-node.result node_is) ∙ none_stopped tt _ c.in_ok-insert_node.ensures.stopped)

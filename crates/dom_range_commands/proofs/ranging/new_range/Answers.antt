@@ -8,15 +8,15 @@ use Rattle.dom_model.specs.Names.{node_of}
 use Rattle.dom_model.specs.Output.{a_range}
 use Rattle.dom_model.proofs.PartLaws.{owner-part_of}
 use Rattle.dom_admission.proofs.Handling.{refused, tabled, faults}
-use Rattle.dom_admission.proofs.Namings.{naming-range_new}
 use Rattle.dom_admission.proofs.Finding.{IsKey}
 use Rattle.dom_admission.proofs.OwnRefusals.{lone_holds, lone_fails, only_refusal, given_not}
+use Rattle.dom_admission.proofs.Refusing.{namings}
 use Rattle.dom_range_commands.proofs.ranging.new_range.Goals as goal
 
 pub returns-in_err-admit-clause-handled : goal.returns-in_err-admit-clause-handled
 returns-in_err-admit-clause-handled c =
     let p = err_from_is_err_and c.from_residual.result c.from_residual.ensures.1 in
-    rw (p.1, p.2) (refused c.args.state.now.world c.args.owner Command.range_new [] c.args.out.now.items c.in_err-admit.field-0.0 naming-range_new
+    rw (p.1, p.2) (refused c.args.state.now.world c.args.owner Command.range_new [] c.args.out.now.items c.in_err-admit.field-0.0 (search namings)
     (sym c.admit.ensures ∙ c.in_err-admit.was))
 
 pub returns-in_err-number-clause-handled : goal.returns-in_err-number-clause-handled
@@ -24,7 +24,7 @@ returns-in_err-number-clause-handled c =
     let p = err_from_is_err_and c.from_residual-in_err-number.result c.from_residual-in_err-number.ensures.1 in
     let d = c.state.inside.doc in
     let e = c.in_err-number.ensures in
-    rw (p.1, p.2) (faults c.state.inside.turn d c.args.state.now c.state.view_is c.args.owner Command.range_new [] naming-range_new
+    rw (p.1, p.2) (faults c.state.inside.turn d c.args.state.now c.state.view_is c.args.owner Command.range_new [] (search namings)
     (sym c.admit.ensures ∙ c.in_ok-admit.was) c.range_make.new.self.world c.args.out.now.items c.in_err-number.field-0.0
     (λ r is.
     let same = only_refusal c.in_err-number.field-0.0 Limit r e.other is in
@@ -33,7 +33,7 @@ returns-in_err-number-clause-handled c =
 pub returns-clause-handled : goal.returns-clause-handled
 returns-clause-handled c =
     let d = c.state.inside.doc in
-    tabled c.state.inside.turn d c.args.state.now c.state.view_is c.args.owner Command.range_new [] naming-range_new
+    tabled c.state.inside.turn d c.args.state.now c.state.view_is c.args.owner Command.range_new [] (search namings)
     (sym c.admit.ensures ∙ c.in_ok-admit.was) c.range_make.new.self.world c.accept.new.self.world
     (a_range c.in_ok-number.number) (a_range c.in_ok-number.number) c.args.out.now.items c.accept.new.out.items c.accept.result refl
     (lone_fails _ Limit (λ h. given_not c.in_ok-number.number Limit (c.in_ok-number.ensures.limit.1 h))) c.in_ok-number.ensures.world refl c.accept.ensures.done

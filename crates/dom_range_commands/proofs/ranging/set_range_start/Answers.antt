@@ -6,8 +6,8 @@ use Rattle.dom_reader.specs.Views.{word_view}
 use Rattle.dom_admission.specs.declared.admission.Operand.TheVariants.{Any, Range}
 use Rattle.dom_admission.proofs.Finding.{owner-named}
 use Rattle.dom_admission.proofs.Handling.{refused}
-use Rattle.dom_admission.proofs.Namings.{naming-range_start}
 use Rattle.dom_admission.proofs.Finding.{IsKey}
+use Rattle.dom_admission.proofs.Refusing.{namings}
 use Rattle.dom_range_commands.proofs.ranging.set_range_start.Goals as goal
 
 pub returns-in_err-admit-clause-handled : goal.returns-in_err-admit-clause-handled
@@ -15,7 +15,7 @@ returns-in_err-admit-clause-handled c =
     let p = err_from_is_err_and c.from_residual.result c.from_residual.ensures.1 in
     rw (p.1, p.2) (refused c.args.state.now.world c.args.owner (Command.range_start c.args.number (word_view c.args.node) c.args.offset)
     (Any c.args.node ∷ Range c.args.number ∷ []) c.args.out.now.items c.in_err-admit.field-0.0
-    (naming-range_start c.args.number c.args.node c.args.offset) (sym c.admit.ensures ∙ c.in_err-admit.was))
+    (search namings) (sym c.admit.ensures ∙ c.in_err-admit.was))
 
 pub range_set_start-set-requires-clause-own : goal.range_set_start-set-requires-clause-own
 range_set_start-set-requires-clause-own c =

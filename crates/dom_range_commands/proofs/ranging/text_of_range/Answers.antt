@@ -6,7 +6,7 @@ use Rattle.dom_model.specs.Part.{range_at}
 use Rattle.dom_model.specs.World.{part_of, is_there}
 use Rattle.dom_admission.specs.declared.admission.Operand.TheVariants.{Range}
 use Rattle.dom_admission.proofs.Handling.{refused, told, one_there, admitted}
-use Rattle.dom_admission.proofs.Namings.{naming-range_text}
+use Rattle.dom_admission.proofs.Refusing.{namings}
 use Rattle.dom_range_commands.proofs.RangePlans.{text_told}
 use Rattle.dom_range_commands.proofs.ranging.text_of_range.Goals as goal
 
@@ -14,7 +14,7 @@ pub returns-in_err-admit-clause-handled : goal.returns-in_err-admit-clause-handl
 returns-in_err-admit-clause-handled c =
     let p = err_from_is_err_and c.from_residual.result c.from_residual.ensures.1 in
     rw (p.1, p.2) (refused c.args.state.now.world c.args.owner (Command.range_text c.args.number) (Range c.args.number ∷ []) c.args.out.now.items
-    c.in_err-admit.field-0.0 (naming-range_text c.args.number) (sym c.admit.ensures ∙ c.in_err-admit.was))
+    c.in_err-admit.field-0.0 (search namings) (sym c.admit.ensures ∙ c.in_err-admit.was))
 
 pub returns-clause-handled : goal.returns-clause-handled
 returns-clause-handled c =
@@ -25,7 +25,7 @@ returns-clause-handled c =
     let known : is_some (range_at (part_of d.world o) c.args.number) ≡ true =
     rw (← c.state.view_is) at (one_there c.args.state.now.world o (Range c.args.number) pass) in
     told c.state.inside.turn d c.args.state.now c.state.view_is o (Command.range_text c.args.number) (Range c.args.number ∷ [])
-    (naming-range_text c.args.number) pass c.accept.new.self.world (a_string c.in_ok-text.text.items) (a_string c.deref.result.now)
+    (search namings) pass c.accept.new.self.world (a_string c.in_ok-text.text.items) (a_string c.deref.result.now)
     c.args.out.now.items c.accept.new.out.items c.accept.result refl refl
     (text_told d.world o c.args.number c.in_ok-text.text.items there known c.in_ok-text.ensures) (ap a_string c.deref.ensures.value)
     c.accept.ensures.done

@@ -11,9 +11,9 @@ use Rattle.dom_commands.specs.WithListeners.{own_listeners}
 use Rattle.dom_commands.specs.Machine.{MachineNow}
 use Rattle.dom_commands.proofs.EventCommands.{stopped-heard, passed-heard}
 use Rattle.dom_admission.proofs.Handling.{refused}
+use Rattle.dom_admission.proofs.Refusing.{namings}
 use Rattle.dom_commands.proofs.Listening.{fits-own}
 use Rattle.dom_commands.proofs.Machines.{seen_at}
-use Rattle.dom_admission.proofs.Namings.{naming-end_turn}
 use Rattle.dom_commands.proofs.machine.Machine.end_turn.Goals as goal
 
 pub returns-in_err-admit-clause-handled : goal.returns-in_err-admit-clause-handled
@@ -28,7 +28,7 @@ returns-in_err-admit-clause-handled c =
     rw (p.1, p.2)
     (subst (λ (m : MachineNow). IsHandled o (Command.end_turn) m.world m.world text text (Err f)) c.self.view_is
     (stopped-heard (own_listeners s.names ls) s.world (fits-own s.names s.world c.names_tell_nodes.ensures.there ls at) o (Command.end_turn) text f
-    (refused s.world o (Command.end_turn) ([]) text f (naming-end_turn) (sym c.admit.ensures ∙ c.in_err-admit.was))))
+    (refused s.world o (Command.end_turn) ([]) text f (search namings) (sym c.admit.ensures ∙ c.in_err-admit.was))))
 
 pub returns-clause-handled : goal.returns-clause-handled
 returns-clause-handled c =
@@ -40,7 +40,7 @@ returns-clause-handled c =
     let at = seen_at s ls m c.self.view_is c.requires in (
       subst (λ (n : MachineNow). refusal n.world o Command.end_turn ≡ None) c.self.view_is
           (passed-heard (own_listeners s.names ls) s.world (fits-own s.names s.world c.names_tell_nodes.ensures.there ls at) o Command.end_turn []
-          naming-end_turn (sym c.admit.ensures ∙ c.in_ok-admit.was) refl),
+          (search namings) (sym c.admit.ensures ∙ c.in_ok-admit.was) refl),
       c.in_ok-close_turn.ensures.world,
       c.in_ok-put_reply.ensures.ok ∙ ap (λ (x : List ℕ). x ++ output_text reply) c.in_ok-close_turn.ensures.text ∙
           append_assoc c.args.out.now.items (output_text (ending_turn m.world).1) (output_text reply)

@@ -13,9 +13,9 @@ use Rattle.dom_commands.specs.WithListeners.{heard, own_listeners}
 use Rattle.dom_commands.specs.Machine.{MachineNow, machine_now, IsAtRest}
 use Rattle.dom_commands.proofs.EventCommands.{stopped-heard, listen_handled}
 use Rattle.dom_admission.proofs.Handling.{refused}
+use Rattle.dom_admission.proofs.Refusing.{namings}
 use Rattle.dom_commands.proofs.Listening.{fits-own, at-listened}
 use Rattle.dom_commands.proofs.Machines.{seen_at, always_at}
-use Rattle.dom_admission.proofs.Namings.{naming-listen}
 use Rattle.dom_commands.proofs.machine.Machine.listen.Goals as goal
 
 pub returns-in_err-admit-clause-handled : goal.returns-in_err-admit-clause-handled
@@ -31,7 +31,7 @@ returns-in_err-admit-clause-handled c =
     rw (p.1, p.2)
     (subst (λ (m : MachineNow). IsHandled o said m.world m.world text text (Err f)) c.self.view_is
     (stopped-heard (own_listeners s.names ls) s.world (fits-own s.names s.world c.names_tell_nodes.ensures.there ls at) o said text f
-    (refused s.world o said (Any c.args.node ∷ []) text f (naming-listen c.args.node (listener_view c.args.words)) (sym c.admit.ensures ∙ c.in_err-admit.was))))
+    (refused s.world o said (Any c.args.node ∷ []) text f (search namings) (sym c.admit.ensures ∙ c.in_err-admit.was))))
 
 pub returns-clause-handled : goal.returns-clause-handled
 returns-clause-handled c =
@@ -53,7 +53,7 @@ returns-clause-handled c =
     listen_handled s.names ls s.world c.names_tell_nodes.ensures.distinct c.names_tell_nodes.ensures.there at sound.reached o
     (word_view c.args.node) k c.key-node.ensures.node c.key-node.ensures.name
     (Any c.args.node ∷ []) (sym c.admit.ensures ∙ c.in_ok-admit.was) (listener_view c.args.words)
-    (naming-listen c.args.node (listener_view c.args.words)) end before after r c.accept.ensures.done in
+    (search namings) end before after r c.accept.ensures.done in
     subst (λ (m : MachineNow). Done m c.accept.new.self.names c.listen.new.self) c.self.view_is
     (subst (λ (names : List NodeName). Done (machine_now s ls) names c.listen.new.self) (sym c.accept.ensures.names)
     (subst (λ (ms : List (Listener ℕ)). Done (machine_now s ls) s.names ms)
