@@ -9,8 +9,9 @@ ghost use Rattle.dom_range_ops.specs.Texts.{range_at_points, AreBounded};
 ghost use Rattle.dom_tree.specs.Forest.{IsNode, name_of};
 
 use crate::ends::outermost_apart;
-use crate::points::{beyond, is_node, node_after};
+use crate::points::{is_node, node_after};
 use dom_ranges::{Points, is_before};
+use dom_traversal::beyond;
 use dom_tree::Forest;
 use node_arena::Key;
 use std::alloc::{AllocError, Global};

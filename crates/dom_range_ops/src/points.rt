@@ -5,9 +5,10 @@ ghost use Rattle.dom_model.specs.Names.{first_of};
 ghost use Rattle.dom_model.specs.Ranges.{at};
 ghost use Rattle.dom_model.specs.Tree.{children_of};
 ghost use Rattle.dom_range_ops.specs.Points.{nodes_after};
-ghost use Rattle.dom_traversal.specs.Within.{beyond, StandsIn};
+ghost use Rattle.dom_traversal.specs.Within.{StandsIn};
 ghost use Rattle.dom_tree.specs.Forest.{IsNode, name_of};
 
+use dom_traversal::beyond;
 use dom_tree::Forest;
 use node_arena::Key;
 
@@ -43,26 +44,6 @@ pub(crate) fn child_at(forest: &Forest, node: Key, index: usize) -> Option<Key>
         left -= 1;
     }
     at
-}
-
-/// The first node of the tree of `top` that stands behind a node and is not below it.
-pub(crate) fn beyond(forest: &Forest, key: Key, top: Key) -> Option<Key>
-    requires top_is_node { IsNode forest.now top }
-    requires stands { StandsIn forest.now top key }
-    ensures value { option_map (name_of forest.now) result ≡ first_of
-        (beyond forest.now.trees (name_of forest.now top) (name_of forest.now key)) }
-    ensures stands { ForSome result (StandsIn forest.now top) }
-{
-    forest.nodes_stand_once();
-    let mut at = key;
-    while at != top {
-        let next = forest.next(at);
-        if next.is_some() {
-            return next;
-        }
-        at = forest.parent(at)?;
-    }
-    None
 }
 
 /// Whether a node is the one found.

@@ -11,4 +11,5 @@ mod walker;
 pub use filter::Filter;
 pub use iter::{Iter, iterators_stay};
 pub use laws::law_rest;
+pub use search::beyond;
 pub use walker::Walker;

@@ -97,8 +97,9 @@ impl Filter {
     }
 }
 
-/// The first node of the tree of `top` that stands behind a node and is not below it.
-pub(crate) fn beyond(forest: &Forest, key: Key, top: Key) -> Option<Key>
+/// The first node of the tree of `top` that stands behind a node of it, in tree order, and is not below that (own rule); none where
+/// there is no such node.
+pub fn beyond(forest: &Forest, key: Key, top: Key) -> Option<Key>
     requires top_is_node { IsNode forest.now top }
     requires stands { StandsIn forest.now top key }
     ensures value { option_map (name_of forest.now) result ≡ first_of
