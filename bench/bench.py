@@ -49,14 +49,15 @@ def timed_behind(program, kind, size, folder):
 
 
 def memory(program, folder, count=900_000):
-    """Elements without attributes below one parent: the bytes that each takes."""
+    """Elements without attributes below one parent: the bytes that each takes, by two runs that take far more than this
+    program, whose own memory counts as theirs up to their start."""
     taken = []
-    for length in (1, count + 1):
+    for length in (count // 3, count):
         path = os.path.join(folder, "memory.txt")
         with open(path, "w", encoding="ascii") as script:
             script.writelines(f"{line}\n" for line in kinds.wide(length))
         taken.append(peak_of([program, path]))
-    print(f"memory, {count:,} elements without attributes: {taken[1] / 1e6:.0f} MB at most, {(taken[1] - taken[0]) / count:.0f} bytes each")
+    print(f"memory, {count:,} elements without attributes: {taken[1] / 1e6:.0f} MB at most, {(taken[1] - taken[0]) / (count - count // 3):.0f} bytes each")
 
 
 def by_pipe(program, lines):
