@@ -9,7 +9,8 @@ use Rattle.dom_model.specs.Ranges.{after_insert, after_removal}
 use Rattle.dom_model.specs.Tree.{parent_of, index_of}
 use Rattle.dom_tree.specs.Forest.{NamedTrees, name_at}
 use Rattle.dom_ranges.specs.Rules.{is_inside}
-use Rattle.dom_ranges.specs.Naming.{InsertNamed, AreApart, named_ends_by}
+use Rattle.dom_ranges.specs.Naming.{InsertNamed, named_ends_by}
+use Rattle.dom_tree.specs.Apart.{TellApart}
 use Rattle.dom_ranges.specs.Settings.{named_ranges}
 use Rattle.dom_ranges.specs.Staying.{AreWithin, SameWithin, RemovalWithin, InsertWithin, WithinAtNodes, HasMoved, FitBy}
 use Rattle.dom_ranges.specs.Tables.{RangeLists, ranges_of}
@@ -68,7 +69,7 @@ pub less-room : (f : NamedTrees) (t : RangeLists) → HasRoom 1 f t → HasRoom 
 less-room f t h = let fits = h.fits in record { most = h.most; nodes = h.nodes; fits = omega (arith, fits); within = h.within }
 
 -- where an owner's live ranges stand then, by names
-pub in-shown : InsertNamed → WithinAtNodes → (f g : NamedTrees) (parent index child : ℕ) (was now : RangeLists) → g.names ≡ f.names → AreApart f.names →
+pub in-shown : InsertNamed → WithinAtNodes → (f g : NamedTrees) (parent index child : ℕ) (was now : RangeLists) → g.names ≡ f.names → TellApart f.names →
     parent < length f.names → index ≡ index_of f.trees (name_at f.names child) → HasRoom 1 f was →
     HasMoved (after_insert nat_eq parent index 1) was now → (o : Owner) →
     shown_ranges g now o ≡ with_coming f.trees (name_at f.names parent) (name_at f.names child) (shown_ranges f was o)

@@ -3,7 +3,7 @@ ghost use Rattle.std.specs.Prelude.{◌≡◌, ◌++◌, ◌∷◌, [], OnOk};
 ghost use Rattle.std.specs.List.{AllByRecursion};
 ghost use Rattle.std.specs.Option.{option_map, ForSome};
 ghost use Rattle.dom_text.specs.Text.{output_text};
-ghost use Rattle.dom_tree.specs.Forest.{IsNode, name_of};
+ghost use Rattle.dom_tree.specs.Forest.{IsNode, name_at};
 ghost use Rattle.dom_observer_commands.specs.Recorded.{record_line, record_lines, notice_lines, IsRecord, IsNotice};
 
 use dom_admission::names_of;
@@ -102,7 +102,7 @@ fn put_change(
 /// The name of a node, if there is one.
 fn name_if(forest: &Forest, key: Option<Key>) -> Option<NodeName>
     requires { ForSome key (IsNode forest.now) }
-    ensures { result ≡ option_map (name_of forest.now) key }
+    ensures { result ≡ option_map (name_at forest.now.names) key }
 {
     match key {
         Some(node) => Some(forest.name(node)),
