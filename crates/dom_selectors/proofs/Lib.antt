@@ -5,6 +5,7 @@ mod Repeats
 mod FoundCompounds
 mod Anywhere
 mod ValueLaws
+mod AttributeLaws
 mod Beside
 mod Passing
 mod JoinedLaws

@@ -1,8 +1,9 @@
 //! Which elements match simple selectors and compounds.
 ghost use Rattle.std.specs.Prelude.{◌≡◌, ◌&&◌, map, string_bytes};
 ghost use Rattle.std.specs.List.{list_all};
+ghost use Rattle.std.specs.Option.{option_map};
 ghost use Rattle.dom_model.specs.Names.{text_eq};
-ghost use Rattle.dom_model.specs.Tree.{node_in};
+ghost use Rattle.dom_model.specs.Tree.{node_in, attribute_value};
 ghost use Rattle.dom_model.specs.Selectors.{attribute_passes as spec_attribute_passes, simple_matches as spec_simple_matches};
 ghost use Rattle.dom_model.specs.Selectors.{part_matches as spec_part_matches, compound_matches as spec_compound_matches};
 ghost use Rattle.dom_tree.specs.Forest.{IsNode, name_of};
@@ -13,6 +14,24 @@ use crate::siblings::{element_before, element_behind, is_element};
 use crate::values::value_passes;
 use dom_tree::Forest;
 use node_arena::Key;
+
+/// How many attributes of a node are compared by their names, before the others are looked up.
+const FEW: usize = 8;
+
+/// The value of the attribute of this name, if a node has one. The names of the first attributes are compared in their
+/// order, which takes less time than a hash of the name.
+fn attribute<'a>(forest: &'a Forest, key: Key, name: &str) -> Option<&'a [u16]>
+    requires { IsNode forest.now key }
+    ensures { option_map (λ value. value.now) result ≡ attribute_value (node_in forest.now.trees (name_of forest.now key)) name.now }
+{
+    for index in 0..FEW {
+        let (other, value) = forest.attr_at(key, index)?;
+        if is_same_name(name, other) {
+            return Some(value);
+        }
+    }
+    forest.attr(key, name)
+}
 
 /// Whether a node has an attribute with a value as a test asks.
 fn attribute_passes(
@@ -25,7 +44,7 @@ fn attribute_passes(
     requires { IsNode forest.now key }
     ensures { result ≡ spec_attribute_passes (node_in forest.now.trees (name_of forest.now key)) name.now (test_view test) value.now }
 {
-    match forest.attr(key, name) {
+    match attribute(forest, key, name) {
         Some(text) => value_passes(test, value, text),
         None => false,
     }
@@ -50,7 +69,7 @@ fn simple_matches(forest: &Forest, simple: &Simple, key: Key) -> bool
         Simple::OfClass(class) => {
             attribute_passes(forest, key, "class", AttributeTest::HasWord, class)
         }
-        Simple::WithAttribute(name) => forest.attr(key, name.as_str()).is_some(),
+        Simple::WithAttribute(name) => attribute(forest, key, name.as_str()).is_some(),
         Simple::WithValue(name, test, value) => {
             attribute_passes(forest, key, name.as_str(), *test, value)
         }
