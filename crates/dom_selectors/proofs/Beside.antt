@@ -5,7 +5,7 @@ use Rattle.std.specs.Option.{option_map, option_map_or}
 use Rattle.std.proofs.lemmas.Option.{none-some}
 use Rattle.dom_base.specs.declared.NodeName.{NodeName}
 use Rattle.dom_model.specs.Names.{name_eq, first_of, last_of, items_before, items_after}
-use Rattle.dom_model.specs.Tree.{Trees, none, children_of, siblings, parent_of, previous_sibling, next_sibling}
+use Rattle.dom_model.specs.Tree.{Trees, children_of, siblings, parent_of, previous_sibling, next_sibling}
 use Rattle.dom_tree.specs.Forest.{NamedTrees, name_at}
 use Rattle.dom_traversal.proofs.Lists.{In, In-right, Single, Single-apart, split_at, before-split, after-split, first_split, last_split, no_first, no_last}
 use Rattle.dom_traversal.proofs.Shapes.{Has, Once}
