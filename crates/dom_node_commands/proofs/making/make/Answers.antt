@@ -30,7 +30,7 @@ returns-in_err-key-clause-done c =
     let a = string_bytes c.args.element in
     let text = c.args.out.now.items in
     rw (p.1, p.2) (subst (λ (s : DocState). IsDone (adding_refusal (part_of s.world o) c.args.kind a)
-        (making o c.args.kind a c.args.text.items s.world) s.world (with_turn t c.add.new.self.world) text text (Err c.in_err-key.field-0.0)) c.state.view_is
+    (making o c.args.kind a c.args.text.items s.world) s.world (with_turn t c.add.new.self.world) text text (Err c.in_err-key.field-0.0)) c.state.view_is
     (faulted (adding_refusal (part_of d.world o) c.args.kind a) (making o c.args.kind a c.args.text.items (with_turn t d.world))
     (with_turn t d.world) (with_turn t c.add.new.self.world) text c.in_err-key.field-0.0
     (λ r e. ((c.in_err-key.ensures.refused r).0 (ap Err e), ap (λ (s : DocState). with_turn t s.world) c.in_err-key.ensures.err))))
@@ -61,7 +61,7 @@ returns-clause-done c =
     let named = name-last d.names c.forest.result.now.names (next_name own) c.name-made.result c.in_ok-key.key
     (c.forest.ensures.names ∙ c.in_ok-key.ensures.names) c.in_ok-key.ensures.key c.name-made.ensures.at in
     subst (λ (s : DocState). IsDone (adding_refusal (part_of s.world o) k a) (making o k a c.args.text.items s.world) s.world
-        c.accept.new.self.world c.args.out.now.items c.accept.new.out.items c.accept.result) c.state.view_is
+    c.accept.new.self.world c.args.out.now.items c.accept.new.out.items c.accept.result) c.state.view_is
     (finished (adding_refusal own k a) run (making o k a c.args.text.items (with_turn t d.world)) (with_turn t d.world)
     (with_turn t c.add.new.self.world) c.accept.new.self.world c.args.out.now.items c.accept.new.out.items c.accept.result
     (none_stopped c.in_ok-key.key (adding_refusal own k a) (λ r e. inl ((c.in_ok-key.ensures.refused r).1 e)))

@@ -17,5 +17,5 @@ returns-clause-ready c =
 pub returns-clause-refused : goal.returns-clause-refused
 returns-clause-refused c = λ r.
     subst (λ (d : DocState). (c.add.result ≡ Err (Refused r)) ↔
-        (adding_refusal (part_of d.world c.args.owner) c.args.node.kind (string_bytes c.args.node.element) ≡ Some r))
+    (adding_refusal (part_of d.world c.args.owner) c.args.node.kind (string_bytes c.args.node.element) ≡ Some r))
     c.self.view_is (c.add.ensures.refused r)
