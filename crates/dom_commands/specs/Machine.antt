@@ -1,5 +1,5 @@
 -- What a contract sees of a `Machine`.
-use Rattle.std.specs.Prelude.{ℕ, ◌<◌, false, List, length, All, Result, Ok, Err}
+use Rattle.std.specs.Prelude.{ℕ, ◌<◌, false, List, length, map, All, Result, Ok, Err}
 use Rattle.std.specs.Option.{ForSome}
 use Rattle.std.specs.List.{AllByRecursion}
 use Rattle.dom_base.specs.declared.Fault.{Fault}
@@ -13,6 +13,8 @@ use Rattle.dom_worlds.specs.Bounds.{IsBounded}
 use Rattle.dom_worlds.specs.Reached.{IsReached}
 use Rattle.dom_worlds.specs.Tables.{IsWhole}
 use Rattle.dom_worlds.specs.Worlds.{IsThere, task_owner}
+use Rattle.dom_text.specs.Text.{list_text}
+use Rattle.dom_tree.specs.Forest.{name_at}
 use Rattle.dom_mutation.specs.Doc.{DocState}
 use Rattle.dom_dispatch.specs.declared.event.LogLine.{LogLine}
 use Rattle.dom_dispatch.specs.Dispatches.{line_in}
@@ -61,3 +63,7 @@ pub record NamesNodes (names : List NodeName) (l : EventLine ℕ) : Type 0 where
 -- a line of a dispatch, as it is printed
 abbrev pub line_shown : List NodeName → LogLine → Output
 line_shown names l = event_output (line_named names (line_in l))
+
+-- the text of the path of such a line, as its owner sees it
+abbrev pub path_shown : List NodeName → LogLine → List ℕ
+path_shown names l = list_text l.owner (map (name_at names) l.path.items)

@@ -1,16 +1,17 @@
 //! Dispatches of events, and the lines that tell of them.
-ghost use Rattle.std.specs.Prelude.{◌≡◌, ◌<◌, ◌++◌, ◌∷◌, [], All, length, map, IfOk, OnOk};
+ghost use Rattle.std.specs.Prelude.{◌≡◌, ◌<◌, ◌++◌, ◌∷◌, [], true, All, List, length, map, IfOk, OnOk};
 ghost use Rattle.std.specs.Option.{option_map, ForSome};
+ghost use Rattle.dom_base.specs.declared.NodeName.{NodeName};
 ghost use Rattle.dom_model.specs.Dispatch.{dispatch_in};
 ghost use Rattle.dom_text.specs.Text.{output_text};
 ghost use Rattle.dom_tree.specs.Forest.{name_at};
 ghost use Rattle.dom_dispatch.specs.Dispatches.{event_words, line_in, IsOwnLine};
-ghost use Rattle.dom_commands.specs.Machine.{AreAtNodes, IsAtRest, NamesNodes, line_shown};
+ghost use Rattle.dom_commands.specs.Machine.{AreAtNodes, IsAtRest, NamesNodes, line_shown, path_shown};
 
 use crate::machine::Machine;
 use dom_admission::names_of;
 use dom_dispatch::{EventInit, LogLine};
-use dom_printer::{Event, put_event};
+use dom_printer::{Event, put_event, put_path};
 use dom_tree::Forest;
 use node_arena::Key;
 use std::alloc::{AllocError, Global};
@@ -47,7 +48,8 @@ impl Machine {
     }
 }
 
-/// Puts the lines of the calls of listeners, each as its owner sees it.
+/// Puts the lines of the calls of listeners, each as its owner sees it. The text of a path is made once for lines on end that
+/// show the same owner the same path.
 fn put_lines(
     alloc: Global,
     forest: &Forest,
@@ -58,24 +60,51 @@ fn put_lines(
     requires owners { All (IsOwnLine forest.now.names) lines.now }
     ensures { OnOk result (out.new.items ≡ out.old.items ++ output_text (map (line_shown forest.now.names) lines.now)) }
 {
+    let [first, ..] = lines else {
+        return Ok(());
+    };
+    let mut shown = first;
+    let mut path = path_text(alloc, forest, first)?;
     for line in lines {
-        put_line(alloc, forest, line, out)?;
+        if !has_path_of(line, shown) {
+            path = path_text(alloc, forest, line)?;
+            shown = line;
+        }
+        put_line(forest, line, path.as_slice(), out)?;
     }
     Ok(())
 }
 
-/// Puts the line of the call of a listener, as its owner sees it.
+/// The text of a line's path, as its owner sees it.
+fn path_text(alloc: Global, forest: &Forest, line: &LogLine) -> Result<Vec<u8>, AllocError>
+    requires { NamesNodes forest.now.names (line_in line.now) }
+    ensures { IfOk result (λ text. text.items ≡ path_shown forest.now.names line.now) }
+{
+    let path = names_of(alloc, forest, line.path.as_slice())?;
+    let mut text = Vec::with_capacity(alloc, 64)?;
+    put_path(&mut text, line.owner, path.as_slice())?;
+    Ok(text)
+}
+
+/// Whether a line shows the owner of another one the same path.
+fn has_path_of(line: &LogLine, other: &LogLine) -> bool
+    ensures { result ≡ true → (names : List NodeName) → path_shown names other.now ≡ path_shown names line.now }
+{
+    line.owner == other.owner && line.path == other.path
+}
+
+/// Puts the line of the call of a listener, as its owner sees it, with the text of its path.
 fn put_line(
-    alloc: Global,
     forest: &Forest,
     line: &LogLine,
+    path: &[u8],
     out: &mut Vec<u8>,
 ) -> Result<(), AllocError>
     requires nodes { NamesNodes forest.now.names (line_in line.now) }
     requires owner { IsOwnLine forest.now.names line.now }
+    requires path { path.now ≡ path_shown forest.now.names line.now }
     ensures { OnOk result (out.new.items ≡ out.old.items ++ output_text (line_shown forest.now.names line.now ∷ [])) }
 {
-    let path = names_of(alloc, forest, line.path.as_slice())?;
     let related = match line.related {
         Some(related) => Some(forest.name(related)),
         None => None,
@@ -87,7 +116,7 @@ fn put_line(
         target: forest.name(line.target),
         current: forest.name(line.current),
         related,
-        path: path.as_slice(),
+        path,
     };
     put_event(out, line.owner, &event)
 }

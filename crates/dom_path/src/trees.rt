@@ -112,6 +112,9 @@ impl Trees {
         requires viewer { viewer < length self.now }
         ensures { result ≡ hiding_host self.now viewer place }
     {
+        if place == viewer {
+            return None;
+        }
         let trees = self.trees.as_slice();
         let tree = trees[place];
         if encloses(trees, tree.root, viewer) {

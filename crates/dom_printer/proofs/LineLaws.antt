@@ -2,11 +2,11 @@
 use Rattle.std.proofs.Common.{◌≡◌, ℕ, List, [], ◌++◌, append_assoc}
 use Rattle.std.proofs.lemmas.List.{append-nil}
 
--- the line of a call of a listener
-pub event_row : (owner space a b c d e f g h i j k l m n end : List ℕ)
+-- the line of a call of a listener, whose path has this text
+pub event_row : (owner space a b c d e f g h i j k l m n end path : List ℕ) → n ≡ path
     → owner ++ space ++ ((a ++ b) ++ ((c ++ d) ++ ((e ++ f) ++ ((g ++ h) ++ ((i ++ j) ++ ((k ++ l) ++ ((m ++ n) ++ []))))))) ++ end
-    ≡ ((owner ++ space ++ (a ++ b ++ c ++ d ++ e ++ f ++ g ++ h ++ i ++ j ++ k ++ l ++ m ++ n)) ++ end) ++ []
-event_row owner space a b c d e f g h i j k l m n end = simp (append_assoc, append-nil)
+    ≡ ((owner ++ space ++ (a ++ b ++ c ++ d ++ e ++ f ++ g ++ h ++ i ++ j ++ k ++ l ++ m ++ path)) ++ end) ++ []
+event_row owner space a b c d e f g h i j k l m n end path text = simp (text, append_assoc, append-nil)
 
 -- the line of a record of children
 pub child_list_row : (owner space a n kind target b c d e f g h i end : List ℕ)

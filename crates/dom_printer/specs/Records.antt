@@ -1,21 +1,21 @@
 -- Events and records of the code, seen as those of the specification.
-use Rattle.std.specs.Prelude.{option_copied}
+use Rattle.std.specs.Prelude.{List, option_copied}
 use Rattle.dom_base.specs.declared.NodeName.{NodeName}
 use Rattle.dom_model.specs.Output as model
 use Rattle.dom_printer.specs.declared.records.Change.{Change}
 use Rattle.dom_printer.specs.declared.records.Change.TheVariants as changes
 use Rattle.dom_printer.specs.declared.records.Event.{Event}
 
--- a call of a listener
-abbrev pub event_view : Event → model.EventLine NodeName
-event_view e = record {
+-- a call of a listener that sees this path
+abbrev pub event_view : List NodeName → Event → model.EventLine NodeName
+event_view path e = record {
   label = e.label.now;
   event = e.event.now;
   phase = e.phase;
   target = e.target;
   current = e.current;
   related = e.related;
-  path = e.path.now;
+  path = path;
 }
 
 -- a change

@@ -1,5 +1,5 @@
-//! The text of what the engine answers, put at the end of a buffer: replies, refusals, events, records, microtasks, trees,
-//! strings and owners' words. A call puts its whole text, or nothing where memory is refused.
+//! The text of what the engine answers, put at the end of a buffer: replies, refusals, events and their paths, records,
+//! microtasks, trees, strings and owners' words. A call puts its whole text, or nothing where memory is refused.
 #![tactic(auto)]
 
 mod buffers;
@@ -10,7 +10,7 @@ mod replies;
 mod strings;
 mod trees;
 
-pub use names::put_owner_word;
+pub use names::{put_owner_word, put_path};
 pub use records::{Change, Event, put_event, put_micro, put_record};
 pub use replies::{Boundary, Value, put_refusal, put_reply};
 pub use strings::put_string;

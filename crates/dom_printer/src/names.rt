@@ -113,7 +113,20 @@ pub(crate) fn put_node_or_null(
     }
 }
 
-/// Puts nodes in brackets, with commas between them.
+/// Puts the text of an event's path as this owner sees it: nodes in brackets, with commas between them. Where memory is
+/// refused, the buffer is as before.
+///
+/// Own rule.
+pub fn put_path(out: &mut Vec<u8>, owner: Owner, path: &[NodeName]) -> Result<(), AllocError>
+    ensures ok { OnOk result (out.new.items ≡ out.old.items ++ list_text owner path.now) }
+    ensures err { OnErr result (out.new.items ≡ out.old.items) }
+{
+    let length = out.len();
+    let put = put_list(out, owner, path);
+    cut_if_refused(out, length, put)
+}
+
+/// Puts nodes in brackets, with commas between them, as far as there is memory.
 pub(crate) fn put_list(
     out: &mut Vec<u8>,
     viewer: Owner,

@@ -1,15 +1,15 @@
 //! Calls of listeners, records of observers, and microtasks.
-ghost use Rattle.std.specs.Prelude.{◌≡◌, ◌++◌, ◌∷◌, [], OnOk, OnErr, option_copied};
+ghost use Rattle.std.specs.Prelude.{◌≡◌, List, ◌++◌, ◌∷◌, [], OnOk, OnErr, option_copied};
 ghost use Rattle.dom_model.specs.Output.{attributes, character_data, event_seen, micro_ran, recorded, says};
-ghost use Rattle.dom_text.specs.Text.{output_text};
+ghost use Rattle.dom_text.specs.Text.{list_text, output_text};
 ghost use Rattle.dom_printer.specs.Records.{event_view, change_view};
 
 use crate::pieces::{Piece, put_line};
 use dom_base::{NodeName, Owner};
 use std::alloc::AllocError;
 
-/// A call of a listener: its label, and the event's type, phase (1 to 3), target, current target, related target and
-/// composed path, as the listener sees them (DOM Standard, interface Event).
+/// A call of a listener: its label, and the event's type, phase (1 to 3), target, current target, related target and the
+/// text of its composed path, as `put_path` puts it, as the listener sees them (DOM Standard, interface Event).
 #[derive(Clone, Copy)]
 pub struct Event<'a> {
     pub label: &'a [u8],
@@ -18,7 +18,7 @@ pub struct Event<'a> {
     pub target: NodeName,
     pub current: NodeName,
     pub related: Option<NodeName>,
-    pub path: &'a [NodeName],
+    pub path: &'a [u8],
 }
 
 /// What a record tells of a change (DOM Standard, interface MutationRecord). `old` is none where no old value is given.
@@ -43,12 +43,13 @@ pub enum Change<'a> {
 }
 
 /// Puts a call of a listener of this owner as a line with its end: `event` and what the listener sees, nodes as this owner
-/// sees them. Where memory is refused, the buffer is as before.
+/// sees them. It is the line of the event with the path whose text for this owner is given, and the same text serves any
+/// number of lines. Where memory is refused, the buffer is as before.
 ///
 /// Own rule.
 pub fn put_event(out: &mut Vec<u8>, owner: Owner, event: &Event<'_>) -> Result<(), AllocError>
-    ensures ok { OnOk result (out.new.items
-        ≡ out.old.items ++ output_text (says owner (event_seen (event_view event.now)) ∷ [])) }
+    ensures ok { OnOk result ((path : List NodeName) → event.now.path.now ≡ list_text owner path → out.new.items
+        ≡ out.old.items ++ output_text (says owner (event_seen (event_view path event.now)) ∷ [])) }
     ensures err { OnErr result (out.new.items ≡ out.old.items) }
 {
     let pieces = [
@@ -58,7 +59,7 @@ pub fn put_event(out: &mut Vec<u8>, owner: Owner, event: &Event<'_>) -> Result<(
         Piece::Node(b" target=", event.target),
         Piece::Node(b" current=", event.current),
         Piece::NodeOrNull(b" related=", event.related),
-        Piece::Nodes(b" path=", event.path),
+        Piece::Bytes(b" path=", event.path),
     ];
     put_line(out, owner, &pieces)
 }

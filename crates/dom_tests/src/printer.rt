@@ -1,7 +1,7 @@
 use dom_base::{Kind, NodeName, Owner, OwnerPath, Refusal};
 use dom_printer::{
     Attribute, Boundary, Change, Event, NodeContent, Opening, TreeStep, Value, put_event,
-    put_micro, put_record, put_refusal, put_reply, put_string, put_tree,
+    put_micro, put_path, put_record, put_refusal, put_reply, put_string, put_tree,
 };
 use std::alloc::{AllocError, Global};
 use std::test::Fail;
@@ -139,6 +139,10 @@ fn refusals(rt: HostRuntime) -> Result<(), Fail> {
 
 #[test]
 fn events(rt: HostRuntime) -> Result<(), Fail> {
+    let mut path = Vec::new(rt.alloc());
+    put_path(&mut path, FIRST, &[n(2), m(1), m(0), n(1), n(0)])?;
+    let mut no_path = Vec::new(rt.alloc());
+    put_path(&mut no_path, FIRST, &[])?;
     let mut event = Event {
         label: b"s",
         event: b"click",
@@ -146,12 +150,12 @@ fn events(rt: HostRuntime) -> Result<(), Fail> {
         target: n(2),
         current: m(1),
         related: None,
-        path: &[n(2), m(1), m(0), n(1), n(0)],
+        path: path.as_slice(),
     };
     let mut out = Vec::new(rt.alloc());
     put_event(&mut out, FIRST, &event)?;
     event.related = Some(m(2));
-    event.path = &[];
+    event.path = no_path.as_slice();
     put_event(&mut out, FIRST, &event)?;
     let text = "c1 event s click phase=3 target=n2 current=m1 related=null path=[n2,m1,m0,n1,n0]\n\
         c1 event s click phase=3 target=n2 current=m1 related=m2 path=[]\n";

@@ -1,7 +1,8 @@
--- The pieces of the line of an event have its text.
-use Rattle.std.proofs.Common.{◌≡◌, ◌++◌, [], ◌∷◌, ℕ, List, OnOk, subst}
+-- The pieces of the line of an event have its text, with the path that has the text that is given.
+use Rattle.std.proofs.Common.{◌≡◌, ◌++◌, [], ◌∷◌, ℕ, List, subst}
 use Rattle.std.specs.Prelude.{codes}
 use Rattle.std.specs.Fmt.{decimal}
+use Rattle.std.proofs.lemmas.Result.{on_ok_weaker}
 use Rattle.dom_text.specs.Text.{node_text, node_or_null, list_text}
 use Rattle.dom_text.specs.Words.{owner_word}
 use Rattle.dom_printer.proofs.LineLaws.{event_row}
@@ -11,7 +12,9 @@ pub returns-clause-ok : goal.returns-clause-ok
 returns-clause-ok c =
     let owner = c.args.owner in
     let event = c.args.event.now in
+    let old = c.args.out.now.items in
     let same = event_row (owner_word owner) (codes " ") (codes "event ") event.label.now (codes " ") event.event.now (codes " phase=") (decimal event.phase)
     (codes " target=") (node_text owner event.target) (codes " current=") (node_text owner event.current) (codes " related=") (node_or_null owner event.related)
-    (codes " path=") (list_text owner event.path.now) (10 ∷ []) in
-    subst (λ (text : List ℕ). OnOk c.put_line.result (c.put_line.new.out.items ≡ c.args.out.now.items ++ text)) same c.put_line.ensures.ok
+    (codes " path=") event.path.now (10 ∷ []) in
+    on_ok_weaker c.put_line.result (λ put path text.
+    subst (λ (line : List ℕ). c.put_line.new.out.items ≡ old ++ line) (same (list_text owner path) text) put) c.put_line.ensures.ok
