@@ -8,7 +8,7 @@ use Rattle.dom_base.specs.declared.NodeName.{NodeName}
 use Rattle.dom_base.specs.declared.Owner.{Owner}
 use Rattle.dom_base.specs.declared.Owner.TheVariants.{Page}
 use Rattle.dom_model.specs.Names.{DomString, name_eq, name_before, node_of, first_of, is_in}
-use Rattle.dom_model.specs.Tree.{Trees, none, tree, Node, subtree, or_else, names_of, roots, trees_below, node_in, parent_of, children_of}
+use Rattle.dom_model.specs.Tree.{Trees, none, tree, Node, subtree, or_else, names_of, roots, trees_below, node_in, parent_of, children_of, times_in}
 use Rattle.dom_model.specs.Tree.{inclusive_ancestors, is_inclusive_ancestor}
 use Rattle.dom_model.specs.TreeChanges.{with_node, put_root}
 use Rattle.dom_model.specs.Part.{Part, next_name}
@@ -19,7 +19,7 @@ use Rattle.dom_model.specs.TextChanges.{new_text_node, placing_tail, replacing_d
 use Rattle.dom_model.proofs.OwnerLaws.{name_eq-same, name_eq-true}
 use Rattle.dom_model.proofs.PartLaws.{owner-part_of}
 use Rattle.dom_tree.specs.Forest.{name_at}
-use Rattle.dom_tree.proofs.Once.{times_in, times_in-none, times_in-tree, one-true}
+use Rattle.dom_tree.proofs.Once.{times_in-none, times_in-tree, one-true}
 use Rattle.dom_parts.specs.Doc.{DocState, made, planned, name_in, owner_in, trees_in, cutting_tail}
 use Rattle.dom_tree_laws.proofs.Paths.{lacks_to, IsOnce, path_after, path_lacks}
 use Rattle.dom_tree_laws.proofs.Moves.{path_put_root, path_root}

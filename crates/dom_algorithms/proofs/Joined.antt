@@ -11,7 +11,7 @@ use Rattle.std.proofs.lemmas.List.Sums.{take_while-cons}
 use Rattle.dom_base.specs.declared.NodeName.{NodeName}
 use Rattle.dom_base.specs.declared.Owner.{Owner}
 use Rattle.dom_model.specs.Names.{DomString, name_eq, first_of, is_empty, is_in, items_before, items_after}
-use Rattle.dom_model.specs.Tree.{Trees, kind_of, is_text, node_in, length_of, siblings, children_of, parent_of, next_sibling, inclusive_ancestors}
+use Rattle.dom_model.specs.Tree.{Trees, kind_of, is_text, node_in, length_of, siblings, children_of, parent_of, next_sibling, inclusive_ancestors, times_in}
 use Rattle.dom_model.specs.Tree.{is_inclusive_ancestor, subtree, inclusive_descendants}
 use Rattle.dom_model.specs.Steps.{Step}
 use Rattle.dom_model.specs.World.{part_of}
@@ -20,7 +20,6 @@ use Rattle.dom_model.specs.Changes.{◌and_then◌, in_turn, steps_of, observed,
 use Rattle.dom_model.specs.TextChanges.{replacing_data, joins, texts_after, joining, normalizing_text}
 use Rattle.dom_model.proofs.OwnerLaws.{name_eq-same}
 use Rattle.dom_tree.specs.Forest.{name_at}
-use Rattle.dom_tree.proofs.Once.{times_in}
 use Rattle.dom_parts.specs.Doc.{DocState, planned, name_in, owner_in, trees_in, IsOwnNode}
 use Rattle.dom_parts.specs.Hosting.{IsAlone}
 use Rattle.dom_tree_laws.proofs.Paths.{Lacks, swapped, IsOnce, path_none, path_gone, path_head}

@@ -6,12 +6,12 @@ use Rattle.dom_base.specs.declared.Owner.{Owner}
 use Rattle.dom_base.specs.declared.Owner.TheVariants.{Page, Component}
 use Rattle.dom_model.specs.Listeners.{Listener}
 use Rattle.dom_model.specs.Part.{Part}
-use Rattle.dom_model.specs.Tree.{Trees, kind_of, is_shadow, parent_of}
+use Rattle.dom_model.specs.Tree.{Trees, kind_of, is_shadow, parent_of, times_in}
 use Rattle.dom_model.specs.World.{World, part_of, kind_at}
 use Rattle.dom_model.proofs.PartLaws.{owner-part_of}
 use Rattle.dom_model.proofs.StepLaws.{Component-IsNoPage}
 use Rattle.dom_worlds.specs.Reached.{IsReached}
-use Rattle.dom_worlds.specs.Worlds.{times_in, MayBeShadow}
+use Rattle.dom_worlds.specs.Worlds.{MayBeShadow}
 use Rattle.dom_worlds.proofs.FollowPaths.{shadow-kind}
 use Rattle.dom_worlds.proofs.InsideAncestors.{child-there}
 use Rattle.dom_worlds.proofs.Owners.{node-there, there-hosted}

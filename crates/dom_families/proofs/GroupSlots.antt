@@ -9,14 +9,14 @@ use Rattle.dom_base.specs.declared.Owner.{Owner}
 use Rattle.dom_base.specs.declared.Owner.TheVariants.{Page}
 use Rattle.dom_base.specs.declared.NodeName.{NodeName}
 use Rattle.dom_model.specs.Names.{DomString, name_eq, owner_eq, is_in}
-use Rattle.dom_model.specs.Tree.{none, Node, nodes, node_in, parent_of, root_of, inclusive_ancestors, subtree, children_of}
+use Rattle.dom_model.specs.Tree.{none, Node, nodes, node_in, parent_of, root_of, inclusive_ancestors, subtree, children_of, times_in}
 use Rattle.dom_model.specs.Part.{Part}
 use Rattle.dom_model.specs.World.{World, part_of, trees_with, node_at, root_at, parent_at, component_at, component_made, made_by, host_of, MayAttach}
 use Rattle.dom_model.specs.World.{host_above, some_if, shadow_root_of, shadow_tree}
 use Rattle.dom_model.specs.Slots.{slot_of, slot_in, slottable_name, has_slot_name, assigned, assigned_below, is_assigned_to}
 use Rattle.dom_model.specs.Groups.{KeepsFamilies, group_world}
 use Rattle.dom_model.proofs.OwnerLaws.{owner_eq-true, owner_eq-false, made_by-is, name_eq-true}
-use Rattle.dom_worlds.specs.Worlds.{IsPart, IsWorld, IsOf, HasMakers, times_in}
+use Rattle.dom_worlds.specs.Worlds.{IsPart, IsWorld, IsOf, HasMakers}
 use Rattle.dom_model.proofs.PartLaws.{owner-part_of}
 use Rattle.dom_worlds.proofs.ShadowTrees.{slot_in-there}
 use Rattle.dom_worlds.proofs.Lists.{all-then, all-from, all-dropped, filter_same}

@@ -8,6 +8,7 @@ use Rattle.std.proofs.lemmas.Grind.{flat_map-append}
 use Rattle.dom_base.specs.declared.Owner.{Owner}
 use Rattle.dom_base.specs.declared.Owner.TheVariants.{Page}
 use Rattle.dom_base.specs.declared.NodeName.{NodeName}
+use Rattle.dom_model.specs.Tree.{times_in}
 use Rattle.dom_model.specs.Names.{owner_eq, owner_depth, max_depth, last_of}
 use Rattle.dom_model.specs.World.{World, trees_with, ancestors_at, host_above, host_chain, is_in_shadow_tree}
 use Rattle.dom_model.specs.Paths.{View, is_hidden_from, retarget, retarget_related, is_node, with_slots, way_up, whole_path, ends_at, event_path, view_at}
@@ -15,7 +16,7 @@ use Rattle.dom_model.specs.Paths.{views}
 use Rattle.dom_model.specs.Groups.{KeepsFamilies}
 use Rattle.dom_model.specs.Trace.{is_page, outermost_host}
 use Rattle.dom_model.proofs.OwnerLaws.{owner_eq-true, owner_eq-false, made_by-is}
-use Rattle.dom_worlds.specs.Worlds.{IsWorld, times_in}
+use Rattle.dom_worlds.specs.Worlds.{IsWorld}
 use Rattle.dom_worlds.proofs.Chains.{IsBelow, below-host, hosts-alone, chain-below, chain-first, absent-host, above-host}
 use Rattle.dom_isolation.proofs.ComponentPaths.{cut_at, ends-at_host, no_end}
 use Rattle.dom_worlds.proofs.ShadowTrees.{IsInTree, ancestors-in_tree}

@@ -8,12 +8,13 @@ use Rattle.std.proofs.lemmas.List.Elements.{filter-append}
 use Rattle.std.proofs.lemmas.Bool.{cond-true, cond-false, and_from}
 use Rattle.dom_base.specs.declared.Owner.TheVariants.{Page}
 use Rattle.dom_base.specs.declared.NodeName.{NodeName}
+use Rattle.dom_model.specs.Tree.{times_in}
 use Rattle.dom_model.specs.Names.{name_eq, owner_depth, max_depth, is_in}
 use Rattle.dom_model.specs.World.{World, part_of, trees_with, ancestors_at, host_chain}
 use Rattle.dom_model.specs.Paths.{is_hidden_from, retarget, retarget_related, is_node, with_slots, way_up, whole_path, ends_at, event_path, view_at}
 use Rattle.dom_model.specs.Paths.{views, plain_view, plain_views}
 use Rattle.dom_model.proofs.OwnerLaws.{ne-owner_eq, name_eq-same}
-use Rattle.dom_worlds.specs.Worlds.{IsWorld, IsOf, IsForeignTo, times_in}
+use Rattle.dom_worlds.specs.Worlds.{IsWorld, IsOf, IsForeignTo}
 use Rattle.dom_worlds.proofs.Chains.{IsBelow, hosts-alone, chain-below, chain-first, absent-host, other-owner, hidden-itself, hidden-deeper}
 use Rattle.dom_worlds.proofs.Lists.{all-append, all-then, all-from, all-flat_map, all-take_while, all-before, filter-map, filter_none, filter_same, map_same}
 use Rattle.dom_worlds.proofs.Tests.{by_cases, either_way}

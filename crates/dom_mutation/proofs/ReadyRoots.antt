@@ -11,11 +11,11 @@ use Rattle.dom_model.specs.Extract.{common_ancestor}
 use Rattle.dom_model.specs.Names.{name_eq, is_in, first_of}
 use Rattle.dom_model.specs.Part.{Part, next_name}
 use Rattle.dom_model.specs.Steps.{Step, make, place, take_out, set_document, set_attribute, replace_data, part_step, leave, after}
-use Rattle.dom_model.specs.Tree.{Trees, none, tree, Node, no_node, node_in, kind_of, is_shadow, has_data, parent_of, children_of, subtree}
+use Rattle.dom_model.specs.Tree.{Trees, none, tree, Node, no_node, node_in, kind_of, is_shadow, has_data, parent_of, children_of, subtree, times_in}
 use Rattle.dom_model.specs.Tree.{trees_below, inclusive_descendants}
 use Rattle.dom_model.specs.TreeChanges.{map_nodes, with_name, with_document, with_data_replaced, with_attribute}
 use Rattle.dom_model.proofs.OwnerLaws.{name_eq-same, name_eq-true}
-use Rattle.dom_worlds.specs.Worlds.{times_in, IsPart, AllNodes, IsShadowAt}
+use Rattle.dom_worlds.specs.Worlds.{IsPart, AllNodes, IsShadowAt}
 use Rattle.dom_worlds.proofs.FitPieces.{common_below, whole-pieces}
 use Rattle.dom_worlds.proofs.FollowPaths.{shadow-kind}
 use Rattle.dom_worlds.proofs.InsideAncestors.{roots-there, no_parent-root}

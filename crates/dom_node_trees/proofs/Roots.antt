@@ -8,7 +8,7 @@ use Rattle.std.proofs.lemmas.List.{map-append, append-nil, append_assoc, flat_ma
 use Rattle.std.proofs.lemmas.List.Elements.{All-push, filter_map-append}
 use Rattle.dom_base.specs.declared.NodeName.{NodeName}
 use Rattle.dom_model.specs.Names.{name_eq, first_of, is_in, items_before, items_after}
-use Rattle.dom_model.specs.Tree.{inclusive_descendants, is_inclusive_ancestor, subtree}
+use Rattle.dom_model.specs.Tree.{inclusive_descendants, is_inclusive_ancestor, subtree, times_in}
 use Rattle.dom_model.proofs.OwnerLaws.{name_eq-same}
 use Rattle.dom_slots.specs.Hosts.{ShadowHost, HostsAreNodes, root_of_host, root_named}
 use Rattle.dom_slots.proofs.Hosted.{root-named, root-node}
@@ -17,7 +17,6 @@ use Rattle.dom_tree_laws.proofs.Covering.{walked, left, StandsIn, Walks, walks, 
 use Rattle.dom_tree_laws.proofs.Relatives.{once_subtree}
 use Rattle.dom_tree_laws.proofs.Once.{names_once}
 use Rattle.dom_tree_laws.proofs.Paths.{IsOnce}
-use Rattle.dom_tree.proofs.Once.{times_in}
 use Rattle.dom_tree.specs.Apart.{TellApart}
 
 -- `deeper` has the names behind each shadow root, `earlier` those that were listed before

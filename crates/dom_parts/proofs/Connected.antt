@@ -10,7 +10,7 @@ use Rattle.dom_base.specs.declared.NodeName.{NodeName}
 use Rattle.dom_base.specs.declared.Owner.{Owner}
 use Rattle.std.specs.List.{last_or}
 use Rattle.dom_model.specs.Names.{name_eq, last_of, owner_depth}
-use Rattle.dom_model.specs.Tree.{Trees, Node, nodes, inclusive_ancestors, kind_of, is_document, root_of}
+use Rattle.dom_model.specs.Tree.{Trees, Node, nodes, inclusive_ancestors, kind_of, is_document, root_of, times_in}
 use Rattle.dom_model.specs.World.{World, part_of, host_of, host_above, some_if, shadow_root_of, hosts_from, ancestors_at, kind_at, root_at, is_connected}
 use Rattle.dom_model.proofs.OwnerLaws.{name_eq-true}
 use Rattle.dom_slots.specs.Hosts.{host_named}
@@ -18,14 +18,13 @@ use Rattle.dom_slots.specs.Shadows.{ShadowTrees, IsShownBy, shadows}
 use Rattle.dom_slots.proofs.Ended.{host-key}
 use Rattle.dom_traversal.proofs.Lists.{name_eq-from}
 use Rattle.dom_tree.specs.Forest.{NamedTrees, name_at}
-use Rattle.dom_tree.proofs.Once.{times_in}
 use Rattle.dom_tree.proofs.Owned.{read_own, stays_own}
 use Rattle.dom_parts.specs.AllTables.{AllTables}
 use Rattle.dom_parts.specs.Doc.{IsDoc, contents, world_from}
 use Rattle.dom_parts.specs.Hosting.{outermost_root}
 use Rattle.dom_parts.proofs.DocInvariant.{are_hosts}
 use Rattle.dom_parts.proofs.HostedWorlds.{world_shown}
-use Rattle.dom_tree_laws.proofs.Once.{times_count}
+use Rattle.dom_tree.proofs.Once.{times_count}
 use Rattle.dom_tree_laws.proofs.Paths.{path_gone}
 
 -- ---- the host of a node's root

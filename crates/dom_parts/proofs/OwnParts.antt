@@ -7,31 +7,20 @@ use Rattle.dom_base.specs.declared.NodeName.{NodeName}
 use Rattle.dom_base.specs.declared.Owner.{Owner}
 use Rattle.dom_model.specs.Names.{name_eq, owner_eq, node_of}
 use Rattle.dom_model.specs.Part.{Part}
-use Rattle.dom_model.specs.Tree.{Trees, none, tree, Node, nodes, has_node, children_of}
+use Rattle.dom_model.specs.Tree.{Trees, none, tree, Node, nodes, has_node, children_of, times_in}
 use Rattle.dom_model.proofs.OwnerLaws.{name_eq-same, name_eq-true}
-use Rattle.dom_worlds.specs.Worlds.{times_in, IsPart}
+use Rattle.dom_worlds.specs.Worlds.{IsPart}
 use Rattle.dom_worlds.proofs.InsideAncestors.{times-has_node}
 use Rattle.dom_worlds.proofs.ChildCounts.{kids, kids-absent, rooted, length-children}
 use Rattle.dom_tree.specs.Forest.{name_at, count_of}
 use Rattle.dom_tree.specs.Owners.{AreOf, AreOwned, trees_of_owner}
-use Rattle.dom_tree.proofs.Once.{one-true, one-false, times_in-none, times_in-tree}
 use Rattle.dom_tree.proofs.Owned.{own_trees}
 use Rattle.dom_parts.specs.Contents.{Contents, part_in}
 use Rattle.dom_parts.specs.Numbering.{AreNumbered}
-use Rattle.dom_parts.proofs.Numbers.{pick_first, pick_second}
-use Rattle.dom_tree_laws.proofs.Once.{name_found, once_forest, once_own}
+use Rattle.dom_parts.proofs.Numbers.{pick_second}
+use Rattle.dom_tree_laws.proofs.Once.{name_found, once_forest, once_own, times_own}
 
 -- ---- an owner's part
-
--- both counts of a name in trees
-pub times_same : (ts : Trees) (x : NodeName) → Rattle.dom_tree.proofs.Once.times_in ts x ≡ times_in ts x
-times_same none x = times_in-none x
-times_same (tree n c r) x =
-    let a = times_in-tree n c r x in let b = times_same c x in let d = times_same r x in
-    elim (cases_Bool (name_eq n.name x)) [
-      | inl h ↦ let e = one-true _ h in let f = pick_first (name_eq n.name x) 1 0 h in omega arith
-      | inr h ↦ let e = one-false _ h in let f = pick_second (name_eq n.name x) 1 0 h in omega arith
-    ]
 
 -- a name in an owner's trees is the owner's
 times_of : (o : Owner) (ts : Trees) → AreOf o ts → (x : NodeName) → 1 ≤ times_in ts x → x.owner ≡ o
@@ -47,22 +36,15 @@ times_of o (tree n c r) of x there = elim (cases_Bool (name_eq n.name x)) [
     either zero b h = inr (omega arith)
     either (suc a) b h = inl (omega arith)
 
--- what an owner's trees have all have
-times_all : (o : Owner) (ts : Trees) (x : NodeName) → times_in (trees_of_owner o ts) x ≤ times_in ts x
-times_all o none x = omega arith
-times_all o (tree n c r) x =
-    let b = times_all o r x in
-    elim (cases_Bool (owner_eq n.name.owner o)) [ inl h ↦ rw h (omega arith) | inr h ↦ rw h (omega arith) ]
-
 module _ (c : Contents) (owned : AreOwned c.trees)
     (once : (k : ℕ) → k < length c.names → count_by (λ n. name_eq n.name (name_at c.names k)) (nodes c.trees) ≡ 1)
     (only : (x : NodeName) → has_node c.trees x ≡ true → (k : ℕ) × (slice_get c.names k ≡ Some x)) (numbered : AreNumbered c.names) (o : Owner) where
   pub own_part : IsPart (part_in c o)
   own_part = record {
-    unique = λ x. let a = once_own o c.trees (once_forest c.names c.trees once only) x in let b = times_same (trees_of_owner o c.trees) x in omega arith;
+    unique = λ x. let a = once_own o c.trees (once_forest c.names c.trees once only) x in omega arith;
     owned = of;
     numbered = λ x there.
-        let key = only x (times-has_node c.trees x (let more = times_all o c.trees x in omega arith)) in
+        let key = only x (times-has_node c.trees x (let more = times_own o c.trees x in omega arith)) in
         let found = name_found c.names key.0 x key.1 in
         let below : x.number < count_of x.owner c.names = subst (λ (y : NodeName). y.number < count_of y.owner c.names) found.1 (numbered key.0 found.0) in
         subst (λ p. x.number < count_of p c.names) (of x there) below;

@@ -5,7 +5,7 @@ use Rattle.std.proofs.lemmas.Bool.{and_parts}
 use Rattle.dom_base.specs.declared.NodeName.{NodeName}
 use Rattle.dom_worlds.specs.Bounds.{HasBounds}
 use Rattle.dom_worlds.specs.Tables.{HasEnds}
-use Rattle.dom_worlds.specs.Worlds.{IsPart, times_in}
+use Rattle.dom_worlds.specs.Worlds.{IsPart}
 use Rattle.dom_worlds.proofs.FitPieces.{IsClonable, common_below, fit-apart, fit-pieces, whole-pieces}
 use Rattle.dom_worlds.proofs.InsideAncestors.{no_parent-root, times-has_node}
 use Rattle.dom_worlds.proofs.KeptOffsets.{make-keeps}
@@ -28,7 +28,7 @@ use Rattle.dom_model.specs.Part.{Part, next_name}
 use Rattle.dom_model.specs.Place.{is_before}
 use Rattle.dom_model.specs.Ranges.{Range, at}
 use Rattle.dom_model.specs.Steps.{make, part_step}
-use Rattle.dom_model.specs.Tree.{Node, node_in, kind_of, has_data, is_shadow, subtree, trees_below, is_inclusive_ancestor}
+use Rattle.dom_model.specs.Tree.{Node, node_in, kind_of, has_data, is_shadow, subtree, trees_below, is_inclusive_ancestor, times_in}
 use Rattle.dom_model.specs.TreeChanges.{with_name}
 use Rattle.dom_range_ops.proofs.TakingParts.{taken-of}
 use Rattle.dom_range_ops.specs.Pieces.{Item, whole_item, cut_item, clone_item, end_item, items_of, made_by}

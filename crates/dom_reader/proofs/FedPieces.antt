@@ -5,8 +5,8 @@ use Rattle.std.proofs.lemmas.List.{map-append}
 use Rattle.memchr.specs.Find.{NoneBefore, Nowhere, Passes, is_byte}
 use Rattle.dom_reader.proofs.Firsts.{cut_at_first, none_found}
 use Rattle.std.proofs.Math.Seq.{take-append_seam}
-use Rattle.dom_text.specs.Lines.{line_feed, Cut, cut_of, kept_line}
-use Rattle.dom_reader.specs.Streams.{IsOneLine, IsKept, kept_cut, fed, after_lines, IsFedPart}
+use Rattle.dom_text.specs.Lines.{line_feed, Cut, cut_of, kept_line, IsOneLine}
+use Rattle.dom_reader.specs.Streams.{IsKept, kept_cut, fed, after_lines, IsFedPart}
 use Rattle.dom_reader.proofs.StreamLaws.{kept_line-none, cut_of-front, cut_of-one_line, one_line-append, fed-none, fed-pieces, fed-is_kept}
 
 -- what is left when bytes were kept, or nothing was done

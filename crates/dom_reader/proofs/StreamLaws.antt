@@ -4,9 +4,9 @@ use Rattle.std.proofs.Common.{◌∙◌, append_assoc, arith, inl, inr}
 use Rattle.std.proofs.lemmas.Bool.{cases_lt}
 use Rattle.std.proofs.lemmas.List.{map-append, length-append, length-take, take_all}
 use Rattle.std.proofs.Math.Seq.{take-append-add}
-use Rattle.dom_text.specs.Lines.{line_feed, lines_of, Cut, byte_before, cut_of, last_line, max_line, kept_line}
+use Rattle.dom_text.specs.Lines.{line_feed, lines_of, Cut, byte_before, cut_of, last_line, max_line, kept_line, IsOneLine}
 use Rattle.dom_text.proofs.LineLaws.{lines_of-cut, cut_of-pieces}
-use Rattle.dom_reader.specs.Streams.{IsOneLine, kept_cut, fed, after_lines, fed_all, stream_of, IsKept}
+use Rattle.dom_reader.specs.Streams.{kept_cut, fed, after_lines, fed_all, stream_of, IsKept}
 
 -- ---- what is kept of a line
 

@@ -1,7 +1,7 @@
 -- Lines as they are kept while their bytes come in pieces.
-use Rattle.std.specs.Prelude.{◌≡◌, ℕ, ◌+◌, ◌≤◌, ◌==◌, false, List, [], ◌∷◌, map, take, ◌++◌, length}
-use Rattle.std.specs.List.{AllByRecursion, flat_map}
-use Rattle.dom_text.specs.Lines.{line_feed, max_line, Cut, cut_of, kept_line, last_line, lines_of}
+use Rattle.std.specs.Prelude.{◌≡◌, ℕ, ◌+◌, ◌≤◌, List, [], ◌∷◌, map, take, ◌++◌, length}
+use Rattle.std.specs.List.{flat_map}
+use Rattle.dom_text.specs.Lines.{line_feed, IsOneLine, max_line, Cut, cut_of, kept_line, last_line, lines_of}
 
 -- a cut as it is kept: of each line, and of the rest, as much as is kept of a line
 abbrev pub kept_cut : Cut → Cut
@@ -27,10 +27,6 @@ fed_all kept (piece ∷ pieces) = after_lines (fed kept piece).finished (fed_all
 -- the bytes that are kept when a front of the piece was fed
 abbrev pub IsFedPart : List ℕ → List ℕ → List ℕ → Type 0
 IsFedPart kept piece left = (n : ℕ) × (left ≡ (fed kept (take n piece)).rest)
-
--- no byte is a line feed
-abbrev pub IsOneLine : List ℕ → Type 0
-IsOneLine bytes = AllByRecursion (λ b. (b == line_feed) ≡ false) bytes
 
 -- bytes of one unfinished line, as many as are kept at most
 pub record IsKept (bytes : List ℕ) : Type 0 where

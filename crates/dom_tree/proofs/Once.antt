@@ -11,7 +11,7 @@ use Rattle.std.proofs.lemmas.List.Sums.{sum_by-cons, sum_by-append}
 use Rattle.dom_base.specs.declared.Owner.{Owner}
 use Rattle.dom_base.specs.declared.NodeName.{NodeName}
 use Rattle.dom_model.specs.Names.{name_eq, name_before, is_in}
-use Rattle.dom_model.specs.Tree.{Trees, none, tree, Node, nodes as nodes_in, names_of, has_node}
+use Rattle.dom_model.specs.Tree.{Trees, none, tree, Node, nodes as nodes_in, names_of, has_node, times_in}
 use Rattle.node_arena.specs.Nodes.{children_of, contains, parent_of, ancestors_of, IsForest, IsOnce}
 use Rattle.node_arena.proofs.Forests.{cases_Option, contains-no_parent, contains-parent, parent_within, ancestors_of-child}
 use Rattle.dom_tree.specs.Contents.{Stored}
@@ -116,23 +116,22 @@ times-child nodes lists x p e =
     times-absent x (root_keys nodes lists)
     (false_from_ne_true _ (λ found. true≢false (sym ((passing-within nodes (is_root lists) (length lists) x found).1) ∙ ap is_none e)))
 
--- how often a name stands in trees
-pub times_in : Trees → NodeName → ℕ
-times_in ts x = count_by (λ n. name_eq n.name x) (nodes_in ts)
-
 pub times_in-none : (x : NodeName) → times_in none x ≡ 0
-unfolding times_in
 times_in-none x = refl
 
 pub times_in-tree : (n : Node) (c r : Trees) (x : NodeName) → times_in (tree n c r) x ≡ one (name_eq n.name x) + (times_in c x + times_in r x)
-unfolding times_in
-times_in-tree n c r x =
-    omega (
-      arith,
-      count-cons (λ (m : Node). name_eq m.name x) n (nodes_in c ++ nodes_in r),
-      count-append (λ (m : Node). name_eq m.name x)
-          (nodes_in c) (nodes_in r),
-    )
+unfolding one
+times_in-tree n c r x = omega arith
+
+-- how many nodes of trees have a name, as a clause says it
+pub times_count : (ts : Trees) (x : NodeName) → times_in ts x ≡ count_by (λ n. name_eq n.name x) (nodes_in ts)
+times_count none x = refl
+times_count (tree n c r) x =
+    let below = times_count c x in
+    let rest = times_count r x in
+    let all = count-cons (λ (m : Node). name_eq m.name x) n (nodes_in c ++ nodes_in r) in
+    let apart = count-append (λ (m : Node). name_eq m.name x) (nodes_in c) (nodes_in r) in
+    omega (arith, times_in-tree n c r x)
 
 -- a node with a parent stands in trees as often as its parent does, besides where it is a root
 times_in-child : (nodes : List Node) (lists : List (List ℕ)) → IsNamed nodes → IsForest lists → (p x : ℕ) (q m : Node) →
@@ -231,10 +230,9 @@ shows_distinct {f = f} {ps = ps} {lists = lists} {keys = keys} is kept j k at_j 
 
 pub shows_once : {f : NamedTrees} {ps : List Stored} {lists : List (List ℕ)} {keys : Owner → List ℕ} → seen ps lists ≡ f → IsKept ps lists keys
     → (k : ℕ) → k < length f.names → count_by (λ n. name_eq n.name (name_at f.names k)) (nodes_in f.trees) ≡ 1
-unfolding times_in
 shows_once {f = f} {ps = ps} {lists = lists} {keys = keys} is kept k node =
     let inside = within is kept k node in
-    subst (λ (g : NamedTrees). times_in g.trees (name_at g.names k) ≡ 1) is
+    sym (times_count f.trees (name_at f.names k)) ∙ subst (λ (g : NamedTrees). times_in g.trees (name_at g.names k) ≡ 1) is
     (ap (times_in (trees_of (nodes_of ps) lists)) (name_at-same (stored_names ps) ps k)
     ∙ once-within (nodes_of ps) lists (IsWhole-kept kept) (length (ancestors_of lists k)) k (omega arith) (omega (arith, kept.paired)))
 

@@ -7,12 +7,12 @@ use Rattle.std.proofs.lemmas.List.{map-append}
 use Rattle.std.proofs.lemmas.Option.{none-some, same_Some}
 use Rattle.dom_base.specs.declared.NodeName.{NodeName}
 use Rattle.dom_model.specs.Names.{name_eq}
-use Rattle.dom_model.specs.Tree.{Trees, none, tree, Node, nodes as nodes_in, names_of, subtree, or_else}
+use Rattle.dom_model.specs.Tree.{Trees, none, tree, Node, nodes as nodes_in, names_of, subtree, or_else, times_in}
 use Rattle.node_arena.specs.Nodes.{children_of, contains, IsOnce}
 use Rattle.node_arena.proofs.Lists.{contains-append, contains-head, IsOnce-append_left, IsOnce-append_right, IsOnce-apart, head_or, head_or-append}
 use Rattle.node_arena.proofs.Lists.{next_from, next_from-append}
 use Rattle.dom_tree.proofs.Rows.{Stands, same_name, name_of_key, IsNamed}
-use Rattle.dom_tree.proofs.Once.{one, one-true, times, times-nil, times-cons, times-append, times-present, times_in, times_in-none, times_in-tree}
+use Rattle.dom_tree.proofs.Once.{one, one-true, times, times-nil, times-cons, times-append, times-present, times_in-none, times_in-tree}
 
 -- the keys for which trees stand, in tree order
 abbrev pub in_trees : List (List ℕ) → Trees → List ℕ → List ℕ

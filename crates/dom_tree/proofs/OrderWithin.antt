@@ -8,7 +8,7 @@ use Rattle.std.proofs.lemmas.Bool.Decides.{eqb_tells}
 use Rattle.std.proofs.lemmas.Option.{none-some, slice_get_within}
 use Rattle.dom_base.specs.declared.Owner.{Owner}
 use Rattle.dom_model.specs.Names.{name_eq, first_of, items_after}
-use Rattle.dom_model.specs.Tree.{Trees, none, tree, Node, subtree, inclusive_descendants}
+use Rattle.dom_model.specs.Tree.{Trees, none, tree, Node, subtree, inclusive_descendants, times_in}
 use Rattle.node_arena.specs.Nodes.{children_of, contains, parent_of, ancestors_of, IsForest, IsOnce, head_of, next_in, next_of}
 use Rattle.node_arena.proofs.Lists.{head_or}
 use Rattle.node_arena.proofs.Lists.{next_from, next_in_is}
@@ -20,7 +20,7 @@ use Rattle.dom_tree.proofs.Rows.{Stands, name_of_key}
 use Rattle.dom_tree.proofs.Changes.{IsWhole, subtree_here}
 use Rattle.dom_tree.proofs.Reading.{name_of_key-eq, first_of-items_after, Tells}
 use Rattle.dom_tree.proofs.Kept.{seen, IsWhole-kept, name_at-same, names_option, within}
-use Rattle.dom_tree.proofs.Once.{times, times_in, once-within}
+use Rattle.dom_tree.proofs.Once.{times, once-within}
 use Rattle.dom_tree.proofs.Order.{in_trees, name_here, names-in_trees, root-in_trees, child-in_trees, key-in_trees, times-in_trees, times_in-subtree}
 use Rattle.dom_tree.proofs.Order.{IsOnce-times, behind, behind-child, next-in_trees}
 

@@ -6,11 +6,12 @@ use Rattle.std.proofs.lemmas.Bool.{cases_Bool, cond-true, cond-false}
 use Rattle.std.proofs.Math.Bool.{or-false}
 use Rattle.dom_base.specs.declared.NodeName.{NodeName}
 use Rattle.dom_model.specs.Names.{name_eq, is_in, first_of, items_before, items_after}
-use Rattle.dom_model.specs.Tree.{Trees, none, tree, Node, nodes, names_of, subtree, or_else, inclusive_ancestors, is_inclusive_ancestor, inclusive_descendants}
+use Rattle.dom_model.specs.Tree.{Trees, none, tree, Node, nodes, names_of, subtree, or_else, inclusive_ancestors, is_inclusive_ancestor, times_in}
+use Rattle.dom_model.specs.Tree.{inclusive_descendants}
 use Rattle.dom_model.specs.TreeChanges.{map_nodes, change_node, with_document, under_document}
 use Rattle.dom_model.proofs.OwnerLaws.{name_eq-same, name_eq-true, name_eq-turned}
 use Rattle.dom_tree.specs.Forest.{NamedTrees, name_at}
-use Rattle.dom_tree.proofs.Once.{times_in, times_in-none, times_in-tree, one-false}
+use Rattle.dom_tree.proofs.Once.{times_in-none, times_in-tree, one-false}
 use Rattle.std.proofs.lemmas.List.{map-append}
 use Rattle.dom_tree_laws.proofs.Paths.{path_gone, times_none, IsOnce, Lacks, lacks_from, lacks_to}
 use Rattle.dom_tree_laws.proofs.Relatives.{NoTwice, path_mapped, once_subtree}

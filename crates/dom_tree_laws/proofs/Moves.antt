@@ -3,10 +3,10 @@ use Rattle.std.proofs.Common.{◌≡◌, ℕ, zero, suc, ◌≤◌, ◌⊎◌, i
 use Rattle.std.proofs.lemmas.Bool.{cases_Bool, cond-true, cond-false}
 use Rattle.dom_base.specs.declared.NodeName.{NodeName}
 use Rattle.dom_model.specs.Names.{name_eq, name_before, first_of}
-use Rattle.dom_model.specs.Tree.{Trees, none, tree, Node, subtree, or_else, on_top, inclusive_ancestors, parent_of}
+use Rattle.dom_model.specs.Tree.{Trees, none, tree, Node, subtree, or_else, on_top, inclusive_ancestors, parent_of, times_in}
 use Rattle.dom_model.specs.TreeChanges.{without, followed_by, put_before, put_below, put_root, taken_out, placed, is_given}
 use Rattle.dom_model.proofs.OwnerLaws.{name_eq-true}
-use Rattle.dom_tree.proofs.Once.{times_in, times_in-none, times_in-tree, one-true, one-false}
+use Rattle.dom_tree.proofs.Once.{times_in-none, times_in-tree, one-true, one-false}
 use Rattle.dom_tree_laws.proofs.Paths.{Lacks, lacks_front, lacks_back, lacks_both, apart_not, swapped, IsOnce, once_parts, times_none, path_here}
 use Rattle.dom_tree_laws.proofs.Paths.{path_after, path_below, path_none, path_gone, path_lacks, path_head, times_or_else, times_subtree}
 use Rattle.dom_tree_laws.proofs.Paths.{path_without}

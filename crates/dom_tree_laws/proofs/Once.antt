@@ -8,32 +8,21 @@ use Rattle.dom_base.specs.declared.NodeName.{NodeName}
 use Rattle.dom_base.specs.declared.Owner.TheVariants.{Page}
 use Rattle.dom_base.specs.declared.Owner.{Owner}
 use Rattle.dom_model.specs.Names.{owner_eq, name_eq, node_of}
-use Rattle.dom_model.specs.Tree.{Trees, none, tree, Node, nodes, names_of, has_node}
+use Rattle.dom_model.specs.Tree.{Trees, none, tree, Node, nodes, names_of, has_node, times_in}
 use Rattle.dom_model.proofs.OwnerLaws.{name_eq-same}
 use Rattle.dom_tree.specs.Forest.{name_at}
 use Rattle.dom_tree.specs.Owners.{trees_of_owner}
-use Rattle.dom_tree.proofs.Once.{times_in, times_in-none, times_in-tree, one-true, one-false, count-append, one}
+use Rattle.dom_tree.proofs.Once.{times_in-none, times_in-tree, one-true, one-false, times_count}
 use Rattle.dom_tree.proofs.Reach.{reaches, has_node-reaches}
 use Rattle.dom_tree_laws.proofs.Paths.{IsOnce, Lacks, swapped, once_parts, times_none}
 use Rattle.dom_tree_laws.proofs.Relatives.{NoTwice, Each, each_all}
-
--- how often a name stands in trees, as a clause says it
-pub times_count : (ts : Trees) (x : NodeName) → times_in ts x ≡ count_by (λ n. name_eq n.name x) (nodes ts)
-times_count none x = times_in-none x
-times_count (tree n c r) x =
-    let a = times_in-tree n c r x in let b = times_count c x in let d = times_count r x in
-    let e = sum_by-cons (λ (m : Node). cond (name_eq m.name x) 1 0) n (nodes c ++ nodes r) in
-    let f = count-append (λ (m : Node). name_eq m.name x) (nodes c) (nodes r) in
-    let g : one (name_eq n.name x) ≡ cond (name_eq n.name x) 1 0 =
-    elim (cases_Bool (name_eq n.name x)) [ inl h ↦ one-true _ h ∙ rw h refl | inr h ↦ one-false _ h ∙ rw h refl ] in
-    omega arith
 
 -- from that clause
 pub once_counted : (ts : Trees) → ((x : NodeName) → count_by (λ n. name_eq n.name x) (nodes ts) ≤ 1) → IsOnce ts
 once_counted ts h x = let a = times_count ts x in let b = h x in omega arith
 
 -- an owner's own trees are some of all
-times_own : (o : Owner) (ts : Trees) (x : NodeName) → times_in (trees_of_owner o ts) x ≤ times_in ts x
+pub times_own : (o : Owner) (ts : Trees) (x : NodeName) → times_in (trees_of_owner o ts) x ≤ times_in ts x
 times_own o none x = omega arith
 times_own o (tree n c r) x =
     let a = times_in-tree n c r x in let b = times_own o r x in

@@ -4,10 +4,10 @@ use Rattle.std.proofs.Common.{◌≡◌, ◌≢◌, ◌+◌, ◌≤◌, inl, inr
 use Rattle.std.proofs.lemmas.Bool.{cases_Bool, cond-true, cond-false, or_parts, or_from}
 use Rattle.dom_base.specs.declared.NodeName.{NodeName}
 use Rattle.dom_model.specs.Names.{name_eq, is_in}
-use Rattle.dom_model.specs.Tree.{Trees, none, tree, Node, subtree, or_else, on_top, inclusive_ancestors}
+use Rattle.dom_model.specs.Tree.{Trees, none, tree, Node, subtree, or_else, on_top, inclusive_ancestors, times_in}
 use Rattle.dom_model.specs.TreeChanges.{without}
 use Rattle.dom_model.proofs.OwnerLaws.{name_eq-same, name_eq-true, name_eq-turned}
-use Rattle.dom_tree.proofs.Once.{one, times_in, times_in-none, times_in-tree, one-true, one-false}
+use Rattle.dom_tree.proofs.Once.{one, times_in-none, times_in-tree, one-true, one-false}
 
 -- ---- names that a list has not
 

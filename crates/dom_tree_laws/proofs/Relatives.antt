@@ -5,10 +5,10 @@ use Rattle.std.proofs.lemmas.Bool.{cases_Bool, cond-true, cond-false}
 use Rattle.dom_base.specs.declared.NodeName.{NodeName}
 use Rattle.dom_model.specs.Names.{name_eq, first_of, items_after}
 use Rattle.dom_model.specs.Tree.{Trees, none, tree, Node, roots, names_of, subtree, or_else, trees_below, inclusive_ancestors, parent_of, children_of}
-use Rattle.dom_model.specs.Tree.{next_sibling}
+use Rattle.dom_model.specs.Tree.{next_sibling, times_in}
 use Rattle.dom_model.specs.TreeChanges.{map_nodes}
 use Rattle.dom_model.proofs.OwnerLaws.{name_eq-same, name_eq-true}
-use Rattle.dom_tree.proofs.Once.{times_in, times_in-tree, one-true}
+use Rattle.dom_tree.proofs.Once.{times_in-tree, one-true}
 use Rattle.dom_tree_laws.proofs.Paths.{Lacks, apart_not, IsOnce, once_parts, times_none, path_here, path_beside, path_after, path_below, path_none}
 use Rattle.dom_tree_laws.proofs.Paths.{path_gone, path_some, path_head, times_or_else, times_subtree}
 use Rattle.dom_tree_laws.proofs.Moves.{none_or_some}

@@ -6,6 +6,7 @@ use Rattle.std.specs.List.{AllByRecursion}
 use Rattle.std.specs.Option.{option_map_or}
 use Rattle.std.proofs.lemmas.Bool.{cond-true, cond-false, and_parts, or_parts, not-false, ltb-false, leb-true, leb-false}
 use Rattle.dom_base.specs.declared.NodeName.{NodeName}
+use Rattle.dom_model.specs.Tree.{times_in}
 use Rattle.dom_model.specs.Names.{Word, DomString, name_eq, is_in}
 use Rattle.dom_model.specs.Tree.{Trees, Node, node_in, no_node, kind_of, has_data, parent_of, index_of, length_of, inclusive_descendants, is_inclusive_ancestor}
 use Rattle.dom_model.specs.TreeChanges.{map_nodes, replaced, taken_out, placed, with_name, with_document, with_data_replaced, with_attribute}
@@ -16,7 +17,7 @@ use Rattle.dom_model.specs.Part.{Part, next_name}
 use Rattle.dom_model.specs.Steps.{make, make_room, place, take_out, set_document, set_attribute, replace_data, split_at, join_at, set_range}
 use Rattle.dom_model.specs.Steps.{queue_record, part_step, leave}
 use Rattle.dom_model.proofs.OwnerLaws.{name_eq-true, name_eq-turned}
-use Rattle.dom_worlds.specs.Worlds.{times_in, IsPart}
+use Rattle.dom_worlds.specs.Worlds.{IsPart}
 use Rattle.dom_worlds.proofs.Insides.{times-taken_out_all}
 use Rattle.dom_worlds.proofs.ChildCounts.{kids, kids-absent, one_at, kids-taken_out, kids-placed, kids-with_node, kids-map_nodes, index-below}
 use Rattle.dom_worlds.proofs.NodesRead.{node-taken_out, node-placed, node-with_node, node-map_nodes, length-data, length-kids, length-absent}

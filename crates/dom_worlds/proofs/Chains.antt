@@ -8,12 +8,12 @@ use Rattle.std.specs.Option.{option_and_then}
 use Rattle.dom_base.specs.declared.Owner.{Owner}
 use Rattle.dom_base.specs.declared.NodeName.{NodeName}
 use Rattle.dom_model.specs.Names.{name_eq, owner_eq, owner_depth, is_in}
-use Rattle.dom_model.specs.Tree.{names_of, roots, root_of}
+use Rattle.dom_model.specs.Tree.{names_of, roots, root_of, times_in}
 use Rattle.dom_model.specs.World.{World, part_of, trees_with, root_at, ancestors_at, host_of, host_above, host_chain, hosts_from, some_if}
 use Rattle.dom_model.specs.World.{shadow_root_of, shadow_including_ancestors, is_in_shadow_tree}
 use Rattle.dom_model.specs.Paths.{is_hidden_from}
 use Rattle.dom_model.proofs.OwnerLaws.{owner_eq-true, owner_eq-same, ne-owner_eq, name_eq-same, made_by-is, depth-made, name_eq-true}
-use Rattle.dom_worlds.specs.Worlds.{IsWorld, IsOf, times_in}
+use Rattle.dom_worlds.specs.Worlds.{IsWorld, IsOf}
 use Rattle.dom_worlds.proofs.ShadowTrees.{IsInTree, in_tree, ancestors-owned, not_in}
 use Rattle.dom_worlds.proofs.Lists.{all-then}
 use Rattle.dom_worlds.proofs.Makers.{hosted, hosted-owned, hosted-no_page}

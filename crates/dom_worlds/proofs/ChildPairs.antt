@@ -5,11 +5,12 @@ use Rattle.std.specs.Prelude.{if◌then◌else◌}
 use Rattle.std.specs.List.{AllByRecursion}
 use Rattle.std.proofs.lemmas.Bool.{cond-true, cond-false}
 use Rattle.dom_base.specs.declared.NodeName.{NodeName}
+use Rattle.dom_model.specs.Tree.{times_in}
 use Rattle.dom_model.specs.Names.{name_eq, is_in, first_of}
 use Rattle.dom_model.specs.Tree.{Trees, none, tree, Node, names_of, roots, subtree, or_else, trees_below, children_of, parent_of, inclusive_ancestors, on_top}
 use Rattle.dom_model.specs.TreeChanges.{followed_by, without, put_before, put_below, put_root, taken_out, placed, with_node, map_nodes}
 use Rattle.dom_model.proofs.OwnerLaws.{name_eq-same, name_eq-turned, name_eq-true}
-use Rattle.dom_worlds.specs.Worlds.{times_in, times_among}
+use Rattle.dom_worlds.specs.Worlds.{times_among}
 use Rattle.dom_worlds.proofs.Insides.{inside, times-inside, times-parted, without-absent, or_else-none}
 use Rattle.dom_worlds.proofs.ChildCounts.{rooted, kids}
 use Rattle.dom_worlds.proofs.ReachedFacts.{root-alone}

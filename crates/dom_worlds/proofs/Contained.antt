@@ -7,12 +7,12 @@ use Rattle.std.specs.List.{AllByRecursion}
 use Rattle.std.specs.Option.{option_or}
 use Rattle.std.proofs.lemmas.Bool.{cond-true, cond-false, ltb-true, eqb-true, false_from_ne_true, eq-eqb}
 use Rattle.dom_base.specs.declared.NodeName.{NodeName}
+use Rattle.dom_model.specs.Tree.{times_in}
 use Rattle.dom_model.specs.Names.{name_eq, is_in, items_before}
 use Rattle.dom_model.specs.Place.{place_from, list_before, boundary_place, is_before}
 use Rattle.dom_model.specs.Ranges.{Range, at}
 use Rattle.dom_model.specs.Tree.{Trees, none, tree, Node, names_of, roots, subtree, or_else, trees_below, children_of, parent_of, is_inclusive_ancestor}
 use Rattle.dom_model.proofs.OwnerLaws.{name_eq-same, name_eq-turned, name_eq-true}
-use Rattle.dom_worlds.specs.Worlds.{times_in}
 use Rattle.dom_worlds.proofs.Descents.{ancestor-inside}
 use Rattle.dom_worlds.proofs.Insides.{or_else-none}
 use Rattle.dom_worlds.proofs.InsideAncestors.{parent-there}

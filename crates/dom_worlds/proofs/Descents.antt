@@ -6,11 +6,10 @@ use Rattle.std.specs.List.{AllByRecursion}
 use Rattle.std.proofs.lemmas.Bool.{cond-true, cond-false}
 use Rattle.dom_base.specs.declared.NodeName.{NodeName}
 use Rattle.dom_model.specs.Names.{name_eq, is_in, items_before}
-use Rattle.dom_model.specs.Tree.{Trees, none, tree, Node, nodes, names_of, roots, subtree, or_else, trees_below, inclusive_ancestors}
+use Rattle.dom_model.specs.Tree.{Trees, none, tree, Node, nodes, names_of, roots, subtree, or_else, trees_below, inclusive_ancestors, times_in}
 use Rattle.dom_model.specs.Tree.{inclusive_descendants, is_inclusive_ancestor, on_top}
 use Rattle.dom_model.specs.TreeChanges.{without, put_before, put_below, placed, with_node}
 use Rattle.dom_model.proofs.OwnerLaws.{name_eq-same, name_eq-turned, name_eq-true}
-use Rattle.dom_worlds.specs.Worlds.{times_in}
 use Rattle.dom_worlds.proofs.Lists.{all-then, all-append, all-from}
 use Rattle.dom_worlds.proofs.Tests.{by_cases, or-later}
 use Rattle.dom_worlds.proofs.Trees.{IsUnique, by_times, times-here, times-elsewhere, times-more, times-parts, times-subtree, subtree-absent}

@@ -5,7 +5,7 @@ use Rattle.std.specs.Prelude.{if◌then◌else◌}
 use Rattle.std.proofs.lemmas.Bool.{cond-true, and_parts, not-true}
 use Rattle.dom_base.specs.declared.NodeName.{NodeName}
 use Rattle.dom_model.specs.Names.{DomString, name_eq}
-use Rattle.dom_model.specs.Tree.{Trees, none, tree, Node, node_in, kind_of, has_data, subtree, trees_below, length_of, is_inclusive_ancestor}
+use Rattle.dom_model.specs.Tree.{Trees, none, tree, Node, node_in, kind_of, has_data, subtree, trees_below, length_of, is_inclusive_ancestor, times_in}
 use Rattle.dom_model.specs.TreeChanges.{with_name}
 use Rattle.dom_model.specs.Part.{Part, next_name}
 use Rattle.dom_model.specs.Place.{Boundary, is_before}
@@ -16,7 +16,7 @@ use Rattle.dom_model.specs.TextChanges.{replacing_data}
 use Rattle.dom_model.specs.Extract.{Pieces, nothing, cut, tree_holding, pieces_of, common_ancestor, is_in_one_data, clone_part}
 use Rattle.dom_model.specs.Extract.{making_below, taking, new_fragment_node, own_document, new_place, both_at, extracting}
 use Rattle.dom_model.proofs.OwnerLaws.{name_eq-same, name_eq-true}
-use Rattle.dom_worlds.specs.Worlds.{times_in, IsPart, AllNodes}
+use Rattle.dom_worlds.specs.Worlds.{IsPart, AllNodes}
 use Rattle.dom_worlds.proofs.Bounds.{nowhere, HasRoom, room-make}
 use Rattle.dom_worlds.proofs.Bounds as bounds
 use Rattle.dom_worlds.proofs.Contained.{IsSpared}

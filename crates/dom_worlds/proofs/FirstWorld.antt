@@ -10,14 +10,14 @@ use Rattle.dom_base.specs.declared.NodeName.{NodeName}
 use Rattle.dom_base.specs.declared.Kind.{Kind}
 use Rattle.dom_base.specs.declared.Kind.TheVariants.{Document, Shadow}
 use Rattle.dom_model.specs.Names.{owner_eq, name_eq, node_of}
-use Rattle.dom_model.specs.Tree.{none, tree, node_in}
+use Rattle.dom_model.specs.Tree.{none, tree, node_in, times_in}
 use Rattle.dom_model.specs.Part.{Part, empty_part}
 use Rattle.dom_model.specs.World.{World, part_of, with_part, is_there, host_of, component_made, MayAttach, shadow_root_of}
 use Rattle.dom_model.specs.DocumentMachine.{first_world, new_root, part_with_root, attaching}
 use Rattle.dom_model.proofs.OwnerLaws.{owner_eq-true, owner_eq-false, name_eq-same, made_by-is, component_made-other, name_eq-true}
 use Rattle.dom_model.proofs.PartLaws.{part_of-with_part, part_of-with_part-other, owner-part_of}
 use Rattle.dom_worlds.specs.Reached.{Invariant}
-use Rattle.dom_worlds.specs.Worlds.{times_in, IsPart, IsRoot, IsOf, OnlyLogs}
+use Rattle.dom_worlds.specs.Worlds.{IsPart, IsRoot, IsOf, OnlyLogs}
 use Rattle.dom_worlds.proofs.Lists.{all-append}
 use Rattle.dom_worlds.proofs.Makers.{hosted}
 use Rattle.dom_worlds.proofs.Tests.{by_cases}

@@ -3,6 +3,7 @@ use Rattle.std.proofs.Common.{zero, suc, ◌≡◌, ◌≤◌, ◌<◌, ℕ, Boo
 use Rattle.std.proofs.Common.{◌∙◌, arith, subst, append-nil}
 use Rattle.dom_base.specs.declared.NodeName.{NodeName}
 use Rattle.dom_base.specs.declared.Owner.{Owner}
+use Rattle.dom_model.specs.Tree.{times_in}
 use Rattle.dom_model.specs.Names.{name_eq, first_of, owner_depth}
 use Rattle.dom_model.specs.Paths.{way_up, whole_path, event_parent, FollowsParents}
 use Rattle.dom_model.specs.World.{World, part_of, trees_with, root_at, host_of, host_above, host_chain, shadow_root_of}
@@ -10,7 +11,7 @@ use Rattle.dom_model.proofs.OwnerLaws.{name_eq-same}
 use Rattle.dom_worlds.specs.Follows.{PathFollowsParents}
 use Rattle.dom_worlds.specs.Reached.{IsReached}
 use Rattle.dom_worlds.specs.Tables.{IsNodeIn, IsWhole}
-use Rattle.dom_worlds.specs.Worlds.{times_in, IsWorld}
+use Rattle.dom_worlds.specs.Worlds.{IsWorld}
 use Rattle.dom_worlds.proofs.Chains.{root-owned, above-host, below-host, hosts-alone, chain-below, other-owner}
 use Rattle.dom_worlds.proofs.FollowPaths.{Runs, runs-join, node-way, root-out, root-shut, root-loose}
 use Rattle.dom_worlds.proofs.KindLines.{has_node-times}

@@ -13,13 +13,13 @@ use Rattle.dom_base.specs.declared.Owner.TheVariants.{Page, Component}
 use Rattle.dom_model.specs.Names.{name_eq, first_of, last_of, owner_depth, max_depth}
 use Rattle.dom_model.specs.Paths.{with_slots, way_up, event_parent}
 use Rattle.dom_model.specs.Slots.{slot_in, slot_of}
-use Rattle.dom_model.specs.Tree.{Trees, is_shadow, inclusive_ancestors, parent_of, root_of}
+use Rattle.dom_model.specs.Tree.{Trees, is_shadow, inclusive_ancestors, parent_of, root_of, times_in}
 use Rattle.dom_model.specs.World.{World, part_of, trees_with, node_at, kind_at, root_at, parent_at, ancestors_at, component_at, host_of, host_above}
 use Rattle.dom_model.specs.World.{shadow_root_of, shadow_tree, some_if, MayAttach}
 use Rattle.dom_model.proofs.OwnerLaws.{name_eq-same, depth-maker}
 use Rattle.dom_model.proofs.StepLaws.{Component-IsNoPage}
 use Rattle.dom_worlds.specs.Reached.{IsReached}
-use Rattle.dom_worlds.specs.Worlds.{times_in, MayBeShadow, IsOf, IsWorld}
+use Rattle.dom_worlds.specs.Worlds.{MayBeShadow, IsOf, IsWorld}
 use Rattle.dom_worlds.proofs.Chains.{IsBelow, above-host, root-owned}
 use Rattle.dom_worlds.proofs.ShadowTrees.{owned-in, ancestors-owned, IsInTree, slot-in_tree, slot_in-there}
 use Rattle.dom_worlds.proofs.InsideAncestors.{parent-there, child-there, no_parent-root}

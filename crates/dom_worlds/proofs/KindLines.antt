@@ -15,7 +15,7 @@ use Rattle.dom_base.specs.declared.Refusal.TheVariants.{NotSupported, Limit}
 use Rattle.dom_base.specs.declared.TheConstants.{MAX_COMPONENTS}
 use Rattle.dom_base.specs.Owners.{may_attach}
 use Rattle.dom_model.specs.Names.{name_eq, is_in}
-use Rattle.dom_model.specs.Tree.{Trees, none, tree, Node, nodes, names_of, node_in, kind_of, has_node, no_node, is_element}
+use Rattle.dom_model.specs.Tree.{Trees, none, tree, Node, nodes, names_of, node_in, kind_of, has_node, no_node, is_element, times_in}
 use Rattle.dom_model.specs.Command.{Command, Line, no_owner, no_command, command, NodeWord}
 use Rattle.dom_model.specs.CommandNames.{named, nodes_exist}
 use Rattle.dom_model.specs.CommandRefusals.{is_command_of, part_refusal, may_be_host}
@@ -28,7 +28,7 @@ use Rattle.dom_model.specs.World.{World, part_of, with_part, component_made, sha
 use Rattle.dom_model.proofs.OwnerLaws.{component_made-no_page, name_eq-turned, name_eq-true}
 use Rattle.dom_model.proofs.KindLaws.{is_element-is}
 use Rattle.dom_worlds.specs.Reached.{Invariant}
-use Rattle.dom_worlds.specs.Worlds.{times_in, AllNodes, IsElementAt, IsHost, MayBeShadow, times_among, HasKinds, IsThere}
+use Rattle.dom_worlds.specs.Worlds.{AllNodes, IsElementAt, IsHost, MayBeShadow, times_among, HasKinds, IsThere}
 use Rattle.dom_worlds.proofs.TableEffects.{base-effect}
 use Rattle.dom_worlds.proofs.LineBegins.{IsPageTime, page_time, quiet-opening, quiet-ending_other, part_of-opening}
 use Rattle.dom_worlds.proofs.Lists.{all-append, all-then}

@@ -5,10 +5,10 @@ use Rattle.std.specs.List.{AllByRecursion}
 use Rattle.std.proofs.lemmas.Bool.{cond-true, cond-false}
 use Rattle.dom_base.specs.declared.NodeName.{NodeName}
 use Rattle.dom_model.specs.Names.{name_eq}
-use Rattle.dom_model.specs.Tree.{Trees, none, tree, Node, nodes, node_in, no_node, kind_of, has_data, children_of, length_of}
+use Rattle.dom_model.specs.Tree.{Trees, none, tree, Node, nodes, node_in, no_node, kind_of, has_data, children_of, length_of, times_in}
 use Rattle.dom_model.specs.TreeChanges.{taken_out, placed, with_node, map_nodes}
 use Rattle.dom_model.proofs.OwnerLaws.{name_eq-same}
-use Rattle.dom_worlds.specs.Worlds.{times_in, AllNodes}
+use Rattle.dom_worlds.specs.Worlds.{AllNodes}
 use Rattle.dom_worlds.proofs.Insides.{inside, times-taken_out_all, times-placed_all}
 use Rattle.dom_worlds.proofs.KindLines.{all-found}
 use Rattle.dom_worlds.proofs.NodeKinds.{name-node_in}

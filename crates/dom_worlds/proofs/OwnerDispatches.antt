@@ -5,6 +5,7 @@ use Rattle.std.specs.Prelude.{if◌then◌else◌, option_to_list}
 use Rattle.std.specs.List.{AllByRecursion}
 use Rattle.dom_base.specs.declared.Owner.{Owner}
 use Rattle.dom_base.specs.declared.NodeName.{NodeName}
+use Rattle.dom_model.specs.Tree.{times_in}
 use Rattle.dom_model.specs.Names.{name_eq, max_depth}
 use Rattle.dom_model.specs.Command.{EventWords}
 use Rattle.dom_model.specs.Dispatch.{world_visit, visits_of, visit_of, is_at_target, dispatch_in}
@@ -18,7 +19,7 @@ use Rattle.dom_model.specs.World.{World, Task, micro_task, notify_task, part_of,
 use Rattle.dom_model.specs.World.{host_chain}
 use Rattle.dom_model.proofs.PartLaws.{owner-part_of}
 use Rattle.dom_worlds.specs.Reached.{Invariant}
-use Rattle.dom_worlds.specs.Worlds.{IsWorld, times_in, owners_in, IsThere, task_owner}
+use Rattle.dom_worlds.specs.Worlds.{IsWorld, owners_in, IsThere, task_owner}
 use Rattle.dom_worlds.proofs.SameInvariant.{there-with_part}
 use Rattle.dom_worlds.proofs.Lists.{all-append, all-filter, all-then, all-flat_map, all-map, all-take_while, all-reverse, all-from}
 use Rattle.dom_worlds.proofs.Tests.{either_way}

@@ -9,11 +9,12 @@ use Rattle.std.proofs.lemmas.Bool.{cond-true, cond-false, false_from_ne_true}
 use Rattle.dom_base.specs.declared.Owner.{Owner}
 use Rattle.dom_base.specs.declared.Owner.TheVariants.{Page}
 use Rattle.dom_base.specs.declared.NodeName.{NodeName}
+use Rattle.dom_model.specs.Tree.{times_in}
 use Rattle.dom_model.specs.Names.{owner_eq, first_of}
 use Rattle.dom_model.specs.Part.{Part, empty_part}
 use Rattle.dom_model.specs.World.{World, find_part, put_part, part_of, is_there, host_of, component_made, made_by, MayAttach}
 use Rattle.dom_model.proofs.OwnerLaws.{owner_eq-same, owner_eq-true, owner_eq-false, ne-owner_eq, made_by-is, component_made-number, component_made-no_page}
-use Rattle.dom_worlds.specs.Worlds.{times_in, components_of, is_made_by, is_unmade, owners_in, IsThere, HasMakers, HasOwners}
+use Rattle.dom_worlds.specs.Worlds.{components_of, is_made_by, is_unmade, owners_in, IsThere, HasMakers, HasOwners}
 use Rattle.dom_worlds.proofs.Lists.{get-below, get-there}
 use Rattle.dom_worlds.proofs.Makers.{hosted, host_of-made}
 use Rattle.dom_worlds.proofs.Tests.{by_cases, which_way, or-later, or-first, or-second, or-neither, or-earlier}

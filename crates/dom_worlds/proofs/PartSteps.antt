@@ -5,13 +5,13 @@ use Rattle.std.specs.List.{AllByRecursion}
 use Rattle.std.specs.Option.{option_map_or}
 use Rattle.dom_base.specs.declared.NodeName.{NodeName}
 use Rattle.dom_model.specs.Names.{Word, DomString, name_eq, is_in}
-use Rattle.dom_model.specs.Tree.{Trees, none, tree, Node, parent_of, inclusive_descendants}
+use Rattle.dom_model.specs.Tree.{Trees, none, tree, Node, parent_of, inclusive_descendants, times_in}
 use Rattle.dom_model.specs.TreeChanges.{map_nodes, with_name, with_document, with_data_replaced, with_attribute}
 use Rattle.dom_model.specs.Part.{Part, next_name}
 use Rattle.dom_model.specs.Steps.{Step, make, place, take_out, set_document, set_attribute, replace_data, part_step, leave}
 use Rattle.dom_model.proofs.StepLaws.{owner-part_step}
 use Rattle.dom_model.proofs.OwnerLaws.{name_eq-true}
-use Rattle.dom_worlds.specs.Worlds.{times_in, AllNodes, IsShadowAt, IsRoot, IsPart}
+use Rattle.dom_worlds.specs.Worlds.{AllNodes, IsShadowAt, IsRoot, IsPart}
 use Rattle.dom_worlds.proofs.Tests.{by_cases}
 use Rattle.dom_worlds.proofs.Trees.{by_times, times-here, times-elsewhere, root-there}
 use Rattle.dom_worlds.proofs.TreeChangeLaws.{times-with_node, times-taken_out, times-placed, times-map_nodes, nodes-with_node, nodes-taken_out}

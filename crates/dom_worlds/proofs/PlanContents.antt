@@ -7,7 +7,7 @@ use Rattle.std.specs.Option.{option_map_or, option_and_then, option_flatten}
 use Rattle.std.proofs.lemmas.Bool.{cond-true, cond-false}
 use Rattle.dom_base.specs.declared.NodeName.{NodeName}
 use Rattle.dom_model.specs.Names.{name_eq, last_of}
-use Rattle.dom_model.specs.Tree.{Trees, Node, node_in, kind_of, is_text, is_fragment, has_data, subtree, children_of, parent_of, root_of, index_of}
+use Rattle.dom_model.specs.Tree.{Trees, Node, node_in, kind_of, is_text, is_fragment, has_data, subtree, children_of, parent_of, root_of, index_of, times_in}
 use Rattle.dom_model.specs.Tree.{length_of, inclusive_ancestors, is_inclusive_ancestor}
 use Rattle.dom_model.specs.TreeChanges.{with_name}
 use Rattle.dom_model.specs.Part.{Part, next_name, range_at}
@@ -20,7 +20,7 @@ use Rattle.dom_model.specs.Extract.{Pieces, nothing, whole, cut, clone, cut_star
 use Rattle.dom_model.specs.Extract.{making_below, taking, new_fragment_node, own_document, new_place, behind_node, both_at, extracting}
 use Rattle.dom_model.specs.RangeOps.{cutting_data, outermost_contained, deleting_contents, deleting, insertion_parent, start_reference, ending_at}
 use Rattle.dom_model.specs.RangeOps.{inserting_before, inserting_at, inserting_into_range}
-use Rattle.dom_worlds.specs.Worlds.{times_in, IsPart}
+use Rattle.dom_worlds.specs.Worlds.{IsPart}
 use Rattle.dom_worlds.specs.Tables.{EndsIn, HasEnds, HasTables}
 use Rattle.dom_worlds.proofs.Lists.{all-filter}
 use Rattle.dom_worlds.proofs.Tests.{by_cases, either_way}

@@ -5,7 +5,7 @@ use Rattle.std.specs.List.{AllByRecursion}
 use Rattle.std.specs.Option.{option_map_or}
 use Rattle.dom_base.specs.declared.NodeName.{NodeName}
 use Rattle.dom_model.specs.Names.{name_eq, is_in, is_empty}
-use Rattle.dom_model.specs.Tree.{Trees, Node, node_in, kind_of, is_fragment, subtree, children_of, parent_of, index_of, inclusive_descendants}
+use Rattle.dom_model.specs.Tree.{Trees, Node, node_in, kind_of, is_fragment, subtree, children_of, parent_of, index_of, inclusive_descendants, times_in}
 use Rattle.dom_model.specs.TreeChanges.{without, map_nodes, with_name, with_document, with_data_replaced, with_attribute}
 use Rattle.dom_model.specs.Output.{Change, child_list}
 use Rattle.dom_model.specs.Part.{Part, next_name}
@@ -15,7 +15,7 @@ use Rattle.dom_model.specs.Changes.{has_document, changing_document, adopting, d
 use Rattle.dom_model.specs.Changes.{sibling_before, inserting_nodes, inserting}
 use Rattle.dom_model.proofs.StepLaws.{owner-part_step}
 use Rattle.dom_model.proofs.OwnerLaws.{name_eq-true}
-use Rattle.dom_worlds.specs.Worlds.{times_in, IsPart}
+use Rattle.dom_worlds.specs.Worlds.{IsPart}
 use Rattle.dom_worlds.proofs.NodesRead.{node-taken_out, node-placed, node-with_node, node-map_nodes}
 use Rattle.dom_worlds.proofs.Lists.{all-then, all-from}
 use Rattle.dom_worlds.proofs.Tests.{by_cases, either_way}

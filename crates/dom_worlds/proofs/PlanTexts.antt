@@ -6,7 +6,7 @@ use Rattle.std.specs.List.{AllByRecursion}
 use Rattle.std.specs.Option.{option_map_or}
 use Rattle.dom_base.specs.declared.NodeName.{NodeName}
 use Rattle.dom_model.specs.Names.{Word, DomString, name_eq, is_empty, items_after}
-use Rattle.dom_model.specs.Tree.{Trees, none, Node, node_in, kind_of, is_text, is_document, is_fragment, has_data, subtree, children_of, parent_of}
+use Rattle.dom_model.specs.Tree.{Trees, none, Node, node_in, kind_of, is_text, is_document, is_fragment, has_data, subtree, children_of, parent_of, times_in}
 use Rattle.dom_model.specs.Tree.{root_of, siblings, previous_sibling, next_sibling, index_of, length_of, attribute_value, descendants}
 use Rattle.dom_model.specs.Tree.{inclusive_descendants, nodes}
 use Rattle.dom_model.specs.TreeChanges.{with_name}
@@ -18,7 +18,7 @@ use Rattle.dom_model.specs.Changes.{placed_nodes, inserting, reference_for, repl
 use Rattle.dom_model.specs.TextChanges.{replacing_data, new_text_node, replacing_all_data, placing_tail, splitting, texts_after, joins, joining}
 use Rattle.dom_model.specs.TextChanges.{normalizing_text, normalizing, replacing_children, setting_text}
 use Rattle.dom_model.proofs.OwnerLaws.{name_eq-same, name_eq-true}
-use Rattle.dom_worlds.specs.Worlds.{times_in, IsPart}
+use Rattle.dom_worlds.specs.Worlds.{IsPart}
 use Rattle.dom_worlds.proofs.ChildPairs.{children-childs}
 use Rattle.dom_worlds.proofs.Lists.{all-dropped, all-then, all-from, all-map, all-filter, all-take_while}
 use Rattle.dom_worlds.proofs.NodesRead.{node-new}

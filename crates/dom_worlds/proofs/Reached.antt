@@ -8,13 +8,13 @@ use Rattle.dom_model.specs.DocumentMachine.{first_world, step, run_lines}
 use Rattle.dom_model.specs.Names.{name_eq}
 use Rattle.dom_model.specs.Runs.{Run, quiet}
 use Rattle.dom_model.specs.Slots.{assigned_below, is_assigned_to}
-use Rattle.dom_model.specs.Tree.{names_of, roots, trees_below, subtree, children_of}
+use Rattle.dom_model.specs.Tree.{names_of, roots, trees_below, subtree, children_of, times_in}
 use Rattle.dom_model.specs.Trace.{line_may_stop, no_component_stops_from}
 use Rattle.dom_model.specs.Turns.{ending_turn, has_other_turn}
 use Rattle.dom_model.specs.World.{World, trees_with, some_if, root_at, shadow_root_of}
 use Rattle.dom_worlds.specs.Reached.{Invariant, IsReached, FirstIsReached, StepKeepsReached, EndingKeepsReached, FinishKeepsReached, ScriptsReach}
 use Rattle.dom_worlds.specs.Reached.{QuietScriptsReach, AssignedAreSiblings}
-use Rattle.dom_worlds.specs.Worlds.{IsWorld, IsOf, times_in}
+use Rattle.dom_worlds.specs.Worlds.{IsWorld, IsOf}
 use Rattle.dom_worlds.proofs.FirstWorld.{quiet-first}
 use Rattle.dom_worlds.proofs.ShadowTrees.{owned-in}
 use Rattle.dom_worlds.proofs.KindCommands.{all-kinds, kinds-same}

@@ -5,7 +5,7 @@ use Rattle.std.specs.List.{AllByRecursion, list_any}
 use Rattle.std.specs.Option.{option_map_or}
 use Rattle.dom_base.specs.declared.NodeName.{NodeName}
 use Rattle.dom_model.specs.Names.{Word, DomString, name_eq, is_empty, items_before, items_after}
-use Rattle.dom_model.specs.Tree.{Trees, node_in, kind_of, is_fragment, subtree, children_of, parent_of, siblings, previous_sibling, next_sibling}
+use Rattle.dom_model.specs.Tree.{Trees, node_in, kind_of, is_fragment, subtree, children_of, parent_of, siblings, previous_sibling, next_sibling, times_in}
 use Rattle.dom_model.specs.Tree.{attribute_value, inclusive_ancestors}
 use Rattle.dom_model.specs.Observers.{target_of, fitting, without_old, asks_for_old}
 use Rattle.dom_model.specs.Output.{Change, child_list, attributes, character_data}
@@ -17,7 +17,7 @@ use Rattle.dom_model.specs.Changes.{removing_from, has_document, changing_docume
 use Rattle.dom_model.specs.Changes.{placing, sibling_before, inserting_nodes, inserting, reference_for, replacing, setting_attribute}
 use Rattle.dom_model.specs.Changes.{unsetting_attribute}
 use Rattle.dom_model.specs.TextChanges.{replacing_data}
-use Rattle.dom_worlds.specs.Worlds.{times_in, IsPart}
+use Rattle.dom_worlds.specs.Worlds.{IsPart}
 use Rattle.dom_worlds.specs.Tables.{IsNodeIn, IsNodeIf, IsRecordIn, HasRecords}
 use Rattle.dom_worlds.proofs.Insides.{times-taken_out_all}
 use Rattle.dom_worlds.proofs.InsideAncestors.{children-inside, child-there, parent-there, times-has_node}

@@ -5,10 +5,9 @@ use Rattle.std.proofs.lemmas.Bool.{cond-true, cond-false}
 use Rattle.dom_base.specs.declared.NodeName.{NodeName}
 use Rattle.dom_model.specs.Names.{name_eq, is_in, first_of}
 use Rattle.dom_model.specs.Place.{same_root}
-use Rattle.dom_model.specs.Tree.{Trees, none, tree, inclusive_ancestors, is_inclusive_ancestor, on_top, parent_of, root_of, subtree}
+use Rattle.dom_model.specs.Tree.{Trees, none, tree, inclusive_ancestors, is_inclusive_ancestor, on_top, parent_of, root_of, subtree, times_in}
 use Rattle.dom_model.specs.TreeChanges.{taken_out, without}
 use Rattle.dom_model.proofs.OwnerLaws.{name_eq-same, name_eq-true}
-use Rattle.dom_worlds.specs.Worlds.{times_in}
 use Rattle.dom_worlds.proofs.Descents.{ancestor-inside, inside-ancestor, inside-left}
 use Rattle.dom_worlds.proofs.Insides.{inside, inside-absent, inside-elsewhere, inside-times, inside-put_root}
 use Rattle.dom_worlds.proofs.InsideAncestors.{parent-there}

@@ -5,6 +5,7 @@ use Rattle.std.specs.List.{AllByRecursion}
 use Rattle.std.specs.Option.{option_and_then}
 use Rattle.dom_base.specs.declared.Owner.{Owner}
 use Rattle.dom_base.specs.declared.Owner.TheVariants.{Page}
+use Rattle.dom_model.specs.Tree.{times_in}
 use Rattle.dom_model.specs.Names.{owner_eq}
 use Rattle.dom_model.specs.Part.{Part}
 use Rattle.dom_model.specs.World.{World, part_of, with_part, is_there, host_of, made_by, shadow_root_of}
@@ -12,7 +13,7 @@ use Rattle.dom_model.specs.Turns.{is_page_turn}
 use Rattle.dom_model.specs.PageMachine.{is_page_task}
 use Rattle.dom_model.proofs.OwnerLaws.{owner_eq-true, owner_eq-false}
 use Rattle.dom_model.proofs.PartLaws.{part_of-with_part, part_of-with_part-other, owner-part_of, find-put, find-put-other}
-use Rattle.dom_worlds.specs.Worlds.{IsPart, IsRoot, IsWorld, IsOf, IsForeignTo, OnlyLogs, ComponentsOnlyLog, times_in}
+use Rattle.dom_worlds.specs.Worlds.{IsPart, IsRoot, IsWorld, IsOf, IsForeignTo, OnlyLogs, ComponentsOnlyLog}
 use Rattle.dom_worlds.proofs.Makers.{makers-same}
 use Rattle.dom_worlds.proofs.Tests.{by_cases}
 

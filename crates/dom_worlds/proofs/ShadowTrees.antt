@@ -10,13 +10,13 @@ use Rattle.dom_base.specs.declared.Owner.{Owner}
 use Rattle.dom_base.specs.declared.Owner.TheVariants.{Page}
 use Rattle.dom_base.specs.declared.NodeName.{NodeName}
 use Rattle.dom_model.specs.Names.{DomString, name_eq, is_in}
-use Rattle.dom_model.specs.Tree.{Trees, Node, nodes, root_of}
+use Rattle.dom_model.specs.Tree.{Trees, Node, nodes, root_of, times_in}
 use Rattle.dom_model.specs.World.{World, part_of, node_at, trees_with, root_at, parent_at, ancestors_at, component_at, host_of, some_if, shadow_root_of}
 use Rattle.dom_model.specs.World.{shadow_tree, is_in_shadow_tree}
 use Rattle.dom_model.specs.Slots.{slot_of, slot_in, has_slot_name, slottable_name}
 use Rattle.dom_model.proofs.OwnerLaws.{ne-owner_eq, name_eq-same}
 use Rattle.dom_model.proofs.PartLaws.{owner-part_of}
-use Rattle.dom_worlds.specs.Worlds.{IsWorld, IsOf, HasMakers, times_in}
+use Rattle.dom_worlds.specs.Worlds.{IsWorld, IsOf, HasMakers}
 use Rattle.dom_worlds.proofs.Lists.{all-then}
 use Rattle.dom_worlds.proofs.Makers.{component-host, hosted-is, hosted-no_page}
 use Rattle.dom_worlds.proofs.Tests.{by_cases}

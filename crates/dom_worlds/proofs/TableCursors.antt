@@ -11,8 +11,7 @@ use Rattle.dom_model.specs.Output.{Value}
 use Rattle.dom_model.specs.Part.{Part}
 use Rattle.dom_model.specs.Traversal.{Iterator, Walker, iterator_next_node, iterator_previous_node, nodes_ahead, nodes_passed, accepts, walker_move}
 use Rattle.dom_model.specs.Traversal.{walker_step, walker_children, walker_nodes, walker_siblings}
-use Rattle.dom_model.specs.Tree.{Trees, ancestors, inclusive_ancestors, inclusive_descendants, is_inclusive_ancestor}
-use Rattle.dom_worlds.specs.Worlds.{times_in}
+use Rattle.dom_model.specs.Tree.{Trees, ancestors, inclusive_ancestors, inclusive_descendants, is_inclusive_ancestor, times_in}
 use Rattle.dom_worlds.specs.Tables.{IsNodeIn, IsIteratorIn, IsWalkerIn, HasTables}
 use Rattle.dom_worlds.proofs.InsideAncestors.{times-has_node}
 use Rattle.dom_worlds.proofs.Lists.{all-dropped, all-append, all-then, all-filter, all-set}

@@ -9,7 +9,7 @@ use Rattle.dom_base.specs.declared.NodeName.{NodeName}
 use Rattle.dom_base.specs.declared.Owner.{Owner}
 use Rattle.dom_base.specs.declared.Owner.TheVariants.{Page}
 use Rattle.dom_model.specs.Names.{DomString, name_eq, owner_eq, owner_depth, node_of, max_depth, is_empty, is_in}
-use Rattle.dom_model.specs.Tree.{Trees, Node, nodes, node_in, no_node, subtree, inclusive_descendants, parent_of, is_element}
+use Rattle.dom_model.specs.Tree.{Trees, Node, nodes, node_in, no_node, subtree, inclusive_descendants, parent_of, is_element, times_in}
 use Rattle.dom_model.specs.Part.{Part}
 use Rattle.dom_model.specs.Slots.{is_slot_element, slottable_name, slot_in, slot_of, has_slot_name, assigned, is_changed, is_bare_slot, own_slots}
 use Rattle.dom_model.specs.Slots.{slots_among, other_slots, signals, with_signal}
@@ -20,7 +20,7 @@ use Rattle.dom_model.specs.WorldSteps.{world_step, world_after, stepped, with_si
 use Rattle.dom_model.proofs.OwnerLaws.{owner_eq-true, owner_eq-false}
 use Rattle.dom_model.proofs.PartLaws.{part_of-with_part, part_of-with_part-other, owner-part_of}
 use Rattle.dom_model.proofs.StepLaws.{IsOther, IsApart, part_of-own_step}
-use Rattle.dom_worlds.specs.Worlds.{times_in, IsPart, IsWorld, HasMakers}
+use Rattle.dom_worlds.specs.Worlds.{IsPart, IsWorld, HasMakers}
 use Rattle.dom_worlds.specs.Tables.{IsNodeIn, HasTables, HasRecords, IsNodeAt}
 use Rattle.dom_worlds.proofs.InsideAncestors.{times-has_node}
 use Rattle.dom_worlds.proofs.Lists.{all-append, all-filter, all-then, all-map, all-flat_map, all-distinct}

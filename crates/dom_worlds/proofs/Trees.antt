@@ -5,9 +5,8 @@ use Rattle.std.specs.List.{AllByRecursion, last_or}
 use Rattle.std.proofs.lemmas.Bool.{cond-true, cond-false}
 use Rattle.dom_base.specs.declared.NodeName.{NodeName}
 use Rattle.dom_model.specs.Names.{name_eq, is_in, last_of}
-use Rattle.dom_model.specs.Tree.{Trees, none, tree, Node, nodes, names_of, roots, subtree, or_else, inclusive_ancestors, on_top, root_of}
+use Rattle.dom_model.specs.Tree.{Trees, none, tree, Node, nodes, names_of, roots, subtree, or_else, inclusive_ancestors, on_top, root_of, times_in}
 use Rattle.dom_model.proofs.OwnerLaws.{name_eq-same, name_eq-true, name_eq-turned}
-use Rattle.dom_worlds.specs.Worlds.{times_in}
 use Rattle.dom_worlds.proofs.Lists.{all-append, all-then}
 use Rattle.dom_worlds.proofs.Tests.{by_cases, or-first, or-later}
 

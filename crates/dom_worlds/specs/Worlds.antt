@@ -9,17 +9,12 @@ use Rattle.dom_base.specs.declared.NodeName.{NodeName}
 use Rattle.dom_base.specs.declared.Kind.TheVariants.{Shadow, Element}
 use Rattle.dom_base.specs.declared.Action.TheVariants.{Log}
 use Rattle.dom_model.specs.Names.{name_eq, owner_eq, first_of, is_in}
-use Rattle.dom_model.specs.Tree.{Trees, none, tree, Node, names_of, roots}
+use Rattle.dom_model.specs.Tree.{Trees, none, tree, Node, names_of, roots, times_in}
 use Rattle.dom_model.specs.Listeners.{Listener}
 use Rattle.dom_model.specs.Part.{Part}
 use Rattle.dom_model.specs.World.{World, Task, micro_task, notify_task, part_of, is_there, component_made, made_by, MayAttach, host_of, shadow_root_of}
 use Rattle.dom_model.specs.Turns.{is_page_turn}
 use Rattle.dom_model.specs.PageMachine.{is_page_task}
-
--- how many nodes of a list of trees have a name
-abbrev pub times_in : Trees → NodeName → ℕ
-times_in none x = 0
-times_in (tree n children rest) x = (if name_eq n.name x then 1 else 0) + times_in children x + times_in rest x
 
 -- A part's nodes have its owner and numbers below its count, and no two have one name.
 pub record IsPart (p : Part) : Type 0 where

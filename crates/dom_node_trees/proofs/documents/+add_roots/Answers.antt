@@ -1,6 +1,7 @@
 use Rattle.std.proofs.Common.{◌<◌, ◌-◌, ◌++◌, List, ℕ, All, length, map, refl, subst, sym, ap, ◌∙◌, arith}
 use Rattle.dom_tree.specs.Forest.{name_at}
-use Rattle.dom_tree_laws.proofs.Once.{once_forest, times_count}
+use Rattle.dom_tree.proofs.Once.{times_count}
+use Rattle.dom_tree_laws.proofs.Once.{once_forest}
 use Rattle.dom_slots.proofs.Hosted.{root-node}
 use Rattle.dom_node_trees.specs.Documents.{roots_within}
 use Rattle.dom_node_trees.proofs.Roots.{Lists, lists_first, lists_root, lists_none, lists_fewer, nodes_within}

@@ -3,7 +3,8 @@ use Rattle.dom_base.specs.declared.NodeName.{NodeName}
 use Rattle.dom_model.specs.Tree.{is_inclusive_ancestor}
 use Rattle.dom_model.specs.TreeChanges.{change_node, under_document}
 use Rattle.dom_tree.specs.Forest.{name_at}
-use Rattle.dom_tree_laws.proofs.Once.{once_forest, times_count}
+use Rattle.dom_tree.proofs.Once.{times_count}
+use Rattle.dom_tree_laws.proofs.Once.{once_forest}
 use Rattle.dom_tree_laws.proofs.Covering.{Sets, sets_first, sets_above, sets_on}
 use Rattle.dom_node_trees.proofs.documents.set_documents.Goals as goal
 

@@ -5,7 +5,8 @@ use Rattle.dom_worlds.specs.Worlds.{IsPart}
 use Rattle.dom_model.specs.Tree.{Node, Trees, nodes, has_node}
 use Rattle.dom_model.specs.World.{part_of, is_there}
 use Rattle.dom_tree.specs.Owners.{trees_of_owner, AreOf}
-use Rattle.dom_tree_laws.proofs.Once.{once_forest, once_own, times_count}
+use Rattle.dom_tree.proofs.Once.{times_count}
+use Rattle.dom_tree_laws.proofs.Once.{once_forest, once_own}
 use Rattle.dom_tree.specs.Forest.{name_at}
 use Rattle.dom_parts.specs.Contents.{world_of}
 use Rattle.dom_parts.specs.Doc.{DocState, owner_in, contents, all_tables}
