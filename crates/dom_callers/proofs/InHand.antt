@@ -1,6 +1,5 @@
 -- What the caller of a `Doc` has in hand is still there after a call.
-use Rattle.std.proofs.Common.{◌≡◌, ◌<◌, ℕ, List, [], ◌++◌, length}
-use Rattle.std.proofs.Common.{ap, sym, subst, ◌∙◌}
+use Rattle.std.proofs.Common.{◌≡◌, ◌<◌, ℕ, true, List, [], ◌++◌, length, Option, Some, None, is_some, refl, ap, sym, subst, ◌∙◌, true≢false}
 use Rattle.std.proofs.lemmas.List.{append-nil}
 use Rattle.dom_base.specs.declared.Kind.TheVariants.{Text}
 use Rattle.dom_base.specs.declared.NodeName.{NodeName}
@@ -10,6 +9,11 @@ use Rattle.dom_model.specs.Changes.{Plan}
 use Rattle.dom_model.specs.Tree.{kind_of}
 use Rattle.dom_mutation.specs.Doc.{DocState, made, name_in, owner_in, trees_in}
 use Rattle.dom_mutation.specs.Still.{HasNodes, HasStillAll}
+
+-- an option that has a value is that value
+pub the_value : {X : Type 0} (o : Option X) → is_some o ≡ true → (x : X) × (o ≡ Some x)
+the_value None is = absurd (true≢false (sym is))
+the_value (Some x) is = (x, refl)
 
 pub node-still : (d e : DocState) (o : Owner) (k : ℕ) → HasStillAll d e → IsNodeOf d o k → IsNodeOf e o k
 node-still d e o k s n = record { node = s.nodes.nodes k n.node; owner = ap (λ (x : NodeName). x.owner) (s.nodes.names k n.node) ∙ n.owner }
