@@ -18,3 +18,4 @@ pub use change::{Change, Record};
 pub use laws::{keys_stand_for_names, path_keys_are_named};
 pub use observers::Observers;
 pub use options::Options;
+pub use path::inclusive_ancestors;

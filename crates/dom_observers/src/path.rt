@@ -1,20 +1,24 @@
 //! The inclusive ancestors of a node.
-ghost use Rattle.std.specs.Prelude.{◌≡◌, IfOk};
+ghost use Rattle.std.specs.Prelude.{◌≡◌, map, IfOk};
+ghost use Rattle.std.specs.List.{AllByRecursion};
+ghost use Rattle.dom_model.specs.Tree.{inclusive_ancestors as all_above};
 ghost use Rattle.dom_observers.specs.Paths.{path_keys};
-ghost use Rattle.dom_tree.specs.Forest.{IsNode};
+ghost use Rattle.dom_tree.specs.Forest.{IsNode, name_of};
 
 use dom_tree::Forest;
 use node_arena::Key;
 use std::alloc::{AllocError, Global};
 
-/// A node and its ancestors, the nearest first (DOM Standard, concept: inclusive ancestor).
-pub(crate) fn inclusive_ancestors(
+/// A node and its ancestors, the nearest first (DOM Standard, concept: inclusive ancestor). It is refused where memory is.
+pub fn inclusive_ancestors(
     alloc: Global,
     forest: &Forest,
     key: Key,
 ) -> Result<Vec<Key>, AllocError>
     requires { IsNode forest.now key }
-    ensures { IfOk result (λ path. path.items ≡ path_keys forest.now key) }
+    ensures keys { IfOk result (λ path. path.items ≡ path_keys forest.now key) }
+    ensures names { IfOk result (λ path. map (name_of forest.now) path.items ≡ all_above forest.now.trees (name_of forest.now key)) }
+    ensures nodes { IfOk result (λ path. AllByRecursion (IsNode forest.now) path.items) }
 {
     forest.nodes_stand_once();
     let mut path = Vec::new(alloc);

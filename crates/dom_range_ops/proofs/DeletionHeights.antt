@@ -1,16 +1,54 @@
 -- Going up from keys' nodes, by how many nodes stand above them.
 use Rattle.std.proofs.Common.{◌≡◌, ◌⊎◌, inl, inr, ℕ, ◌+◌, ◌<◌, ◌≤◌, true, false, List, [], ◌∷◌, ◌++◌, length, Option, Some, None, refl, sym, ap}
 use Rattle.std.proofs.Common.{subst, ◌∙◌, arith, length-append}
-use Rattle.std.proofs.lemmas.Bool.{false_from_ne_true}
+use Rattle.std.specs.Prelude.{option_map, unwrap_or}
+use Rattle.std.specs.Option.{option_or}
+use Rattle.std.proofs.lemmas.Bool.{cases_Bool, false_from_ne_true}
 use Rattle.dom_base.specs.declared.NodeName.{NodeName}
 use Rattle.dom_model.specs.Names.{name_eq, items_before}
-use Rattle.dom_model.specs.Tree.{Trees, parent_of, inclusive_ancestors, is_inclusive_ancestor}
+use Rattle.dom_model.specs.Place.{place_from}
+use Rattle.dom_model.specs.Tree.{Trees, none, tree, on_top, parent_of, inclusive_ancestors, is_inclusive_ancestor}
 use Rattle.dom_tree.specs.Forest.{NamedTrees, name_at}
 use Rattle.dom_traversal.proofs.Chains.{above-split, above-chain, above-along}
 use Rattle.dom_traversal.proofs.Counts.{StandOnce, StandAlone, Once-forest, Has-forest}
 use Rattle.dom_traversal.proofs.Lists.{In, In-from, is_in-from}
 use Rattle.dom_traversal.proofs.Shapes.{Once, Has, Has-above, above-parent, above-present, above-root}
-use Rattle.dom_range_ops.specs.Deletions.{height_at}
+use Rattle.dom_ranges.specs.Climbs.{depth_at}
+
+-- how many nodes stand above a key's node, with that one
+abbrev pub height_at : NamedTrees → ℕ → ℕ
+height_at f k = length (inclusive_ancestors f.trees (name_at f.names k))
+
+
+-- ---- as many numbers are in a node's place as nodes stand above it, with that one
+
+-- a place as long as a list that is not empty; where there is none, the list is empty
+abbrev AreAsLong : Option (List ℕ) → List NodeName → Type 0
+AreAsLong None xs = xs ≡ []
+AreAsLong (Some path) xs = (length path ≡ length xs) × (0 < length xs)
+
+long-above : (k : ℕ) (y : NodeName) (o p : Option (List ℕ)) (xs ys : List NodeName) → AreAsLong o xs → AreAsLong p ys →
+    AreAsLong (option_or (option_map (λ path. k ∷ path) o) p) (on_top xs y ys)
+long-above k y None p xs ys e long = rw e long
+long-above k y (Some path) p [] ys e long = absurd (omega (arith, e.1))
+long-above k y (Some path) p (x ∷ xs) ys e long = let more = length-append xs (y ∷ []) in (omega (arith, more, e.0), omega (arith, more))
+
+long-place : (k : ℕ) (ts : Trees) (x : NodeName) → AreAsLong (place_from k ts x) (inclusive_ancestors ts x)
+long-place k none x = refl
+long-place k (tree n c r) x = elim (cases_Bool (name_eq n.name x)) [
+  | inl e ↦ rw e (refl, omega arith)
+  | inr e ↦
+      rw e (long-above k n.name (place_from 0 c x) (place_from (k + 1) r x) (inclusive_ancestors c x) (inclusive_ancestors r x)
+      (long-place 0 c x) (long-place (k + 1) r x))
+]
+
+pub depth-height : (f : NamedTrees) (k : ℕ) → depth_at f k ≡ height_at f k
+depth-height f k = by (place_from 0 f.trees (name_at f.names k)) (inclusive_ancestors f.trees (name_at f.names k))
+    (long-place 0 f.trees (name_at f.names k))
+  where
+    by : (o : Option (List ℕ)) (xs : List NodeName) → AreAsLong o xs → length (unwrap_or o []) ≡ length xs
+    by None xs e = rw e refl
+    by (Some path) xs e = e.0
 
 -- ---- names
 
@@ -76,20 +114,6 @@ module _ (f : NamedTrees) (once : StandOnce f) (only : StandAlone f) where
           let long = ap (length {A = NodeName}) path.0 in
           let more = ap (length {A = NodeName}) (above-present f.trees p path.1).1 in
           absurd (omega (arith, long, more, e))
-
-  -- a parent of what is above a node is above it
-  pub raise-up : (k p x : ℕ) → k < length f.names → x < length f.names → Some (name_at f.names p) ≡ parent_of f.trees (name_at f.names k)
-      → is_inclusive_ancestor f.trees (name_at f.names k) (name_at f.names x) ≡ true →
-      is_inclusive_ancestor f.trees (name_at f.names p) (name_at f.names x) ≡ true
-  raise-up k p x node at_x e up =
-      let single = Once-forest f once only in
-      let is = above-parent f.trees (name_at f.names k) (name_at f.names p) single (Has-forest f once k node) (sym e) in
-      let i : In (name_at f.names p) (inclusive_ancestors f.trees (name_at f.names k)) =
-      subst (In (name_at f.names p)) (sym is.0)
-      (inr (subst (In (name_at f.names p)) (sym (above-present f.trees (name_at f.names p) is.1).1) (inl refl))) in
-      is_in-from (name_at f.names p) (inclusive_ancestors f.trees (name_at f.names x))
-      (above-along f.trees (name_at f.names p) (name_at f.names k) (name_at f.names x) single (Has-forest f once x at_x) i
-      (In-from (name_at f.names k) (inclusive_ancestors f.trees (name_at f.names x)) up))
 
   -- a node as deep as another one that is above x is not above x, where it is another one
   pub level-apart : (k j x : ℕ) → x < length f.names → is_inclusive_ancestor f.trees (name_at f.names j) (name_at f.names x) ≡ true →

@@ -26,10 +26,6 @@ pub record IsRangeIn (d : DocState) (points : Points) : Type 0 where
   pub within : IsWithin (trees_in d points.start.0) (range_at_points d.names points).end
   pub leaves : (x : NodeName) → IsTrue (has_data (kind_of (trees_in d points.start.0) x)) → children_of (trees_in d points.start.0) x ≡ []
 
--- how many nodes stand above a key's node, with that one
-abbrev pub height_at : NamedTrees → ℕ → ℕ
-height_at f k = length (inclusive_ancestors f.trees (name_at f.names k))
-
 -- from an offset on so many code units of a node go, or none
 abbrev pub cutting : NodeName → Option (ℕ × ℕ) → Plan
 cutting x None = steps_of []

@@ -1,16 +1,16 @@
 //! How the two ends of a live range stand to one another (DOM Standard, 5.5 Interface Range).
-ghost use Rattle.std.specs.Prelude.{◌≡◌, ◌≤◌, ◌+◌, ◌⊎◌, true, false, not, filter, Some, List, [], ◌∷◌};
+ghost use Rattle.std.specs.Prelude.{◌≡◌, true, false, not, filter, Some, List, [], ◌∷◌};
 ghost use Rattle.dom_base.specs.declared.NodeName.{NodeName as Name};
 ghost use Rattle.dom_model.specs.Extract.{is_in_one_data, behind_node, new_place};
 ghost use Rattle.dom_model.specs.Names.{name_eq};
 ghost use Rattle.dom_model.specs.Ranges.{at, is_collapsed};
 ghost use Rattle.dom_model.specs.Tree.{kind_of, has_data, parent_of, inclusive_ancestors, is_inclusive_ancestor};
-ghost use Rattle.dom_range_ops.specs.Deletions.{AreLeaves, height_at};
+ghost use Rattle.dom_range_ops.specs.Deletions.{AreLeaves};
 ghost use Rattle.dom_range_ops.specs.Texts.{range_at_points, AreEnds};
 ghost use Rattle.dom_tree.specs.Forest.{name_at, IsNode, name_of};
 
 use dom_base::Kind;
-use dom_ranges::Points;
+use dom_ranges::{Points, climb, climb_together};
 use dom_tree::Forest;
 use node_arena::Key;
 
@@ -78,8 +78,8 @@ pub(crate) fn outermost_apart(forest: &Forest, first: Key, last: Key) -> Key
         return first;
     };
     let (gauge, last_gauge) = climb_together(forest, parent, last);
-    let mut low = raise(forest, first, gauge);
-    let mut other = raise(forest, last, last_gauge);
+    let (mut low, _) = climb(forest, first, gauge);
+    let (mut other, _) = climb(forest, last, last_gauge);
     'up: loop {
         let Some(above) = forest.parent(low) else {
             return low;
@@ -92,56 +92,6 @@ pub(crate) fn outermost_apart(forest: &Forest, first: Key, last: Key) -> Key
         };
         low = above;
         other = beside;
-    }
-}
-
-/// The nodes reached from two nodes by going up from both at once, until one of them is a root.
-fn climb_together(forest: &Forest, first: Key, last: Key) -> (Key, Key)
-    requires first_is_node { IsNode forest.now first }
-    requires last_is_node { IsNode forest.now last }
-    ensures first_is_node { IsNode forest.now result.0 }
-    ensures last_is_node { IsNode forest.now result.1 }
-    ensures difference { height_at forest.now result.0 + height_at forest.now last ≡ height_at forest.now first + height_at forest.now result.1 }
-    ensures first_above { height_at forest.now result.0 ≤ height_at forest.now first }
-    ensures last_above { height_at forest.now result.1 ≤ height_at forest.now last }
-    ensures root { (height_at forest.now result.0 ≡ 1) ⊎ (height_at forest.now result.1 ≡ 1) }
-{
-    forest.nodes_stand_once();
-    let mut low = first;
-    let mut other = last;
-    'up: loop {
-        let Some(above) = forest.parent(low) else {
-            return (low, other);
-        };
-        let Some(beside) = forest.parent(other) else {
-            return (low, other);
-        };
-        low = above;
-        other = beside;
-    }
-}
-
-/// The node above a node by as many levels as `gauge` has nodes above it.
-fn raise(forest: &Forest, key: Key, gauge: Key) -> Key
-    requires key_is_node { IsNode forest.now key }
-    requires gauge_is_node { IsNode forest.now gauge }
-    requires deep { height_at forest.now gauge ≤ height_at forest.now key }
-    ensures node { IsNode forest.now result }
-    ensures above { is_inclusive_ancestor forest.now.trees (name_of forest.now result) (name_of forest.now key) ≡ true }
-    ensures height { height_at forest.now result + height_at forest.now gauge ≡ height_at forest.now key + 1 }
-{
-    forest.nodes_stand_once();
-    let mut top = key;
-    let mut left = gauge;
-    'up: loop {
-        let Some(fewer) = forest.parent(left) else {
-            return top;
-        };
-        let Some(above) = forest.parent(top) else {
-            return top;
-        };
-        top = above;
-        left = fewer;
     }
 }
 

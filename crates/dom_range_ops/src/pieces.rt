@@ -6,8 +6,9 @@ ghost use Rattle.dom_range_ops.specs.Pieces.{items_of, item_in, made_by, AreItem
 ghost use Rattle.dom_range_ops.specs.Texts.{range_at_points};
 
 use crate::ends::{is_collapsed, is_in_one_data};
-use crate::pieces::paths::{inclusive_ancestors, parting};
+use crate::pieces::paths::parting;
 use crate::pieces::sides::push_pieces;
+use dom_observers::inclusive_ancestors;
 use dom_ranges::Points;
 use dom_tree::Forest;
 use node_arena::Key;

@@ -1,12 +1,15 @@
 -- Going up from keys' nodes in a forest, by their places.
-use Rattle.std.proofs.Common.{◌≡◌, ◌≢◌, ℕ, ◌+◌, ◌<◌, true, List, [], ◌∷◌, ◌++◌, length, Option, Some, None, refl, sym, ap, ◌∙◌, arith}
+use Rattle.std.proofs.Common.{◌≡◌, ◌≢◌, ℕ, ◌+◌, ◌<◌, inr, inl, true, List, [], ◌∷◌, ◌++◌, length, Option, Some, None, refl, sym, ap, subst, ◌∙◌, arith}
 use Rattle.std.proofs.lemmas.List.{append-nil, append_assoc, length-append}
 use Rattle.dom_model.specs.Names.{first_of}
 use Rattle.dom_model.specs.Place.{same_root}
-use Rattle.dom_model.specs.Tree.{parent_of, index_of}
+use Rattle.dom_model.specs.Tree.{parent_of, index_of, inclusive_ancestors, is_inclusive_ancestor}
 use Rattle.dom_tree.specs.Forest.{NamedTrees, name_at}
 use Rattle.dom_tree.specs.Apart.{TellApart}
+use Rattle.dom_traversal.proofs.Chains.{above-along}
 use Rattle.dom_traversal.proofs.Counts.{StandOnce, StandAlone, Once-forest, Has-forest}
+use Rattle.dom_traversal.proofs.Lists.{In, In-from, is_in-from}
+use Rattle.dom_traversal.proofs.Shapes.{above-parent, above-present}
 use Rattle.dom_ranges.specs.Climbs.{path_at, depth_at, Reaches, AreBeside}
 use Rattle.dom_ranges.proofs.Places.{place-present, known, path-child, path-root, path-same, path-tree}
 
@@ -44,6 +47,20 @@ module _ (f : NamedTrees) (once : StandOnce f) (only : StandAlone f) where
   depth-root k node e =
       let w = path-root f.trees (Once-forest f once only) (name_at f.names k) (Has-forest f once k node) (sym e) in
       ap (length {A = ℕ}) w.1
+
+  -- a parent of what is above a node is above it
+  pub above-up : (k p x : ℕ) → k < length f.names → x < length f.names → Some (name_at f.names p) ≡ parent_of f.trees (name_at f.names k)
+      → is_inclusive_ancestor f.trees (name_at f.names k) (name_at f.names x) ≡ true →
+      is_inclusive_ancestor f.trees (name_at f.names p) (name_at f.names x) ≡ true
+  above-up k p x node at_x e up =
+      let single = Once-forest f once only in
+      let is = above-parent f.trees (name_at f.names k) (name_at f.names p) single (Has-forest f once k node) (sym e) in
+      let i : In (name_at f.names p) (inclusive_ancestors f.trees (name_at f.names k)) =
+      subst (In (name_at f.names p)) (sym is.0)
+      (inr (subst (In (name_at f.names p)) (sym (above-present f.trees (name_at f.names p) is.1).1) (inl refl))) in
+      is_in-from (name_at f.names p) (inclusive_ancestors f.trees (name_at f.names x))
+      (above-along f.trees (name_at f.names p) (name_at f.names k) (name_at f.names x) single (Has-forest f once x at_x) i
+      (In-from (name_at f.names k) (inclusive_ancestors f.trees (name_at f.names x)) up))
 
   -- the path through what is reached
   pub path-reached : (key top : ℕ) (child : Option ℕ) → Reaches f key top child → (rest : List ℕ) × (path_at f key ≡ path_at f top ++ rest)

@@ -14,5 +14,5 @@ mod setting;
 mod table;
 
 pub use laws::{law_ends_stay, law_keys_stand_for_names};
-pub use order::is_before;
+pub use order::{climb, climb_together, is_before};
 pub use table::{Points, RangeTable};

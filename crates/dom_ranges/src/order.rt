@@ -3,7 +3,7 @@ ghost use Rattle.std.specs.Prelude.{◌≡◌, ◌≢◌, ◌≤◌, ◌+◌, �
 ghost use Rattle.dom_model.specs.Names.{first_of};
 ghost use Rattle.dom_model.specs.Place.{same_root, is_before};
 ghost use Rattle.dom_model.specs.Ranges.{at};
-ghost use Rattle.dom_model.specs.Tree.{index_of};
+ghost use Rattle.dom_model.specs.Tree.{index_of, is_inclusive_ancestor};
 ghost use Rattle.dom_tree.specs.Forest.{IsNode, name_of};
 ghost use Rattle.dom_ranges.specs.Climbs.{depth_at, path_at, Reaches, AreBeside};
 
@@ -38,9 +38,9 @@ pub fn is_before(forest: &Forest, first: (Key, usize), second: (Key, usize)) -> 
     }
 }
 
-/// The nodes reached from two nodes by going up from both at once, until one of them is a root: the other one is then
+/// The nodes reached from two nodes by going up from both at once, until one of them is a root (own rule): the other one is then
 /// as deep as the one node was deeper.
-fn climb_together(forest: &Forest, first: Key, second: Key) -> (Key, Key)
+pub fn climb_together(forest: &Forest, first: Key, second: Key) -> (Key, Key)
     requires first_is_node { IsNode forest.now first }
     requires second_is_node { IsNode forest.now second }
     ensures first_is_node { IsNode forest.now result.0 }
@@ -65,14 +65,15 @@ fn climb_together(forest: &Forest, first: Key, second: Key) -> (Key, Key)
     }
 }
 
-/// The node above a node by as many levels as `gauge` has nodes above it, and that one's child on the way, where there
-/// is a level to go.
-fn climb(forest: &Forest, key: Key, gauge: Key) -> (Key, Option<Key>)
+/// The inclusive ancestor of a node by as many levels up as `gauge` has nodes above it, and that one's child on the way, where there
+/// is a level to go (own rule).
+pub fn climb(forest: &Forest, key: Key, gauge: Key) -> (Key, Option<Key>)
     requires key_is_node { IsNode forest.now key }
     requires gauge_is_node { IsNode forest.now gauge }
     requires deep { depth_at forest.now gauge ≤ depth_at forest.now key }
     ensures node { IsNode forest.now result.0 }
     ensures depth { depth_at forest.now result.0 + depth_at forest.now gauge ≡ depth_at forest.now key + 1 }
+    ensures above { is_inclusive_ancestor forest.now.trees (name_of forest.now result.0) (name_of forest.now key) ≡ true }
     ensures reached { Reaches forest.now key result.0 result.1 }
 {
     forest.nodes_stand_once();

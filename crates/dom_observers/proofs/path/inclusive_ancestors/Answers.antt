@@ -1,5 +1,6 @@
-use Rattle.std.proofs.Common.{◌<◌, length, Some, refl, sym, subst}
-use Rattle.dom_observers.proofs.Ascending.{HasClimbed, above, climbs-first, climbs-more, climbs-fewer, climbs-all}
+use Rattle.std.proofs.Common.{◌<◌, length, map, Some, refl, sym, ap, subst, ◌∙◌}
+use Rattle.dom_tree.specs.Forest.{name_at}
+use Rattle.dom_observers.proofs.Ascending.{HasClimbed, above, climbs-first, climbs-more, climbs-fewer, climbs-all, path_keys-named}
 use Rattle.dom_observers.proofs.path.inclusive_ancestors.Goals as goal
 
 pub loop-at-init : goal.loop-at-init
@@ -23,8 +24,14 @@ loop-at-smaller c =
     (climbs-fewer f c.nodes_stand_once.ensures.once c.nodes_stand_once.ensures.only c.in-Some.node c.parent-at.result
     (done.next c.in-Some.node refl) c.parent-at.ensures.value)
 
-pub returns : goal.returns
-returns c =
+pub returns-clause-keys : goal.returns-clause-keys
+returns-clause-keys c =
     let f = c.args.forest.now in
     climbs-all f c.nodes_stand_once.ensures.distinct c.args.key c.loop-at.path.items
     (subst (HasClimbed f c.args.key c.loop-at.path.items) c.in_default.is c.loop-at.invariant)
+
+pub returns-clause-names : goal.returns-clause-names
+returns-clause-names c =
+    let f = c.args.forest.now in
+    let e = c.nodes_stand_once.ensures in
+    ap (map (name_at f.names)) (returns-clause-keys c) ∙ (path_keys-named f e.once e.only c.args.key c.requires).0

@@ -4,7 +4,8 @@ use Rattle.dom_model.specs.Tree.{is_inclusive_ancestor}
 use Rattle.dom_tree.specs.Forest.{name_at}
 use Rattle.dom_traversal.proofs.Climbing.{other_key}
 use Rattle.dom_traversal.proofs.Counts.{Once-forest, Has-forest, above-itself}
-use Rattle.dom_range_ops.proofs.DeletionHeights.{height-up, height-root, root-alone, raise-up, level-apart, first-apart}
+use Rattle.dom_ranges.proofs.Climbing.{above-up}
+use Rattle.dom_range_ops.proofs.DeletionHeights.{depth-height, height-up, height-root, root-alone, level-apart, first-apart}
 use Rattle.dom_range_ops.proofs.DeletionPlaces.{alone-is}
 use Rattle.dom_range_ops.proofs.ends.outermost_apart.Goals as goal
 
@@ -20,26 +21,27 @@ returns-in_default-clause-alone c =
     (Has-forest f e.once c.args.first c.requires.first_is_node) (Has-forest f e.once c.args.last c.requires.last_is_node) c.requires.apart
     (inl (sym c.in_default.ensures.value))
 
-pub raise-low-requires-clause-deep : goal.raise-low-requires-clause-deep
-raise-low-requires-clause-deep c =
+pub climb-low-requires-clause-deep : goal.climb-low-requires-clause-deep
+climb-low-requires-clause-deep c =
     let f = c.args.forest.now in
     let e = c.nodes_stand_once.ensures in
     let up = height-up f e.once e.only c.args.first c.in-Some.parent c.requires.first_is_node c.in-Some.ensures.value in
-    omega (arith, up, c.climb_together-gauge.ensures.first_above)
+    let deep = depth-height f in
+    omega (arith, up, c.climb_together-gauge.ensures.first_above, deep c.args.first, deep c.in-Some.parent)
 
 pub up-init : goal.up-init
 up-init c =
     let f = c.args.forest.now in
     let e = c.nodes_stand_once.ensures in
     let g = c.climb_together-gauge.ensures in
-    let low = c.raise-low.ensures in
-    let other = c.raise-other.ensures in
+    let low = c.climb-low.ensures in
+    let other = c.climb-other.ensures in
     let up = height-up f e.once e.only c.args.first c.in-Some.parent c.requires.first_is_node c.in-Some.ensures.value in
     record {
       node = low.node;
       other_is_node = other.node;
       above = low.above;
-      apart = first-apart f e.once e.only c.raise-low.result c.args.first c.args.last c.requires.first_is_node c.requires.last_is_node low.above
+      apart = first-apart f e.once e.only c.climb-low.result.0 c.args.first c.args.last c.requires.first_is_node c.requires.last_is_node low.above
           c.requires.apart
           (elim g.root [
             | inl root ↦ inl (omega (arith, root, low.height))
@@ -70,7 +72,7 @@ returns-then-eq-clause-alone c =
 pub returns-in_default-parent-2-clause-above : goal.returns-in_default-parent-2-clause-above
 returns-in_default-parent-2-clause-above c =
     let e = c.nodes_stand_once.ensures in
-    raise-up c.args.forest.now e.once e.only c.up.low c.in-Some-parent.above c.args.first c.up.invariant.node c.requires.first_is_node
+    above-up c.args.forest.now e.once e.only c.up.low c.in-Some-parent.above c.args.first c.up.invariant.node c.requires.first_is_node
     c.in-Some-parent.ensures.value c.up.invariant.above
 
 pub returns-in_default-parent-2-clause-alone : goal.returns-in_default-parent-2-clause-alone
@@ -104,11 +106,11 @@ up-preserved c =
     record {
       node = node;
       other_is_node = c.in-Some-parent-2.ensures.node c.in-Some-parent-2.beside refl;
-      above = raise-up f e.once e.only c.up.low c.in-Some-parent.above c.args.first c.up.invariant.node c.requires.first_is_node
+      above = above-up f e.once e.only c.up.low c.in-Some-parent.above c.args.first c.up.invariant.node c.requires.first_is_node
           c.in-Some-parent.ensures.value c.up.invariant.above;
       apart = level-apart f e.once e.only c.in-Some-parent.above c.up.other c.args.last c.requires.last_is_node c.up.invariant.beside
           (omega (arith, up, c.up.invariant.level)) other;
-      beside = raise-up f e.once e.only c.up.other c.in-Some-parent-2.beside c.args.last c.up.invariant.other_is_node c.requires.last_is_node
+      beside = above-up f e.once e.only c.up.other c.in-Some-parent-2.beside c.args.last c.up.invariant.other_is_node c.requires.last_is_node
           c.in-Some-parent-2.ensures.value c.up.invariant.beside;
       level = omega (arith, up, over, c.up.invariant.level);
     }

@@ -1,7 +1,7 @@
 use Rattle.std.proofs.Common.{◌≡◌, ◌<◌, ◌+◌, length, true, false}
 use Rattle.dom_model.specs.Tree.{is_inclusive_ancestor}
 use Rattle.dom_tree.specs.Forest.{name_at}
-use Rattle.dom_range_ops.specs.Deletions.{height_at}
+use Rattle.dom_range_ops.proofs.DeletionHeights.{height_at}
 use Rattle.dom_range_ops.proofs.ends.outermost_apart.Given as goal
 
 abbrev pub invariant-up : goal.invariant-up

@@ -1,6 +1,19 @@
 use Rattle.std.proofs.Common.{refl, arith}
-use Rattle.dom_ranges.proofs.Climbing.{depth-node, depth-up, depth-root, reached-up}
+use Rattle.dom_tree.specs.Forest.{name_at}
+use Rattle.dom_traversal.proofs.Counts.{above-itself}
+use Rattle.dom_ranges.proofs.Climbing.{depth-node, depth-up, depth-root, above-up, reached-up}
 use Rattle.dom_ranges.proofs.order.climb.Goals as goal
+
+pub up-init : goal.up-init
+up-init c =
+    let f = c.args.forest.now in
+    record {
+      top_is_node = c.requires.key_is_node;
+      left_is_node = c.requires.gauge_is_node;
+      depth = refl;
+      above = above-itself f.trees (name_at f.names c.args.key) (c.nodes_stand_once.ensures.once c.args.key c.requires.key_is_node);
+      reached = refl;
+    }
 
 pub returns-in_default-clause-depth : goal.returns-in_default-clause-depth
 returns-in_default-clause-depth c =
@@ -35,6 +48,8 @@ up-preserved c =
       top_is_node = c.in-Some-parent.ensures.node c.in-Some-parent.above refl;
       left_is_node = c.in-Some.ensures.node c.in-Some.fewer refl;
       depth = omega (arith, up, left, c.up.invariant.depth);
+      above = above-up f c.nodes_stand_once.ensures.once c.nodes_stand_once.ensures.only c.up.top c.in-Some-parent.above c.args.key
+          c.up.invariant.top_is_node c.requires.key_is_node c.in-Some-parent.ensures.value c.up.invariant.above;
       reached = reached-up f c.nodes_stand_once.ensures.once c.nodes_stand_once.ensures.only c.args.key c.up.top c.in-Some-parent.above c.up.child
           c.up.invariant.top_is_node c.in-Some-parent.ensures.value c.up.invariant.reached;
     }

@@ -1,4 +1,6 @@
-use Rattle.std.proofs.Common.{◌≡◌, ◌<◌, ◌+◌, length}
+use Rattle.std.proofs.Common.{◌≡◌, ◌<◌, ◌+◌, length, true}
+use Rattle.dom_model.specs.Tree.{is_inclusive_ancestor}
+use Rattle.dom_tree.specs.Forest.{name_at}
 use Rattle.dom_ranges.specs.Climbs.{depth_at, Reaches}
 use Rattle.dom_ranges.proofs.order.climb.Given as goal
 
@@ -7,6 +9,7 @@ invariant-up l = record {
   top_is_node : l.top < length l.forest.names;
   left_is_node : l.left < length l.forest.names;
   depth : depth_at l.forest l.top + depth_at l.forest l.fn.gauge ≡ depth_at l.forest l.fn.key + depth_at l.forest l.left;
+  above : is_inclusive_ancestor l.forest.trees (name_at l.forest.names l.top) (name_at l.forest.names l.fn.key) ≡ true;
   reached : Reaches l.forest l.fn.key l.top l.child;
 }
 

@@ -18,7 +18,7 @@ pub returns : goal.returns
 returns c =
     let t : TablesOf ℕ = table_of c.args.self.now in
     let path = path_keys c.args.forest.now c.args.parent in
-    let way = c.as_slice.ensures.value ∙ c.in_ok-path.ensures in
+    let way = c.as_slice.ensures.value ∙ c.in_ok-path.ensures.keys in
     ap (λ (rs : List (Registration ℕ)). record t { registrations = rs })
     (c.in_ok-add_transients.ensures.ok
     ∙ (ap (λ p. c.refresh.new.self ++ transients_for nat_eq c.args.node p c.refresh.new.self) way

@@ -44,7 +44,7 @@ returns-clause-taken c =
     let ch = change_of c.args.change in
     let path = path_keys f (target_of ch) in
     let keys = c.in_ok-interested.interested.observers.keys in
-    let way = c.as_slice.ensures.value ∙ (c.in_ok-path.ensures ∙ ap (path_keys f) c.target-target.ensures) in
+    let way = c.as_slice.ensures.value ∙ (c.in_ok-path.ensures.keys ∙ ap (path_keys f) c.target-target.ensures) in
     let who = c.in_ok-interested.ensures.observers ∙
     (ap (λ p. interested nat_eq p c.refresh.new.self ch) way ∙ ap (λ rs. interested nat_eq path rs ch) c.in_ok-refresh.ensures) in
     sym (ap (λ ks. not (is_empty ks)) (sym who ∙ (sym c.as_slice-2.ensures.keys ∙ c.in-Some.ensures.cases.0)) ∙
@@ -58,7 +58,7 @@ returns-clause-tables c =
     let path = path_keys forest (target_of ch) in
     let told = c.in_ok-interested.interested in
     let f = λ (s : TablesOf ℕ) (k : ℕ). given (record_of told ch k) s k in
-    let way = c.as_slice.ensures.value ∙ (c.in_ok-path.ensures ∙ ap (path_keys forest) c.target-target.ensures) in
+    let way = c.as_slice.ensures.value ∙ (c.in_ok-path.ensures.keys ∙ ap (path_keys forest) c.target-target.ensures) in
     let who = c.in_ok-interested.ensures.observers ∙
     (ap (λ p. interested nat_eq p c.refresh.new.self ch) way ∙ ap (λ rs. interested nat_eq path rs ch) c.in_ok-refresh.ensures) in
     let wants = λ (k : ℕ) (list : List (Registration ℕ)). list_any (λ r. (r.observer == k) && asks_for_old r.options ch) list in

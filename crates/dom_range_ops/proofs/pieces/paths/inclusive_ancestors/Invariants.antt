@@ -1,9 +1,0 @@
-use Rattle.std.proofs.Common.{length}
-use Rattle.dom_observers.proofs.Ascending.{HasClimbed, above}
-use Rattle.dom_range_ops.proofs.pieces.paths.inclusive_ancestors.Given as goal
-
-abbrev pub invariant-loop-at : goal.invariant-loop-at
-invariant-loop-at l = HasClimbed l.forest l.fn.key l.path.items l.at
-
-abbrev pub decreases-loop-at : goal.decreases-loop-at
-decreases-loop-at l = length (above l.forest l.at)
