@@ -12,7 +12,7 @@ use Rattle.dom_model.specs.Tree.{Trees, none, tree, Node, nodes, names_of, has_n
 use Rattle.dom_model.proofs.OwnerLaws.{name_eq-same}
 use Rattle.dom_tree.specs.Forest.{name_at}
 use Rattle.dom_tree.specs.Owners.{trees_of_owner}
-use Rattle.dom_tree.proofs.Once.{times_in-none, times_in-tree, one-true, one-false, times_count}
+use Rattle.dom_tree.proofs.Once.{times_in-none, times_in-tree, one, one-true, one-false, times_count}
 use Rattle.dom_tree.proofs.Reach.{reaches, has_node-reaches}
 use Rattle.dom_tree_laws.proofs.Paths.{IsOnce, Lacks, swapped, once_parts, times_none}
 use Rattle.dom_tree_laws.proofs.Relatives.{NoTwice, Each, each_all}
