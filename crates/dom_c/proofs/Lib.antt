@@ -1,2 +1,1 @@
-mod Values
 mod Options

@@ -1,9 +1,9 @@
 //! The handle that a C program has of a session.
 ghost use Rattle.std.specs.Prelude.{◌≡◌, Some, None, is_some, option_map};
 
-use crate::boxes::Raw;
 use crate::held::Held;
 use crate::place::Place;
+use node_arena::Raw;
 use std::alloc::Global;
 use std::mem;
 

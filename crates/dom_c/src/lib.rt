@@ -5,7 +5,6 @@
 //! every later call but `dom_session_drop` answers `MEMORY`. All own rules.
 #![tactic(auto)]
 
-mod boxes;
 mod exports;
 mod handle;
 mod held;

@@ -4,8 +4,8 @@ ghost use Rattle.std.specs.Coded.{codes};
 ghost use Rattle.dom_model.specs.Codes.{trees_code};
 ghost use Rattle.dom_c.specs.State.{HeldState};
 
-use crate::boxes::Raw;
 use crate::held::Held;
+use node_arena::Raw;
 use std::alloc::Global;
 use std::marker::Model;
 use std::ptr;

@@ -5,11 +5,11 @@ ghost use Rattle.std.specs.Box.Ownership.{box_owns};
 use std::alloc::Allocator;
 use std::marker::Model;
 
-/// A box, as its pointer and its allocator.
-pub(crate) struct Raw<T, A: Allocator> {
-    pub(crate) at: *mut T,
-    pub(crate) alloc: A,
-    pub(crate) ghost value: { T },
+/// A box, as its pointer and its allocator (own rule). Whoever has one owns the block there, and what lies in it.
+pub struct Raw<T, A: Allocator> {
+    pub at: *mut T,
+    pub alloc: A,
+    pub ghost value: { T },
 }
 
 impl<T, A: Allocator> Model for Raw<T, A> {
@@ -18,7 +18,7 @@ impl<T, A: Allocator> Model for Raw<T, A> {
 
 impl<T: Drop, A: Allocator> Raw<T, A> {
     /// The box taken apart.
-    pub(crate) fn of(value: Box<T, A>) -> Raw<T, A>
+    pub fn of(value: Box<T, A>) -> Raw<T, A>
         ensures { result.value ≡ value.value }
     {
         let (at, alloc) = Box::into_raw_with_allocator(value);
@@ -26,7 +26,7 @@ impl<T: Drop, A: Allocator> Raw<T, A> {
     }
 
     /// The box again.
-    pub(crate) fn into_box(self) -> Box<T, A>
+    pub fn into_box(self) -> Box<T, A>
         ensures { result.value ≡ self.value }
     {
         let Raw { at, alloc } = self;

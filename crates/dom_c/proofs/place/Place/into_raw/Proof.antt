@@ -29,7 +29,7 @@ use Rattle.std.specs.contracts.impls.GlobalAllocator.TheImpl.{ghosts}
 use Rattle.std.proofs.alloc.Calls.{handle_tells}
 use Rattle.std.proofs.raw_atomic.Walks.{proved_at, leaves}
 use Rattle.std_alloc.proofs.RcSteps.{word, word-Good}
-use Rattle.dom_c.proofs.Values.{both, al, loose_good, loose_in}
+use Rattle.node_arena.proofs.Values.{both, al, loose_good, loose_in}
 use Rattle.node_arena.proofs.Words.{word_had}
 use Rattle.dom_c.specs.contracts.held.Held as held
 use Rattle.dom_c.specs.contracts.place.Place as O

@@ -23,7 +23,7 @@ use Rattle.std.proofs.alloc.Global.TheLaws as heap_laws
 use Rattle.std.specs.contracts.impls.GlobalAllocator.TheImpl.{ghosts}
 use Rattle.std.proofs.raw_atomic.Walks.{proved_at, leaves}
 use Rattle.std_alloc.proofs.RcSteps.{word, word-Good}
-use Rattle.dom_c.proofs.Values.{both, Loose, loose_good, loose_out}
+use Rattle.node_arena.proofs.Values.{both, Loose, loose_good, loose_out}
 use Rattle.node_arena.proofs.Words.{word_made}
 use Rattle.dom_c.specs.State.{HeldState}
 use Rattle.dom_c.specs.contracts.held.Held.{the_row}
