@@ -7,7 +7,7 @@ use dom_callers::{
     has_match, headings, label, move_to_front, next_focus, rearrange, select_contents,
     watch_attributes,
 };
-use dom_observers::Observers;
+use dom_observers::{Observers, inclusive_ancestors};
 use dom_ranges::RangeTable;
 use dom_traversal::Filter;
 use dom_tree::{Forest, NodeData};
@@ -122,5 +122,18 @@ fn a_root_stays(rt: HostRuntime) -> Result<(), Fail> {
     let top = arena.add('t')?;
     move_to_front(&mut arena, top);
     assert!(rt; arena.parent(top).is_none());
+    Ok(())
+}
+
+#[test]
+fn a_text_stands_below_its_ancestors(rt: HostRuntime) -> Result<(), Fail> {
+    let forest = buttons(&rt, rt.alloc())?;
+    let path = inclusive_ancestors(rt.alloc(), &forest, key_of(&rt, &forest, 3))?;
+    let wanted = [
+        key_of(&rt, &forest, 3),
+        key_of(&rt, &forest, 2),
+        key_of(&rt, &forest, 0),
+    ];
+    assert!(rt; path.as_slice() == wanted.as_slice());
     Ok(())
 }

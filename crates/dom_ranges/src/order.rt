@@ -48,20 +48,22 @@ pub fn climb_together(forest: &Forest, first: Key, second: Key) -> (Key, Key)
     ensures difference { depth_at forest.now result.0 + depth_at forest.now second ≡ depth_at forest.now first + depth_at forest.now result.1 }
     ensures first_above { depth_at forest.now result.0 ≤ depth_at forest.now first }
     ensures second_above { depth_at forest.now result.1 ≤ depth_at forest.now second }
+    ensures first_climbed { is_inclusive_ancestor forest.now.trees (name_of forest.now result.0) (name_of forest.now first) ≡ true }
+    ensures second_climbed { is_inclusive_ancestor forest.now.trees (name_of forest.now result.1) (name_of forest.now second) ≡ true }
     ensures root { (depth_at forest.now result.0 ≡ 1) ⊎ (depth_at forest.now result.1 ≡ 1) }
 {
     forest.nodes_stand_once();
-    let mut low = first;
-    let mut other = second;
+    let mut first_at = first;
+    let mut second_at = second;
     'up: loop {
-        let Some(above) = forest.parent(low) else {
-            return (low, other);
+        let Some(first_above) = forest.parent(first_at) else {
+            return (first_at, second_at);
         };
-        let Some(beside) = forest.parent(other) else {
-            return (low, other);
+        let Some(second_above) = forest.parent(second_at) else {
+            return (first_at, second_at);
         };
-        low = above;
-        other = beside;
+        first_at = first_above;
+        second_at = second_above;
     }
 }
 
