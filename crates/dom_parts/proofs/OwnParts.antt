@@ -17,7 +17,7 @@ use Rattle.dom_tree.specs.Owners.{AreOf, AreOwned, trees_of_owner}
 use Rattle.dom_tree.proofs.Owned.{own_trees}
 use Rattle.dom_parts.specs.Contents.{Contents, part_in}
 use Rattle.dom_parts.specs.Numbering.{AreNumbered}
-use Rattle.dom_parts.proofs.Numbers.{pick_second}
+use Rattle.dom_parts.proofs.Numbers.{pick_first, pick_second}
 use Rattle.dom_tree_laws.proofs.Once.{name_found, once_forest, once_own, times_own}
 
 -- ---- an owner's part

@@ -1,7 +1,5 @@
-use Rattle.std.proofs.Common.{arith}
 use Rattle.dom_worlds.proofs.KindLines.{has_node-times}
 use Rattle.dom_parts.specs.Doc.{name_in, trees_in}
-use Rattle.dom_parts.proofs.OwnParts.{times_same}
 use Rattle.dom_algorithms.proofs.Joined.{stands_there}
 use Rattle.dom_algorithms.proofs.normalizing.stands.Goals as goal
 
@@ -10,5 +8,4 @@ returns c =
     let ts = trees_in c.args.parts.now c.args.node in
     let x = name_in c.args.parts.now c.args.node in
     let there = has_node-times ts x (c.laws.ensures.stand c.args.node c.requires) in
-    let same = times_same ts x in
-    stands_there ts x (omega arith)
+    stands_there ts x there
