@@ -37,6 +37,11 @@ up-init c =
     let low = c.climb-low.ensures in
     let other = c.climb-other.ensures in
     let up = height-up f e.once e.only c.args.first c.in-Some.parent c.requires.first_is_node c.in-Some.ensures.value in
+    let high = depth-height f in
+    let low_high = high c.climb-low.result.0 in
+    let other_high = high c.climb-other.result.0 in
+    let first_high = high c.args.first in
+    let parent_high = high c.in-Some.parent in
     record {
       node = low.node;
       other_is_node = other.node;
@@ -44,11 +49,11 @@ up-init c =
       apart = first-apart f e.once e.only c.climb-low.result.0 c.args.first c.args.last c.requires.first_is_node c.requires.last_is_node low.above
           c.requires.apart
           (elim g.root [
-            | inl root ↦ inl (omega (arith, root, low.height))
-            | inr root ↦ inr (omega (arith, root, low.height, other.height, up, g.difference))
+            | inl root ↦ inl (omega (arith, root, low.depth, low_high, first_high))
+            | inr root ↦ inr (omega (arith, root, low.depth, up, g.difference, low_high, first_high, parent_high, high c.args.last))
           ]);
       beside = other.above;
-      level = omega (arith, low.height, other.height, up, g.difference);
+      level = omega (arith, low.depth, other.depth, up, g.difference, low_high, other_high, first_high, parent_high);
     }
 
 pub returns-in_default-parent-clause-alone : goal.returns-in_default-parent-clause-alone
