@@ -76,7 +76,7 @@ impl Observers {
         if self.tables.contains_key(&owner) {
             return Ok(());
         }
-        let _ = self.tables.insert(owner, Table::new(self.alloc))?;
+        drop(self.tables.insert(owner, Table::new(self.alloc))?);
         Ok(())
     }
 

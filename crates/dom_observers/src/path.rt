@@ -10,11 +10,7 @@ use node_arena::Key;
 use std::alloc::{AllocError, Global};
 
 /// A node and its ancestors, the nearest first (DOM Standard, concept: inclusive ancestor). It is refused where memory is.
-pub fn inclusive_ancestors(
-    alloc: Global,
-    forest: &Forest,
-    key: Key,
-) -> Result<Vec<Key>, AllocError>
+pub fn inclusive_ancestors(alloc: Global, forest: &Forest, key: Key) -> Result<Vec<Key>, AllocError>
     requires { IsNode forest.now key }
     ensures keys { IfOk result (λ path. path.items ≡ path_keys forest.now key) }
     ensures names { IfOk result (λ path. map (name_of forest.now) path.items ≡ all_above forest.now.trees (name_of forest.now key)) }

@@ -1,10 +1,10 @@
 //! The registrations of an owner's observers.
-ghost use Rattle.std.specs.Prelude.{◌≡◌, ℕ, false, not, nat_eq, [], ◌++◌, map, filter, IfOk, OnOk, OnErr, ◌&&◌, ◌==◌};
+ghost use Rattle.std.specs.Prelude.{◌≡◌, ℕ, false, not, nat_eq, [], ◌∷◌, ◌++◌, map, filter, IfOk, OnOk, OnErr, ◌&&◌, ◌==◌};
 ghost use Rattle.std.specs.List.{list_any};
 ghost use Rattle.dom_model.specs.Names.{is_empty};
 ghost use Rattle.dom_model.specs.Output.{Change as Changed};
 ghost use Rattle.dom_model.specs.Observers.{is_asked_for, stems_from, with_options, with_registration, without_observer, without_transients};
-ghost use Rattle.dom_model.specs.Observers.{transients_for, interested, target_of};
+ghost use Rattle.dom_model.specs.Observers.{transients_for, interested, target_of, asked_for};
 ghost use Rattle.dom_observers.specs.Paths.{path_keys};
 ghost use Rattle.dom_observers.specs.Views.{words_of, registration_of};
 ghost use Rattle.dom_observers.specs.Taking.{copied_on};
@@ -101,7 +101,7 @@ impl Registrations {
         ensures { self.new ≡ self.old }
     {
         if self.is_stale {
-            self.watched = Watched::of(self.alloc, self.list.as_slice())?;
+            self.watched.renew(self.alloc, self.list.as_slice())?;
             self.is_stale = false;
         }
         Ok(())
@@ -118,19 +118,38 @@ impl Registrations {
         ensures err { OnErr result (self.new ≡ self.old) }
     {
         if self.is_registered(observer, node) {
-            let list = self.renewed(observer, node, &options)?;
-            self.watched = Watched::of(self.alloc, list.as_slice())?;
-            self.list = list;
-            self.is_stale = false;
+            self.renew(observer, node, &options)
         } else {
-            self.watched.add(node, options.subtree)?;
-            self.list.push(Registered {
-                node,
-                observer,
-                options,
-                source: Source::AskedFor,
-            })?;
+            self.add(observer, node, options)
         }
+    }
+
+    /// Gives an observer's registration on a node other options, and takes the transient copies of it away.
+    fn renew(&mut self, observer: u32, node: Key, options: &Rc<Options>) -> Result<(), AllocError>
+        ensures ok { OnOk result (self.new ≡ map (with_options nat_eq observer node (words_of options.now.value))
+            (filter (λ r. not ((r.observer == observer) && stems_from nat_eq node r.source)) self.old)) }
+        ensures err { OnErr result (self.new ≡ self.old) }
+    {
+        let list = self.renewed(observer, node, options)?;
+        self.watched.renew(self.alloc, list.as_slice())?;
+        self.list = list;
+        self.is_stale = false;
+        Ok(())
+    }
+
+    /// Adds a registration of an observer on a node.
+    fn add(&mut self, observer: u32, node: Key, options: Rc<Options>) -> Result<(), AllocError>
+        ensures ok { OnOk result (self.new ≡ self.old ++
+            record { node = node; observer = observer; options = words_of options.value; source = asked_for } ∷ []) }
+        ensures err { OnErr result (self.new ≡ self.old) }
+    {
+        self.watched.add(node, options.subtree)?;
+        self.list.push(Registered {
+            node,
+            observer,
+            options,
+            source: Source::AskedFor,
+        })?;
         Ok(())
     }
 

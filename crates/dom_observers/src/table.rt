@@ -1,9 +1,10 @@
 //! What one owner has of observers.
-ghost use Rattle.std.specs.Prelude.{◌≡◌, ◌↔◌, ◌⊎◌, nat_eq, nat_lt, true, false, map, fold, length, option_map, slice_get, is_some, IfOk, IfErr};
+ghost use Rattle.std.specs.Prelude.{◌≡◌, ◌↔◌, ◌⊎◌, ℕ, nat_eq, nat_lt, true, false, not, [], map, fold, length, option_map, slice_get, is_some, IfOk, IfErr};
 ghost use Rattle.std.specs.Prelude.{OnOk, OnErr, if◌then◌else◌};
 ghost use Rattle.dom_model.specs.Names.{is_empty};
 ghost use Rattle.dom_model.specs.CommandRefusals.{past_limit};
-ghost use Rattle.dom_model.specs.Observers.{options_of, asks_for_nothing, target_of};
+ghost use Rattle.dom_model.specs.Output.{Change as Changed};
+ghost use Rattle.dom_model.specs.Observers.{options_of, asks_for_nothing, target_of, interested, record_for};
 ghost use Rattle.dom_observers.specs.Tables.{no_tables, with_observer, observing, disconnected, emptied, appended, given, is_taken, told, left};
 ghost use Rattle.dom_observers.specs.Tables.{notices, notified};
 ghost use Rattle.dom_observers.specs.Views.{words_of, change_of, notice_of};
@@ -140,22 +141,57 @@ impl Table {
         ensures tables { OnOk result (table_of self.new ≡ told nat_eq (path_keys forest.now (target_of (change_of change))) (change_of change)
             (table_of self.old)) }
     {
-        let target = change.target();
-        self.registrations.refresh()?;
-        if !self.registrations.may_concern(forest, target) {
-            return Ok(false);
+        match self.may_concern(forest, change.target()) {
+            Ok(true) => {
+                let interested = self.interested_in(forest, &change)?;
+                self.give_to(&interested, change)
+            }
+            answer => answer,
         }
-        let path = inclusive_ancestors(self.alloc, forest, target)?;
-        let interested = InterestedObservers::of(
-            self.alloc,
-            &self.registrations,
-            path.as_slice(),
-            &change,
-        )?;
+    }
+
+    /// Whether somebody may be interested in a change of a node: where the answer is no, nobody is.
+    fn may_concern(&mut self, forest: &Forest, target: Key) -> Result<bool, AllocError>
+        requires { IsNode forest.now target }
+        ensures tables { table_of self.new ≡ table_of self.old }
+        ensures nobody { IfOk result (λ may. may ≡ false → (c : Changed ℕ) → target_of c ≡ target →
+            interested nat_eq (path_keys forest.now target) (table_of self.old).registrations c ≡ []) }
+    {
+        self.registrations.refresh()?;
+        Ok(self.registrations.may_concern(forest, target))
+    }
+
+    /// The observers that are interested in a change of a node (DOM Standard, queue a mutation record: interested observers).
+    fn interested_in(
+        &self,
+        forest: &Forest,
+        change: &Change,
+    ) -> Result<InterestedObservers, AllocError>
+        requires { IsNode forest.now (target_of (change_of change.now)) }
+        ensures observers { IfOk result (λ t. t.observers.keys ≡
+            interested nat_eq (path_keys forest.now (target_of (change_of change.now))) (table_of self.now).registrations (change_of change.now)) }
+        ensures with_old { IfOk result (λ t. (k : ℕ) → record_of t (change_of change.now) k ≡
+            record_for nat_eq (path_keys forest.now (target_of (change_of change.now))) (table_of self.now).registrations (change_of change.now) k) }
+    {
+        let path = inclusive_ancestors(self.alloc, forest, change.target())?;
+        InterestedObservers::of(self.alloc, &self.registrations, path.as_slice(), change)
+    }
+
+    /// Gives the record of a change to these observers, and answers whether there are some. The last of them gets the change
+    /// itself.
+    fn give_to(
+        &mut self,
+        interested: &InterestedObservers,
+        change: Change,
+    ) -> Result<bool, AllocError>
+        ensures taken { IfOk result (λ taken. taken ≡ not (is_empty interested.now.observers.keys)) }
+        ensures tables { OnOk result (table_of self.new ≡
+            fold (λ t k. given (record_of interested.now (change_of change) k) t k) (table_of self.old) interested.now.observers.keys) }
+    {
         let Some((last, others)) = interested.observers.as_slice().split_last() else {
             return Ok(false);
         };
-        self.give_copies(others, &interested, &change)?;
+        self.give_copies(others, interested, &change)?;
         self.give(*last, change.recorded(interested.get_old(*last)))?;
         Ok(true)
     }

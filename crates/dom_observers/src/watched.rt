@@ -1,5 +1,5 @@
 //! The nodes that observers watch.
-ghost use Rattle.std.specs.Prelude.{◌≡◌, ℕ, [], nat_eq, IfOk, OnOk, if◌then◌else◌};
+ghost use Rattle.std.specs.Prelude.{◌≡◌, ℕ, [], nat_eq, IfOk, OnOk, OnErr, if◌then◌else◌};
 ghost use Rattle.std.specs.List.{list_any};
 ghost use Rattle.dom_model.specs.Names.{is_in, append_once};
 ghost use Rattle.dom_model.specs.Observers.{Registration};
@@ -42,6 +42,19 @@ impl Watched {
             watched.add(registered.node, registered.options.subtree)?;
         }
         Ok(watched)
+    }
+
+    /// Finds the nodes anew, by these registrations.
+    pub(crate) fn renew(
+        &mut self,
+        alloc: Global,
+        registrations: &[Registered],
+    ) -> Result<(), AllocError>
+        ensures ok { OnOk result (AreNoted self.new registrations.now) }
+        ensures err { OnErr result (self.new ≡ self.old) }
+    {
+        *self = Watched::of(alloc, registrations)?;
+        Ok(())
     }
 
     /// Adds the node of a registration, which may observe what is below it.
