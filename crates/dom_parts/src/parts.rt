@@ -83,21 +83,15 @@ impl Parts {
             text: Vec::new(alloc),
             document: None,
         };
-        let cursors = Cursors::new(alloc);
-        let observers = Observers::new(alloc);
-        let ranges = RangeTable::new(alloc);
-        let slots = Slots::new(alloc);
-        let signalled = Signals::new(alloc);
-        let queue = Queue::new(alloc);
         match forest.add(Owner::Page, document) {
             Ok(_) => Ok(Parts {
                 forest,
-                cursors,
-                observers,
-                ranges,
-                slots,
-                signalled,
-                queue,
+                cursors: Cursors::new(alloc),
+                observers: Observers::new(alloc),
+                ranges: RangeTable::new(alloc),
+                slots: Slots::new(alloc),
+                signalled: Signals::new(alloc),
+                queue: Queue::new(alloc),
                 alloc,
             }),
             Err(_) => Err(AllocError),

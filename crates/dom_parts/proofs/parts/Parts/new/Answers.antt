@@ -19,19 +19,19 @@ use Rattle.dom_parts.proofs.parts.Parts.new.Goals as goal
 pub invariant_of-result : goal.invariant_of-result
 invariant_of-result c =
     let first : NodeData = record { kind = Document; element = c.new.result; attributes = c.new-2.result; text = c.new-3.result; document = None } in
-    let seen = observers_of c.new-observers.result in
-    let tasks = c.new-queue.result in
-    let slots = c.new-slots.result in
-    let signalled = c.new-signalled.result in
-    let ranges = c.new-ranges.result in
-    first_held c.add.new.self (tables_of (cursors_of c.new-cursors.result) seen tasks slots signalled ranges)
+    let seen = observers_of c.new-in-Ok-2.result in
+    let tasks = c.new-in-Ok-6.result in
+    let slots = c.new-in-Ok-4.result in
+    let signalled = c.new-in-Ok-5.result in
+    let ranges = c.new-in-Ok-3.result in
+    first_held c.add.new.self (tables_of (cursors_of c.new-in-Ok.result) seen tasks slots signalled ranges)
     (node_from [] (node_of Page 0) first) refl record {
-      all = (λ j. tables_of (λ o. c.new-cursors.ensures o j) seen tasks slots signalled ranges)
-          ∙ (λ j. tables_of (λ o. no_keyed_tables) (λ o. c.new-observers.ensures o j) tasks slots signalled ranges)
-          ∙ ap (λ (ts : List Task). tables_of (λ o. no_keyed_tables) (λ o. no_observers) ts slots signalled ranges) c.new-queue.ensures
-          ∙ ap (λ (s : SlotsNow). tables_of (λ o. no_keyed_tables) (λ o. no_observers) [] s signalled ranges) c.new-slots.ensures.value
-          ∙ ap (λ (xs : List NodeName). tables_of (λ o. no_keyed_tables) (λ o. no_observers) [] no_slots xs ranges) c.new-signalled.ensures;
-      no_ranges = c.new-ranges.ensures;
+      all = (λ j. tables_of (λ o. c.new-in-Ok.ensures o j) seen tasks slots signalled ranges)
+          ∙ (λ j. tables_of (λ o. no_keyed_tables) (λ o. c.new-in-Ok-2.ensures o j) tasks slots signalled ranges)
+          ∙ ap (λ (ts : List Task). tables_of (λ o. no_keyed_tables) (λ o. no_observers) ts slots signalled ranges) c.new-in-Ok-6.ensures
+          ∙ ap (λ (s : SlotsNow). tables_of (λ o. no_keyed_tables) (λ o. no_observers) [] s signalled ranges) c.new-in-Ok-4.ensures.value
+          ∙ ap (λ (xs : List NodeName). tables_of (λ o. no_keyed_tables) (λ o. no_observers) [] no_slots xs ranges) c.new-in-Ok-5.ensures;
+      no_ranges = c.new-in-Ok-3.ensures;
     }
     (c.in-Ok.ensures.names ∙ ap (λ (g : NamedTrees). g.names ++ next_name Page g.names ∷ []) c.new-forest.ensures)
     (c.in-Ok.ensures.trees ∙ ap (λ (g : NamedTrees). with_node (node_from g.names (next_name Page g.names) first) g.trees) c.new-forest.ensures)
