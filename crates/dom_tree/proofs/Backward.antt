@@ -20,7 +20,7 @@ use Rattle.dom_tree.proofs.Rows.{Stands, name_of_key}
 use Rattle.dom_tree.proofs.Changes.{IsWhole, subtree_here}
 use Rattle.dom_tree.proofs.Reading.{last_or-items_before}
 use Rattle.dom_tree.proofs.Kept.{seen, IsWhole-kept, name_at-same, names_option, within}
-use Rattle.dom_tree.proofs.Walks.{no_prev}
+use Rattle.node_arena.proofs.Indexes.{no_prev}
 use Rattle.dom_tree.proofs.Order.{in_trees, root-in_trees, child-in_trees}
 use Rattle.dom_tree.proofs.OrderWithin.{tree_at, keys_at, keys_at-once, keys_at-inside, keys_at-named}
 use Rattle.dom_tree.proofs.OrderWithin.{keys_at-told, still_below, has_above}

@@ -1,17 +1,17 @@
 -- Walks up a tree.
-use Rattle.std.proofs.Common.{◌≡◌, ◌⊎◌, inl, inr, ℕ, zero, suc, ◌-◌, ◌<◌, ◌≤◌, Bool, true, false, ◌||◌, eqb, List, [], ◌∷◌, map, length, Option, Some}
-use Rattle.std.proofs.Common.{None, refl, sym, ap, subst, ◌∙◌, arith, cond, true≢false}
+use Rattle.std.proofs.Common.{◌≡◌, ◌⊎◌, inl, inr, ℕ, zero, suc, ◌-◌, ◌^◌, ◌<◌, ◌≤◌, Bool, true, false, ◌||◌, eqb, List, [], ◌∷◌, map, length, Option, Some}
+use Rattle.std.proofs.Common.{None, refl, sym, ap, subst, ◌∙◌, arith, true≢false}
 use Rattle.std.specs.Prelude.{unwrap_or, is_some}
 use Rattle.std.specs.Option.{option_map, option_map_or, option_and_then}
-use Rattle.std.proofs.lemmas.Bool.{eq-eqb, ne_eqb, eqb-true, cases_Bool, or_cases, or_left, or_right, or_from, or_parts, both_ways, false_from_ne_true}
-use Rattle.std.proofs.lemmas.Option.{same_Some, none-some}
+use Rattle.std.proofs.lemmas.Bool.{eq-eqb, ne_eqb, eqb-true, cases_Bool, or_cases, or_right, or_from, or_parts, both_ways, false_from_ne_true}
 use Rattle.dom_base.specs.declared.Owner.{Owner}
 use Rattle.dom_base.specs.declared.NodeName.{NodeName}
 use Rattle.dom_model.specs.Names.{last_of, name_eq, items_before}
 use Rattle.dom_model.specs.Tree.{Node, root_of, is_inclusive_ancestor, index_of, children_of as children_in}
-use Rattle.node_arena.specs.Nodes.{contains, parent_of, children_of, ancestors_of, IsForest, IsOnce, last_from, head_of, next_in, next_of, prev_from}
-use Rattle.node_arena.specs.Nodes.{prev_in, prev_of}
+use Rattle.node_arena.specs.Nodes.{contains, parent_of, children_of, ancestors_of, IsForest, IsOnce, last_from, head_of, next_in, next_of}
+use Rattle.node_arena.specs.Nodes.{place_in, place_of}
 use Rattle.node_arena.proofs.Lists.{contains-head, length-IsOnce, contains-next_in}
+use Rattle.node_arena.proofs.Indexes.{place_in-within, place_of-root, place_of-child}
 use Rattle.node_arena.proofs.Forests.{cases_Option, contains-parent, parent_within, parent_of_is, ancestors_of-child, ancestors_of-root}
 use Rattle.dom_tree.specs.Contents.{Stored}
 use Rattle.dom_tree.specs.Rows.{trees_of}
@@ -163,75 +163,6 @@ none_left (Some x) never = absurd (never x refl)
 
 -- ---- places among siblings
 
-abbrev pub place_in : List ℕ → ℕ → ℕ
-place_in [] k = 0
-place_in (x ∷ xs) k = cond (eqb x k) 0 (suc (place_in xs k))
-
-place_in-within : (xs : List ℕ) (k : ℕ) → contains xs k ≡ true → place_in xs k < length xs
-place_in-within [] k found = absurd (true≢false (sym found))
-place_in-within (x ∷ xs) k found = elim (cases_Bool (eqb x k)) [
-  | inl e ↦ rw e (omega arith)
-  | inr e ↦ rw e (omega (arith, place_in-within xs k (rw e at found)))
-]
-
--- what stands just before k has the place before
-prev_place : (before : Option ℕ) (xs : List ℕ) (k s : ℕ) → IsOnce xs → contains xs k ≡ true → prev_from before xs k ≡ Some s
-    → ((place_in xs k ≡ 0) × (before ≡ Some s)) ⊎ ((contains xs s ≡ true) × (place_in xs k ≡ suc (place_in xs s)))
-prev_place before [] k s once found e = absurd (true≢false (sym found))
-prev_place before (x ∷ xs) k s once found e = elim (cases_Bool (eqb x k)) [
-  | inl h ↦ rw h (inl (refl, rw h at e))
-  | inr h ↦ rw h (elim (prev_place (Some x) xs k s once.1 (rw h at found) (rw h at e)) [
-    | inl w ↦
-        let same : x ≡ s = same_Some x s w.1 in
-        inr (or_left (eqb x s) _ (eq-eqb x s same), rw (eq-eqb x s same, w.0) refl)
-    | inr w ↦
-        let apart : eqb x s ≡ false = false_from_ne_true _ (λ same. both_ways _ once.0 (ap (contains xs) (eqb-true x s same) ∙ w.0)) in
-        inr (or_right (eqb x s) _ w.0, rw (apart, w.1) refl)
-  ])
-]
-
-pub no_prev : (x : ℕ) (xs : List ℕ) (k : ℕ) → contains xs k ≡ true → prev_from (Some x) xs k ≡ None → ⊥
-no_prev x [] k found e = true≢false (sym found)
-no_prev x (y ∷ xs) k found e = elim (cases_Bool (eqb y k)) [
-  | inl h ↦ none-some x (sym (rw h at e))
-  | inr h ↦ no_prev y xs k (rw h at found) (rw h at e)
-]
-
-first_place : (xs : List ℕ) (k : ℕ) → contains xs k ≡ true → prev_from None xs k ≡ None → place_in xs k ≡ 0
-first_place [] k found e = absurd (true≢false (sym found))
-first_place (x ∷ xs) k found e = elim (cases_Bool (eqb x k)) [
-  | inl h ↦ rw h refl
-  | inr h ↦ absurd (no_prev x xs k (rw h at found) (rw h at e))
-]
-
--- the number of siblings before a node
-pub place : List (List ℕ) → ℕ → ℕ
-place lists k = option_map_or (λ p. place_in (children_of lists p) k) (parent_of lists k) 0
-
--- and before the one after the node given; 0 where none is
-pub places_left : List (List ℕ) → Option ℕ → ℕ
-places_left lists at = option_map_or (λ k. suc (place lists k)) at 0
-
-pub places_left-prev : (lists : List (List ℕ)) → IsForest lists → (k : ℕ) (r : Option ℕ) → r ≡ prev_of lists k → places_left lists r ≡ place lists k
-unfolding places_left place
-places_left-prev lists forest k r is = rw is (by (cases_Option (parent_of lists k)))
-  where
-    found_prev : (p : ℕ) → parent_of lists k ≡ Some p → (o : Option ℕ) → prev_in (children_of lists p) k ≡ o →
-        option_map_or (λ j. suc (option_map_or (λ q. place_in (children_of lists q) j) (parent_of lists j) 0)) o 0 ≡ place_in (children_of lists p) k
-    found_prev p e None h = sym (first_place (children_of lists p) k (contains-parent lists k p e) h)
-    found_prev p e (Some s) h = elim (prev_place None (children_of lists p) k s (forest.once p) (contains-parent lists k p e) h) [
-      | inl w ↦ absurd (none-some s w.1)
-      | inr w ↦ ap (λ o. suc (option_map_or (λ q. place_in (children_of lists q) s) o 0)) (parent_of_is lists forest.one_list p s w.0) ∙ sym w.1
-    ]
-
-    by : (parent_of lists k ≡ None) ⊎ ((p : ℕ) × (parent_of lists k ≡ Some p)) →
-        option_map_or (λ j. suc (option_map_or (λ q. place_in (children_of lists q) j) (parent_of lists j) 0)) (prev_of lists k) 0 ≡ option_map_or
-        (λ p. place_in (children_of lists p) k) (parent_of lists k) 0
-    by (inl e) = rw e refl
-    by (inr w) = ap (λ o. option_map_or (λ j. suc (option_map_or (λ q. place_in (children_of lists q) j) (parent_of lists j) 0))
-        (option_and_then (λ p. prev_in (children_of lists p) k) o) 0) w.1
-        ∙ (found_prev w.0 w.1 (prev_in (children_of lists w.0) k) refl ∙ sym (ap (λ o. option_map_or (λ p. place_in (children_of lists p) k) o 0) w.1))
-
 -- a node has fewer children than there are nodes
 pub few_children : (lists : List (List ℕ)) → IsForest lists → (p : ℕ) → p < length lists → length (children_of lists p) < length lists
 few_children lists forest p node =
@@ -248,16 +179,33 @@ few_children lists forest p node =
         (ap (λ ys. contains ys p) (ancestors_of-child lists forest p p (parent_of_is lists forest.one_list p p found)) ∙
         contains-head p (ancestors_of lists p)))
 
-pub place-within : (lists : List (List ℕ)) → IsForest lists → (k : ℕ) → k < length lists → place lists k < length lists
-unfolding place
-place-within lists forest k node = by (cases_Option (parent_of lists k))
-  where
-    by : (parent_of lists k ≡ None) ⊎ ((p : ℕ) × (parent_of lists k ≡ Some p)) →
-        option_map_or (λ p. place_in (children_of lists p) k) (parent_of lists k) 0 < length lists
-    by (inl e) = rw e (omega arith)
-    by (inr w) =
-        let child = contains-parent lists k w.0 w.1 in
-        rw w.1 (omega (arith, place_in-within (children_of lists w.0) k child, few_children lists forest w.0 (parent_within lists w.0 k child)))
+-- a child has fewer siblings before it than its parent has children
+pub place-within : (lists : List (List ℕ)) → IsForest lists → (k : ℕ) → k < length lists → place_of lists k < length lists
+place-within lists forest k node = elim (cases_Option (parent_of lists k)) [
+  | inl e ↦ omega (arith, place_of-root lists k e)
+  | inr w ↦
+      let child = contains-parent lists k w.0 w.1 in
+      omega (
+        arith,
+        place_of-child lists k w.0 w.1,
+        place_in-within (children_of lists w.0) k child,
+        few_children lists forest w.0 (parent_within lists w.0 k child),
+      )
+]
+
+-- so the index of a node is less than the greatest number that an index may be
+pub place-fits : (lists : List (List ℕ)) → IsForest lists → length lists ≤ 2 ^ 64 → (k : ℕ) → 2 ^ 64 - 1 ≤ place_of lists k → ⊥
+place-fits lists forest few k far = elim (cases_Option (parent_of lists k)) [
+  | inl e ↦ omega (arith, place_of-root lists k e)
+  | inr w ↦
+      let child = contains-parent lists k w.0 w.1 in
+      omega (
+        arith,
+        place_of-child lists k w.0 w.1,
+        place_in-within (children_of lists w.0) k child,
+        few_children lists forest w.0 (parent_within lists w.0 k child),
+      )
+]
 
 pub length-items_before : (f : ℕ → NodeName) (x : ℕ) (ks : List ℕ) → Tells f x ks → contains ks x ≡ true →
     length (items_before name_eq (f x) (map f ks)) ≡ place_in ks x
@@ -270,34 +218,24 @@ length-items_before f x (k ∷ ks) tells found =
     ]
 
 pub index_of-at : (nodes : List Node) (lists : List (List ℕ)) → IsWhole nodes lists → (x : ℕ) → x < length lists →
-    index_of (trees_of nodes lists) (name_of_key nodes x) ≡ place lists x
-unfolding place
-index_of-at nodes lists whole x node = by (cases_Option (parent_of lists x))
-  where
-    by : (parent_of lists x ≡ None) ⊎ ((p : ℕ) × (parent_of lists x ≡ Some p)) →
-        index_of (trees_of nodes lists) (name_of_key nodes x) ≡ option_map_or (λ p. place_in (children_of lists p) x) (parent_of lists x) 0
-    by (inl e) = ap (λ ys. length (items_before name_eq (name_of_key nodes x) ys)) (siblings-root nodes lists whole x node e) ∙
-        rw (name_eq-same (name_of_key nodes x), e) refl
-    by (inr w) = ap (λ ys. length (items_before name_eq (name_of_key nodes x) ys)) (siblings-child nodes lists whole x w.0 node w.1)
-        ∙ (length-items_before (name_of_key nodes) x (children_of lists w.0) (tells-children nodes lists whole x w.0 node) (contains-parent lists x w.0 w.1)
-        ∙ sym (ap (λ o. option_map_or (λ p. place_in (children_of lists p) x) o 0) w.1))
+    index_of (trees_of nodes lists) (name_of_key nodes x) ≡ place_of lists x
+index_of-at nodes lists whole x node = elim (cases_Option (parent_of lists x)) [
+  | inl e ↦
+      ap (λ ys. length (items_before name_eq (name_of_key nodes x) ys)) (siblings-root nodes lists whole x node e)
+      ∙ (rw (name_eq-same (name_of_key nodes x)) refl ∙ sym (place_of-root lists x e))
+  | inr w ↦
+      ap (λ ys. length (items_before name_eq (name_of_key nodes x) ys)) (siblings-child nodes lists whole x w.0 node w.1)
+      ∙ (length-items_before (name_of_key nodes) x (children_of lists w.0) (tells-children nodes lists whole x w.0 node) (contains-parent lists x w.0 w.1)
+      ∙ sym (place_of-child lists x w.0 w.1))
+]
 
 pub shows_index : {f : NamedTrees} {ps : List Stored} {lists : List (List ℕ)} {keys : Owner → List ℕ} → seen ps lists ≡ f → IsKept ps lists keys
-    → (x : ℕ) → x < length f.names → place lists x ≡ index_of f.trees (name_at f.names x)
+    → (x : ℕ) → x < length f.names → place_of lists x ≡ index_of f.trees (name_at f.names x)
 shows_index {f = f} {ps = ps} {lists = lists} {keys = keys} is kept x node =
     let inside = within is kept x node in
-    subst (λ (g : NamedTrees). place lists x ≡ index_of g.trees (name_at g.names x)) is
+    subst (λ (g : NamedTrees). place_of lists x ≡ index_of g.trees (name_at g.names x)) is
     (sym (index_of-at (nodes_of ps) lists (IsWhole-kept kept) x (omega (arith, kept.paired)))
     ∙ ap (index_of (trees_of (nodes_of ps) lists)) (sym (name_at-same (stored_names ps) ps x)))
-
--- what is left after a sibling is one less than what is left with it
-pub places_left-none : (lists : List (List ℕ)) → places_left lists None ≡ 0
-unfolding places_left
-places_left-none lists = refl
-
-pub places_left-some : (lists : List (List ℕ)) (k : ℕ) → places_left lists (Some k) ≡ suc (place lists k)
-unfolding places_left
-places_left-some lists k = refl
 
 -- ---- counting the children of a node
 

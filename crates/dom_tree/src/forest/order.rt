@@ -1,5 +1,5 @@
 //! The order of the nodes of a tree, and the places of nodes among their siblings.
-ghost use Rattle.std.specs.Prelude.{◌≡◌, ◌<◌, ℕ, length, true};
+ghost use Rattle.std.specs.Prelude.{◌≡◌, ◌<◌, ◌≤◌, ℕ, length, true, None};
 ghost use Rattle.std.specs.Option.{option_map, ForSome};
 ghost use Rattle.dom_model.specs.Names.{first_of, last_of, items_after, items_before, name_eq};
 ghost use Rattle.dom_model.specs.Tree.{children_of, is_inclusive_ancestor, index_of, length_of, inclusive_descendants};
@@ -64,18 +64,36 @@ impl Forest {
         Some(at)
     }
 
-    /// The number of siblings before a node (DOM Standard, concept: index), which are counted.
+    /// The number of siblings before a node (DOM Standard, concept: index). Those that are remembered are looked through, and
+    /// the others are walked over one by one.
     pub fn index(&self, key: Key) -> usize
         requires { IsNode self.now key }
         ensures { result ≡ index_of self.now.trees (name_of self.now key) }
     {
-        let mut index = 0;
-        let mut at = self.arena.prev(key);
-        while let Some(sibling) = at {
-            index += 1;
-            at = self.arena.prev(sibling);
-        }
+        let Some(index) = self.arena.index_below(key, usize::MAX) else {
+            unreachable!()
+        };
         index
+    }
+
+    /// The number of siblings before a node, where it is less than a limit (DOM Standard, concept: index). No more siblings than
+    /// that are walked over.
+    pub fn index_below(&self, key: Key, limit: usize) -> Option<usize>
+        requires { IsNode self.now key }
+        ensures below { ForSome result (λ i. (i ≡ index_of self.now.trees (name_of self.now key)) × (i < limit)) }
+        ensures none { result ≡ None → limit ≤ index_of self.now.trees (name_of self.now key) }
+    {
+        self.arena.index_below(key, limit)
+    }
+
+    /// Remembers the order of the siblings before a node, as many as the limit, so that `index` and `index_below` find them
+    /// sooner (own rule). It takes about as long as one walk over those that were not remembered yet. The siblings of one
+    /// node at a time are remembered, also while nodes come among them and leave. Where memory is refused, fewer are.
+    pub fn remember_siblings(&mut self, key: Key, limit: usize)
+        requires { IsNode self.old key }
+        ensures { self.new ≡ self.old }
+    {
+        self.arena.remember_siblings(key, limit);
     }
 
     /// Holds of every forest (own rule): a node has fewer siblings before it than there are nodes.

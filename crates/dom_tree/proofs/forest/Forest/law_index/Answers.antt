@@ -1,7 +1,8 @@
 use Rattle.std.proofs.Common.{◌≡◌, arith}
 use Rattle.dom_model.specs.Tree.{index_of}
 use Rattle.dom_tree.proofs.Kept.{within, within_names}
-use Rattle.dom_tree.proofs.Walks.{place, place-within, shows_index}
+use Rattle.node_arena.specs.Nodes.{place_of}
+use Rattle.dom_tree.proofs.Walks.{place-within, shows_index}
 use Rattle.dom_tree.specs.Forest.{name_at}
 use Rattle.dom_tree.proofs.forest.Forest.law_index.Goals as goal
 
@@ -11,6 +12,6 @@ returns c = λ k node.
     let paired = c.self.invariant.paired in
     let inside = within c.self.view_is c.self.invariant k node in
     let below = place-within lists c.self.invariant.forest k (omega arith) in
-    let shown : place lists k ≡ index_of c.args.self.now.trees (name_at c.args.self.now.names k) = shows_index c.self.view_is c.self.invariant k node in
-    let there = within_names c.self.view_is c.self.invariant (place lists k) (omega arith) in
+    let shown : place_of lists k ≡ index_of c.args.self.now.trees (name_at c.args.self.now.names k) = shows_index c.self.view_is c.self.invariant k node in
+    let there = within_names c.self.view_is c.self.invariant (place_of lists k) (omega arith) in
     omega arith

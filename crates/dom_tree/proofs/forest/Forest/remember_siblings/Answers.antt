@@ -1,0 +1,10 @@
+use Rattle.std.proofs.Common.{subst, sym}
+use Rattle.node_arena.specs.Nodes.{Nodes}
+use Rattle.dom_tree.specs.Contents.{Stored}
+use Rattle.dom_tree.specs.Forest.{IsKept}
+use Rattle.dom_tree.specs.Table.{keys_of}
+use Rattle.dom_tree.proofs.forest.Forest.remember_siblings.Goals as goal
+
+pub invariant_of-self : goal.invariant_of-self
+invariant_of-self c =
+    subst (λ (a : Nodes Stored). IsKept a.payloads a.children (keys_of c.self.inside.keys)) (sym c.remember_siblings.ensures) c.self.invariant

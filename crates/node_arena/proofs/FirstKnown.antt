@@ -1,0 +1,302 @@
+-- First children that are kept beside the links: what changes leave of them, and walks back to them.
+use Rattle.std.proofs.Common.{◌≡◌, ◌≢◌, ◌⊎◌, inl, inr, ℕ, zero, suc, ◌+◌, ◌-◌, ◌<◌, ◌≤◌, true, false, eqb, List, [], ◌∷◌, ◌++◌, map, length, set, get_or}
+use Rattle.std.proofs.Common.{Option, Some, None, refl, sym, ap, subst, ◌∙◌, arith, append_assoc, take, drop, true≢false, not}
+use Rattle.std.specs.Prelude.{slice_get, is_none}
+use Rattle.std.specs.List.{insert, remove}
+use Rattle.std.specs.Option.{option_and_then}
+use Rattle.std.proofs.lemmas.Bool.{eq-eqb, eqb-true, both_ways, or_left, or_right, or_parts, false_from_ne_true, cases_eq}
+use Rattle.std.proofs.lemmas.Bool.Decides.{eqb_tells}
+use Rattle.std.proofs.lemmas.List.{get_or-set_same, get_or-set_other, take-append-drop}
+use Rattle.std.proofs.lemmas.Option.{same_Some, none-some}
+use Rattle.node_arena.specs.Nodes.{children_of, siblings_in, contains, parent_of, prev_of, prev_in, prev_from, next_in, head_of, last_from, last_of, place_in}
+use Rattle.node_arena.specs.Nodes.{place_of, put_before, insert_before, without, IsOnce, IsForest}
+use Rattle.node_arena.specs.Known.{AreFirst}
+use Rattle.node_arena.specs.declared.first_children.FirstChildren.{FirstChildren}
+use Rattle.node_arena.proofs.Lists.{contains-append, contains-last_of, IsOnce-append_left, IsOnce-append_right, IsOnce-apart, is, head_or, next_in_is, last_from-Some}
+use Rattle.node_arena.proofs.Lists.{next_from-append, next_from_is, head_or-None, prev_from-append, without-absent}
+use Rattle.node_arena.proofs.Forests.{cases_Option, contains-parent, children_of-without, parent_of_is}
+use Rattle.node_arena.proofs.Indexes.{prev_place, first_place, no_prev, place_of-root, place_of-child}
+
+-- ---- a key that is found in a list, and one that is not
+
+pub contains-found : (xs : List ℕ) (i k : ℕ) → slice_get xs i ≡ Some k → contains xs k ≡ true
+contains-found [] i k e = absurd (none-some k e)
+contains-found (x ∷ xs) zero k e = or_left (eqb x k) _ (eq-eqb x k (same_Some x k e))
+contains-found (x ∷ xs) (suc i) k e = or_right (eqb x k) _ (contains-found xs i k e)
+
+-- a list of which no item is k
+pub contains-none : (xs : List ℕ) (k : ℕ) → ((i : ℕ) → i < length xs → get_or xs i 0 ≢ k) → contains xs k ≡ false
+contains-none [] k other = refl
+contains-none (x ∷ xs) k other =
+    let apart : eqb x k ≡ false = false_from_ne_true _ (λ same. other 0 (omega arith) (eqb-true x k same)) in
+    rw apart (contains-none xs k (λ i l. other (suc i) (omega arith)))
+
+-- a test for inequality that fails
+pub same_from : (a b : ℕ) → false ≡ not (eqb a b) → a ≡ b
+same_from a b e = elim (eqb_tells a b) [ inl h ↦ h.1 | inr h ↦ absurd (true≢false (sym (e ∙ ap not h.0))) ]
+
+-- the first of a list is no later item of it
+apart_from : (x : ℕ) (xs : List ℕ) (k : ℕ) → contains xs x ≡ false → contains xs k ≡ true → eqb x k ≡ false
+apart_from x xs k lacks found = false_from_ne_true _ (λ same. both_ways _ lacks (ap (contains xs) (eqb-true x k same) ∙ found))
+
+pub place_in-found : (xs rest : List ℕ) (i k : ℕ) → IsOnce xs → slice_get xs i ≡ Some k → place_in (xs ++ rest) k ≡ i
+place_in-found [] rest i k once e = absurd (none-some k e)
+place_in-found (x ∷ xs) rest zero k once e = rw (eq-eqb x k (same_Some x k e)) refl
+place_in-found (x ∷ xs) rest (suc i) k once e =
+    rw (apart_from x xs k once.0 (contains-found xs i k e)) (ap suc (place_in-found xs rest i k once.1 e))
+
+pub place_in-behind : (xs rest : List ℕ) (k : ℕ) → contains xs k ≡ false → place_in (xs ++ rest) k ≡ length xs + place_in rest k
+place_in-behind [] rest k absent = omega arith
+place_in-behind (x ∷ xs) rest k absent =
+    let parts = or_parts (eqb x k) (contains xs k) absent in
+    rw parts.0 (omega (arith, place_in-behind xs rest k parts.1))
+
+-- ---- what a change of a list leaves of its first items
+
+pub put_before-found : (xs rest : List ℕ) (i c b : ℕ) → IsOnce xs → slice_get xs i ≡ Some b → put_before (xs ++ rest) c b ≡ insert xs i c ++ rest
+put_before-found [] rest i c b once e = absurd (none-some b e)
+put_before-found (x ∷ xs) rest zero c b once e = rw (eq-eqb x b (same_Some x b e)) refl
+put_before-found (x ∷ xs) rest (suc i) c b once e =
+    rw (apart_from x xs b once.0 (contains-found xs i b e)) (ap (λ ys. x ∷ ys) (put_before-found xs rest i c b once.1 e))
+
+pub put_before-behind : (xs rest : List ℕ) (c b : ℕ) → contains xs b ≡ false → put_before (xs ++ rest) c b ≡ xs ++ put_before rest c b
+put_before-behind [] rest c b absent = refl
+put_before-behind (x ∷ xs) rest c b absent =
+    let parts = or_parts (eqb x b) (contains xs b) absent in
+    rw parts.0 (ap (λ ys. x ∷ ys) (put_before-behind xs rest c b parts.1))
+
+pub without-found : (xs rest : List ℕ) (i c : ℕ) → IsOnce (xs ++ rest) → slice_get xs i ≡ Some c → without c (xs ++ rest) ≡ remove xs i ++ rest
+without-found [] rest i c once e = absurd (none-some c e)
+without-found (x ∷ xs) rest zero c once e =
+    let same = same_Some x c e in
+    rw (eq-eqb x c same) (without-absent c (xs ++ rest) (ap (contains (xs ++ rest)) (sym same) ∙ once.0))
+without-found (x ∷ xs) rest (suc i) c once e =
+    let found = contains-append xs rest c ∙ or_left (contains xs c) _ (contains-found xs i c e) in
+    rw (apart_from x (xs ++ rest) c once.0 found) (ap (λ ys. x ∷ ys) (without-found xs rest i c once.1 e))
+
+pub without-behind : (xs rest : List ℕ) (c : ℕ) → contains xs c ≡ false → without c (xs ++ rest) ≡ xs ++ without c rest
+without-behind [] rest c absent = refl
+without-behind (x ∷ xs) rest c absent =
+    let parts = or_parts (eqb x c) (contains xs c) absent in
+    rw parts.0 (ap (λ ys. x ∷ ys) (without-behind xs rest c parts.1))
+
+pub first_none : (list : List ℕ) → AreFirst [] list
+first_none list = (list, refl)
+
+pub first_pushed : (xs list : List ℕ) (c : ℕ) → AreFirst xs list → AreFirst xs (list ++ c ∷ [])
+first_pushed xs list c first = (first.0 ++ c ∷ [], ap (λ ys. ys ++ c ∷ []) first.1 ∙ append_assoc xs first.0 (c ∷ []))
+
+pub first_put-found : (xs list : List ℕ) (i c b : ℕ) → IsOnce xs → slice_get xs i ≡ Some b → AreFirst xs list → AreFirst (insert xs i c) (put_before list c b)
+first_put-found xs list i c b once e first =
+    (first.0, ap (λ ys. put_before ys c b) first.1 ∙ put_before-found xs first.0 i c b once e)
+
+pub first_put-behind : (xs list : List ℕ) (c b : ℕ) → contains xs b ≡ false → AreFirst xs list → AreFirst xs (put_before list c b)
+first_put-behind xs list c b absent first =
+    (put_before first.0 c b, ap (λ ys. put_before ys c b) first.1 ∙ put_before-behind xs first.0 c b absent)
+
+pub first_without-found : (xs list : List ℕ) (i c : ℕ) → IsOnce list → slice_get xs i ≡ Some c → AreFirst xs list → AreFirst (remove xs i) (without c list)
+first_without-found xs list i c once e first =
+    (first.0, ap (without c) first.1 ∙ without-found xs first.0 i c (subst IsOnce first.1 once) e)
+
+pub first_without-behind : (xs list : List ℕ) (c : ℕ) → contains xs c ≡ false → AreFirst xs list → AreFirst xs (without c list)
+first_without-behind xs list c absent first =
+    (without c first.0, ap (without c) first.1 ∙ without-behind xs first.0 c absent)
+
+pub first_taken : (xs list : List ℕ) (n : ℕ) → AreFirst xs list → AreFirst (take n xs) list
+first_taken xs list n first =
+    (drop n xs ++ first.0, first.1 ∙ (ap (λ ys. ys ++ first.0) (sym (take-append-drop n xs)) ∙ append_assoc (take n xs) (drop n xs) first.0))
+
+-- first items are told apart as all items are
+pub first_once : (xs list : List ℕ) → IsOnce list → AreFirst xs list → IsOnce xs
+first_once xs list once first = IsOnce-append_left xs first.0 (subst IsOnce first.1 once)
+
+-- ---- one more of the first items
+
+-- the last item of a list, by its place
+last_from-get : (x : ℕ) (xs : List ℕ) → last_from (Some x) xs ≡ slice_get (x ∷ xs) (length xs)
+last_from-get x [] = refl
+last_from-get x (y ∷ xs) = last_from-get y xs
+
+pub last_of-get : (xs : List ℕ) → last_of xs ≡ slice_get xs (length xs - 1)
+last_of-get [] = refl
+last_of-get (x ∷ xs) = last_from-get x xs ∙ ap (slice_get (x ∷ xs)) (omega arith)
+
+pub last_of-none : (xs : List ℕ) → last_of xs ≡ None → xs ≡ []
+last_of-none [] e = refl
+last_of-none (x ∷ xs) e = absurd (true≢false (ap is_none (sym e) ∙ last_from-Some x xs))
+
+-- the last of the first children is a child
+pub last_child : (xs list : List ℕ) (l : ℕ) → AreFirst xs list → last_of xs ≡ Some l → contains list l ≡ true
+last_child xs list l first e =
+    ap (λ ys. contains ys l) first.1 ∙ (contains-append xs first.0 l ∙ or_left (contains xs l) _ (contains-last_of xs l e))
+
+-- what stands just after the last of the first items is the first of the others
+next_behind : (xs rest : List ℕ) (l : ℕ) → IsOnce (xs ++ rest) → last_of xs ≡ Some l → next_in (xs ++ rest) l ≡ head_of rest
+next_behind xs rest l once e =
+    let here : is (last_of xs) l ≡ true = ap (λ o. is o l) e ∙ eq-eqb l l refl in
+    next_in_is (xs ++ rest) l
+    ∙ (next_from-append xs rest None l
+    ∙ (rw (contains-last_of xs l e, next_from_is xs (head_or rest None) l (IsOnce-append_left xs rest once), here) (head_or-None rest)))
+
+-- first items with the first of the others behind them
+one_more : (xs rest : List ℕ) (c : ℕ) → head_of rest ≡ Some c → AreFirst (xs ++ c ∷ []) (xs ++ rest)
+one_more xs [] c e = absurd (none-some c e)
+one_more xs (y ∷ rest) c e = (rest, ap (λ z. xs ++ z ∷ rest) (same_Some y c e) ∙ sym (append_assoc xs (c ∷ []) rest))
+
+pub first_more : (xs list : List ℕ) (l c : ℕ) → IsOnce list → AreFirst xs list → last_of xs ≡ Some l → next_in list l ≡ Some c → AreFirst (xs ++ c ∷ []) list
+first_more xs list l c once first last next =
+    let beside = next_behind xs first.0 l (subst IsOnce first.1 once) last in
+    subst (AreFirst (xs ++ c ∷ [])) (sym first.1) (one_more xs first.0 c (sym beside ∙ (ap (λ ys. next_in ys l) (sym first.1) ∙ next)))
+
+pub first_begun : (xs list : List ℕ) (c : ℕ) → xs ≡ [] → head_of list ≡ Some c → AreFirst (xs ++ c ∷ []) list
+first_begun xs list c none e = rw none (one_more [] list c e)
+
+-- ---- a walk back from a node to the last of the first siblings that are known
+
+-- the first siblings of a node are known, and it is not one of them
+pub record IsBehind (lists : List (List ℕ)) (known : List ℕ) (k : ℕ) : Type 0 where
+  pub first : AreFirst known (siblings_in lists (parent_of lists k))
+  pub absent : contains known k ≡ false
+
+-- a node that stands just behind those known is the first of the others
+ends_in : (known rest : List ℕ) (k : ℕ) (last : Option ℕ) → IsOnce (known ++ rest) → contains rest k ≡ true → last_of known ≡ last →
+    prev_from last rest k ≡ last → place_in rest k ≡ 0
+ends_in known rest k None once found is e = first_place rest k found e
+ends_in known rest k (Some s) once found is e = elim (prev_place (Some s) rest k s (IsOnce-append_right known rest once) found e) [
+  | inl w ↦ w.0
+  | inr w ↦ absurd (both_ways _ (IsOnce-apart known rest s once (contains-last_of known s is)) w.0)
+]
+
+-- one step back among the others
+steps_in : (known rest : List ℕ) (k s : ℕ) → IsOnce (known ++ rest) → contains rest k ≡ true → prev_from (last_of known) rest k ≡ Some s →
+    (last_of known ≡ Some s → ⊥) → (contains known s ≡ false) × (contains rest s ≡ true) × (place_in rest k ≡ suc (place_in rest s))
+steps_in known rest k s once found e other = elim (prev_place (last_of known) rest k s (IsOnce-append_right known rest once) found e) [
+  | inl w ↦ absurd (other w.1)
+  | inr w ↦ (false_from_ne_true _ (λ t. both_ways _ (IsOnce-apart known rest s once t) w.0), w.0, w.1)
+]
+
+-- no list with items is the beginning of an empty one
+nothing_first : (known rest : List ℕ) → [] ≡ known ++ rest → known ≡ []
+nothing_first [] rest e = refl
+nothing_first (x ∷ known) rest e = absurd (omega (arith, ap (length {A = ℕ}) e))
+
+-- what a node behind those known is among the children of its parent
+pub record Stands (lists : List (List ℕ)) (known : List ℕ) (k p : ℕ) : Type 0 where
+  pub rest : List ℕ
+  pub is : children_of lists p ≡ known ++ rest
+  pub once : IsOnce (known ++ rest)
+  pub found : contains rest k ≡ true
+  pub prev : prev_of lists k ≡ prev_from (last_of known) rest k
+  pub place : place_of lists k ≡ length known + place_in rest k
+
+stands : (lists : List (List ℕ)) → IsForest lists → (known : List ℕ) (k p : ℕ) → parent_of lists k ≡ Some p → IsBehind lists known k → Stands lists known k p
+stands lists forest known k p e behind =
+    let first : AreFirst known (children_of lists p) = subst (λ (o : Option ℕ). AreFirst known (siblings_in lists o)) e behind.first in
+    let child : contains (known ++ first.0) k ≡ true = ap (λ xs. contains xs k) (sym first.1) ∙ contains-parent lists k p e in
+    record {
+      rest = first.0;
+      is = first.1;
+      once = subst IsOnce first.1 (forest.once p);
+      found = rw behind.absent at (sym (contains-append known first.0 k) ∙ child);
+      prev = ap (option_and_then (λ q. prev_in (children_of lists q) k)) e ∙ (ap (λ xs. prev_in xs k) first.1 ∙
+          (prev_from-append None known first.0 k ∙ rw behind.absent refl));
+      place = place_of-child lists k p e ∙ (ap (λ xs. place_in xs k) first.1 ∙ place_in-behind known first.0 k behind.absent);
+    }
+
+-- of a root nothing is known
+pub root_known : (lists : List (List ℕ)) (known : List ℕ) (k : ℕ) → parent_of lists k ≡ None → IsBehind lists known k → known ≡ []
+root_known lists known k e behind =
+    let first : AreFirst known [] = subst (λ (o : Option ℕ). AreFirst known (siblings_in lists o)) e behind.first in
+    nothing_first known first.0 first.1
+
+pub behind_least : (lists : List (List ℕ)) (known : List ℕ) (k : ℕ) → IsBehind lists known k → length known ≤ place_of lists k
+unfolding place_of
+behind_least lists known k behind =
+    omega (arith, ap (λ xs. place_in xs k) behind.first.1 ∙ place_in-behind known behind.first.0 k behind.absent)
+
+pub behind_ends : (lists : List (List ℕ)) → IsForest lists → (known : List ℕ) (k : ℕ) → IsBehind lists known k → prev_of lists k ≡ last_of known →
+    place_of lists k ≡ length known
+behind_ends lists forest known k behind ends = elim (cases_Option (parent_of lists k)) [
+  | inl e ↦ place_of-root lists k e ∙ sym (ap (length {A = ℕ}) (root_known lists known k e behind))
+  | inr w ↦
+      let there = stands lists forest known k w.0 w.1 behind in
+      let none = ends_in known there.rest k (last_of known) there.once there.found refl (sym there.prev ∙ ends) in
+      omega (arith, there.place, none)
+]
+
+-- one step back from a node behind those known
+pub behind_step : (lists : List (List ℕ)) → IsForest lists → (known : List ℕ) (k s : ℕ) → IsBehind lists known k → prev_of lists k ≡ Some s →
+    (last_of known ≡ Some s → ⊥) → IsBehind lists known s × (place_of lists k ≡ suc (place_of lists s))
+behind_step lists forest known k s behind prev other = elim (cases_Option (parent_of lists k)) [
+  | inl e ↦ absurd (none-some s (ap (option_and_then (λ q. prev_in (children_of lists q) k)) (sym e) ∙ prev))
+  | inr w ↦
+      let there = stands lists forest known k w.0 w.1 behind in
+      let step = steps_in known there.rest k s there.once there.found (sym there.prev ∙ prev) other in
+      let child : contains (children_of lists w.0) s ≡ true =
+      ap (λ xs. contains xs s) there.is ∙ (contains-append known there.rest s ∙ or_right (contains known s) _ step.1) in
+      let same = parent_of_is lists forest.one_list w.0 s child in
+      let next : IsBehind lists known s =
+      record { first = subst (λ (o : Option ℕ). AreFirst known (siblings_in lists o)) (sym same) (there.rest, there.is); absent = step.0 } in
+      let before : place_of lists s ≡ length known + place_in there.rest s =
+      place_of-child lists s w.0 same ∙ (ap (λ xs. place_in xs s) there.is ∙ place_in-behind known there.rest s step.0) in
+      (next, omega (arith, there.place, step.2, before))
+]
+
+-- a node without a sibling before it is behind none
+pub behind_none : (lists : List (List ℕ)) → IsForest lists → (known : List ℕ) (k : ℕ) → IsBehind lists known k → prev_of lists k ≡ None → last_of known ≡ None
+behind_none lists forest known k behind e = elim (cases_Option (parent_of lists k)) [
+  | inl h ↦ ap last_of (root_known lists known k h behind)
+  | inr w ↦
+      let there = stands lists forest known k w.0 w.1 behind in
+      by there.rest (last_of known) there.found (sym there.prev ∙ e)
+]
+  where
+    by : (rest : List ℕ) (last : Option ℕ) → contains rest k ≡ true → prev_from last rest k ≡ None → last ≡ None
+    by rest None found none = refl
+    by rest (Some x) found none = absurd (no_prev x rest k found none)
+
+siblings_once : (lists : List (List ℕ)) → IsForest lists → (o : Option ℕ) → IsOnce (siblings_in lists o)
+siblings_once lists forest None = tt
+siblings_once lists forest (Some p) = forest.once p
+
+-- the place of a node among the first siblings that are known is its place
+pub known_place : (lists : List (List ℕ)) → IsForest lists → (known : List ℕ) (i k : ℕ) → AreFirst known (siblings_in lists (parent_of lists k)) →
+    slice_get known i ≡ Some k → i ≡ place_of lists k
+unfolding place_of
+known_place lists forest known i k first found =
+    let once = first_once known (siblings_in lists (parent_of lists k)) (siblings_once lists forest (parent_of lists k)) first in
+    sym (ap (λ xs. place_in xs k) first.1 ∙ place_in-found known first.0 i k once found)
+
+-- ---- what the changes of an arena leave of what is kept
+
+pub first_linked : (lists : List (List ℕ)) (p c : ℕ) (before : Option ℕ) (f g : FirstChildren) → p < length lists →
+    AreFirst f.keys.items (children_of lists f.parent) → g.parent ≡ f.parent →
+    (p ≡ f.parent → (siblings : List ℕ) → AreFirst f.keys.items siblings → AreFirst g.keys.items (insert_before siblings c before)) →
+    (p ≢ f.parent → g.keys.items ≡ f.keys.items) →
+    AreFirst g.keys.items (children_of (set lists p (insert_before (children_of lists p) c before)) g.parent)
+first_linked lists p c before f g node first same there elsewhere = elim (cases_eq p f.parent) [
+  | inl e ↦
+      subst (AreFirst g.keys.items) (sym (ap (children_of (set lists p (insert_before (children_of lists p) c before))) (same ∙ sym e)
+      ∙ get_or-set_same lists p (insert_before (children_of lists p) c before) [] node))
+      (there e (children_of lists p) (subst (λ (q : ℕ). AreFirst f.keys.items (children_of lists q)) (sym e) first))
+  | inr n ↦
+      let left : children_of (set lists p (insert_before (children_of lists p) c before)) g.parent ≡ children_of lists f.parent =
+      ap (children_of (set lists p (insert_before (children_of lists p) c before))) same
+      ∙ get_or-set_other lists p f.parent (insert_before (children_of lists p) c before) [] (λ e. n (sym e)) in
+      subst (AreFirst g.keys.items) (sym left) (subst (λ (xs : List ℕ). AreFirst xs (children_of lists f.parent)) (sym (elsewhere n)) first)
+]
+
+pub first_unlinked : (lists : List (List ℕ)) → IsForest lists → (p c : ℕ) (f g : FirstChildren) → parent_of lists c ≡ Some p →
+    AreFirst f.keys.items (children_of lists f.parent) → g.parent ≡ f.parent →
+    (p ≡ f.parent → (siblings : List ℕ) → IsOnce siblings → AreFirst f.keys.items siblings → AreFirst g.keys.items (without c siblings)) →
+    (p ≢ f.parent → g.keys.items ≡ f.keys.items) → AreFirst g.keys.items (children_of (map (without c) lists) g.parent)
+first_unlinked lists forest p c f g child first same there elsewhere =
+    subst (AreFirst g.keys.items) (sym (children_of-without lists c g.parent ∙ ap (λ q. without c (children_of lists q)) same)) (by (cases_eq p f.parent))
+  where
+    by : (p ≡ f.parent) ⊎ (p ≢ f.parent) → AreFirst g.keys.items (without c (children_of lists f.parent))
+    by (inl e) = there e (children_of lists f.parent) (forest.once f.parent) first
+    by (inr n) =
+        let apart : contains (children_of lists f.parent) c ≡ false =
+        false_from_ne_true _ (λ found. n (forest.one_list p f.parent c (contains-parent lists c p child) found)) in
+        subst (AreFirst g.keys.items) (sym (without-absent c (children_of lists f.parent) apart))
+        (subst (λ (xs : List ℕ). AreFirst xs (children_of lists f.parent)) (sym (elsewhere n)) first)
