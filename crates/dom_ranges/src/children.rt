@@ -1,4 +1,4 @@
-//! Steps of a change that are told a child of a node in place of its index.
+//! Insertions, and steps of a change that are told a child of a node in place of its index.
 ghost use Rattle.std.specs.Prelude.{◌≡◌, nat_eq};
 ghost use Rattle.dom_base.specs.declared.Owner.{Owner as Owners};
 ghost use Rattle.dom_model.specs.Ranges.{after_insert, after_join};
@@ -8,10 +8,25 @@ ghost use Rattle.dom_ranges.specs.Rules.{Fits};
 ghost use Rattle.dom_ranges.specs.Tables.{ranges_of, ends_by, EachRange, BothEnds};
 
 use crate::RangeTable;
+use crate::change::Insertion;
 use dom_tree::Forest;
 use node_arena::Key;
 
 impl RangeTable {
+    /// Tells the table that `count` nodes are to come into `parent` before its child at `index` (DOM Standard, concept:
+    /// insert): offsets in the parent that are greater than the index grow by the count.
+    pub fn on_insert(&mut self, parent: Key, index: usize, count: usize)
+        requires { (o : Owners) → EachRange (BothEnds (λ b. Fits (after_insert nat_eq parent index count b))) (ranges_of self.old o) }
+        ensures { (o : Owners) → ranges_of self.new o ≡ ends_by (after_insert nat_eq parent index count) (ranges_of self.old o) }
+    {
+        let change = Insertion {
+            parent,
+            index,
+            count,
+        };
+        self.apply(&change, parent, parent);
+    }
+
     /// Tells the table that `count` nodes are to come into `parent` before `child`, as `on_insert` does of the child's
     /// index. That is looked for only as far as boundary points stand in the parent: without one there, not at all.
     pub fn on_insert_before(&mut self, forest: &Forest, parent: Key, child: Key, count: usize)

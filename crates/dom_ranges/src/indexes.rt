@@ -1,5 +1,5 @@
 //! The index of a child, which is looked for only as far as ends of live ranges stand behind the child in its parent.
-ghost use Rattle.std.specs.Prelude.{◌≡◌, ℕ, ◌<◌, ◌≤◌, None};
+ghost use Rattle.std.specs.Prelude.{◌≡◌, ℕ, None};
 ghost use Rattle.std.specs.Option.{ForSome};
 ghost use Rattle.slab.specs.Slab.{get};
 ghost use Rattle.dom_model.specs.Tree.{index_of};
@@ -26,7 +26,7 @@ fn offset_of(live: &Slab<Points>, end: RangeEnd) -> usize
 }
 
 /// The greatest offset of the ends at a node; 0 where there are none.
-fn reach(live: &Slab<Points>, ends: &[RangeEnd], node: Key) -> usize
+pub(crate) fn reach(live: &Slab<Points>, ends: &[RangeEnd], node: Key) -> usize
     requires listed { IsListed live.now ends.now }
     requires sorted { IsSortedByNode ends.now }
     ensures { (slot : ℕ) → ForSome (get live.now slot) (λ p. BothEnds (IsUpTo node result) (range_from p)) }
@@ -38,24 +38,6 @@ fn reach(live: &Slab<Points>, ends: &[RangeEnd], node: Key) -> usize
         reach = reach.max(offset);
     }
     reach
-}
-
-/// The index of a node, where it is less than a limit (DOM Standard, concept: index). As many siblings as that are
-/// looked at, and no more.
-pub(crate) fn index_below(forest: &Forest, node: Key, limit: usize) -> Option<usize>
-    requires { IsNode forest.now node }
-    ensures below { ForSome result (λ i. (i ≡ index_of forest.now.trees (name_of forest.now node)) × (i < limit)) }
-    ensures none { result ≡ None → limit ≤ index_of forest.now.trees (name_of forest.now node) }
-{
-    forest.nodes_stand_once();
-    let mut at = node;
-    for index in 0..limit {
-        let Some(before) = forest.prev(at) else {
-            return Some(index);
-        };
-        at = before;
-    }
-    None
 }
 
 /// The index of a child, where ends of live ranges stand behind the child in its parent. As many siblings as the greatest
@@ -74,7 +56,7 @@ pub(crate) fn index_before_ends(
     ensures none { result ≡ None → (slot : ℕ) →
         ForSome (get live.now slot) (λ p. BothEnds (IsUpTo parent (index_of forest.now.trees (name_of forest.now child))) (range_from p)) }
 {
-    index_below(forest, child, reach(live, ends, parent))
+    forest.index_below(child, reach(live, ends, parent))
 }
 
 /// The index of a child, or a lesser number that is greater than the offset of each end in its parent. As many siblings
@@ -93,7 +75,7 @@ pub(crate) fn index_among_ends(
         (λ p. BothEnds (IsNear parent (index_of forest.now.trees (name_of forest.now child)) result) (range_from p)) }
 {
     match reach(live, ends, parent).checked_add(1) {
-        Some(limit) => index_below(forest, child, limit).unwrap_or(limit),
+        Some(limit) => forest.index_below(child, limit).unwrap_or(limit),
         None => forest.index(child),
     }
 }

@@ -7,7 +7,6 @@ ghost use Rattle.dom_model.specs.Tree.{index_of, is_inclusive_ancestor};
 ghost use Rattle.dom_tree.specs.Forest.{IsNode, name_of};
 ghost use Rattle.dom_ranges.specs.Climbs.{depth_at, path_at, Reaches, AreBeside};
 
-use crate::indexes::index_below;
 use dom_tree::Forest;
 use node_arena::Key;
 
@@ -32,8 +31,8 @@ pub fn is_before(forest: &Forest, first: (Key, usize), second: (Key, usize)) -> 
         return comes_first(forest, first_side, second_side);
     }
     match (first_child, second_child) {
-        (Some(child), _) => index_below(forest, child, second_offset).is_some(),
-        (None, Some(child)) => index_below(forest, child, first_offset).is_none(),
+        (Some(child), _) => forest.index_below(child, second_offset).is_some(),
+        (None, Some(child)) => forest.index_below(child, first_offset).is_none(),
         (None, None) => first_offset < second_offset,
     }
 }

@@ -14,9 +14,9 @@ ghost use Rattle.dom_ranges.specs.Rules.{Fits, IsAtNode, IsNear, IsUpTo, is_insi
 ghost use Rattle.dom_ranges.specs.Settings.{start_set, end_set, named_ranges, with_named, without_named};
 ghost use Rattle.dom_ranges.specs.Tables.{ranges_of, range_in, with_ranges, range_from, ends_by, EachRange, BothEnds, collapsed_range};
 
-use crate::change::{Change, Insertion, Join, Replacement, Split};
+use crate::change::{Change, Join, Replacement, Split};
 use crate::ends::{RangeEnd, Span, list_range, part_of};
-use crate::indexes::{index_among_ends, index_before_ends};
+use crate::indexes::{index_among_ends, index_before_ends, reach};
 use crate::moving::{drop_range, move_ends, put_end};
 use crate::numbers::Numbers;
 use crate::removing::move_out;
@@ -259,18 +259,12 @@ impl RangeTable {
         self.live.is_empty()
     }
 
-    /// Tells the table that `count` nodes are to come into `parent` before its child at `index` (DOM Standard, concept:
-    /// insert): offsets in the parent that are greater than the index grow by the count.
-    pub fn on_insert(&mut self, parent: Key, index: usize, count: usize)
-        requires { (o : Owners) → EachRange (BothEnds (λ b. Fits (after_insert nat_eq parent index count b))) (ranges_of self.old o) }
-        ensures { (o : Owners) → ranges_of self.new o ≡ ends_by (after_insert nat_eq parent index count) (ranges_of self.old o) }
+    /// A number that no offset of a boundary point in a node is greater than: the greatest of these offsets, or 0 where there
+    /// are none (own rule).
+    pub fn reach(&self, node: Key) -> usize
+        ensures { (o : Owners) → EachRange (BothEnds (IsUpTo node result)) (ranges_of self.now o) }
     {
-        let change = Insertion {
-            parent,
-            index,
-            count,
-        };
-        self.apply(&change, parent, parent);
+        reach(&self.live, self.ends.as_slice(), node)
     }
 
     /// The index of a child, where boundary points stand behind the child in its parent.
@@ -379,7 +373,7 @@ impl RangeTable {
     }
 
     /// Rewrites the ends of all ranges for a step of a change, which moves none but those at two nodes, or at one.
-    fn apply<C: Change>(&mut self, change: &C, one: Key, two: Key)
+    pub(crate) fn apply<C: Change>(&mut self, change: &C, one: Key, two: Key)
         requires can_move { (o : Owners) → EachRange (BothEnds (C.can_move change.now)) (ranges_of self.old o) }
         requires nodes { IsAtTwo (C.rule change.now) one two }
         ensures { (o : Owners) → ranges_of self.new o ≡ ends_by (C.rule change.now) (ranges_of self.old o) }
