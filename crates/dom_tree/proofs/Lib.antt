@@ -1,4 +1,4 @@
-pub mod Names
+mod Names
 mod Rows
 pub mod Reach
 mod Roots
