@@ -1,5 +1,6 @@
 //! The signalled slots of each owner, by their numbers.
-ghost use Rattle.std.specs.Prelude.{◌≡◌, ◌<◌, ◌++◌, ◌∷◌, [], false, nat_eq, length, if◌then◌else◌, OnOk, OnErr};
+ghost use Rattle.std.specs.Prelude.{◌≡◌, ◌<◌, ◌++◌, ◌∷◌, [], true, false, is_some, nat_eq, length, if◌then◌else◌, OnOk, OnErr};
+ghost use Rattle.std.specs.HashMap.{get};
 ghost use Rattle.dom_base.specs.declared.Owner.{Owner as Owners};
 ghost use Rattle.dom_model.specs.Names.{is_in, owner_eq};
 ghost use Rattle.dom_microtasks.specs.ByOwner.{since_of, numbers_of};
@@ -64,16 +65,27 @@ impl ByOwner {
         ensures since { (o : Owners) → since_of self.new o ≡ since_of self.old o }
         ensures err { OnErr result ((o : Owners) → numbers_of self.new o ≡ numbers_of self.old o) }
     {
-        if !self.owners.contains_key(&slot.owner) {
-            let own = OwnSlots {
-                since: 0,
-                numbers: IndexSet::new(self.alloc),
-            };
-            let _ = self.owners.insert(slot.owner, own)?;
-        }
+        self.prepare(slot.owner)?;
         if let Some(own) = self.owners.get_mut(&slot.owner) {
             own.numbers.insert(slot.number)?;
         }
+        Ok(())
+    }
+
+    /// Makes an owner's entry where there is none.
+    fn prepare(&mut self, owner: Owner) -> Result<(), AllocError>
+        ensures numbers { (o : Owners) → numbers_of self.new o ≡ numbers_of self.old o }
+        ensures since { (o : Owners) → since_of self.new o ≡ since_of self.old o }
+        ensures there { OnOk result (is_some (get owner_eq self.new.owners owner) ≡ true) }
+    {
+        if self.owners.contains_key(&owner) {
+            return Ok(());
+        }
+        let own = OwnSlots {
+            since: 0,
+            numbers: IndexSet::new(self.alloc),
+        };
+        drop(self.owners.insert(owner, own)?);
         Ok(())
     }
 
