@@ -28,6 +28,32 @@ impl Parts {
         requires has_parent { is_some (parent_of (trees_in self.old node) (name_in self.old node)) ≡ true }
         ensures { OnOk result (self.new ≡ stepped (owner_in self.old node) (take_out (name_in self.old node)) self.old) }
     {
+        self.remember_siblings(node);
+        self.leave(node)
+    }
+
+    /// Has the forest remember the siblings before a child, as far as ends of live ranges stand in its parent: for these
+    /// its index is asked for (own rule). Nothing is changed that can be seen.
+    fn remember_siblings(&mut self, child: Key)
+        requires { HoldsNode self.old child }
+        ensures { self.new ≡ self.old }
+    {
+        let Some(parent) = self.forest.parent(child) else {
+            return;
+        };
+        if self.forest.prev(child).is_none() {
+            return;
+        }
+        let reach = self.ranges.reach(parent);
+        self.forest.remember_siblings(child, reach);
+    }
+
+    /// A node leaves its parent, as `take_out` says.
+    fn leave(&mut self, node: Key) -> Result<(), AllocError>
+        requires node_is_node { HoldsNode self.old node }
+        requires has_parent { is_some (parent_of (trees_in self.old node) (name_in self.old node)) ≡ true }
+        ensures { OnOk result (self.new ≡ stepped (owner_in self.old node) (take_out (name_in self.old node)) self.old) }
+    {
         iterators_stay(&self.forest);
         self.forest.nodes_stand_once();
         let Some(parent) = self.forest.parent(node) else {
@@ -174,6 +200,19 @@ impl Parts {
 
     /// So many nodes are to come into a parent before a child: the ends of live ranges make room.
     pub fn make_room(&mut self, parent: Key, child: Key, count: usize)
+        requires parent_is_node { HoldsNode self.old parent }
+        requires is_child { IsChild self.old parent child }
+        requires bounds { HasBounds (part_of self.old.world (owner_in self.old parent)) }
+        requires few { count ≤ 1000000 }
+        ensures { self.new ≡ stepped (owner_in self.old parent)
+            (make_room (name_in self.old parent) (index_of (trees_in self.old child) (name_in self.old child)) count) self.old }
+    {
+        self.remember_siblings(child);
+        self.move_ends(parent, child, count);
+    }
+
+    /// The ends of live ranges make room, as `make_room` says.
+    fn move_ends(&mut self, parent: Key, child: Key, count: usize)
         requires parent_is_node { HoldsNode self.old parent }
         requires is_child { IsChild self.old parent child }
         requires bounds { HasBounds (part_of self.old.world (owner_in self.old parent)) }
