@@ -40,33 +40,39 @@ fn link<T>(rt: &impl Abort, arena: &mut Arena<T>, parent: Key, child: Key, befor
     }
 }
 
-// Checks the children of a node, read from both ends, against the list of the payloads that are wanted.
-fn check_children(rt: &impl Abort, arena: &Arena<u32>, parent: Key, wanted: &[u32])
+// Checks the children of a node, read from the first one, against the list of the payloads that are wanted.
+fn check_from_first(rt: &impl Abort, arena: &Arena<u32>, parent: Key, wanted: &[u32])
     requires { parent < length arena.now.payloads }
 {
     let mut at = arena.first(parent);
     for payload in wanted {
-        match at {
-            Some(child) => {
-                assert_eq!(rt; *arena.payload(child), *payload);
-                assert!(rt; arena.parent(child) == Some(parent));
-                at = arena.next(child);
-            }
-            None => assert!(rt; false, "a child is missing"),
-        }
+        let child = at.expect(rt, "a child is missing");
+        assert!(rt; arena.payload(child) == payload);
+        assert!(rt; arena.parent(child) == Some(parent));
+        at = arena.next(child);
     }
     assert!(rt; at.is_none());
+}
+
+// Checks the children of a node, read from the last one.
+fn check_from_last(rt: &impl Abort, arena: &Arena<u32>, parent: Key, wanted: &[u32])
+    requires { parent < length arena.now.payloads }
+{
     let mut at = arena.last(parent);
     for payload in wanted.iter().rev() {
-        match at {
-            Some(child) => {
-                assert_eq!(rt; *arena.payload(child), *payload);
-                at = arena.prev(child);
-            }
-            None => assert!(rt; false, "a child is missing"),
-        }
+        let child = at.expect(rt, "a child is missing");
+        assert!(rt; arena.payload(child) == payload);
+        at = arena.prev(child);
     }
     assert!(rt; at.is_none());
+}
+
+// Checks the children of a node, read from both ends, against the list of the payloads that are wanted.
+fn check_children(rt: &impl Abort, arena: &Arena<u32>, parent: Key, wanted: &[u32])
+    requires { parent < length arena.now.payloads }
+{
+    check_from_first(rt, arena, parent, wanted);
+    check_from_last(rt, arena, parent, wanted);
 }
 
 #[test]
@@ -76,27 +82,37 @@ fn children_stand_where_they_are_put(rt: HostRuntime) -> Result<(), Fail> {
     let one = arena.add(1)?;
     let two = arena.add(2)?;
     let three = arena.add(3)?;
-    check_children(&rt, &arena, root, &[]);
-    link(&rt, &mut arena, root, two, None);
-    link(&rt, &mut arena, root, one, Some(two));
-    link(&rt, &mut arena, root, three, None);
-    check_children(&rt, &arena, root, &[1, 2, 3]);
+    move_children(&rt, &mut arena, root, one, two, three);
+    Ok(())
+}
+
+// Puts three nodes below a root, takes them out and puts them below one another.
+fn move_children(rt: &impl Abort, arena: &mut Arena<u32>, root: Key, one: Key, two: Key, three: Key)
+    requires root { root < length arena.old.payloads }
+    requires one { one < length arena.old.payloads }
+    requires two { two < length arena.old.payloads }
+    requires three { three < length arena.old.payloads }
+{
+    check_children(rt, arena, root, &[]);
+    link(rt, arena, root, two, None);
+    link(rt, arena, root, one, Some(two));
+    link(rt, arena, root, three, None);
+    check_children(rt, arena, root, &[1, 2, 3]);
     arena.unlink(two);
-    check_children(&rt, &arena, root, &[1, 3]);
+    check_children(rt, arena, root, &[1, 3]);
     assert!(rt; arena.parent(two).is_none());
     assert!(rt; arena.next(two).is_none());
     assert!(rt; arena.prev(two).is_none());
     arena.unlink(two);
-    link(&rt, &mut arena, one, two, None);
+    link(rt, arena, one, two, None);
     arena.unlink(three);
-    link(&rt, &mut arena, two, three, None);
-    check_children(&rt, &arena, root, &[1]);
-    assert!(rt; is_above(&arena, root, three));
-    assert!(rt; !is_above(&arena, three, root));
+    link(rt, arena, two, three, None);
+    check_children(rt, arena, root, &[1]);
+    assert!(rt; is_above(arena, root, three));
+    assert!(rt; !is_above(arena, three, root));
     arena.unlink(one);
-    check_children(&rt, &arena, root, &[]);
-    check_children(&rt, &arena, one, &[2]);
-    Ok(())
+    check_children(rt, arena, root, &[]);
+    check_children(rt, arena, one, &[2]);
 }
 
 #[test]
@@ -112,30 +128,28 @@ fn a_payload_is_written(rt: HostRuntime) -> Result<(), Fail> {
     Ok(())
 }
 
-// Checks that the payloads of the children are the odd numbers below 100,000, falling, read from both ends.
-fn check_odd_payloads(rt: &impl Abort, arena: &Arena<Vec<u32>>, root: Key)
+// Checks that the payloads of the children are the odd numbers below 100,000, falling, read from the first one.
+fn check_odd_from_first(rt: &impl Abort, arena: &Arena<Vec<u32>>, root: Key)
     requires { root < length arena.now.payloads }
 {
     let mut at = arena.first(root);
     for half in (0..50_000).rev() {
-        match at {
-            Some(child) => {
-                assert_eq!(rt; arena.payload(child).as_slice(), [2 * half + 1].as_slice());
-                at = arena.next(child);
-            }
-            None => assert!(rt; false, "a child is missing"),
-        }
+        let child = at.expect(rt, "a child is missing");
+        assert!(rt; arena.payload(child).as_slice() == [2 * half + 1].as_slice());
+        at = arena.next(child);
     }
     assert!(rt; at.is_none());
+}
+
+// Checks that they are these odd numbers, rising, read from the last one.
+fn check_odd_from_last(rt: &impl Abort, arena: &Arena<Vec<u32>>, root: Key)
+    requires { root < length arena.now.payloads }
+{
     let mut at = arena.last(root);
     for half in 0..50_000 {
-        match at {
-            Some(child) => {
-                assert_eq!(rt; arena.payload(child).as_slice(), [2 * half + 1].as_slice());
-                at = arena.prev(child);
-            }
-            None => assert!(rt; false, "a child is missing"),
-        }
+        let child = at.expect(rt, "a child is missing");
+        assert!(rt; arena.payload(child).as_slice() == [2 * half + 1].as_slice());
+        at = arena.prev(child);
     }
     assert!(rt; at.is_none());
 }
@@ -159,7 +173,8 @@ fn many_children_go_and_stay(rt: HostRuntime) -> Result<(), Fail> {
             arena.unlink(*child);
         }
     }
-    check_odd_payloads(&rt, &arena, root);
+    check_odd_from_first(&rt, &arena, root);
+    check_odd_from_last(&rt, &arena, root);
     Ok(())
 }
 

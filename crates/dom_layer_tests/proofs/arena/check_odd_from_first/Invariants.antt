@@ -1,9 +1,6 @@
 use Rattle.std.proofs.Common.{◌<◌, length}
 use Rattle.std.specs.Option.{ForSome}
-use Rattle.dom_layer_tests.proofs.arena.check_odd_payloads.Given as goal
+use Rattle.dom_layer_tests.proofs.arena.check_odd_from_first.Given as goal
 
 abbrev pub invariant-loop-half : goal.invariant-loop-half
 invariant-loop-half g l = ForSome l.at (λ k. k < length l.arena.payloads)
-
-abbrev pub invariant-loop-half-2 : goal.invariant-loop-half-2
-invariant-loop-half-2 g l = ForSome l.at (λ k. k < length l.arena.payloads)
