@@ -113,9 +113,9 @@ fn put_value(out: &mut Vec<u8>, owner: Owner, value: &Value<'_>) -> Result<(), A
     ensures err { OnErr result (out.new.items ≡ out.old.items) }
 {
     let piece = match value {
-        Value::Nothing => Piece::Text(b"ok"),
+        Value::Nothing => return put_done(out, owner),
+        Value::Node(node) => return put_found(out, owner, *node),
         Value::Null => Piece::Text(b"ok null"),
-        Value::Node(node) => Piece::Node(b"ok ", *node),
         Value::List(nodes) => Piece::Nodes(b"ok ", nodes),
         Value::Component(component) => Piece::Owner(b"ok ", *component),
         Value::Range(number) => Piece::Number(b"ok r", *number as usize),
