@@ -1,8 +1,9 @@
-ghost use Rattle.std.specs.Prelude.{◌≡◌, ◌<◌, ◌↔◌, length, IsTrue};
+ghost use Rattle.std.specs.Prelude.{◌≡◌, ◌<◌, ◌↔◌, length, All, IfOk, OnOk, IsTrue};
 ghost use Rattle.std.specs.Option.{ForSome};
 ghost use Rattle.node_arena.specs.Nodes.{IsInclusiveAncestor};
 
 use node_arena::{Arena, Key};
+use std::alloc::{AllocError, Global};
 use std::cell::Cell;
 use std::process::Abort;
 use std::test::Fail;
@@ -154,25 +155,48 @@ fn check_odd_from_last(rt: &impl Abort, arena: &Arena<Vec<u32>>, root: Key)
     assert!(rt; at.is_none());
 }
 
-#[test]
-fn many_children_go_and_stay(rt: HostRuntime) -> Result<(), Fail> {
-    let mut arena = Arena::new(rt.alloc());
-    let root = arena.add(Vec::new(rt.alloc()))?;
+// Adds the numbers below 100,000 below a root, each before the one added last, and gives their nodes.
+fn add_numbers(
+    rt: &impl Abort,
+    alloc: Global,
+    arena: &mut Arena<Vec<u32>>,
+    root: Key,
+) -> Result<Vec<Key>, AllocError>
+    requires { root < length arena.old.payloads }
+    ensures root { OnOk result (root < length arena.new.payloads) }
+    ensures children { IfOk result (λ children. All (λ k. k < length arena.new.payloads) children.items) }
+{
     let mut before = None;
-    let mut children = Vec::new(rt.alloc());
+    let mut children = Vec::new(alloc);
     for number in 0..100_000u32 {
-        let mut payload = Vec::new(rt.alloc());
+        let mut payload = Vec::new(alloc);
         payload.push(number)?;
         let child = arena.add(payload)?;
-        link(&rt, &mut arena, root, child, before);
+        link(rt, arena, root, child, before);
         before = Some(child);
         children.push(child)?;
     }
-    for child in &children {
+    Ok(children)
+}
+
+// Takes the nodes with even numbers out.
+fn unlink_even(arena: &mut Arena<Vec<u32>>, children: &[Key])
+    requires { All (λ k. k < length arena.old.payloads) children.now }
+    ensures { length arena.new.payloads ≡ length arena.old.payloads }
+{
+    for child in children {
         if matches!(arena.payload(*child).first(), Some(number) if *number % 2 == 0) {
             arena.unlink(*child);
         }
     }
+}
+
+#[test]
+fn many_children_go_and_stay(rt: HostRuntime) -> Result<(), Fail> {
+    let mut arena = Arena::new(rt.alloc());
+    let root = arena.add(Vec::new(rt.alloc()))?;
+    let children = add_numbers(&rt, rt.alloc(), &mut arena, root)?;
+    unlink_even(&mut arena, children.as_slice());
     check_odd_from_first(&rt, &arena, root);
     check_odd_from_last(&rt, &arena, root);
     Ok(())

@@ -3,7 +3,7 @@ use Rattle.std.proofs.lemmas.List.{length_push}
 use Rattle.std.proofs.lemmas.List.Elements.{All-push, All-weaker}
 use Rattle.std.proofs.lemmas.Option.{same_Some}
 use Rattle.node_arena.specs.Nodes.{Nodes}
-use Rattle.dom_layer_tests.proofs.arena.many_children_go_and_stay.Goals as goal
+use Rattle.dom_layer_tests.proofs.arena.add_numbers.Goals as goal
 
 pub loop-number-preserved : goal.loop-number-preserved
 loop-number-preserved g c =
