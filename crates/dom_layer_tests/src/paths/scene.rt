@@ -85,7 +85,22 @@ fn add(alloc: Global, forest: &mut Forest, owner: Owner, words: &[&str]) -> Resu
     Ok(())
 }
 
-// A forest with these nodes of the page, and two components' shadow roots and nodes.
+// Adds these nodes of the page, and two components' shadow roots and nodes.
+fn add_all(
+    alloc: Global,
+    forest: &mut Forest,
+    page: &[&str],
+    first: &[&str],
+    second: &[&str],
+) -> Result<(), Fail> {
+    add(alloc, forest, Owner::Page, page)?;
+    add(alloc, forest, FIRST, &["shadow"])?;
+    add(alloc, forest, FIRST, first)?;
+    add(alloc, forest, SECOND, &["shadow"])?;
+    add(alloc, forest, SECOND, second)
+}
+
+// A forest with these nodes.
 pub(super) fn nodes(
     alloc: Global,
     page: &[&str],
@@ -93,11 +108,7 @@ pub(super) fn nodes(
     second: &[&str],
 ) -> Result<Forest, Fail> {
     let mut forest = Forest::new(alloc);
-    add(alloc, &mut forest, Owner::Page, page)?;
-    add(alloc, &mut forest, FIRST, &["shadow"])?;
-    add(alloc, &mut forest, FIRST, first)?;
-    add(alloc, &mut forest, SECOND, &["shadow"])?;
-    add(alloc, &mut forest, SECOND, second)?;
+    add_all(alloc, &mut forest, page, first, second)?;
     Ok(forest)
 }
 
@@ -239,6 +250,16 @@ fn compare(
         Some(key_of(rt, forest, related))
     };
     let path = Path::build(alloc, forest, slots, target, related, composed)?;
+    compare_items(rt, forest, &path, rows)
+}
+
+// Looks whether the items of a path are as the rows say.
+fn compare_items(
+    rt: &impl Abort,
+    forest: &Forest,
+    path: &Path,
+    rows: &[Row<'_>],
+) -> Result<(), AllocError> {
     assert!(rt; path.items().len() == rows.len());
     let mut at = 0;
     for row in rows {
