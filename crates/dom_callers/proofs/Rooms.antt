@@ -27,7 +27,7 @@ pub record NodeLeaves (f : NamedTrees) (node : ℕ) (was now : RangeLists) : Typ
   -- without a parent they stay, and else they move
   pub root : parent_of f.trees (name_at f.names node) ≡ None → (o : Owner) → ranges_of now o ≡ ranges_of was o
   pub child : (p : ℕ) → p < length f.names → parent_of f.trees (name_at f.names node) ≡ Some (name_at f.names p) →
-    HasMoved (after_removal nat_eq (is_inside f node) p (index_of f.trees (name_at f.names node))) was now
+      HasMoved (after_removal nat_eq (is_inside f node) p (index_of f.trees (name_at f.names node))) was now
 
 module _ (same : SameWithin) (removal : RemovalWithin) {f : NamedTrees} {node : ℕ} {was now : RangeLists} (leaves : NodeLeaves f node was now) where
   -- their offsets stay below a bound
