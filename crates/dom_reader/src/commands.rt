@@ -22,6 +22,7 @@ use nodes::{content_command, making_command, question_command, tree_command};
 use std::alloc::Global;
 
 /// The command, at the end of its line.
+#[inline(always)]
 fn ended(command: Command, words: &WordReader) -> Result<Command, NotRead>
     ensures { Gives command_view result (at_end (command_view command) words.now) }
 {

@@ -1,14 +1,17 @@
 //! Commands that make, place, change and ask about nodes.
 
 ghost use Rattle.std.specs.Prelude.{◌≡◌};
-ghost use Rattle.dom_text.specs.Decode.{new_at, assigned_at, command_behind};
+ghost use Rattle.dom_model.specs.Command.{Command as Said, NodeWord as Word};
+ghost use Rattle.dom_model.specs.Command as model;
+ghost use Rattle.dom_text.specs.Readers.{next_word, next_string};
+ghost use Rattle.dom_text.specs.Decode.{one, two, three, four, node_at, number_at, new_at, assigned_at, command_behind};
 ghost use Rattle.dom_words.specs.Gives.{Gives};
 ghost use Rattle.dom_reader.specs.Keywords.{making_keyword, tree_keyword, content_keyword, question_keyword};
-ghost use Rattle.dom_reader.specs.Views.{command_view};
+ghost use Rattle.dom_reader.specs.Views.{word_view, command_view};
 
 use super::ended;
 use crate::keywords::{ContentWord, MakingWord, QuestionWord, TreeWord};
-use crate::line::Command;
+use crate::line::{Command, NodeWord};
 use crate::nodes::next_node;
 use dom_base::{Kind, Owner};
 use dom_words::{NotRead, WordReader};
@@ -18,14 +21,56 @@ use std::alloc::Global;
 fn new_command(alloc: Global, words: &mut WordReader) -> Result<Command, NotRead>
     ensures { Gives command_view result (new_at words.old) }
 {
-    let command = match words.new_kind()? {
-        Kind::Element => Command::NewElement(words.text(alloc)?),
-        Kind::Text => Command::NewText(words.string(alloc)?),
-        Kind::Comment => Command::NewComment(words.string(alloc)?),
-        Kind::Fragment => Command::NewFragment,
-        _ => return Err(NotRead::Syntax),
-    };
-    ended(command, words)
+    match words.new_kind()? {
+        Kind::Element => new_element(alloc, words),
+        Kind::Text => ended(Command::NewText(words.string(alloc)?), words),
+        Kind::Comment => ended(Command::NewComment(words.string(alloc)?), words),
+        Kind::Fragment => ended(Command::NewFragment, words),
+        _ => Err(NotRead::Syntax),
+    }
+}
+
+/// The words of `new element`.
+fn new_element(alloc: Global, words: &mut WordReader) -> Result<Command, NotRead>
+    ensures { Gives command_view result (one next_word model.new_element words.old) }
+{
+    let name = words.text(alloc)?;
+    ended(Command::NewElement(name), words)
+}
+
+/// A node, at the end of its line.
+fn one_node(owner: Owner, words: &mut WordReader) -> Result<NodeWord, NotRead>
+    ensures { (makes : Word → Said) → Gives (λ n. makes (word_view n)) result (one (node_at owner) makes words.old) }
+{
+    let node = next_node(owner, words)?;
+    words.end()?;
+    Ok(node)
+}
+
+/// Two nodes, at the end of their line.
+fn two_nodes(owner: Owner, words: &mut WordReader) -> Result<(NodeWord, NodeWord), NotRead>
+    ensures { (makes : Word → Word → Said) →
+        Gives (λ x. makes (word_view x.0) (word_view x.1)) result (two (node_at owner) (node_at owner) makes words.old) }
+{
+    let first = next_node(owner, words)?;
+    let second = next_node(owner, words)?;
+    words.end()?;
+    Ok((first, second))
+}
+
+/// Three nodes, at the end of their line.
+fn three_nodes(
+    owner: Owner,
+    words: &mut WordReader,
+) -> Result<(NodeWord, NodeWord, NodeWord), NotRead>
+    ensures { (makes : Word → Word → Word → Said) →
+        Gives (λ x. makes (word_view x.0) (word_view x.1) (word_view x.2)) result (three (node_at owner) (node_at owner) (node_at owner) makes words.old) }
+{
+    let first = next_node(owner, words)?;
+    let second = next_node(owner, words)?;
+    let third = next_node(owner, words)?;
+    words.end()?;
+    Ok((first, second, third))
 }
 
 /// The words of `assigned`, which is a component's.
@@ -50,7 +95,7 @@ pub fn making_command(
     match word {
         MakingWord::New => new_command(alloc, words),
         MakingWord::Document => ended(Command::NewDocument, words),
-        MakingWord::Attach => ended(Command::Attach(next_node(owner, words)?), words),
+        MakingWord::Attach => Ok(Command::Attach(one_node(owner, words)?)),
     }
 }
 
@@ -63,33 +108,46 @@ pub fn tree_command(
     ensures { Gives command_view result (command_behind (tree_keyword word) owner words.old) }
 {
     match word {
-        TreeWord::Append => ended(
-            Command::Append(next_node(owner, words)?, next_node(owner, words)?),
-            words,
-        ),
-        TreeWord::Insert => ended(
-            Command::Insert(
-                next_node(owner, words)?,
-                next_node(owner, words)?,
-                next_node(owner, words)?,
-            ),
-            words,
-        ),
-        TreeWord::Replace => ended(
-            Command::Replace(
-                next_node(owner, words)?,
-                next_node(owner, words)?,
-                next_node(owner, words)?,
-            ),
-            words,
-        ),
-        TreeWord::Remove => ended(Command::Remove(next_node(owner, words)?), words),
-        TreeWord::Adopt => ended(
-            Command::Adopt(next_node(owner, words)?, next_node(owner, words)?),
-            words,
-        ),
-        TreeWord::Normalize => ended(Command::Normalize(next_node(owner, words)?), words),
+        TreeWord::Append => {
+            let (parent, node) = two_nodes(owner, words)?;
+            Ok(Command::Append(parent, node))
+        }
+        TreeWord::Insert => {
+            let (parent, node, child) = three_nodes(owner, words)?;
+            Ok(Command::Insert(parent, node, child))
+        }
+        TreeWord::Replace => {
+            let (parent, node, child) = three_nodes(owner, words)?;
+            Ok(Command::Replace(parent, node, child))
+        }
+        TreeWord::Remove => Ok(Command::Remove(one_node(owner, words)?)),
+        TreeWord::Adopt => {
+            let (document, node) = two_nodes(owner, words)?;
+            Ok(Command::Adopt(document, node))
+        }
+        TreeWord::Normalize => Ok(Command::Normalize(one_node(owner, words)?)),
     }
+}
+
+/// The words of `set`.
+fn set_attribute(alloc: Global, owner: Owner, words: &mut WordReader) -> Result<Command, NotRead>
+    ensures { Gives command_view result (three (node_at owner) next_word next_string model.set_attribute words.old) }
+{
+    let element = next_node(owner, words)?;
+    let name = words.text(alloc)?;
+    let value = words.string(alloc)?;
+    ended(Command::SetAttribute(element, name, value), words)
+}
+
+/// The words of `replace-data`.
+fn replace_data(alloc: Global, owner: Owner, words: &mut WordReader) -> Result<Command, NotRead>
+    ensures { Gives command_view result (four (node_at owner) number_at number_at next_string model.replace_data words.old) }
+{
+    let node = next_node(owner, words)?;
+    let offset = words.number()?;
+    let count = words.number()?;
+    let text = words.string(alloc)?;
+    ended(Command::ReplaceData(node, offset, count, text), words)
 }
 
 /// The command that changes attributes or data, and goes on with the words.
@@ -102,14 +160,7 @@ pub fn content_command(
     ensures { Gives command_view result (command_behind (content_keyword word) owner words.old) }
 {
     match word {
-        ContentWord::Set => ended(
-            Command::SetAttribute(
-                next_node(owner, words)?,
-                words.text(alloc)?,
-                words.string(alloc)?,
-            ),
-            words,
-        ),
+        ContentWord::Set => set_attribute(alloc, owner, words),
         ContentWord::Unset => ended(
             Command::UnsetAttribute(next_node(owner, words)?, words.text(alloc)?),
             words,
@@ -118,15 +169,7 @@ pub fn content_command(
             Command::SetData(next_node(owner, words)?, words.string(alloc)?),
             words,
         ),
-        ContentWord::ReplaceData => ended(
-            Command::ReplaceData(
-                next_node(owner, words)?,
-                words.number()?,
-                words.number()?,
-                words.string(alloc)?,
-            ),
-            words,
-        ),
+        ContentWord::ReplaceData => replace_data(alloc, owner, words),
         ContentWord::Split => ended(
             Command::Split(next_node(owner, words)?, words.number()?),
             words,
@@ -148,21 +191,21 @@ pub fn question_command(
     ensures { Gives command_view result (command_behind (question_keyword word) owner words.old) }
 {
     match word {
-        QuestionWord::Tree => ended(Command::Tree(next_node(owner, words)?), words),
+        QuestionWord::Tree => Ok(Command::Tree(one_node(owner, words)?)),
         QuestionWord::Attr => ended(
             Command::Attribute(next_node(owner, words)?, words.text(alloc)?),
             words,
         ),
-        QuestionWord::Parent => ended(Command::Parent(next_node(owner, words)?), words),
-        QuestionWord::Docof => ended(Command::DocumentOf(next_node(owner, words)?), words),
-        QuestionWord::Children => ended(Command::Children(next_node(owner, words)?), words),
-        QuestionWord::Contains => ended(
-            Command::Contains(next_node(owner, words)?, next_node(owner, words)?),
-            words,
-        ),
-        QuestionWord::Connected => ended(Command::Connected(next_node(owner, words)?), words),
-        QuestionWord::ShadowRoot => ended(Command::ShadowRoot(next_node(owner, words)?), words),
-        QuestionWord::SlotOf => ended(Command::SlotOf(next_node(owner, words)?), words),
+        QuestionWord::Parent => Ok(Command::Parent(one_node(owner, words)?)),
+        QuestionWord::Docof => Ok(Command::DocumentOf(one_node(owner, words)?)),
+        QuestionWord::Children => Ok(Command::Children(one_node(owner, words)?)),
+        QuestionWord::Contains => {
+            let (above, node) = two_nodes(owner, words)?;
+            Ok(Command::Contains(above, node))
+        }
+        QuestionWord::Connected => Ok(Command::Connected(one_node(owner, words)?)),
+        QuestionWord::ShadowRoot => Ok(Command::ShadowRoot(one_node(owner, words)?)),
+        QuestionWord::SlotOf => Ok(Command::SlotOf(one_node(owner, words)?)),
         QuestionWord::Assigned => assigned(owner, words),
         QuestionWord::Query => ended(
             Command::Query(next_node(owner, words)?, words.string(alloc)?),
