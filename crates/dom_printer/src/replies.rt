@@ -1,9 +1,13 @@
 //! Replies and refusals.
-ghost use Rattle.std.specs.Prelude.{◌≡◌, ◌++◌, ◌∷◌, [], OnOk, OnErr};
-ghost use Rattle.dom_model.specs.Output.{boundaries, reference, replied, says};
-ghost use Rattle.dom_text.specs.Text.{output_text};
+ghost use Rattle.std.specs.Prelude.{◌≡◌, ◌++◌, ◌∷◌, [], OnOk, OnErr, codes};
+ghost use Rattle.dom_model.specs.Output.{a_node, boundaries, nothing, reference, replied, says};
+ghost use Rattle.dom_text.specs.Text.{node_text, output_text};
+ghost use Rattle.dom_printer.specs.Keeping.{Keeps};
+ghost use Rattle.dom_printer.specs.Lines.{line_text};
 ghost use Rattle.dom_printer.specs.Replies.{boundary_view, value_view, refusal_output};
 
+use crate::buffers::cut_if_refused;
+use crate::names::{put_node, put_owner};
 use crate::pieces::{Piece, put_line};
 use dom_base::{NodeName, Owner, Refusal};
 use std::alloc::AllocError;
@@ -49,6 +53,61 @@ pub enum Value<'a> {
 ///
 /// Own rule.
 pub fn put_reply(out: &mut Vec<u8>, owner: Owner, value: &Value<'_>) -> Result<(), AllocError>
+    ensures ok { OnOk result (out.new.items
+        ≡ out.old.items ++ output_text (says owner (replied (value_view value.now)) ∷ [])) }
+    ensures err { OnErr result (out.new.items ≡ out.old.items) }
+{
+    match value {
+        Value::Nothing => put_done(out, owner),
+        Value::Node(node) => put_found(out, owner, *node),
+        _ => put_value(out, owner, value),
+    }
+}
+
+/// Puts the reply that has no value: the one that most lines get.
+fn put_done(out: &mut Vec<u8>, owner: Owner) -> Result<(), AllocError>
+    ensures ok { OnOk result (out.new.items ≡ out.old.items ++ output_text (says owner (replied nothing) ∷ [])) }
+    ensures err { OnErr result (out.new.items ≡ out.old.items) }
+{
+    let length = out.len();
+    let put = put_done_parts(out, owner);
+    cut_if_refused(out, length, put)
+}
+
+/// Puts that reply, as far as there is memory.
+#[tactic(auto, using(crate::proofs::KeepLaws::keeps_at))]
+fn put_done_parts(out: &mut Vec<u8>, owner: Owner) -> Result<(), AllocError>
+    ensures ok { OnOk result (out.new.items ≡ out.old.items ++ line_text owner (codes "ok")) }
+    ensures err { OnErr result (Keeps out.old.items out.new.items) }
+{
+    put_owner(out, owner)?;
+    out.extend_from_slice(b" ok\n")
+}
+
+/// Puts the reply that has a node.
+fn put_found(out: &mut Vec<u8>, owner: Owner, node: NodeName) -> Result<(), AllocError>
+    ensures ok { OnOk result (out.new.items ≡ out.old.items ++ output_text (says owner (replied (a_node node)) ∷ [])) }
+    ensures err { OnErr result (out.new.items ≡ out.old.items) }
+{
+    let length = out.len();
+    let put = put_found_parts(out, owner, node);
+    cut_if_refused(out, length, put)
+}
+
+/// Puts that reply, as far as there is memory.
+#[tactic(auto, using(crate::proofs::KeepLaws::keeps_at))]
+fn put_found_parts(out: &mut Vec<u8>, owner: Owner, node: NodeName) -> Result<(), AllocError>
+    ensures ok { OnOk result (out.new.items ≡ out.old.items ++ line_text owner (codes "ok " ++ node_text owner node)) }
+    ensures err { OnErr result (Keeps out.old.items out.new.items) }
+{
+    put_owner(out, owner)?;
+    out.extend_from_slice(b" ok ")?;
+    put_node(out, owner, node)?;
+    out.extend_from_slice(b"\n")
+}
+
+/// Puts a reply with its end, whatever its value.
+fn put_value(out: &mut Vec<u8>, owner: Owner, value: &Value<'_>) -> Result<(), AllocError>
     ensures ok { OnOk result (out.new.items
         ≡ out.old.items ++ output_text (says owner (replied (value_view value.now)) ∷ [])) }
     ensures err { OnErr result (out.new.items ≡ out.old.items) }
