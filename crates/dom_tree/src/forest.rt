@@ -104,6 +104,7 @@ impl Forest {
     }
 
     /// The key of the node of this name, if there is one (own rule). It is found by its number in its owner's list.
+    #[inline(always)]
     pub fn find(&self, name: NodeName) -> Option<Key>
         ensures found { ForSome result (λ k. slice_get self.now.names k ≡ Some name) }
         ensures kept { (k : ℕ) → slice_get self.now.names k ≡ Some name → result ≡ Some k }

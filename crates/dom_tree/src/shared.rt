@@ -1,5 +1,5 @@
 //! What many nodes have in common.
-ghost use Rattle.std.specs.Prelude.{◌≡◌, IfOk};
+ghost use Rattle.std.specs.Prelude.{◌≡◌, true, IfOk};
 ghost use Rattle.std.specs.String.{string_bytes};
 
 use dom_base::Owner;
@@ -14,10 +14,23 @@ pub(crate) struct Shared {
     pub(crate) element: String,
 }
 
-/// What the nodes of a forest share: each owner with each of its local names is kept once.
+/// How many are compared one after another, before the others are found by a hash.
+const FEW: usize = 8;
+
+impl Shared {
+    /// Whether it is this owner with this local name.
+    fn is(&self, owner: Owner, element: &str) -> bool
+        ensures { result ≡ true → (self.now.owner ≡ owner) × (string_bytes self.now.element ≡ element.now) }
+    {
+        self.owner == owner && self.element.as_str() == element
+    }
+}
+
+/// What the nodes of a forest share: each owner with each of its local names is kept once, the first few apart from the others.
 #[derive(Drop)]
 pub(crate) struct SharedTable {
-    kept: HashSet<Rc<Shared>>,
+    few: Vec<Rc<Shared>>,
+    others: HashSet<Rc<Shared>>,
     alloc: Global,
 }
 
@@ -25,7 +38,8 @@ impl SharedTable {
     /// A table of nothing, which takes no memory yet.
     pub(crate) fn new(alloc: Global) -> Self {
         SharedTable {
-            kept: HashSet::new(alloc),
+            few: Vec::new(alloc),
+            others: HashSet::new(alloc),
             alloc,
         }
     }
@@ -35,11 +49,27 @@ impl SharedTable {
         ensures owner { IfOk result (λ shared. shared.value.owner ≡ owner) }
         ensures element { IfOk result (λ shared. string_bytes shared.value.element ≡ string_bytes element) }
     {
-        let shared = Rc::new(self.alloc, Shared { owner, element })?;
-        if let Some(kept) = self.kept.get(&shared) {
+        for kept in &self.few {
+            if kept.is(owner, element.as_str()) {
+                return kept.clone();
+            }
+        }
+        self.kept(Rc::new(self.alloc, Shared { owner, element })?)
+    }
+
+    /// What is not among the few, as it is kept among the others, or from now on.
+    fn kept(&mut self, shared: Rc<Shared>) -> Result<Rc<Shared>, AllocError>
+        ensures owner { IfOk result (λ kept. kept.value.owner ≡ shared.value.owner) }
+        ensures element { IfOk result (λ kept. string_bytes kept.value.element ≡ string_bytes shared.value.element) }
+    {
+        if self.few.len() < FEW {
+            self.few.push(shared.clone()?)?;
+            return Ok(shared);
+        }
+        if let Some(kept) = self.others.get(&shared) {
             return kept.clone();
         }
-        let _ = self.kept.insert(shared.clone()?)?;
+        let _ = self.others.insert(shared.clone()?)?;
         Ok(shared)
     }
 }

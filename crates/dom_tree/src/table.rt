@@ -43,8 +43,19 @@ impl KeyTable {
         }
     }
 
-    /// The key of a name, if its owner has so many.
+    /// The key of a name, if its owner has so many. It is in line, so that a look for a node of the page copies no owner.
+    #[inline(always)]
     pub(crate) fn find(&self, name: NodeName) -> Option<Key>
+        ensures { result ≡ slice_get (keys_of self.now name.owner) name.number }
+    {
+        if matches!(name.owner, Owner::Page) {
+            return self.page.as_slice().get(name.number as usize).copied();
+        }
+        self.find_of_any(name)
+    }
+
+    /// The key of a name, if its owner, whoever that is, has so many.
+    fn find_of_any(&self, name: NodeName) -> Option<Key>
         ensures { result ≡ slice_get (keys_of self.now name.owner) name.number }
     {
         self.of(name.owner).get(name.number as usize).copied()
