@@ -113,10 +113,14 @@ impl Observers {
         }
     }
 
-    /// Whether an owner has registrations, so that a change of a node of it may be recorded (own rule).
+    /// Whether an owner has registrations, so that a change of a node of it may be recorded (own rule). Where no owner has had an
+    /// observer there is no look-up.
     pub fn is_watched(&self, owner: Owner) -> bool
         ensures { result ≡ not (is_empty (tables_of self.now owner).registrations) }
     {
+        if self.tables.is_empty() {
+            return false;
+        }
         match self.tables.get(&owner) {
             Some(table) => !table.has_no_registration(),
             None => false,
