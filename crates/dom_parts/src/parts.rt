@@ -142,6 +142,7 @@ impl Parts {
 
     /// Makes a node with an owner's next number, in a tree of its own, and gives its key. It is refused with `Limit` where the
     /// owner has as many nodes as it may, and then, as where memory is refused, nothing is changed.
+    #[inline(always)]
     pub fn add(&mut self, owner: Owner, node: NodeData) -> Result<Key, Fault>
         requires owner_is_there { is_there self.old.world owner ≡ true }
         requires no_shadow { is_shadow node.kind ≡ false }

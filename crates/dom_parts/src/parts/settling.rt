@@ -33,13 +33,32 @@ pub(super) fn settle(
     ensures first { OnErr done (AreFirst (tables_of (cursors_of cursors.new) (observers_of observers.new) queue.new slots.new signalled.new ranges.new)) }
 {
     if done.is_err() {
-        *forest = Forest::new(alloc);
-        *cursors = Cursors::new(alloc);
-        *observers = Observers::new(alloc);
-        *ranges = RangeTable::new(alloc);
-        *slots = Slots::new(alloc);
-        *signalled = Signals::new(alloc);
-        *queue = Queue::new(alloc);
+        give_up(
+            forest, cursors, observers, ranges, slots, signalled, queue, alloc,
+        );
     }
     done
+}
+
+/// Gives everything up: there are no nodes then, and the page alone is there.
+fn give_up(
+    forest: &mut Forest,
+    cursors: &mut Cursors,
+    observers: &mut Observers,
+    ranges: &mut RangeTable,
+    slots: &mut Slots,
+    signalled: &mut Signals,
+    queue: &mut Queue,
+    alloc: Global,
+)
+    ensures empty { forest.new ≡ record { names = []; trees = none } }
+    ensures first { AreFirst (tables_of (cursors_of cursors.new) (observers_of observers.new) queue.new slots.new signalled.new ranges.new) }
+{
+    *forest = Forest::new(alloc);
+    *cursors = Cursors::new(alloc);
+    *observers = Observers::new(alloc);
+    *ranges = RangeTable::new(alloc);
+    *slots = Slots::new(alloc);
+    *signalled = Signals::new(alloc);
+    *queue = Queue::new(alloc);
 }
