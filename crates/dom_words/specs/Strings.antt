@@ -1,10 +1,14 @@
 -- Reading strings byte by byte: the values of the code, seen as those of the specification.
-use Rattle.std.specs.Prelude.{ℕ, zero, suc, ◌<◌, ◌≤◌}
+use Rattle.std.specs.Prelude.{ℕ, zero, suc, ◌<◌, ◌≤◌, Bool, not, ◌==◌, ◌&&◌}
 use Rattle.dom_words.specs.declared.strings.Place.{Place}
 use Rattle.dom_words.specs.declared.strings.Place.TheVariants.{Between, Escaped, InDigits}
 use Rattle.dom_words.specs.declared.strings.Read.{Read}
 use Rattle.dom_words.specs.declared.strings.Read.TheVariants.{Wrong, Closed, Item, On}
 use Rattle.dom_text.specs.Readers as text
+
+-- neither a quote nor a backslash
+abbrev pub is_plain : ℕ → Bool
+is_plain b = not (b == 34) && not (b == 92)
 
 -- a place, without the widths of its numbers
 abbrev pub place_view : Place → text.Place

@@ -1,11 +1,12 @@
 //! Strings: items between two quotes, each item one 16-bit code unit.
 
 ghost use Rattle.std.specs.Prelude.{◌≡◌, ◌+◌, ◌*◌, ◌<◌, ◌≤◌, true, false, MatchOption};
+ghost use Rattle.std.specs.List.{prefix_len};
 ghost use Rattle.std.specs.Char.{is_ascii_hexdigit, digit_value};
 ghost use Rattle.dom_text.specs.Readers.{between, read_digit as spec_read_digit, read_byte as spec_read_byte, units_at as spec_units_at};
 ghost use Rattle.dom_text.specs.Readers.{string_at as spec_string_at, next_string};
 ghost use Rattle.dom_words.specs.Gives.{Gives, Takes};
-ghost use Rattle.dom_words.specs.Strings.{place_view, read_view, DigitsFit, PlaceFits, ReadFits};
+ghost use Rattle.dom_words.specs.Strings.{is_plain, place_view, read_view, DigitsFit, PlaceFits, ReadFits};
 
 use crate::not_read::NotRead;
 use crate::words::{WordReader, behind_space};
@@ -93,11 +94,26 @@ fn read_byte(place: Place, b: u8) -> Read
     }
 }
 
-/// The units up to the quote that ends the string, and the bytes behind it.
+/// Whether the byte is an item of its own within a string, or no part of one: neither a quote nor a backslash.
+fn is_plain(b: u8) -> bool
+    ensures { result ≡ is_plain b }
+{
+    b != b'"' && b != b'\\'
+}
+
+/// How many bytes come before the first quote or backslash.
+fn plain_len(bytes: &[u8]) -> usize
+    ensures { result ≡ prefix_len is_plain bytes.now }
+{
+    bytes.iter().take_while(|b| is_plain(**b)).count()
+}
+
+/// The units up to the quote that ends the string, and the bytes behind it. At first there is room for the items before the
+/// first backslash: for all of them, where there is none.
 fn units_at(alloc: Global, bytes: &[u8]) -> Result<(DomStr, &[u8]), NotRead>
     ensures { Gives (λ x. (x.0.items, x.1.now)) result (spec_units_at between bytes.now) }
 {
-    let mut units = Vec::new(alloc);
+    let mut units = Vec::with_capacity(alloc, plain_len(bytes))?;
     let mut place = Place::Between;
     for (i, b) in bytes.iter().enumerate() {
         match read_byte(place, *b) {
