@@ -36,7 +36,8 @@ impl State {
     }
 }
 
-/// Whether an owner is the component of this path.
+/// Whether an owner is the component of this path. It is kept out of line, so that a line in the page's turn takes no owner apart.
+#[inline(never)]
 fn is_component(owner: Owner, path: OwnerPath) -> bool
     ensures { result ≡ owner_eq (Owner.Component path) owner }
 {
