@@ -20,6 +20,7 @@ use node_arena::Key;
 /// Makes a node with an owner's next number, in a tree of its own, and gives its key. Refused with `InvalidCharacter` where it
 /// is an element whose name is none, and then with `Limit` where the owner has as many nodes as it may (own rules); then, as
 /// where memory is refused, nothing is changed.
+#[inline(always)]
 pub fn add(parts: &mut Parts, owner: Owner, node: NodeData) -> Result<Key, Fault>
     requires owner_is_there { is_there parts.old.world owner ≡ true }
     requires no_shadow { is_shadow node.kind ≡ false }

@@ -56,6 +56,7 @@ pub fn adopt(parts: &mut Parts, document: Key, node: Key) -> Result<(), Fault>
 }
 
 /// A removal, of which observers are told or not.
+#[inline(always)]
 pub(crate) fn removing(
     parts: &mut Parts,
     how: SuppressObserversFlag,
@@ -77,6 +78,7 @@ pub(crate) fn removing(
 }
 
 /// A node leaves its parent and gets a node document, with all below it.
+#[inline(always)]
 pub(crate) fn adopting(parts: &mut Parts, document: Key, node: Key) -> Result<(), AllocError>
     requires document_is_node { HoldsNode parts.old document }
     requires node_is_node { HoldsNode parts.old node }

@@ -23,6 +23,7 @@ impl Doc {
     /// Makes a node with an owner's next number, in a tree of its own, and gives its key. Refused with `InvalidCharacter` where it
     /// is an element whose name is none (a letter or `_`, then letters, digits, `-` and `_`), and then with `Limit` where the owner
     /// has as many nodes as it may (own rules); then, as where memory is refused, nothing is changed.
+    #[inline(always)]
     pub fn add(&mut self, owner: Owner, node: NodeData) -> Result<Key, Fault>
         requires owner_is_there { is_there self.old.world owner ≡ true }
         requires no_shadow { is_shadow node.kind ≡ false }
