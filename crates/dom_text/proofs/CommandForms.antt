@@ -6,7 +6,8 @@ use Rattle.dom_base.specs.declared.Owner.TheVariants.{Page, Component}
 use Rattle.dom_base.specs.declared.Kind.{Kind}
 use Rattle.dom_base.specs.declared.Kind.TheVariants as kinds
 use Rattle.dom_base.specs.declared.Action.{Action}
-use Rattle.dom_model.specs.Names.{Word}
+use Rattle.dom_base.specs.declared.Move.{Move}
+use Rattle.dom_model.specs.Names.{Word, DomString}
 use Rattle.dom_model.specs.Command.{NodeWord, Filter, ListenerWords, Command, new_element, new_text, new_comment, new_fragment, assigned}
 use Rattle.dom_model.specs.Command.{listen, unlisten}
 use Rattle.dom_text.specs.declared.Keyword.{Keyword}
@@ -14,15 +15,16 @@ use Rattle.dom_text.specs.declared.Keyword.TheVariants as keyword
 use Rattle.dom_text.specs.Words.{kind_word, new_kinds, keyword_word}
 use Rattle.dom_text.specs.Tokens.{IsWord, IsShow, IsNameFilter, IsAttributeFilter}
 use Rattle.dom_text.specs.Grammar.{LinePart, key, label, node, flag, perhaps, filter_parts, listener_parts, parts, MayUse, Spells}
-use Rattle.dom_text.specs.Readers.{◌>>=◌, Reader, at_end, next_as, named, show_of, name_filter_of, attribute_filter_of, flag_at, last_as}
-use Rattle.dom_text.specs.Decode.{one, two, three, four, node_at, label_at, new_of, new_at, assigned_at, action_at, cursor_at, listen_end}
+use Rattle.dom_text.specs.Readers.{◌>>=◌, next_as, named, show_of, name_filter_of, attribute_filter_of, flag_at, last_as}
+use Rattle.dom_text.specs.Decode.{node_at, label_at, new_of, new_at, assigned_at, action_at, cursor_at, listen_end}
 use Rattle.dom_text.specs.Decode.{listen_at, unlisten_end, unlisten_at}
 use Rattle.dom_text.proofs.WordLaws.{bind_then, some_is, at_end_some}
-use Rattle.dom_text.proofs.PartLaws.{ReadsPart, next_word_reads, next_as_reads, Spells-ends, one_sound, two_sound, three_sound, four_sound}
+use Rattle.dom_text.proofs.PartLaws.{ReadsPart, next_word_reads, next_as_reads, Spells-ends, LineReader, part_then, one_part}
 use Rattle.dom_text.proofs.StringLaws.{next_string_reads}
 use Rattle.dom_text.proofs.NameLaws.{word_by_test, named_sound, show_says, name_filter_says, attribute_filter_says}
 use Rattle.dom_text.proofs.FlagLaws.{avoids_nothing, avoids_flag, flag_sound, flag_complete, last_sound, last_complete}
-use Rattle.dom_text.proofs.CommandParts.{node_reads, label_reads, action_reads}
+use Rattle.dom_text.proofs.CommandParts.{node_reads, number_reads, range_reads, iterator_reads, walker_reads, observer_reads, label_reads, action_reads}
+use Rattle.dom_text.proofs.CommandParts.{move_reads, end_reads}
 
 -- ---- a command behind its keyword
 
@@ -34,44 +36,86 @@ IsBehind k o bytes c = MayUse c o × Spells (parts o c) (32 ∷ keyword_word k +
 abbrev pub Keyed : Keyword → List LinePart → List ℕ → Type 0
 Keyed k others bytes = Spells (key (keyword_word k) ∷ others) (32 ∷ keyword_word k ++ bytes)
 
-pub none_behind : (makes : Command) (k : Keyword) (o : Owner) (bytes : List ℕ) (c : Command) → (Keyed k [] bytes → IsBehind k o bytes makes) →
-    at_end makes bytes ≡ Some c → IsBehind k o bytes c
-none_behind makes k o bytes c is e =
-    let s = at_end_some makes c bytes e in
-    subst (IsBehind k o bytes) s.0 (is (keyword_word k, bytes, refl, s.1, refl))
-
-pub one_behind : {A : Type 0} {first : Reader A} {P : A → LinePart} → ReadsPart first P →
-    (makes : A → Command) (k : Keyword) (o : Owner) (bytes : List ℕ) (c : Command) →
-    ((a : A) → Keyed k (P a ∷ []) bytes → IsBehind k o bytes (makes a)) → one first makes bytes ≡ Some c → IsBehind k o bytes c
-one_behind reads makes k o bytes c is e =
-    let s = one_sound reads makes bytes c e in
+-- what a reader of lines reads behind the keyword is the command, where the keyword and the values' parts spell it
+pub read_behind : (reader : LineReader Command) (k : Keyword) (o : Owner) (bytes : List ℕ) (c : Command) →
+    ((x : reader.Values) → Keyed k (reader.parts x) bytes → IsBehind k o bytes (reader.makes x)) → reader.reads bytes ≡ Some c → IsBehind k o bytes c
+read_behind reader k o bytes c is e =
+    let s = reader.sound bytes c e in
     subst (IsBehind k o bytes) s.1 (is s.0 (keyword_word k, bytes, refl, s.2, refl))
 
-pub two_behind : {A B : Type 0} {first : Reader A} {second : Reader B} {P : A → LinePart} {Q : B → LinePart} → ReadsPart first P → ReadsPart second Q →
-    (makes : A → B → Command) (k : Keyword) (o : Owner) (bytes : List ℕ) (c : Command) →
-    ((a : A) (b : B) → Keyed k (P a ∷ Q b ∷ []) bytes → IsBehind k o bytes (makes a b)) → two first second makes bytes ≡ Some c → IsBehind k o bytes c
-two_behind reads₁ reads₂ makes k o bytes c is e =
-    let s = two_sound reads₁ reads₂ makes bytes c e in
-    subst (IsBehind k o bytes) s.2 (is s.0 s.1 (keyword_word k, bytes, refl, s.3, refl))
+-- ---- the forms with nodes and other parts in a fixed number
 
-pub three_behind : {A B D : Type 0} {first : Reader A} {second : Reader B} {third : Reader D} {P : A → LinePart} {Q : B → LinePart} {R : D → LinePart} →
-    ReadsPart first P → ReadsPart second Q → ReadsPart third R →
-    (makes : A → B → D → Command) (k : Keyword) (o : Owner) (bytes : List ℕ) (c : Command) →
-    ((a : A) (b : B) (d : D) → Keyed k (P a ∷ Q b ∷ R d ∷ []) bytes → IsBehind k o bytes (makes a b d)) →
-    three first second third makes bytes ≡ Some c → IsBehind k o bytes c
-three_behind reads₁ reads₂ reads₃ makes k o bytes c is e =
-    let s = three_sound reads₁ reads₂ reads₃ makes bytes c e in
-    subst (IsBehind k o bytes) s.3 (is s.0 s.1 s.2 (keyword_word k, bytes, refl, s.4, refl))
+-- a node
+abbrev pub a_node : Owner → (NodeWord → Command) → LineReader Command
+a_node o makes = one_part (node_reads o) makes
 
-pub four_behind : {A B D E : Type 0} {first : Reader A} {second : Reader B} {third : Reader D} {fourth : Reader E} {P : A → LinePart} {Q : B → LinePart}
-    {R : D → LinePart} {S : E → LinePart} →
-    ReadsPart first P → ReadsPart second Q → ReadsPart third R → ReadsPart fourth S →
-    (makes : A → B → D → E → Command) (k : Keyword) (o : Owner) (bytes : List ℕ) (c : Command) →
-    ((a : A) (b : B) (d : D) (e : E) → Keyed k (P a ∷ Q b ∷ R d ∷ S e ∷ []) bytes → IsBehind k o bytes (makes a b d e)) →
-    four first second third fourth makes bytes ≡ Some c → IsBehind k o bytes c
-four_behind reads₁ reads₂ reads₃ reads₄ makes k o bytes c is e =
-    let s = four_sound reads₁ reads₂ reads₃ reads₄ makes bytes c e in
-    subst (IsBehind k o bytes) s.4 (is s.0 s.1 s.2 s.3 (keyword_word k, bytes, refl, s.5, refl))
+-- two nodes
+abbrev pub two_nodes : Owner → (NodeWord → NodeWord → Command) → LineReader Command
+two_nodes o makes = part_then (node_reads o) λ a. a_node o (makes a)
+
+-- three nodes
+abbrev pub three_nodes : Owner → (NodeWord → NodeWord → NodeWord → Command) → LineReader Command
+three_nodes o makes = part_then (node_reads o) λ a. two_nodes o (makes a)
+
+-- a node and a word
+abbrev pub node_and_word : Owner → (NodeWord → Word → Command) → LineReader Command
+node_and_word o makes = part_then (node_reads o) λ a. one_part next_word_reads (makes a)
+
+-- a node and a string
+abbrev pub node_and_string : Owner → (NodeWord → DomString → Command) → LineReader Command
+node_and_string o makes = part_then (node_reads o) λ a. one_part next_string_reads (makes a)
+
+-- a node, a word and a string
+abbrev pub node_word_string : Owner → (NodeWord → Word → DomString → Command) → LineReader Command
+node_word_string o makes = part_then (node_reads o) λ a. part_then next_word_reads λ b. one_part next_string_reads (makes a b)
+
+-- a node and a number
+abbrev pub node_and_number : Owner → (NodeWord → ℕ → Command) → LineReader Command
+node_and_number o makes = part_then (node_reads o) λ a. one_part number_reads (makes a)
+
+-- a node, two numbers and a string
+abbrev pub node_numbers_string : Owner → (NodeWord → ℕ → ℕ → DomString → Command) → LineReader Command
+node_numbers_string o makes = part_then (node_reads o) λ a. part_then number_reads λ b. part_then number_reads λ d. one_part next_string_reads (makes a b d)
+
+-- a range
+abbrev pub a_range : (ℕ → Command) → LineReader Command
+a_range makes = one_part range_reads makes
+
+-- a range, a node and an offset
+abbrev pub range_and_place : Owner → (ℕ → NodeWord → ℕ → Command) → LineReader Command
+range_and_place o makes = part_then range_reads λ a. node_and_number o (makes a)
+
+-- a range and one of its ends
+abbrev pub range_and_end : (ℕ → Bool → Command) → LineReader Command
+range_and_end makes = part_then range_reads λ a. one_part end_reads (makes a)
+
+-- a range and a node
+abbrev pub range_and_node : Owner → (ℕ → NodeWord → Command) → LineReader Command
+range_and_node o makes = part_then range_reads λ a. a_node o (makes a)
+
+-- an iterator
+abbrev pub an_iterator : (ℕ → Command) → LineReader Command
+an_iterator makes = one_part iterator_reads makes
+
+-- a walker
+abbrev pub a_walker : (ℕ → Command) → LineReader Command
+a_walker makes = one_part walker_reads makes
+
+-- a walker and a move
+abbrev pub walker_and_move : (ℕ → Move → Command) → LineReader Command
+walker_and_move makes = part_then walker_reads λ a. one_part move_reads (makes a)
+
+-- a walker and a node
+abbrev pub walker_and_node : Owner → (ℕ → NodeWord → Command) → LineReader Command
+walker_and_node o makes = part_then walker_reads λ a. a_node o (makes a)
+
+-- an observer
+abbrev pub an_observer : (ℕ → Command) → LineReader Command
+an_observer makes = one_part observer_reads makes
+
+-- a label
+abbrev pub a_label : (Word → Command) → LineReader Command
+a_label makes = one_part label_reads makes
 
 -- ---- the forms with words of their own
 
@@ -98,13 +142,13 @@ kind_reads = next_as_reads (record {
 pub new_of_sound : (k : Kind) (o : Owner) (bytes first rest : List ℕ) (c : Command) → first ≡ kind_word k → bytes ≡ 32 ∷ first ++ rest →
     new_of k rest ≡ Some c → IsBehind keyword.New o bytes c
 new_of_sound kinds.Element o bytes first rest c f b e =
-    let s = one_sound next_word_reads new_element rest c e in
+    let s = (one_part next_word_reads new_element).sound rest c e in
     subst (IsBehind keyword.New o bytes) s.1 (tt, (codes "new", bytes, refl, (first, rest, f, s.2, b), refl))
 new_of_sound kinds.Text o bytes first rest c f b e =
-    let s = one_sound next_string_reads new_text rest c e in
+    let s = (one_part next_string_reads new_text).sound rest c e in
     subst (IsBehind keyword.New o bytes) s.1 (tt, (codes "new", bytes, refl, (first, rest, f, s.2, b), refl))
 new_of_sound kinds.Comment o bytes first rest c f b e =
-    let s = one_sound next_string_reads new_comment rest c e in
+    let s = (one_part next_string_reads new_comment).sound rest c e in
     subst (IsBehind keyword.New o bytes) s.1 (tt, (codes "new", bytes, refl, (first, rest, f, s.2, b), refl))
 new_of_sound kinds.Fragment o bytes first rest c f b e =
     let s = at_end_some new_fragment c rest e in
@@ -121,7 +165,7 @@ new_behind o bytes c e =
 
 pub assigned_behind : (o : Owner) (bytes : List ℕ) (c : Command) → assigned_at o bytes ≡ Some c → IsBehind keyword.Assigned o bytes c
 assigned_behind Page bytes c e = absurd cc
-assigned_behind (Component q) bytes c e = one_behind (node_reads (Component q)) assigned keyword.Assigned (Component q) bytes c (λ a s. (tt, s)) e
+assigned_behind (Component q) bytes c e = read_behind (a_node (Component q) assigned) keyword.Assigned (Component q) bytes c (λ x s. (tt, s)) e
 
 pub show_reads : ReadsPart (next_as show_of) IsShow
 show_reads = next_as_reads show_says

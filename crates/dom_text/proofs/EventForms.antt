@@ -10,7 +10,7 @@ use Rattle.dom_text.specs.Grammar.{LinePart, node, observed, flag, perhaps, even
 use Rattle.dom_text.specs.Readers.{◌>>=◌, attribute_filter_of, flag_at, last_as}
 use Rattle.dom_text.specs.Decode.{node_at, observer_number_at, label_at, related_at, dispatch_end, dispatch_at, observe_end, observe_at}
 use Rattle.dom_text.proofs.WordLaws.{bind_then, some_is, at_end_some}
-use Rattle.dom_text.proofs.PartLaws.{Spells-ends, one_sound, one_complete}
+use Rattle.dom_text.proofs.PartLaws.{Spells-ends, one_part}
 use Rattle.dom_text.proofs.NameLaws.{word_by_test, attribute_filter_says}
 use Rattle.dom_text.proofs.FlagLaws.{Avoids, avoids_nothing, avoids_word, avoids_key, avoids_flag, flag_sound, flag_complete, last_sound, last_complete}
 use Rattle.dom_text.proofs.CommandParts.{node_reads, observer_reads, label_reads}
@@ -27,8 +27,8 @@ related_sound o bytes r e = go (flag_at (codes "related") bytes) e (λ behind s.
     go : (f : Bool × List ℕ) → related_at o f.0 f.1 ≡ Some r →
         ((behind : List LinePart) → Spells behind f.1 → Spells (flag f.0 (codes "related") behind) bytes) → Spells (related_parts o r) bytes
     go (true, rest) k sound =
-        let s = one_sound (node_reads o) Some rest r k in
-        subst (λ (x : Option NodeWord). Spells (related_parts o x) bytes) s.1 (sound (node o s.0 ∷ []) s.2)
+        let s = (one_part (node_reads o) Some).sound rest r k in
+        subst (λ (x : Option NodeWord). Spells (related_parts o x) bytes) s.1 (sound (node o s.0.0 ∷ []) s.2)
     go (false, rest) k sound =
         let end = at_end_some None r rest k in
         subst (λ (x : Option NodeWord). Spells (related_parts o x) bytes) end.0 (sound [] end.1)
@@ -41,7 +41,7 @@ related_complete o None bytes s =
 related_complete o (Some n) bytes s =
     let f = flag_complete (codes "related") true (node o n ∷ []) bytes (word_by_test (codes "related") refl refl)
     (λ q. absurd cc) s in
-    rw (f.1) (one_complete (node_reads o) Some f.0 n f.2)
+    rw (f.1) ((one_part (node_reads o) Some).complete f.0 (n, tt) f.2)
 
 pub avoids_related : (name : List ℕ) (o : Owner) (r : Option NodeWord) → bytes_eq (codes "related") name ≡ false → Avoids name (related_parts o r)
 avoids_related name o None differs = avoids_nothing name
