@@ -1,31 +1,32 @@
 -- Lines as rows of pieces, and as the specification groups them.
-use Rattle.std.proofs.Common.{◌≡◌, ℕ, List, [], ◌++◌, append_assoc}
+use Rattle.std.proofs.Common.{◌≡◌, ℕ, List, [], ◌∷◌, ◌++◌, append_assoc, sym, ◌∙◌}
 use Rattle.std.proofs.lemmas.List.{append-nil}
 
--- the line of a call of a listener, whose path has this text
-pub event_row : (owner space a b c d e f g h i j k l m n end path : List ℕ) → n ≡ path
-    → owner ++ space ++ ((a ++ b) ++ ((c ++ d) ++ ((e ++ f) ++ ((g ++ h) ++ ((i ++ j) ++ ((k ++ l) ++ ((m ++ n) ++ []))))))) ++ end
-    ≡ ((owner ++ space ++ (a ++ b ++ c ++ d ++ e ++ f ++ g ++ h ++ i ++ j ++ k ++ l ++ m ++ path)) ++ end) ++ []
-event_row owner space a b c d e f g h i j k l m n end path text = simp (text, append_assoc, append-nil)
+-- the texts of pieces, each with the text in front of it and the text of its value
+abbrev pub in_pieces : List (List ℕ × List ℕ) → List ℕ
+in_pieces [] = []
+in_pieces (piece ∷ pieces) = (piece.0 ++ piece.1) ++ in_pieces pieces
 
--- the line of a record of children
-pub child_list_row : (owner space a n kind target b c d e f g h i end : List ℕ)
-    → owner ++ space ++ ((a ++ n) ++ (((space ++ kind) ++ target) ++ ((b ++ c) ++ ((d ++ e) ++ ((f ++ g) ++ ((h ++ i) ++ [])))))) ++ end
-    ≡ ((owner ++ space ++ (a ++ n ++ space ++ (kind ++ target ++ b ++ c ++ d ++ e ++ f ++ g ++ h ++ i))) ++ end) ++ []
-child_list_row owner space a n kind target b c d e f g h i end = simp (append_assoc, append-nil)
+-- the same texts behind a front, as the specification groups them
+abbrev pub in_a_row : List ℕ → List (List ℕ × List ℕ) → List ℕ
+in_a_row front [] = front
+in_a_row front (piece ∷ pieces) = in_a_row (front ++ piece.0 ++ piece.1) pieces
+
+in_a_row-is : (front : List ℕ) (pieces : List (List ℕ × List ℕ)) → in_a_row front pieces ≡ front ++ in_pieces pieces
+in_a_row-is front [] = sym (append-nil front)
+in_a_row-is front (piece ∷ pieces) = in_a_row-is (front ++ piece.0 ++ piece.1) pieces ∙ simp append_assoc
+
+-- a line of pieces, behind the owner's word and a space, and before the line's end
+pub row_of_pieces : (owner space end : List ℕ) (first : List ℕ × List ℕ) (pieces : List (List ℕ × List ℕ)) →
+    owner ++ space ++ in_pieces (first ∷ pieces) ++ end ≡ ((owner ++ space ++ in_a_row (first.0 ++ first.1) pieces) ++ end) ++ []
+row_of_pieces owner space end first pieces = rw (in_a_row-is (first.0 ++ first.1) pieces) (sym (append-nil (owner ++ space ++ in_pieces (first ∷ pieces) ++ end)))
+
+-- the line of a record: the pieces that stand behind its observer's number and a space are grouped together
+pub row_of_record : (owner space end : List ℕ) (number kind : List ℕ × List ℕ) (pieces : List (List ℕ × List ℕ)) →
+    owner ++ space ++ in_pieces (number ∷ (space ++ kind.0, kind.1) ∷ pieces) ++ end
+    ≡ ((owner ++ space ++ (number.0 ++ number.1 ++ space ++ in_a_row (kind.0 ++ kind.1) pieces)) ++ end) ++ []
+row_of_record owner space end number kind pieces = rw (in_a_row-is (kind.0 ++ kind.1) pieces) (simp (append_assoc, append-nil))
 
 -- the line of a tree
 pub tree_row : (owner space ok steps : List ℕ) → (owner ++ (space ++ ok)) ++ steps ≡ owner ++ space ++ (ok ++ steps)
 tree_row owner space ok steps = simp append_assoc
-
--- the line of a record of an attribute
-pub attributes_row : (owner space a n kind target b c d e end : List ℕ)
-    → owner ++ space ++ ((a ++ n) ++ (((space ++ kind) ++ target) ++ ((b ++ c) ++ ((d ++ e) ++ [])))) ++ end
-    ≡ ((owner ++ space ++ (a ++ n ++ space ++ (kind ++ target ++ b ++ c ++ d ++ e))) ++ end) ++ []
-attributes_row owner space a n kind target b c d e end = simp (append_assoc, append-nil)
-
--- the line of a record of data
-pub data_row : (owner space a n kind target b c end : List ℕ)
-    → owner ++ space ++ ((a ++ n) ++ (((space ++ kind) ++ target) ++ ((b ++ c) ++ []))) ++ end
-    ≡ ((owner ++ space ++ (a ++ n ++ space ++ (kind ++ target ++ b ++ c))) ++ end) ++ []
-data_row owner space a n kind target b c end = simp (append_assoc, append-nil)

@@ -4,13 +4,15 @@ use Rattle.std.specs.Prelude.{codes, option_copied}
 use Rattle.std.specs.Fmt.{decimal}
 use Rattle.dom_text.specs.Text.{node_text, string_or_null}
 use Rattle.dom_text.specs.Words.{owner_word}
-use Rattle.dom_printer.proofs.LineLaws.{attributes_row}
+use Rattle.dom_printer.proofs.LineLaws.{row_of_record}
 use Rattle.dom_printer.proofs.records.put_attribute_record.Goals as goal
 
 pub returns-clause-ok : goal.returns-clause-ok
 returns-clause-ok c =
     let owner = c.args.owner in
-    let same = attributes_row (owner_word owner) (codes " ") (codes "record o") (decimal c.args.observer) (codes "attributes ") (node_text owner c.args.target)
-    (codes " name=") c.as_bytes.result.now (codes " old=") (string_or_null (option_copied c.args.old)) (10 ∷ []) in
+    let same = row_of_record (owner_word owner) (codes " ") (10 ∷ [])
+    (codes "record o", decimal c.args.observer) (codes "attributes ", node_text owner c.args.target)
+    ((codes " name=", c.as_bytes.result.now)
+    ∷ (codes " old=", string_or_null (option_copied c.args.old)) ∷ []) in
     rw (← c.as_bytes.ensures.value)
     (subst (λ (text : List ℕ). OnOk c.put_line.result (c.put_line.new.out.items ≡ c.args.out.now.items ++ text)) same c.put_line.ensures.ok)

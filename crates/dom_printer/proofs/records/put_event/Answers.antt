@@ -1,11 +1,11 @@
 -- The pieces of the line of an event have its text, with the path that has the text that is given.
-use Rattle.std.proofs.Common.{◌≡◌, ◌++◌, [], ◌∷◌, ℕ, List, subst}
+use Rattle.std.proofs.Common.{◌≡◌, ◌++◌, [], ◌∷◌, ℕ, List, subst, ap, ◌∙◌}
 use Rattle.std.specs.Prelude.{codes}
 use Rattle.std.specs.Fmt.{decimal}
 use Rattle.std.proofs.lemmas.Result.{on_ok_weaker}
-use Rattle.dom_text.specs.Text.{node_text, node_or_null, list_text}
+use Rattle.dom_text.specs.Text.{node_text, node_or_null}
 use Rattle.dom_text.specs.Words.{owner_word}
-use Rattle.dom_printer.proofs.LineLaws.{event_row}
+use Rattle.dom_printer.proofs.LineLaws.{in_a_row, row_of_pieces}
 use Rattle.dom_printer.proofs.records.put_event.Goals as goal
 
 pub returns-clause-ok : goal.returns-clause-ok
@@ -13,8 +13,10 @@ returns-clause-ok c =
     let owner = c.args.owner in
     let event = c.args.event.now in
     let old = c.args.out.now.items in
-    let same = event_row (owner_word owner) (codes " ") (codes "event ") event.label.now (codes " ") event.event.now (codes " phase=") (decimal event.phase)
-    (codes " target=") (node_text owner event.target) (codes " current=") (node_text owner event.current) (codes " related=") (node_or_null owner event.related)
-    (codes " path=") event.path.now (10 ∷ []) in
+    let pieces : List ℕ → List (List ℕ × List ℕ) = λ path.
+    (codes " ", event.event.now) ∷ (codes " phase=", decimal event.phase) ∷ (codes " target=", node_text owner event.target)
+    ∷ (codes " current=", node_text owner event.current) ∷ (codes " related=", node_or_null owner event.related) ∷ (codes " path=", path) ∷ [] in
+    let line : List ℕ → List ℕ = λ path. ((owner_word owner ++ codes " " ++ in_a_row (codes "event " ++ event.label.now) (pieces path)) ++ (10 ∷ [])) ++ [] in
+    let same = row_of_pieces (owner_word owner) (codes " ") (10 ∷ []) (codes "event ", event.label.now) (pieces event.path.now) in
     on_ok_weaker c.put_line.result (λ put path text.
-    subst (λ (line : List ℕ). c.put_line.new.out.items ≡ old ++ line) (same (list_text owner path) text) put) c.put_line.ensures.ok
+    subst (λ (line : List ℕ). c.put_line.new.out.items ≡ old ++ line) (same ∙ ap line text) put) c.put_line.ensures.ok
