@@ -4,7 +4,7 @@ use Rattle.std.proofs.Common.{append-nil, arith, length-drop}
 use Rattle.std.proofs.lemmas.List.{take_all, take-append-drop}
 use Rattle.std.specs.Io.KnownBytes.{Appends}
 use Rattle.std.specs.Result.{MatchResult, OnOk}
-use Rattle.std.proofs.KnownBytes.{Appends-nil, Appends-trans}
+use Rattle.std.proofs.KnownBytes.{Appends-trans}
 use Rattle.dom_streams.specs.declared.fault.RunFault.{RunFault}
 use Rattle.dom_streams.specs.declared.fault.RunFault.TheVariants.{Read, Write, Memory, InputLimit}
 use Rattle.dom_streams.specs.Writing.{AppendsFront, StopsWriting, EndsWriting}
@@ -30,35 +30,47 @@ front_behind a b c all front text back before e h = record {
   appends = Appends-trans a b c front h.front before h.appends;
 }
 
--- A text is written behind another one.
-pub ends_behind : {A : Type 0} (r : Result A RunFault) (f₀ f₁ f₂ : ℕ) (a b c : Option (List ℕ)) (all front text : List ℕ) (some some' : Type 0)
-    → f₁ ≡ f₀ → Appends a b front → all ≡ front ++ text → (some → some') → EndsWriting r f₁ f₂ b c text some → EndsWriting r f₀ f₂ a c all some'
-ends_behind (Ok x) f₀ f₁ f₂ a b c all front text some some' f before e s h = (h.0 ∙ f, subst (Appends a c) (sym e) (Appends-trans a b c front text before h.1))
-ends_behind (Err Write) f₀ f₁ f₂ a b c all front text some some' f before e s h =
-    (h.0 ∙ ap (λ n. n + 1) f, front_behind a b c all front text [] before (e ∙ sym (append-nil (front ++ text))) h.1)
-ends_behind (Err Memory) f₀ f₁ f₂ a b c all front text some some' f before e s h = (h.0 ∙ f, s h.1)
-ends_behind (Err Read) f₀ f₁ f₂ a b c all front text some some' f before e s h = h
-ends_behind (Err InputLimit) f₀ f₁ f₂ a b c all front text some some' f before e s h = h
+-- a front was written, and no call of the sink failed: its counts of failed calls and what it holds, before and after
+pub record HasWritten (failed fails : ℕ) (old new : Option (List ℕ)) (front : List ℕ) : Type 0 where
+  pub none_failed : fails ≡ failed
+  pub appends : Appends old new front
 
--- A text behind another one, and before a third, meets a fault.
-pub stops_between : (e : RunFault) (f₀ f₁ f₂ : ℕ) (a b c : Option (List ℕ)) (all front text back : List ℕ) (some some' : Type 0)
-    → f₁ ≡ f₀ → Appends a b front → all ≡ (front ++ text) ++ back → (some → some') → StopsWriting e f₁ f₂ b c text some → StopsWriting e f₀ f₂ a c all some'
-stops_between Write f₀ f₁ f₂ a b c all front text back some some' f before e s h =
-    (h.0 ∙ ap (λ n. n + 1) f, front_behind a b c all front text back before e h.1)
-stops_between Memory f₀ f₁ f₂ a b c all front text back some some' f before e s h = (h.0 ∙ f, s h.1)
-stops_between Read f₀ f₁ f₂ a b c all front text back some some' f before e s h = h
-stops_between InputLimit f₀ f₁ f₂ a b c all front text back some some' f before e s h = h
+-- ---- behind a front that was written
 
--- what is written is the text, under another name
-pub ends_as : {A : Type 0} (r : Result A RunFault) (f₀ f₁ : ℕ) (a b : Option (List ℕ)) (all text : List ℕ) (some some' : Type 0)
-    → text ≡ all → (some → some') → EndsWriting r f₀ f₁ a b text some → EndsWriting r f₀ f₁ a b all some'
-ends_as r f₀ f₁ a b all text some some' e s h = ends_behind r f₀ f₀ f₁ a a b all [] text some some' refl (Appends-nil a) (sym e) s h
+module _ {f₀ f₁ : ℕ} {a b : Option (List ℕ)} {front : List ℕ} (before : HasWritten f₀ f₁ a b front) where
+  -- A text is written.
+  pub ends_behind : {A : Type 0} (r : Result A RunFault) (f₂ : ℕ) (c : Option (List ℕ)) (text : List ℕ) (some : Type 0)
+      → EndsWriting r f₁ f₂ b c text some → EndsWriting r f₀ f₂ a c (front ++ text) some
+  ends_behind (Ok x) f₂ c text some h = (h.0 ∙ before.none_failed, Appends-trans a b c front text before.appends h.1)
+  ends_behind (Err Write) f₂ c text some h =
+      (h.0 ∙ ap (λ n. n + 1) before.none_failed, front_behind a b c (front ++ text) front text [] before.appends (sym (append-nil (front ++ text))) h.1)
+  ends_behind (Err Memory) f₂ c text some h = (h.0 ∙ before.none_failed, h.1)
+  ends_behind (Err Read) f₂ c text some h = h
+  ends_behind (Err InputLimit) f₂ c text some h = h
 
--- a fault stops the writing of the text, under another name
-pub stops_as : (e : RunFault) (f₀ f₁ : ℕ) (a b : Option (List ℕ)) (all text : List ℕ) (some some' : Type 0)
-    → text ≡ all → (some → some') → StopsWriting e f₀ f₁ a b text some → StopsWriting e f₀ f₁ a b all some'
-stops_as e f₀ f₁ a b all text some some' same s h =
-    stops_between e f₀ f₀ f₁ a a b all [] text [] some some' refl (Appends-nil a) (sym same ∙ sym (append-nil text)) s h
+  -- A text before another one meets a fault.
+  pub stops_between : (e : RunFault) (f₂ : ℕ) (c : Option (List ℕ)) (text back : List ℕ) (some : Type 0)
+      → StopsWriting e f₁ f₂ b c text some → StopsWriting e f₀ f₂ a c ((front ++ text) ++ back) some
+  stops_between Write f₂ c text back some h =
+      (h.0 ∙ ap (λ n. n + 1) before.none_failed, front_behind a b c ((front ++ text) ++ back) front text back before.appends refl h.1)
+  stops_between Memory f₂ c text back some h = (h.0 ∙ before.none_failed, h.1)
+  stops_between Read f₂ c text back some h = h
+  stops_between InputLimit f₂ c text back some h = h
+
+-- ---- the text under another name, and less said of what is written where memory is refused
+
+module _ {text all : List ℕ} {some some' : Type 0} (same : text ≡ all) (weaker : some → some') where
+  -- A fault stops the writing.
+  pub stops_as : (e : RunFault) (f₀ f₁ : ℕ) (a b : Option (List ℕ)) → StopsWriting e f₀ f₁ a b text some → StopsWriting e f₀ f₁ a b all some'
+  stops_as Write f₀ f₁ a b h = (h.0, subst (AppendsFront a b) same h.1)
+  stops_as Memory f₀ f₁ a b h = (h.0, weaker h.1)
+  stops_as Read f₀ f₁ a b h = h
+  stops_as InputLimit f₀ f₁ a b h = h
+
+  -- The writing ends.
+  pub ends_as : {A : Type 0} (r : Result A RunFault) (f₀ f₁ : ℕ) (a b : Option (List ℕ)) → EndsWriting r f₀ f₁ a b text some → EndsWriting r f₀ f₁ a b all some'
+  ends_as (Ok x) f₀ f₁ a b h = (h.0, subst (Appends a b) same h.1)
+  ends_as (Err e) f₀ f₁ a b h = stops_as e f₀ f₁ a b h
 
 -- the two ends of the writing of a text
 pub ends_cases : {A : Type 0} (r : Result A RunFault) (f₀ f₁ : ℕ) (a b : Option (List ℕ)) (text : List ℕ) (some : Type 0)

@@ -3,7 +3,7 @@ use Rattle.std.proofs.Common.{◌++◌, ◌∙◌, sym, ap, append-nil, append_a
 use Rattle.std.proofs.lemmas.Result.{err_from_is_err_and}
 use Rattle.std.specs.Io.KnownBytes.{Appends}
 use Rattle.std.proofs.KnownBytes.{Appends-trans}
-use Rattle.dom_streams.proofs.WriteLaws.{stops_between}
+use Rattle.dom_streams.proofs.WriteLaws.{stops_between, stops_as}
 use Rattle.dom_streams.proofs.ViewLaws.{kept_by, kept_by-first, kept_by-later, kept_by-none}
 use Rattle.dom_streams.proofs.view.write_lines_with.Goals as goal
 
@@ -34,8 +34,9 @@ returns-in_err-write_all_to g c =
     c.split_at.ensures.front c.split_at.ensures.back (sym c.starts_with.ensures.value ∙ c.if-starts_with.true) in
     let p = err_from_is_err_and c.from_residual.result c.from_residual.ensures.1 in
     rw (p.1, p.2)
-    (stops_between _ _ _ _ _ _ _ _ i.0 line (kept_by c.args.prefix.now c.split_at.result.1.now) ⊥ ⊥ i.3 i.2
-    (i.1 ∙ ap (λ x. i.0 ++ x) step ∙ sym (append_assoc i.0 line _)) (λ x. x) c.in_err-write_all_to.ensures)
+    (stops_as (sym (i.1 ∙ ap (λ x. i.0 ++ x) step ∙ sym (append_assoc i.0 line _))) (λ (x : ⊥). x) _ _ _ _ _
+    (stops_between (record { none_failed = i.3; appends = i.2 }) _ _ _ line (kept_by c.args.prefix.now c.split_at.result.1.now) ⊥
+    c.in_err-write_all_to.ensures))
 
 pub returns : goal.returns
 returns g c =
