@@ -207,8 +207,17 @@ room-extracting k r p i g h =
         let old = pieces-old p q c i pieces (pieces-there p r g.start) in
         let fit = fits-still room.held b.node p q c pieces (fit-range p room.held b.node r i g.start room.spared kc) in
         let le : p.node_count ≤ (next_name p).number = omega arith in
-        let taken = room-taking room.held b.node p.node_count pieces (next_name p) q c.part c.count (new-there p n) opened le old fit
-        (room-make nowhere p n i h) kids_q in
+        let taken = room-taking room.held b.node p.node_count pieces (next_name p) q (record {
+          part = c.part;
+          counted = c.count;
+          new = le;
+          old = old;
+          there = new-there p n;
+          opened = opened;
+          fit = fit;
+          room = room-make nowhere p n i h;
+          children = kids_q;
+        }) in
         let l = leads-taking p.node_count pieces (next_name p) q c.part c.count (new-there p n) le old in
         let end = after q (taking (next_name p) pieces q) in (
           taken.0,
@@ -248,8 +257,17 @@ room-extracting k r p i g h =
         let left = data-left s x r.start.offset count ks (omega arith) in
         let two = replacing_data x r.start.offset count [] s in
         let old = pieces-old p q c i small (g.start, tt) in
-        let taken = room-taking [] x p.node_count small (next_name p) q c.part c.count (new-there p n) opened le old ((still c x g.start, kq), tt)
-        (room-make nowhere p n i h) (tt, still c x g.start) in
+        let taken = room-taking [] x p.node_count small (next_name p) q (record {
+          part = c.part;
+          counted = c.count;
+          new = le;
+          old = old;
+          there = new-there p n;
+          opened = opened;
+          fit = ((still c x g.start, kq), tt);
+          room = room-make nowhere p n i h;
+          children = (tt, still c x g.start);
+        }) in
         let whole_steps = after-append q (below ++ two) [] ∙ after-append q below two in
         subst (λ pieces. HasRoom nowhere (after q (taking (next_name p) pieces q)) ×
         ((new_place ts r).offset ≤ length_of (after q (taking (next_name p) pieces q)).trees (new_place ts r).node)) (sym is)

@@ -101,23 +101,29 @@ child-each x y parent before (z ∷ zs) p i m d h =
     (child-each x y parent before zs q c.part (all-then (MayGo parent p) (MayGo parent q) (λ a. may-still parent p q a c) zs m.1) d.1
     (child-placing x y parent before p z i m.0 d.0 h))
 
--- what is placed is another one, where neither x nor its parent is inserted
-others-placed : (x y node : NodeName) (p : Part) → IsPart p → IsNot x node → IsNot y node → IsChild x y p → AllByRecursion (IsNot x) (placed_nodes p.trees node)
-others-placed x y node p i a b h =
+-- x is a child of y, and neither is the node that is inserted
+pub record IsOtherChild (x y node : NodeName) (p : Part) : Type 0 where
+  pub first : IsNot x node
+  pub second : IsNot y node
+  pub child : IsChild x y p
+
+-- then what is placed is another one
+others-placed : (x y node : NodeName) (p : Part) → IsPart p → IsOtherChild x y node p → AllByRecursion (IsNot x) (placed_nodes p.trees node)
+others-placed x y node p i other =
     either_way (AllByRecursion (IsNot x)) (is_fragment (kind_of p.trees node)) (children_of p.trees node) (node ∷ [])
     (all-then (λ z. 1 ≤ childs p.trees z node) (IsNot x)
     (λ z g. by_cases (name_eq z x)
     (λ e. let same = name_eq-true z x e in
     let one = childs-parent p.trees x node i.unique (subst (λ n. 1 ≤ childs p.trees n node) same g) in
-    let two = childs-parent p.trees x y i.unique h in
+    let two = childs-parent p.trees x y i.unique other.child in
     let both : Some node ≡ Some y = sym one ∙ two in let is : node ≡ y = cc in
-    absurd (true≢false (sym (name_eq-same node) ∙ ap (name_eq node) is ∙ b)))
-    (λ e. e)) (children_of p.trees node) (children-childs p.trees node)) (a, tt)
+    absurd (true≢false (sym (name_eq-same node) ∙ ap (name_eq node) is ∙ other.second)))
+    (λ e. e)) (children_of p.trees node) (children-childs p.trees node)) (other.first, tt)
 
 -- an insertion
 pub child-inserting : (x y : NodeName) (how : Observing) (node parent : NodeName) (before : Option NodeName) (p : Part) → IsPart p →
-    MayGo parent p node → IsNot x node → IsNot y node → IsChild x y p → IsChild x y (after p (inserting how node parent before p))
-child-inserting x y how node parent before p i m a b h =
+    MayGo parent p node → IsOtherChild x y node p → IsChild x y (after p (inserting how node parent before p))
+child-inserting x y how node parent before p i m other =
     let spot = Some parent in
     let moved = placed_nodes p.trees node in
     let told = telling how (child_list parent moved [] (sibling_before p.trees parent before) before) in
@@ -129,10 +135,10 @@ child-inserting x y how node parent before p i m a b h =
     let ab = leads-then spot p one two l lb in
     let r = after p (one ++ two) in
     let three = in_turn (placing parent before) moved r in
-    let others = others-placed x y node p i a b h in
+    let others = others-placed x y node p i other in
     let n = all-then (MayGo parent p) (MayGo parent r) (λ z. may-still parent p r z ab.changed) moved (placed-may parent p node i m) in
     let s = after p ((one ++ two) ++ three) in
-    either_way (λ steps. IsChild x y (after p steps)) (is_empty moved) [] (inserting_nodes how node moved parent before p) h
+    either_way (λ steps. IsChild x y (after p steps)) (is_empty moved) [] (inserting_nodes how node moved parent before p) other.child
     (child-then x y p ((one ++ two) ++ three) told
     (subst (λ ts. 1 ≤ childs ts x y) (sym (telling-trees how (child_list parent moved [] (sibling_before p.trees parent before) before) s))
     (child-then x y p (one ++ two) three (child-each x y parent before moved r ab.changed.part n others
@@ -143,9 +149,9 @@ child-inserting x y how node parent before p i m a b h =
     unmoved (Some child) count q g = g
 
     emptied : (t : Bool) (moved : List NodeName) → AllByRecursion (IsNot x) moved → IsChild x y (after p ((if t then emptying node moved else steps_of []) p))
-    emptied false moved others = h
+    emptied false moved others = other.child
     emptied true moved others = child-then x y p (in_turn (removing suppressed) moved p) (queue_record (child_list node [] moved None None) ∷ [])
-        (child-removals x y suppressed moved p i others h)
+        (child-removals x y suppressed moved p i others other.child)
 
 -- data
 pub child-replacing_data : (x y z : NodeName) (offset count : ℕ) (new : DomString) (p : Part) → IsChild x y p →

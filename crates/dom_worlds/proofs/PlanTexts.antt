@@ -22,7 +22,7 @@ use Rattle.dom_worlds.specs.Worlds.{IsPart}
 use Rattle.dom_worlds.proofs.ChildPairs.{children-childs}
 use Rattle.dom_worlds.proofs.Lists.{all-dropped, all-then, all-from, all-map, all-filter, all-take_while}
 use Rattle.dom_worlds.proofs.NodesRead.{node-new}
-use Rattle.dom_worlds.proofs.PlanChildren.{IsChild, IsNot, parent-child, child-parent, child-make, child-inserting, child-inserted, child-replacing_data}
+use Rattle.dom_worlds.proofs.PlanChildren.{IsOtherChild, IsChild, parent-child, child-parent, child-make, child-inserting, child-inserted, child-replacing_data}
 use Rattle.dom_worlds.proofs.Roots.{root-parent_of}
 use Rattle.dom_worlds.proofs.TableRecords.{after-all}
 use Rattle.dom_worlds.proofs.Tests.{by_cases}
@@ -112,10 +112,8 @@ new-may p n parent i t =
 -- Splits: the tail goes behind a Text that has a parent, and has its root then.
 pub record MayFollow (x parent : NodeName) (q : Part) (new : NodeName) : Type 0 where
   pub may : MayGo parent q new
-  pub child : IsChild x parent q
   pub plain : is_fragment (kind_of q.trees new) ≡ false
-  pub other : IsNot x new
-  pub apart : IsNot parent new
+  pub others : IsOtherChild x parent new q
 
 -- it does
 follows : (x parent : NodeName) (before : Option NodeName) (q : Part) (new : NodeName) → IsPart q → MayFollow x parent q new → let r =
@@ -125,7 +123,7 @@ follows x parent before q new i f =
     let r = after q (inserting observed new parent before q) in
     let u = put.changed.part.unique in
     let a = child-parent r new parent put.changed.part (child-inserted observed new parent before q i f.may f.plain) in
-    let b = child-parent r x parent put.changed.part (child-inserting x parent observed new parent before q i f.may f.other f.apart f.child) in
+    let b = child-parent r x parent put.changed.part (child-inserting x parent observed new parent before q i f.may f.others) in
     sym (root-parent_of r.trees u new parent a) ∙ root-parent_of r.trees u x parent b
 
 -- a new Text does, where the other one has a parent
@@ -136,10 +134,12 @@ may-follow p n x parent i k e =
     let made = node-new (with_name (next_name p) n) p.trees (next-absent p i) in
     record {
       may = new-may p n parent i t;
-      child = child-make x parent n p (parent-child p x parent i e);
       plain = ap (λ (m : Node). is_fragment m.kind) made ∙ k;
-      other = next-not p i x (child-there p.trees x parent e);
-      apart = next-not p i parent t;
+      others = record {
+        first = next-not p i x (child-there p.trees x parent e);
+        second = next-not p i parent t;
+        child = child-make x parent n p (parent-child p x parent i e);
+      };
     }
 
 -- the tail

@@ -42,11 +42,6 @@ Misses xs y z = IsNot y z × AllByRecursion (λ x. IsNot x z) xs
 abbrev pub AreChildren : List NodeName → NodeName → Part → Type 0
 AreChildren xs y p = AllByRecursion (λ x. IsChild x y p) xs × HasNode p y
 
--- all of them stay, where each does
-children-stay : (xs : List NodeName) (y : NodeName) (p q : Part) → HasNode q y → ((x : NodeName) → IsChild x y p → IsChild x y q) →
-    AreChildren xs y p → AreChildren xs y q
-children-stay xs y p q t f h = (all-then (λ x. IsChild x y p) (λ x. IsChild x y q) f xs h.0, t)
-
 -- by what is missed
 children-missed : (xs : List NodeName) (y z : NodeName) (p q : Part) → HasNode q y → Misses xs y z →
     ((x : NodeName) → IsNot x z → IsChild x y p → IsChild x y q) → AreChildren xs y p → AreChildren xs y q
@@ -92,7 +87,7 @@ made-below xs y n into p e i t k h c =
     each [] g q j m d h = tt
     each (x ∷ xs) g q j m d h =
         let not_x : IsNot x n.name = ap (λ z. name_eq z x) e ∙ next-not p i x (child-there_in p x y i g.0) in
-        (child-inserting x y observed n.name into None q j m not_x d h.0, each xs g.1 q j m d h.1)
+        (child-inserting x y observed n.name into None q j m (record { first = not_x; second = d; child = h.0 }), each xs g.1 q j m d h.1)
 
 -- What the taking of pieces leaves.
 record IsTaken (xs : List NodeName) (y : NodeName) (into : NodeName) (pieces : Pieces) (p : Part) : Type 0 where
@@ -111,64 +106,100 @@ fits-still xs y p q c pieces h =
     fit-then (Misses xs y) (IsData p) (IsOpenIn p) (Misses xs y) (IsData q) (IsOpenIn q) (λ x m. m)
     (λ x d. (still c x d.0, ap has_data (c.kinds x d.0) ∙ d.1)) (λ x d. (still c x d.0, open-still c x d.0 d.1)) pieces h
 
--- the taking of pieces
-pub room-taking : (xs : List NodeName) (y : NodeName) (count : ℕ) (pieces : Pieces) (into : NodeName) (p : Part) → IsPart p →
-    count ≤ p.node_count → HasNode p into → IsOpen p into → count ≤ into.number → AllWhole (OldIn count p) pieces →
-    AreFit (Misses xs y) (IsData p) (IsOpenIn p) pieces → HasRoom nowhere p → AreChildren xs y p →
-    HasRoom nowhere (after p (taking into pieces p)) × AreChildren xs y (after p (taking into pieces p))
-room-taking xs y count nothing into p i k t op h o f r c = (r, c)
-room-taking xs y count (whole x rest) into p i k t op h o f r c =
-    let may = old-may count p x into i o.0 t h in
-    let one = inserting observed x into None p in
-    let l = leads-inserting observed x into None p i may in
-    let q = after p one in
-    let cq = children-missed xs y x p q (still l.changed y c.1) f.0 (λ z n g. child-inserting z y observed x into None p i may n f.0.0 g) c in
-    taken-then xs y p one (taking into rest q)
-    (room-taking xs y count rest into q l.changed.part (let a = l.changed.count in omega arith) (still l.changed into t)
-    (open-still l.changed into t op) h (whole-then (OldIn count p) (OldIn count q) (old-still count into p q h l.changed) rest o.1)
-    (fits-still xs y p q l.changed rest f.1) (room-inserting observed x into None p i may op r) cq)
-room-taking xs y count (cut x from to rest) into p i k t op h o f r c =
-    let n = clone_part (next_name p) from to (node_in p.trees x) in
-    let one = making_below into n p in
-    let l = leads-making_below into n p refl i t in
-    let made = made-below xs y n into p refl i t op r c in
-    let q = after p one in
-    let two = replacing_data x from (to - from) [] q in
-    let lq = leads-replacing_data x from (to - from) [] q l.changed.part in
-    let units : has_data (kind_of q.trees x) ≡ true = ap has_data (l.changed.kinds x o.0.there) ∙ f.0.1 in
-    let s = after q two in
-    let both = leads-then (Some into) p one two l (leads-eased (Some into) q two lq) in
-    let rs = after p (one ++ two) in
-    let mc = made.children in
-    let cs : AreChildren xs y s = (
-      all-then (λ z. IsChild z y q) (λ z. IsChild z y s) (λ z g. child-replacing_data z y x from (to - from) [] q g)
-          xs mc.0,
-      still lq.changed y mc.1,
-    ) in
-    let after_both = taken-then xs y p one two (room-replacing_data x from (to - from) [] q l.changed.part units made.room, cs) in
-    taken-then xs y p (one ++ two) (taking into rest rs)
-    (room-taking xs y count rest into rs both.changed.part (let a = both.changed.count in omega arith) (still both.changed into t)
-    (open-still both.changed into t op) h (whole-then (OldIn count p) (OldIn count rs) (old-still count into p rs h both.changed) rest o.1)
-    (fits-still xs y p rs both.changed rest f.1) after_both.0 after_both.1)
-room-taking xs y count (clone x inner rest) into p i k t op h o f r c =
-    let new = next_name p in
-    let n = with_name new (node_in p.trees x) in
-    let one = making_below into n p in
-    let l = leads-making_below into n p refl i t in
-    let made = made-below xs y n into p refl i t op r c in
-    let q = after p one in
-    let two = taking new inner q in
-    let inner_old = whole-then (OldIn count p) (OldIn count q) (old-still count into p q h l.changed) inner o.1 in
-    let lq = leads-taking count inner new q l.changed.part (let g = l.changed.count in omega arith) made.there k inner_old in
-    let op_new : IsOpen q new = ap has_data made.kind ∙ f.0.1 in
-    let deep = room-taking xs y count inner new q l.changed.part (let g = l.changed.count in omega arith) made.there op_new k inner_old
-    (fits-still xs y p q l.changed inner f.1) made.room made.children in
-    let both_changed : Changed (Some into) p (after p (one ++ two)) =
-    subst (Changed (Some into) p) (sym (after-append p one two))
-    (changed-inner into new p q (after q two) (next-absent p i) l.changed lq.changed) in
-    let rs = after p (one ++ two) in
-    let after_both = taken-then xs y p one two deep in
-    taken-then xs y p (one ++ two) (taking into rest rs)
-    (room-taking xs y count rest into rs both_changed.part (let a = both_changed.count in omega arith) (still both_changed into t)
-    (open-still both_changed into t op) h (whole-then (OldIn count p) (OldIn count rs) (old-still count into p rs h both_changed) rest o.2)
-    (fits-still xs y p rs both_changed rest f.2) after_both.0 after_both.1)
+-- pieces may be taken into a node: they are of old nodes and fit, and there is room and the children are there that are to stay
+pub record MayTake (xs : List NodeName) (y : NodeName) (count : ℕ) (pieces : Pieces) (into : NodeName) (p : Part) : Type 0 where
+  pub part : IsPart p
+  -- the old nodes are those below the count, and the node that takes is no such node
+  pub counted : count ≤ p.node_count
+  pub new : count ≤ into.number
+  pub old : AllWhole (OldIn count p) pieces
+  pub there : HasNode p into
+  pub opened : IsOpen p into
+  pub fit : AreFit (Misses xs y) (IsData p) (IsOpenIn p) pieces
+  pub room : HasRoom nowhere p
+  pub children : AreChildren xs y p
+
+module _ (xs : List NodeName) (y : NodeName) (count : ℕ) where
+  -- then some of them may be taken still after steps that put nodes below it
+  may-take-still : {pieces : Pieces} {into : NodeName} {p q : Part} (rest : Pieces) → MayTake xs y count pieces into p → Changed (Some into) p q →
+      AllWhole (OldIn count p) rest → AreFit (Misses xs y) (IsData p) (IsOpenIn p) rest → HasRoom nowhere q → AreChildren xs y q →
+      MayTake xs y count rest into q
+  may-take-still {into = into} {p = p} {q = q} rest may changed old fit room children = record {
+    part = changed.part;
+    counted = let a = changed.count in let k = may.counted in omega arith;
+    new = may.new;
+    old = whole-then (OldIn count p) (OldIn count q) (old-still count into p q may.new changed) rest old;
+    there = still changed into may.there;
+    opened = open-still changed into may.there may.opened;
+    fit = fits-still xs y p q changed rest fit;
+    room = room;
+    children = children;
+  }
+
+  -- the taking of pieces
+  pub room-taking : (pieces : Pieces) (into : NodeName) (p : Part) → MayTake xs y count pieces into p →
+      HasRoom nowhere (after p (taking into pieces p)) × AreChildren xs y (after p (taking into pieces p))
+  room-taking nothing into p may = (may.room, may.children)
+  room-taking (whole x rest) into p may =
+      let i = may.part in
+      let goes = old-may count p x into i may.old.0 may.there may.new in
+      let one = inserting observed x into None p in
+      let l = leads-inserting observed x into None p i goes in
+      let f = may.fit in
+      let children = children-missed xs y x p (after p one) (still l.changed y may.children.1) f.0
+      (λ z n g. child-inserting z y observed x into None p i goes (record { first = n; second = f.0.0; child = g })) may.children in
+      taken-then xs y p one (taking into rest (after p one))
+      (room-taking rest into (after p one)
+      (may-take-still rest may l.changed may.old.1 f.1 (room-inserting observed x into None p i goes may.opened may.room) children))
+  room-taking (cut x from to rest) into p may =
+      let i = may.part in
+      let n = clone_part (next_name p) from to (node_in p.trees x) in
+      let one = making_below into n p in
+      let l = leads-making_below into n p refl i may.there in
+      let made = made-below xs y n into p refl i may.there may.opened may.room may.children in
+      let q = after p one in
+      let two = replacing_data x from (to - from) [] q in
+      let lq = leads-replacing_data x from (to - from) [] q l.changed.part in
+      let old = may.old in
+      let fit = may.fit in
+      let units : has_data (kind_of q.trees x) ≡ true = ap has_data (l.changed.kinds x old.0.there) ∙ fit.0.1 in
+      let s = after q two in
+      let both = leads-then (Some into) p one two l (leads-eased (Some into) q two lq) in
+      let mc = made.children in
+      let cs : AreChildren xs y s = (
+        all-then (λ z. IsChild z y q) (λ z. IsChild z y s) (λ z g. child-replacing_data z y x from (to - from) [] q g)
+            xs mc.0,
+        still lq.changed y mc.1,
+      ) in
+      let after_both = taken-then xs y p one two (room-replacing_data x from (to - from) [] q l.changed.part units made.room, cs) in
+      taken-then xs y p (one ++ two) (taking into rest (after p (one ++ two)))
+      (room-taking rest into (after p (one ++ two)) (may-take-still rest may both.changed old.1 fit.1 after_both.0 after_both.1))
+  room-taking (clone x inner rest) into p may =
+      let i = may.part in
+      let new = next_name p in
+      let n = with_name new (node_in p.trees x) in
+      let one = making_below into n p in
+      let l = leads-making_below into n p refl i may.there in
+      let made = made-below xs y n into p refl i may.there may.opened may.room may.children in
+      let q = after p one in
+      let two = taking new inner q in
+      let old = may.old in
+      let fit = may.fit in
+      let below : MayTake xs y count inner new q = record {
+        part = l.changed.part;
+        counted = let g = l.changed.count in let k = may.counted in omega arith;
+        new = may.counted;
+        old = whole-then (OldIn count p) (OldIn count q) (old-still count into p q may.new l.changed) inner old.1;
+        there = made.there;
+        opened = ap has_data made.kind ∙ fit.0.1;
+        fit = fits-still xs y p q l.changed inner fit.1;
+        room = made.room;
+        children = made.children;
+      } in
+      let lq = leads-taking count inner new q below.part below.counted below.there below.new below.old in
+      let deep = taken-then xs y p one two (room-taking inner new q below) in
+      let both : Changed (Some into) p (after p (one ++ two)) =
+      subst (Changed (Some into) p) (sym (after-append p one two))
+      (changed-inner into new p q (after q two) (next-absent p i) l.changed lq.changed) in
+      taken-then xs y p (one ++ two) (taking into rest (after p (one ++ two)))
+      (room-taking rest into (after p (one ++ two)) (may-take-still rest may both old.2 fit.2 deep.0 deep.1))

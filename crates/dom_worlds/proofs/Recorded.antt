@@ -125,16 +125,17 @@ pub tells-plan : (spot : Option NodeName) (f g : Plan) (p : Part) → Leads spot
     ((q : Part) → Changed spot p q → TellsIn q (g q)) → TellsIn p ((f and_then g) p)
 tells-plan spot f g p l a b = tells-append p (f p) (g (after p (f p))) a (b (after p (f p)) l.changed)
 
--- a plan for each item
-pub tells-each : {A : Type 0} (spot : Option NodeName) (P : Part → A → Type 0) (f : A → Plan) →
-    ((p : Part) (x : A) → IsPart p → P p x → Leads spot p (f x p)) → ((p : Part) (x : A) → IsPart p → P p x → TellsIn p (f x p)) →
-    ((p q : Part) (x : A) → Changed spot p q → P p x → P q x) → (xs : List A) (p : Part) → IsPart p → AllByRecursion (P p) xs → TellsIn p (in_turn f xs p)
-tells-each spot P f l h k [] p i g = tt
-tells-each spot P f l h k (x ∷ xs) p i g =
-    let first = l p x i g.0 in
-    let q = after p (f x p) in
-    tells-append p (f x p) (in_turn f xs q) (h p x i g.0)
-    (tells-each spot P f l h k xs q first.changed.part (all-then (P p) (P q) (λ y. k p q y first.changed) xs g.1))
+-- plans for items: each leads on and tells, and what an item needs stays so
+module _ {A : Type 0} (spot : Option NodeName) (P : Part → A → Type 0) (f : A → Plan) (leads : (p : Part) (x : A) → IsPart p → P p x → Leads spot p (f x p))
+    (tells : (p : Part) (x : A) → IsPart p → P p x → TellsIn p (f x p)) (stays : (p q : Part) (x : A) → Changed spot p q → P p x → P q x) where
+  -- so do all in turn
+  pub tells-each : (xs : List A) (p : Part) → IsPart p → AllByRecursion (P p) xs → TellsIn p (in_turn f xs p)
+  tells-each [] p i g = tt
+  tells-each (x ∷ xs) p i g =
+      let first = leads p x i g.0 in
+      let q = after p (f x p) in
+      tells-append p (f x p) (in_turn f xs q) (tells p x i g.0)
+      (tells-each xs q first.changed.part (all-then (P p) (P q) (λ y. stays p q y first.changed) xs g.1))
 
 -- Nodes that are there stay there.
 pub still-all : {spot : Option NodeName} {p q : Part} → Changed spot p q → (xs : List NodeName) → AllByRecursion (HasNode p) xs → AllByRecursion (HasNode q) xs

@@ -293,18 +293,18 @@ room-joining x parent p i t k e h =
     (room-joins ts x parent size nexts q fits.0 fits.1 (room-replacing_data x size 0 all p i k h)))
     (λ r c g. room-removals nowhere observed nexts r c.part g)
 
--- A plan for each item, each of which keeps room and what the others need.
-pub room-turns : {A : Type 0} (P : Part → A → Type 0) (f : A → Plan) →
-    ((p : Part) (x : A) → IsPart p → P p x → Leads None p (f x p)) →
-    ((p : Part) (x : A) → IsPart p → P p x → HasRoom nowhere p → HasRoom nowhere (after p (f x p))) →
-    ((p q : Part) (x : A) → Changed None p q → P p x → P q x) →
-    (xs : List A) (p : Part) → IsPart p → AllByRecursion (P p) xs → HasRoom nowhere p → HasRoom nowhere (after p (in_turn f xs p))
-room-turns P f l h k [] p i g r = r
-room-turns P f l h k (x ∷ xs) p i g r =
-    let first = l p x i g.0 in
-    let q = after p (f x p) in
-    room-then nowhere p (f x p) (in_turn f xs q)
-    (room-turns P f l h k xs q first.changed.part (all-then (P p) (P q) (λ y. k p q y first.changed) xs g.1) (h p x i g.0 r))
+-- Plans for items: each leads on and keeps room, and what an item needs stays so.
+module _ {A : Type 0} (P : Part → A → Type 0) (f : A → Plan) (leads : (p : Part) (x : A) → IsPart p → P p x → Leads None p (f x p))
+    (room : (p : Part) (x : A) → IsPart p → P p x → HasRoom nowhere p → HasRoom nowhere (after p (f x p)))
+    (stays : (p q : Part) (x : A) → Changed None p q → P p x → P q x) where
+  -- so do all in turn
+  pub room-turns : (xs : List A) (p : Part) → IsPart p → AllByRecursion (P p) xs → HasRoom nowhere p → HasRoom nowhere (after p (in_turn f xs p))
+  room-turns [] p i g r = r
+  room-turns (x ∷ xs) p i g r =
+      let first = leads p x i g.0 in
+      let q = after p (f x p) in
+      room-then nowhere p (f x p) (in_turn f xs q)
+      (room-turns xs q first.changed.part (all-then (P p) (P q) (λ y. stays p q y first.changed) xs g.1) (room p x i g.0 r))
 
 -- a Text that is there
 abbrev pub TextIn : Part → NodeName → Type 0
@@ -335,12 +335,10 @@ room-normalizing x p i h =
     (all-kept (HasNode p) is (descendants p.trees x) (all-dropped (HasNode p) (inclusive_descendants p.trees x) (descend-there p.trees x))) h
 
 -- Text content.
-room-replaced : (x : NodeName) (p : Part) (made told : List Step) (old added : List NodeName) → Leads (Some x) p made →
+room-replaced : (x : NodeName) (p : Part) (made : List Step) (old added : List NodeName) → Leads (Some x) p made →
     AllByRecursion (MayGo x (after p made)) added → HasNode p x → IsOpen p x → HasRoom nowhere (after p made) →
-    ((q : Part) → HasRoom nowhere q → HasRoom nowhere (after q told)) →
-    HasRoom nowhere (after p ((steps_of made and_then in_turn (removing suppressed) old and_then in_turn (λ y. inserting suppressed y x None)
-    added and_then steps_of told) p))
-room-replaced x p made told old added a m t k h g =
+    HasRoom nowhere (after p ((steps_of made and_then in_turn (removing suppressed) old and_then in_turn (λ y. inserting suppressed y x None) added) p))
+room-replaced x p made old added a m t k h =
     let spot = Some x in
     let q = after p made in
     let gone = in_turn (removing suppressed) old q in
@@ -352,8 +350,7 @@ room-replaced x p made told old added a m t k h g =
     let room_r : HasRoom nowhere r = room-then nowhere p made gone (room-removals nowhere suppressed old q a.changed.part h) in
     let put = room-each_in x added r c.part (all-then (MayGo x q) (MayGo x r) (λ y. may-still x q r y c) added m) (still c x there)
     (open-still c x there (open-still a.changed x t k)) room_r in
-    let all = (made ++ gone) ++ in_turn (λ y. inserting suppressed y x None) added r in
-    room-then nowhere p all told (g (after p all) (room-then nowhere p (made ++ gone) (in_turn (λ y. inserting suppressed y x None) added r) put))
+    room-then nowhere p (made ++ gone) (in_turn (λ y. inserting suppressed y x None) added r) put
   where
     room-each_in : (x : NodeName) (ys : List NodeName) (q : Part) → IsPart q → AllByRecursion (MayGo x q) ys → HasNode q x → IsOpen q x →
         HasRoom nowhere q → HasRoom nowhere (after q (in_turn (λ y. inserting suppressed y x None) ys q))
@@ -375,9 +372,12 @@ room-replacing_children x new p i t k h =
     let record_of = child_list x added old None None in
     let told = only_if (not (is_empty old && is_empty new)) (queue_record record_of) in
     let m = from node (is_empty new) in
-    room-replaced x p (map (λ y. make (node y)) added) told old added m.0 m.1 t k m.2
-    (λ q g. either_way (λ steps. HasRoom nowhere (after q steps)) (not (is_empty old && is_empty new)) (queue_record record_of ∷ []) []
-    (room-record nowhere q record_of g) g)
+    let made = map (λ y. make (node y)) added in
+    let put = (steps_of made and_then in_turn (removing suppressed) old and_then in_turn (λ y. inserting suppressed y x None) added) p in
+    let g = room-replaced x p made old added m.0 m.1 t k m.2 in
+    room-then nowhere p put told
+    (either_way (λ steps. HasRoom nowhere (after (after p put) steps)) (not (is_empty old && is_empty new)) (queue_record record_of ∷ []) []
+    (room-record nowhere (after p put) record_of g) g)
   where
     from : (node : NodeName → Node) (b : Bool) → let added : List NodeName =
         if b then [] else next_name p ∷ [] in Leads (Some x) p (map (λ y. make (node y)) added) ×
