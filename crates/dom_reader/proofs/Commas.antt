@@ -36,12 +36,20 @@ parts_len (Some text) = length text.now + 1
 text_left : (text : List ℕ) → eqb (length (between_commas text)) 0 ≡ false
 text_left text = ne_eqb (length (between_commas text)) 0 (λ e. omega (arith, length-slice_split (λ b. eqb b 44) text))
 
--- where parts are left nothing is shown
-pub show_refused : (a b c d e : Bool) (names text : List ℕ) (as' bs cs ds : List (List ℕ))
-    → (a, as') ≡ take_name (codes "element") (between_commas names)
-    → (b, bs) ≡ take_name (codes "text") as'
-    → (c, cs) ≡ take_name (codes "comment") bs
-    → (d, ds) ≡ take_name (codes "document") cs
-    → (e, between_commas text) ≡ take_name (codes "fragment") ds
-    → None ≡ show_of_names (between_commas names)
-show_refused a b c d e names text as' bs cs ds h1 h2 h3 h4 h5 = rw (← h1, ← h2, ← h3, ← h4, ← h5, text_left text) refl
+-- the names of what is shown are taken from the front of the names one after the other, and those of a text are left
+pub record LeavesNames (names text : List ℕ) : Type 0 where
+  -- whether each name was taken, with the names behind it
+  pub element : Bool × List (List ℕ)
+  pub element_is : element ≡ take_name (codes "element") (between_commas names)
+  pub of_data : Bool × List (List ℕ)
+  pub of_data_is : of_data ≡ take_name (codes "text") element.1
+  pub comment : Bool × List (List ℕ)
+  pub comment_is : comment ≡ take_name (codes "comment") of_data.1
+  pub document : Bool × List (List ℕ)
+  pub document_is : document ≡ take_name (codes "document") comment.1
+  pub fragment : Bool
+  pub fragment_is : (fragment, between_commas text) ≡ take_name (codes "fragment") document.1
+
+-- then nothing is shown
+pub show_refused : {names text : List ℕ} → LeavesNames names text → None ≡ show_of_names (between_commas names)
+show_refused {text = text} h = rw (← h.element_is, ← h.of_data_is, ← h.comment_is, ← h.document_is, ← h.fragment_is, text_left text) refl
