@@ -54,20 +54,21 @@ own_key names o xs ns all own i d within =
     (subst (λ x. is_in name_eq x names ≡ true) (get_or-map (node_of o) ns i d (node_of o d) within)
     (own_all i (node_of o d) (subst (λ n. i < n) (sym (length-map ns (node_of o))) within)))
 
--- keys of an owner's nodes by their numbers, and one more
-pub one_more : (names : List NodeName) (o : Owner) (ns : List ℕ) (i d : ℕ) → i < length ns → (keys : List ℕ) (k : ℕ) →
-    slice_get names k ≡ Some (node_of o (get_or ns i d)) → k < length names →
-    (map (name_at names) keys ≡ map (node_of o) (take i ns)) × All (λ j. j < length names) keys → (more : List ℕ) → more ≡ keys ++ k ∷ []
-    → (map (name_at names) more ≡ map (node_of o) (take (i + 1) ns)) × All (λ j. j < length names) more
-one_more names o ns i d within keys k found node so_far more is = (
-  ap (map (name_at names)) is
-      ∙ (map-append (name_at names) keys (k ∷ [])
-      ∙ (ap (λ xs. xs ++ name_at names k ∷ []) so_far.0
-      ∙ (ap (λ x. map (node_of o) (take i ns) ++ x ∷ [])
-      (sym (unwrap_or-slice_get names k (node_of Page 0)) ∙ ap (λ s. unwrap_or s (node_of Page 0)) found)
-      ∙ (sym (map-append (node_of o) (take i ns) (get_or ns i d ∷ [])) ∙ ap (map (node_of o)) (sym (take_more ns i d within)))))),
-  subst (All (λ j. j < length names)) (sym is) (All-push (λ j. j < length names) keys k so_far.1 node),
-)
+-- the keys of an owner's nodes by the first of their numbers
+module _ (names : List NodeName) (o : Owner) (ns : List ℕ) (i d : ℕ) (within : i < length ns) where
+  -- and one more
+  pub one_more : (keys : List ℕ) (k : ℕ) → slice_get names k ≡ Some (node_of o (get_or ns i d)) → k < length names →
+      (map (name_at names) keys ≡ map (node_of o) (take i ns)) × All (λ j. j < length names) keys → (more : List ℕ) → more ≡ keys ++ k ∷ []
+      → (map (name_at names) more ≡ map (node_of o) (take (i + 1) ns)) × All (λ j. j < length names) more
+  one_more keys k found node so_far more is = (
+    ap (map (name_at names)) is
+        ∙ (map-append (name_at names) keys (k ∷ [])
+        ∙ (ap (λ xs. xs ++ name_at names k ∷ []) so_far.0
+        ∙ (ap (λ x. map (node_of o) (take i ns) ++ x ∷ [])
+        (sym (unwrap_or-slice_get names k (node_of Page 0)) ∙ ap (λ s. unwrap_or s (node_of Page 0)) found)
+        ∙ (sym (map-append (node_of o) (take i ns) (get_or ns i d ∷ [])) ∙ ap (map (node_of o)) (sym (take_more ns i d within)))))),
+    subst (All (λ j. j < length names)) (sym is) (All-push (λ j. j < length names) keys k so_far.1 node),
+  )
 
 -- names of nodes stay so where there is one node more
 pub names_grown : (names : List NodeName) (x : NodeName) (xs : List NodeName) → AreNames names xs → AreNames (names ++ x ∷ []) xs

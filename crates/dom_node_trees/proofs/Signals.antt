@@ -82,25 +82,45 @@ all_named P names each (x ∷ xs) all =
       all_named P names each xs (All-tail (λ y. is_in name_eq y names ≡ true) x xs all),
     )
 
--- all the slots of a step
-pub all_signalled : (names : List NodeName) →
-    (was now : Trees) (step : Step) (left : Option ℕ) (slots kept : SlotsNow) (signalled : List NodeName) (tasks : List Task) (keys : List ℕ)
-    → kept.hosts ≡ slots.hosts → kept.begun ≡ None → AreSlotsOf (record { names = names; trees = now }) kept →
-    AreNames names signalled → All (λ k. k < length names) keys
-    → map (name_at names) keys ≡ step_signals names (shadow_trees names was slots.hosts) (shadow_trees names now slots.hosts) step left
-    → (more : List NodeName) (later : List Task) → more ≡ fold (signalled_by names) signalled keys → later ≡ fold (queued_by names) tasks keys
-    → HasSignalled names was now step left (signal_tables slots signalled tasks) (signal_tables kept more later)
-all_signalled names was now step left slots kept signalled tasks keys hosts free are nodes keys_nodes told more later is_more is_later =
-    let is = is_more ∙ signalled_names names signalled keys in
+-- a step that is at its end, and the slots that it signals
+pub record StepSignals : Type 0 where
+  pub names : List NodeName
+  -- the trees before and after the step, and the node that it left
+  pub was : Trees
+  pub now : Trees
+  pub step : Step
+  pub left : Option ℕ
+  -- the slots before and after it
+  pub slots : SlotsNow
+  pub kept : SlotsNow
+  pub hosts : kept.hosts ≡ slots.hosts
+  pub free : kept.begun ≡ None
+  pub are : AreSlotsOf (record { names = names; trees = now }) kept
+  -- what was signalled, and what was to run
+  pub signalled : List NodeName
+  pub tasks : List Task
+  pub nodes : AreNames names signalled
+  -- the slots that are to be signalled
+  pub keys : List ℕ
+  pub keys_nodes : All (λ k. k < length names) keys
+  pub told : map (name_at names) keys ≡ step_signals names (shadow_trees names was slots.hosts) (shadow_trees names now slots.hosts) step left
+
+-- when they all are
+pub all_signalled : (s : StepSignals) (more : List NodeName) (later : List Task) → more ≡ fold (signalled_by s.names) s.signalled s.keys →
+    later ≡ fold (queued_by s.names) s.tasks s.keys
+    → HasSignalled s.names s.was s.now s.step s.left (signal_tables s.slots s.signalled s.tasks) (signal_tables s.kept more later)
+all_signalled s more later is_more is_later =
+    let is = is_more ∙ signalled_names s.names s.signalled s.keys in
     record {
-      hosts = hosts;
+      hosts = s.hosts;
       held = record {
-        free = free;
-        slots = are;
-        nodes = subst (AreNames names) (sym is) (names_signalled names signalled (map (name_at names) keys) nodes (are_named names keys keys_nodes));
+        free = s.free;
+        slots = s.are;
+        nodes = subst (AreNames s.names) (sym is)
+            (names_signalled s.names s.signalled (map (name_at s.names) s.keys) s.nodes (are_named s.names s.keys s.keys_nodes));
       };
-      signalled = is ∙ ap (fold (append_once name_eq) signalled) told;
-      tasks = is_later ∙ (queued_names names tasks keys ∙ ap (fold (λ (ts : List Task) (s : NodeName). queued_notify s.owner ts) tasks) told);
+      signalled = is ∙ ap (fold (append_once name_eq) s.signalled) s.told;
+      tasks = is_later ∙ (queued_names s.names s.tasks s.keys ∙ ap (fold (λ (ts : List Task) (x : NodeName). queued_notify x.owner ts) s.tasks) s.told);
     }
 
 -- A step that was begun with some slots, and is done.

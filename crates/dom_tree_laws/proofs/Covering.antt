@@ -220,23 +220,27 @@ sets_first names d was k k< there =
       node = λ j e. let same : k ≡ j = cc in subst (λ i. i < length names) same k<;
     }
 
--- a step of it
-pub sets_next : (names : List NodeName) (d top : NodeName) (was now new : Trees) → IsOnce was → (k : ℕ) (next : Option ℕ) → Sets names d top was now (Some k)
-    → new ≡ change_node (under_document (Some d)) (name_at names k) now
-    → option_map (name_at names) next ≡ first_of (items_after name_eq (name_at names k) (inclusive_descendants new top))
-    → ForSome next (λ j. j < length names)
+-- a step of it: the node document of the node under the key is set, and the next node is found
+pub record SetsOne (names : List NodeName) (d top : NodeName) (now new : Trees) (k : ℕ) (next : Option ℕ) : Type 0 where
+  pub changed : new ≡ change_node (under_document (Some d)) (name_at names k) now
+  pub found : option_map (name_at names) next ≡ first_of (items_after name_eq (name_at names k) (inclusive_descendants new top))
+  pub near : ForSome next (λ j. j < length names)
+
+-- it goes on with the setting, and fewer nodes are left
+pub sets_next : {names : List NodeName} {d top : NodeName} {now new : Trees} {k : ℕ} {next : Option ℕ} → SetsOne names d top now new k next → (was : Trees) →
+    IsOnce was → Sets names d top was now (Some k)
     → Sets names d top was new next × (left (inclusive_descendants was top) (option_map (name_at names) next) < left
     (inclusive_descendants was top) (Some (name_at names k)))
-sets_next names d top was now new once k next sets changed found near =
+sets_next {names} {d} {top} {now} {new} {k} {next} one was once sets =
     let xs = inclusive_descendants was top in
     let y = name_at names k in
     let is : new ≡ covered d (items_before name_eq y xs ++ y ∷ []) was =
-    changed ∙ ap (change_node (under_document (Some d)) y) sets.trees ∙ covered_more d y (items_before name_eq y xs) was in
+    one.changed ∙ ap (change_node (under_document (Some d)) y) sets.trees ∙ covered_more d y (items_before name_eq y xs) was in
     let behind : option_map (name_at names) next ≡ first_of (items_after name_eq y xs) =
-    found ∙ ap (λ zs. first_of (items_after name_eq y zs))
+    one.found ∙ ap (λ zs. first_of (items_after name_eq y zs))
     (ap (λ t. inclusive_descendants t top) is ∙ descendants_covered d (items_before name_eq y xs ++ y ∷ []) was top) in
     let w = subst (λ o. Walks xs y o) (sym behind) (walks xs (names_once (subtree was top) (once_subtree was top once)) y sets.stands) in
-    (record { trees = is ∙ ap (λ zs. covered d zs was) (sym w.more); stands = w.stands; node = near }, w.fewer)
+    (record { trees = is ∙ ap (λ zs. covered d zs was) (sym w.more); stands = w.stands; node = one.near }, w.fewer)
 
 -- what the forest asks at a step
 pub sets_above : (names : List NodeName) (d top : NodeName) (was now new : Trees) → IsOnce was → (k : ℕ) → Sets names d top was now (Some k)
@@ -248,22 +252,28 @@ sets_above names d top was now new once k sets changed =
     (changed ∙ ap (change_node (under_document (Some d)) y) sets.trees ∙ covered_more d y (items_before name_eq y xs) was)
     ∙ above_covered d (items_before name_eq y xs ++ y ∷ []) was once top y sets.stands
 
--- a step sets the node documents of a tree, told by a forest before and after it
-pub sets_on : (f g h : NamedTrees) (top d k : ℕ) (at next : Option ℕ) → IsOnce f.trees → at ≡ Some k → g.names ≡ f.names →
-    Sets f.names (name_at f.names d) (name_at f.names top) f.trees g.trees at
-    → h.names ≡ g.names → h.trees ≡ change_node (under_document (Some (name_at g.names d))) (name_at g.names k) g.trees
-    → option_map (name_at h.names) next ≡ first_of (items_after name_eq (name_at h.names k) (inclusive_descendants h.trees (name_at h.names top)))
-    → ForSome next (λ j. j < length h.names)
-    → (h.names ≡ f.names) × Sets f.names (name_at f.names d) (name_at f.names top) f.trees h.trees next
-    × (left (inclusive_descendants f.trees (name_at f.names top)) (option_map (name_at f.names) next) < left
-    (inclusive_descendants f.trees (name_at f.names top)) (option_map (name_at f.names) at))
-sets_on f g h top d k at next once is names sets same changed found near =
-    let xs = inclusive_descendants f.trees (name_at f.names top) in
-    let all = same ∙ names in
-    let done = sets_next f.names (name_at f.names d) (name_at f.names top) f.trees g.trees h.trees once k next
-    (subst (Sets f.names (name_at f.names d) (name_at f.names top) f.trees g.trees) is sets)
-    (subst (λ (ns : List NodeName). h.trees ≡ change_node (under_document (Some (name_at ns d))) (name_at ns k) g.trees) names changed)
-    (subst (λ (ns : List NodeName). option_map (name_at ns) next ≡ first_of
-    (items_after name_eq (name_at ns k) (inclusive_descendants h.trees (name_at ns top)))) all found)
-    (subst (λ (ns : List NodeName). ForSome next (λ j. j < length ns)) all near) in
-    (all, done.0, subst (λ (o : Option ℕ). left xs (option_map (name_at f.names) next) < left xs (option_map (name_at f.names) o)) (sym is) done.1)
+-- such a step, told by a forest before and after it
+pub record SetsOneIn (g h : NamedTrees) (top d k : ℕ) (next : Option ℕ) : Type 0 where
+  pub names : h.names ≡ g.names
+  pub changed : h.trees ≡ change_node (under_document (Some (name_at g.names d))) (name_at g.names k) g.trees
+  pub found : option_map (name_at h.names) next ≡ first_of (items_after name_eq (name_at h.names k) (inclusive_descendants h.trees (name_at h.names top)))
+  pub near : ForSome next (λ j. j < length h.names)
+
+module _ {g h : NamedTrees} {top d k : ℕ} {next : Option ℕ} (one : SetsOneIn g h top d k next) where
+  -- it sets the node documents of a tree on, from those of the forest f
+  pub sets_on : (f : NamedTrees) (at : Option ℕ) → IsOnce f.trees → at ≡ Some k → g.names ≡ f.names →
+      Sets f.names (name_at f.names d) (name_at f.names top) f.trees g.trees at
+      → (h.names ≡ f.names) × Sets f.names (name_at f.names d) (name_at f.names top) f.trees h.trees next
+      × (left (inclusive_descendants f.trees (name_at f.names top)) (option_map (name_at f.names) next) < left
+      (inclusive_descendants f.trees (name_at f.names top)) (option_map (name_at f.names) at))
+  sets_on f at once is names sets =
+      let xs = inclusive_descendants f.trees (name_at f.names top) in
+      let all = one.names ∙ names in
+      let step : SetsOne f.names (name_at f.names d) (name_at f.names top) g.trees h.trees k next = record {
+        changed = subst (λ (ns : List NodeName). h.trees ≡ change_node (under_document (Some (name_at ns d))) (name_at ns k) g.trees) names one.changed;
+        found = subst (λ (ns : List NodeName). option_map (name_at ns) next ≡ first_of
+            (items_after name_eq (name_at ns k) (inclusive_descendants h.trees (name_at ns top)))) all one.found;
+        near = subst (λ (ns : List NodeName). ForSome next (λ j. j < length ns)) all one.near;
+      } in
+      let done = sets_next step f.trees once (subst (Sets f.names (name_at f.names d) (name_at f.names top) f.trees g.trees) is sets) in
+      (all, done.0, subst (λ (o : Option ℕ). left xs (option_map (name_at f.names) next) < left xs (option_map (name_at f.names) o)) (sym is) done.1)

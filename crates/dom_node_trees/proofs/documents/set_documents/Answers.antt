@@ -5,7 +5,7 @@ use Rattle.dom_model.specs.TreeChanges.{change_node, under_document}
 use Rattle.dom_tree.specs.Forest.{name_at}
 use Rattle.dom_tree.proofs.Once.{times_count}
 use Rattle.dom_tree_laws.proofs.Once.{once_forest}
-use Rattle.dom_tree_laws.proofs.Covering.{Sets, sets_first, sets_above, sets_on}
+use Rattle.dom_tree_laws.proofs.Covering.{Sets, sets_first, sets_above, SetsOneIn, sets_on}
 use Rattle.dom_node_trees.proofs.documents.set_documents.Goals as goal
 
 pub loop-at-init : goal.loop-at-init
@@ -31,15 +31,25 @@ following-at-requires-clause-within c =
 
 pub loop-at-smaller : goal.loop-at-smaller
 loop-at-smaller c =
-    (sets_on c.args.forest.now c.loop-at.forest c.set_document.new.self c.args.top c.args.document c.in-Some.node c.loop-at.at c.following-at.result
+    let one : SetsOneIn c.loop-at.forest c.set_document.new.self c.args.top c.args.document c.in-Some.node c.following-at.result = record {
+      names = c.set_document.ensures.names;
+      changed = c.set_document.ensures.trees;
+      found = c.following-at.ensures.value;
+      near = c.following-at.ensures.node;
+    } in
+    (sets_on one c.args.forest.now c.loop-at.at
     (once_forest c.args.forest.now.names c.args.forest.now.trees c.nodes_stand_once.ensures.once c.nodes_stand_once.ensures.only) c.in-Some.is
-    c.loop-at.invariant.0 c.loop-at.invariant.1
-    c.set_document.ensures.names c.set_document.ensures.trees c.following-at.ensures.value c.following-at.ensures.node).2
+    c.loop-at.invariant.0 c.loop-at.invariant.1).2
 
 pub loop-at-preserved : goal.loop-at-preserved
 loop-at-preserved c =
-    let on = sets_on c.args.forest.now c.loop-at.forest c.set_document.new.self c.args.top c.args.document c.in-Some.node c.loop-at.at c.following-at.result
+    let one : SetsOneIn c.loop-at.forest c.set_document.new.self c.args.top c.args.document c.in-Some.node c.following-at.result = record {
+      names = c.set_document.ensures.names;
+      changed = c.set_document.ensures.trees;
+      found = c.following-at.ensures.value;
+      near = c.following-at.ensures.node;
+    } in
+    let on = sets_on one c.args.forest.now c.loop-at.at
     (once_forest c.args.forest.now.names c.args.forest.now.trees c.nodes_stand_once.ensures.once c.nodes_stand_once.ensures.only) c.in-Some.is
-    c.loop-at.invariant.0 c.loop-at.invariant.1
-    c.set_document.ensures.names c.set_document.ensures.trees c.following-at.ensures.value c.following-at.ensures.node in
+    c.loop-at.invariant.0 c.loop-at.invariant.1 in
     (on.0, on.1)

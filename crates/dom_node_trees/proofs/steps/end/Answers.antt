@@ -3,7 +3,7 @@ use Rattle.std.proofs.lemmas.List.{take_all}
 use Rattle.dom_model.specs.Names.{name_eq, append_once}
 use Rattle.dom_tree.specs.Forest.{name_at}
 use Rattle.dom_model.specs.World.{queued_notify}
-use Rattle.dom_node_trees.proofs.Signals.{queued_by, signalled_by, fold_next, all_signalled}
+use Rattle.dom_node_trees.proofs.Signals.{queued_by, signalled_by, fold_next, StepSignals, all_signalled}
 use Rattle.dom_node_trees.proofs.steps.end.Goals as goal
 
 pub loop-slot-preserved : goal.loop-slot-preserved
@@ -22,10 +22,24 @@ pub returns : goal.returns
 returns c was b end =
     let f = c.args.forest.now in
     let all = take_all c.loop-slot.slot-index c.deref-slot-items.result.now c.loop-slot-test.false ∙ c.deref-slot-items.ensures.value in
-    all_signalled f.names was f.trees b.step b.left c.args.slots.now c.end.new.self c.args.signalled.now
-    c.args.queue.now c.in_ok-keys.keys.items
-    c.in_ok-keys.ensures.hosts c.in_ok-keys.ensures.free c.in_ok-keys.ensures.slots c.requires.nodes c.in_ok-keys.ensures.nodes
-    (c.in_ok-keys.ensures.value was b end)
-    c.loop-slot.signalled c.loop-slot.queue
+    let signals : StepSignals = record {
+      names = f.names;
+      was = was;
+      now = f.trees;
+      step = b.step;
+      left = b.left;
+      slots = c.args.slots.now;
+      kept = c.end.new.self;
+      hosts = c.in_ok-keys.ensures.hosts;
+      free = c.in_ok-keys.ensures.free;
+      are = c.in_ok-keys.ensures.slots;
+      signalled = c.args.signalled.now;
+      tasks = c.args.queue.now;
+      nodes = c.requires.nodes;
+      keys = c.in_ok-keys.keys.items;
+      keys_nodes = c.in_ok-keys.ensures.nodes;
+      told = c.in_ok-keys.ensures.value was b end;
+    } in
+    all_signalled signals c.loop-slot.signalled c.loop-slot.queue
     (c.loop-slot.invariant.0 ∙ ap (fold (signalled_by f.names) c.args.signalled.now) all)
     (c.loop-slot.invariant.1 ∙ ap (fold (queued_by f.names) c.args.queue.now) all)
