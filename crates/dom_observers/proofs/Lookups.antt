@@ -87,55 +87,55 @@ changes-kept o old new changes p = by (owner_eq o p) refl
     by true e = changes p ∙ (cond-true (owner_eq o p) (tables_of old o) (tables_of old p) e ∙ ap (tables_of old) (owner_eq-true o p e))
     by false e = changes p ∙ cond-false (owner_eq o p) (tables_of old o) (tables_of old p) e
 
--- what a call on an owner's table does to all, where the owner has a table
-pub rewritten : (q r : Inside) (all : TablesByOwner) (o : Owner) (t w : Table) (f : TablesOf ℕ → TablesOf ℕ) → all_tables q ≡ all →
-    Some t ≡ get OwnerImpl.ghosts.eq q.tables o
-    → (IsSome (get OwnerImpl.ghosts.eq q.tables o) → (p : Owner) →
-    get OwnerImpl.ghosts.eq r.tables p ≡ cond (OwnerImpl.ghosts.eq o p) (Some w) (get OwnerImpl.ghosts.eq q.tables p))
-    → table_of w ≡ f (table_of t) → ChangesTables o (f (tables_of all o)) all (all_tables r)
-rewritten q r all o t w f view there at e =
-    subst (λ (old : TablesByOwner). ChangesTables o (f (tables_of old o)) old (all_tables r)) view
-    (changes-same o (table_of w) (f (tables_of (all_tables q) o)) (all_tables q) (all_tables r)
-    (e ∙ ap f (sym (tables_of-some q o t (sym there))))
-    (written q r o w (at (subst IsSome there refl))))
+-- ---- the map q before a call, by the value that it had
 
--- what is read of the owner's table
-pub had : (q : Inside) (all : TablesByOwner) (o : Owner) (t : Table) → all_tables q ≡ all → Some t ≡ get OwnerImpl.ghosts.eq q.tables o →
-    tables_of all o ≡ table_of t
-had q all o t view there = ap (λ (v : TablesByOwner). tables_of v o) (sym view) ∙ tables_of-some q o t (sym there)
+module _ (q : Inside) {all : TablesByOwner} (view : all_tables q ≡ all) where
+  -- a call that leaves the map as it is
+  pub untouched : (r : Inside) → r.tables ≡ q.tables → KeepsTables all (all_tables r)
+  untouched r e p = ap (λ (v : TablesByOwner). tables_of v p) (ap (λ m. map (λ d. (d.0, table_of d.1)) m.entries) e ∙ view)
 
-pub had-none : (q : Inside) (all : TablesByOwner) (o : Owner) → all_tables q ≡ all → None ≡ get OwnerImpl.ghosts.eq q.tables o → tables_of all o ≡ no_tables
-had-none q all o view off = ap (λ (v : TablesByOwner). tables_of v o) (sym view) ∙ tables_of-none q o (sym off)
+  module _ (o : Owner) where
+    -- what a call on an owner's table does to all, where the owner has a table
+    pub rewritten : (r : Inside) (t w : Table) (f : TablesOf ℕ → TablesOf ℕ) → Some t ≡ get OwnerImpl.ghosts.eq q.tables o
+        → (IsSome (get OwnerImpl.ghosts.eq q.tables o) → (p : Owner) →
+        get OwnerImpl.ghosts.eq r.tables p ≡ cond (OwnerImpl.ghosts.eq o p) (Some w) (get OwnerImpl.ghosts.eq q.tables p))
+        → table_of w ≡ f (table_of t) → ChangesTables o (f (tables_of all o)) all (all_tables r)
+    rewritten r t w f there at e =
+        subst (λ (old : TablesByOwner). ChangesTables o (f (tables_of old o)) old (all_tables r)) view
+        (changes-same o (table_of w) (f (tables_of (all_tables q) o)) (all_tables q) (all_tables r)
+        (e ∙ ap f (sym (tables_of-some q o t (sym there))))
+        (written q r o w (at (subst IsSome there refl))))
 
--- a call that leaves the map as it is
-pub untouched : (q r : Inside) (all : TablesByOwner) → all_tables q ≡ all → r.tables ≡ q.tables → KeepsTables all (all_tables r)
-untouched q r all view e p = ap (λ (v : TablesByOwner). tables_of v p) (ap (λ m. map (λ d. (d.0, table_of d.1)) m.entries) e ∙ view)
+    -- what is read of the owner's table
+    pub had : (t : Table) → Some t ≡ get OwnerImpl.ghosts.eq q.tables o → tables_of all o ≡ table_of t
+    had t there = ap (λ (v : TablesByOwner). tables_of v o) (sym view) ∙ tables_of-some q o t (sym there)
 
--- and does nothing to one who has nothing
-pub untouched-changes : (q r : Inside) (all : TablesByOwner) (o : Owner) (f : TablesOf ℕ → TablesOf ℕ) → all_tables q ≡ all →
-    None ≡ get OwnerImpl.ghosts.eq q.tables o → r.tables ≡ q.tables → f no_tables ≡ no_tables
-    → ChangesTables o (f (tables_of all o)) all (all_tables r)
-untouched-changes q r all o f view off e stays =
-    let none = had-none q all o view off in
-    changes-same o (tables_of all o) (f (tables_of all o)) all (all_tables r) (none ∙ sym (ap f none ∙ stays))
-    (kept-changes o all (all_tables r) (untouched q r all view e))
+    pub had-none : None ≡ get OwnerImpl.ghosts.eq q.tables o → tables_of all o ≡ no_tables
+    had-none off = ap (λ (v : TablesByOwner). tables_of v o) (sym view) ∙ tables_of-none q o (sym off)
+
+    -- a call that leaves the map as it is does nothing to one who has nothing
+    pub untouched-changes : (r : Inside) (f : TablesOf ℕ → TablesOf ℕ) → None ≡ get OwnerImpl.ghosts.eq q.tables o → r.tables ≡ q.tables →
+        f no_tables ≡ no_tables → ChangesTables o (f (tables_of all o)) all (all_tables r)
+    untouched-changes r f off e stays =
+        let none = had-none off in
+        changes-same o (tables_of all o) (f (tables_of all o)) all (all_tables r) (none ∙ sym (ap f none ∙ stays))
+        (kept-changes o all (all_tables r) (untouched r e))
+
+    -- a new table says nothing new
+    pub written-none : (r : Inside) (t : Table) → is_some (get OwnerImpl.ghosts.eq q.tables o) ≡ false → table_of t ≡ no_tables
+        → ((p : Owner) → get OwnerImpl.ghosts.eq r.tables p ≡ cond (OwnerImpl.ghosts.eq o p) (Some t) (get OwnerImpl.ghosts.eq q.tables p)) →
+        KeepsTables all (all_tables r)
+    written-none r t off new at =
+        subst (λ (old : TablesByOwner). KeepsTables old (all_tables r)) view
+        (changes-kept o (all_tables q) (all_tables r)
+        (changes-same o (table_of t) (tables_of (all_tables q) o) (all_tables q) (all_tables r)
+        (new ∙ sym (tables_of-none q o (none_from (get OwnerImpl.ghosts.eq q.tables o) off))) (written q r o t at)))
 
 -- an owner that is there has an entry
 pub lookup-get : (q : Inside) (o : Owner) → is_some (lookup (owner_eq o) (all_tables q)) ≡ is_some (get OwnerImpl.ghosts.eq q.tables o)
 lookup-get q o =
     ap is_some (lookup-map table_of (owner_eq o) (OwnerImpl.ghosts.eq o) (λ p. sym (same_owner o p)) q.tables.entries) ∙
     is_some-map table_of (get OwnerImpl.ghosts.eq q.tables o)
-
--- a new table says nothing new
-pub written-none : (q r : Inside) (all : TablesByOwner) (o : Owner) (t : Table) → all_tables q ≡ all →
-    is_some (get OwnerImpl.ghosts.eq q.tables o) ≡ false → table_of t ≡ no_tables
-    → ((p : Owner) → get OwnerImpl.ghosts.eq r.tables p ≡ cond (OwnerImpl.ghosts.eq o p) (Some t) (get OwnerImpl.ghosts.eq q.tables p)) →
-    KeepsTables all (all_tables r)
-written-none q r all o t view off new at =
-    subst (λ (old : TablesByOwner). KeepsTables old (all_tables r)) view
-    (changes-kept o (all_tables q) (all_tables r)
-    (changes-same o (table_of t) (tables_of (all_tables q) o) (all_tables q) (all_tables r)
-    (new ∙ sym (tables_of-none q o (none_from (get OwnerImpl.ghosts.eq q.tables o) off))) (written q r o t at)))
 
 -- no number is below 0
 pub below_none : (k : ℕ) → ltb k 0 ≡ false

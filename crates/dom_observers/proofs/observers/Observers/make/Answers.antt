@@ -35,7 +35,7 @@ unreachable-requires c =
 
 pub returns-clause-number : goal.returns-clause-number
 returns-clause-number c =
-    let now = sym (had c.self.inside c.prepare.new.self c.args.owner c.in-Some.table.now c.self.view_is c.in-Some.ensures.value) ∙
+    let now = sym (had c.self.inside c.self.view_is c.args.owner c.in-Some.table.now c.in-Some.ensures.value) ∙
     c.in_ok-prepare.ensures.keeps c.args.owner in
     subst (λ (t : TablesOf ℕ). IfOk c.make.result (λ k. k ≡ length t.record_queues)) now c.make.ensures.number
 
@@ -45,13 +45,12 @@ returns-clause-tables c =
     let step : table_of c.make.new.self ≡ with_observer (table_of c.in-Some.table.now) →
     ChangesTables c.args.owner (with_observer (tables_of c.args.self.now c.args.owner)) c.args.self.now (all_tables r) =
     λ e. changes-before c.args.owner (λ t. with_observer t) c.args.self.now c.prepare.new.self (all_tables r) c.in_ok-prepare.ensures.keeps
-    (rewritten c.self.inside r c.prepare.new.self c.args.owner c.in-Some.table.now c.make.new.self (λ t. with_observer t) c.self.view_is
-    c.in-Some.ensures.value (λ some. ((c.get_mut.follows.holds c.make.new.self).3 some).0) e) in
+    (rewritten c.self.inside c.self.view_is c.args.owner r c.in-Some.table.now c.make.new.self (λ t. with_observer t) c.in-Some.ensures.value (λ some. ((c.get_mut.follows.holds c.make.new.self).3 some).0) e) in
     on_ok_weaker c.make.result step c.make.ensures.tables
 
 pub returns-clause-limit : goal.returns-clause-limit
 returns-clause-limit c =
-    let now = sym (had c.self.inside c.prepare.new.self c.args.owner c.in-Some.table.now c.self.view_is c.in-Some.ensures.value) ∙
+    let now = sym (had c.self.inside c.self.view_is c.args.owner c.in-Some.table.now c.in-Some.ensures.value) ∙
     c.in_ok-prepare.ensures.keeps c.args.owner in
     subst (λ (t : TablesOf ℕ). (c.make.result ≡ Err (Refused Limit)) ↔ (past_limit (length t.record_queues) 1 ≡ true)) now c.make.ensures.limit
 
@@ -61,6 +60,5 @@ returns-clause-err c =
     let step : table_of c.make.new.self ≡ table_of c.in-Some.table.now → KeepsTables c.args.self.now (all_tables r) =
     λ e. changes-kept c.args.owner c.args.self.now (all_tables r)
     (changes-before c.args.owner (λ t. t) c.args.self.now c.prepare.new.self (all_tables r) c.in_ok-prepare.ensures.keeps
-    (rewritten c.self.inside r c.prepare.new.self c.args.owner c.in-Some.table.now c.make.new.self (λ t. t) c.self.view_is c.in-Some.ensures.value
-    (λ some. ((c.get_mut.follows.holds c.make.new.self).3 some).0) e)) in
+    (rewritten c.self.inside c.self.view_is c.args.owner r c.in-Some.table.now c.make.new.self (λ t. t) c.in-Some.ensures.value (λ some. ((c.get_mut.follows.holds c.make.new.self).3 some).0) e)) in
     on_err_weaker c.make.result step c.make.ensures.err

@@ -15,19 +15,17 @@ returns-in_default c =
     record {
       notices =
           ap (map notice_of) c.new.ensures.items
-          ∙ ap (λ (t : TablesOf ℕ). notices t) (sym (had-none c.self.inside c.args.self.now c.args.owner c.self.view_is c.in_default.ensures.value));
-      tables = untouched-changes c.self.inside r c.args.self.now c.args.owner notified c.self.view_is c.in_default.ensures.value
-          c.get_mut.follows.holds-at-none refl;
+          ∙ ap (λ (t : TablesOf ℕ). notices t) (sym (had-none c.self.inside c.self.view_is c.args.owner c.in_default.ensures.value));
+      tables = untouched-changes c.self.inside c.self.view_is c.args.owner r notified c.in_default.ensures.value c.get_mut.follows.holds-at-none refl;
     }
 
 pub returns : goal.returns
 returns c =
     let r : Inside = record { tables = c.get_mut.follows.lender c.notify.new.self; alloc = c.self.inside.alloc } in
-    let there = had c.self.inside c.args.self.now c.args.owner c.in-Some.table.now c.self.view_is c.in-Some.ensures.value in
+    let there = had c.self.inside c.self.view_is c.args.owner c.in-Some.table.now c.in-Some.ensures.value in
     let step : table_of c.notify.new.self ≡ notified (table_of c.in-Some.table.now) →
     ChangesTables c.args.owner (notified (tables_of c.args.self.now c.args.owner)) c.args.self.now (all_tables r) =
-    λ e. rewritten c.self.inside r c.args.self.now c.args.owner c.in-Some.table.now c.notify.new.self notified c.self.view_is
-    c.in-Some.ensures.value (λ some. ((c.get_mut.follows.holds c.notify.new.self).3 some).0) e in
+    λ e. rewritten c.self.inside c.self.view_is c.args.owner r c.in-Some.table.now c.notify.new.self notified c.in-Some.ensures.value (λ some. ((c.get_mut.follows.holds c.notify.new.self).3 some).0) e in
     record {
       notices = subst (λ (t : TablesOf ℕ). IfOk c.notify.result (λ v. map notice_of v.items ≡ notices t)) (sym there) c.notify.ensures.notices;
       tables = on_ok_weaker c.notify.result step c.notify.ensures.tables;

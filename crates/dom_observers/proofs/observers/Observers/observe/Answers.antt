@@ -16,19 +16,19 @@ use Rattle.dom_observers.proofs.observers.Observers.observe.Goals as goal
 pub returns-in_default-clause-unknown : goal.returns-in_default-clause-unknown
 returns-in_default-clause-unknown c =
     let off = ap (λ (t : TablesOf ℕ). ltb c.args.observer (length t.record_queues))
-    (had-none c.self.inside c.args.self.now c.args.owner c.self.view_is c.in_default.ensures.value) ∙ below_none c.args.observer in
+    (had-none c.self.inside c.self.view_is c.args.owner c.in_default.ensures.value) ∙ below_none c.args.observer in
     (λ _. off, λ _. refl)
 
 pub returns-in_default-clause-no_kind : goal.returns-in_default-clause-no_kind
 returns-in_default-clause-no_kind c =
     let off = ap (λ (t : TablesOf ℕ). ltb c.args.observer (length t.record_queues))
-    (had-none c.self.inside c.args.self.now c.args.owner c.self.view_is c.in_default.ensures.value) ∙ below_none c.args.observer in
+    (had-none c.self.inside c.self.view_is c.args.owner c.in_default.ensures.value) ∙ below_none c.args.observer in
     (λ e. cc, λ both. absurd (true≢false (sym both.0 ∙ off)))
 
 pub returns-in_default-clause-err : goal.returns-in_default-clause-err
 returns-in_default-clause-err c =
     let r : Inside = record { tables = c.get_mut.follows.lender-at-none; alloc = c.self.inside.alloc } in
-    untouched c.self.inside r c.args.self.now c.self.view_is c.get_mut.follows.holds-at-none
+    untouched c.self.inside c.self.view_is r c.get_mut.follows.holds-at-none
 
 pub returns-clause-tables : goal.returns-clause-tables
 returns-clause-tables c =
@@ -36,19 +36,18 @@ returns-clause-tables c =
     let f = observing nat_eq c.args.observer c.args.node (words_of c.args.options) in
     let step : table_of c.observe.new.self ≡ f (table_of c.in-Some.table.now) →
     ChangesTables c.args.owner (f (tables_of c.args.self.now c.args.owner)) c.args.self.now (all_tables r) =
-    λ e. rewritten c.self.inside r c.args.self.now c.args.owner c.in-Some.table.now c.observe.new.self f c.self.view_is c.in-Some.ensures.value
-    (λ some. ((c.get_mut.follows.holds c.observe.new.self).3 some).0) e in
+    λ e. rewritten c.self.inside c.self.view_is c.args.owner r c.in-Some.table.now c.observe.new.self f c.in-Some.ensures.value (λ some. ((c.get_mut.follows.holds c.observe.new.self).3 some).0) e in
     on_ok_weaker c.observe.result step c.observe.ensures.tables
 
 pub returns-clause-unknown : goal.returns-clause-unknown
 returns-clause-unknown c =
-    let there = had c.self.inside c.args.self.now c.args.owner c.in-Some.table.now c.self.view_is c.in-Some.ensures.value in
+    let there = had c.self.inside c.self.view_is c.args.owner c.in-Some.table.now c.in-Some.ensures.value in
     subst (λ (t : TablesOf ℕ). (c.observe.result ≡ Err (Refused Unknown)) ↔ (ltb c.args.observer (length t.record_queues) ≡ false)) (sym there)
     c.observe.ensures.unknown
 
 pub returns-clause-no_kind : goal.returns-clause-no_kind
 returns-clause-no_kind c =
-    let there = had c.self.inside c.args.self.now c.args.owner c.in-Some.table.now c.self.view_is c.in-Some.ensures.value in
+    let there = had c.self.inside c.self.view_is c.args.owner c.in-Some.table.now c.in-Some.ensures.value in
     subst (λ (t : TablesOf ℕ). (c.observe.result ≡ Err (Refused TypeFault)) ↔
     ((ltb c.args.observer (length t.record_queues) ≡ true) × (asks_for_nothing (options_of (words_of c.args.options)) ≡ true))) (sym there)
     c.observe.ensures.no_kind
@@ -59,6 +58,5 @@ returns-clause-err c =
     let f = λ (t : TablesOf ℕ). t in
     let step : table_of c.observe.new.self ≡ table_of c.in-Some.table.now → KeepsTables c.args.self.now (all_tables r) =
     λ e. changes-kept c.args.owner c.args.self.now (all_tables r)
-    (rewritten c.self.inside r c.args.self.now c.args.owner c.in-Some.table.now c.observe.new.self f c.self.view_is c.in-Some.ensures.value
-    (λ some. ((c.get_mut.follows.holds c.observe.new.self).3 some).0) e) in
+    (rewritten c.self.inside c.self.view_is c.args.owner r c.in-Some.table.now c.observe.new.self f c.in-Some.ensures.value (λ some. ((c.get_mut.follows.holds c.observe.new.self).3 some).0) e) in
     on_err_weaker c.observe.result step c.observe.ensures.err

@@ -29,7 +29,7 @@ returns-in_default-clause-taken c =
     let k = c.target-target.result in
     let o = c.name-owner.result.owner in
     let all = c.args.self.now in
-    let none = ap (λ (t : TablesOf ℕ). is_empty t.registrations) (had-none c.self.inside all o c.self.view_is c.in_default.ensures.value) in
+    let none = ap (λ (t : TablesOf ℕ). is_empty t.registrations) (had-none c.self.inside c.self.view_is o c.in_default.ensures.value) in
     moved (λ p. false ≡ is_taken nat_eq path (tables_of all p) ch) names c.name-owner.result k (target_of ch) c.name-owner.ensures.at c.target-target.ensures
     (sym (not_taken path ch (tables_of all o) (interested-none path (tables_of all o).registrations ch none)))
 
@@ -44,8 +44,7 @@ returns-in_default-clause-tables c =
     let r : Inside = record { tables = c.get_mut.follows.lender-at-none; alloc = c.self.inside.alloc } in
     moved (λ p. ChangesTables p (told nat_eq path ch (tables_of all p)) all (all_tables r)) names c.name-owner.result k (target_of ch)
     c.name-owner.ensures.at c.target-target.ensures
-    (untouched-changes c.self.inside r all o (told nat_eq path ch) c.self.view_is c.in_default.ensures.value c.get_mut.follows.holds-at-none
-    (not_told path ch no_tables (interested-none path [] ch refl)))
+    (untouched-changes c.self.inside c.self.view_is o r (told nat_eq path ch) c.in_default.ensures.value c.get_mut.follows.holds-at-none (not_told path ch no_tables (interested-none path [] ch refl)))
 
 pub returns-clause-taken : goal.returns-clause-taken
 returns-clause-taken c =
@@ -55,7 +54,7 @@ returns-clause-taken c =
     let k = c.target-target.result in
     let o = c.name-owner.result.owner in
     let all = c.args.self.now in
-    let there = had c.self.inside all o c.in-Some.table.now c.self.view_is c.in-Some.ensures.value in
+    let there = had c.self.inside c.self.view_is o c.in-Some.table.now c.in-Some.ensures.value in
     moved (λ p. IfOk c.queue_record.result (λ taken. taken ≡ is_taken nat_eq path (tables_of all p) ch)) names c.name-owner.result k
     (target_of ch) c.name-owner.ensures.at c.target-target.ensures
     (subst (λ (t : TablesOf ℕ). IfOk c.queue_record.result (λ taken. taken ≡ is_taken nat_eq path t ch)) (sym there) c.queue_record.ensures.taken)
@@ -74,6 +73,5 @@ returns-clause-tables c =
     ChangesTables (name_at names (target_of ch)).owner (rule (tables_of all (name_at names (target_of ch)).owner)) all (all_tables r) =
     λ e. moved (λ p. ChangesTables p (rule (tables_of all p)) all (all_tables r)) names c.name-owner.result k (target_of ch)
     c.name-owner.ensures.at c.target-target.ensures
-    (rewritten c.self.inside r all o t c.queue_record.new.self rule c.self.view_is c.in-Some.ensures.value
-    (λ some. ((c.get_mut.follows.holds c.queue_record.new.self).3 some).0) e) in
+    (rewritten c.self.inside c.self.view_is o r t c.queue_record.new.self rule c.in-Some.ensures.value (λ some. ((c.get_mut.follows.holds c.queue_record.new.self).3 some).0) e) in
     on_ok_weaker c.queue_record.result step c.queue_record.ensures.tables

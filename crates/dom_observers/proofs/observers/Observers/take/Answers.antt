@@ -8,21 +8,19 @@ use Rattle.dom_observers.proofs.observers.Observers.take.Goals as goal
 pub returns-in_default-clause-records : goal.returns-in_default-clause-records
 returns-in_default-clause-records c =
     ap (λ (t : TablesOf ℕ). slice_get t.record_queues c.args.observer)
-    (sym (had-none c.self.inside c.args.self.now c.args.owner c.self.view_is c.in_default.ensures.value))
+    (sym (had-none c.self.inside c.self.view_is c.args.owner c.in_default.ensures.value))
 
 pub returns-in_default-clause-tables : goal.returns-in_default-clause-tables
 returns-in_default-clause-tables c =
     let r : Inside = record { tables = c.get_mut.follows.lender-at-none; alloc = c.self.inside.alloc } in
-    untouched-changes c.self.inside r c.args.self.now c.args.owner (emptied c.args.observer) c.self.view_is c.in_default.ensures.value
-    c.get_mut.follows.holds-at-none refl
+    untouched-changes c.self.inside c.self.view_is c.args.owner r (emptied c.args.observer) c.in_default.ensures.value c.get_mut.follows.holds-at-none refl
 
 pub returns : goal.returns
 returns c =
     let r : Inside = record { tables = c.get_mut.follows.lender c.take.new.self; alloc = c.self.inside.alloc } in
-    let there = had c.self.inside c.args.self.now c.args.owner c.in-Some.table.now c.self.view_is c.in-Some.ensures.value in
+    let there = had c.self.inside c.self.view_is c.args.owner c.in-Some.table.now c.in-Some.ensures.value in
     record {
       records = c.take.ensures.records ∙ ap (λ (t : TablesOf ℕ). slice_get t.record_queues c.args.observer) (sym there);
       tables =
-          rewritten c.self.inside r c.args.self.now c.args.owner c.in-Some.table.now c.take.new.self
-          (emptied c.args.observer) c.self.view_is c.in-Some.ensures.value (λ some. ((c.get_mut.follows.holds c.take.new.self).3 some).0) c.take.ensures.tables;
+          rewritten c.self.inside c.self.view_is c.args.owner r c.in-Some.table.now c.take.new.self (emptied c.args.observer) c.in-Some.ensures.value (λ some. ((c.get_mut.follows.holds c.take.new.self).3 some).0) c.take.ensures.tables;
     }
