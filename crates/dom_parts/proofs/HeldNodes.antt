@@ -198,16 +198,23 @@ module _ (f g : NamedTrees) {tables : AllTables} (held : IsDoc f.names f.trees t
       )
   added_at (Err e) names trees limit same = (subst (λ (p : NamedTrees). IsDoc p.names p.trees tables) (sym same) held, (tt, tt))
 
-pub added_held : (f g : NamedTrees) {tables : AllTables} (d : DocState) → state_from f.names f.trees tables ≡ d → IsDoc f.names f.trees tables →
-    (o : Owner) → is_there d.world o ≡ true
-    → (n : List NodeName → NodeName → Node) → ((ns : List NodeName) (x : NodeName) → (n ns x).name ≡ x) → TellApart g.names → StandsOnce g →
-    {T : Type 0} (r : Result T Fault)
-    → OnOk r (g.names ≡ f.names ++ next_name o f.names ∷ []) → OnOk r (g.trees ≡ with_node (n f.names (next_name o f.names)) f.trees)
-    → ((r ≡ Err (Refused Limit)) ↔ (count_of o f.names ≡ 1000000)) → OnErr r (g ≡ f)
-    → IsDoc g.names g.trees tables × Added g tables o n r d
-added_held f g {tables} d is_d held o there n own_name apart stands r names trees limit same =
-    subst (λ (e : DocState). is_there e.world o ≡ true → IsDoc g.names g.trees tables × Added g tables o n r e) is_d
-    (λ h. added_at f g held o h n own_name apart stands r names trees limit same) there
+-- a forest before and after a call for one more node of the owner's, and what the call answers
+pub record AsksNode {T : Type 0} (f g : NamedTrees) (o : Owner) (n : List NodeName → NodeName → Node) (r : Result T Fault) : Type 0 where
+  pub own_name : (ns : List NodeName) (x : NodeName) → (n ns x).name ≡ x
+  pub apart : TellApart g.names
+  pub stands : StandsOnce g
+  pub names : OnOk r (g.names ≡ f.names ++ next_name o f.names ∷ [])
+  pub trees : OnOk r (g.trees ≡ with_node (n f.names (next_name o f.names)) f.trees)
+  pub limit : (r ≡ Err (Refused Limit)) ↔ (count_of o f.names ≡ 1000000)
+  pub same : OnErr r (g ≡ f)
+
+module _ {T : Type 0} {f g : NamedTrees} {o : Owner} {n : List NodeName → NodeName → Node} {r : Result T Fault} (asks : AsksNode f g o n r) where
+  -- a document has the node then, where one is made
+  pub added_held : {tables : AllTables} {d : DocState} → state_from f.names f.trees tables ≡ d → IsDoc f.names f.trees tables → is_there d.world o ≡ true →
+      IsDoc g.names g.trees tables × Added g tables o n r d
+  added_held {tables} is_d held there =
+      subst (λ (e : DocState). is_there e.world o ≡ true → IsDoc g.names g.trees tables × Added g tables o n r e) is_d
+      (λ h. added_at f g held o h n asks.own_name asks.apart asks.stands r asks.names asks.trees asks.limit asks.same) there
 
 -- where none is made nothing changes
 pub not_added : (f g : NamedTrees) (tables : AllTables) {d : DocState} → state_from f.names f.trees tables ≡ d → {T E : Type 0} (r : Result T E) →

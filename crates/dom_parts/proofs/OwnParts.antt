@@ -5,7 +5,7 @@ use Rattle.std.specs.Prelude.{slice_get, count_by, if◌then◌else◌}
 use Rattle.std.proofs.lemmas.Bool.{cases_Bool}
 use Rattle.dom_base.specs.declared.NodeName.{NodeName}
 use Rattle.dom_base.specs.declared.Owner.{Owner}
-use Rattle.dom_model.specs.Names.{name_eq, owner_eq, node_of}
+use Rattle.dom_model.specs.Names.{name_eq, node_of}
 use Rattle.dom_model.specs.Part.{Part}
 use Rattle.dom_model.specs.Tree.{Trees, none, tree, Node, nodes, has_node, children_of, times_in}
 use Rattle.dom_model.proofs.OwnerLaws.{name_eq-same, name_eq-true}

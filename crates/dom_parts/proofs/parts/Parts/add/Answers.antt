@@ -1,30 +1,48 @@
 use Rattle.std.proofs.Common.{refl}
 use Rattle.dom_tree.specs.Forest.{node_from}
 use Rattle.dom_parts.specs.Doc.{all_tables}
-use Rattle.dom_parts.proofs.HeldNodes.{added_held, not_added}
+use Rattle.dom_parts.proofs.HeldNodes.{AsksNode, added_held, not_added}
 use Rattle.dom_parts.proofs.Limits.{limit_held}
 use Rattle.dom_parts.proofs.parts.Parts.add.Goals as goal
 
 pub invariant_of-self : goal.invariant_of-self
 invariant_of-self c =
-    (added_held c.self.inside.forest c.add-added.new.self c.args.self.now c.self.view_is c.self.invariant c.args.owner c.requires.owner_is_there
-    (λ ns x. node_from ns x c.args.node) (λ ns x. refl) c.nodes_stand_once.ensures.distinct
-    record { once = c.nodes_stand_once.ensures.once; only = c.nodes_stand_once.ensures.only } c.add-added.result
-    c.add-added.ensures.names c.add-added.ensures.trees c.add-added.ensures.limit c.add-added.ensures.err).0
+    let asks : AsksNode c.self.inside.forest c.add-added.new.self c.args.owner (λ ns x. node_from ns x c.args.node) c.add-added.result = record {
+      own_name = λ ns x. refl;
+      apart = c.nodes_stand_once.ensures.distinct;
+      stands = record { once = c.nodes_stand_once.ensures.once; only = c.nodes_stand_once.ensures.only };
+      names = c.add-added.ensures.names;
+      trees = c.add-added.ensures.trees;
+      limit = c.add-added.ensures.limit;
+      same = c.add-added.ensures.err;
+    } in
+    (added_held asks c.self.view_is c.self.invariant c.requires.owner_is_there).0
 
 pub returns-clause-names : goal.returns-clause-names
 returns-clause-names c =
-    (added_held c.self.inside.forest c.add-added.new.self c.args.self.now c.self.view_is c.self.invariant c.args.owner c.requires.owner_is_there
-    (λ ns x. node_from ns x c.args.node) (λ ns x. refl) c.nodes_stand_once.ensures.distinct
-    record { once = c.nodes_stand_once.ensures.once; only = c.nodes_stand_once.ensures.only } c.add-added.result
-    c.add-added.ensures.names c.add-added.ensures.trees c.add-added.ensures.limit c.add-added.ensures.err).1.0
+    let asks : AsksNode c.self.inside.forest c.add-added.new.self c.args.owner (λ ns x. node_from ns x c.args.node) c.add-added.result = record {
+      own_name = λ ns x. refl;
+      apart = c.nodes_stand_once.ensures.distinct;
+      stands = record { once = c.nodes_stand_once.ensures.once; only = c.nodes_stand_once.ensures.only };
+      names = c.add-added.ensures.names;
+      trees = c.add-added.ensures.trees;
+      limit = c.add-added.ensures.limit;
+      same = c.add-added.ensures.err;
+    } in
+    (added_held asks c.self.view_is c.self.invariant c.requires.owner_is_there).1.0
 
 pub returns-clause-world : goal.returns-clause-world
 returns-clause-world c =
-    (added_held c.self.inside.forest c.add-added.new.self c.args.self.now c.self.view_is c.self.invariant c.args.owner c.requires.owner_is_there
-    (λ ns x. node_from ns x c.args.node) (λ ns x. refl) c.nodes_stand_once.ensures.distinct
-    record { once = c.nodes_stand_once.ensures.once; only = c.nodes_stand_once.ensures.only } c.add-added.result
-    c.add-added.ensures.names c.add-added.ensures.trees c.add-added.ensures.limit c.add-added.ensures.err).1.1
+    let asks : AsksNode c.self.inside.forest c.add-added.new.self c.args.owner (λ ns x. node_from ns x c.args.node) c.add-added.result = record {
+      own_name = λ ns x. refl;
+      apart = c.nodes_stand_once.ensures.distinct;
+      stands = record { once = c.nodes_stand_once.ensures.once; only = c.nodes_stand_once.ensures.only };
+      names = c.add-added.ensures.names;
+      trees = c.add-added.ensures.trees;
+      limit = c.add-added.ensures.limit;
+      same = c.add-added.ensures.err;
+    } in
+    (added_held asks c.self.view_is c.self.invariant c.requires.owner_is_there).1.1
 
 pub returns-clause-limit : goal.returns-clause-limit
 returns-clause-limit c = limit_held c.self.inside.forest c.args.self.now c.self.view_is c.self.invariant c.args.owner c.requires.owner_is_there
