@@ -195,20 +195,21 @@ renewed-anew f hosts p old done told table keys r = record {
         ∙ (r.others k within ∙ ap (λ ks. not (list_eq name_eq (map (name_at f.names) ks) (assigned_at (shadows f hosts) (name_at f.names k))))
         (sym (r.kept k within i))))
 
--- A slot more is signalled, whatever its list.
-pub told-more : (f : NamedTrees) (apart : TellApart f.names) (hosts : List ShadowHost) (p : NodeName → Bool) (old : SlotTable)
-    (done told : List NodeName) (table : SlotTable) (keys next : List ℕ) (k : ℕ)
-    → AreRenewed f hosts p old done told table keys → k < length f.names → next ≡ append_once nat_eq keys k →
-    AreRenewed f hosts p old done (told ++ name_at f.names k ∷ []) table next
-told-more f apart hosts p old done told table keys next k r node is =
-    let more = one_signalled f.names apart told keys next k record { nodes = r.keys_nodes; are = r.keys_are } node is in
-    record {
-      others = r.others;
-      renewed = r.renewed;
-      kept = r.kept;
-      nodes = r.nodes;
-      beyond = r.beyond;
-      keys_nodes = more.nodes;
-      keys_are = more.are;
-      among = λ y i pass. list_any-append (name_eq y) told (name_at f.names k ∷ []) ∙ or_left (is_in name_eq y told) _ (r.among y i pass);
-    }
+-- Slots were renewed.
+module _ {f : NamedTrees} {hosts : List ShadowHost} {p : NodeName → Bool} {old : SlotTable} {done told : List NodeName} {table : SlotTable} {keys : List ℕ}
+    (r : AreRenewed f hosts p old done told table keys) where
+  -- a slot more is signalled, whatever its list
+  pub told-more : TellApart f.names → (next : List ℕ) (k : ℕ) → k < length f.names → next ≡ append_once nat_eq keys k →
+      AreRenewed f hosts p old done (told ++ name_at f.names k ∷ []) table next
+  told-more apart next k node is =
+      let more = one_signalled f.names apart told keys next k record { nodes = r.keys_nodes; are = r.keys_are } node is in
+      record {
+        others = r.others;
+        renewed = r.renewed;
+        kept = r.kept;
+        nodes = r.nodes;
+        beyond = r.beyond;
+        keys_nodes = more.nodes;
+        keys_are = more.are;
+        among = λ y i pass. list_any-append (name_eq y) told (name_at f.names k ∷ []) ∙ or_left (is_in name_eq y told) _ (r.among y i pass);
+      }
