@@ -11,7 +11,7 @@ use Rattle.dom_model.specs.Selectors.{Simple, AttributeTest, is_space, of_type, 
 use Rattle.dom_model.specs.Selectors.{last_child, equals, has_word, begins_with_dash, begins, ends, holds}
 use Rattle.dom_model.specs.SelectorText.{drop_while, skip_space, read_map, expect, closed_by, read_name, may_stand_quoted, read_quoted, read_value}
 use Rattle.dom_model.specs.SelectorText.{read_one_of, signs, read_test_of, read_test, read_attribute, read_simple}
-use Rattle.dom_selectors.specs.Grammar.{IsSpaces, IsValue, plain, double, single, sign, IsSimple}
+use Rattle.dom_selectors.specs.Grammar.{IsTested, IsSpaces, IsValue, plain, double, single, sign, IsSimple}
 use Rattle.dom_selectors.proofs.TokenLaws.{expect_at}
 
 -- whether the first unit passes
@@ -137,19 +137,19 @@ bracketed-read before name after rest spaces behind named =
     ∙ ap (λ k. closed_by (codes "]") (read_test name k)) (skip-read after (93 ∷ rest) behind refl)
 
 -- `[NAME op VALUE]`
-tested-read : (before name between : DomString) (t : AttributeTest) (behind said value after rest : DomString) → IsSpaces before →
-    IsSpaces between → IsSpaces behind → IsSpaces after → is_name name ≡ true → IsValue said value
-    → read_attribute (before ++ (name ++ (between ++ (sign t ++ (behind ++ (said ++ (after ++ 93 ∷ rest))))))) ≡ Some (with_value name t value, rest)
-tested-read before name between t behind said value after rest h1 h2 h3 h4 named valued =
-    let end = after ++ 93 ∷ rest in
-    let more = behind ++ (said ++ end) in
+tested-read : {text value : DomString} (name : Word) (t : AttributeTest) (h : IsTested text name t value) (rest : DomString) →
+    read_attribute (h.before ++ (name ++ (h.between ++ (sign t ++ (h.behind ++ (h.said ++ (h.after ++ 93 ∷ rest)))))))
+    ≡ Some (with_value name t value, rest)
+tested-read {value = value} name t h rest =
+    let end = h.after ++ 93 ∷ rest in
+    let more = h.behind ++ (h.said ++ end) in
     let at = signed t more in
-    to_name before name (between ++ (sign t ++ more)) h1 named (spaces-off between (sign t ++ more) h2 at.off)
-    ∙ ap (λ k. closed_by (codes "]") (read_test name k)) (skip-read between (sign t ++ more) h2 at.apart)
+    to_name h.before name (h.between ++ (sign t ++ more)) h.spaces_before h.named (spaces-off h.between (sign t ++ more) h.spaces_between at.off)
+    ∙ ap (λ k. closed_by (codes "]") (read_test name k)) (skip-read h.between (sign t ++ more) h.spaces_between at.apart)
     ∙ ap (λ o. closed_by (codes "]") (read_test_of name (sign t ++ more) o)) at.found
-    ∙ ap (λ k. closed_by (codes "]") (read_map (with_value name t) (read_value k))) (skip-read behind (said ++ end) h3 (value-head said value end valued))
-    ∙ ap (λ r. closed_by (codes "]") (read_map (with_value name t) r)) (value-read said value end valued (spaces-off after (93 ∷ rest) h4 refl))
-    ∙ ap (λ k. option_map (λ b. (with_value name t value, b)) (expect (codes "]") k)) (skip-read after (93 ∷ rest) h4 refl)
+    ∙ ap (λ k. closed_by (codes "]") (read_map (with_value name t) (read_value k))) (skip-read h.behind (h.said ++ end) h.spaces_behind (value-head h.said value end h.valued))
+    ∙ ap (λ r. closed_by (codes "]") (read_map (with_value name t) r)) (value-read h.said value end h.valued (spaces-off h.after (93 ∷ rest) h.spaces_after refl))
+    ∙ ap (λ k. option_map (λ b. (with_value name t value, b)) (expect (codes "]") k)) (skip-read h.after (93 ∷ rest) h.spaces_after refl)
 
 -- the first that is found
 or_found : {A : Type 0} (a b : Option A) (x : A) → a ≡ Some x → option_or a b ≡ Some x
@@ -192,7 +192,6 @@ simple-read text (with_value name t value) rest h off =
     append_assoc h.before (name ++ (h.between ++ (sign t ++ (h.behind ++ (h.said ++ end))))) rest ∙ ap (λ x. h.before ++ x) seven in
     ap (λ x. read_simple (x ++ rest)) h.whole
     ∙ or_found (read_attribute (w ++ rest)) _ (with_value name t value, rest)
-    (ap read_attribute whole ∙ tested-read h.before name h.between t h.behind h.said value h.after rest h.spaces_before h.spaces_between
-    h.spaces_behind h.spaces_after h.named h.valued)
+    (ap read_attribute whole ∙ tested-read name t h rest)
 simple-read text first_child rest h off = ap (λ t. read_simple (t ++ rest)) h
 simple-read text last_child rest h off = ap (λ t. read_simple (t ++ rest)) h

@@ -100,23 +100,23 @@ pub record Comes (ts : Trees) (c : Complex) (x : NodeName) (d : Complex) (z : No
 pub comes-first : (ts : Trees) (c d : Complex) (x z : NodeName) → ChainEnds ts c x d z → Comes ts c x d z
 comes-first ts c d x z w = record { same = w.same; above = w.above; stops = w.stops }
 
--- at the end of a chain before it, left of `~`
-pub comes-before : (ts : Trees) (c d l e : Complex) (k : List CompoundPart) (x y z : NodeName) → Once ts → d ≡ joined l later k →
-    Comes ts c x d y → ChainIsBefore ts l y e z → Comes ts c x e z
-comes-before ts c d l e k x y z once is w v =
-    let stops = subst (λ b. StopsAt IsSearched ts b y) is w.stops in
-    record {
-      same = w.same ∙ (ap (λ b. complex_matches ts b y) is ∙ (combined ts l later k y stops.1 ∙ v.same));
-      above = λ m. v.above (later-above ts l k y once (subst (λ b. MatchesAbove ts b y) is (w.above m)));
-      stops = v.stops;
-    }
+-- it has come to a selector whose last compound stands behind `~`
+module _ {ts : Trees} {c d l : Complex} {x y : NodeName} (w : Comes ts c x d y) (k : List CompoundPart) (is : d ≡ joined l later k) where
+  -- at the end of a chain before it
+  pub comes-before : (e : Complex) (z : NodeName) → Once ts → ChainIsBefore ts l y e z → Comes ts c x e z
+  comes-before e z once v =
+      let stops = subst (λ b. StopsAt IsSearched ts b y) is w.stops in
+      record {
+        same = w.same ∙ (ap (λ b. complex_matches ts b y) is ∙ (combined ts l later k y stops.1 ∙ v.same));
+        above = λ m. v.above (later-above ts l k y once (subst (λ b. MatchesAbove ts b y) is (w.above m)));
+        stops = v.stops;
+      }
 
--- where there is none, nothing matches
-pub none-before : (ts : Trees) (c d l : Complex) (k : List CompoundPart) (x y : NodeName) → d ≡ joined l later k → Comes ts c x d y →
-    list_any (complex_matches ts l) (elements_before ts y) ≡ false → complex_matches ts c x ≡ false
-none-before ts c d l k x y is w e =
-    let stops = subst (λ b. StopsAt IsSearched ts b y) is w.stops in
-    w.same ∙ (ap (λ b. complex_matches ts b y) is ∙ (combined ts l later k y stops.1 ∙ e))
+  -- where there is none, nothing matches
+  pub none-before : list_any (complex_matches ts l) (elements_before ts y) ≡ false → complex_matches ts c x ≡ false
+  none-before e =
+      let stops = subst (λ b. StopsAt IsSearched ts b y) is w.stops in
+      w.same ∙ (ap (λ b. complex_matches ts b y) is ∙ (combined ts l later k y stops.1 ∙ e))
 
 -- it stops before white space where it does not stop before `~`
 not_later : (how : Combinator) → IsSearched how → (how ≡ later → ⊥) → IsDescendant how
