@@ -25,16 +25,6 @@ pub record IsFedUpTo (old piece rest : List ℕ) (lines : List (List ℕ)) (kept
 pub fed_nothing : (old piece : List ℕ) → IsKept old → IsFedUpTo old piece piece [] old
 fed_nothing old piece h = record { front = []; whole = refl; so_far = fed-none old h }
 
--- what is kept then
-pub fed_kept : {old piece rest : List ℕ} {lines : List (List ℕ)} {kept : List ℕ} → IsFedUpTo old piece rest lines kept → IsKept kept
-fed_kept {old = old} h = subst IsKept (ap (λ (c : Cut). c.rest) h.so_far) (fed-is_kept old h.front)
-
--- and that it is what a front leaves
-pub fed_front : {old piece rest : List ℕ} {lines : List (List ℕ)} {kept : List ℕ} → IsFedUpTo old piece rest lines kept → IsFedPart old piece kept
-fed_front {old = old} {piece = piece} {rest = rest} h =
-    let part : take (length h.front) piece ≡ h.front = ap (take (length h.front)) h.whole ∙ take-append_seam h.front rest in
-    (length h.front, sym (ap (λ (c : Cut). c.rest) h.so_far) ∙ ap (λ (x : List ℕ). (fed old x).rest) (sym part))
-
 -- what more bytes make of a front that was fed
 further : (old front more : List ℕ) (lines : List (List ℕ)) (kept : List ℕ) → fed old front ≡ record { finished = lines; rest = kept } →
     fed old (front ++ more) ≡ after_lines lines (fed kept more)
@@ -49,36 +39,47 @@ line_fed kept line h k =
     ∙ ap (λ (x : List ℕ). record { finished = kept_line x ∷ []; rest = kept_line [] }) (append-nil (kept ++ line))
     ∙ ap (λ (x : List ℕ). record { finished = kept_line (kept ++ line) ∷ []; rest = x }) kept_line-none
 
--- one line more
-fed_line : {old piece rest : List ℕ} {lines : List (List ℕ)} {kept : List ℕ} → IsFedUpTo old piece rest lines kept
-    → (line more : List ℕ) → IsOneLine line → rest ≡ line ++ line_feed ∷ more → IsFedUpTo old piece more (lines ++ kept_line (kept ++ line) ∷ []) []
-fed_line {old = old} {lines = lines} {kept = kept} h line more one cut = record {
-  front = h.front ++ (line ++ line_feed ∷ []);
-  whole = h.whole ∙ ap (λ (x : List ℕ). h.front ++ x) (cut ∙ sym (append_assoc line (line_feed ∷ []) more)) ∙
-      sym (append_assoc h.front (line ++ line_feed ∷ []) more);
-  so_far = further old h.front (line ++ line_feed ∷ []) lines kept h.so_far ∙ ap (after_lines lines) (line_fed kept line (fed_kept h).one_line one);
-}
+-- ---- what was fed up to a place
 
--- the line up to the first line feed more
-pub fed_step : {old piece rest : List ℕ} {lines : List (List ℕ)} {kept : List ℕ} → IsFedUpTo old piece rest lines kept
-    → (k : ℕ) → NoneBefore (Passes (is_byte 10) rest) 0 (length rest) k × Passes (is_byte 10) rest k
-    → IsFedUpTo old piece (drop (k + 1) rest) (lines ++ kept_line (kept ++ take k rest) ∷ []) []
-fed_step {rest = rest} h k at = let cut = cut_at_first 10 rest k at in fed_line h (take k rest) (drop (k + 1) rest) cut.0 cut.1
+module _ {old piece rest : List ℕ} {lines : List (List ℕ)} {kept : List ℕ} (h : IsFedUpTo old piece rest lines kept) where
+  -- what is kept then
+  pub fed_kept : IsKept kept
+  fed_kept = subst IsKept (ap (λ (c : Cut). c.rest) h.so_far) (fed-is_kept old h.front)
 
--- what is fed up to a place is so for equal values
-pub fed_same : {old piece rest : List ℕ} {lines : List (List ℕ)} {kept : List ℕ} → IsFedUpTo old piece rest lines kept
-    → (rest' : List ℕ) (lines' : List (List ℕ)) (kept' : List ℕ) → rest' ≡ rest → lines' ≡ lines → kept' ≡ kept → IsFedUpTo old piece rest' lines' kept'
-fed_same h rest' lines' kept' e f g = rw (e, f, g) h
+  -- and that it is what a front leaves
+  pub fed_front : IsFedPart old piece kept
+  fed_front =
+      let part : take (length h.front) piece ≡ h.front = ap (take (length h.front)) h.whole ∙ take-append_seam h.front rest in
+      (length h.front, sym (ap (λ (c : Cut). c.rest) h.so_far) ∙ ap (λ (x : List ℕ). (fed old x).rest) (sym part))
 
--- the end of the piece
-pub fed_end : {old piece rest : List ℕ} {lines : List (List ℕ)} {kept : List ℕ} → IsFedUpTo old piece rest lines kept
-    → Nowhere (Passes (is_byte 10) rest) 0 (length rest) → fed old piece ≡ record { finished = lines; rest = kept_line (kept ++ rest) }
-fed_end {old = old} {rest = rest} {lines = lines} {kept = kept} h none =
-    ap (fed old) h.whole
-    ∙ further old h.front rest lines kept h.so_far
-    ∙ ap (λ (c : Cut). after_lines lines (kept_cut c))
-    (cut_of-one_line (kept ++ rest) (one_line-append kept rest (fed_kept h).one_line (none_found 10 rest none)))
-    ∙ ap (λ (x : List (List ℕ)). record { finished = x; rest = kept_line (kept ++ rest) }) (append-nil lines)
+  -- one line more
+  fed_line : (line more : List ℕ) → IsOneLine line → rest ≡ line ++ line_feed ∷ more → IsFedUpTo old piece more (lines ++ kept_line (kept ++ line) ∷ []) []
+  fed_line line more one cut = record {
+    front = h.front ++ (line ++ line_feed ∷ []);
+    whole = h.whole ∙ ap (λ (x : List ℕ). h.front ++ x) (cut ∙ sym (append_assoc line (line_feed ∷ []) more)) ∙
+        sym (append_assoc h.front (line ++ line_feed ∷ []) more);
+    so_far = further old h.front (line ++ line_feed ∷ []) lines kept h.so_far ∙ ap (after_lines lines) (line_fed kept line fed_kept.one_line one);
+  }
+
+  -- the line up to the first line feed more
+  pub fed_step : (k : ℕ) → NoneBefore (Passes (is_byte 10) rest) 0 (length rest) k × Passes (is_byte 10) rest k
+      → IsFedUpTo old piece (drop (k + 1) rest) (lines ++ kept_line (kept ++ take k rest) ∷ []) []
+  fed_step k at = let cut = cut_at_first 10 rest k at in fed_line (take k rest) (drop (k + 1) rest) cut.0 cut.1
+
+  -- what is fed up to a place is so for equal values
+  pub fed_same : (rest' : List ℕ) (lines' : List (List ℕ)) (kept' : List ℕ) → rest' ≡ rest → lines' ≡ lines → kept' ≡ kept → IsFedUpTo old piece rest' lines' kept'
+  fed_same rest' lines' kept' e f g = rw (e, f, g) h
+
+  -- the end of the piece
+  pub fed_end : Nowhere (Passes (is_byte 10) rest) 0 (length rest) → fed old piece ≡ record { finished = lines; rest = kept_line (kept ++ rest) }
+  fed_end none =
+      ap (fed old) h.whole
+      ∙ further old h.front rest lines kept h.so_far
+      ∙ ap (λ (c : Cut). after_lines lines (kept_cut c))
+      (cut_of-one_line (kept ++ rest) (one_line-append kept rest fed_kept.one_line (none_found 10 rest none)))
+      ∙ ap (λ (x : List (List ℕ)). record { finished = x; rest = kept_line (kept ++ rest) }) (append-nil lines)
+
+-- ---- calls
 
 -- a line that was put behind the others
 pub line_put : {X : Type 0} (bytes_of : X → List ℕ) (lines after : List X) (line : X) (bytes : List ℕ) → after ≡ lines ++ line ∷ [] → bytes_of line ≡ bytes

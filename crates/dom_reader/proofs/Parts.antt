@@ -43,17 +43,13 @@ names_without (first ∷ texts) text others h = none (is_name first) (names_with
     none false e = refl
 
 -- the first part that is left is a name: one name more
-pub one_named : (texts after : List (List ℕ)) (first bytes : List ℕ) (left others parts : List (List ℕ))
-    → after ≡ texts ++ bytes ∷ [] → only_if (is_name first) first ≡ Some bytes → left ≡ first ∷ others → texts ++ left ≡ parts → list_all is_name texts ≡ true
-    → (after ++ others ≡ parts) × (list_all is_name after ≡ true)
-one_named texts after first bytes left others parts put named front all names =
+pub one_named : (texts : List (List ℕ)) (first bytes : List ℕ) (others parts : List (List ℕ)) → only_if (is_name first) first ≡ Some bytes →
+    texts ++ first ∷ others ≡ parts → list_all is_name texts ≡ true
+    → ((texts ++ bytes ∷ []) ++ others ≡ parts) × (list_all is_name (texts ++ bytes ∷ []) ≡ true)
+one_named texts first bytes others parts named all names =
     let found = passed (is_name first) first bytes named in (
-      rw put
-          (append_assoc texts (bytes ∷ []) others
-          ∙ ap (λ (x : List ℕ). texts ++ x ∷ others) (sym found.1)
-          ∙ ap (λ (x : List (List ℕ)). texts ++ x) (sym front)
-          ∙ all),
-      rw put (names_and texts bytes names (ap is_name (sym found.1) ∙ found.0)),
+      append_assoc texts (bytes ∷ []) others ∙ ap (λ (x : List ℕ). texts ++ x ∷ others) (sym found.1) ∙ all,
+      names_and texts bytes names (ap is_name (sym found.1) ∙ found.0),
     )
 
 -- it is none: they are not all names

@@ -1,5 +1,5 @@
 -- The names that were read and the parts that are left are the parts of the text.
-use Rattle.std.proofs.Common.{ap, ◌∙◌}
+use Rattle.std.proofs.Common.{◌++◌, ℕ, List, map, sym, ap, ◌∙◌}
 use Rattle.std.specs.Prelude.{string_bytes}
 use Rattle.std.proofs.lemmas.Result.{err_from_is_err_and}
 use Rattle.dom_reader.specs.Filters.{parts_view}
@@ -11,7 +11,9 @@ loop-parts-preserved c =
     let before = c.loop-parts.invariant in
     let left = ap (parts_view 44) c.in-Some.is in
     let put = put_behind string_bytes c.loop-parts.names.items c.push.new.self.items c.in_ok-name_of.field-0 c.in_ok-push.ensures.items in
-    one_named _ _ c.first_part.result.0.now _ _ _ _ put c.in_ok-name_of.ensures (left ∙ c.first_part.ensures.parts) before.0 before.1
+    let texts = map string_bytes c.loop-parts.names.items in
+    let front = ap (λ (x : List (List ℕ)). texts ++ x) (left ∙ c.first_part.ensures.parts) in
+    rw put (one_named texts c.first_part.result.0.now _ _ _ c.in_ok-name_of.ensures (sym front ∙ before.0) before.1)
 
 pub returns-in_err-name_of : goal.returns-in_err-name_of
 returns-in_err-name_of c =
