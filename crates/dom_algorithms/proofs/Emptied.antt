@@ -45,30 +45,41 @@ none_above_parent d counted node ks e =
     keys [] h = tt
     keys (k ∷ ks) h = (h.0, keys ks h.1)
 
--- when they are taken out, a Text may move there
-pub text_may : (d e : DocState) → Counted d → (node text : ℕ) (ks : List ℕ) → map (name_in d) ks ≡ children_of (trees_in d node) (name_in d node)
-    → e ≡ planned (owner_in d node) (in_turn (removing suppressed) (map (name_in d) ks)) d
-    → ((y : NodeName) → NoneAbove d node y ks → inclusive_ancestors (trees_in e node) y ≡ inclusive_ancestors (trees_in d node) y)
-    → text < length d.names → owner_in d text ≡ owner_in d node →
-    is_inclusive_ancestor (trees_in d node) (name_in d text) (name_in d node) ≡ false → MayMove e node None text
-text_may d e counted node text ks listed taken paths there owner off =
-    let names = ap (λ (s : DocState). s.names) taken in
-    record {
-      node = subst (λ (ns : List NodeName). text < length ns) (sym names) there;
-      owner = subst (λ (ns : List NodeName). (name_at ns text).owner ≡ (name_at ns node).owner) (sym names) owner;
-      not_above = subst (λ (ns : List NodeName). is_in name_eq (name_at ns text) (inclusive_ancestors (trees_in e node) (name_at ns node)) ≡ false) (sym names)
-          (ap (is_in name_eq (name_in d text)) (paths (name_in d node) (none_above_parent d counted node ks listed)) ∙ off);
-      apart = λ b is. cc;
-    }
+-- The state e after the children of a node are taken out.
+module _ (d e : DocState) (counted : Counted d) (node text : ℕ) (ks : List ℕ) (listed : map (name_in d) ks ≡ children_of (trees_in d node) (name_in d node)) (taken : e ≡ planned (owner_in d node) (in_turn (removing suppressed) (map (name_in d) ks)) d) where
+  -- when they are taken out, a Text may move there
+  pub text_may : ((y : NodeName) → NoneAbove d node y ks → inclusive_ancestors (trees_in e node) y ≡ inclusive_ancestors (trees_in d node) y) → text < length d.names → owner_in d text ≡ owner_in d node → is_inclusive_ancestor (trees_in d node) (name_in d text) (name_in d node) ≡ false → MayMove e node None text
+  text_may paths there owner off =
+      let names = ap (λ (s : DocState). s.names) taken in
+      record {
+        node = subst (λ (ns : List NodeName). text < length ns) (sym names) there;
+        owner = subst (λ (ns : List NodeName). (name_at ns text).owner ≡ (name_at ns node).owner) (sym names) owner;
+        not_above = subst (λ (ns : List NodeName). is_in name_eq (name_at ns text) (inclusive_ancestors (trees_in e node) (name_at ns node)) ≡ false) (sym names)
+            (ap (is_in name_eq (name_in d text)) (paths (name_in d node) (none_above_parent d counted node ks listed)) ∙ off);
+        apart = λ b is. cc;
+      }
+
+-- the text content is set, state by state: the children are taken out, the Text is inserted, and the record is queued
+pub record TextContent : Type 0 where
+  -- the states
+  pub start : DocState
+  pub emptied_state : DocState
+  pub with_text : DocState
+  pub end : DocState
+  -- the keys of the nodes
+  pub node : ℕ
+  pub text : ℕ
+  pub children : List ℕ
+  pub alone : IsAlone start.world (owner_in start node)
+  pub text_owner : owner_in start text ≡ owner_in start node
+  pub listed : map (name_in start) children ≡ children_of (trees_in start node) (name_in start node)
+  pub taken : emptied_state ≡ planned (owner_in start node) (in_turn (removing suppressed) (map (name_in start) children)) start
+  pub inserted : with_text ≡ planned (owner_in emptied_state node) (inserting suppressed (name_in emptied_state text) (name_in emptied_state node) None) emptied_state
+  pub told : end ≡ stepped (owner_in with_text node) (queue_record (child_list (name_in with_text node) (name_in with_text text ∷ []) (map (name_in with_text) children) None None)) with_text
 
 -- the whole, where there is a Text
-pub put_whole : (d e f g : DocState) (node text : ℕ) (ks : List ℕ) → IsAlone d.world (owner_in d node) → owner_in d text ≡ owner_in d node →
-    map (name_in d) ks ≡ children_of (trees_in d node) (name_in d node)
-    → e ≡ planned (owner_in d node) (in_turn (removing suppressed) (map (name_in d) ks)) d
-    → f ≡ planned (owner_in e node) (inserting suppressed (name_in e text) (name_in e node) None) e
-    → g ≡ stepped (owner_in f node) (queue_record (child_list (name_in f node) (name_in f text ∷ []) (map (name_in f) ks) None None)) f
-    → g ≡ planned (owner_in d node) (putting_text (name_in d node) (name_in d text)) d
-put_whole d e f g node text ks alone text_owner listed taken inserted told =
+pub put_whole : (h : TextContent) → h.end ≡ planned (owner_in h.start h.node) (putting_text (name_in h.start h.node) (name_in h.start h.text)) h.start
+put_whole h =
     let o = owner_in d node in
     let x = name_in d node in
     let y = name_in d text in
@@ -83,6 +94,8 @@ put_whole d e f g node text ks alone text_owner listed taken inserted told =
     ∙ planned_then o (clear (map (name_in d) ks) and_then inserting suppressed y x None) (record_of (map (name_in d) ks)) d alone
     (plans_then o (clear (map (name_in d) ks)) (inserting suppressed y x None) cleared (plans_inserting o suppressed y x None text_owner))
     ∙ ap (λ zs. planned o (clear zs and_then inserting suppressed y x None and_then record_of zs) d) listed
+  where
+    open h use {start as d, node, text, children as ks, alone, text_owner, listed, taken, inserted, told}
 
 -- a node's children are replaced by none
 module _ (d : DocState) (node : ℕ) (alone : IsAlone d.world (owner_in d node)) where

@@ -178,28 +178,59 @@ module _ (d : DocState) (counted : Counted d) (parent fragment : ℕ) (before : 
 
 -- ---- what the calls say of it
 
+-- an insertion of a node that is no fragment
+pub record NodeInsertion : Type 0 where
+  -- the states
+  pub start : DocState
+  pub end : DocState
+  pub alone : (k : ℕ) → k < length start.names → IsAlone start.world (owner_in start k)
+  pub how : Observing
+  -- the keys of the nodes
+  pub parent : ℕ
+  pub node : ℕ
+  pub before : Option ℕ
+  pub prev : Option NodeName
+  pub parent_is : parent < length start.names
+  pub may : MayMove start parent before node
+  pub no_fragment : is_fragment (kind_of (trees_in start node) (name_in start node)) ≡ false
+  pub prev_is : prev ≡ sibling_before (trees_in start parent) (name_in start parent) (option_map (name_in start) before)
+  pub placed : end ≡ placed_all how (name_in start node ∷ []) (name_in start parent) (option_map (name_in start) before) prev (owner_in start parent) start
+
 -- of one node
-pub inserted_single : (d f : DocState) (alone : (k : ℕ) → k < length d.names → IsAlone d.world (owner_in d k)) (how : Observing) (parent node : ℕ)
-    (before : Option ℕ) (prev : Option NodeName) → parent < length d.names
-    → MayMove d parent before node → is_fragment (kind_of (trees_in d node) (name_in d node)) ≡ false
-    → prev ≡ sibling_before (trees_in d parent) (name_in d parent) (option_map (name_in d) before)
-    → f ≡ placed_all how (name_in d node ∷ []) (name_in d parent) (option_map (name_in d) before) prev (owner_in d parent) d
-    → f ≡ planned (owner_in d parent) (inserting how (name_in d node) (name_in d parent) (option_map (name_in d) before)) d
-inserted_single d f alone how parent node before prev parent_is may kind was is =
+pub inserted_single : (h : NodeInsertion) → h.end ≡ planned (owner_in h.start h.parent) (inserting h.how (name_in h.start h.node) (name_in h.start h.parent) (option_map (name_in h.start) h.before)) h.start
+inserted_single h =
     is ∙ ap (λ q. placed_all how (name_in d node ∷ []) (name_in d parent) (option_map (name_in d) before) q (owner_in d parent) d) was
     ∙ inserted_one (owner_in d parent) how (name_in d node) (name_in d parent) (option_map (name_in d) before) d (alone parent parent_is) may.owner
     (ap (λ o. is_fragment (kind_of (part_of d.world o).trees (name_in d node))) (sym may.owner) ∙ kind)
+  where
+    open h use {start as d, alone, how, parent, node, before, parent_is, may, no_fragment as kind, prev_is as was, placed as is}
+
+-- an insertion of a fragment, state by state: it is emptied, and its children are placed
+pub record FragmentInsertion : Type 0 where
+  -- the states
+  pub start : DocState
+  pub emptied_state : DocState
+  pub end : DocState
+  pub alone : (k : ℕ) → k < length start.names → IsAlone start.world (owner_in start k)
+  pub how : Observing
+  -- the keys of the nodes
+  pub parent : ℕ
+  pub fragment : ℕ
+  pub before : Option ℕ
+  pub prev : Option ℕ
+  pub children : List ℕ
+  pub parent_is : parent < length start.names
+  pub may : MayMove start parent before fragment
+  pub is_fragment_kind : is_fragment (kind_of (trees_in start fragment) (name_in start fragment)) ≡ true
+  pub prev_is : option_map (name_in start) prev ≡ sibling_before (trees_in start parent) (name_in start parent) (option_map (name_in start) before)
+  pub listed : map (name_in start) children ≡ children_of (trees_in start fragment) (name_in start fragment)
+  pub some_children : is_empty children ≡ false
+  pub emptied : emptied_state ≡ planned (owner_in start fragment) (emptying (name_in start fragment) (map (name_in start) children)) start
+  pub placed : end ≡ placed_all how (map (name_in emptied_state) children) (name_in emptied_state parent) (option_map (name_in emptied_state) before) (option_map (name_in emptied_state) prev) (owner_in emptied_state parent) emptied_state
 
 -- of a fragment
-pub inserted_fragment : (d e f : DocState) (alone : (k : ℕ) → k < length d.names → IsAlone d.world (owner_in d k)) (how : Observing)
-    (parent fragment : ℕ) (before : Option ℕ) (prev : Option ℕ) (ks : List ℕ) → parent < length d.names
-    → MayMove d parent before fragment → is_fragment (kind_of (trees_in d fragment) (name_in d fragment)) ≡ true
-    → option_map (name_in d) prev ≡ sibling_before (trees_in d parent) (name_in d parent) (option_map (name_in d) before)
-    → map (name_in d) ks ≡ children_of (trees_in d fragment) (name_in d fragment) → is_empty ks ≡ false
-    → e ≡ planned (owner_in d fragment) (emptying (name_in d fragment) (map (name_in d) ks)) d
-    → f ≡ placed_all how (map (name_in e) ks) (name_in e parent) (option_map (name_in e) before) (option_map (name_in e) prev) (owner_in e parent) e
-    → f ≡ planned (owner_in d parent) (inserting how (name_in d fragment) (name_in d parent) (option_map (name_in d) before)) d
-inserted_fragment d e f alone how parent fragment before prev ks parent_is may kind was listed some emptied placed =
+pub inserted_fragment : (h : FragmentInsertion) → h.end ≡ planned (owner_in h.start h.parent) (inserting h.how (name_in h.start h.fragment) (name_in h.start h.parent) (option_map (name_in h.start) h.before)) h.start
+inserted_fragment h =
     let o = owner_in d parent in
     let here = name_in d parent in
     let ref = option_map (name_in d) before in
@@ -213,6 +244,9 @@ inserted_fragment d e f alone how parent fragment before prev ks parent_is may k
     ∙ inserted_children o how (name_in d fragment) here ref d (alone parent parent_is) may.owner
     (ap (λ t. is_fragment (kind_of t (name_in d fragment))) (sym own) ∙ kind) (ap is_empty (sym children) ∙ mapped ks some)
   where
+    open h use {start as d, alone, how, parent, fragment, before, prev, children as ks, parent_is, may, is_fragment_kind as kind, prev_is as was}
+    open h use {listed, some_children as some, emptied, placed}
+
     mapped : (ks : List ℕ) → is_empty ks ≡ false → is_empty (map (name_in d) ks) ≡ false
     mapped [] h = cc
     mapped (k ∷ ks) h = refl

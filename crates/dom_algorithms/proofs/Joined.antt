@@ -172,16 +172,32 @@ pub own_nodes : (d e : DocState) (top : ℕ) (ks : List ℕ) → e.names ≡ d.n
 own_nodes d e top ks names h = subst (λ (ns : List NodeName). AllByRecursion
     (λ k. (k < length ns) × ((name_at ns k).owner ≡ (name_at ns top).owner)) ks) (sym names) h
 
+-- a joining, state by state: the units are put into the Text, places move to it, and the joined Texts are taken out
+pub record Joining : Type 0 where
+  -- the states
+  pub start : DocState
+  pub replaced_state : DocState
+  pub carried_state : DocState
+  pub end : DocState
+  -- the keys of the nodes
+  pub node : ℕ
+  pub parent : ℕ
+  -- the length of the Text, and the units of the joined ones
+  pub size : ℕ
+  pub units : DomString
+  -- the joined Texts
+  pub texts : List ℕ
+  pub alone : IsAlone start.world (owner_in start node)
+  pub sized : size ≡ length_of (trees_in start node) (name_in start node)
+  pub collected : units ≡ flat_map (λ y. (node_in (trees_in start node) y).text) (map (name_in start) texts)
+  pub replaced : replaced_state ≡ planned (owner_in start node) (replacing_data (name_in start node) size 0 units) start
+  pub same_steps : joins (trees_in replaced_state node) (name_in replaced_state node) (name_in replaced_state parent) size (map (name_in replaced_state) texts) ≡ joins (trees_in start node) (name_in replaced_state node) (name_in replaced_state parent) size (map (name_in replaced_state) texts)
+  pub carried : carried_state ≡ planned (owner_in replaced_state node) (steps_of (joins (trees_in replaced_state node) (name_in replaced_state node) (name_in replaced_state parent) size (map (name_in replaced_state) texts))) replaced_state
+  pub taken_out : end ≡ planned (owner_in carried_state node) (in_turn (removing observed) (map (name_in carried_state) texts)) carried_state
+
 -- the steps of a joining are its plan
-pub joined_whole : (d e f g : DocState) (node parent size : ℕ) (units : DomString) (ks : List ℕ) → IsAlone d.world (owner_in d node)
-    → size ≡ length_of (trees_in d node) (name_in d node) → units ≡ flat_map (λ y. (node_in (trees_in d node) y).text) (map (name_in d) ks)
-    → e ≡ planned (owner_in d node) (replacing_data (name_in d node) size 0 units) d
-    → joins (trees_in e node) (name_in e node) (name_in e parent) size (map (name_in e) ks) ≡ joins (trees_in d node) (name_in e node)
-    (name_in e parent) size (map (name_in e) ks)
-    → f ≡ planned (owner_in e node) (steps_of (joins (trees_in e node) (name_in e node) (name_in e parent) size (map (name_in e) ks))) e
-    → g ≡ planned (owner_in f node) (in_turn (removing observed) (map (name_in f) ks)) f
-    → g ≡ planned (owner_in d node) (joining (name_in d node) (name_in d parent) (map (name_in d) ks)) d
-joined_whole d e f g node parent size units ks alone sized collected replaced exact carried left_ =
+pub joined_whole : (h : Joining) → h.end ≡ planned (owner_in h.start h.node) (joining (name_in h.start h.node) (name_in h.start h.parent) (map (name_in h.start) h.texts)) h.start
+joined_whole h =
     let o = owner_in d node in
     let x = name_in d node in
     let q = name_in d parent in
@@ -197,6 +213,9 @@ joined_whole d e f g node parent size units ks alone sized collected replaced ex
     ∙ planned_then o (replacing_data x size 0 units and_then steps_of (joins ts x q size ys)) (in_turn (removing observed) ys) d alone
     (plans_then o (replacing_data x size 0 units) (steps_of (joins ts x q size ys)) (plans_data o x size 0 units) (λ p own. plans_joins o ts x q size ys))
     ∙ ap (λ n. all n units) sized ∙ ap (all (length_of ts x)) collected
+  where
+    open h use {start as d, replaced_state as e, node, parent, size, units, texts as ks, alone, sized, collected, replaced, same_steps as exact, carried}
+    open h use {taken_out as left_}
 
 -- ---- one Text
 

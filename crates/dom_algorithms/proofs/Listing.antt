@@ -49,29 +49,26 @@ each_in P (x ∷ xs) h y e = elim (Rattle.std.proofs.lemmas.Bool.cases_Bool (nam
   | inr g ↦ each_in P xs h.1 y (rw g at e)
 ]
 
-pub lists_next : (d : DocState) → Counted d → (node : ℕ) (keys : List ℕ) (at next : Option ℕ) (k : ℕ) → at ≡ Some k → Lists d node keys at
-    → option_map (name_in d) next ≡ next_sibling (trees_in d k) (name_in d k) → ForSome next (λ j. j < length d.names) →
-    ForSome next (λ j. owner_in d j ≡ owner_in d k)
-    → Lists d node (keys ++ k ∷ []) next ×
-    (left (children_of (trees_in d node) (name_in d node)) (option_map (name_in d) next) < left
-    (children_of (trees_in d node) (name_in d node)) (option_map (name_in d) at))
-lists_next d counted node keys at next k is lists found near own =
-    let ts = trees_in d node in
-    let once = once_in d counted (owner_in d node) in
-    let xs = children_of ts (name_in d node) in
-    let y = name_in d k in
-    let here = lists.here k is in
-    let stands = subst (λ (o : Option ℕ). StandsIn xs (option_map (name_in d) o)) is lists.stands in
-    let listed = subst (λ (o : Option ℕ). map (name_in d) keys ≡ walked xs (option_map (name_in d) o)) is lists.listed in
-    let up = each_in (λ x. parent_of ts x ≡ Some (name_in d node)) xs (children_parent ts once (name_in d node)) y stands in
-    let behind : option_map (name_in d) next ≡ first_of (items_after name_eq y xs) =
-    found ∙ ap (λ o. next_sibling (part_of d.world o).trees y) here.1 ∙ next_walked ts once y (name_in d node) up in
-    let w = subst (λ o. Walks xs y o) (sym behind) (walks xs (children_once ts (name_in d node) once) y stands) in (
-      record {
-        listed = map-append (name_in d) keys (k ∷ []) ∙ ap (λ zs. zs ++ y ∷ []) listed ∙ sym w.more;
-        stands = w.stands;
-        nodes = all_push (IsOwnNode d node) keys k lists.nodes here;
-        here = λ j e. (near j e, own j e ∙ here.1);
-      },
-      subst (λ (o : Option ℕ). left xs (option_map (name_in d) next) < left xs (option_map (name_in d) o)) (sym is) w.fewer,
-    )
+-- The children of a node.
+module _ (d : DocState) (counted : Counted d) (node : ℕ) where
+  pub lists_next : (keys : List ℕ) → (at next : Option ℕ) → (k : ℕ) → at ≡ Some k → Lists d node keys at → option_map (name_in d) next ≡ next_sibling (trees_in d k) (name_in d k) → ForSome next (λ j. j < length d.names) → ForSome next (λ j. owner_in d j ≡ owner_in d k) → Lists d node (keys ++ k ∷ []) next × (left (children_of (trees_in d node) (name_in d node)) (option_map (name_in d) next) < left (children_of (trees_in d node) (name_in d node)) (option_map (name_in d) at))
+  lists_next keys at next k is lists found near own =
+      let ts = trees_in d node in
+      let once = once_in d counted (owner_in d node) in
+      let xs = children_of ts (name_in d node) in
+      let y = name_in d k in
+      let here = lists.here k is in
+      let stands = subst (λ (o : Option ℕ). StandsIn xs (option_map (name_in d) o)) is lists.stands in
+      let listed = subst (λ (o : Option ℕ). map (name_in d) keys ≡ walked xs (option_map (name_in d) o)) is lists.listed in
+      let up = each_in (λ x. parent_of ts x ≡ Some (name_in d node)) xs (children_parent ts once (name_in d node)) y stands in
+      let behind : option_map (name_in d) next ≡ first_of (items_after name_eq y xs) =
+      found ∙ ap (λ o. next_sibling (part_of d.world o).trees y) here.1 ∙ next_walked ts once y (name_in d node) up in
+      let w = subst (λ o. Walks xs y o) (sym behind) (walks xs (children_once ts (name_in d node) once) y stands) in (
+        record {
+          listed = map-append (name_in d) keys (k ∷ []) ∙ ap (λ zs. zs ++ y ∷ []) listed ∙ sym w.more;
+          stands = w.stands;
+          nodes = all_push (IsOwnNode d node) keys k lists.nodes here;
+          here = λ j e. (near j e, own j e ∙ here.1);
+        },
+        subst (λ (o : Option ℕ). left xs (option_map (name_in d) next) < left xs (option_map (name_in d) o)) (sym is) w.fewer,
+      )

@@ -1,27 +1,25 @@
 -- Loops that normalize Texts, one after another.
-use Rattle.std.proofs.Common.{◌≡◌, ℕ, suc, Bool, true, false, ◌+◌, ◌<◌, ◌≤◌, get_or, drop-cons, add-one, List, [], ◌∷◌, drop, length, map, refl, sym}
-use Rattle.std.proofs.Common.{ap, subst, ◌∙◌, arith}
+use Rattle.std.proofs.Common.{◌≡◌, ℕ, suc, Bool, true, false, ◌+◌, ◌<◌, get_or, drop-cons, add-one, List, [], ◌∷◌, drop, length, map, refl, sym}
+use Rattle.std.proofs.Common.{ap, subst, ◌∙◌}
 use Rattle.std.specs.List.{AllByRecursion}
 use Rattle.std.specs.Prelude.{filter, if◌then◌else◌}
 use Rattle.dom_base.specs.declared.NodeName.{NodeName}
-use Rattle.dom_base.specs.declared.Owner.{Owner}
-use Rattle.dom_model.specs.Changes.{in_turn, steps_of}
-use Rattle.dom_model.specs.Steps.{join_at, part_step, after}
-use Rattle.dom_model.specs.TextChanges.{joins, normalizing_text}
-use Rattle.dom_model.specs.Tree.{has_node, kind_of, is_text, index_of, length_of}
+use Rattle.dom_model.specs.Changes.{in_turn}
+use Rattle.dom_model.specs.Steps.{after}
+use Rattle.dom_model.specs.TextChanges.{normalizing_text}
+use Rattle.dom_model.specs.Tree.{has_node, kind_of, is_text}
 use Rattle.dom_model.specs.Part.{Part}
 use Rattle.dom_model.specs.World.{part_of}
 use Rattle.dom_worlds.specs.Bounds.{HasBounds}
 use Rattle.dom_worlds.specs.Worlds.{IsPart}
 use Rattle.dom_tree.specs.Forest.{name_at}
-use Rattle.dom_parts.specs.Doc.{DocState, JoinsFit, IsOwnNode, name_in, owner_in, trees_in, stepped, planned}
+use Rattle.dom_parts.specs.Doc.{DocState, IsOwnNode, name_in, owner_in, trees_in, planned}
 use Rattle.dom_parts.specs.Hosting.{IsAlone}
-use Rattle.dom_worlds.proofs.KeptOffsets.{join_at-keeps}
 use Rattle.dom_worlds.proofs.KindLines.{has_node-times}
 use Rattle.dom_worlds.proofs.PlanTexts.{leads-normalizing_text}
 use Rattle.dom_parts.proofs.BoundedPlans.{normalized_text-keeps, normalized_text-leaves}
 use Rattle.dom_tree_laws.proofs.Lists.{all_drop}
-use Rattle.dom_parts.proofs.Made.{alone_after, alone_made, plan_alone, planned_turn}
+use Rattle.dom_parts.proofs.Made.{alone_made, plan_alone, planned_turn}
 use Rattle.dom_parts.proofs.OwnPlans.{plans_normalizing_text}
 
 -- ---- one Text after another
@@ -97,32 +95,32 @@ texts_left p part x is d (k ∷ ks) h =
     let left = normalized_text-leaves x (name_in d k) p part is.there h.0.there h.0.text in
     (record { there = left.0; text = left.1 }, texts_left p part x is d ks h.1)
 
--- a step of it
-pub normalizes_on : (top : ℕ) (all : List ℕ) (d : DocState) (i k : ℕ) (e f : DocState) → i < length all → k ≡ get_or all i k →
-    AllByRecursion (IsOwnNode d top) all
-    → Normalizes top all d (drop i all) e → f ≡ planned (owner_in e k) (normalizing_text (name_in e k)) e → Normalizes top all d (drop (i + 1) all) f
-normalizes_on top all d i k e f i< is nodes turn made =
-    let now : drop i all ≡ k ∷ drop (suc i) all = drop-cons all i k i< ∙ ap (λ j. j ∷ drop (suc i) all) (sym is) in
-    let here = (subst (AllByRecursion (IsOwnNode d top)) now (all_drop (IsOwnNode d top) i all nodes)).0 in
-    let state = subst (λ ks. planned (owner_in d top) (in_turn normalizing_text (map (name_in d) ks)) e ≡ planned (owner_in d top)
-    (in_turn normalizing_text (map (name_in d) all)) d) now turn.state in
-    let at : f ≡ planned (owner_in d top) (normalizing_text (name_in d k)) e =
-    made ∙ ap (λ (ns : List NodeName). planned (name_at ns k).owner (normalizing_text (name_at ns k)) e) turn.names ∙
-    ap (λ w. planned w (normalizing_text (name_in d k)) e) here.1 in
-    let x = name_in d k in
-    let o = owner_in d top in
-    let p = part_of e.world o in
-    let texts = subst (AllByRecursion (λ k. IsTextOf p (name_in d k))) now turn.texts in
-    let after_it : part_of f.world o ≡ after p (normalizing_text x p) =
-    ap (λ (s : DocState). part_of s.world o) at ∙ plan_alone o (normalizing_text x) e.world turn.alone (plans_normalizing_text o x) in
-    subst (λ j. Normalizes top all d (drop j all) f) (sym (add-one i))
-    (record {
-      names = ap (λ (s : DocState). s.names) at ∙ turn.names;
-      alone = subst (λ (s : DocState). IsAlone s.world o) (sym at) (alone_made o (normalizing_text x) e.world turn.alone (plans_normalizing_text o x));
-      part = subst IsPart (sym after_it) (leads-normalizing_text p x turn.part (has_node-times p.trees x texts.0.there)).changed.part;
-      bounds = subst HasBounds (sym after_it) (normalized_text-keeps x p turn.part texts.0.there texts.0.text turn.bounds);
-      texts = subst (λ q. AllByRecursion (λ k. IsTextOf q (name_in d k)) (drop (suc i) all)) (sym after_it)
-          (texts_left p turn.part x texts.0 d (drop (suc i) all) texts.1);
-      state = ap (planned o (in_turn normalizing_text (map (name_in d) (drop (suc i) all)))) at ∙
-          planned_turn o normalizing_text x (map (name_in d) (drop (suc i) all)) e turn.alone (plans_normalizing_text o x) ∙ state;
-    })
+-- Texts below a node that are normalized one after another, from the state d.
+module _ (top : ℕ) (all : List ℕ) (d : DocState) where
+  -- a step of it
+  pub normalizes_on : (i k : ℕ) → (e f : DocState) → i < length all → k ≡ get_or all i k → AllByRecursion (IsOwnNode d top) all → Normalizes top all d (drop i all) e → f ≡ planned (owner_in e k) (normalizing_text (name_in e k)) e → Normalizes top all d (drop (i + 1) all) f
+  normalizes_on i k e f i< is nodes turn made =
+      let now : drop i all ≡ k ∷ drop (suc i) all = drop-cons all i k i< ∙ ap (λ j. j ∷ drop (suc i) all) (sym is) in
+      let here = (subst (AllByRecursion (IsOwnNode d top)) now (all_drop (IsOwnNode d top) i all nodes)).0 in
+      let state = subst (λ ks. planned (owner_in d top) (in_turn normalizing_text (map (name_in d) ks)) e ≡ planned (owner_in d top)
+      (in_turn normalizing_text (map (name_in d) all)) d) now turn.state in
+      let at : f ≡ planned (owner_in d top) (normalizing_text (name_in d k)) e =
+      made ∙ ap (λ (ns : List NodeName). planned (name_at ns k).owner (normalizing_text (name_at ns k)) e) turn.names ∙
+      ap (λ w. planned w (normalizing_text (name_in d k)) e) here.1 in
+      let x = name_in d k in
+      let o = owner_in d top in
+      let p = part_of e.world o in
+      let texts = subst (AllByRecursion (λ k. IsTextOf p (name_in d k))) now turn.texts in
+      let after_it : part_of f.world o ≡ after p (normalizing_text x p) =
+      ap (λ (s : DocState). part_of s.world o) at ∙ plan_alone o (normalizing_text x) e.world turn.alone (plans_normalizing_text o x) in
+      subst (λ j. Normalizes top all d (drop j all) f) (sym (add-one i))
+      (record {
+        names = ap (λ (s : DocState). s.names) at ∙ turn.names;
+        alone = subst (λ (s : DocState). IsAlone s.world o) (sym at) (alone_made o (normalizing_text x) e.world turn.alone (plans_normalizing_text o x));
+        part = subst IsPart (sym after_it) (leads-normalizing_text p x turn.part (has_node-times p.trees x texts.0.there)).changed.part;
+        bounds = subst HasBounds (sym after_it) (normalized_text-keeps x p turn.part texts.0.there texts.0.text turn.bounds);
+        texts = subst (λ q. AllByRecursion (λ k. IsTextOf q (name_in d k)) (drop (suc i) all)) (sym after_it)
+            (texts_left p turn.part x texts.0 d (drop (suc i) all) texts.1);
+        state = ap (planned o (in_turn normalizing_text (map (name_in d) (drop (suc i) all)))) at ∙
+            planned_turn o normalizing_text x (map (name_in d) (drop (suc i) all)) e turn.alone (plans_normalizing_text o x) ∙ state;
+      })

@@ -195,14 +195,13 @@ removal_keeps d f counted k alone how is y off =
     (path_removed (owner_in d k) d alone (once_in d counted (owner_in d k)) how (name_in d k) y
     (lacks_from (name_in d k) (inclusive_ancestors (trees_in d k) y) off))
 
--- the next sibling of a child is another child
-pub next_is_child : (d : DocState) → Counted d → (parent child node : ℕ) (next : Option ℕ) → IsChild d parent child → child ≡ node
-    → option_map (name_in d) next ≡ next_sibling (trees_in d node) (name_in d node) → ForSome next (λ k. k < length d.names) →
-    ForSome next (λ k. owner_in d k ≡ owner_in d node)
-    → (b : ℕ) → next ≡ Some b → IsChild d parent b × (name_eq (name_in d node) (name_in d b) ≡ false)
-next_is_child d counted parent child node next child_is same found near own b is =
-    let at = subst (IsChild d parent) same child_is in
-    let e : next_sibling (trees_in d parent) (name_in d node) ≡ Some (name_in d b) =
-    ap (λ o. next_sibling (part_of d.world o).trees (name_in d node)) (sym at.owner) ∙ sym found ∙ ap (option_map (name_in d)) is in
-    let both = next_child (trees_in d parent) (once_in d counted (owner_in d parent)) (name_in d node) (name_in d parent) (name_in d b) at.child e in
-    (record { node = near b is; owner = own b is ∙ at.owner; child = both.0 }, both.1)
+-- A child of a parent, and its next sibling.
+module _ (d : DocState) (counted : Counted d) (parent child node : ℕ) (next : Option ℕ) (child_is : IsChild d parent child) where
+  -- the next sibling of a child is another child
+  pub next_is_child : child ≡ node → option_map (name_in d) next ≡ next_sibling (trees_in d node) (name_in d node) → ForSome next (λ k. k < length d.names) → ForSome next (λ k. owner_in d k ≡ owner_in d node) → (b : ℕ) → next ≡ Some b → IsChild d parent b × (name_eq (name_in d node) (name_in d b) ≡ false)
+  next_is_child same found near own b is =
+      let at = subst (IsChild d parent) same child_is in
+      let e : next_sibling (trees_in d parent) (name_in d node) ≡ Some (name_in d b) =
+      ap (λ o. next_sibling (part_of d.world o).trees (name_in d node)) (sym at.owner) ∙ sym found ∙ ap (option_map (name_in d)) is in
+      let both = next_child (trees_in d parent) (once_in d counted (owner_in d parent)) (name_in d node) (name_in d parent) (name_in d b) at.child e in
+      (record { node = near b is; owner = own b is ∙ at.owner; child = both.0 }, both.1)

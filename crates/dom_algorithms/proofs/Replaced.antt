@@ -148,20 +148,36 @@ module _ (d e : DocState) (counted : Counted d) (alone : (k : ℕ) → k < lengt
 
 -- ---- the whole
 
+-- a replacement, state by state: the child is taken out, the node is inserted, and the record is queued
+pub record Replacement : Type 0 where
+  -- the states
+  pub start : DocState
+  pub without_child : DocState
+  pub with_node : DocState
+  pub end : DocState
+  -- the keys of the nodes
+  pub parent : ℕ
+  pub node : ℕ
+  pub child : ℕ
+  -- the nodes that are placed, the siblings of the child, and the child that they go before
+  pub added : List ℕ
+  pub prev : Option ℕ
+  pub next : Option ℕ
+  pub reference : Option ℕ
+  pub alone : IsAlone start.world (owner_in start parent)
+  pub node_owner : owner_in start node ≡ owner_in start parent
+  pub child_owner : owner_in start child ≡ owner_in start parent
+  pub placed : map (name_in start) added ≡ placed_nodes (trees_in start node) (name_in start node)
+  pub prev_is : option_map (name_in start) prev ≡ previous_sibling (trees_in start child) (name_in start child)
+  pub next_is : option_map (name_in start) next ≡ next_sibling (trees_in start child) (name_in start child)
+  pub reference_is : option_map (name_in start) reference ≡ reference_for (trees_in start parent) (name_in start node) (option_map (name_in start) next)
+  pub removed : without_child ≡ planned (owner_in start child) (removing suppressed (name_in start child)) start
+  pub inserted : with_node ≡ planned (owner_in without_child parent) (inserting suppressed (name_in without_child node) (name_in without_child parent) (option_map (name_in without_child) reference)) without_child
+  pub told : end ≡ stepped (owner_in with_node parent) (queue_record (child_list (name_in with_node parent) (map (name_in with_node) added) (name_in with_node child ∷ []) (option_map (name_in with_node) prev) (option_map (name_in with_node) reference))) with_node
+
 -- the steps of a replacement are its plan
-pub replaced_whole : (d e f g : DocState) → (parent node child : ℕ) (added : List ℕ) (prev next reference : Option ℕ) →
-    IsAlone d.world (owner_in d parent) → owner_in d node ≡ owner_in d parent → owner_in d child ≡ owner_in d parent
-    → map (name_in d) added ≡ placed_nodes (trees_in d node) (name_in d node)
-    → option_map (name_in d) prev ≡ previous_sibling (trees_in d child) (name_in d child)
-    → option_map (name_in d) next ≡ next_sibling (trees_in d child) (name_in d child)
-    → option_map (name_in d) reference ≡ reference_for (trees_in d parent) (name_in d node) (option_map (name_in d) next)
-    → e ≡ planned (owner_in d child) (removing suppressed (name_in d child)) d
-    → f ≡ planned (owner_in e parent) (inserting suppressed (name_in e node) (name_in e parent) (option_map (name_in e) reference)) e
-    → g ≡ stepped (owner_in f parent) (queue_record
-    (child_list (name_in f parent) (map (name_in f) added) (name_in f child ∷ []) (option_map (name_in f) prev)
-    (option_map (name_in f) reference))) f
-    → g ≡ planned (owner_in d parent) (replacing (name_in d parent) (name_in d node) (name_in d child)) d
-replaced_whole d e f g parent node child added prev next reference alone node_owner child_owner placed was behind referred removed inserted told =
+pub replaced_whole : (h : Replacement) → h.end ≡ planned (owner_in h.start h.parent) (replacing (name_in h.start h.parent) (name_in h.start h.node) (name_in h.start h.child)) h.start
+replaced_whole h =
     let o = owner_in d parent in
     let p = name_in d parent in
     let x = name_in d node in
@@ -186,3 +202,6 @@ replaced_whole d e f g parent node child added prev next reference alone node_ow
     ∙ ap (λ a. all (placed_nodes ts x) a ref) (was ∙ ap (λ w. previous_sibling (part_of d.world w).trees c) child_owner)
     ∙ ap (λ b. all (placed_nodes ts x) (previous_sibling ts c) b)
     (referred ∙ ap (reference_for ts x) (behind ∙ ap (λ w. next_sibling (part_of d.world w).trees c) child_owner))
+  where
+    open h use {start as d, parent, node, child, added, prev, reference, alone, node_owner, child_owner, placed, prev_is as was, next_is as behind}
+    open h use {reference_is as referred, removed, inserted, told}

@@ -16,37 +16,51 @@ use Rattle.dom_parts.proofs.Made.{planned_then}
 use Rattle.dom_parts.proofs.OwnPlans.{plans_inserting}
 use Rattle.dom_algorithms.proofs.Placed.{Counted, once_in}
 
--- the new Text, which stands alone, may be placed there
-pub tail_may : (d : DocState) → Counted d → (parent node new : ℕ) (next : Option ℕ) → IsChild d parent node → new < length d.names →
-    owner_in d new ≡ owner_in d parent
-    → parent_of (trees_in d node) (name_in d new) ≡ None → is_inclusive_ancestor (trees_in d node) (name_in d new) (name_in d node) ≡ false →
-    ForSome next (IsChild d parent) → MayMove d parent next new
-tail_may d counted parent node new next child there owner unlinked off children =
-    let ts = trees_in d parent in
-    let x = name_in d node in
-    let y = name_in d new in
-    let own : trees_in d node ≡ ts = ap (λ o. (part_of d.world o).trees) child.owner in
-    let lacks = subst (Lacks y) (parent_path ts (once_in d counted (owner_in d parent)) x (name_in d parent) child.child)
-    (lacks_from y (inclusive_ancestors ts x) (ap (λ t. is_inclusive_ancestor t y x) (sym own) ∙ off)) in
-    let root : parent_of ts y ≡ None = ap (λ t. parent_of t y) (sym own) ∙ unlinked in
-    record {
-      node = there;
-      owner = owner;
-      not_above = lacks_to y (inclusive_ancestors ts (name_in d parent)) lacks.1;
-      apart = λ b is. false_from_ne_true _ (λ h.
-          let up : parent_of ts y ≡ Some (name_in d parent) = ap (parent_of ts) (name_eq-true y (name_in d b) h) ∙ (children b is).child in
-          cc);
-    }
+-- A child of a parent, a new node, and what comes behind the child.
+module _ (d : DocState) (counted : Counted d) (parent node new : ℕ) (next : Option ℕ) (child : IsChild d parent node) where
+  -- the new Text, which stands alone, may be placed there
+  pub tail_may : new < length d.names → owner_in d new ≡ owner_in d parent → parent_of (trees_in d node) (name_in d new) ≡ None → is_inclusive_ancestor (trees_in d node) (name_in d new) (name_in d node) ≡ false → ForSome next (IsChild d parent) → MayMove d parent next new
+  tail_may there owner unlinked off children =
+      let ts = trees_in d parent in
+      let x = name_in d node in
+      let y = name_in d new in
+      let own : trees_in d node ≡ ts = ap (λ o. (part_of d.world o).trees) child.owner in
+      let lacks = subst (Lacks y) (parent_path ts (once_in d counted (owner_in d parent)) x (name_in d parent) child.child)
+      (lacks_from y (inclusive_ancestors ts x) (ap (λ t. is_inclusive_ancestor t y x) (sym own) ∙ off)) in
+      let root : parent_of ts y ≡ None = ap (λ t. parent_of t y) (sym own) ∙ unlinked in
+      record {
+        node = there;
+        owner = owner;
+        not_above = lacks_to y (inclusive_ancestors ts (name_in d parent)) lacks.1;
+        apart = λ b is. false_from_ne_true _ (λ h.
+            let up : parent_of ts y ≡ Some (name_in d parent) = ap (parent_of ts) (name_eq-true y (name_in d b) h) ∙ (children b is).child in
+            cc);
+      }
+
+-- the placing of a tail, state by state: the new Text is inserted, and places move to it
+pub record TailPlacing : Type 0 where
+  -- the states
+  pub start : DocState
+  pub with_tail : DocState
+  pub end : DocState
+  -- the keys of the nodes
+  pub parent : ℕ
+  pub node : ℕ
+  pub new : ℕ
+  pub offset : ℕ
+  pub next : Option ℕ
+  pub alone : IsAlone start.world (owner_in start node)
+  pub owner : owner_in start node ≡ owner_in start parent
+  pub new_owner : owner_in start new ≡ owner_in start parent
+  pub next_is : option_map (name_in start) next ≡ next_sibling (trees_in start node) (name_in start node)
+  pub inserted : with_tail ≡ planned (owner_in start parent) (inserting observed (name_in start new) (name_in start parent) (option_map (name_in start) next)) start
+  pub index : ℕ
+  pub index_is : index ≡ index_of (trees_in start node) (name_in start node)
+  pub moved : end ≡ stepped (owner_in with_tail node) (split_at (name_in with_tail node) offset (name_in with_tail new) (name_in with_tail parent) index) with_tail
 
 -- and is
-pub tail_placed : (d f g : DocState) (parent node new : ℕ) (offset : ℕ) (next : Option ℕ) → IsAlone d.world (owner_in d node) →
-    owner_in d node ≡ owner_in d parent → owner_in d new ≡ owner_in d parent
-    → option_map (name_in d) next ≡ next_sibling (trees_in d node) (name_in d node)
-    → f ≡ planned (owner_in d parent) (inserting observed (name_in d new) (name_in d parent) (option_map (name_in d) next)) d
-    → (index : ℕ) → index ≡ index_of (trees_in d node) (name_in d node) →
-    g ≡ stepped (owner_in f node) (split_at (name_in f node) offset (name_in f new) (name_in f parent) index) f
-    → g ≡ planned (owner_in d node) (placing_tail (name_in d node) offset (name_in d new) (Some (name_in d parent))) d
-tail_placed d f g parent node new offset next alone owner new_owner found inserted index stood told =
+pub tail_placed : (h : TailPlacing) → h.end ≡ planned (owner_in h.start h.node) (placing_tail (name_in h.start h.node) h.offset (name_in h.start h.new) (Some (name_in h.start h.parent))) h.start
+tail_placed h =
     let o = owner_in d node in
     let x = name_in d node in
     let y = name_in d new in
@@ -59,3 +73,6 @@ tail_placed d f g parent node new offset next alone owner new_owner found insert
     ∙ planned_then o (inserting observed y p (option_map (name_in d) next)) split d alone
     (plans_inserting o observed y p (option_map (name_in d) next) (new_owner ∙ sym owner))
     ∙ ap (λ r. planned o (inserting observed y p r and_then split) d) found
+  where
+    open h use {start as d, with_tail as f, parent, node, new, offset, next, alone, owner, new_owner, next_is as found, inserted, index_is as stood}
+    open h use {moved as told}

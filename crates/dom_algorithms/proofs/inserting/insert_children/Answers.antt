@@ -36,10 +36,26 @@ place_all-requires-clause-before_is_child c =
 
 pub returns : goal.returns
 returns c =
-    on_ok_weaker c.place_all.result (inserted_fragment c.args.parts.now c.empty.new.parts c.place_all.new.parts c.laws.ensures.alone
-    (observing_of c.args.how) c.args.parent c.args.fragment c.args.before c.args.prev c.args.children.now
-    c.requires.parent_is_node c.requires.may_move c.requires.is_fragment c.requires.prev_is_before c.requires.are_children
-    (some_left c.args.children.now c.if-is_empty.ensures) c.in_ok-empty.ensures.state) c.place_all.ensures
+    on_ok_weaker c.place_all.result (λ placed. inserted_fragment (record {
+      start = c.args.parts.now;
+      emptied_state = c.empty.new.parts;
+      end = c.place_all.new.parts;
+      alone = c.laws.ensures.alone;
+      how = observing_of c.args.how;
+      parent = c.args.parent;
+      fragment = c.args.fragment;
+      before = c.args.before;
+      prev = c.args.prev;
+      children = c.args.children.now;
+      parent_is = c.requires.parent_is_node;
+      may = c.requires.may_move;
+      is_fragment_kind = c.requires.is_fragment;
+      prev_is = c.requires.prev_is_before;
+      listed = c.requires.are_children;
+      some_children = some_left c.args.children.now c.if-is_empty.ensures;
+      emptied = c.in_ok-empty.ensures.state;
+      placed = placed;
+    })) c.place_all.ensures
 
 pub place_all-requires-clause-bounds : goal.place_all-requires-clause-bounds
 place_all-requires-clause-bounds c =

@@ -7,6 +7,18 @@ use Rattle.dom_algorithms.proofs.inserting.inserting.Goals as goal
 
 pub returns : goal.returns
 returns c =
-    on_ok_weaker c.place_all.result (inserted_single c.args.parts.now c.place_all.new.parts c.laws.ensures.alone (observing_of c.args.how)
-    c.args.parent c.args.node c.args.before (option_map (name_in c.args.parts.now) c.sibling_before-prev.result)
-    c.requires.parent_is_node c.requires.may_move (sym c.is_fragment.ensures ∙ c.if-is_fragment.false) c.sibling_before-prev.ensures.value) c.place_all.ensures
+    on_ok_weaker c.place_all.result (λ placed. inserted_single (record {
+      start = c.args.parts.now;
+      end = c.place_all.new.parts;
+      alone = c.laws.ensures.alone;
+      how = observing_of c.args.how;
+      parent = c.args.parent;
+      node = c.args.node;
+      before = c.args.before;
+      prev = option_map (name_in c.args.parts.now) c.sibling_before-prev.result;
+      parent_is = c.requires.parent_is_node;
+      may = c.requires.may_move;
+      no_fragment = sym c.is_fragment.ensures ∙ c.if-is_fragment.false;
+      prev_is = c.sibling_before-prev.ensures.value;
+      placed = placed;
+    })) c.place_all.ensures

@@ -48,11 +48,21 @@ take_each-requires-clause-children_are_nodes c =
 pub returns : goal.returns
 returns c =
     let d = c.args.parts.now in
-    on_ok_weaker c.take_each.result (joined_whole d c.replacing_data.new.parts c.join_each.new.self c.take_each.new.parts c.args.node
-    c.args.parent c.length-size.result c.in_ok-units.units.items c.args.nexts.now
-    (c.laws.ensures.alone c.args.node c.requires.node_is_node) c.length-size.ensures c.in_ok-units.ensures c.in_ok-replacing_data.ensures
-    (joining_exact d c.replacing_data.new.parts c.args.node c.args.parent c.length-size.result c.in_ok-units.units.items c.args.nexts.now
-    (c.laws.ensures.alone c.args.node c.requires.node_is_node) (c.laws.ensures.parts _) c.requires.bounds
-    (c.laws.ensures.stand c.args.node c.requires.node_is_node) c.requires.is_text c.requires.is_parent c.requires.are_nexts c.length-size.ensures
-    c.in_ok-units.ensures c.in_ok-replacing_data.ensures)
-    c.join_each.ensures) c.take_each.ensures.state
+    on_ok_weaker c.take_each.result (λ taken_out. joined_whole (record {
+      start = d;
+      replaced_state = c.replacing_data.new.parts;
+      carried_state = c.join_each.new.self;
+      end = c.take_each.new.parts;
+      node = c.args.node;
+      parent = c.args.parent;
+      size = c.length-size.result;
+      units = c.in_ok-units.units.items;
+      texts = c.args.nexts.now;
+      alone = c.laws.ensures.alone c.args.node c.requires.node_is_node;
+      sized = c.length-size.ensures;
+      collected = c.in_ok-units.ensures;
+      replaced = c.in_ok-replacing_data.ensures;
+      same_steps = joining_exact d c.replacing_data.new.parts c.args.node c.args.parent c.length-size.result c.in_ok-units.units.items c.args.nexts.now (c.laws.ensures.alone c.args.node c.requires.node_is_node) (c.laws.ensures.parts _) c.requires.bounds (c.laws.ensures.stand c.args.node c.requires.node_is_node) c.requires.is_text c.requires.is_parent c.requires.are_nexts c.length-size.ensures c.in_ok-units.ensures c.in_ok-replacing_data.ensures;
+      carried = c.join_each.ensures;
+      taken_out = taken_out;
+    })) c.take_each.ensures.state

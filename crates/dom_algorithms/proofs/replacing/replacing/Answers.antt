@@ -39,15 +39,29 @@ inserting-requires-clause-before_is_child c =
 pub returns-clause-world : goal.returns-clause-world
 returns-clause-world c =
     let f = c.inserting.new.parts in
-    on_ok_weaker c.tell_children.result (λ told. replaced_whole c.args.parts.now c.removing.new.parts f c.tell_children.new.self c.args.parent
-    c.args.node c.args.child c.in_ok-added.added.items c.prev-prev.result c.next-next.result c.reference_for-reference.result
-    (c.laws.ensures.alone c.args.parent c.requires.parent_is_node) c.requires.node_owner c.requires.child_is_child.owner
-    c.in_ok-added.ensures.value c.prev-prev.ensures.value c.next-next.ensures.value c.reference_for-reference.ensures.value
-    c.in_ok-removing.ensures c.in_ok-inserting.ensures
-    (told
-    ∙ ap (λ (ks : List ℕ). stepped (owner_in f c.args.parent)
-    (queue_record (child_list (name_in f c.args.parent) (map (name_in f) ks) (name_in f c.args.child ∷ [])
-    (option_map (name_in f) c.prev-prev.result) (option_map (name_in f) c.reference_for-reference.result))) f) c.as_slice.ensures.value))
+    on_ok_weaker c.tell_children.result (λ told. replaced_whole (record {
+      start = c.args.parts.now;
+      without_child = c.removing.new.parts;
+      with_node = f;
+      end = c.tell_children.new.self;
+      parent = c.args.parent;
+      node = c.args.node;
+      child = c.args.child;
+      added = c.in_ok-added.added.items;
+      prev = c.prev-prev.result;
+      next = c.next-next.result;
+      reference = c.reference_for-reference.result;
+      alone = c.laws.ensures.alone c.args.parent c.requires.parent_is_node;
+      node_owner = c.requires.node_owner;
+      child_owner = c.requires.child_is_child.owner;
+      placed = c.in_ok-added.ensures.value;
+      prev_is = c.prev-prev.ensures.value;
+      next_is = c.next-next.ensures.value;
+      reference_is = c.reference_for-reference.ensures.value;
+      removed = c.in_ok-removing.ensures;
+      inserted = c.in_ok-inserting.ensures;
+      told = told ∙ ap (λ (ks : List ℕ). stepped (owner_in f c.args.parent) (queue_record (child_list (name_in f c.args.parent) (map (name_in f) ks) (name_in f c.args.child ∷ []) (option_map (name_in f) c.prev-prev.result) (option_map (name_in f) c.reference_for-reference.result))) f) c.as_slice.ensures.value;
+    }))
     c.tell_children.ensures
 
 pub tell_children-requires-clause-added_are_nodes : goal.tell_children-requires-clause-added_are_nodes

@@ -22,10 +22,24 @@ inserting-requires-clause-before_is_child c =
 
 pub returns : goal.returns
 returns c =
-    tail_placed c.args.parts.now c.inserting.new.parts c.split_at.new.self c.args.parent c.args.node c.args.new c.args.offset c.next-next.result
-    (c.laws.ensures.alone c.args.node c.requires.node_is_child.node)
-    c.requires.node_is_child.owner c.requires.one_owner c.next-next.ensures.value c.in_ok-inserting.ensures c.index-index.result
-    c.index-index.ensures c.split_at.ensures
+    tail_placed (record {
+      start = c.args.parts.now;
+      with_tail = c.inserting.new.parts;
+      end = c.split_at.new.self;
+      parent = c.args.parent;
+      node = c.args.node;
+      new = c.args.new;
+      offset = c.args.offset;
+      next = c.next-next.result;
+      alone = c.laws.ensures.alone c.args.node c.requires.node_is_child.node;
+      owner = c.requires.node_is_child.owner;
+      new_owner = c.requires.one_owner;
+      next_is = c.next-next.ensures.value;
+      inserted = c.in_ok-inserting.ensures;
+      index = c.index-index.result;
+      index_is = c.index-index.ensures;
+      moved = c.split_at.ensures;
+    })
 
 pub inserting-requires-clause-bounds : goal.inserting-requires-clause-bounds
 inserting-requires-clause-bounds c = subst (λ o. HasBounds (part_of c.args.parts.now.world o)) c.requires.node_is_child.owner c.requires.bounds

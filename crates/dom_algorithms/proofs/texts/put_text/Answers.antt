@@ -20,13 +20,21 @@ pub returns : goal.returns
 returns c =
     let d = c.args.parts.now in
     let f = c.inserting.new.parts in
-    on_ok_weaker c.tell_children.result (λ told. put_whole d c.take_each.new.parts f c.tell_children.new.self c.args.node c.args.text
-    c.as_slice.result.now (c.laws.ensures.alone c.args.node c.requires.node_is_node) c.requires.one_owner
-    (ap (map (name_in d)) c.as_slice.ensures.value ∙ c.in_ok-children.ensures.names) c.in_ok-take_each.ensures.state c.in_ok-inserting.ensures
-    (told
-    ∙ ap (λ (ks : List ℕ). stepped (owner_in f c.args.node)
-    (queue_record (child_list (name_in f c.args.node) (name_in f c.args.text ∷ []) (map (name_in f) ks) None None)) f)
-    (c.as_slice-2.ensures.value ∙ sym c.as_slice.ensures.value)))
+    on_ok_weaker c.tell_children.result (λ told. put_whole (record {
+      start = d;
+      emptied_state = c.take_each.new.parts;
+      with_text = f;
+      end = c.tell_children.new.self;
+      node = c.args.node;
+      text = c.args.text;
+      children = c.as_slice.result.now;
+      alone = c.laws.ensures.alone c.args.node c.requires.node_is_node;
+      text_owner = c.requires.one_owner;
+      listed = ap (map (name_in d)) c.as_slice.ensures.value ∙ c.in_ok-children.ensures.names;
+      taken = c.in_ok-take_each.ensures.state;
+      inserted = c.in_ok-inserting.ensures;
+      told = told ∙ ap (λ (ks : List ℕ). stepped (owner_in f c.args.node) (queue_record (child_list (name_in f c.args.node) (name_in f c.args.text ∷ []) (map (name_in f) ks) None None)) f) (c.as_slice-2.ensures.value ∙ sym c.as_slice.ensures.value);
+    }))
     c.tell_children.ensures
 
 pub inserting-requires-clause-bounds : goal.inserting-requires-clause-bounds
