@@ -40,11 +40,6 @@ childs-here n c r x y e = ap (λ k. k + childs c x y + childs r x y) (cond-true 
 childs-elsewhere : (n : Node) (c r : Trees) (x y : NodeName) → name_eq n.name y ≡ false → childs (tree n c r) x y ≡ childs c x y + childs r x y
 childs-elsewhere n c r x y e = let g = ap (λ k. k + childs c x y + childs r x y) (cond-false (name_eq n.name y) (root_times c x) 0 e) in omega arith
 
--- no more than in all
-roots-times : (ts : Trees) (x : NodeName) → root_times ts x ≤ times_in ts x
-roots-times none x = omega arith
-roots-times (tree n c r) x = let h = roots-times r x in omega arith
-
 -- nor children, and none is a root beside
 childs-times : (ts : Trees) (x y : NodeName) → childs ts x y + root_times ts x ≤ times_in ts x
 childs-times none x y = omega arith

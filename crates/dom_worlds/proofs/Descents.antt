@@ -10,7 +10,7 @@ use Rattle.dom_model.specs.Tree.{Trees, none, tree, Node, nodes, names_of, roots
 use Rattle.dom_model.specs.Tree.{inclusive_descendants, is_inclusive_ancestor, on_top}
 use Rattle.dom_model.specs.TreeChanges.{without, put_before, put_below, placed, with_node}
 use Rattle.dom_model.proofs.OwnerLaws.{name_eq-same, name_eq-turned, name_eq-true}
-use Rattle.dom_worlds.proofs.Lists.{all-then, all-append, all-from}
+use Rattle.dom_worlds.proofs.Lists.{all-then, all-append}
 use Rattle.dom_worlds.proofs.Tests.{by_cases, or-later}
 use Rattle.dom_worlds.proofs.Trees.{IsUnique, by_times, times-here, times-elsewhere, times-more, times-parts, times-subtree, subtree-absent}
 use Rattle.dom_worlds.proofs.Trees.{root-there, nodes-there, ancestors-absent, ancestors-present}
@@ -257,14 +257,6 @@ before-back x (n ∷ ns) ms h =
 all-named : (P : NodeName → Type 0) (ns : List Node) → AllByRecursion (λ (n : Node). P n.name) ns → AllByRecursion P (names_of ns)
 all-named P [] h = tt
 all-named P (n ∷ ns) h = (h.0, all-named P ns h.1)
-
--- where none is of a list of trees
-all-absent : (ts us : Trees) (x : NodeName) → times_in ts x ≡ 0 → AllByRecursion (λ y. inside ts x y ≡ 0) (names_of (nodes us))
-all-absent ts us x h = all-from (λ y. inside ts x y ≡ 0) (λ y. inside-absent ts x y h) (names_of (nodes us))
-
--- and what is found is counted
-listed-times : (ts : Trees) (x : NodeName) → is_in name_eq x (names_of (nodes ts)) ≡ true → 1 ≤ times_in ts x
-listed-times ts x h = Rattle.dom_worlds.proofs.KindLines.has_node-times ts x h
 
 -- those before
 pub before-apart : (ts : Trees) (x : NodeName) → IsUnique ts →

@@ -102,10 +102,6 @@ slot-facts w i x s h = from (parent_at w x) refl
     from (Some p) e = at_parent p (component_at w p) e refl
         (sym (ap (λ o. option_and_then (λ c. slot_in (shadow_tree w c) (node_at w x)) (option_and_then (component_at w) o)) e) ∙ h)
 
--- a node without a parent has none,
-slot-rootless : (w : World) (x : NodeName) → parent_at w x ≡ None → slot_of w x ≡ None
-slot-rootless w x e = ap (λ o. option_and_then (λ c. slot_in (shadow_tree w c) (node_at w x)) (option_and_then (component_at w) o)) e
-
 -- nor has one of an owner that is as deep as there can be
 slot-deepest : (w : World) → IsWorld w → (x : NodeName) → max_depth ≤ owner_depth x.owner → slot_of w x ≡ None
 slot-deepest w i x h = from (slot_of w x) refl

@@ -10,7 +10,7 @@ use Rattle.dom_base.specs.declared.Owner.{Owner}
 use Rattle.dom_base.specs.declared.Owner.TheVariants.{Page}
 use Rattle.dom_base.specs.declared.NodeName.{NodeName}
 use Rattle.dom_model.specs.Tree.{times_in}
-use Rattle.dom_model.specs.Names.{owner_eq, first_of}
+use Rattle.dom_model.specs.Names.{owner_eq}
 use Rattle.dom_model.specs.Part.{Part, empty_part}
 use Rattle.dom_model.specs.World.{World, find_part, put_part, part_of, is_there, host_of, component_made, made_by, MayAttach}
 use Rattle.dom_model.proofs.OwnerLaws.{owner_eq-same, owner_eq-true, owner_eq-false, ne-owner_eq, made_by-is, component_made-number, component_made-no_page}
@@ -80,11 +80,6 @@ has-append : (xs ys : List Owner) (o : Owner) → has_owner (xs ++ ys) o ≡ (ha
 has-append [] ys o = refl
 has-append (x ∷ xs) ys o = by_cases (owner_eq x o) (λ e. rw e refl) (λ e. rw e (has-append xs ys o))
 
--- the first one
-has-first : (os : List Owner) (o : Owner) → first_of os ≡ Some o → has_owner os o ≡ true
-has-first [] o e = cc
-has-first (p ∷ os) o e = let same : p ≡ o = cc in or-first (owner_eq p o) (has_owner os o) (ap (λ q. owner_eq q o) same ∙ owner_eq-same o)
-
 -- one that passes a test
 has-passed : (f : Owner → Bool) (os : List Owner) (o : Owner) → has_owner os o ≡ true → f o ≡ true → has_owner (filter f os) o ≡ true
 has-passed f [] o h g = absurd (true≢false (sym h))
@@ -142,10 +137,6 @@ hosted-there w i o h = from (host_of w o) refl h
         subst (λ c. has_owner (components_of k.maker (length hosts)) c ≡ true) (made_by-is o k.maker k.number k.named)
         (components-has k.maker (length hosts) k.number (get-below hosts k.number (ap is_some k.found))) in
         there-listed w.parts o ∙ has-filtered (is_made_by k.maker) (owners_in w) o (ap (λ os. has_owner os o) (i.made k.maker) ∙ made)
-
--- the page is there
-pub page-there : (w : World) → HasOwners w → IsThere w Page
-page-there w i = there-listed w.parts Page ∙ has-first (owners_in w) Page i.first
 
 -- who is there, but for the page, has a host
 pub there-hosted : (w : World) → HasMakers w → HasOwners w → (o : Owner) → o ≢ Page → IsThere w o → is_some (host_of w o) ≡ true

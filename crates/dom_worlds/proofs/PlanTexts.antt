@@ -40,10 +40,6 @@ pub leads-plan : (spot : Option NodeName) (f g : Plan) (p : Part) → Leads spot
     Leads spot p ((f and_then g) p)
 leads-plan spot f g p a b = leads-then spot p (f p) (g (after p (f p))) a (b (after p (f p)) a.changed)
 
--- a step that places nothing, after others
-leads-last : (spot : Option NodeName) (q : Part) (s : Step) → IsPart q → Leads None q (s ∷ []) → Leads spot q (s ∷ [])
-leads-last spot q s i a = leads-eased spot q (s ∷ []) a
-
 -- Replacements, attributes and data.
 pub leads-replacing : (parent node child : NodeName) (p : Part) → IsPart p → MayGo parent p node → Leads (Some parent) p (replacing parent node child p)
 leads-replacing parent node child p i m =
