@@ -84,17 +84,17 @@ under-mapped : (c : NodeName → ℕ) (f : Range NodeName → Range NodeName) �
 under-mapped c f g None h = tt
 under-mapped c f g (Some r) h = g r h.0 h.1
 
--- another start
-under-start : (c : NodeName → ℕ) (ts : Trees) (b : Boundary NodeName) → Under c b → (r : Range NodeName) → Under c r.start → Under c r.end →
-    Under c (with_start ts b r).start × Under c (with_start ts b r).end
-under-start c ts b u r s e = either_way (λ (q : Range NodeName). Under c q.start × Under c q.end)
-    (same_root ts b.node r.end.node && not (is_before ts r.end b)) (from_to b r.end) (from_to b b) (u, e) (u, u)
+-- A range within bounds, and a boundary within them.
+module _ (c : NodeName → ℕ) (ts : Trees) (b : Boundary NodeName) (u : Under c b) (r : Range NodeName) (s : Under c r.start) (e : Under c r.end) where
+  -- another start
+  under-start : Under c (with_start ts b r).start × Under c (with_start ts b r).end
+  under-start = either_way (λ (q : Range NodeName). Under c q.start × Under c q.end)
+      (same_root ts b.node r.end.node && not (is_before ts r.end b)) (from_to b r.end) (from_to b b) (u, e) (u, u)
 
--- another end
-under-end : (c : NodeName → ℕ) (ts : Trees) (b : Boundary NodeName) → Under c b → (r : Range NodeName) → Under c r.start → Under c r.end →
-    Under c (with_end ts b r).start × Under c (with_end ts b r).end
-under-end c ts b u r s e = either_way (λ (q : Range NodeName). Under c q.start × Under c q.end)
-    (same_root ts b.node r.start.node && not (is_before ts b r.start)) (from_to r.start b) (from_to b b) (s, u) (u, u)
+  -- another end
+  under-end : Under c (with_end ts b r).start × Under c (with_end ts b r).end
+  under-end = either_way (λ (q : Range NodeName). Under c q.start × Under c q.end)
+      (same_root ts b.node r.start.node && not (is_before ts b r.start)) (from_to r.start b) (from_to b b) (s, u) (u, u)
 
 -- both at one of them
 under-collapsed : (c : NodeName → ℕ) (to_start : Bool) (r : Range NodeName) → Under c r.start → Under c r.end →

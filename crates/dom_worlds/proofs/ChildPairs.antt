@@ -174,35 +174,36 @@ childs-put_below parent before new (tree n c r) x y h =
       (omega arith),
     )))
 
--- other children stay where a node is placed
-pub childs-placed : (ts : Trees) (z parent : NodeName) (before : Option NodeName) (x y : NodeName) → IsUnique ts → 1 ≤ times_in ts parent →
-    inside ts z parent ≡ 0 → name_eq z x ≡ false → childs ts x y ≤ childs (placed z parent before ts) x y
-childs-placed ts z parent before x y u t h d =
-    let once = u parent in
-    let s = times-inside ts z parent in
-    let w = times-parted ts z parent u in
-    let p = (childs-put_below parent before (subtree ts z) (without z ts) x y (omega arith)).0 in
-    let q = childs-parted ts z x y u d in omega arith
+-- A node that is placed below a parent.
+module _ (ts : Trees) (z parent : NodeName) (before : Option NodeName) where
+  -- other children stay where a node is placed
+  pub childs-placed : (x y : NodeName) → IsUnique ts → 1 ≤ times_in ts parent → inside ts z parent ≡ 0 → name_eq z x ≡ false →
+      childs ts x y ≤ childs (placed z parent before ts) x y
+  childs-placed x y u t h d =
+      let once = u parent in
+      let s = times-inside ts z parent in
+      let w = times-parted ts z parent u in
+      let p = (childs-put_below parent before (subtree ts z) (without z ts) x y (omega arith)).0 in
+      let q = childs-parted ts z x y u d in omega arith
 
--- and it is a child then
-pub child-placed : (ts : Trees) (z parent : NodeName) (before : Option NodeName) → IsUnique ts → 1 ≤ times_in ts parent → inside ts z parent ≡ 0 →
-    1 ≤ times_in ts z → 1 ≤ childs (placed z parent before ts) z parent
-child-placed ts z parent before u t h k =
-    let once = u parent in
-    let s = times-inside ts z parent in
-    let w = times-parted ts z parent u in
-    let p = (childs-put_below parent before (subtree ts z) (without z ts) z parent (omega arith)).0 in
-    let one : (if name_eq parent parent then root_times (subtree ts z) z else 0) ≡ root_times (subtree ts z) z =
-    cond-true (name_eq parent parent) (root_times (subtree ts z) z) 0 (name_eq-same parent) in
-    let top = root-counted (subtree ts z) z (Rattle.dom_worlds.proofs.TreeChangeLaws.root-subtree ts z k) in omega arith
-  where
-    root-counted : (us : Trees) (x : NodeName) → HasRoot us x → 1 ≤ root_times us x
-    root-counted none x h = absurd (true≢false (sym h))
-    root-counted (tree n c r) x h =
-        by_cases (name_eq x n.name)
-        (λ e. let o : root_times (tree n c r) x ≡ 1 + root_times r x = ap (λ k. k + root_times r x)
-        (cond-true (name_eq n.name x) 1 0 (name_eq-turned n.name x ∙ e)) in omega arith)
-        (λ e. let b = root-counted r x (or-later (name_eq x n.name) (is_in name_eq x (names_of (roots r))) e h) in omega arith)
+  -- and it is a child then
+  pub child-placed : IsUnique ts → 1 ≤ times_in ts parent → inside ts z parent ≡ 0 → 1 ≤ times_in ts z → 1 ≤ childs (placed z parent before ts) z parent
+  child-placed u t h k =
+      let once = u parent in
+      let s = times-inside ts z parent in
+      let w = times-parted ts z parent u in
+      let p = (childs-put_below parent before (subtree ts z) (without z ts) z parent (omega arith)).0 in
+      let one : (if name_eq parent parent then root_times (subtree ts z) z else 0) ≡ root_times (subtree ts z) z =
+      cond-true (name_eq parent parent) (root_times (subtree ts z) z) 0 (name_eq-same parent) in
+      let top = root-counted (subtree ts z) z (Rattle.dom_worlds.proofs.TreeChangeLaws.root-subtree ts z k) in omega arith
+    where
+      root-counted : (us : Trees) (x : NodeName) → HasRoot us x → 1 ≤ root_times us x
+      root-counted none x h = absurd (true≢false (sym h))
+      root-counted (tree n c r) x h =
+          by_cases (name_eq x n.name)
+          (λ e. let o : root_times (tree n c r) x ≡ 1 + root_times r x = ap (λ k. k + root_times r x)
+          (cond-true (name_eq n.name x) 1 0 (name_eq-turned n.name x ∙ e)) in omega arith)
+          (λ e. let b = root-counted r x (or-later (name_eq x n.name) (is_in name_eq x (names_of (roots r))) e h) in omega arith)
 
 -- beside a new node
 pub childs-with_node : (n : Node) (ts : Trees) (x y : NodeName) → childs ts x y ≤ childs (with_node n ts) x y

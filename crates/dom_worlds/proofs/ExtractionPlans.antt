@@ -91,45 +91,45 @@ all-held ts r u (tree n c e) f =
     }))
     (λ k. all-held ts r u e (λ a z. let j = f a z in omega arith))
 
--- where such a node is not above the end, it is none of the children of a node above the start, nor that node
-held-misses : (p : Part) (xs : List NodeName) (y : NodeName) (r : Range NodeName) → IsPart p → AreChildren xs y p →
-    is_inclusive_ancestor p.trees y r.start.node ≡ true → (z : NodeName) → IsOnEndSide p.trees r z →
-    is_inclusive_ancestor p.trees z r.end.node ≡ false → Misses xs y z
-held-misses p xs y r i c above z h g =
-    let ts = p.trees in
-    let root = h.root in
-    let lower : name_eq root z ≡ false =
-    by_cases (name_eq root z) (λ e. absurd
-    (true≢false (sym h.above ∙ ap (λ a. is_inclusive_ancestor ts a r.end.node) (name_eq-true root z e) ∙ g))) (λ e. e) in
-    let not_over : is_inclusive_ancestor ts root y ≡ true → ⊥ = λ k. true≢false (sym (above-above ts root y r.start.node i.unique k above) ∙ h.apart) in (
-      by_cases (name_eq z y) (λ e. absurd (not_over (subst (λ a. is_inclusive_ancestor ts root a ≡ true) (name_eq-true z y e) h.over))) (λ e. e),
-      all-then (λ x. IsChild x y p) (λ x. IsNot x z)
-          (λ x k. by_cases (name_eq z x)
-          (λ e. let same = name_eq-true z x e in
-          absurd (not_over (above-parent ts root x y i.unique (child-parent p x y i k)
-          (subst (λ a. is_inclusive_ancestor ts root a ≡ true) same h.over) (subst (λ a. name_eq root a ≡ false) same lower))))
-          (λ e. e))
-          xs c.0,
-    )
+-- A range of a part, and children of a node that stay.
+module _ (p : Part) (xs : List NodeName) (y : NodeName) (r : Range NodeName) (i : IsPart p) where
+  -- where such a node is not above the end, it is none of the children of a node above the start, nor that node
+  held-misses : AreChildren xs y p → is_inclusive_ancestor p.trees y r.start.node ≡ true → (z : NodeName) → IsOnEndSide p.trees r z →
+      is_inclusive_ancestor p.trees z r.end.node ≡ false → Misses xs y z
+  held-misses c above z h g =
+      let ts = p.trees in
+      let root = h.root in
+      let lower : name_eq root z ≡ false =
+      by_cases (name_eq root z) (λ e. absurd
+      (true≢false (sym h.above ∙ ap (λ a. is_inclusive_ancestor ts a r.end.node) (name_eq-true root z e) ∙ g))) (λ e. e) in
+      let not_over : is_inclusive_ancestor ts root y ≡ true → ⊥ = λ k. true≢false (sym (above-above ts root y r.start.node i.unique k above) ∙ h.apart) in (
+        by_cases (name_eq z y) (λ e. absurd (not_over (subst (λ a. is_inclusive_ancestor ts root a ≡ true) (name_eq-true z y e) h.over))) (λ e. e),
+        all-then (λ x. IsChild x y p) (λ x. IsNot x z)
+            (λ x k. by_cases (name_eq z x)
+            (λ e. let same = name_eq-true z x e in
+            absurd (not_over (above-parent ts root x y i.unique (child-parent p x y i k)
+            (subst (λ a. is_inclusive_ancestor ts root a ≡ true) same h.over) (subst (λ a. name_eq root a ≡ false) same lower))))
+            (λ e. e))
+            xs c.0,
+      )
 
--- the pieces of a range
-fit-range : (p : Part) (xs : List NodeName) (y : NodeName) (r : Range NodeName) → IsPart p → HasNode p r.start.node → IsSpared p.trees r y xs →
-    AreChildren xs y p → AreFit (Misses xs y) (IsData p) (IsOpenIn p) (pieces_of p.trees r)
-fit-range p xs y r i t s c =
-    let ts = p.trees in
-    let W = Misses xs y in
-    let a = common_ancestor ts r in
-    let below = common_below ts r in
-    let Read : Node → Type 0 = λ n. (1 ≤ times_in ts n.name) × (n ≡ node_in ts n.name) in
-    let clonable = nodes-then Read (IsClonable (IsData p) (IsOpenIn p))
-    (λ n h. let kind = sym (ap (λ (m : Node). has_data m.kind) h.1) in ((λ d. (h.0, kind ∙ d)), (λ d. (h.0, kind ∙ d)))) below
-    (common-read ts r i.unique) in
-    let early = nodes-named (λ z. is_before ts r.start (at z 0) ≡ true → W z) below (λ z m k. early-not ts r z k (y ∷ xs) (s.parent, s.children)) in
-    let held = all-held ts r i.unique below (λ x z. let b = inside-below (subtree ts a) x z in let w = inside-without ts a x z in omega arith) in
-    let last = nodes-then (λ n. IsOnEndSide ts r n.name) (λ n. is_inclusive_ancestor ts n.name r.end.node ≡ false → W n.name)
-    (λ n h. held-misses p xs y r i c s.above n.name h) (tree_holding ts r.end.node r.start.node below) held in
-    fit-pieces W (IsData p) (IsOpenIn p) ts r (λ e. (t, (and_parts (name_eq r.start.node r.end.node) (has_data (kind_of ts r.start.node)) e).1))
-    (fit-apart W (IsData p) (IsOpenIn p) ts r clonable early last)
+  -- the pieces of a range
+  fit-range : HasNode p r.start.node → IsSpared p.trees r y xs → AreChildren xs y p → AreFit (Misses xs y) (IsData p) (IsOpenIn p) (pieces_of p.trees r)
+  fit-range t s c =
+      let ts = p.trees in
+      let W = Misses xs y in
+      let a = common_ancestor ts r in
+      let below = common_below ts r in
+      let Read : Node → Type 0 = λ n. (1 ≤ times_in ts n.name) × (n ≡ node_in ts n.name) in
+      let clonable = nodes-then Read (IsClonable (IsData p) (IsOpenIn p))
+      (λ n h. let kind = sym (ap (λ (m : Node). has_data m.kind) h.1) in ((λ d. (h.0, kind ∙ d)), (λ d. (h.0, kind ∙ d)))) below
+      (common-read ts r i.unique) in
+      let early = nodes-named (λ z. is_before ts r.start (at z 0) ≡ true → W z) below (λ z m k. early-not ts r z k (y ∷ xs) (s.parent, s.children)) in
+      let held = all-held ts r i.unique below (λ x z. let b = inside-below (subtree ts a) x z in let w = inside-without ts a x z in omega arith) in
+      let last = nodes-then (λ n. IsOnEndSide ts r n.name) (λ n. is_inclusive_ancestor ts n.name r.end.node ≡ false → W n.name)
+      (λ n h. held-misses c s.above n.name h) (tree_holding ts r.end.node r.start.node below) held in
+      fit-pieces W (IsData p) (IsOpenIn p) ts r (λ e. (t, (and_parts (name_eq r.start.node r.end.node) (has_data (kind_of ts r.start.node)) e).1))
+      (fit-apart W (IsData p) (IsOpenIn p) ts r clonable early last)
 
 -- pieces that were there before a new node are old
 pieces-old : (p q : Part) → Changed None p q → IsPart p → (pieces : Pieces) → Rattle.dom_worlds.proofs.Plans.AllWhole (HasNode p) pieces →

@@ -174,19 +174,19 @@ proper-of p r e w = record {
   within = w;
 }
 
--- a deletion
-pub deletion-keeps : (k : ℕ) (r : Range NodeName) (p : Part) → IsPart p → HasEnds p.trees r → IsWithin p.trees r.start → HasBounds p →
-    HasBounds (after p (deleting k r p))
-deletion-keeps k r p i e w h =
-    let g = proper-of p r e w in
-    bounds-of (after p (deleting k r p)) (leads-deleting k r p i g.start).changed.part (room-deleting k r p i g (room-of p i h))
+-- A range of a part with bounds: its ends are nodes, and its start is within its node.
+module _ (k : ℕ) (r : Range NodeName) (p : Part) (i : IsPart p) (e : HasEnds p.trees r) (w : IsWithin p.trees r.start) (h : HasBounds p) where
+  -- a deletion
+  pub deletion-keeps : HasBounds (after p (deleting k r p))
+  deletion-keeps =
+      let g = proper-of p r e w in
+      bounds-of (after p (deleting k r p)) (leads-deleting k r p i g.start).changed.part (room-deleting k r p i g (room-of p i h))
 
--- an extraction
-pub extraction-keeps : (k : ℕ) (r : Range NodeName) (p : Part) → IsPart p → HasEnds p.trees r → IsWithin p.trees r.start → HasBounds p →
-    HasBounds (after p (extracting k r p))
-extraction-keeps k r p i e w h =
-    let g = proper-of p r e w in
-    bounds-of (after p (extracting k r p)) (leads-extracting k r p i g.start).changed.part (room-extracting k r p i g (room-of p i h))
+  -- an extraction
+  pub extraction-keeps : HasBounds (after p (extracting k r p))
+  extraction-keeps =
+      let g = proper-of p r e w in
+      bounds-of (after p (extracting k r p)) (leads-extracting k r p i g.start).changed.part (room-extracting k r p i g (room-of p i h))
 
 -- a test that refuses does not hold of what is accepted
 pub takes : (b : Bool) (r : Option Refusal) → (if b then Some Hierarchy else r) ≡ None → b ≡ false

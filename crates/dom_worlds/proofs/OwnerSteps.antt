@@ -62,14 +62,15 @@ same-people v w same turn tasks signalled i =
       makers = makers-same v w same.1 i.makers;
     }
 
--- A part that is there is written, with its hosts.
-people-with_part : (w : World) (p : Part) (o : Owner) → p.owner ≡ o → IsThere w o → p.attached ≡ (part_of w o).attached → SamePeople (with_part w p) w
-people-with_part w p o e h a = (owners-put w.parts p (subst (IsThere w) (sym e) h), attached-with_part w p o e a)
+-- A part of an owner that is there, with the same attached hosts.
+module _ (w : World) (p : Part) (o : Owner) (e : p.owner ≡ o) (h : IsThere w o) (a : p.attached ≡ (part_of w o).attached) where
+  -- A part that is there is written, with its hosts.
+  people-with_part : SamePeople (with_part w p) w
+  people-with_part = (owners-put w.parts p (subst (IsThere w) (sym e) h), attached-with_part w p o e a)
 
--- it keeps who is there
-pub peopled-with_part : (w : World) (p : Part) (o : Owner) → p.owner ≡ o → IsThere w o → p.attached ≡ (part_of w o).attached → IsPeopled w →
-    IsPeopled (with_part w p)
-peopled-with_part w p o e h a i = same-people (with_part w p) w (people-with_part w p o e h a) i.owners.turn i.owners.tasks i.owners.signalled i
+  -- it keeps who is there
+  pub peopled-with_part : IsPeopled w → IsPeopled (with_part w p)
+  peopled-with_part i = same-people (with_part w p) w (people-with_part) i.owners.turn i.owners.tasks i.owners.signalled i
 
 -- a step in its part leaves owners and hosts
 people-stepped : (w : World) (o : Owner) (s : Step) → IsThere w o → SamePeople (stepped o w s) w

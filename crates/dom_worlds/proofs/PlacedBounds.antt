@@ -91,43 +91,46 @@ root-adopted d x p i h P a b =
     (documented d x q P (subst (λ (r : Part). P r.trees) (sym same) a)
     (subst (λ (r : Part). P (part_step r (set_document x d)).trees) (sym same) b))
 
--- children
-kids-root_adopted : (d x y : NodeName) (p : Part) → IsPart p → HasRoot p.trees x → kids (after p (adopting d x p)).trees y ≡ kids p.trees y
-kids-root_adopted d x y p i h =
-    root-adopted d x p i h (λ ts. kids ts y ≡ kids p.trees y) refl
-    (kids-map_nodes (λ n. if is_in name_eq n.name (inclusive_descendants p.trees x) then with_document d n else n)
-    (λ n. (some-keeps (λ (n : Node). is_in name_eq n.name (inclusive_descendants p.trees x)) (with_document d) (λ n. (refl, refl)) n).0)
-    p.trees y)
+-- The adoption of a root.
+module _ (d x y : NodeName) (p : Part) (i : IsPart p) (h : HasRoot p.trees x) where
+  -- children
+  kids-root_adopted : kids (after p (adopting d x p)).trees y ≡ kids p.trees y
+  kids-root_adopted =
+      root-adopted d x p i h (λ ts. kids ts y ≡ kids p.trees y) refl
+      (kids-map_nodes (λ n. if is_in name_eq n.name (inclusive_descendants p.trees x) then with_document d n else n)
+      (λ n. (some-keeps (λ (n : Node). is_in name_eq n.name (inclusive_descendants p.trees x)) (with_document d) (λ n. (refl, refl)) n).0)
+      p.trees y)
 
--- other roots
-roots-root_adopted : (d x y : NodeName) (p : Part) → IsPart p → HasRoot p.trees x → HasRoot p.trees y → HasRoot (after p (adopting d x p)).trees y
-roots-root_adopted d x y p i h r =
-    root-adopted d x p i h (λ ts. HasRoot ts y) r
-    (root-map_nodes (λ n. if is_in name_eq n.name (inclusive_descendants p.trees x) then with_document d n else n)
-    (λ n. (some-keeps (λ (n : Node). is_in name_eq n.name (inclusive_descendants p.trees x)) (with_document d) (λ n. (refl, refl)) n).0)
-    p.trees y r)
+  -- other roots
+  roots-root_adopted : HasRoot p.trees y → HasRoot (after p (adopting d x p)).trees y
+  roots-root_adopted r =
+      root-adopted d x p i h (λ ts. HasRoot ts y) r
+      (root-map_nodes (λ n. if is_in name_eq n.name (inclusive_descendants p.trees x) then with_document d n else n)
+      (λ n. (some-keeps (λ (n : Node). is_in name_eq n.name (inclusive_descendants p.trees x)) (with_document d) (λ n. (refl, refl)) n).0)
+      p.trees y r)
 
--- a root that is placed
-kids-root_placed : (parent : NodeName) (before : Option NodeName) (p : Part) (x : NodeName) → IsPart p → MayGo parent p x → HasRoot p.trees x →
-    (y : NodeName) → kids (after p (placing parent before x p)).trees y ≡ kids p.trees y + one_at parent y
-kids-root_placed parent before p x i m h y =
-    let doc = document_below p.trees parent in
-    let steps = adopting doc x p in
-    let q = after p steps in
-    let first = leads-eased (Some parent) p steps (leads-adopting doc x p i m.owner) in
-    let n = may-still parent p q x first.changed m in
-    let a = kids-root_adopted doc x y p i h in
-    let b = kids-placed q.trees x parent before y first.changed.part.unique n.below n.apart (root-adopting doc x p m.there) in
-    let c = ap (λ (r : Part). kids r.trees y) (after-append p steps (place x parent before ∷ [])) in omega arith
+-- The placing of a node.
+module _ (parent : NodeName) (before : Option NodeName) (p : Part) (x : NodeName) (i : IsPart p) where
+  -- a root that is placed
+  kids-root_placed : MayGo parent p x → HasRoot p.trees x → (y : NodeName) → kids (after p (placing parent before x p)).trees y
+      ≡ kids p.trees y + one_at parent y
+  kids-root_placed m h y =
+      let doc = document_below p.trees parent in
+      let steps = adopting doc x p in
+      let q = after p steps in
+      let first = leads-eased (Some parent) p steps (leads-adopting doc x p i m.owner) in
+      let n = may-still parent p q x first.changed m in
+      let a = kids-root_adopted doc x y p i h in
+      let b = kids-placed q.trees x parent before y first.changed.part.unique n.below n.apart (root-adopting doc x p m.there) in
+      let c = ap (λ (r : Part). kids r.trees y) (after-append p steps (place x parent before ∷ [])) in omega arith
 
--- leaves other roots
-roots-root_placed : (parent : NodeName) (before : Option NodeName) (p : Part) (x : NodeName) → IsPart p → HasRoot p.trees x → (y : NodeName) →
-    name_eq x y ≡ false → HasRoot p.trees y → HasRoot (after p (placing parent before x p)).trees y
-roots-root_placed parent before p x i h y e r =
-    let doc = document_below p.trees parent in
-    let steps = adopting doc x p in
-    subst (λ (q : Part). HasRoot q.trees y) (sym (after-append p steps (place x parent before ∷ [])))
-    (root-placed x parent before (after p steps).trees y e (roots-root_adopted doc x y p i h r))
+  -- leaves other roots
+  roots-root_placed : HasRoot p.trees x → (y : NodeName) → name_eq x y ≡ false → HasRoot p.trees y → HasRoot (after p (placing parent before x p)).trees y
+  roots-root_placed h y e r =
+      let doc = document_below p.trees parent in
+      let steps = adopting doc x p in
+      subst (λ (q : Part). HasRoot q.trees y) (sym (after-append p steps (place x parent before ∷ [])))
+      (root-placed x parent before (after p steps).trees y e (roots-root_adopted doc x y p i h r))
 
 -- all of them
 kids-roots_placed : (parent : NodeName) (before : Option NodeName) (xs : List NodeName) (p : Part) → IsPart p →
@@ -146,58 +149,59 @@ kids-roots_placed parent before (x ∷ xs) p i m r d =
     (all-both (HasRoot p.trees) (λ y. name_eq x y ≡ false) xs r.1 d.0)) d.1 in
     let e = ap (λ (s : Part). kids s.trees parent) (after-append p steps (in_turn (placing parent before) xs q)) in omega arith
 
--- An insertion, by what is placed: the children of its parent are that many more.
-pub kids-inserted : (how : Observing) (node parent : NodeName) (before : Option NodeName) (p : Part) → IsPart p → MayGo parent p node →
-    let moved = placed_nodes p.trees node in let q = after p (emptied_of p node p) in
-    AllByRecursion (HasRoot q.trees) moved → Distinct moved → kids q.trees parent ≡ kids p.trees parent →
-    kids (after p (inserting how node parent before p)).trees parent ≡ kids p.trees parent + length moved
-kids-inserted how node parent before p i m roots distinct same =
-    let spot = Some parent in
-    let moved = placed_nodes p.trees node in
-    let told = telling how (child_list parent moved [] (sibling_before p.trees parent before) before) in
-    let one = emptied_of p node p in
-    let a = leads-eased spot p one (leads-emptied node p i) in
-    let q = after p one in
-    let two = making_room parent before (length moved) q in
-    let r = after p (one ++ two) in
-    let r_trees : r.trees ≡ q.trees = ap (λ (s : Part). s.trees) (after-append p one two) ∙ unmoved before (length moved) q in
-    let ab = leads-then spot p one two a (leads-eased spot q two (leads-making_room parent before (length moved) q a.changed.part)) in
-    let three = in_turn (placing parent before) moved r in
-    let placed_all = kids-roots_placed parent before moved r ab.changed.part
-    (all-then (MayGo parent p) (MayGo parent r) (λ y. may-still parent p r y ab.changed) moved (placed-may parent p node i m))
-    (subst (λ ts. AllByRecursion (HasRoot ts) moved) (sym r_trees) roots) distinct in
-    let s = after p ((one ++ two) ++ three) in
-    let s_trees = ap (λ (t : Part). kids t.trees parent) (after-append p (one ++ two) three) in
-    let end = ap (λ (t : Part). kids t.trees parent) (after-append p ((one ++ two) ++ three) told) in
-    let quiet = ap (λ ts. kids ts parent) (telling-trees how (child_list parent moved [] (sibling_before p.trees parent before) before) s) in
-    let before_all = ap (λ ts. kids ts parent) r_trees in
-    from (is_empty moved) moved refl (inserting_nodes how node moved parent before p) (omega arith)
-  where
-    unmoved : (before : Option NodeName) (count : ℕ) (q : Part) → (after q (making_room parent before count q)).trees ≡ q.trees
-    unmoved None count q = refl
-    unmoved (Some child) count q = refl
+-- The insertion of a node that may go below the parent.
+module _ (how : Observing) (node parent : NodeName) (before : Option NodeName) (p : Part) (i : IsPart p) (m : MayGo parent p node) where
+  -- An insertion, by what is placed: the children of its parent are that many more.
+  pub kids-inserted : let moved = placed_nodes p.trees node in let q = after p (emptied_of p node p) in AllByRecursion (HasRoot q.trees) moved →
+      Distinct moved → kids q.trees parent ≡ kids p.trees parent → kids (after p (inserting how node parent before p)).trees parent
+      ≡ kids p.trees parent + length moved
+  kids-inserted roots distinct same =
+      let spot = Some parent in
+      let moved = placed_nodes p.trees node in
+      let told = telling how (child_list parent moved [] (sibling_before p.trees parent before) before) in
+      let one = emptied_of p node p in
+      let a = leads-eased spot p one (leads-emptied node p i) in
+      let q = after p one in
+      let two = making_room parent before (length moved) q in
+      let r = after p (one ++ two) in
+      let r_trees : r.trees ≡ q.trees = ap (λ (s : Part). s.trees) (after-append p one two) ∙ unmoved before (length moved) q in
+      let ab = leads-then spot p one two a (leads-eased spot q two (leads-making_room parent before (length moved) q a.changed.part)) in
+      let three = in_turn (placing parent before) moved r in
+      let placed_all = kids-roots_placed parent before moved r ab.changed.part
+      (all-then (MayGo parent p) (MayGo parent r) (λ y. may-still parent p r y ab.changed) moved (placed-may parent p node i m))
+      (subst (λ ts. AllByRecursion (HasRoot ts) moved) (sym r_trees) roots) distinct in
+      let s = after p ((one ++ two) ++ three) in
+      let s_trees = ap (λ (t : Part). kids t.trees parent) (after-append p (one ++ two) three) in
+      let end = ap (λ (t : Part). kids t.trees parent) (after-append p ((one ++ two) ++ three) told) in
+      let quiet = ap (λ ts. kids ts parent) (telling-trees how (child_list parent moved [] (sibling_before p.trees parent before) before) s) in
+      let before_all = ap (λ ts. kids ts parent) r_trees in
+      from (is_empty moved) moved refl (inserting_nodes how node moved parent before p) (omega arith)
+    where
+      unmoved : (before : Option NodeName) (count : ℕ) (q : Part) → (after q (making_room parent before count q)).trees ≡ q.trees
+      unmoved None count q = refl
+      unmoved (Some child) count q = refl
 
-    from : (b : Bool) (moved : List NodeName) → is_empty moved ≡ b → (steps : List Step) →
-        kids (after p steps).trees parent ≡ kids p.trees parent + length moved →
-        kids (after p (if b then [] else steps)).trees parent ≡ kids p.trees parent + length moved
-    from false moved e steps h = h
-    from true [] e steps h = omega arith
-    from true (x ∷ moved) e steps h = absurd (true≢false (sym e))
+      from : (b : Bool) (moved : List NodeName) → is_empty moved ≡ b → (steps : List Step) →
+          kids (after p steps).trees parent ≡ kids p.trees parent + length moved →
+          kids (after p (if b then [] else steps)).trees parent ≡ kids p.trees parent + length moved
+      from false moved e steps h = h
+      from true [] e steps h = omega arith
+      from true (x ∷ moved) e steps h = absurd (true≢false (sym e))
 
--- of a root that is no fragment
-pub kids-plain : (how : Observing) (node parent : NodeName) (before : Option NodeName) (p : Part) → IsPart p → MayGo parent p node →
-    HasRoot p.trees node → is_fragment (kind_of p.trees node) ≡ false →
-    kids (after p (inserting how node parent before p)).trees parent ≡ kids p.trees parent + 1
-kids-plain how node parent before p i m h k =
-    let moved = placed_nodes p.trees node in
-    let alone : moved ≡ node ∷ [] = cond-false (is_fragment (kind_of p.trees node)) (children_of p.trees node) (node ∷ []) k in
-    let none_made : emptied_of p node p ≡ [] = ap (λ (f : Plan). f p) (cond-false (is_fragment (kind_of p.trees node)) (emptying node moved) (steps_of []) k) in
-    let same : after p (emptied_of p node p) ≡ p = ap (after p) none_made in
-    let size = ap length alone in
-    let g = kids-inserted how node parent before p i m
-    (subst (λ (q : Part). AllByRecursion (HasRoot q.trees) moved) (sym same)
-    (subst (AllByRecursion (HasRoot p.trees)) (sym alone) (h, tt))) (subst Distinct (sym alone) (tt, tt))
-    (ap (λ (q : Part). kids q.trees parent) same) in omega arith
+  -- of a root that is no fragment
+  pub kids-plain : HasRoot p.trees node → is_fragment (kind_of p.trees node) ≡ false → kids (after p (inserting how node parent before p)).trees parent
+      ≡ kids p.trees parent + 1
+  kids-plain h k =
+      let moved = placed_nodes p.trees node in
+      let alone : moved ≡ node ∷ [] = cond-false (is_fragment (kind_of p.trees node)) (children_of p.trees node) (node ∷ []) k in
+      let none_made : emptied_of p node p
+      ≡ [] = ap (λ (f : Plan). f p) (cond-false (is_fragment (kind_of p.trees node)) (emptying node moved) (steps_of []) k) in
+      let same : after p (emptied_of p node p) ≡ p = ap (after p) none_made in
+      let size = ap length alone in
+      let g = kids-inserted
+      (subst (λ (q : Part). AllByRecursion (HasRoot q.trees) moved) (sym same)
+      (subst (AllByRecursion (HasRoot p.trees)) (sym alone) (h, tt))) (subst Distinct (sym alone) (tt, tt))
+      (ap (λ (q : Part). kids q.trees parent) same) in omega arith
 
 -- Texts, through insertions.
 texts-placing : (parent : NodeName) (before : Option NodeName) (p : Part) (x : NodeName) → IsPart p → MayGo parent p x →

@@ -133,53 +133,54 @@ above-kids p x z i h d =
     some-rooted Rattle.dom_model.specs.Tree.none z h = absurd (omega arith)
     some-rooted (Rattle.dom_model.specs.Tree.tree n c r) z h = omega arith
 
--- Where the start node is no inclusive ancestor of the end node, the new place is behind a node above the start.
-room-outer : (p : Part) (r : Range NodeName) → IsPart p → HasRoom nowhere p → HasNode p r.start.node → HasNode p r.end.node →
-    same_root p.trees r.start.node r.end.node ≡ true → is_inclusive_ancestor p.trees r.start.node r.end.node ≡ false →
-    let above = filter (λ a. not (is_inclusive_ancestor p.trees a r.end.node)) (inclusive_ancestors p.trees r.start.node) in IsRoomAt p r
-    (behind_node p.trees (unwrap_or (last_of above) r.start.node))
-room-outer p r i h t te one apart =
-    let ts = p.trees in
-    let start = r.start.node in
-    let outside = λ (a : NodeName). not (is_inclusive_ancestor ts a r.end.node) in
-    let above = filter outside (inclusive_ancestors ts start) in
-    let F : NodeName → Type 0 = λ a. (HasNode p a × (root_of ts a ≡ root_of ts start)) × (is_inclusive_ancestor ts a start ≡ true) in
-    let all : AllByRecursion F (inclusive_ancestors ts start) =
-    Rattle.dom_worlds.proofs.Trees.all-both (λ a. HasNode p a × (root_of ts a ≡ root_of ts start)) (λ a. is_inclusive_ancestor ts a start ≡ true)
-    (inclusive_ancestors ts start)
-    (Rattle.dom_worlds.proofs.Trees.all-both (HasNode p) (λ a. root_of ts a ≡ root_of ts start) (inclusive_ancestors ts start)
-    (ancestors-there ts start) (ancestors-root ts i.unique start)) (listed-each (inclusive_ancestors ts start)) in
-    let G : NodeName → Type 0 = λ a. F a × (outside a ≡ true) in
-    let kept : AllByRecursion G above = Rattle.dom_worlds.proofs.TableRecords.all-kept F outside (inclusive_ancestors ts start) all in
-    let own : G start = (((t, refl), self-above ts start t), ap not apart) in
-    chosen (last_of above) (last-all G above kept) own
-  where
-    placed : (a : NodeName) → HasNode p a → root_of p.trees a ≡ root_of p.trees r.start.node → is_inclusive_ancestor p.trees a r.start.node ≡ true →
-        not (is_inclusive_ancestor p.trees a r.end.node) ≡ true → (o : Option NodeName) → parent_of p.trees a ≡ o →
-        IsRoomAt p r (at (unwrap_or o a) (suc (index_of p.trees a)))
-    placed a ta same up out None e =
-        let ts = p.trees in
-        let root = root-itself ts a i.unique ta e in
-        let end_root : root_of ts r.end.node ≡ a = sym (name_eq-true (root_of ts r.start.node) (root_of ts r.end.node) one) ∙ sym same ∙ root in
-        absurd (true≢false (sym (ap (λ x. is_inclusive_ancestor ts x r.end.node) (sym end_root) ∙ root-above ts r.end.node te) ∙
-        not-true (is_inclusive_ancestor ts a r.end.node) out))
-    placed a ta same up out (Some y) e = room-behind p r a y i h ta e up
+-- A range of a part with room, whose ends are nodes of one tree.
+module _ (p : Part) (r : Range NodeName) (i : IsPart p) (h : HasRoom nowhere p) (t : HasNode p r.start.node) (te : HasNode p r.end.node)
+    (one : same_root p.trees r.start.node r.end.node ≡ true) where
+  -- Where the start node is no inclusive ancestor of the end node, the new place is behind a node above the start.
+  room-outer : is_inclusive_ancestor p.trees r.start.node r.end.node ≡ false →
+      let above = filter (λ a. not (is_inclusive_ancestor p.trees a r.end.node)) (inclusive_ancestors p.trees r.start.node) in
+      IsRoomAt p r (behind_node p.trees (unwrap_or (last_of above) r.start.node))
+  room-outer apart =
+      let ts = p.trees in
+      let start = r.start.node in
+      let outside = λ (a : NodeName). not (is_inclusive_ancestor ts a r.end.node) in
+      let above = filter outside (inclusive_ancestors ts start) in
+      let F : NodeName → Type 0 = λ a. (HasNode p a × (root_of ts a ≡ root_of ts start)) × (is_inclusive_ancestor ts a start ≡ true) in
+      let all : AllByRecursion F (inclusive_ancestors ts start) =
+      Rattle.dom_worlds.proofs.Trees.all-both (λ a. HasNode p a × (root_of ts a ≡ root_of ts start)) (λ a. is_inclusive_ancestor ts a start ≡ true)
+      (inclusive_ancestors ts start)
+      (Rattle.dom_worlds.proofs.Trees.all-both (HasNode p) (λ a. root_of ts a ≡ root_of ts start) (inclusive_ancestors ts start)
+      (ancestors-there ts start) (ancestors-root ts i.unique start)) (listed-each (inclusive_ancestors ts start)) in
+      let G : NodeName → Type 0 = λ a. F a × (outside a ≡ true) in
+      let kept : AllByRecursion G above = Rattle.dom_worlds.proofs.TableRecords.all-kept F outside (inclusive_ancestors ts start) all in
+      let own : G start = (((t, refl), self-above ts start t), ap not apart) in
+      chosen (last_of above) (last-all G above kept) own
+    where
+      placed : (a : NodeName) → HasNode p a → root_of p.trees a ≡ root_of p.trees r.start.node → is_inclusive_ancestor p.trees a r.start.node ≡ true →
+          not (is_inclusive_ancestor p.trees a r.end.node) ≡ true → (o : Option NodeName) → parent_of p.trees a ≡ o →
+          IsRoomAt p r (at (unwrap_or o a) (suc (index_of p.trees a)))
+      placed a ta same up out None e =
+          let ts = p.trees in
+          let root = root-itself ts a i.unique ta e in
+          let end_root : root_of ts r.end.node ≡ a = sym (name_eq-true (root_of ts r.start.node) (root_of ts r.end.node) one) ∙ sym same ∙ root in
+          absurd (true≢false (sym (ap (λ x. is_inclusive_ancestor ts x r.end.node) (sym end_root) ∙ root-above ts r.end.node te) ∙
+          not-true (is_inclusive_ancestor ts a r.end.node) out))
+      placed a ta same up out (Some y) e = room-behind p r a y i h ta e up
 
-    chosen : (o : Option NodeName) → IfSome
-        (λ a. ((HasNode p a × (root_of p.trees a ≡ root_of p.trees r.start.node)) × (is_inclusive_ancestor p.trees a r.start.node ≡ true)) ×
-        (not (is_inclusive_ancestor p.trees a r.end.node) ≡ true)) o →
-        (((HasNode p r.start.node × (root_of p.trees r.start.node ≡ root_of p.trees r.start.node)) ×
-        (is_inclusive_ancestor p.trees r.start.node r.start.node ≡ true)) ×
-        (not (is_inclusive_ancestor p.trees r.start.node r.end.node) ≡ true)) → IsRoomAt p r (behind_node p.trees (unwrap_or o r.start.node))
-    chosen None k own = placed r.start.node own.0.0.0 own.0.0.1 own.0.1 own.1 (parent_of p.trees r.start.node) refl
-    chosen (Some a) k own = placed a k.0.0.0 k.0.0.1 k.0.1 k.1 (parent_of p.trees a) refl
+      chosen : (o : Option NodeName) → IfSome
+          (λ a. ((HasNode p a × (root_of p.trees a ≡ root_of p.trees r.start.node)) × (is_inclusive_ancestor p.trees a r.start.node ≡ true)) ×
+          (not (is_inclusive_ancestor p.trees a r.end.node) ≡ true)) o →
+          (((HasNode p r.start.node × (root_of p.trees r.start.node ≡ root_of p.trees r.start.node)) ×
+          (is_inclusive_ancestor p.trees r.start.node r.start.node ≡ true)) ×
+          (not (is_inclusive_ancestor p.trees r.start.node r.end.node) ≡ true)) → IsRoomAt p r (behind_node p.trees (unwrap_or o r.start.node))
+      chosen None k own = placed r.start.node own.0.0.0 own.0.0.1 own.0.1 own.1 (parent_of p.trees r.start.node) refl
+      chosen (Some a) k own = placed a k.0.0.0 k.0.0.1 k.0.1 k.1 (parent_of p.trees a) refl
 
--- The new place has room, unless it is in a Text or a Comment.
-pub room-place_new : (p : Part) (r : Range NodeName) → IsPart p → HasRoom nowhere p → HasNode p r.start.node → HasNode p r.end.node →
-    same_root p.trees r.start.node r.end.node ≡ true → r.start.offset ≤ length_of p.trees r.start.node →
-    (is_inclusive_ancestor p.trees r.start.node r.end.node ≡ true → IsOpen p r.start.node) → IsRoomAt p r (new_place p.trees r)
-room-place_new p r i h t te one le opened =
-    let above = filter (λ a. not (is_inclusive_ancestor p.trees a r.end.node)) (inclusive_ancestors p.trees r.start.node) in
-    Rattle.dom_worlds.proofs.Tests.which_way (IsRoomAt p r) (is_inclusive_ancestor p.trees r.start.node r.end.node) r.start
-    (behind_node p.trees (unwrap_or (last_of above) r.start.node))
-    (λ e. room-start p r i t (opened e) le) (λ e. room-outer p r i h t te one e)
+  -- The new place has room, unless it is in a Text or a Comment.
+  pub room-place_new : r.start.offset ≤ length_of p.trees r.start.node → (is_inclusive_ancestor p.trees r.start.node r.end.node ≡ true →
+      IsOpen p r.start.node) → IsRoomAt p r (new_place p.trees r)
+  room-place_new le opened =
+      let above = filter (λ a. not (is_inclusive_ancestor p.trees a r.end.node)) (inclusive_ancestors p.trees r.start.node) in
+      Rattle.dom_worlds.proofs.Tests.which_way (IsRoomAt p r) (is_inclusive_ancestor p.trees r.start.node r.end.node) r.start
+      (behind_node p.trees (unwrap_or (last_of above) r.start.node))
+      (λ e. room-start p r i t (opened e) le) (λ e. room-outer e)

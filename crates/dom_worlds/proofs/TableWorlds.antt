@@ -76,17 +76,18 @@ frame-grown w v g t r s f = record {
   signalled = all-then (IsNodeAt w) (IsNodeAt v) (λ x. g x.owner x) v.signalled s;
 }
 
--- another part
-pub frame-with_part : (w : World) (p : Part) (o : Owner) → p.owner ≡ o → HasTables p → HasRecords p → Grows (part_of w o).trees p.trees →
-    Frame w → Frame (with_part w p)
-frame-with_part w p o e h r g f =
-    frame-grown w (with_part w p) (grow-with_part w p o e g) (each-part (λ x q. HasTables q) w p o e h f.tables)
-    (each-part (λ x q. HasRecords q) w p o e r f.records) f.signalled f
+-- A part that is written for its owner.
+module _ (w : World) (p : Part) (o : Owner) (e : p.owner ≡ o) where
+  -- another part
+  pub frame-with_part : HasTables p → HasRecords p → Grows (part_of w o).trees p.trees → Frame w → Frame (with_part w p)
+  frame-with_part h r g f =
+      frame-grown w (with_part w p) (grow-with_part w p o e g) (each-part (λ x q. HasTables q) w p o e h f.tables)
+      (each-part (λ x q. HasRecords q) w p o e r f.records) f.signalled f
 
--- with its hosts
-ground-with_part : (w : World) (p : Part) (o : Owner) → p.owner ≡ o → IsPart p → p.attached ≡ (part_of w o).attached → Ground w → Ground (with_part w p)
-ground-with_part w p o e i a g =
-    record { parts = each-part (λ x q. IsPart q) w p o e i g.parts; makers = makers-same (with_part w p) w (attached-with_part w p o e a) g.makers }
+  -- with its hosts
+  ground-with_part : IsPart p → p.attached ≡ (part_of w o).attached → Ground w → Ground (with_part w p)
+  ground-with_part i a g =
+      record { parts = each-part (λ x q. IsPart q) w p o e i g.parts; makers = makers-same (with_part w p) w (attached-with_part w p o e a) g.makers }
 
 -- What is asked of a step: it fits where it is made, and what it records is there.
 abbrev pub Suits : Part → Step → Type 0
@@ -213,19 +214,19 @@ ground-each_signal : (ss : List NodeName) (w : World) → Ground w → Ground (f
 ground-each_signal [] w g = g
 ground-each_signal (s ∷ ss) w g = ground-each_signal ss (with_signal w s) (record { parts = g.parts; makers = g.makers })
 
--- the signals of a step
-frame-signals : (o : Owner) (w : World) (s : Step) → Suits (part_of w o) s → Ground w → Frame w → (x around : NodeName) (is_move : Bool) →
-    Frame (with_signals w (stepped o w s) x around is_move)
-frame-signals o w s h g f x around is_move =
-    let now = stepped o w s in
-    frame-each_signal (signals w now x around is_move) now
-    (signals-at w now g (ground-stepped o w s g) (grow-stepped o w s h.0 g) x around is_move) (frame-stepped o w s h g f)
+-- A step that suits an owner's part, in a world with its frame.
+module _ (o : Owner) (w : World) (s : Step) (h : Suits (part_of w o) s) (g : Ground w) (f : Frame w) where
+  -- the signals of a step
+  frame-signals : (x around : NodeName) → (is_move : Bool) → Frame (with_signals w (stepped o w s) x around is_move)
+  frame-signals x around is_move =
+      let now = stepped o w s in
+      frame-each_signal (signals w now x around is_move) now
+      (signals-at w now g (ground-stepped o w s g) (grow-stepped o w s h.0 g) x around is_move) (frame-stepped o w s h g f)
 
--- of a removal
-frame-removal : (o : Owner) (w : World) (s : Step) → Suits (part_of w o) s → Ground w → Frame w → (x : NodeName) (parent : Option NodeName) →
-    Frame (with_removal_signals w (stepped o w s) x parent)
-frame-removal o w s h g f x None = frame-stepped o w s h g f
-frame-removal o w s h g f x (Some parent) = frame-signals o w s h g f x parent true
+  -- of a removal
+  frame-removal : (x : NodeName) → (parent : Option NodeName) → Frame (with_removal_signals w (stepped o w s) x parent)
+  frame-removal x None = frame-stepped o w s h g f
+  frame-removal x (Some parent) = frame-signals x parent true
 
 -- names and hosts stay
 ground-removal : (was now : World) (x : NodeName) (parent : Option NodeName) → Ground now → Ground (with_removal_signals was now x parent)

@@ -159,23 +159,23 @@ room-splitting x offset p i t k h =
     (room-tail p x offset q new spot (parent-with_node (with_name new tail) p.trees x other) is may)
     (λ r c g. room-replacing_data x offset (length old.text - offset) [] r c.part (ap has_data (c.kinds x t) ∙ k) g)
 
--- Data that are replaced.
-pub replaced-here : (p : Part) (x : NodeName) (offset count : ℕ) (new : DomString) → HasNode p x →
-    node_in (part_step p (replace_data x offset count new)).trees x ≡ with_data_replaced offset count new (node_in p.trees x)
-replaced-here p x offset count new t =
-    let f : Node → Node = λ n. if name_eq n.name x then with_data_replaced offset count new n else n in
-    node-map_nodes f (λ n. (some-keeps (λ (n : Node). name_eq n.name x) (with_data_replaced offset count new) (λ n. (refl, refl)) n).0) p.trees x t
-    ∙ cond-true (name_eq (node_in p.trees x).name x) (with_data_replaced offset count new (node_in p.trees x)) (node_in p.trees x)
-    (ap (λ z. name_eq z x) (name-node_in p.trees x) ∙ name_eq-same x)
+-- Units of a node that are replaced.
+module _ (p : Part) (x : NodeName) (offset count : ℕ) (new : DomString) where
+  -- Data that are replaced.
+  pub replaced-here : HasNode p x → node_in (part_step p (replace_data x offset count new)).trees x ≡ with_data_replaced offset count new (node_in p.trees x)
+  replaced-here t =
+      let f : Node → Node = λ n. if name_eq n.name x then with_data_replaced offset count new n else n in
+      node-map_nodes f (λ n. (some-keeps (λ (n : Node). name_eq n.name x) (with_data_replaced offset count new) (λ n. (refl, refl)) n).0) p.trees x t
+      ∙ cond-true (name_eq (node_in p.trees x).name x) (with_data_replaced offset count new (node_in p.trees x)) (node_in p.trees x)
+      (ap (λ z. name_eq z x) (name-node_in p.trees x) ∙ name_eq-same x)
 
--- of another node they stay
-replaced-elsewhere : (p : Part) (x : NodeName) (offset count : ℕ) (new : DomString) (y : NodeName) → HasNode p y → name_eq x y ≡ false →
-    node_in (part_step p (replace_data x offset count new)).trees y ≡ node_in p.trees y
-replaced-elsewhere p x offset count new y t e =
-    let f : Node → Node = λ n. if name_eq n.name x then with_data_replaced offset count new n else n in
-    node-map_nodes f (λ n. (some-keeps (λ (n : Node). name_eq n.name x) (with_data_replaced offset count new) (λ n. (refl, refl)) n).0) p.trees y t
-    ∙ cond-false (name_eq (node_in p.trees y).name x) (with_data_replaced offset count new (node_in p.trees y)) (node_in p.trees y)
-    (ap (λ z. name_eq z x) (name-node_in p.trees y) ∙ name_eq-turned y x ∙ e)
+  -- of another node they stay
+  replaced-elsewhere : (y : NodeName) → HasNode p y → name_eq x y ≡ false → node_in (part_step p (replace_data x offset count new)).trees y ≡ node_in p.trees y
+  replaced-elsewhere y t e =
+      let f : Node → Node = λ n. if name_eq n.name x then with_data_replaced offset count new n else n in
+      node-map_nodes f (λ n. (some-keeps (λ (n : Node). name_eq n.name x) (with_data_replaced offset count new) (λ n. (refl, refl)) n).0) p.trees y t
+      ∙ cond-false (name_eq (node_in p.trees y).name x) (with_data_replaced offset count new (node_in p.trees y)) (node_in p.trees y)
+      (ap (λ z. name_eq z x) (name-node_in p.trees y) ∙ name_eq-turned y x ∙ e)
 
 -- Joins: of all lengths of some nodes.
 abbrev pub total : Trees → List NodeName → ℕ
@@ -233,65 +233,66 @@ pub children-among : (ts : Trees) (y x : NodeName) → times_among (children_of 
 children-among ts y x =
     let a = roots-among (trees_below (subtree ts y)) x in let b = times-below (subtree ts y) x in let c = times-subtree ts y x in omega arith
 
--- The Texts after a Text that gets their data: it is long enough for them, and they stay as long as they are.
-pub joining-fits : (x parent : NodeName) (p : Part) → IsPart p → HasNode p x → has_data (kind_of p.trees x) ≡ true → parent_of p.trees x ≡ Some parent →
-    let nexts = texts_after p.trees x in
-    let q = after p (replacing_data x (length_of p.trees x) 0 (flat_map (λ y. (node_in p.trees y).text) nexts) p) in
-    (length_of p.trees x + total p.trees nexts ≤ length_of q.trees x) × AllByRecursion (λ y. length_of q.trees y ≡ length_of p.trees y) nexts
-joining-fits x parent p i t k e =
-    let ts = p.trees in
-    let nexts = texts_after ts x in
-    let size = length_of ts x in
-    let old = (node_in ts x).text in
-    let all = flat_map (λ y. (node_in ts y).text) nexts in
-    let is = λ (y : NodeName). is_text (kind_of ts y) in
-    let texts : AllByRecursion (λ y. has_data (kind_of ts y) ≡ true) nexts =
-    all-then (λ y. is y ≡ true) (λ y. has_data (kind_of ts y) ≡ true) (λ y h. text-data (kind_of ts y) h) nexts
-    (taken is (items_after name_eq x (siblings ts x))) in
-    let others : AllByRecursion (λ y. name_eq x y ≡ false) nexts =
-    all-take_while (λ y. name_eq x y ≡ false) is (items_after name_eq x (siblings ts x))
-    (subst (λ (o : Option NodeName). AllByRecursion (λ y. name_eq x y ≡ false) (items_after name_eq x (option_map_or (children_of ts) o (x ∷ [])))) (sym e)
-    (among-behind x (children_of ts parent) (let a = children-among ts parent x in let b = i.unique x in omega arith))) in
-    let p1 = part_step p (queue_record (character_data x (Some old))) in
-    let few = min 0 (length old - size) in
-    let q = after p (replacing_data x size 0 all p) in
-    let was = length-data ts x k in
-    let now = replaced-here p1 x size few all t in
-    let is_now = length-data q.trees x (ap (λ (n : Node). has_data n.kind) now ∙ k) in
-    let text = ap (λ (n : Node). length n.text) now in
-    let sum = length-replaced size few all old in
-    let whole = total-texts ts nexts texts in (
-      omega arith,
-      all-then (λ y. (has_data (kind_of ts y) ≡ true) × (name_eq x y ≡ false)) (λ y. length_of q.trees y ≡ length_of ts y)
-          (λ y h. let n = replaced-elsewhere p1 x size few all y (Rattle.dom_worlds.proofs.Bounds.data-there ts y h.0) h.1 in
-          length-data q.trees y (ap (λ (n : Node). has_data n.kind) n ∙ h.0) ∙ ap (λ (n : Node). length n.text) n ∙ sym (length-data ts y h.0))
-          nexts (all-both (λ y. has_data (kind_of ts y) ≡ true) (λ y. name_eq x y ≡ false) nexts texts others),
-    )
-  where
-    taken : (test : NodeName → Bool) (xs : List NodeName) → AllByRecursion (λ y. test y ≡ true) (take_while test xs)
-    taken test [] = tt
-    taken test (y ∷ xs) =
-        by_cases (test y) (λ e. subst (AllByRecursion (λ z. test z ≡ true)) (sym (Rattle.dom_worlds.proofs.Lists.take_while-yes test y xs e))
-        (e, taken test xs))
-        (λ e. subst (AllByRecursion (λ z. test z ≡ true)) (sym (Rattle.dom_worlds.proofs.Lists.take_while-no test y xs e)) tt)
+-- A node with data, below a parent.
+module _ (x parent : NodeName) (p : Part) (i : IsPart p) (t : HasNode p x) (k : has_data (kind_of p.trees x) ≡ true) (e : parent_of p.trees x
+    ≡ Some parent) where
+  -- The Texts after a Text that gets their data: it is long enough for them, and they stay as long as they are.
+  pub joining-fits : let nexts = texts_after p.trees x in
+      let q = after p (replacing_data x (length_of p.trees x) 0 (flat_map (λ y. (node_in p.trees y).text) nexts) p) in
+      (length_of p.trees x + total p.trees nexts ≤ length_of q.trees x) × AllByRecursion (λ y. length_of q.trees y ≡ length_of p.trees y) nexts
+  joining-fits =
+      let ts = p.trees in
+      let nexts = texts_after ts x in
+      let size = length_of ts x in
+      let old = (node_in ts x).text in
+      let all = flat_map (λ y. (node_in ts y).text) nexts in
+      let is = λ (y : NodeName). is_text (kind_of ts y) in
+      let texts : AllByRecursion (λ y. has_data (kind_of ts y) ≡ true) nexts =
+      all-then (λ y. is y ≡ true) (λ y. has_data (kind_of ts y) ≡ true) (λ y h. text-data (kind_of ts y) h) nexts
+      (taken is (items_after name_eq x (siblings ts x))) in
+      let others : AllByRecursion (λ y. name_eq x y ≡ false) nexts =
+      all-take_while (λ y. name_eq x y ≡ false) is (items_after name_eq x (siblings ts x))
+      (subst (λ (o : Option NodeName). AllByRecursion (λ y. name_eq x y ≡ false) (items_after name_eq x (option_map_or (children_of ts) o (x ∷ [])))) (sym e)
+      (among-behind x (children_of ts parent) (let a = children-among ts parent x in let b = i.unique x in omega arith))) in
+      let p1 = part_step p (queue_record (character_data x (Some old))) in
+      let few = min 0 (length old - size) in
+      let q = after p (replacing_data x size 0 all p) in
+      let was = length-data ts x k in
+      let now = replaced-here p1 x size few all t in
+      let is_now = length-data q.trees x (ap (λ (n : Node). has_data n.kind) now ∙ k) in
+      let text = ap (λ (n : Node). length n.text) now in
+      let sum = length-replaced size few all old in
+      let whole = total-texts ts nexts texts in (
+        omega arith,
+        all-then (λ y. (has_data (kind_of ts y) ≡ true) × (name_eq x y ≡ false)) (λ y. length_of q.trees y ≡ length_of ts y)
+            (λ y h. let n = replaced-elsewhere p1 x size few all y (Rattle.dom_worlds.proofs.Bounds.data-there ts y h.0) h.1 in
+            length-data q.trees y (ap (λ (n : Node). has_data n.kind) n ∙ h.0) ∙ ap (λ (n : Node). length n.text) n ∙ sym (length-data ts y h.0))
+            nexts (all-both (λ y. has_data (kind_of ts y) ≡ true) (λ y. name_eq x y ≡ false) nexts texts others),
+      )
+    where
+      taken : (test : NodeName → Bool) (xs : List NodeName) → AllByRecursion (λ y. test y ≡ true) (take_while test xs)
+      taken test [] = tt
+      taken test (y ∷ xs) =
+          by_cases (test y) (λ e. subst (AllByRecursion (λ z. test z ≡ true)) (sym (Rattle.dom_worlds.proofs.Lists.take_while-yes test y xs e))
+          (e, taken test xs))
+          (λ e. subst (AllByRecursion (λ z. test z ≡ true)) (sym (Rattle.dom_worlds.proofs.Lists.take_while-no test y xs e)) tt)
 
--- Texts that are joined
-room-joining : (x parent : NodeName) (p : Part) → IsPart p → HasNode p x → has_data (kind_of p.trees x) ≡ true → parent_of p.trees x ≡ Some parent →
-    HasRoom nowhere p → HasRoom nowhere (after p (joining x parent (texts_after p.trees x) p))
-room-joining x parent p i t k e h =
-    let ts = p.trees in
-    let nexts = texts_after ts x in
-    let size = length_of ts x in
-    let all = flat_map (λ y. (node_in ts y).text) nexts in
-    let q = after p (replacing_data x size 0 all p) in
-    let fits = joining-fits x parent p i t k e in
-    room-plan None (replacing_data x size 0 all and_then steps_of (joins ts x parent size nexts)) (in_turn (removing observed) nexts) p
-    (leads-then None p (replacing_data x size 0 all p) (joins ts x parent size nexts) (leads-replacing_data x size 0 all p i)
-    (leads-joins ts x parent size nexts q (leads-replacing_data x size 0 all p i).changed.part
-    (still (leads-replacing_data x size 0 all p i).changed x t) (texts-beside x parent size all p i e)))
-    (room-then nowhere p (replacing_data x size 0 all p) (joins ts x parent size nexts)
-    (room-joins ts x parent size nexts q fits.0 fits.1 (room-replacing_data x size 0 all p i k h)))
-    (λ r c g. room-removals nowhere observed nexts r c.part g)
+  -- Texts that are joined
+  room-joining : HasRoom nowhere p → HasRoom nowhere (after p (joining x parent (texts_after p.trees x) p))
+  room-joining h =
+      let ts = p.trees in
+      let nexts = texts_after ts x in
+      let size = length_of ts x in
+      let all = flat_map (λ y. (node_in ts y).text) nexts in
+      let q = after p (replacing_data x size 0 all p) in
+      let fits = joining-fits in
+      room-plan None (replacing_data x size 0 all and_then steps_of (joins ts x parent size nexts)) (in_turn (removing observed) nexts) p
+      (leads-then None p (replacing_data x size 0 all p) (joins ts x parent size nexts) (leads-replacing_data x size 0 all p i)
+      (leads-joins ts x parent size nexts q (leads-replacing_data x size 0 all p i).changed.part
+      (still (leads-replacing_data x size 0 all p i).changed x t) (texts-beside x parent size all p i e)))
+      (room-then nowhere p (replacing_data x size 0 all p) (joins ts x parent size nexts)
+      (room-joins ts x parent size nexts q fits.0 fits.1 (room-replacing_data x size 0 all p i k h)))
+      (λ r c g. room-removals nowhere observed nexts r c.part g)
 
 -- Plans for items: each leads on and keeps room, and what an item needs stays so.
 module _ {A : Type 0} (P : Part → A → Type 0) (f : A → Plan) (leads : (p : Part) (x : A) → IsPart p → P p x → Leads None p (f x p))
@@ -362,39 +363,39 @@ room-replaced x p made old added a m t k h =
         (room-each_in x ys r first.changed.part (all-then (MayGo x q) (MayGo x r) (λ z. may-still x q r z first.changed) ys m.1)
         (still first.changed x t) (open-still first.changed x t k) (room-inserting suppressed y x None q i m.0 k h))
 
--- children that give way to a Text
-room-replacing_children : (x : NodeName) (new : DomString) (p : Part) → IsPart p → HasNode p x → IsOpen p x → HasRoom nowhere p →
-    HasRoom nowhere (after p (replacing_children x new p))
-room-replacing_children x new p i t k h =
-    let old = children_of p.trees x in
-    let added : List NodeName = if is_empty new then [] else next_name p ∷ [] in
-    let node = λ (y : NodeName). new_text_node y (Some (document_below p.trees x)) new in
-    let record_of = child_list x added old None None in
-    let told = only_if (not (is_empty old && is_empty new)) (queue_record record_of) in
-    let m = from node (is_empty new) in
-    let made = map (λ y. make (node y)) added in
-    let put = (steps_of made and_then in_turn (removing suppressed) old and_then in_turn (λ y. inserting suppressed y x None) added) p in
-    let g = room-replaced x p made old added m.0 m.1 t k m.2 in
-    room-then nowhere p put told
-    (either_way (λ steps. HasRoom nowhere (after (after p put) steps)) (not (is_empty old && is_empty new)) (queue_record record_of ∷ []) []
-    (room-record nowhere (after p put) record_of g) g)
-  where
-    from : (node : NodeName → Node) (b : Bool) → let added : List NodeName =
-        if b then [] else next_name p ∷ [] in Leads (Some x) p (map (λ y. make (node y)) added) ×
-        AllByRecursion (MayGo x (after p (map (λ y. make (node y)) added))) added × HasRoom nowhere (after p (map (λ y. make (node y)) added))
-    from node true = (leads-nothing (Some x) p i, tt, h)
-    from node false = (
-      leads-eased (Some x) p (make (node (next_name p)) ∷ []) (leads-one p (make (node (next_name p))) i tt),
-      (new-may p (node (next_name p)) x i t, tt),
-      room-make nowhere p (node (next_name p)) i h,
-    )
+-- A node that gets a text.
+module _ (x : NodeName) (new : DomString) (p : Part) (i : IsPart p) (t : HasNode p x) where
+  -- children that give way to a Text
+  room-replacing_children : IsOpen p x → HasRoom nowhere p → HasRoom nowhere (after p (replacing_children x new p))
+  room-replacing_children k h =
+      let old = children_of p.trees x in
+      let added : List NodeName = if is_empty new then [] else next_name p ∷ [] in
+      let node = λ (y : NodeName). new_text_node y (Some (document_below p.trees x)) new in
+      let record_of = child_list x added old None None in
+      let told = only_if (not (is_empty old && is_empty new)) (queue_record record_of) in
+      let m = from node (is_empty new) in
+      let made = map (λ y. make (node y)) added in
+      let put = (steps_of made and_then in_turn (removing suppressed) old and_then in_turn (λ y. inserting suppressed y x None) added) p in
+      let g = room-replaced x p made old added m.0 m.1 t k m.2 in
+      room-then nowhere p put told
+      (either_way (λ steps. HasRoom nowhere (after (after p put) steps)) (not (is_empty old && is_empty new)) (queue_record record_of ∷ []) []
+      (room-record nowhere (after p put) record_of g) g)
+    where
+      from : (node : NodeName → Node) (b : Bool) → let added : List NodeName =
+          if b then [] else next_name p ∷ [] in Leads (Some x) p (map (λ y. make (node y)) added) ×
+          AllByRecursion (MayGo x (after p (map (λ y. make (node y)) added))) added × HasRoom nowhere (after p (map (λ y. make (node y)) added))
+      from node true = (leads-nothing (Some x) p i, tt, h)
+      from node false = (
+        leads-eased (Some x) p (make (node (next_name p)) ∷ []) (leads-one p (make (node (next_name p))) i tt),
+        (new-may p (node (next_name p)) x i t, tt),
+        room-make nowhere p (node (next_name p)) i h,
+      )
 
--- text content
-pub room-setting_text : (x : NodeName) (new : DomString) (p : Part) → IsPart p → HasNode p x → HasRoom nowhere p →
-    HasRoom nowhere (after p (setting_text x new p))
-room-setting_text x new p i t h =
-    Rattle.dom_worlds.proofs.Tests.which_way (λ steps. HasRoom nowhere (after p steps)) (has_data (kind_of p.trees x))
-    (replacing_all_data x new p) (if is_document (kind_of p.trees x) then [] else replacing_children x new p)
-    (λ e. room-replacing_data x 0 (length_of p.trees x) new p i e h)
-    (λ e. either_way (λ steps. HasRoom nowhere (after p steps)) (is_document (kind_of p.trees x)) [] (replacing_children x new p) h
-    (room-replacing_children x new p i t e h))
+  -- text content
+  pub room-setting_text : HasRoom nowhere p → HasRoom nowhere (after p (setting_text x new p))
+  room-setting_text h =
+      Rattle.dom_worlds.proofs.Tests.which_way (λ steps. HasRoom nowhere (after p steps)) (has_data (kind_of p.trees x))
+      (replacing_all_data x new p) (if is_document (kind_of p.trees x) then [] else replacing_children x new p)
+      (λ e. room-replacing_data x 0 (length_of p.trees x) new p i e h)
+      (λ e. either_way (λ steps. HasRoom nowhere (after p steps)) (is_document (kind_of p.trees x)) [] (replacing_children x new p) h
+      (room-replacing_children e h))

@@ -93,19 +93,21 @@ times-with_node n ts x = times-put_root n.name (tree n none none) ts x
 pub times-taken_out : (y : NodeName) (ts : Trees) (x : NodeName) → times_in (taken_out y ts) x ≤ times_in ts x
 times-taken_out y ts x = let a = times-put_root y (subtree ts y) (without y ts) x in let b = times-without ts y x in omega arith
 
--- below a first root
-pub put_below-here : (parent : NodeName) (before : Option NodeName) (new : Trees) (n : Node) (c r : Trees) → name_eq n.name parent ≡ true →
-    put_below parent before new (tree n c r) ≡ tree n (put_before before new (put_below parent before new c)) (put_below parent before new r)
-put_below-here parent before new n c r e =
-    let below = put_below parent before new c in
-    ap (λ t. tree n t (put_below parent before new r)) (cond-true (name_eq n.name parent) (put_before before new below) below e)
+-- New trees that are put below a parent, at one tree and the others.
+module _ (parent : NodeName) (before : Option NodeName) (new : Trees) (n : Node) (c r : Trees) where
+  -- below a first root
+  pub put_below-here : name_eq n.name parent ≡ true → put_below parent before new (tree n c r)
+      ≡ tree n (put_before before new (put_below parent before new c)) (put_below parent before new r)
+  put_below-here e =
+      let below = put_below parent before new c in
+      ap (λ t. tree n t (put_below parent before new r)) (cond-true (name_eq n.name parent) (put_before before new below) below e)
 
--- below another node
-pub put_below-elsewhere : (parent : NodeName) (before : Option NodeName) (new : Trees) (n : Node) (c r : Trees) → name_eq n.name parent ≡ false →
-    put_below parent before new (tree n c r) ≡ tree n (put_below parent before new c) (put_below parent before new r)
-put_below-elsewhere parent before new n c r e =
-    let below = put_below parent before new c in
-    ap (λ t. tree n t (put_below parent before new r)) (cond-false (name_eq n.name parent) (put_before before new below) below e)
+  -- below another node
+  pub put_below-elsewhere : name_eq n.name parent ≡ false → put_below parent before new (tree n c r)
+      ≡ tree n (put_below parent before new c) (put_below parent before new r)
+  put_below-elsewhere e =
+      let below = put_below parent before new c in
+      ap (λ t. tree n t (put_below parent before new r)) (cond-false (name_eq n.name parent) (put_before before new below) below e)
 
 -- below a node that is not there nothing is put
 pub put_below-absent : (parent : NodeName) (before : Option NodeName) (new ts : Trees) → times_in ts parent ≡ 0 → put_below parent before new ts ≡ ts

@@ -27,38 +27,39 @@ use Rattle.dom_worlds.proofs.SameInvariant.{host_of-same, world-alike, there-wit
 use Rattle.dom_worlds.proofs.ComponentSignals.{signals-foreign, page_tasks-queued_other}
 use Rattle.dom_worlds.proofs.PartSteps.{Allowed, Safe, IsOwn, part-step, own-step, rest-step}
 
--- Another part for an owner, with its hosts and listeners.
-pub attached-with_part : (w : World) (p : Part) (o : Owner) → p.owner ≡ o → p.attached ≡ (part_of w o).attached → (other : Owner) →
-    (part_of (with_part w p) other).attached ≡ (part_of w other).attached
-attached-with_part w p o e a other =
-    by_cases (owner_eq o other)
-    (λ h. let same = owner_eq-true o other h in ap (λ (q : Part). q.attached) (part_of-with_part w p other (e ∙ same)) ∙ a ∙
-    ap (λ x. (part_of w x).attached) same)
-    (λ h. ap (λ (q : Part). q.attached) (part_of-with_part-other w p other (λ g. owner_eq-false o other h (sym e ∙ g))))
+-- A part that is written for its owner.
+module _ (w : World) (p : Part) (o : Owner) (e : p.owner ≡ o) where
+  -- Another part for an owner, with its hosts and listeners.
+  pub attached-with_part : p.attached ≡ (part_of w o).attached → (other : Owner) → (part_of (with_part w p) other).attached ≡ (part_of w other).attached
+  attached-with_part a other =
+      by_cases (owner_eq o other)
+      (λ h. let same = owner_eq-true o other h in ap (λ (q : Part). q.attached) (part_of-with_part w p other (e ∙ same)) ∙ a ∙
+      ap (λ x. (part_of w x).attached) same)
+      (λ h. ap (λ (q : Part). q.attached) (part_of-with_part-other w p other (λ g. owner_eq-false o other h (sym e ∙ g))))
 
--- such a part keeps what holds of the world
-pub world-with_part : (w : World) (p : Part) (o : Owner) → p.owner ≡ o → IsPart p → p.attached ≡ (part_of w o).attached →
-    (IsTrue (is_some (host_of w o)) → IsRoot p.trees (shadow_root_of o)) → IsWorld w → IsWorld (with_part w p)
-world-with_part w p o e part a root i =
-    let v = with_part w p in
-    let same = attached-with_part w p o e a in
-    let hosts = host_of-same v w same in
-    record {
-      page = there-with_part w p Page i.page;
-      parts = λ x. by_cases (owner_eq o x) (λ h. subst IsPart (sym (part_of-with_part w p x (e ∙ owner_eq-true o x h))) part)
-          (λ h. subst IsPart (sym (part_of-with_part-other w p x (λ g. owner_eq-false o x h (sym e ∙ g)))) (i.parts x));
-      hosts = λ x. subst (AllByRecursion (IsOf x)) (sym (same x)) (i.hosts x);
-      makers = makers-same v w same i.makers;
-      shadow_roots = λ x h. let g = subst (λ y. is_some y ≡ true) (hosts x) h in
-          by_cases (owner_eq o x)
-          (λ k. let is = owner_eq-true o x k in
-          subst (λ (q : Part). IsRoot q.trees (shadow_root_of x)) (sym (part_of-with_part w p x (e ∙ is)))
-          (subst (λ y. IsRoot p.trees (shadow_root_of y)) is (root (subst (λ y. is_some (host_of w y) ≡ true) (sym is) g))))
-          (λ k. subst (λ (q : Part). IsRoot q.trees (shadow_root_of x))
-          (sym (part_of-with_part-other w p x (λ z. owner_eq-false o x k (sym e ∙ z)))) (i.shadow_roots x g));
-      signalled = i.signalled;
-      tasks = i.tasks;
-    }
+  -- such a part keeps what holds of the world
+  pub world-with_part : IsPart p → p.attached ≡ (part_of w o).attached → (IsTrue (is_some (host_of w o)) → IsRoot p.trees (shadow_root_of o)) → IsWorld w →
+      IsWorld (with_part w p)
+  world-with_part part a root i =
+      let v = with_part w p in
+      let same = attached-with_part a in
+      let hosts = host_of-same v w same in
+      record {
+        page = there-with_part w p Page i.page;
+        parts = λ x. by_cases (owner_eq o x) (λ h. subst IsPart (sym (part_of-with_part w p x (e ∙ owner_eq-true o x h))) part)
+            (λ h. subst IsPart (sym (part_of-with_part-other w p x (λ g. owner_eq-false o x h (sym e ∙ g)))) (i.parts x));
+        hosts = λ x. subst (AllByRecursion (IsOf x)) (sym (same x)) (i.hosts x);
+        makers = makers-same v w same i.makers;
+        shadow_roots = λ x h. let g = subst (λ y. is_some y ≡ true) (hosts x) h in
+            by_cases (owner_eq o x)
+            (λ k. let is = owner_eq-true o x k in
+            subst (λ (q : Part). IsRoot q.trees (shadow_root_of x)) (sym (part_of-with_part w p x (e ∙ is)))
+            (subst (λ y. IsRoot p.trees (shadow_root_of y)) is (root (subst (λ y. is_some (host_of w y) ≡ true) (sym is) g))))
+            (λ k. subst (λ (q : Part). IsRoot q.trees (shadow_root_of x))
+            (sym (part_of-with_part-other w p x (λ z. owner_eq-false o x k (sym e ∙ z)))) (i.shadow_roots x g));
+        signalled = i.signalled;
+        tasks = i.tasks;
+      }
 
 -- A step in its part.
 abbrev pub MayStep : World → Owner → Step → Type 0
