@@ -178,42 +178,44 @@ retarget-host w i x host b =
     ∙ ap (λ o. unwrap_or o x) (cond-false (seen x) (Some x) (find seen (host ∷ at.0)) (ap not (hidden-deeper w i host x b.tree (omega (arith, deep)))))
     ∙ ap (λ o. unwrap_or o x) (cond-true (seen host) (Some host) (find seen at.0) (ap not (hidden-itself w i host)))
 
--- so it ends there
-pub ends-at_host : (w : World) → IsWorld w → (x y host : NodeName) → IsBelow w x host → IsBelow w y host → ends_at w x (Some y) host ≡ true
-ends-at_host w i x y host u v =
-    let deep = u.deeper in
-    let other : name_eq host x ≡ false = other-owner host x (λ e. let same = ap owner_depth e in absurd (omega (arith, deep, same))) in
-    and_from (not (name_eq host x)) (name_eq host (retarget w x host) && is_node host (retarget_related w (Some y) host)) (ap not other)
-    (and_from (name_eq host (retarget w x host)) (is_node host (retarget_related w (Some y) host))
-    (ap (name_eq host) (retarget-host w i x host u) ∙ name_eq-same host)
-    (ap (λ z. is_in name_eq host (z ∷ [])) (retarget-host w i y host v) ∙ ap (λ b. b || false) (name_eq-same host)))
+-- Two nodes below a host in a world.
+module _ (w : World) (i : IsWorld w) (x y host : NodeName) (u : IsBelow w x host) (v : IsBelow w y host) where
+  -- so it ends there
+  pub ends-at_host : ends_at w x (Some y) host ≡ true
+  ends-at_host =
+      let deep = u.deeper in
+      let other : name_eq host x ≡ false = other-owner host x (λ e. let same = ap owner_depth e in absurd (omega (arith, deep, same))) in
+      and_from (not (name_eq host x)) (name_eq host (retarget w x host) && is_node host (retarget_related w (Some y) host)) (ap not other)
+      (and_from (name_eq host (retarget w x host)) (is_node host (retarget_related w (Some y) host))
+      (ap (name_eq host) (retarget-host w i x host u) ∙ name_eq-same host)
+      (ap (λ z. is_in name_eq host (z ∷ [])) (retarget-host w i y host v) ∙ ap (λ b. b || false) (name_eq-same host)))
 
--- with a related node in the same tree no page node has a view
-pub views-related : (w : World) → IsWorld w → (x y host : NodeName) → IsBelow w x host → IsBelow w y host → filter is_page_view (views w x (Some y) true) ≡ []
-views-related w i x y host u v =
-    views-foreign w x (Some y) true (path-foreign w x (Some y) true
-    (by_times (times_in (trees_with w host) host) absent (λ z. present (ancestors-present (trees_with w host) host z)
-    (chain-first (owner_depth host.owner) w host))))
-  where
-    -- a host that is no node has no node on the path
-    absent : times_in (trees_with w host) host ≡ 0 → AllByRecursion Foreign (cut_at w x (Some y) (whole_path w x true))
-    absent z =
-        let none_up : way_up w host ≡ [] = ap (flat_map (with_slots max_depth w)) (ancestors-absent (trees_with w host) host z) in
-        let whole : whole_path w x true ≡ way_up w x ++ [] =
-        ap (flat_map (way_up w)) (chain-below w x host u ∙ ap (λ xs. x ∷ xs) (hosts-alone (owner_depth host.owner) w host (absent-host w i host z)))
-        ∙ ap (λ xs. way_up w x ++ (xs ++ [])) none_up in
-        subst (λ xs. AllByRecursion Foreign (cut_at w x (Some y) xs)) (sym whole)
-        (cut-foreign w x (Some y) (way_up w x ++ []) (all-append Foreign (way_up w x) [] (way_up-foreign w i x u.tree.foreign) tt))
+  -- with a related node in the same tree no page node has a view
+  pub views-related : filter is_page_view (views w x (Some y) true) ≡ []
+  views-related =
+      views-foreign w x (Some y) true (path-foreign w x (Some y) true
+      (by_times (times_in (trees_with w host) host) absent (λ z. present (ancestors-present (trees_with w host) host z)
+      (chain-first (owner_depth host.owner) w host))))
+    where
+      -- a host that is no node has no node on the path
+      absent : times_in (trees_with w host) host ≡ 0 → AllByRecursion Foreign (cut_at w x (Some y) (whole_path w x true))
+      absent z =
+          let none_up : way_up w host ≡ [] = ap (flat_map (with_slots max_depth w)) (ancestors-absent (trees_with w host) host z) in
+          let whole : whole_path w x true ≡ way_up w x ++ [] =
+          ap (flat_map (way_up w)) (chain-below w x host u ∙ ap (λ xs. x ∷ xs) (hosts-alone (owner_depth host.owner) w host (absent-host w i host z)))
+          ∙ ap (λ xs. way_up w x ++ (xs ++ [])) none_up in
+          subst (λ xs. AllByRecursion Foreign (cut_at w x (Some y) xs)) (sym whole)
+          (cut-foreign w x (Some y) (way_up w x ++ []) (all-append Foreign (way_up w x) [] (way_up-foreign w i x u.tree.foreign) tt))
 
-    -- at another one the path ends
-    present : ((rest : List NodeName) × (ancestors_at w host ≡ host ∷ rest)) → ((rest : List NodeName) × (host_chain w host ≡ host ∷ rest)) →
-        AllByRecursion Foreign (cut_at w x (Some y) (whole_path w x true))
-    present at chain =
-        let more = slot_way max_depth w host ++ flat_map (with_slots max_depth w) at.0 in
-        let outer = flat_map (way_up w) chain.0 in
-        let whole : whole_path w x true ≡ way_up w x ++ host ∷ (more ++ outer) =
-        ap (flat_map (way_up w)) (chain-below w x host u ∙ ap (λ xs. x ∷ xs) chain.1)
-        ∙ ap (λ xs. way_up w x ++ (xs ++ outer)) (ap (flat_map (with_slots max_depth w)) at.1 ∙ slots-first max_depth w host at.0) in
-        subst (λ xs. AllByRecursion Foreign (cut_at w x (Some y) xs)) (sym whole)
-        (all-before Foreign (λ z. not (ends_at w x (Some y) z)) (way_up w x) host (more ++ outer) (ap not (ends-at_host w i x y host u v))
-        (way_up-foreign w i x u.tree.foreign))
+      -- at another one the path ends
+      present : ((rest : List NodeName) × (ancestors_at w host ≡ host ∷ rest)) → ((rest : List NodeName) × (host_chain w host ≡ host ∷ rest)) →
+          AllByRecursion Foreign (cut_at w x (Some y) (whole_path w x true))
+      present at chain =
+          let more = slot_way max_depth w host ++ flat_map (with_slots max_depth w) at.0 in
+          let outer = flat_map (way_up w) chain.0 in
+          let whole : whole_path w x true ≡ way_up w x ++ host ∷ (more ++ outer) =
+          ap (flat_map (way_up w)) (chain-below w x host u ∙ ap (λ xs. x ∷ xs) chain.1)
+          ∙ ap (λ xs. way_up w x ++ (xs ++ outer)) (ap (flat_map (with_slots max_depth w)) at.1 ∙ slots-first max_depth w host at.0) in
+          subst (λ xs. AllByRecursion Foreign (cut_at w x (Some y) xs)) (sym whole)
+          (all-before Foreign (λ z. not (ends_at w x (Some y) z)) (way_up w x) host (more ++ outer) (ap not (ends-at_host))
+          (way_up-foreign w i x u.tree.foreign))

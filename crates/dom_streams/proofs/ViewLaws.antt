@@ -49,21 +49,19 @@ without-end at bytes line e here =
     ap (take at) (here ∙ first-line at bytes e) ∙ ap (λ k. take k (take at bytes ++ line_feed ∷ [])) n ∙
     take-append-add (take at bytes) (line_feed ∷ []) 0 ∙ append-nil (take at bytes)
 
--- the first line of the bytes is kept
-pub kept_by-first : (prefix bytes line later : List ℕ) (at : ℕ) → EndsAt bytes at → line ≡ take (at + 1) bytes → later ≡ drop (at + 1) bytes →
-    begins_with prefix (take at line) ≡ true
-    → kept_by prefix bytes ≡ line ++ kept_by prefix later
-kept_by-first prefix bytes line later at e here behind b =
-    ap (kept_by prefix) e.split
-    ∙ kept_by-kept prefix (take at bytes) (drop (at + 1) bytes) e.one (ap (begins_with prefix) (sym (without-end at bytes line e here)) ∙ b)
-    ∙ ap (λ (x : List ℕ). x ++ kept_by prefix (drop (at + 1) bytes)) (sym (here ∙ first-line at bytes e))
-    ∙ ap (λ (x : List ℕ). line ++ kept_by prefix x) (sym behind)
+-- A line of some bytes, up to its end, and the bytes behind it.
+module _ (prefix bytes line later : List ℕ) (at : ℕ) (e : EndsAt bytes at) (here : line ≡ take (at + 1) bytes) (behind : later ≡ drop (at + 1) bytes) where
+  -- the first line of the bytes is kept
+  pub kept_by-first : begins_with prefix (take at line) ≡ true → kept_by prefix bytes ≡ line ++ kept_by prefix later
+  kept_by-first b =
+      ap (kept_by prefix) e.split
+      ∙ kept_by-kept prefix (take at bytes) (drop (at + 1) bytes) e.one (ap (begins_with prefix) (sym (without-end at bytes line e here)) ∙ b)
+      ∙ ap (λ (x : List ℕ). x ++ kept_by prefix (drop (at + 1) bytes)) (sym (here ∙ first-line at bytes e))
+      ∙ ap (λ (x : List ℕ). line ++ kept_by prefix x) (sym behind)
 
--- the first line of the bytes is not kept
-pub kept_by-later : (prefix bytes line later : List ℕ) (at : ℕ) → EndsAt bytes at → line ≡ take (at + 1) bytes → later ≡ drop (at + 1) bytes →
-    begins_with prefix (take at line) ≡ false
-    → kept_by prefix bytes ≡ kept_by prefix later
-kept_by-later prefix bytes line later at e here behind b =
-    ap (kept_by prefix) e.split
-    ∙ kept_by-left prefix (take at bytes) (drop (at + 1) bytes) e.one (ap (begins_with prefix) (sym (without-end at bytes line e here)) ∙ b)
-    ∙ ap (kept_by prefix) (sym behind)
+  -- the first line of the bytes is not kept
+  pub kept_by-later : begins_with prefix (take at line) ≡ false → kept_by prefix bytes ≡ kept_by prefix later
+  kept_by-later b =
+      ap (kept_by prefix) e.split
+      ∙ kept_by-left prefix (take at bytes) (drop (at + 1) bytes) e.one (ap (begins_with prefix) (sym (without-end at bytes line e here)) ∙ b)
+      ∙ ap (kept_by prefix) (sym behind)

@@ -29,34 +29,35 @@ not_above : {P : Type 0} (n : Node) (c r : Trees) (x y a : NodeName) (path : Lis
 not_above n c r x y a path lacks g h e =
     apart_not n.name x g (swapped x n.name (lacks_back x (a ∷ path) (n.name ∷ []) (subst (Lacks x) (path_below n c r y a path h e) lacks)).0)
 
--- the node itself is the first root
-below_first : (n : Node) (c r : Trees) (x y z : NodeName) → name_eq n.name x ≡ true → Lacks x (inclusive_ancestors (tree n c r) y) →
-    times_in r z ≡ 0 → Lacks z (inclusive_ancestors (tree n c r) y)
-below_first n c r x y z g lacks gone = elim (cases_Bool (name_eq n.name y)) [
-  | inl h ↦ not_root n c r x y lacks g h
-  | inr h ↦ by_path (inclusive_ancestors c y) refl h
-]
-  where
-    by_path : (path : List NodeName) → inclusive_ancestors c y ≡ path → name_eq n.name y ≡ false → Lacks z (inclusive_ancestors (tree n c r) y)
-    by_path [] e h = subst (Lacks z) (sym (path_after n c r y h e)) (path_lacks r y z gone)
-    by_path (a ∷ path) e h = not_above n c r x y a path lacks g h e
+-- A tree in front of others, and three nodes.
+module _ (n : Node) (c r : Trees) (x y z : NodeName) where
+  -- the node itself is the first root
+  below_first : name_eq n.name x ≡ true → Lacks x (inclusive_ancestors (tree n c r) y) → times_in r z ≡ 0 → Lacks z (inclusive_ancestors (tree n c r) y)
+  below_first g lacks gone = elim (cases_Bool (name_eq n.name y)) [
+    | inl h ↦ not_root n c r x y lacks g h
+    | inr h ↦ by_path (inclusive_ancestors c y) refl h
+  ]
+    where
+      by_path : (path : List NodeName) → inclusive_ancestors c y ≡ path → name_eq n.name y ≡ false → Lacks z (inclusive_ancestors (tree n c r) y)
+      by_path [] e h = subst (Lacks z) (sym (path_after n c r y h e)) (path_lacks r y z gone)
+      by_path (a ∷ path) e h = not_above n c r x y a path lacks g h e
 
--- the node is below the first root, or behind it
-below_other : (n : Node) (c r : Trees) (x y z : NodeName) → name_eq n.name z ≡ false → Lacks x (inclusive_ancestors (tree n c r) y)
-    → (Lacks x (inclusive_ancestors c y) → Lacks z (inclusive_ancestors c y)) →
-    (Lacks x (inclusive_ancestors r y) → Lacks z (inclusive_ancestors r y)) → Lacks z (inclusive_ancestors (tree n c r) y)
-below_other n c r x y z apart lacks below rest = elim (cases_Bool (name_eq n.name y)) [
-  | inl h ↦ subst (Lacks z) (sym (path_here n c r y h)) (swapped y z (subst (λ (w : NodeName). name_eq w z ≡ false) (name_eq-true n.name y h) apart), tt)
-  | inr h ↦ by_path (inclusive_ancestors c y) refl h
-]
-  where
-    by_path : (path : List NodeName) → inclusive_ancestors c y ≡ path → name_eq n.name y ≡ false → Lacks z (inclusive_ancestors (tree n c r) y)
-    by_path [] e h = subst (Lacks z) (sym (path_after n c r y h e)) (rest (subst (Lacks x) (path_after n c r y h e) lacks))
-    by_path (a ∷ path) e h =
-        let off = subst (Lacks x) (path_below n c r y a path h e) lacks in
-        subst (Lacks z) (sym (path_below n c r y a path h e))
-        (lacks_both z (a ∷ path) (n.name ∷ []) (subst (Lacks z) e (below (subst (Lacks x) (sym e) (lacks_front x (a ∷ path) (n.name ∷ []) off))))
-        (swapped n.name z apart, tt))
+  -- the node is below the first root, or behind it
+  below_other : name_eq n.name z ≡ false → Lacks x (inclusive_ancestors (tree n c r) y) →
+      (Lacks x (inclusive_ancestors c y) → Lacks z (inclusive_ancestors c y)) → (Lacks x (inclusive_ancestors r y) → Lacks z (inclusive_ancestors r y)) →
+      Lacks z (inclusive_ancestors (tree n c r) y)
+  below_other apart lacks below rest = elim (cases_Bool (name_eq n.name y)) [
+    | inl h ↦ subst (Lacks z) (sym (path_here n c r y h)) (swapped y z (subst (λ (w : NodeName). name_eq w z ≡ false) (name_eq-true n.name y h) apart), tt)
+    | inr h ↦ by_path (inclusive_ancestors c y) refl h
+  ]
+    where
+      by_path : (path : List NodeName) → inclusive_ancestors c y ≡ path → name_eq n.name y ≡ false → Lacks z (inclusive_ancestors (tree n c r) y)
+      by_path [] e h = subst (Lacks z) (sym (path_after n c r y h e)) (rest (subst (Lacks x) (path_after n c r y h e) lacks))
+      by_path (a ∷ path) e h =
+          let off = subst (Lacks x) (path_below n c r y a path h e) lacks in
+          subst (Lacks z) (sym (path_below n c r y a path h e))
+          (lacks_both z (a ∷ path) (n.name ∷ []) (subst (Lacks z) e (below (subst (Lacks x) (sym e) (lacks_front x (a ∷ path) (n.name ∷ []) off))))
+          (swapped n.name z apart, tt))
 
 pub below_lacks : (ts : Trees) → IsOnce ts → (x y : NodeName) → Lacks x (inclusive_ancestors ts y) → (z : NodeName) →
     1 ≤ times_in (subtree ts x) z → Lacks z (inclusive_ancestors ts y)

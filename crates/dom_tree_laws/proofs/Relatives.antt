@@ -69,27 +69,29 @@ parent_path (tree n c r) once x p e =
 
 -- ---- children
 
--- a name that has inclusive ancestors below a first root has them with that root, and one behind it keeps them
-parent_below : (n : Node) (c r : Trees) → IsOnce (tree n c r) → (x p : NodeName) → parent_of c x ≡ Some p → parent_of (tree n c r) x ≡ Some p
-parent_below n c r once x p e = by_path (inclusive_ancestors c x) refl e
-  where
-    by_path : (path : List NodeName) → inclusive_ancestors c x ≡ path → parent_of c x ≡ Some p → parent_of (tree n c r) x ≡ Some p
-    by_path [] is e = let none = ap (λ path. first_of (drop 1 path)) is in cc
-    by_path (a ∷ []) is e = let none = ap (λ path. first_of (drop 1 path)) is in cc
-    by_path (a ∷ b ∷ path) is e =
-        let found = there_of c x a (b ∷ path) is in
-        ap (λ path. first_of (drop 1 path)) (path_below n c r x a (b ∷ path) (apart_of n c r once x (omega arith)) is) ∙
-        sym (ap (λ path. first_of (drop 1 path)) is) ∙ e
+-- Two nodes, in a tree in front of others where each name stands once.
+module _ (n : Node) (c r : Trees) (once : IsOnce (tree n c r)) (x p : NodeName) where
+  -- a name that has inclusive ancestors below a first root has them with that root, and one behind it keeps them
+  parent_below : parent_of c x ≡ Some p → parent_of (tree n c r) x ≡ Some p
+  parent_below e = by_path (inclusive_ancestors c x) refl e
+    where
+      by_path : (path : List NodeName) → inclusive_ancestors c x ≡ path → parent_of c x ≡ Some p → parent_of (tree n c r) x ≡ Some p
+      by_path [] is e = let none = ap (λ path. first_of (drop 1 path)) is in cc
+      by_path (a ∷ []) is e = let none = ap (λ path. first_of (drop 1 path)) is in cc
+      by_path (a ∷ b ∷ path) is e =
+          let found = there_of c x a (b ∷ path) is in
+          ap (λ path. first_of (drop 1 path)) (path_below n c r x a (b ∷ path) (apart_of n c r once x (omega arith)) is) ∙
+          sym (ap (λ path. first_of (drop 1 path)) is) ∙ e
 
-parent_behind : (n : Node) (c r : Trees) → IsOnce (tree n c r) → (x p : NodeName) → parent_of r x ≡ Some p → parent_of (tree n c r) x ≡ Some p
-parent_behind n c r once x p e = by_path (inclusive_ancestors r x) refl e
-  where
-    by_path : (path : List NodeName) → inclusive_ancestors r x ≡ path → parent_of r x ≡ Some p → parent_of (tree n c r) x ≡ Some p
-    by_path [] is e = let none = ap (λ path. first_of (drop 1 path)) is in cc
-    by_path (a ∷ path) is e =
-        let found = there_of r x a path is in
-        let m = times_in-tree n c r x in let k = once x in
-        ap (λ path. first_of (drop 1 path)) (path_after n c r x (apart_of n c r once x (omega arith)) (path_none c x (omega arith))) ∙ e
+  parent_behind : parent_of r x ≡ Some p → parent_of (tree n c r) x ≡ Some p
+  parent_behind e = by_path (inclusive_ancestors r x) refl e
+    where
+      by_path : (path : List NodeName) → inclusive_ancestors r x ≡ path → parent_of r x ≡ Some p → parent_of (tree n c r) x ≡ Some p
+      by_path [] is e = let none = ap (λ path. first_of (drop 1 path)) is in cc
+      by_path (a ∷ path) is e =
+          let found = there_of r x a path is in
+          let m = times_in-tree n c r x in let k = once x in
+          ap (λ path. first_of (drop 1 path)) (path_after n c r x (apart_of n c r once x (omega arith)) (path_none c x (omega arith))) ∙ e
 
 -- each name of a list
 abbrev pub Each : (NodeName → Type 0) → List NodeName → Type 0
