@@ -13,23 +13,24 @@ pub record HaveLeft (f : NamedTrees) (node : ℕ) (was now : List KeyedIterator)
   pub done : (k : ℕ) → k < at → IsLeftIf f node (slice_get was k) (slice_get now k)
   pub rest : (k : ℕ) → at ≤ k → slice_get now k ≡ slice_get was k
 
-pub left_more : (f : NamedTrees) (node : ℕ) (was now : List KeyedIterator) (at : ℕ) (i j : KeyedIterator) → HaveLeft f node was now at →
-    slice_get now at ≡ Some i → IsLeft f node i j
-    → HaveLeft f node was (slice_set now at j) (at + 1)
-left_more f node was now at i j h here left = record {
-  done = λ k less. elim (eq-or-lt_of_le (let within : k ≤ at = omega arith in within)) [
-    | inl same ↦ subst (λ n. IsLeftIf f node (slice_get was n) (slice_get (slice_set now at j) n)) (sym same)
-        (subst (λ o. IsLeftIf f node o (slice_get (slice_set now at j) at)) (sym here ∙ h.rest at (omega arith))
-        (subst (IsLeftIf f node (Some i)) (sym (get_set now at i j here)) left))
-    | inr before ↦ subst (IsLeftIf f node (slice_get was k)) (sym (get_set_other now at k j (λ e. omega arith))) (h.done k before)
-  ];
-  rest = λ k more. get_set_other now at k j (λ e. omega arith) ∙ h.rest k (omega arith);
-}
+-- Iterators of a forest that a node leaves, before and after.
+module _ (f : NamedTrees) (node : ℕ) (was now : List KeyedIterator) (at : ℕ) where
+  pub left_more : (i j : KeyedIterator) → HaveLeft f node was now at → slice_get now at ≡ Some i → IsLeft f node i j →
+      HaveLeft f node was (slice_set now at j) (at + 1)
+  left_more i j h here left = record {
+    done = λ k less. elim (eq-or-lt_of_le (let within : k ≤ at = omega arith in within)) [
+      | inl same ↦ subst (λ n. IsLeftIf f node (slice_get was n) (slice_get (slice_set now at j) n)) (sym same)
+          (subst (λ o. IsLeftIf f node o (slice_get (slice_set now at j) at)) (sym here ∙ h.rest at (omega arith))
+          (subst (IsLeftIf f node (Some i)) (sym (get_set now at i j here)) left))
+      | inr before ↦ subst (IsLeftIf f node (slice_get was k)) (sym (get_set_other now at k j (λ e. omega arith))) (h.done k before)
+    ];
+    rest = λ k more. get_set_other now at k j (λ e. omega arith) ∙ h.rest k (omega arith);
+  }
 
-pub left_all : (f : NamedTrees) (node : ℕ) (was now : List KeyedIterator) (at : ℕ) → HaveLeft f node was now at → length now ≡ at → AreLeft f node was now
-left_all f node was now at h end k = elim (slice_get_cases now k).1 [
-  | inl w ↦ let less = w.1 in h.done k (omega arith)
-  | inr w ↦
-      let past = w.0 in let none = w.1 in
-      subst (IsLeftIf f node (slice_get was k)) (sym none) (subst (λ o. IsLeftIf f node o None) (sym none ∙ h.rest k (omega arith)) tt)
-]
+  pub left_all : HaveLeft f node was now at → length now ≡ at → AreLeft f node was now
+  left_all h end k = elim (slice_get_cases now k).1 [
+    | inl w ↦ let less = w.1 in h.done k (omega arith)
+    | inr w ↦
+        let past = w.0 in let none = w.1 in
+        subst (IsLeftIf f node (slice_get was k)) (sym none) (subst (λ o. IsLeftIf f node o None) (sym none ∙ h.rest k (omega arith)) tt)
+  ]
