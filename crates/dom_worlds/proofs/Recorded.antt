@@ -126,8 +126,9 @@ pub tells-plan : (spot : Option NodeName) (f g : Plan) (p : Part) → Leads spot
 tells-plan spot f g p l a b = tells-append p (f p) (g (after p (f p))) a (b (after p (f p)) l.changed)
 
 -- plans for items: each leads on and tells, and what an item needs stays so
-module _ {A : Type 0} (spot : Option NodeName) (P : Part → A → Type 0) (f : A → Plan) (leads : (p : Part) (x : A) → IsPart p → P p x → Leads spot p (f x p))
-    (tells : (p : Part) (x : A) → IsPart p → P p x → TellsIn p (f x p)) (stays : (p q : Part) (x : A) → Changed spot p q → P p x → P q x) where
+module _ {A : Type 0} (spot : Option NodeName) (P : Part → A → Type 0) (f : A → Plan)
+    (leads : (p : Part) (x : A) → IsPart p → P p x → Leads spot p (f x p)) (tells : (p : Part) (x : A) → IsPart p → P p x → TellsIn p (f x p))
+    (stays : (p q : Part) (x : A) → Changed spot p q → P p x → P q x) where
   -- so do all in turn
   pub tells-each : (xs : List A) (p : Part) → IsPart p → AllByRecursion (P p) xs → TellsIn p (in_turn f xs p)
   tells-each [] p i g = tt

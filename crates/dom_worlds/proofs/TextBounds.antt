@@ -234,8 +234,8 @@ children-among ts y x =
     let a = roots-among (trees_below (subtree ts y)) x in let b = times-below (subtree ts y) x in let c = times-subtree ts y x in omega arith
 
 -- A node with data, below a parent.
-module _ (x parent : NodeName) (p : Part) (i : IsPart p) (t : HasNode p x) (k : has_data (kind_of p.trees x) ≡ true) (e : parent_of p.trees x
-    ≡ Some parent) where
+module _ (x parent : NodeName) (p : Part) (i : IsPart p) (t : HasNode p x) (k : has_data (kind_of p.trees x) ≡ true)
+    (e : parent_of p.trees x ≡ Some parent) where
   -- The Texts after a Text that gets their data: it is long enough for them, and they stay as long as they are.
   pub joining-fits : let nexts = texts_after p.trees x in
       let q = after p (replacing_data x (length_of p.trees x) 0 (flat_map (λ y. (node_in p.trees y).text) nexts) p) in
