@@ -45,15 +45,14 @@ attribute-slot a (Some v) n = refl
 abbrev AloneKept : List NodeName → List ShadowHost → NodeName → Trees → Trees → Type 0
 AloneKept names hosts x was now = parent_of was x ≡ None → parent_of now x ≡ None → KeepsAssigned names hosts x was now
 
-alone-so : (names : List NodeName) (hosts : List ShadowHost) (m : Node) (d us : Trees) (p q : Spot) →
-    ((y : NodeName) → Has us y → Has (tree m d none) y → ⊥) → AreBoth names hosts (grafted m d p us) (grafted m d q us)
-    → AloneKept names hosts m.name (grafted m d p us) (grafted m d q us)
-alone-so names hosts m d us p q apart both e g = alone-kept names hosts m d us p q apart both e g
+-- A tree that is put at one spot or at another.
+module _ (names : List NodeName) (hosts : List ShadowHost) (m : Node) (d us : Trees) (p q : Spot)
+    (apart : ((y : NodeName) → Has us y → Has (tree m d none) y → ⊥)) (both : AreBoth names hosts (grafted m d p us) (grafted m d q us)) where
+  alone-so : AloneKept names hosts m.name (grafted m d p us) (grafted m d q us)
+  alone-so e g = alone-kept names hosts m d us p q apart both e g
 
-far-so : (names : List NodeName) (hosts : List ShadowHost) (m : Node) (d us : Trees) (p q : Spot) →
-    ((y : NodeName) → Has us y → Has (tree m d none) y → ⊥) → AreBoth names hosts (grafted m d p us) (grafted m d q us)
-    → KeepsFar names hosts m.name (grafted m d p us) (grafted m d q us)
-far-so names hosts m d us p q apart both = far-kept names hosts m d us p q apart both
+  far-so : KeepsFar names hosts m.name (grafted m d p us) (grafted m d q us)
+  far-so = far-kept names hosts m d us p q apart both
 
 module _ (was : Trees) (f : NamedTrees) (s : SlotsNow) (b : BegunStep) (ended : IsEndOf was f s b) (stands : StandsOnce f) where
   abbrev before : ShadowTrees

@@ -196,8 +196,8 @@ renewed-anew f hosts p old done told table keys r = record {
         (sym (r.kept k within i))))
 
 -- Slots were renewed.
-module _ {f : NamedTrees} {hosts : List ShadowHost} {p : NodeName → Bool} {old : SlotTable} {done told : List NodeName} {table : SlotTable} {keys : List ℕ}
-    (r : AreRenewed f hosts p old done told table keys) where
+module _ {f : NamedTrees} {hosts : List ShadowHost} {p : NodeName → Bool} {old : SlotTable} {done told : List NodeName} {table : SlotTable}
+    {keys : List ℕ} (r : AreRenewed f hosts p old done told table keys) where
   -- a slot more is signalled, whatever its list
   pub told-more : TellApart f.names → (next : List ℕ) (k : ℕ) → k < length f.names → next ≡ append_once nat_eq keys k →
       AreRenewed f hosts p old done (told ++ name_at f.names k ∷ []) table next
