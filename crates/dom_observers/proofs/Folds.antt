@@ -131,17 +131,17 @@ pub list_any_of_map : {X Y : Type 0} (p : X → Bool) (h : Y → X) (ys : List Y
 list_any_of_map p h [] = refl
 list_any_of_map p h (y ∷ ys) = ap (λ b. p (h y) || b) (list_any_of_map p h ys)
 
--- one image more in a fold
-pub fold-view_more : {X Y B : Type 0} (f : B → Y → B) (view : X → Y) (b : B) (xs : List X) (i : ℕ) (x : X) → i < length xs → x ≡ get_or xs i x
-    → fold f b (take (i + 1) (map view xs)) ≡ f (fold f b (take i (map view xs))) (view x)
-fold-view_more f view b xs i x short is =
-    fold_more f b (map view xs) i (view x) (let same = length-map xs view in omega (arith, same, short))
-    ∙ ap (f (fold f b (take i (map view xs)))) (get_or-map view xs i x (view x) short ∙ ap view (sym is))
+-- A fold over views of the first items.
+module _ {X Y B : Type 0} (f : B → Y → B) (view : X → Y) (b : B) (xs : List X) (i : ℕ) where
+  -- one image more in a fold
+  pub fold-view_more : (x : X) → i < length xs → x ≡ get_or xs i x → fold f b (take (i + 1) (map view xs)) ≡ f (fold f b (take i (map view xs))) (view x)
+  fold-view_more x short is =
+      fold_more f b (map view xs) i (view x) (let same = length-map xs view in omega (arith, same, short))
+      ∙ ap (f (fold f b (take i (map view xs)))) (get_or-map view xs i x (view x) short ∙ ap view (sym is))
 
--- all images in a fold
-pub fold-view_all : {X Y B : Type 0} (f : B → Y → B) (view : X → Y) (b : B) (xs : List X) (i : ℕ) → length xs ≤ i
-    → fold f b (take i (map view xs)) ≡ fold f b (map view xs)
-fold-view_all f view b xs i long = ap (fold f b) (take_all i (map view xs) (let same = length-map xs view in omega (arith, same, long)))
+  -- all images in a fold
+  pub fold-view_all : length xs ≤ i → fold f b (take i (map view xs)) ≡ fold f b (map view xs)
+  fold-view_all long = ap (fold f b) (take_all i (map view xs) (let same = length-map xs view in omega (arith, same, long)))
 
 -- one image more that passes a test
 pub filter-view_more : {X Y Z : Type 0} (p : Y → Bool) (g : Y → Z) (view : X → Y) (xs : List X) (i : ℕ) (x : X) → i < length xs → x ≡ get_or xs i x

@@ -22,13 +22,16 @@ returns-then-contains_key-clause-there c =
 
 pub returns-in_err-insert-clause-none : goal.returns-in_err-insert-clause-none
 returns-in_err-insert-clause-none c =
-    on_err c.from_residual.result (had-none c.self.inside c.self.view_is c.args.owner (sym (none_from (get OwnerImpl.ghosts.eq c.self.inside.tables c.args.owner) (sym c.if-contains_key.ensures))))
+    on_err c.from_residual.result
+    (had-none c.self.inside c.self.view_is c.args.owner
+    (sym (none_from (get OwnerImpl.ghosts.eq c.self.inside.tables c.args.owner) (sym c.if-contains_key.ensures))))
 
 pub returns : goal.returns
 returns c =
     let r : Inside = record { tables = c.insert.new.self; alloc = c.self.inside.alloc } in
     record {
-      keeps = written-none c.self.inside c.self.view_is c.args.owner r c.new.result (sym c.if-contains_key.ensures) c.new.ensures c.in_ok-insert.ensures.updates.0;
+      keeps = written-none c.self.inside c.self.view_is c.args.owner r c.new.result (sym c.if-contains_key.ensures) c.new.ensures
+          c.in_ok-insert.ensures.updates.0;
       there = lookup-get r c.args.owner ∙ ap is_some c.in_ok-insert.ensures.updates.1;
       none = tt;
     }

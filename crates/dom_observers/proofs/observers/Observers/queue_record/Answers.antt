@@ -44,7 +44,8 @@ returns-in_default-clause-tables c =
     let r : Inside = record { tables = c.get_mut.follows.lender-at-none; alloc = c.self.inside.alloc } in
     moved (λ p. ChangesTables p (told nat_eq path ch (tables_of all p)) all (all_tables r)) names c.name-owner.result k (target_of ch)
     c.name-owner.ensures.at c.target-target.ensures
-    (untouched-changes c.self.inside c.self.view_is o r (told nat_eq path ch) c.in_default.ensures.value c.get_mut.follows.holds-at-none (not_told path ch no_tables (interested-none path [] ch refl)))
+    (untouched-changes c.self.inside c.self.view_is o r (told nat_eq path ch) c.in_default.ensures.value c.get_mut.follows.holds-at-none
+    (not_told path ch no_tables (interested-none path [] ch refl)))
 
 pub returns-clause-taken : goal.returns-clause-taken
 returns-clause-taken c =
@@ -73,5 +74,6 @@ returns-clause-tables c =
     ChangesTables (name_at names (target_of ch)).owner (rule (tables_of all (name_at names (target_of ch)).owner)) all (all_tables r) =
     λ e. moved (λ p. ChangesTables p (rule (tables_of all p)) all (all_tables r)) names c.name-owner.result k (target_of ch)
     c.name-owner.ensures.at c.target-target.ensures
-    (rewritten c.self.inside c.self.view_is o r t c.queue_record.new.self rule c.in-Some.ensures.value (λ some. ((c.get_mut.follows.holds c.queue_record.new.self).3 some).0) e) in
+    (rewritten c.self.inside c.self.view_is o r t c.queue_record.new.self rule c.in-Some.ensures.value
+    (λ some. ((c.get_mut.follows.holds c.queue_record.new.self).3 some).0) e) in
     on_ok_weaker c.queue_record.result step c.queue_record.ensures.tables
