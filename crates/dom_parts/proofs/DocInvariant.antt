@@ -107,53 +107,52 @@ module _ (names : List NodeName) (ts : Trees) (tables : AllTables) (held : IsDoc
     numbered = numbered;
   }
 
-pub held_changed : (names : List NodeName) (ts : Trees) (tables : AllTables) → IsDoc names ts tables → (o : Owner) →
-    is_there (world_from names ts tables) o ≡ true
-    → (f : Trees → Trees) → IsOwnChange o f ts → KeepsAbove ts (f ts) → AreSlotsOf (named_trees names (f ts)) tables.slots → IsDoc names (f ts) tables
-held_changed names ts tables held o there f change keeps slots =
-    held_with names ts tables held o there names (f ts) tables refl change.owned change.others held.present held.limited
-    (λ p. tables_kept names ts (f ts) keeps p (tables.each p) (held.own p)) held.idle held.made
-    record { free = held.signals.free; slots = slots; nodes = held.signals.nodes } held.speaks held.unobserved held.due
-    (ranges_stay (contents names ts tables) (contents names (f ts) tables) tables.ranges held.ranges refl refl (λ p. refl)) held.numbered
+-- A document that holds its invariant.
+module _ (names : List NodeName) (ts : Trees) (tables : AllTables) (held : IsDoc names ts tables) where
+  pub held_changed : (o : Owner) → is_there (world_from names ts tables) o ≡ true → (f : Trees → Trees) → IsOwnChange o f ts → KeepsAbove ts (f ts) →
+      AreSlotsOf (named_trees names (f ts)) tables.slots → IsDoc names (f ts) tables
+  held_changed o there f change keeps slots =
+      held_with names ts tables held o there names (f ts) tables refl change.owned change.others held.present held.limited
+      (λ p. tables_kept names ts (f ts) keeps p (tables.each p) (held.own p)) held.idle held.made
+      record { free = held.signals.free; slots = slots; nodes = held.signals.nodes } held.speaks held.unobserved held.due
+      (ranges_stay (contents names ts tables) (contents names (f ts) tables) tables.ranges held.ranges refl refl (λ p. refl)) held.numbered
 
--- other observers
-pub held_observers : (names : List NodeName) (ts : Trees) (tables : AllTables) → IsDoc names ts tables → (observers : Owner → TablesOf ℕ) →
-    ((p : Owner) → SpeaksOf (IsKey names) (observers p))
-    → ((p : Owner) → is_there (world_from names ts tables) p ≡ false → observers p ≡ no_observers) → IsDoc names ts (with_observers tables observers)
-held_observers names ts tables held observers speaks unobserved = record {
-  owned = held.owned;
-  present = λ k k<. who (name_at names k).owner ∙ held.present k k<;
-  absent = λ o off. held.absent o (sym (who o) ∙ off);
-  limited = held.limited;
-  own = held.own;
-  idle = λ o off. held.idle o (sym (who o) ∙ off);
-  made = held.made;
-  signals = record { free = held.signals.free; slots = held.signals.slots; nodes = held.signals.nodes };
-  speaks = speaks;
-  unobserved = λ o off. unobserved o (sym (who o) ∙ off);
-  due = due_kept (world_from names ts tables) (world_from names ts (with_observers tables observers)) (λ o on. who o ∙ on) tables.tasks held.due;
-  ranges = ranges_stay (contents names ts tables) (contents names ts (with_observers tables observers)) tables.ranges held.ranges refl refl (λ o. refl);
-  numbered = held.numbered;
-}
-  where
-    who : (o : Owner) → is_there (world_from names ts (with_observers tables observers)) o ≡ is_there (world_from names ts tables) o
-    who o = there_same (contents names ts (with_observers tables observers)) (contents names ts tables) refl o
+  -- other observers
+  pub held_observers : (observers : Owner → TablesOf ℕ) → ((p : Owner) → SpeaksOf (IsKey names) (observers p)) →
+      ((p : Owner) → is_there (world_from names ts tables) p ≡ false → observers p ≡ no_observers) → IsDoc names ts (with_observers tables observers)
+  held_observers observers speaks unobserved = record {
+    owned = held.owned;
+    present = λ k k<. who (name_at names k).owner ∙ held.present k k<;
+    absent = λ o off. held.absent o (sym (who o) ∙ off);
+    limited = held.limited;
+    own = held.own;
+    idle = λ o off. held.idle o (sym (who o) ∙ off);
+    made = held.made;
+    signals = record { free = held.signals.free; slots = held.signals.slots; nodes = held.signals.nodes };
+    speaks = speaks;
+    unobserved = λ o off. unobserved o (sym (who o) ∙ off);
+    due = due_kept (world_from names ts tables) (world_from names ts (with_observers tables observers)) (λ o on. who o ∙ on) tables.tasks held.due;
+    ranges = ranges_stay (contents names ts tables) (contents names ts (with_observers tables observers)) tables.ranges held.ranges refl refl (λ o. refl);
+    numbered = held.numbered;
+  }
+    where
+      who : (o : Owner) → is_there (world_from names ts (with_observers tables observers)) o ≡ is_there (world_from names ts tables) o
+      who o = there_same (contents names ts (with_observers tables observers)) (contents names ts tables) refl o
 
--- other tasks
-pub held_tasks : (names : List NodeName) (ts : Trees) (tables : AllTables) → IsDoc names ts tables → (tasks : List Task) →
-    AllByRecursion (IsDue (world_from names ts tables)) tasks → IsDoc names ts (with_queue tables tasks)
-held_tasks names ts tables held tasks due = record {
-  owned = held.owned;
-  present = held.present;
-  absent = held.absent;
-  limited = held.limited;
-  own = held.own;
-  idle = held.idle;
-  made = held.made;
-  signals = record { free = held.signals.free; slots = held.signals.slots; nodes = held.signals.nodes };
-  speaks = held.speaks;
-  unobserved = held.unobserved;
-  due = due_kept (world_from names ts tables) (world_from names ts (with_queue tables tasks)) (λ o on. on) tasks due;
-  ranges = ranges_stay (contents names ts tables) (contents names ts (with_queue tables tasks)) tables.ranges held.ranges refl refl (λ o. refl);
-  numbered = held.numbered;
-}
+  -- other tasks
+  pub held_tasks : (tasks : List Task) → AllByRecursion (IsDue (world_from names ts tables)) tasks → IsDoc names ts (with_queue tables tasks)
+  held_tasks tasks due = record {
+    owned = held.owned;
+    present = held.present;
+    absent = held.absent;
+    limited = held.limited;
+    own = held.own;
+    idle = held.idle;
+    made = held.made;
+    signals = record { free = held.signals.free; slots = held.signals.slots; nodes = held.signals.nodes };
+    speaks = held.speaks;
+    unobserved = held.unobserved;
+    due = due_kept (world_from names ts tables) (world_from names ts (with_queue tables tasks)) (λ o on. on) tasks due;
+    ranges = ranges_stay (contents names ts tables) (contents names ts (with_queue tables tasks)) tables.ranges held.ranges refl refl (λ o. refl);
+    numbered = held.numbered;
+  }
