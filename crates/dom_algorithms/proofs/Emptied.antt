@@ -46,15 +46,20 @@ none_above_parent d counted node ks e =
     keys (k ∷ ks) h = (h.0, keys ks h.1)
 
 -- The state e after the children of a node are taken out.
-module _ (d e : DocState) (counted : Counted d) (node text : ℕ) (ks : List ℕ) (listed : map (name_in d) ks ≡ children_of (trees_in d node) (name_in d node)) (taken : e ≡ planned (owner_in d node) (in_turn (removing suppressed) (map (name_in d) ks)) d) where
+module _ (d e : DocState) (counted : Counted d) (node text : ℕ) (ks : List ℕ)
+    (listed : map (name_in d) ks ≡ children_of (trees_in d node) (name_in d node))
+    (taken : e ≡ planned (owner_in d node) (in_turn (removing suppressed) (map (name_in d) ks)) d) where
   -- when they are taken out, a Text may move there
-  pub text_may : ((y : NodeName) → NoneAbove d node y ks → inclusive_ancestors (trees_in e node) y ≡ inclusive_ancestors (trees_in d node) y) → text < length d.names → owner_in d text ≡ owner_in d node → is_inclusive_ancestor (trees_in d node) (name_in d text) (name_in d node) ≡ false → MayMove e node None text
+  pub text_may : ((y : NodeName) → NoneAbove d node y ks → inclusive_ancestors (trees_in e node) y ≡ inclusive_ancestors (trees_in d node) y) →
+      text < length d.names → owner_in d text ≡ owner_in d node → is_inclusive_ancestor (trees_in d node) (name_in d text) (name_in d node) ≡ false →
+      MayMove e node None text
   text_may paths there owner off =
       let names = ap (λ (s : DocState). s.names) taken in
       record {
         node = subst (λ (ns : List NodeName). text < length ns) (sym names) there;
         owner = subst (λ (ns : List NodeName). (name_at ns text).owner ≡ (name_at ns node).owner) (sym names) owner;
-        not_above = subst (λ (ns : List NodeName). is_in name_eq (name_at ns text) (inclusive_ancestors (trees_in e node) (name_at ns node)) ≡ false) (sym names)
+        not_above = subst (λ (ns : List NodeName). is_in name_eq (name_at ns text) (inclusive_ancestors (trees_in e node) (name_at ns node))
+            ≡ false) (sym names)
             (ap (is_in name_eq (name_in d text)) (paths (name_in d node) (none_above_parent d counted node ks listed)) ∙ off);
         apart = λ b is. cc;
       }
@@ -74,8 +79,10 @@ pub record TextContent : Type 0 where
   pub text_owner : owner_in start text ≡ owner_in start node
   pub listed : map (name_in start) children ≡ children_of (trees_in start node) (name_in start node)
   pub taken : emptied_state ≡ planned (owner_in start node) (in_turn (removing suppressed) (map (name_in start) children)) start
-  pub inserted : with_text ≡ planned (owner_in emptied_state node) (inserting suppressed (name_in emptied_state text) (name_in emptied_state node) None) emptied_state
-  pub told : end ≡ stepped (owner_in with_text node) (queue_record (child_list (name_in with_text node) (name_in with_text text ∷ []) (map (name_in with_text) children) None None)) with_text
+  pub inserted : with_text ≡ planned (owner_in emptied_state node) (inserting suppressed (name_in emptied_state text) (name_in emptied_state node) None)
+      emptied_state
+  pub told : end ≡ stepped (owner_in with_text node)
+      (queue_record (child_list (name_in with_text node) (name_in with_text text ∷ []) (map (name_in with_text) children) None None)) with_text
 
 -- the whole, where there is a Text
 pub put_whole : (h : TextContent) → h.end ≡ planned (owner_in h.start h.node) (putting_text (name_in h.start h.node) (name_in h.start h.text)) h.start

@@ -197,7 +197,9 @@ pub record NodeInsertion : Type 0 where
   pub placed : end ≡ placed_all how (name_in start node ∷ []) (name_in start parent) (option_map (name_in start) before) prev (owner_in start parent) start
 
 -- of one node
-pub inserted_single : (h : NodeInsertion) → h.end ≡ planned (owner_in h.start h.parent) (inserting h.how (name_in h.start h.node) (name_in h.start h.parent) (option_map (name_in h.start) h.before)) h.start
+pub inserted_single : (h : NodeInsertion) →
+    h.end ≡ planned (owner_in h.start h.parent) (inserting h.how (name_in h.start h.node) (name_in h.start h.parent) (option_map (name_in h.start) h.before))
+    h.start
 inserted_single h =
     is ∙ ap (λ q. placed_all how (name_in d node ∷ []) (name_in d parent) (option_map (name_in d) before) q (owner_in d parent) d) was
     ∙ inserted_one (owner_in d parent) how (name_in d node) (name_in d parent) (option_map (name_in d) before) d (alone parent parent_is) may.owner
@@ -226,10 +228,13 @@ pub record FragmentInsertion : Type 0 where
   pub listed : map (name_in start) children ≡ children_of (trees_in start fragment) (name_in start fragment)
   pub some_children : is_empty children ≡ false
   pub emptied : emptied_state ≡ planned (owner_in start fragment) (emptying (name_in start fragment) (map (name_in start) children)) start
-  pub placed : end ≡ placed_all how (map (name_in emptied_state) children) (name_in emptied_state parent) (option_map (name_in emptied_state) before) (option_map (name_in emptied_state) prev) (owner_in emptied_state parent) emptied_state
+  pub placed : end ≡ placed_all how (map (name_in emptied_state) children) (name_in emptied_state parent) (option_map (name_in emptied_state) before)
+      (option_map (name_in emptied_state) prev) (owner_in emptied_state parent) emptied_state
 
 -- of a fragment
-pub inserted_fragment : (h : FragmentInsertion) → h.end ≡ planned (owner_in h.start h.parent) (inserting h.how (name_in h.start h.fragment) (name_in h.start h.parent) (option_map (name_in h.start) h.before)) h.start
+pub inserted_fragment : (h : FragmentInsertion) →
+    h.end ≡ planned (owner_in h.start h.parent) (inserting h.how (name_in h.start h.fragment) (name_in h.start h.parent)
+    (option_map (name_in h.start) h.before)) h.start
 inserted_fragment h =
     let o = owner_in d parent in
     let here = name_in d parent in

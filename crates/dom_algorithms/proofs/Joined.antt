@@ -191,12 +191,18 @@ pub record Joining : Type 0 where
   pub sized : size ≡ length_of (trees_in start node) (name_in start node)
   pub collected : units ≡ flat_map (λ y. (node_in (trees_in start node) y).text) (map (name_in start) texts)
   pub replaced : replaced_state ≡ planned (owner_in start node) (replacing_data (name_in start node) size 0 units) start
-  pub same_steps : joins (trees_in replaced_state node) (name_in replaced_state node) (name_in replaced_state parent) size (map (name_in replaced_state) texts) ≡ joins (trees_in start node) (name_in replaced_state node) (name_in replaced_state parent) size (map (name_in replaced_state) texts)
-  pub carried : carried_state ≡ planned (owner_in replaced_state node) (steps_of (joins (trees_in replaced_state node) (name_in replaced_state node) (name_in replaced_state parent) size (map (name_in replaced_state) texts))) replaced_state
+  pub same_steps : joins (trees_in replaced_state node) (name_in replaced_state node) (name_in replaced_state parent) size
+      (map (name_in replaced_state) texts) ≡ joins (trees_in start node) (name_in replaced_state node) (name_in replaced_state parent) size
+      (map (name_in replaced_state) texts)
+  pub carried : carried_state
+      ≡ planned (owner_in replaced_state node)
+      (steps_of (joins (trees_in replaced_state node) (name_in replaced_state node) (name_in replaced_state parent) size
+      (map (name_in replaced_state) texts))) replaced_state
   pub taken_out : end ≡ planned (owner_in carried_state node) (in_turn (removing observed) (map (name_in carried_state) texts)) carried_state
 
 -- the steps of a joining are its plan
-pub joined_whole : (h : Joining) → h.end ≡ planned (owner_in h.start h.node) (joining (name_in h.start h.node) (name_in h.start h.parent) (map (name_in h.start) h.texts)) h.start
+pub joined_whole : (h : Joining) →
+    h.end ≡ planned (owner_in h.start h.node) (joining (name_in h.start h.node) (name_in h.start h.parent) (map (name_in h.start) h.texts)) h.start
 joined_whole h =
     let o = owner_in d node in
     let x = name_in d node in

@@ -98,7 +98,8 @@ texts_left p part x is d (k ∷ ks) h =
 -- Texts below a node that are normalized one after another, from the state d.
 module _ (top : ℕ) (all : List ℕ) (d : DocState) where
   -- a step of it
-  pub normalizes_on : (i k : ℕ) → (e f : DocState) → i < length all → k ≡ get_or all i k → AllByRecursion (IsOwnNode d top) all → Normalizes top all d (drop i all) e → f ≡ planned (owner_in e k) (normalizing_text (name_in e k)) e → Normalizes top all d (drop (i + 1) all) f
+  pub normalizes_on : (i k : ℕ) (e f : DocState) → i < length all → k ≡ get_or all i k → AllByRecursion (IsOwnNode d top) all →
+      Normalizes top all d (drop i all) e → f ≡ planned (owner_in e k) (normalizing_text (name_in e k)) e → Normalizes top all d (drop (i + 1) all) f
   normalizes_on i k e f i< is nodes turn made =
       let now : drop i all ≡ k ∷ drop (suc i) all = drop-cons all i k i< ∙ ap (λ j. j ∷ drop (suc i) all) (sym is) in
       let here = (subst (AllByRecursion (IsOwnNode d top)) now (all_drop (IsOwnNode d top) i all nodes)).0 in

@@ -198,7 +198,8 @@ removal_keeps d f counted k alone how is y off =
 -- A child of a parent, and its next sibling.
 module _ (d : DocState) (counted : Counted d) (parent child node : ℕ) (next : Option ℕ) (child_is : IsChild d parent child) where
   -- the next sibling of a child is another child
-  pub next_is_child : child ≡ node → option_map (name_in d) next ≡ next_sibling (trees_in d node) (name_in d node) → ForSome next (λ k. k < length d.names) → ForSome next (λ k. owner_in d k ≡ owner_in d node) → (b : ℕ) → next ≡ Some b → IsChild d parent b × (name_eq (name_in d node) (name_in d b) ≡ false)
+  pub next_is_child : child ≡ node → option_map (name_in d) next ≡ next_sibling (trees_in d node) (name_in d node) → ForSome next (λ k. k < length d.names) →
+      ForSome next (λ k. owner_in d k ≡ owner_in d node) → (b : ℕ) → next ≡ Some b → IsChild d parent b × (name_eq (name_in d node) (name_in d b) ≡ false)
   next_is_child same found near own b is =
       let at = subst (IsChild d parent) same child_is in
       let e : next_sibling (trees_in d parent) (name_in d node) ≡ Some (name_in d b) =

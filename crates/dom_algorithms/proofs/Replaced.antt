@@ -172,11 +172,16 @@ pub record Replacement : Type 0 where
   pub next_is : option_map (name_in start) next ≡ next_sibling (trees_in start child) (name_in start child)
   pub reference_is : option_map (name_in start) reference ≡ reference_for (trees_in start parent) (name_in start node) (option_map (name_in start) next)
   pub removed : without_child ≡ planned (owner_in start child) (removing suppressed (name_in start child)) start
-  pub inserted : with_node ≡ planned (owner_in without_child parent) (inserting suppressed (name_in without_child node) (name_in without_child parent) (option_map (name_in without_child) reference)) without_child
-  pub told : end ≡ stepped (owner_in with_node parent) (queue_record (child_list (name_in with_node parent) (map (name_in with_node) added) (name_in with_node child ∷ []) (option_map (name_in with_node) prev) (option_map (name_in with_node) reference))) with_node
+  pub inserted : with_node
+      ≡ planned (owner_in without_child parent) (inserting suppressed (name_in without_child node) (name_in without_child parent)
+      (option_map (name_in without_child) reference)) without_child
+  pub told : end ≡ stepped (owner_in with_node parent)
+      (queue_record (child_list (name_in with_node parent) (map (name_in with_node) added) (name_in with_node child ∷ [])
+      (option_map (name_in with_node) prev) (option_map (name_in with_node) reference))) with_node
 
 -- the steps of a replacement are its plan
-pub replaced_whole : (h : Replacement) → h.end ≡ planned (owner_in h.start h.parent) (replacing (name_in h.start h.parent) (name_in h.start h.node) (name_in h.start h.child)) h.start
+pub replaced_whole : (h : Replacement) →
+    h.end ≡ planned (owner_in h.start h.parent) (replacing (name_in h.start h.parent) (name_in h.start h.node) (name_in h.start h.child)) h.start
 replaced_whole h =
     let o = owner_in d parent in
     let p = name_in d parent in

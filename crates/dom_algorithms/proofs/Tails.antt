@@ -19,7 +19,8 @@ use Rattle.dom_algorithms.proofs.Placed.{Counted, once_in}
 -- A child of a parent, a new node, and what comes behind the child.
 module _ (d : DocState) (counted : Counted d) (parent node new : ℕ) (next : Option ℕ) (child : IsChild d parent node) where
   -- the new Text, which stands alone, may be placed there
-  pub tail_may : new < length d.names → owner_in d new ≡ owner_in d parent → parent_of (trees_in d node) (name_in d new) ≡ None → is_inclusive_ancestor (trees_in d node) (name_in d new) (name_in d node) ≡ false → ForSome next (IsChild d parent) → MayMove d parent next new
+  pub tail_may : new < length d.names → owner_in d new ≡ owner_in d parent → parent_of (trees_in d node) (name_in d new) ≡ None →
+      is_inclusive_ancestor (trees_in d node) (name_in d new) (name_in d node) ≡ false → ForSome next (IsChild d parent) → MayMove d parent next new
   tail_may there owner unlinked off children =
       let ts = trees_in d parent in
       let x = name_in d node in
@@ -53,13 +54,16 @@ pub record TailPlacing : Type 0 where
   pub owner : owner_in start node ≡ owner_in start parent
   pub new_owner : owner_in start new ≡ owner_in start parent
   pub next_is : option_map (name_in start) next ≡ next_sibling (trees_in start node) (name_in start node)
-  pub inserted : with_tail ≡ planned (owner_in start parent) (inserting observed (name_in start new) (name_in start parent) (option_map (name_in start) next)) start
+  pub inserted : with_tail ≡ planned (owner_in start parent) (inserting observed (name_in start new) (name_in start parent) (option_map (name_in start) next))
+      start
   pub index : ℕ
   pub index_is : index ≡ index_of (trees_in start node) (name_in start node)
-  pub moved : end ≡ stepped (owner_in with_tail node) (split_at (name_in with_tail node) offset (name_in with_tail new) (name_in with_tail parent) index) with_tail
+  pub moved : end ≡ stepped (owner_in with_tail node) (split_at (name_in with_tail node) offset (name_in with_tail new) (name_in with_tail parent) index)
+      with_tail
 
 -- and is
-pub tail_placed : (h : TailPlacing) → h.end ≡ planned (owner_in h.start h.node) (placing_tail (name_in h.start h.node) h.offset (name_in h.start h.new) (Some (name_in h.start h.parent))) h.start
+pub tail_placed : (h : TailPlacing) →
+    h.end ≡ planned (owner_in h.start h.node) (placing_tail (name_in h.start h.node) h.offset (name_in h.start h.new) (Some (name_in h.start h.parent))) h.start
 tail_placed h =
     let o = owner_in d node in
     let x = name_in d node in

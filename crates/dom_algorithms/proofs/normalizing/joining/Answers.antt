@@ -62,7 +62,10 @@ returns c =
       sized = c.length-size.ensures;
       collected = c.in_ok-units.ensures;
       replaced = c.in_ok-replacing_data.ensures;
-      same_steps = joining_exact d c.replacing_data.new.parts c.args.node c.args.parent c.length-size.result c.in_ok-units.units.items c.args.nexts.now (c.laws.ensures.alone c.args.node c.requires.node_is_node) (c.laws.ensures.parts _) c.requires.bounds (c.laws.ensures.stand c.args.node c.requires.node_is_node) c.requires.is_text c.requires.is_parent c.requires.are_nexts c.length-size.ensures c.in_ok-units.ensures c.in_ok-replacing_data.ensures;
+      same_steps = joining_exact d c.replacing_data.new.parts c.args.node c.args.parent c.length-size.result c.in_ok-units.units.items c.args.nexts.now
+          (c.laws.ensures.alone c.args.node c.requires.node_is_node) (c.laws.ensures.parts _) c.requires.bounds
+          (c.laws.ensures.stand c.args.node c.requires.node_is_node) c.requires.is_text c.requires.is_parent c.requires.are_nexts c.length-size.ensures
+          c.in_ok-units.ensures c.in_ok-replacing_data.ensures;
       carried = c.join_each.ensures;
       taken_out = taken_out;
     })) c.take_each.ensures.state

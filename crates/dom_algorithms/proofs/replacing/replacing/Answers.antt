@@ -60,7 +60,9 @@ returns-clause-world c =
       reference_is = c.reference_for-reference.ensures.value;
       removed = c.in_ok-removing.ensures;
       inserted = c.in_ok-inserting.ensures;
-      told = told ∙ ap (λ (ks : List ℕ). stepped (owner_in f c.args.parent) (queue_record (child_list (name_in f c.args.parent) (map (name_in f) ks) (name_in f c.args.child ∷ []) (option_map (name_in f) c.prev-prev.result) (option_map (name_in f) c.reference_for-reference.result))) f) c.as_slice.ensures.value;
+      told = told ∙ ap (λ (ks : List ℕ). stepped (owner_in f c.args.parent)
+          (queue_record (child_list (name_in f c.args.parent) (map (name_in f) ks) (name_in f c.args.child ∷ []) (option_map (name_in f) c.prev-prev.result)
+          (option_map (name_in f) c.reference_for-reference.result))) f) c.as_slice.ensures.value;
     }))
     c.tell_children.ensures
 

@@ -33,7 +33,9 @@ returns c =
       listed = ap (map (name_in d)) c.as_slice.ensures.value ∙ c.in_ok-children.ensures.names;
       taken = c.in_ok-take_each.ensures.state;
       inserted = c.in_ok-inserting.ensures;
-      told = told ∙ ap (λ (ks : List ℕ). stepped (owner_in f c.args.node) (queue_record (child_list (name_in f c.args.node) (name_in f c.args.text ∷ []) (map (name_in f) ks) None None)) f) (c.as_slice-2.ensures.value ∙ sym c.as_slice.ensures.value);
+      told = told ∙ ap (λ (ks : List ℕ). stepped (owner_in f c.args.node)
+          (queue_record (child_list (name_in f c.args.node) (name_in f c.args.text ∷ []) (map (name_in f) ks) None None)) f) (c.as_slice-2.ensures.value
+          ∙ sym c.as_slice.ensures.value);
     }))
     c.tell_children.ensures
 
