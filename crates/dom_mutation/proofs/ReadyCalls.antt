@@ -58,17 +58,18 @@ own-documents o p (s ∷ steps) e m = (mine p s e m.0, own-documents o (part_ste
     mine p (set_document x d) e f = f ∙ e
     mine p s e f = tt
 
--- A call of which both endings leave what is said.
-pub either-call : {X E : Type 0} (m : Result X E) (b d e f : DocState) → b ≡ d → OnOk m (e ≡ f) → OnErr m (e ≡ b) → (IsReady b → IsReady f) →
-    IsReady d → IsReady e
-either-call {X = X} {E = E} m b d e f same ok err keep h = by m ok err
-  where
-    shown : IsReady b
-    shown = subst IsReady (sym same) h
+-- A call begins with b, which is shown as d, and leaves e.
+module _ {X E : Type 0} (m : Result X E) (b d e f : DocState) (same : b ≡ d) where
+  -- A call of which both endings leave what is said.
+  pub either-call : OnOk m (e ≡ f) → OnErr m (e ≡ b) → (IsReady b → IsReady f) → IsReady d → IsReady e
+  either-call ok err keep h = by m ok err
+    where
+      shown : IsReady b
+      shown = subst IsReady (sym same) h
 
-    by : (n : Result X E) → OnOk n (e ≡ f) → OnErr n (e ≡ b) → IsReady e
-    by (Ok x) is none = subst IsReady (sym is) (keep shown)
-    by (Err y) none is = subst IsReady (sym is) shown
+      by : (n : Result X E) → OnOk n (e ≡ f) → OnErr n (e ≡ b) → IsReady e
+      by (Ok x) is none = subst IsReady (sym is) (keep shown)
+      by (Err y) none is = subst IsReady (sym is) shown
 
 -- The laws of a `Doc`.
 pub record HasLaws (d : DocState) : Type 0 where
@@ -143,17 +144,19 @@ module _ (b d e : DocState) (same : b ≡ d) (o : Owner) (c : Command) where
 named-own : (w : World) (o : Owner) (x : NodeName) → x.owner ≡ o → named (part_of w o) (own x.number) ≡ x
 named-own w o x is = ap (λ (q : Owner). node_of q x.number) (owner-part_of w o ∙ sym is)
 
--- A new range stands at its owner's first node.
-pub range-made : (b d e : DocState) → b ≡ d → HasLaws b → (o : Owner) (first : ℕ) → first < length d.names → name_in d first ≡ node_of o 0 →
-    {X E : Type 0} (m : Result X E) (v : X → Value) → IfOk m (λ x. Makes o Command.range_new (v x) b.world e.world) → IsReady d → OnOk m (IsReady e)
-range-made b d e same laws o first there is m v w h =
-    let stand = (subst HasLaws same laws).stand first there in
-    let at : IsNodeIn (part_of d.world o).trees (node_of o 0) = subst (λ (y : NodeName). IsNodeIn (part_of d.world y.owner).trees y) is stand in
-    let mine : IsNodeIn (part_of d.world o).trees (first_node (part_of d.world o)) =
-    subst (λ (q : Owner). IsNodeIn (part_of d.world o).trees (node_of q 0)) (sym (owner-part_of d.world o)) at in
-    table-answered b d e same o Command.range_new m v w
-    (λ r. range_new-ready (part_of b.world o) r
-    (subst (λ (a : DocState). IsNodeIn (part_of a.world o).trees (first_node (part_of a.world o))) (sym same) mine)) h
+-- A call begins with b, which has the laws and is shown as d, and leaves e.
+module _ (b d e : DocState) (same : b ≡ d) (laws : HasLaws b) where
+  -- A new range stands at its owner's first node.
+  pub range-made : (o : Owner) (first : ℕ) → first < length d.names → name_in d first ≡ node_of o 0 → {X E : Type 0} (m : Result X E) (v : X → Value) →
+      IfOk m (λ x. Makes o Command.range_new (v x) b.world e.world) → IsReady d → OnOk m (IsReady e)
+  range-made o first there is m v w h =
+      let stand = (subst HasLaws same laws).stand first there in
+      let at : IsNodeIn (part_of d.world o).trees (node_of o 0) = subst (λ (y : NodeName). IsNodeIn (part_of d.world y.owner).trees y) is stand in
+      let mine : IsNodeIn (part_of d.world o).trees (first_node (part_of d.world o)) =
+      subst (λ (q : Owner). IsNodeIn (part_of d.world o).trees (node_of q 0)) (sym (owner-part_of d.world o)) at in
+      table-answered b d e same o Command.range_new m v w
+      (λ r. range_new-ready (part_of b.world o) r
+      (subst (λ (a : DocState). IsNodeIn (part_of a.world o).trees (first_node (part_of a.world o))) (sym same) mine)) h
 
 -- A range gets another end where the offset is not past the node's end.
 pub within-done : {X : Type 0} {P Q : Type 0} (m : Result X Refusal) (past : Bool) → (m ≡ Err IndexSize) ↔ (past ≡ true) →
@@ -175,25 +178,27 @@ pub named-within : (b d : DocState) → b ≡ d → (o : Owner) (k offset : ℕ)
 named-within b d same o k offset own_node low =
     ap (λ x. past_end (part_of b.world o) x offset) (named-own b.world o (name_in b k) (ap (λ (a : DocState). owner_in a k) same ∙ own_node)) ∙ low
 
--- A range gets ends that may stand.
-pub range-put : (b d e : DocState) → b ≡ d → HasLaws b → (o : Owner) (k : ℕ) (r : DocState → Range NodeName) →
-    e ≡ stepped o (set_range k (r b)) b → IsReady d → MayStand (part_of d.world o).trees (r d) → IsReady e
-range-put b d e same laws o k r is h may =
-    let plan : Plan = doing (set_range k (r d)) in
-    let shown = subst HasLaws same laws in
-    let w : e.world ≡ made o plan d.world =
-    subst (λ (a : DocState). e.world ≡ (stepped o (set_range k (r a)) a).world) same (ap (λ (s : DocState). s.world) is) in
-    subst AreReady (sym w)
-    (ready-made d.world o plan shown.parts h (λ m. part_of-stepped d.world o (set_range k (r d)))
-    (ready-set_range (part_of d.world o) (shown.parts o) (h o) k (r d) may.ends may.start may.end))
+-- So do these calls.
+module _ (b d e : DocState) (same : b ≡ d) (laws : HasLaws b) where
+  -- A range gets ends that may stand.
+  pub range-put : (o : Owner) (k : ℕ) (r : DocState → Range NodeName) → e ≡ stepped o (set_range k (r b)) b → IsReady d →
+      MayStand (part_of d.world o).trees (r d) → IsReady e
+  range-put o k r is h may =
+      let plan : Plan = doing (set_range k (r d)) in
+      let shown = subst HasLaws same laws in
+      let w : e.world ≡ made o plan d.world =
+      subst (λ (a : DocState). e.world ≡ (stepped o (set_range k (r a)) a).world) same (ap (λ (s : DocState). s.world) is) in
+      subst AreReady (sym w)
+      (ready-made d.world o plan shown.parts h (λ m. part_of-stepped d.world o (set_range k (r d)))
+      (ready-set_range (part_of d.world o) (shown.parts o) (h o) k (r d) may.ends may.start may.end))
 
--- A new node of an owner, no shadow root.
-pub node-made : (b d e : DocState) → b ≡ d → HasLaws b → (o : Owner) (n : DocState → Node) → is_shadow (n d).kind ≡ false →
-    {X E : Type 0} (m : Result X E) → OnOk m (e.world ≡ made o (doing (make (n b))) b.world) → IsReady d → OnOk m (IsReady e)
-node-made b d e same laws o n plain m w h =
-    let plan : Plan = doing (make (n d)) in
-    let shown = subst HasLaws same laws in
-    if-done m
-    (λ v. subst AreReady (sym (subst (λ (a : DocState). e.world ≡ made o (doing (make (n a))) a.world) same v))
-    (ready-made d.world o plan shown.parts h (λ g. part_of-stepped d.world o (make (n d)))
-    (ready-make (part_of d.world o) (shown.parts o) (h o) (n d) plain))) w
+  -- A new node of an owner, no shadow root.
+  pub node-made : (o : Owner) (n : DocState → Node) → is_shadow (n d).kind ≡ false → {X E : Type 0} (m : Result X E) →
+      OnOk m (e.world ≡ made o (doing (make (n b))) b.world) → IsReady d → OnOk m (IsReady e)
+  node-made o n plain m w h =
+      let plan : Plan = doing (make (n d)) in
+      let shown = subst HasLaws same laws in
+      if-done m
+      (λ v. subst AreReady (sym (subst (λ (a : DocState). e.world ≡ made o (doing (make (n a))) a.world) same v))
+      (ready-made d.world o plan shown.parts h (λ g. part_of-stepped d.world o (make (n d)))
+      (ready-make (part_of d.world o) (shown.parts o) (h o) (n d) plain))) w
