@@ -1,6 +1,6 @@
 -- Going up from keys' nodes, by how many nodes stand above them.
 use Rattle.std.proofs.Common.{◌≡◌, ◌⊎◌, inl, inr, ℕ, ◌+◌, ◌<◌, ◌≤◌, true, false, List, [], ◌∷◌, ◌++◌, length, Option, Some, None, refl, sym, ap}
-use Rattle.std.proofs.Common.{subst, ◌∙◌, arith, length-append}
+use Rattle.std.proofs.Common.{◌∙◌, arith, length-append}
 use Rattle.std.specs.Prelude.{option_map, unwrap_or}
 use Rattle.std.specs.Option.{option_or}
 use Rattle.std.proofs.lemmas.Bool.{cases_Bool, false_from_ne_true}
@@ -9,16 +9,15 @@ use Rattle.dom_model.specs.Names.{name_eq, items_before}
 use Rattle.dom_model.specs.Place.{place_from}
 use Rattle.dom_model.specs.Tree.{Trees, none, tree, on_top, parent_of, inclusive_ancestors, is_inclusive_ancestor}
 use Rattle.dom_tree.specs.Forest.{NamedTrees, name_at}
-use Rattle.dom_traversal.proofs.Chains.{above-split, above-chain, above-along}
+use Rattle.dom_traversal.proofs.Chains.{above-split, above-chain}
 use Rattle.dom_traversal.proofs.Counts.{StandOnce, StandAlone, Once-forest, Has-forest}
-use Rattle.dom_traversal.proofs.Lists.{In, In-from, is_in-from}
+use Rattle.dom_traversal.proofs.Lists.{In, In-from}
 use Rattle.dom_traversal.proofs.Shapes.{Once, Has, Has-above, above-parent, above-present, above-root}
 use Rattle.dom_ranges.specs.Climbs.{depth_at}
 
 -- how many nodes stand above a key's node, with that one
 abbrev pub height_at : NamedTrees → ℕ → ℕ
 height_at f k = length (inclusive_ancestors f.trees (name_at f.names k))
-
 
 -- ---- as many numbers are in a node's place as nodes stand above it, with that one
 

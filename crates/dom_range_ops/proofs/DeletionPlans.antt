@@ -145,17 +145,37 @@ module _ (ts : Trees) (r : Range NodeName) where
 
 -- ---- the steps of a `Doc`
 
+-- a deletion of contents, state by state: the data at the start, the nodes between, the data at the end
+pub record ContentsDeletion : Type 0 where
+  -- the states
+  pub before : DocState
+  pub start_cut : DocState
+  pub removed : DocState
+  pub end_cut : DocState
+  -- the nodes at the ends of the range
+  pub first_node : ℕ
+  pub last_node : ℕ
+  pub trees : Trees
+  pub range : Range NodeName
+  -- the parts of their data that go, and the nodes between them
+  pub first_part : Option (ℕ × ℕ)
+  pub last_part : Option (ℕ × ℕ)
+  pub keys : List ℕ
+  pub start_is : range.start.node ≡ name_in before first_node
+  pub end_is : range.end.node ≡ name_in before last_node
+  pub alone : IsAlone before.world (owner_in before first_node)
+  pub apart_ends : is_in_one_data trees range ≡ false
+  pub one_owner : owner_in before last_node ≡ owner_in before first_node
+  pub first_part_is : cutting (name_in before first_node) first_part ≡ cutting_data trees range (name_in before first_node)
+  pub last_part_is : cutting (name_in before last_node) last_part ≡ cutting_data trees range (name_in before last_node)
+  pub keys_are : map (name_in before) keys ≡ outermost_contained trees range
+  pub start_cut_is : start_cut ≡ planned (owner_in before first_node) (cutting (name_in before first_node) first_part) before
+  pub removed_is : removed ≡ planned (owner_in start_cut first_node) (in_turn (removing observed) (map (name_in start_cut) keys)) start_cut
+  pub end_cut_is : end_cut ≡ planned (owner_in removed last_node) (cutting (name_in removed last_node) last_part) removed
+
 -- the data at the start, the nodes between, the data at the end
-pub contents-made : (d d1 d2 d3 : DocState) (first last : ℕ) (ts : Trees) (r : Range NodeName) (p1 p2 : Option (ℕ × ℕ)) (ks : List ℕ) →
-    r.start.node ≡ name_in d first → r.end.node ≡ name_in d last
-    → IsAlone d.world (owner_in d first) → is_in_one_data ts r ≡ false → owner_in d last ≡ owner_in d first
-    → cutting (name_in d first) p1 ≡ cutting_data ts r (name_in d first) → cutting (name_in d last) p2 ≡ cutting_data ts r (name_in d last) →
-    map (name_in d) ks ≡ outermost_contained ts r
-    → d1 ≡ planned (owner_in d first) (cutting (name_in d first) p1) d →
-    d2 ≡ planned (owner_in d1 first) (in_turn (removing observed) (map (name_in d1) ks)) d1 →
-    d3 ≡ planned (owner_in d2 last) (cutting (name_in d2 last) p2) d2
-    → d3 ≡ planned (owner_in d first) (deleting_contents ts r) d
-contents-made d d1 d2 d3 first last ts r p1 p2 ks start end alone one owner cut1 cut2 found e1 e2 e3 =
+pub contents-made : (h : ContentsDeletion) → h.end_cut ≡ planned (owner_in h.before h.first_node) (deleting_contents h.trees h.range) h.before
+contents-made h =
     let o = owner_in d first in
     let first_cut = cutting_data ts r r.start.node in
     let removals = in_turn (removing observed) (outermost_contained ts r) in
@@ -176,6 +196,10 @@ contents-made d d1 d2 d3 first last ts r p1 p2 ks start end alone one owner cut1
     ∙ (ap (planned o last_cut) g2
     ∙ (planned_then o (first_cut and_then removals) last_cut d alone (plans-front ts r o) ∙
     ap (λ (f : Plan). planned o f d) (sym (cond-false (is_in_one_data ts r) first_cut (apart ts r) one))))
+  where
+    open h use {before as d, start_cut as d1, removed as d2, end_cut as d3, first_node as first, last_node as last, trees as ts, range as r}
+    open h use {last_part as p2, keys as ks, start_is as start, end_is as end, alone, apart_ends as one, one_owner as owner, first_part_is as cut1}
+    open h use {last_part_is as cut2, keys_are as found, start_cut_is as e1, removed_is as e2, end_cut_is as e3}
 
 -- and then the range's ends
 pub deletion-made : (o : Owner) (k : ℕ) (w : World) (r s : Range NodeName) → IsAlone w o → range_at (part_of w o) k ≡ Some r →
@@ -190,14 +214,34 @@ deletion-made o k w r s alone there wide ends =
     ∙ (ap (world_after o w) (sym (cond-false (is_collapsed name_eq r) [] ((contents and_then setting) p) wide))
     ∙ ap (λ (m : Option (Range NodeName)). world_after o w (option_map_or (λ (q : Range NodeName). deleting k q p) m [])) (sym there)))
 
+-- a deletion of a range's contents, state by state: the contents go, and the range collapses to the new place
+pub record RangeDeletion : Type 0 where
+  pub owner : Owner
+  pub number : ℕ
+  -- the states
+  pub before : DocState
+  pub deleted : DocState
+  pub collapsed : DocState
+  pub first_node : ℕ
+  pub range : Range NodeName
+  pub new_start : ℕ × ℕ
+  pub new_end : ℕ × ℕ
+  -- the new place
+  pub spot : ℕ × ℕ
+  pub is_own : owner_in before first_node ≡ owner
+  pub alone : IsAlone before.world (owner_in before first_node)
+  pub range_is : range_at (part_of before.world owner) number ≡ Some range
+  pub not_collapsed : is_collapsed name_eq range ≡ false
+  pub spot_is : at (name_in before spot.0) spot.1 ≡ new_place (trees_in before first_node) range
+  pub deleted_is : deleted ≡ planned (owner_in before first_node) (deleting_contents (trees_in before first_node) range) before
+  pub start_is : new_start ≡ spot
+  pub end_is : new_end ≡ spot
+  pub collapsed_is : collapsed
+      ≡ stepped owner (set_range number (from_to (at (name_in deleted new_start.0) new_start.1) (at (name_in deleted new_end.0) new_end.1))) deleted
+
 -- a deletion of a range's contents does to the states what its plan does
-pub deletion-done : (o : Owner) (k : ℕ) (d d1 d2 : DocState) (first : ℕ) (r : Range NodeName) (a b spot : ℕ × ℕ) → owner_in d first ≡ o →
-    IsAlone d.world (owner_in d first) → range_at (part_of d.world o) k ≡ Some r → is_collapsed name_eq r ≡ false
-    → at (name_in d spot.0) spot.1 ≡ new_place (trees_in d first) r → d1 ≡ planned (owner_in d first) (deleting_contents (trees_in d first) r) d →
-    a ≡ spot → b ≡ spot
-    → d2 ≡ stepped o (set_range k (from_to (at (name_in d1 a.0) a.1) (at (name_in d1 b.0) b.1))) d1 →
-    d2.world ≡ made o (λ p. plan_of_range p k (deleting k)) d.world
-deletion-done o k d d1 d2 first r a b spot own alone there wide spot_is e1 a_is b_is e2 =
+pub deletion-done : (h : RangeDeletion) → h.collapsed.world ≡ made h.owner (λ p. plan_of_range p h.number (deleting h.number)) h.before.world
+deletion-done h =
     let names = ap (λ (s : DocState). s.names) e1 in
     let q = owner_in d first in
     let s = from_to (at (name_in d1 a.0) a.1) (at (name_in d1 b.0) b.1) in
@@ -210,6 +254,9 @@ deletion-done o k d d1 d2 first r a b spot own alone there wide spot_is e1 a_is 
     ∙ (ap (λ (e : DocState). world_after q e.world (set_range k s ∷ [])) e1
     ∙ (deletion-made q k d.world r s alone (ap (λ n. range_at (part_of d.world n) k) own ∙ there) wide ends ∙
     ap (λ n. made n (λ p. plan_of_range p k (deleting k)) d.world) own)))
+  where
+    open h use {number as k, before as d, deleted as d1, first_node as first, range as r, new_start as a, new_end as b, spot, is_own as own, alone}
+    open h use {range_is as there, not_collapsed as wide, spot_is, deleted_is as e1, start_is as a_is, end_is as b_is, collapsed_is as e2}
 
 -- the range is there still
 pub deletion-there : (o : Owner) (k : ℕ) (d d1 : DocState) (first : ℕ) (r : Range NodeName) → owner_in d first ≡ o →

@@ -76,32 +76,33 @@ module _ (d : DocState) (o : Owner) (k : ℕ) (parent node : ℕ) (alone : IsAlo
       ∙ ap (λ b. planned o (gone and_then inserting_before k x y b) d)
       (referred ∙ ap (λ w. reference_for (part_of d.world w).trees x (option_map (name_in d) child)) own)
 
--- what was asked of a parent and a reference still holds when another node has left its parent
-pub stays-left : (d e : DocState) → Counted d → (parent node : ℕ) (reference : Option ℕ) → IsAlone d.world (owner_in d node) →
-    owner_in d node ≡ owner_in d parent
-    → is_inclusive_ancestor (trees_in d parent) (name_in d node) (name_in d parent) ≡ false → ForSome reference (IsChild d parent) →
-    ForSome reference (λ b. name_eq (name_in d node) (name_in d b) ≡ false)
-    → e ≡ planned (owner_in d node) (removing observed (name_in d node)) d → Stays parent reference d e
-stays-left d e counted parent node reference alone owner off children apart is =
-    let x = name_in d node in
-    let names : e.names ≡ d.names = ap (λ (s : DocState). s.names) is in
-    let lacks : Lacks x (inclusive_ancestors (trees_in d parent) (name_in d parent)) =
-    lacks_from x (inclusive_ancestors (trees_in d parent) (name_in d parent)) off in
-    let same : trees_in d node ≡ trees_in d parent = ap (λ o. (part_of d.world o).trees) owner in
-    let then : trees_in e parent ≡ trees_in e node =
-    ap (λ (ns : List NodeName). (part_of e.world (name_at ns parent).owner).trees) names ∙
-    (ap (λ o. (part_of e.world o).trees) (sym owner) ∙ ap (λ (ns : List NodeName). (part_of e.world (name_at ns node).owner).trees)
-    (sym names)) in
-    let kept : (z : NodeName) → Lacks x (inclusive_ancestors (trees_in d parent) z) →
-    inclusive_ancestors (trees_in e parent) z ≡ inclusive_ancestors (trees_in d parent) z = λ z h.
-    ap (λ t. inclusive_ancestors t z) then
-    ∙ (removal_keeps d e counted node alone observed is z
-    (ap (λ t. is_inclusive_ancestor t x z) same ∙ lacks_to x (inclusive_ancestors (trees_in d parent) z) h) ∙
-    ap (λ t. inclusive_ancestors t z) same) in
-    record {
-      names = names;
-      parent_path = kept (name_in d parent) lacks;
-      before_path = λ b here. kept (name_in d b)
-          (subst (Lacks x) (sym (parent_path (trees_in d parent) (once_in d counted (owner_in d parent)) (name_in d b) (name_in d parent)
-          (children b here).child)) (apart b here, lacks));
-    }
+-- A node that another parent and reference do not depend on leaves its parent.
+module _ (d e : DocState) (counted : Counted d) (parent node : ℕ) (reference : Option ℕ) (alone : IsAlone d.world (owner_in d node))
+    (owner : owner_in d node ≡ owner_in d parent) where
+  -- what was asked of a parent and a reference still holds when another node has left its parent
+  pub stays-left : is_inclusive_ancestor (trees_in d parent) (name_in d node) (name_in d parent) ≡ false → ForSome reference (IsChild d parent) →
+      ForSome reference (λ b. name_eq (name_in d node) (name_in d b) ≡ false) → e ≡ planned (owner_in d node) (removing observed (name_in d node)) d →
+      Stays parent reference d e
+  stays-left off children apart is =
+      let x = name_in d node in
+      let names : e.names ≡ d.names = ap (λ (s : DocState). s.names) is in
+      let lacks : Lacks x (inclusive_ancestors (trees_in d parent) (name_in d parent)) =
+      lacks_from x (inclusive_ancestors (trees_in d parent) (name_in d parent)) off in
+      let same : trees_in d node ≡ trees_in d parent = ap (λ o. (part_of d.world o).trees) owner in
+      let then : trees_in e parent ≡ trees_in e node =
+      ap (λ (ns : List NodeName). (part_of e.world (name_at ns parent).owner).trees) names ∙
+      (ap (λ o. (part_of e.world o).trees) (sym owner) ∙ ap (λ (ns : List NodeName). (part_of e.world (name_at ns node).owner).trees)
+      (sym names)) in
+      let kept : (z : NodeName) → Lacks x (inclusive_ancestors (trees_in d parent) z) →
+      inclusive_ancestors (trees_in e parent) z ≡ inclusive_ancestors (trees_in d parent) z = λ z h.
+      ap (λ t. inclusive_ancestors t z) then
+      ∙ (removal_keeps d e counted node alone observed is z
+      (ap (λ t. is_inclusive_ancestor t x z) same ∙ lacks_to x (inclusive_ancestors (trees_in d parent) z) h) ∙
+      ap (λ t. inclusive_ancestors t z) same) in
+      record {
+        names = names;
+        parent_path = kept (name_in d parent) lacks;
+        before_path = λ b here. kept (name_in d b)
+            (subst (Lacks x) (sym (parent_path (trees_in d parent) (once_in d counted (owner_in d parent)) (name_in d b) (name_in d parent)
+            (children b here).child)) (apart b here, lacks));
+      }

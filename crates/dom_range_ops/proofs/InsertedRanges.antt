@@ -24,13 +24,14 @@ use Rattle.dom_parts.proofs.Made.{plan_alone}
 steps_there : (p : Part) (steps : List Step) (k : ℕ) → is_some (range_at p k) ≡ true → is_some (range_at (after p steps) k) ≡ true
 steps_there p steps k h = (keeps-steps p steps).tables.ranges k h
 
--- after a plan that keeps the owner's part ready
-pub range-there : (d : DocState) (k : ℕ) (o : Owner) (plan : Plan) (now : World) → HasLaws d → k < length d.names → owner_in d k ≡ o →
-    now ≡ made o plan d.world → KeepReady (part_of d.world o) (plan (part_of d.world o)) →
-    (j : ℕ) → is_some (range_at (part_of d.world o) j) ≡ true → is_some (range_at (part_of now o) j) ≡ true
-range-there d k o plan now laws there own e keep j h =
-    subst (λ (p : Part). is_some (range_at p j) ≡ true) (sym (part-planned d k o plan now laws there own e keep.made))
-    (steps_there (part_of d.world o) (plan (part_of d.world o)) j h)
+-- The plan of an owner, by a key of one of its nodes.
+module _ (d : DocState) (k : ℕ) (o : Owner) (plan : Plan) (now : World) (laws : HasLaws d) (there : k < length d.names) (own : owner_in d k ≡ o) where
+  -- after a plan that keeps the owner's part ready
+  pub range-there : now ≡ made o plan d.world → KeepReady (part_of d.world o) (plan (part_of d.world o)) → (j : ℕ) → is_some (range_at (part_of d.world o) j)
+      ≡ true → is_some (range_at (part_of now o) j) ≡ true
+  range-there e keep j h =
+      subst (λ (p : Part). is_some (range_at p j) ≡ true) (sym (part-planned d k o plan now laws there own e keep.made))
+      (steps_there (part_of d.world o) (plan (part_of d.world o)) j h)
 
 -- after a plan of its owner
 pub range-kept : (o : Owner) (f : Plan) (v w : World) → IsAlone v o → PlansOwn o f → w ≡ made o f v → (k : ℕ) →

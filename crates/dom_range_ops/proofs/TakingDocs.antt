@@ -104,12 +104,30 @@ node-read d f o k owned names own is =
     ap (λ (ns : List NodeName). node_in f.trees (name_at ns k)) names ∙ (read_own f.trees owned o (name_in d k) is).node ∙
     ap (λ us. node_in us (name_in d k)) own
 
+-- a new node is made below another one, and code units go from a node
+pub record UnitsTaken : Type 0 where
+  -- the states
+  pub start : DocState
+  pub with_node : DocState
+  pub end : DocState
+  -- the keys of the nodes
+  pub top : ℕ
+  pub node : ℕ
+  pub made_node : Node
+  pub offset : ℕ
+  pub count : ℕ
+  pub alone : IsAlone start.world (owner_in start top)
+  pub made_own : made_node.name.owner ≡ owner_in start top
+  pub node_own : owner_in start node ≡ owner_in start top
+  pub name_kept : name_in with_node node ≡ name_in start node
+  pub world_is : with_node.world ≡ made (owner_in start top) (making_below (name_in start top) made_node) start.world
+  pub end_is : end ≡ planned (owner_in with_node node) (replacing_data (name_in with_node node) offset count []) with_node
+
 -- a new node below another one, and code units that go
-pub units-made : (d e g : DocState) (top node : ℕ) (n : Node) (from count : ℕ) → IsAlone d.world (owner_in d top) →
-    n.name.owner ≡ owner_in d top → owner_in d node ≡ owner_in d top → name_in e node ≡ name_in d node →
-    e.world ≡ made (owner_in d top) (making_below (name_in d top) n) d.world → g ≡ planned (owner_in e node) (replacing_data (name_in e node) from count []) e →
-    g.world ≡ made (owner_in d top) (making_below (name_in d top) n and_then replacing_data (name_in d node) from count []) d.world
-units-made d e g top node n from count alone own owner same world is =
+pub units-made : (h : UnitsTaken) →
+    h.end.world ≡ made (owner_in h.start h.top) (making_below (name_in h.start h.top) h.made_node and_then replacing_data (name_in h.start h.node) h.offset
+    h.count []) h.start.world
+units-made h =
     let o = owner_in d top in
     let cut : Plan = replacing_data (name_in d node) from count [] in
     ap (λ (s : DocState). s.world) is
@@ -117,3 +135,6 @@ units-made d e g top node n from count alone own owner same world is =
     ∙ ap (λ r. made r cut e.world) owner
     ∙ ap (made o cut) world
     ∙ sym (made_then o (making_below (name_in d top) n) cut d.world alone (plans-below o (name_in d top) n own))
+  where
+    open h use {start as d, with_node as e, top, node, made_node as n, offset as from, count, alone, made_own as own, node_own as owner}
+    open h use {name_kept as same, world_is as world, end_is as is}

@@ -42,21 +42,21 @@ taken-of into p x o =
           (λ e. absurd (let a = ancestor-inside p.trees x z e in let b = o.alone z k in omega arith)) (λ e. e);
     }
 
--- after changes that place others below a taker
-taken-still : (into top : NodeName) (p q : Part) → into.number ≤ top.number → IsPart p → Changed (Some top) p q → (x : NodeName) →
-    IsTaken into p.trees x → IsTaken into q.trees x
-taken-still into top p q le i c x t = taken-of into q x (old-still into.number top p q le c x (old-of into p x i t))
+-- A part that steps below a node have changed.
+module _ (into top : NodeName) (p q : Part) (le : into.number ≤ top.number) (i : IsPart p) (c : Changed (Some top) p q) where
+  -- after changes that place others below a taker
+  taken-still : (x : NodeName) → IsTaken into p.trees x → IsTaken into q.trees x
+  taken-still x t = taken-of into q x (old-still into.number top p q le c x (old-of into p x i t))
 
--- each item
-item-still : (into top : NodeName) (p q : Part) → into.number ≤ top.number → IsPart p → Changed (Some top) p q → (item : Item) →
-    MayBeTaken into p.trees item → MayBeTaken into q.trees item
-item-still into top p q le i c (whole_item x) h = taken-still into top p q le i c x h
-item-still into top p q le i c (cut_item x from to) h =
-    (taken-still into top p q le i c x h.0, ap has_data (c.kinds x (has_node-times p.trees x h.0.there)) ∙ h.1)
-item-still into top p q le i c (clone_item x) h =
-    let kind = c.kinds x (has_node-times p.trees x h.0.there) in
-    (taken-still into top p q le i c x h.0, ap has_data kind ∙ h.1, ap is_shadow kind ∙ h.2)
-item-still into top p q le i c end_item h = tt
+  -- each item
+  item-still : (item : Item) → MayBeTaken into p.trees item → MayBeTaken into q.trees item
+  item-still (whole_item x) h = taken-still x h
+  item-still (cut_item x from to) h =
+      (taken-still x h.0, ap has_data (c.kinds x (has_node-times p.trees x h.0.there)) ∙ h.1)
+  item-still (clone_item x) h =
+      let kind = c.kinds x (has_node-times p.trees x h.0.there) in
+      (taken-still x h.0, ap has_data kind ∙ h.1, ap is_shadow kind ∙ h.2)
+  item-still end_item h = tt
 
 -- a taker stays one
 taker-still : {spot : Option NodeName} (into : NodeName) (p q : Part) → Changed spot p q → (x : NodeName) → IsTaker into p.trees x → IsTaker into q.trees x

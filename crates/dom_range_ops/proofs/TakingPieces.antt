@@ -31,44 +31,45 @@ or-one P [] i k h g = g
 or-one P (j ∷ ks) zero k h g = h.0
 or-one P (j ∷ ks) (suc i) k h g = or-one P ks i k h.1 g
 
--- nodes of an owner stay such where others come
-pub own-kept : (d e : DocState) (more : List NodeName) (into : ℕ) → e.names ≡ d.names ++ more → into < length d.names → (ks : List ℕ) →
-    AllByRecursion (IsOwnNode d into) ks → AllByRecursion (IsOwnNode e into) ks
-own-kept d e more into names here ks h =
-    all-then (IsOwnNode d into) (IsOwnNode e into)
-    (λ k own. (
-      node-kept d e more k names own.0,
-      ap (λ (y : NodeName). y.owner) (name-kept d e more k names own.0) ∙ own.1 ∙
-          sym (ap (λ (y : NodeName). y.owner) (name-kept d e more into names here)),
-    )) ks h
+-- More nodes were made.
+module _ (d e : DocState) (more : List NodeName) (into : ℕ) (names : e.names ≡ d.names ++ more) where
+  -- nodes of an owner stay such where others come
+  pub own-kept : into < length d.names → (ks : List ℕ) → AllByRecursion (IsOwnNode d into) ks → AllByRecursion (IsOwnNode e into) ks
+  own-kept here ks h =
+      all-then (IsOwnNode d into) (IsOwnNode e into)
+      (λ k own. (
+        node-kept d e more k names own.0,
+        ap (λ (y : NodeName). y.owner) (name-kept d e more k names own.0) ∙ own.1 ∙
+            sym (ap (λ (y : NodeName). y.owner) (name-kept d e more into names here)),
+      )) ks h
 
--- so do their names
-pub names-same : (d e : DocState) (more : List NodeName) (into : ℕ) → e.names ≡ d.names ++ more → (ks : List ℕ) →
-    AllByRecursion (IsOwnNode d into) ks → names_in e ks ≡ names_in d ks
-names-same d e more into names ks h = ap reverse (each ks h)
-  where
-    each : (ks : List ℕ) → AllByRecursion (IsOwnNode d into) ks → map (name_in e) ks ≡ map (name_in d) ks
-    each [] g = refl
-    each (k ∷ ks) g = ap (λ x. x ∷ map (name_in e) ks) (name-kept d e more k names g.0.0) ∙ ap (λ xs. name_in d k ∷ xs) (each ks g.1)
+  -- so do their names
+  pub names-same : (ks : List ℕ) → AllByRecursion (IsOwnNode d into) ks → names_in e ks ≡ names_in d ks
+  names-same ks h = ap reverse (each ks h)
+    where
+      each : (ks : List ℕ) → AllByRecursion (IsOwnNode d into) ks → map (name_in e) ks ≡ map (name_in d) ks
+      each [] g = refl
+      each (k ∷ ks) g = ap (λ x. x ∷ map (name_in e) ks) (name-kept d e more k names g.0.0) ∙ ap (λ xs. name_in d k ∷ xs) (each ks g.1)
 
--- with a new one
-pub names-pushed : (d e : DocState) (y : NodeName) (into new : ℕ) → e.names ≡ d.names ++ y ∷ [] → new ≡ length d.names → (ks : List ℕ) →
-    AllByRecursion (IsOwnNode d into) ks → names_in e (ks ++ new ∷ []) ≡ y ∷ names_in d ks
-names-pushed d e y into new names key ks h =
-    let is : name_in e new ≡ y = ap (name_in e) key ∙ ap (λ (ns : List NodeName). name_at ns (length d.names)) names ∙
-    get_or-append_seam d.names y [] (node_of Page 0) in
-    stack-push (name_in e) ks new ∙ ap (λ x. x ∷ names_in e ks) is ∙ ap (λ xs. y ∷ xs) (names-same d e (y ∷ []) into names ks h)
+-- One more node was made.
+module _ (d e : DocState) (y : NodeName) (into new : ℕ) (names : e.names ≡ d.names ++ y ∷ []) (key : new ≡ length d.names) where
+  -- with a new one
+  pub names-pushed : (ks : List ℕ) → AllByRecursion (IsOwnNode d into) ks → names_in e (ks ++ new ∷ []) ≡ y ∷ names_in d ks
+  names-pushed ks h =
+      let is : name_in e new ≡ y = ap (name_in e) key ∙ ap (λ (ns : List NodeName). name_at ns (length d.names)) names ∙
+      get_or-append_seam d.names y [] (node_of Page 0) in
+      stack-push (name_in e) ks new ∙ ap (λ x. x ∷ names_in e ks) is ∙ ap (λ xs. y ∷ xs) (names-same d e (y ∷ []) into names ks h)
 
--- which is the owner's
-pub own-pushed : (d e : DocState) (y : NodeName) (into new : ℕ) → e.names ≡ d.names ++ y ∷ [] → new ≡ length d.names → y.owner ≡ owner_in d into →
-    into < length d.names → (ks : List ℕ) → AllByRecursion (IsOwnNode d into) ks → AllByRecursion (IsOwnNode e into) (ks ++ new ∷ [])
-own-pushed d e y into new names key owner here ks h =
-    let is : name_in e new ≡ y = ap (name_in e) key ∙ ap (λ (ns : List NodeName). name_at ns (length d.names)) names ∙
-    get_or-append_seam d.names y [] (node_of Page 0) in
-    let size = ap (λ (ns : List NodeName). length ns) names in
-    let more = length-append d.names (y ∷ []) in
-    all-append (IsOwnNode e into) ks (new ∷ []) (own-kept d e (y ∷ []) into names here ks h)
-    ((omega arith, ap (λ (x : NodeName). x.owner) is ∙ owner ∙ sym (ap (λ (x : NodeName). x.owner) (name-kept d e (y ∷ []) into names here))), tt)
+  -- which is the owner's
+  pub own-pushed : y.owner ≡ owner_in d into → into < length d.names → (ks : List ℕ) → AllByRecursion (IsOwnNode d into) ks →
+      AllByRecursion (IsOwnNode e into) (ks ++ new ∷ [])
+  own-pushed owner here ks h =
+      let is : name_in e new ≡ y = ap (name_in e) key ∙ ap (λ (ns : List NodeName). name_at ns (length d.names)) names ∙
+      get_or-append_seam d.names y [] (node_of Page 0) in
+      let size = ap (λ (ns : List NodeName). length ns) names in
+      let more = length-append d.names (y ∷ []) in
+      all-append (IsOwnNode e into) ks (new ∷ []) (own-kept d e (y ∷ []) into names here ks h)
+      ((omega arith, ap (λ (x : NodeName). x.owner) is ∙ owner ∙ sym (ap (λ (x : NodeName). x.owner) (name-kept d e (y ∷ []) into names here))), tt)
 
 module _ (d : DocState) (into : ℕ) (ks : List ℕ) (piece : Piece) (here : into < length d.names) (own : AllByRecursion (IsOwnNode d into) ks)
     (may : MayTake (part_of d.world (owner_in d into)) (name_in d into) (names_in d ks) (item_in d.names piece ∷ []))

@@ -81,9 +81,27 @@ returns-clause-world c =
     let r = range_at_points d.names points in
     let wide = sym (c.is_collapsed.ensures d.names (c.laws.ensures.distinct points.start.0 points.end.0 k.start_is_node k.end_is_node)) ∙
     c.if-is_collapsed.false in
-    deletion-done c.args.owner c.args.number d c.delete_contents.new.doc c.range_put.new.self points.start.0 r c.both_at.result.start
-    c.both_at.result.end c.place_after-place.result here.owner alone here.there wide c.place_after-place.ensures.value
-    c.in_ok-delete_contents.ensures c.both_at.ensures.start c.both_at.ensures.end c.range_put.ensures.state
+    deletion-done (record {
+      owner = c.args.owner;
+      number = c.args.number;
+      before = d;
+      deleted = c.delete_contents.new.doc;
+      collapsed = c.range_put.new.self;
+      first_node = points.start.0;
+      range = r;
+      new_start = c.both_at.result.start;
+      new_end = c.both_at.result.end;
+      spot = c.place_after-place.result;
+      is_own = here.owner;
+      alone = alone;
+      range_is = here.there;
+      not_collapsed = wide;
+      spot_is = c.place_after-place.ensures.value;
+      deleted_is = c.in_ok-delete_contents.ensures;
+      start_is = c.both_at.ensures.start;
+      end_is = c.both_at.ensures.end;
+      collapsed_is = c.range_put.ensures.state;
+    })
 
 pub returns-clause-ready : goal.returns-clause-ready
 returns-clause-ready c h =

@@ -14,9 +14,29 @@ returns c =
     let points = c.args.points.now in
     let first = points.start.0 in
     on_ok_weaker c.cut-3.result
-    (contents-made d d1 d2 c.cut-3.new.doc first points.end.0 (trees_in d first) (range_at_points d.names points) c.part_at-at_start.result
-    c.part_at-at_end.result c.in_ok-found.found.items refl refl
-    (c.laws.ensures.alone first c.requires.start) (sym c.is_within_one.ensures ∙ c.if-is_within_one.false) c.requires.owner
-    c.part_at-at_start.ensures c.part_at-at_end.ensures c.in_ok-found.ensures.value c.in_ok-cut.ensures
-    (c.in_ok-remove_each.ensures ∙ ap (λ ks. planned (owner_in d1 first) (in_turn (removing observed) (map (name_in d1) ks)) d1) c.as_slice.ensures.value))
+    (λ end_cut_is. contents-made (record {
+      before = d;
+      start_cut = d1;
+      removed = d2;
+      end_cut = c.cut-3.new.doc;
+      first_node = first;
+      last_node = points.end.0;
+      trees = trees_in d first;
+      range = range_at_points d.names points;
+      first_part = c.part_at-at_start.result;
+      last_part = c.part_at-at_end.result;
+      keys = c.in_ok-found.found.items;
+      start_is = refl;
+      end_is = refl;
+      alone = c.laws.ensures.alone first c.requires.start;
+      apart_ends = sym c.is_within_one.ensures ∙ c.if-is_within_one.false;
+      one_owner = c.requires.owner;
+      first_part_is = c.part_at-at_start.ensures;
+      last_part_is = c.part_at-at_end.ensures;
+      keys_are = c.in_ok-found.ensures.value;
+      start_cut_is = c.in_ok-cut.ensures;
+      removed_is = c.in_ok-remove_each.ensures ∙ ap (λ ks. planned (owner_in d1 first) (in_turn (removing observed) (map (name_in d1) ks)) d1)
+          c.as_slice.ensures.value;
+      end_cut_is = end_cut_is;
+    }))
     c.cut-3.ensures

@@ -1,5 +1,4 @@
-use Rattle.std.proofs.Common.{◌≡◌, ◌∷◌, ◌++◌, [], List, None, refl, sym, ap, ◌∙◌, subst}
-use Rattle.dom_base.specs.declared.NodeName.{NodeName}
+use Rattle.std.proofs.Common.{◌≡◌, ◌∷◌, ◌++◌, [], None, refl, sym, ap, ◌∙◌, subst}
 use Rattle.dom_base.specs.declared.Owner.{Owner}
 use Rattle.dom_model.specs.Changes.{doing, observed, inserting}
 use Rattle.dom_model.specs.Part.{next_name}

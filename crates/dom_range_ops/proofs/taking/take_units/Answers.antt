@@ -58,10 +58,22 @@ returns-clause-world c =
     ap (λ (ns : List NodeName). node_from ns y c.in_ok-copy.copy) (sym c.forest-forest.ensures.names) ∙ c.in_ok-copy.ensures.value y ∙
     ap (clone_part y c.args.from c.args.to) read in
     let count = c.saturating_sub.result in
-    units-made d e c.delete_data.new.self c.args.top c.args.node n c.args.from count (c.laws.ensures.alone c.args.top c.requires.top_is_node)
-    (owner-part_of d.world o) c.requires.node_owner
-    (name-kept d e (y ∷ []) c.args.node c.in_ok-add_below.ensures.names c.requires.node_is_node) c.in_ok-add_below.ensures.world
-    c.in_ok-delete_data.ensures.state
+    units-made (record {
+      start = d;
+      with_node = e;
+      end = c.delete_data.new.self;
+      top = c.args.top;
+      node = c.args.node;
+      made_node = n;
+      offset = c.args.from;
+      count = count;
+      alone = c.laws.ensures.alone c.args.top c.requires.top_is_node;
+      made_own = owner-part_of d.world o;
+      node_own = c.requires.node_owner;
+      name_kept = name-kept d e (y ∷ []) c.args.node c.in_ok-add_below.ensures.names c.requires.node_is_node;
+      world_is = c.in_ok-add_below.ensures.world;
+      end_is = c.in_ok-delete_data.ensures.state;
+    })
     ∙ ap (λ (m : Node). made o (making_below (name_in d c.args.top) m and_then replacing_data x c.args.from count []) d.world) is
     ∙ ap (λ k. made o (making_below (name_in d c.args.top) (clone_part y c.args.from c.args.to (node_in (trees_in d c.args.top) x)) and_then
     replacing_data x c.args.from k []) d.world) c.saturating_sub.ensures
