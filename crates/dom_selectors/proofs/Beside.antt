@@ -119,18 +119,18 @@ after-next ts x once h = by (first_of (after_list ts x)) refl
     by None e = no_first (after_list ts x) e ∙ ap (from ts) (sym e)
     by (Some s) e = has_parent s e (parent_of ts x) refl ∙ ap (from ts) (sym e)
 
--- the siblings before a node are its previous sibling and those before that one, by keys
-pub previous_step : (f : NamedTrees) → StandOnce f → StandAlone f → (k : ℕ) (o : Option ℕ) → k < length f.names →
-    option_map (name_at f.names) o ≡ previous_sibling f.trees (name_at f.names k)
-    → before_list f.trees (name_at f.names k) ≡ up_to f.trees (option_map (name_at f.names) o)
-previous_step f once only k o node is = before-previous f.trees (name_at f.names k) (Once-forest f once only) (Has-forest f once k node) ∙
-    ap (up_to f.trees) (sym is)
+-- A node of a forest, and a node beside it.
+module _ (f : NamedTrees) (once : StandOnce f) (only : StandAlone f) (k : ℕ) (o : Option ℕ) (node : k < length f.names) where
+  -- the siblings before a node are its previous sibling and those before that one, by keys
+  pub previous_step : option_map (name_at f.names) o ≡ previous_sibling f.trees (name_at f.names k) → before_list f.trees (name_at f.names k)
+      ≡ up_to f.trees (option_map (name_at f.names) o)
+  previous_step is = before-previous f.trees (name_at f.names k) (Once-forest f once only) (Has-forest f once k node) ∙
+      ap (up_to f.trees) (sym is)
 
--- the siblings behind a node are its next sibling and those behind that one, by keys
-pub next_step : (f : NamedTrees) → StandOnce f → StandAlone f → (k : ℕ) (o : Option ℕ) → k < length f.names →
-    option_map (name_at f.names) o ≡ next_sibling f.trees (name_at f.names k)
-    → after_list f.trees (name_at f.names k) ≡ from f.trees (option_map (name_at f.names) o)
-next_step f once only k o node is = after-next f.trees (name_at f.names k) (Once-forest f once only) (Has-forest f once k node) ∙ ap (from f.trees) (sym is)
+  -- the siblings behind a node are its next sibling and those behind that one, by keys
+  pub next_step : option_map (name_at f.names) o ≡ next_sibling f.trees (name_at f.names k) → after_list f.trees (name_at f.names k)
+      ≡ from f.trees (option_map (name_at f.names) o)
+  next_step is = after-next f.trees (name_at f.names k) (Once-forest f once only) (Has-forest f once k node) ∙ ap (from f.trees) (sym is)
 
 -- there are fewer before a node than up to it
 pub previous_less : (f : NamedTrees) (k : ℕ) (at o : Option ℕ) → at ≡ Some k →

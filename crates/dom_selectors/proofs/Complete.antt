@@ -147,8 +147,10 @@ tested-read {value = value} name t h rest =
     to_name h.before name (h.between ++ (sign t ++ more)) h.spaces_before h.named (spaces-off h.between (sign t ++ more) h.spaces_between at.off)
     ∙ ap (λ k. closed_by (codes "]") (read_test name k)) (skip-read h.between (sign t ++ more) h.spaces_between at.apart)
     ∙ ap (λ o. closed_by (codes "]") (read_test_of name (sign t ++ more) o)) at.found
-    ∙ ap (λ k. closed_by (codes "]") (read_map (with_value name t) (read_value k))) (skip-read h.behind (h.said ++ end) h.spaces_behind (value-head h.said value end h.valued))
-    ∙ ap (λ r. closed_by (codes "]") (read_map (with_value name t) r)) (value-read h.said value end h.valued (spaces-off h.after (93 ∷ rest) h.spaces_after refl))
+    ∙ ap (λ k. closed_by (codes "]") (read_map (with_value name t) (read_value k)))
+    (skip-read h.behind (h.said ++ end) h.spaces_behind (value-head h.said value end h.valued))
+    ∙ ap (λ r. closed_by (codes "]") (read_map (with_value name t) r))
+    (value-read h.said value end h.valued (spaces-off h.after (93 ∷ rest) h.spaces_after refl))
     ∙ ap (λ k. option_map (λ b. (with_value name t value, b)) (expect (codes "]") k)) (skip-read h.after (93 ∷ rest) h.spaces_after refl)
 
 -- the first that is found

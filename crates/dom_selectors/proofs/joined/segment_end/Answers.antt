@@ -45,7 +45,9 @@ loop-last-preserved c =
     record {
       node = c.in-Some-chain_before.ensures.node;
       shorter = omega (arith, c.in-Some-split_last.ensures.cases.1, c.in-Some-chain_before.ensures.shorter);
-      comes = comes-before c.loop-last.invariant.comes (compound_view last.compound.items) (is ∙ ap (λ h. joined left (combinator_view h) (compound_view last.compound.items)) its_later) (complex_from c.args.first.now next.links.now) (name_at f.names next.key) (Once-forest f c.nodes_stand_once.ensures.once c.nodes_stand_once.ensures.only) c.in-Some-chain_before.ensures.ends;
+      comes = comes-before c.loop-last.invariant.comes (compound_view last.compound.items) (is
+          ∙ ap (λ h. joined left (combinator_view h) (compound_view last.compound.items)) its_later) (complex_from c.args.first.now next.links.now)
+          (name_at f.names next.key) (Once-forest f c.nodes_stand_once.ensures.once c.nodes_stand_once.ensures.only) c.in-Some-chain_before.ensures.ends;
     }
 
 pub returns-then-not-matches-clause-ends : goal.returns-then-not-matches-clause-ends
@@ -75,7 +77,8 @@ returns-in_default-chain_before-clause-ends c =
       | in_default-matches w ↦ absurd (true≢false (sym c.if-not-matches.false ∙ w.matches-is))
     ] in
     let is = last-joined c.args.first.now end.links.now c.in-Some-split_last.left.now last c.in-Some-split_last.ensures.cases.0 in
-    none-before c.loop-last.invariant.comes (compound_view last.compound.items) (is ∙ ap (λ h. joined left (combinator_view h) (compound_view last.compound.items)) its_later) c.in_default-chain_before.ensures.ends
+    none-before c.loop-last.invariant.comes (compound_view last.compound.items) (is
+    ∙ ap (λ h. joined left (combinator_view h) (compound_view last.compound.items)) its_later) c.in_default-chain_before.ensures.ends
 
 pub returns-clause-ends : goal.returns-clause-ends
 returns-clause-ends c =
