@@ -73,37 +73,36 @@ module _ (f : NamedTrees) (hosts : List ShadowHost) (t : NodeName) (r : Option N
         begins depth [] h = h
         begins depth (i ∷ rest) h = (ap (name_at f.names) h.0 ∙ named, h.1 ∙ off, h.2)
 
-    -- one item more, among more trees
-    pub track-more : (trees new : List Tree) (items : List Item) (x : PathNode) (i : Item) (more : List Item) (next : Option PathNode) →
-        IsTrack trees items (Some x) → Grows trees new
-        → more ≡ items ++ i ∷ [] → IsItemOf f hosts t r trees i → i.node ≡ x.node → i.slot_in_closed ≡ x.is_entered
-        → ForSome next (IsPathNode f hosts new)
-        → ((depth : ℕ) → IsHosted f hosts depth →
-        option_map (λ (y : PathNode). name_at f.names y.node) next ≡ next_name f hosts t r depth composed (name_at f.names x.node))
-        → ForSome next (λ y. y.is_entered ≡ is_assigned_at (shadows f hosts) (name_at f.names y.node) (name_at f.names x.node))
-        → IsTrack new more next
-    track-more trees new items x i more next track g e item node entered place value behind = subst (λ is. IsTrack new is next) (sym e) (record {
-      place = place;
-      each = all-other (IsItemOf f hosts t r trees) (IsItemOf f hosts t r new) (item-kept trees new g) (items ++ i ∷ [])
-          (all-more (IsItemOf f hosts t r trees) items i track.each item);
-      way = λ depth hosted rest h. subst (IsWay f hosts t r depth composed) (sym (append_assoc items (i ∷ []) rest))
-          (track.way depth hosted (i ∷ rest) (node, entered, goes depth next (value depth hosted) behind rest h));
-    })
-      where
-        at : name_at f.names x.node ≡ name_at f.names i.node
-        at = ap (name_at f.names) (sym node)
+    -- The path node x at the end of a track, among trees that grow.
+    module _ (trees new : List Tree) (items : List Item) (x : PathNode) (i : Item) (more : List Item) (next : Option PathNode)
+        (track : IsTrack trees items (Some x)) where
+      -- one item more, among more trees
+      pub track-more : Grows trees new → more ≡ items ++ i ∷ [] → IsItemOf f hosts t r trees i → i.node ≡ x.node → i.slot_in_closed ≡ x.is_entered →
+          ForSome next (IsPathNode f hosts new) → ((depth : ℕ) → IsHosted f hosts depth → option_map (λ (y : PathNode). name_at f.names y.node) next
+          ≡ next_name f hosts t r depth composed (name_at f.names x.node)) →
+          ForSome next (λ y. y.is_entered ≡ is_assigned_at (shadows f hosts) (name_at f.names y.node) (name_at f.names x.node)) → IsTrack new more next
+      track-more g e item node entered place value behind = subst (λ is. IsTrack new is next) (sym e) (record {
+        place = place;
+        each = all-other (IsItemOf f hosts t r trees) (IsItemOf f hosts t r new) (item-kept trees new g) (items ++ i ∷ [])
+            (all-more (IsItemOf f hosts t r trees) items i track.each item);
+        way = λ depth hosted rest h. subst (IsWay f hosts t r depth composed) (sym (append_assoc items (i ∷ []) rest))
+            (track.way depth hosted (i ∷ rest) (node, entered, goes depth next (value depth hosted) behind rest h));
+      })
+        where
+          at : name_at f.names x.node ≡ name_at f.names i.node
+          at = ap (name_at f.names) (sym node)
 
-        goes : (depth : ℕ) (next : Option PathNode) →
-            option_map (λ (y : PathNode). name_at f.names y.node) next ≡ next_name f hosts t r depth composed (name_at f.names x.node)
-            → ForSome next (λ y. y.is_entered ≡ is_assigned_at (shadows f hosts) (name_at f.names y.node) (name_at f.names x.node))
-            → (rest : List Item) → Comes depth next rest → GoesOn f hosts t r depth composed (name_at f.names i.node) rest
-        goes depth None v en rest h = subst (λ z. GoesOn f hosts t r depth composed z rest) at
-            (subst (GoesOn f hosts t r depth composed (name_at f.names x.node)) (sym h) (sym v))
-        goes depth (Some y) v en [] h = absurd h
-        goes depth (Some y) v en (j ∷ rest) h =
-            let same : name_at f.names y.node ≡ name_at f.names j.node = ap (name_at f.names) (sym h.0) in
-            subst (λ z. GoesOn f hosts t r depth composed z (j ∷ rest)) at
-            (sym v ∙ ap Some same, h.1 ∙ en y refl ∙ ap (λ z. is_assigned_at (shadows f hosts) z (name_at f.names x.node)) same, h.2)
+          goes : (depth : ℕ) (next : Option PathNode) →
+              option_map (λ (y : PathNode). name_at f.names y.node) next ≡ next_name f hosts t r depth composed (name_at f.names x.node)
+              → ForSome next (λ y. y.is_entered ≡ is_assigned_at (shadows f hosts) (name_at f.names y.node) (name_at f.names x.node))
+              → (rest : List Item) → Comes depth next rest → GoesOn f hosts t r depth composed (name_at f.names i.node) rest
+          goes depth None v en rest h = subst (λ z. GoesOn f hosts t r depth composed z rest) at
+              (subst (GoesOn f hosts t r depth composed (name_at f.names x.node)) (sym h) (sym v))
+          goes depth (Some y) v en [] h = absurd h
+          goes depth (Some y) v en (j ∷ rest) h =
+              let same : name_at f.names y.node ≡ name_at f.names j.node = ap (name_at f.names) (sym h.0) in
+              subst (λ z. GoesOn f hosts t r depth composed z (j ∷ rest)) at
+              (sym v ∙ ap Some same, h.1 ∙ en y refl ∙ ap (λ z. is_assigned_at (shadows f hosts) z (name_at f.names x.node)) same, h.2)
 
     -- as it ends
     pub track-last : (trees : List Tree) (items : List Item) (next : Option PathNode) → next ≡ None → IsTrack trees items next → (depth : ℕ) →
