@@ -67,7 +67,8 @@ module _ {old piece rest : List ℕ} {lines : List (List ℕ)} {kept : List ℕ}
   fed_step k at = let cut = cut_at_first 10 rest k at in fed_line (take k rest) (drop (k + 1) rest) cut.0 cut.1
 
   -- what is fed up to a place is so for equal values
-  pub fed_same : (rest' : List ℕ) (lines' : List (List ℕ)) (kept' : List ℕ) → rest' ≡ rest → lines' ≡ lines → kept' ≡ kept → IsFedUpTo old piece rest' lines' kept'
+  pub fed_same : (rest' : List ℕ) (lines' : List (List ℕ)) (kept' : List ℕ) → rest' ≡ rest → lines' ≡ lines → kept' ≡ kept →
+      IsFedUpTo old piece rest' lines' kept'
   fed_same rest' lines' kept' e f g = rw (e, f, g) h
 
   -- the end of the piece

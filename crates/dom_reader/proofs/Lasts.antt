@@ -22,16 +22,17 @@ not_ended : {A : Type 0} (x : A) (rest : List ℕ) → at_end {A = Unit {0}} tt 
 not_ended x [] e = absurd cc
 not_ended x (b ∷ rest) e = refl
 
--- a word that says something is the last one where the line ends behind it
-pub last_given : {A : Type 0} (says : Word → Option A) (bytes word rest : List ℕ) (x : A)
-    → next_word bytes ≡ Some (word, rest) → says word ≡ Some x → at_end {A = Unit {0}} tt rest ≡ Some tt → last_as says bytes ≡ Some (Some x)
-last_given says bytes word rest x e f end = read_last says bytes word rest x e f ∙ ended (Some x) rest end
+-- Some bytes, their first word with the bytes behind it, and what the word says.
+module _ {A : Type 0} (says : Word → Option A) (bytes word rest : List ℕ) (x : A) where
+  -- a word that says something is the last one where the line ends behind it
+  pub last_given : next_word bytes ≡ Some (word, rest) → says word ≡ Some x → at_end {A = Unit {0}} tt rest ≡ Some tt → last_as says bytes ≡ Some (Some x)
+  last_given e f end = read_last says bytes word rest x e f ∙ ended (Some x) rest end
 
--- where the reading of the line's end fails, that of the last word does
-pub last_fails : {A : Type 0} (says : Word → Option A) (bytes word rest : List ℕ) (x : A) (e : NotRead)
-    → next_word bytes ≡ Some (word, rest) → says word ≡ Some x → Fails e (at_end {A = Unit {0}} tt rest) → Fails e (last_as says bytes)
-last_fails says bytes word rest x Syntax e f end = read_last says bytes word rest x e f ∙ not_ended (Some x) rest end
-last_fails says bytes word rest x Memory e f end = tt
+  -- where the reading of the line's end fails, that of the last word does
+  pub last_fails : (e : NotRead) → next_word bytes ≡ Some (word, rest) → says word ≡ Some x → Fails e (at_end {A = Unit {0}} tt rest) →
+      Fails e (last_as says bytes)
+  last_fails Syntax e f end = read_last says bytes word rest x e f ∙ not_ended (Some x) rest end
+  last_fails Memory e f end = tt
 
 -- what is made of the value at the end of the line
 pub made_at_end : {A B : Type 0} (makes : A → B) (x : A) (rest : List ℕ) → (at_end x rest >>= λ y. Some (makes y)) ≡ at_end (makes x) rest
