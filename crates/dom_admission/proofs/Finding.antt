@@ -71,18 +71,19 @@ is_found names ts x None finds found kept = cases (has_node ts x) refl
     cases true h = let there = finds.only x h in let no : None ≡ Some there.0 = kept there.0 there.1 in absurd cc
     cases false h = refl
 
--- a node is found in an owner's own trees, as a line of the owner spells it
-pub find_own : (names : List NodeName) (ts : Trees) (w : World) → FindsNames names ts → AreOwned ts →
-    ((o : Owner) → trees_of_owner o ts ≡ (part_of w o).trees) →
-    (o : Owner) (s : NodeWord) (n : ℕ) → n ≡ number_in s → (r : Option ℕ) → ForSome r (λ k. slice_get names k ≡ Some (node_of o n)) →
-    ((k : ℕ) → slice_get names k ≡ Some (node_of o n) → r ≡ Some k) →
-    ForSome r (λ k. (k < length names) × (name_at names k ≡ named (part_of w o) s)) × (is_some r ≡ has_node (part_of w o).trees (named (part_of w o) s))
-find_own names ts w finds owned own_trees o s n e r found kept =
-    let x = node_of o n in
-    let spelled : named (part_of w o) s ≡ x =
-    named-number_in (part_of w o) s ∙ ap (λ (p : Owner). node_of p (number_in s)) (owner-part_of w o) ∙ ap (node_of o) (sym e) in
-    let here : has_node ts x ≡ has_node (part_of w o).trees x = (read_own ts owned o x refl).presence ∙ ap (λ (us : Trees). has_node us x) (own_trees o) in
-    rw spelled (found_node names x r found, is_found names ts x r finds found kept ∙ here)
+-- Trees by their names, and a world that shows them.
+module _ (names : List NodeName) (ts : Trees) (w : World) (finds : FindsNames names ts) (owned : AreOwned ts)
+    (own_trees : ((o : Owner) → trees_of_owner o ts ≡ (part_of w o).trees)) where
+  -- a node is found in an owner's own trees, as a line of the owner spells it
+  pub find_own : (o : Owner) (s : NodeWord) (n : ℕ) → n ≡ number_in s → (r : Option ℕ) → ForSome r (λ k. slice_get names k ≡ Some (node_of o n)) →
+      ((k : ℕ) → slice_get names k ≡ Some (node_of o n) → r ≡ Some k) → ForSome r (λ k. (k < length names) × (name_at names k ≡ named (part_of w o) s))
+      × (is_some r ≡ has_node (part_of w o).trees (named (part_of w o) s))
+  find_own o s n e r found kept =
+      let x = node_of o n in
+      let spelled : named (part_of w o) s ≡ x =
+      named-number_in (part_of w o) s ∙ ap (λ (p : Owner). node_of p (number_in s)) (owner-part_of w o) ∙ ap (node_of o) (sym e) in
+      let here : has_node ts x ≡ has_node (part_of w o).trees x = (read_own ts owned o x refl).presence ∙ ap (λ (us : Trees). has_node us x) (own_trees o) in
+      rw spelled (found_node names x r found, is_found names ts x r finds found kept ∙ here)
 
 -- a node of an owner is the same in its own trees
 pub node_own : (ts : Trees) (w : World) → AreOwned ts → ((o : Owner) → trees_of_owner o ts ≡ (part_of w o).trees) → (o : Owner) (s : NodeWord) →

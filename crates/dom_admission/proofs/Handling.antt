@@ -71,24 +71,22 @@ all_there w o ns e = cases (is_busy w o) (has_foreign ns) (is_there w o) (are_th
 pub one_there : (w : World) (o : Owner) (n : Operand) → let_pass (early_refusal w o (n ∷ [])) ≡ Ok tt → is_there_as (part_of w o) n ≡ true
 one_there w o n e = sym (and_true (is_there_as (part_of w o) n)) ∙ all_there w o (n ∷ []) e
 
--- a line that doesn't pass is refused, and nothing is changed
-pub refused_own : (w : World) (o : Owner) (c : Command) (names : List Operand) (text : List ℕ) (f : Fault) → IsNamingOf o c names →
-    let_pass (early_refusal w o names) ≡ Err f →
-    IsHandled o c w w text text (Err f)
-refused_own w o c names text f is h = by (early_refusal w o names) (refusal-of_own w o c names is) f h
-  where
-    by : (e : Option Refusal) → refusal w o c ≡ option_or e (own_refusal (part_of w o) c) → (f : Fault) → let_pass e ≡ Err f →
-        IsHandled o c w w text text (Err f)
-    by None is f h = absurd cc
-    by (Some r) is (Refused q) h =
-        let same : r ≡ q = cc in
-        (is ∙ ap Some same, refl, refl)
-    by (Some r) is Memory h = tt
+-- A line that doesn't pass is refused, and nothing is changed.
+module _ (w : World) (o : Owner) (c : Command) (names : List Operand) (text : List ℕ) (f : Fault) where
+  -- a line that doesn't pass is refused, and nothing is changed
+  pub refused_own : IsNamingOf o c names → let_pass (early_refusal w o names) ≡ Err f → IsHandled o c w w text text (Err f)
+  refused_own is h = by (early_refusal w o names) (refusal-of_own w o c names is) f h
+    where
+      by : (e : Option Refusal) → refusal w o c ≡ option_or e (own_refusal (part_of w o) c) → (f : Fault) → let_pass e ≡ Err f →
+          IsHandled o c w w text text (Err f)
+      by None is f h = absurd cc
+      by (Some r) is (Refused q) h =
+          let same : r ≡ q = cc in
+          (is ∙ ap Some same, refl, refl)
+      by (Some r) is Memory h = tt
 
-pub refused : (w : World) (o : Owner) (c : Command) (names : List Operand) (text : List ℕ) (f : Fault) → IsNaming c names →
-    let_pass (early_refusal w o names) ≡ Err f →
-    IsHandled o c w w text text (Err f)
-refused w o c names text f is h = refused_own w o c names text f (naming_of o c names is) h
+  pub refused : IsNaming c names → let_pass (early_refusal w o names) ≡ Err f → IsHandled o c w w text text (Err f)
+  refused is h = refused_own (naming_of o c names is) h
 
 -- what is done by a command that passes is its own refusal, or its run
 pub handled_own : (w new : World) (o : Owner) (c : Command) (names : List Operand) (before after : List ℕ) (r : Result (Unit {0}) Fault) →
@@ -305,35 +303,31 @@ answered w o v reply there is =
     ap (λ (u : World). run u reply) (sym (with_part-same (opening_turn w o) o (opened-there w o there)))
     ∙ ap (run (with_part (opening_turn w o) (part_of (opening_turn w o) o))) (is ∙ ap v (opened-part w o))
 
--- a command that only answers
-pub reads : (w new : World) (o : Owner) (c : Command) (names : List Operand) (v : Part → Value) (reply : Value) (before after : List ℕ)
-    (r : Result (Unit {0}) Fault) →
-    IsNaming c names → accepted w o c ≡ answering_only w o v → let_pass (early_refusal w o names) ≡ Ok tt → own_refusal (part_of w o) c ≡ None →
-    reply ≡ v (part_of w o) →
-    IsDone None (opening_turn w o, says o (replied reply) ∷ []) w new before after r → IsHandled o c w new before after r
-reads w new o c names v reply before after r is runs pass none value ending =
-    handled w new o c names before after r is pass
-    (finished (own_refusal (part_of w o) c) (opening_turn w o, says o (replied reply) ∷ []) (accepted w o c) w w new before after r none
-    (answered w o v reply (admitted w o names pass) value ∙ sym runs) ending)
+-- A line passes, and its command has no refusal of its own.
+module _ (w : World) (o : Owner) (c : Command) (names : List Operand) (pass : let_pass (early_refusal w o names) ≡ Ok tt)
+    (none : own_refusal (part_of w o) c ≡ None) where
+  -- the command only answers
+  pub reads : (new : World) (v : Part → Value) (reply : Value) (before after : List ℕ) (r : Result (Unit {0}) Fault) → IsNaming c names →
+      accepted w o c ≡ answering_only w o v → reply ≡ v (part_of w o) →
+      IsDone None (opening_turn w o, says o (replied reply) ∷ []) w new before after r → IsHandled o c w new before after r
+  reads new v reply before after r is runs value ending =
+      handled w new o c names before after r is pass
+      (finished (own_refusal (part_of w o) c) (opening_turn w o, says o (replied reply) ∷ []) (accepted w o c) w w new before after r none
+      (answered w o v reply (admitted w o names pass) value ∙ sym runs) ending)
 
--- a command that only answers, and reads more than its owner's part
-pub asks_own : (w new : World) (o : Owner) (c : Command) (names : List Operand) (v : World → Value) (reply : Value) (before after : List ℕ)
-    (r : Result (Unit {0}) Fault) →
-    IsNamingOf o c names → accepted w o c ≡ (opening_turn w o, says o (replied (v (opening_turn w o))) ∷ []) →
-    let_pass (early_refusal w o names) ≡ Ok tt → own_refusal (part_of w o) c ≡ None →
-    reply ≡ v (opening_turn w o) → IsDone None (opening_turn w o, says o (replied reply) ∷ []) w new before after r → IsHandled o c w new before after r
-asks_own w new o c names v reply before after r is runs pass none value ending =
-    let run : Value → Run World = λ a. (opening_turn w o, says o (replied a) ∷ []) in
-    handled_own w new o c names before after r is pass
-    (finished (own_refusal (part_of w o) c) (run reply) (accepted w o c) w w new before after r none (ap run value ∙ sym runs) ending)
+  -- it only answers, and reads more than its owner's part
+  pub asks_own : (new : World) (v : World → Value) (reply : Value) (before after : List ℕ) (r : Result (Unit {0}) Fault) → IsNamingOf o c names →
+      accepted w o c ≡ (opening_turn w o, says o (replied (v (opening_turn w o))) ∷ []) → reply ≡ v (opening_turn w o) →
+      IsDone None (opening_turn w o, says o (replied reply) ∷ []) w new before after r → IsHandled o c w new before after r
+  asks_own new v reply before after r is runs value ending =
+      let run : Value → Run World = λ a. (opening_turn w o, says o (replied a) ∷ []) in
+      handled_own w new o c names before after r is pass
+      (finished (own_refusal (part_of w o) c) (run reply) (accepted w o c) w w new before after r none (ap run value ∙ sym runs) ending)
 
-pub asks : (w new : World) (o : Owner) (c : Command) (names : List Operand) (v : World → Value) (reply : Value) (before after : List ℕ)
-    (r : Result (Unit {0}) Fault) →
-    IsNaming c names → accepted w o c ≡ (opening_turn w o, says o (replied (v (opening_turn w o))) ∷ []) →
-    let_pass (early_refusal w o names) ≡ Ok tt → own_refusal (part_of w o) c ≡ None →
-    reply ≡ v (opening_turn w o) → IsDone None (opening_turn w o, says o (replied reply) ∷ []) w new before after r → IsHandled o c w new before after r
-asks w new o c names v reply before after r is runs pass none value ending =
-    asks_own w new o c names v reply before after r (naming_of o c names is) runs pass none value ending
+  pub asks : (new : World) (v : World → Value) (reply : Value) (before after : List ℕ) (r : Result (Unit {0}) Fault) → IsNaming c names →
+      accepted w o c ≡ (opening_turn w o, says o (replied (v (opening_turn w o))) ∷ []) → reply ≡ v (opening_turn w o) →
+      IsDone None (opening_turn w o, says o (replied reply) ∷ []) w new before after r → IsHandled o c w new before after r
+  asks new v reply before after r is runs value ending = asks_own new v reply before after r (naming_of o c names is) runs value ending
 
 -- a command that only answers, and is refused by tests of its own, or memory was refused
 pub unanswered : (w : World) (o : Owner) (c : Command) (names : List Operand) (text : List ℕ) (f : Fault) → IsNaming c names →

@@ -124,13 +124,36 @@ lacks_none true r h = refl
 lacks_none false r h = absurd (h refl)
 
 -- a command that makes a node
-pub makes_node : (w new : World) (o : Owner) (c : Command) (k : Kind) (a e : Word) (s u : DomString) (before after : List ℕ)
-    (r : Result (Unit {0}) Fault) → IsNaming c [] →
-    let_pass (early_refusal w o []) ≡ Ok tt → own_refusal (part_of w o) c ≡ adding_refusal (part_of w o) k a →
-    accepted w o c ≡ making o k e u w → a ≡ e → s ≡ u →
-    IsDone (adding_refusal (part_of w o) k a) (making o k a s w) w new before after r → IsHandled o c w new before after r
-makes_node w new o c k a e s u before after r is pass own runs element text done =
+pub record NodeCommand : Type 0 where
+  pub world : World
+  pub now : World
+  pub owner : Owner
+  pub command : Command
+  pub kind : Kind
+  -- the word of an element and the units of a Text, as they are passed and as the line has them
+  pub word : Word
+  pub element : Word
+  pub units : DomString
+  pub text : DomString
+  -- the lines put before and after it
+  pub before : List ℕ
+  pub after : List ℕ
+  pub result : Result (Unit {0}) Fault
+  pub names_nothing : IsNaming command []
+  pub pass : let_pass (early_refusal world owner []) ≡ Ok tt
+  pub refusal_is : own_refusal (part_of world owner) command ≡ adding_refusal (part_of world owner) kind word
+  pub run_is : accepted world owner command ≡ making owner kind element text world
+  pub word_is : word ≡ element
+  pub units_are : units ≡ text
+  pub done : IsDone (adding_refusal (part_of world owner) kind word) (making owner kind word units world) world now before after result
+
+-- a command that makes a node
+pub makes_node : (h : NodeCommand) → IsHandled h.owner h.command h.world h.now h.before h.after h.result
+makes_node h =
     let run : making o k a s w ≡ accepted w o c = ap (λ (b : Word). making o k b s w) element ∙ ap (λ (v : DomString). making o k e v w) text ∙ sym runs in
     handled w new o c [] before after r is pass
     (subst (λ q. IsDone q (accepted w o c) w new before after r) (sym own)
     (subst (λ (q : Run World). IsDone (adding_refusal (part_of w o) k a) q w new before after r) run done))
+  where
+    open h use {world as w, now as new, owner as o, command as c, kind as k, word as a, element as e, units as s, before, after, result as r}
+    open h use {names_nothing as is, pass, refusal_is as own, run_is as runs, word_is as element, units_are as text, done}

@@ -183,20 +183,21 @@ within_self names ts top once keys inside =
     let P : NodeName → Type 0 = λ y. is_within ts y (opening y) ≡ true in
     subst P s.2 (within-spot ts s.0.node.name s.0 s.1 unique (or_left (name_eq s.0.node.name s.0.node.name) _ (name_eq-same s.0.node.name)))
 
--- a turn of the walk: the rest is one step less, and the next place is in the tree
-pub turn : (names : List NodeName) (ts : Trees) (top : NodeName) (at : Place) (place next : Option Place) (step : TreeStep) → StandOnce names ts →
-    HaveKeys names ts → key_of at < length names
-    → place ≡ Some at → is_within_if ts top (option_map (place_view names) place) ≡ true →
-    option_map (place_view names) next ≡ place_after ts top (place_view names at) → step ≡ step_at ts (place_view names at)
-    → (rest_or ts top (option_map (place_view names) place) ≡ step ∷ rest_or ts top (option_map (place_view names) next)) ×
-    (is_within_if ts top (option_map (place_view names) next) ≡ true)
-turn names ts top at place next step once keys inside at_place within follows is =
-    let named = ap (option_map (place_view names)) at_place in
-    let one = times-key names ts once (key_of at) inside in
-    let law = next_place ts top (place_view names at) (IsUnique-forest names ts once keys) (here_named names ts at (omega arith))
-    (sym (ap (is_within_if ts top) named) ∙ within) in (
-      ap (rest_or ts top) named ∙ (law.0 ∙
-          (ap (λ o. step_at ts (place_view names at) ∷ rest_or ts top o) (sym follows) ∙
-          ap (λ first. first ∷ rest_or ts top (option_map (place_view names) next)) (sym is))),
-      ap (is_within_if ts top) follows ∙ law.1,
-    )
+-- A place in trees by their names, and the next one.
+module _ (names : List NodeName) (ts : Trees) (top : NodeName) (at : Place) (place next : Option Place) (step : TreeStep) (once : StandOnce names ts)
+    (keys : HaveKeys names ts) where
+  -- a turn of the walk: the rest is one step less, and the next place is in the tree
+  pub turn : key_of at < length names → place ≡ Some at → is_within_if ts top (option_map (place_view names) place) ≡ true →
+      option_map (place_view names) next ≡ place_after ts top (place_view names at) → step ≡ step_at ts (place_view names at) →
+      (rest_or ts top (option_map (place_view names) place) ≡ step ∷ rest_or ts top (option_map (place_view names) next))
+      × (is_within_if ts top (option_map (place_view names) next) ≡ true)
+  turn inside at_place within follows is =
+      let named = ap (option_map (place_view names)) at_place in
+      let one = times-key names ts once (key_of at) inside in
+      let law = next_place ts top (place_view names at) (IsUnique-forest names ts once keys) (here_named names ts at (omega arith))
+      (sym (ap (is_within_if ts top) named) ∙ within) in (
+        ap (rest_or ts top) named ∙ (law.0 ∙
+            (ap (λ o. step_at ts (place_view names at) ∷ rest_or ts top o) (sym follows) ∙
+            ap (λ first. first ∷ rest_or ts top (option_map (place_view names) next)) (sym is))),
+        ap (is_within_if ts top) follows ∙ law.1,
+      )

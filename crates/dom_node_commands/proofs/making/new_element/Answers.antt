@@ -16,7 +16,24 @@ returns-in_err-admit-clause-handled c =
 
 pub returns-clause-handled : goal.returns-clause-handled
 returns-clause-handled c =
-    makes_node c.args.state.now.world c.make.new.state.world c.args.owner (Command.new_element (string_bytes c.args.name)) Element
-    (string_bytes c.args.name) (string_bytes c.args.name) (c.new-text.result.items) [] c.args.out.now.items c.make.new.out.items c.make.result
-    (search namings) (sym c.admit.ensures ∙ c.in_ok-admit.was) refl refl refl c.new-text.ensures.items
-    c.make.ensures.done
+    makes_node (record {
+      world = c.args.state.now.world;
+      now = c.make.new.state.world;
+      owner = c.args.owner;
+      command = Command.new_element (string_bytes c.args.name);
+      kind = Element;
+      word = string_bytes c.args.name;
+      element = string_bytes c.args.name;
+      units = c.new-text.result.items;
+      text = [];
+      before = c.args.out.now.items;
+      after = c.make.new.out.items;
+      result = c.make.result;
+      names_nothing = search namings;
+      pass = sym c.admit.ensures ∙ c.in_ok-admit.was;
+      refusal_is = refl;
+      run_is = refl;
+      word_is = refl;
+      units_are = c.new-text.ensures.items;
+      done = c.make.ensures.done;
+    })

@@ -16,7 +16,24 @@ returns-in_err-admit-clause-handled c =
 
 pub returns-clause-handled : goal.returns-clause-handled
 returns-clause-handled c =
-    makes_node c.args.state.now.world c.make.new.state.world c.args.owner (Command.new_text c.args.text.items) Text
-    (string_bytes c.new-element.result) [] (c.args.text.items) c.args.text.items c.args.out.now.items c.make.new.out.items c.make.result
-    (search namings)
-    (sym c.admit.ensures ∙ c.in_ok-admit.was) refl refl c.new-element.ensures.bytes refl c.make.ensures.done
+    makes_node (record {
+      world = c.args.state.now.world;
+      now = c.make.new.state.world;
+      owner = c.args.owner;
+      command = Command.new_text c.args.text.items;
+      kind = Text;
+      word = string_bytes c.new-element.result;
+      element = [];
+      units = c.args.text.items;
+      text = c.args.text.items;
+      before = c.args.out.now.items;
+      after = c.make.new.out.items;
+      result = c.make.result;
+      names_nothing = search namings;
+      pass = sym c.admit.ensures ∙ c.in_ok-admit.was;
+      refusal_is = refl;
+      run_is = refl;
+      word_is = c.new-element.ensures.bytes;
+      units_are = refl;
+      done = c.make.ensures.done;
+    })

@@ -34,12 +34,11 @@ returns-clause-handled c =
     let w = c.args.state.now.world in
     let s = word_view c.args.element in
     let sel = selector_view c.in_ok-selector.selector in
-    reads w c.accept.new.self.world c.args.owner (Command.matches (word_view c.args.element) c.args.text.items) (Element c.args.element ∷ [])
-    (λ p. a_truth (selector_matches p.trees (selectors_of c.args.text.items) (named p s))) (a_truth c.is_selected-truth.result)
-    c.args.out.now.items c.accept.new.out.items c.accept.result (search namings) refl
-    (sym c.admit.ensures ∙ c.in_ok-admit.was)
-    (read_none c.args.text.items c.deref.result.now sel c.deref.ensures.value c.in_ok-selector.ensures.read)
-    (ap a_truth (c.is_selected-truth.ensures ∙ ap (λ q. selector_matches (part_of w c.args.owner).trees q (named (part_of w c.args.owner) s))
+    reads w c.args.owner (Command.matches (word_view c.args.element) c.args.text.items) (Element c.args.element ∷ []) (sym c.admit.ensures
+    ∙ c.in_ok-admit.was) (read_none c.args.text.items c.deref.result.now sel c.deref.ensures.value c.in_ok-selector.ensures.read) c.accept.new.self.world
+    (λ p. a_truth (selector_matches p.trees (selectors_of c.args.text.items) (named p s))) (a_truth c.is_selected-truth.result) c.args.out.now.items
+    c.accept.new.out.items c.accept.result (search namings) refl (ap a_truth (c.is_selected-truth.ensures
+    ∙ ap (λ q. selector_matches (part_of w c.args.owner).trees q (named (part_of w c.args.owner) s))
     (read_as c.args.text.items c.deref.result.now sel c.deref.ensures.value c.in_ok-selector.ensures.read))) c.accept.ensures.done
 
 pub is_selected-truth-requires : goal.is_selected-truth-requires

@@ -34,12 +34,11 @@ returns-clause-handled c =
     let w = c.args.state.now.world in
     let s = word_view c.args.node in
     let sel = selector_view c.in_ok-selector.selector in
-    reads w c.accept.new.self.world c.args.owner (Command.query (word_view c.args.node) c.args.text.items) (Parent c.args.node ∷ [])
-    (λ p. a_list (query_all p.trees (selectors_of c.args.text.items) (named p s))) (a_list c.deref-2.result.now) c.args.out.now.items
-    c.accept.new.out.items c.accept.result (search namings) refl (sym c.admit.ensures ∙ c.in_ok-admit.was)
-    (read_none c.args.text.items c.deref.result.now sel c.deref.ensures.value c.in_ok-selector.ensures.read)
-    (ap a_list (c.deref-2.ensures.value ∙ c.in_ok-found.ensures ∙
-    ap (λ q. query_all (part_of w c.args.owner).trees q (named (part_of w c.args.owner) s))
+    reads w c.args.owner (Command.query (word_view c.args.node) c.args.text.items) (Parent c.args.node ∷ []) (sym c.admit.ensures
+    ∙ c.in_ok-admit.was) (read_none c.args.text.items c.deref.result.now sel c.deref.ensures.value c.in_ok-selector.ensures.read) c.accept.new.self.world
+    (λ p. a_list (query_all p.trees (selectors_of c.args.text.items) (named p s))) (a_list c.deref-2.result.now) c.args.out.now.items c.accept.new.out.items
+    c.accept.result (search namings) refl (ap a_list (c.deref-2.ensures.value ∙ c.in_ok-found.ensures
+    ∙ ap (λ q. query_all (part_of w c.args.owner).trees q (named (part_of w c.args.owner) s))
     (read_as c.args.text.items c.deref.result.now sel c.deref.ensures.value c.in_ok-selector.ensures.read))) c.accept.ensures.done
 
 pub selected-requires : goal.selected-requires
