@@ -19,15 +19,16 @@ use Rattle.dom_model.specs.DocumentMachine.{accepted}
 use Rattle.dom_model.specs.Turns.{opening_turn}
 use Rattle.dom_admission.specs.Turned.{with_turn}
 
--- a registration
-pub observe-made : (names : List NodeName) (w now : World) (o : Owner) (s : NodeWord) (key : ℕ) → IsKey names w o key s →
-    (k : ℕ) (words said : ObserveWords) (v : Value) → words ≡ said →
-    Makes o (Command.observe k (own (name_at names key).number) words) v w now → Makes o (Command.observe k s said) v w now
-observe-made names w now o s key is k words said v same h =
-    let p = part_of w o in
-    let registers : NodeName → ObserveWords → Effect =
-    λ x e. keeps (record p { registrations = with_registration name_eq k x (options_of e) p.registrations }) nothing in
-    (sym (ap (λ (x : NodeName). registers x words) (numbered p s (name_at names key) is) ∙ ap (registers (named p s)) same) ∙ h.0, h.1)
+-- A key that stands for the node as the line spells it.
+module _ (names : List NodeName) (w now : World) (o : Owner) (s : NodeWord) (key : ℕ) (is : IsKey names w o key s) where
+  -- a registration
+  pub observe-made : (k : ℕ) (words said : ObserveWords) (v : Value) → words ≡ said →
+      Makes o (Command.observe k (own (name_at names key).number) words) v w now → Makes o (Command.observe k s said) v w now
+  observe-made k words said v same h =
+      let p = part_of w o in
+      let registers : NodeName → ObserveWords → Effect =
+      λ x e. keeps (record p { registrations = with_registration name_eq k x (options_of e) p.registrations }) nothing in
+      (sym (ap (λ (x : NodeName). registers x words) (numbered p s (name_at names key) is) ∙ ap (registers (named p s)) same) ∙ h.0, h.1)
 
 -- the lines of an observer's records
 pub record_lines_are : (d : DocState) (o : Owner) (k : ℕ) (records : List Change) →

@@ -19,7 +19,8 @@ in_a_row-is front (piece ∷ pieces) = in_a_row-is (front ++ piece.0 ++ piece.1)
 -- a line of pieces, behind the owner's word and a space, and before the line's end
 pub row_of_pieces : (owner space end : List ℕ) (first : List ℕ × List ℕ) (pieces : List (List ℕ × List ℕ)) →
     owner ++ space ++ in_pieces (first ∷ pieces) ++ end ≡ ((owner ++ space ++ in_a_row (first.0 ++ first.1) pieces) ++ end) ++ []
-row_of_pieces owner space end first pieces = rw (in_a_row-is (first.0 ++ first.1) pieces) (sym (append-nil (owner ++ space ++ in_pieces (first ∷ pieces) ++ end)))
+row_of_pieces owner space end first pieces = rw (in_a_row-is (first.0 ++ first.1) pieces)
+    (sym (append-nil (owner ++ space ++ in_pieces (first ∷ pieces) ++ end)))
 
 -- the line of a record: the pieces that stand behind its observer's number and a space are grouped together
 pub row_of_record : (owner space end : List ℕ) (number kind : List ℕ × List ℕ) (pieces : List (List ℕ × List ℕ)) →
