@@ -24,7 +24,7 @@ use Rattle.dom_worlds.proofs.Lists.{all-then}
 use Rattle.dom_worlds.proofs.PartSteps.{some-keeps}
 use Rattle.dom_worlds.proofs.PlanChildren.{documented}
 use Rattle.dom_worlds.proofs.PlanPlaces.{MayGo, may-still, still, taken-step, telling-trees, root-adopting, after-append}
-use Rattle.dom_worlds.proofs.PlanPlaces.{emptied_of, leads-then, leads-eased, leads-each, leads-removing, leads-adopting, leads-placing}
+use Rattle.dom_worlds.proofs.PlanPlaces.{emptied_of, leads-then, leads-eased, leads-each, placing-each, leads-removing, leads-adopting, leads-placing}
 use Rattle.dom_worlds.proofs.PlanPlaces.{leads-emptied, leads-making_room, placed-may}
 use Rattle.dom_worlds.proofs.ReachedFacts.{root-alone}
 use Rattle.dom_worlds.proofs.TableSteps.{HasNode}
@@ -250,7 +250,7 @@ texts-inserting how node parent before p i m =
     let r = after p (one ++ two) in
     let three = in_turn (placing parent before) moved r in
     let n = all-then (MayGo parent p) (MayGo parent r) (λ y. may-still parent p r y ab.changed) moved (placed-may parent p node i m) in
-    let c = leads-each spot (MayGo parent) (placing parent before) (leads-placing parent before) (may-still parent) moved r ab.changed.part n in
+    let c = leads-each (placing-each parent before) moved r ab.changed.part n in
     let abc = leads-then spot p (one ++ two) three ab c in
     let s = after p ((one ++ two) ++ three) in
     either_way (λ steps. (y : NodeName) → HasNode p y → (node_in (after p steps).trees y).text ≡ (node_in p.trees y).text) (is_empty moved) []

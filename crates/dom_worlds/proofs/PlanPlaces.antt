@@ -179,16 +179,20 @@ leads-nothing spot p i = record { made = tt; changed = changed-same spot p i }
 pub leads-one : (p : Part) (s : Step) → IsPart p → Fits p s → Leads (spot_of s) p (s ∷ [])
 leads-one p s i f = record { made = (f, tt); changed = changed-step p s i f }
 
--- a plan for each item, each of which keeps what the others need
-pub leads-each : {A : Type 0} (spot : Option NodeName) (P : Part → A → Type 0) (f : A → Plan) →
-    ((p : Part) (x : A) → IsPart p → P p x → Leads spot p (f x p)) → ((p q : Part) (x : A) → Changed spot p q → P p x → P q x) →
-    (xs : List A) (p : Part) → IsPart p → AllByRecursion (P p) xs → Leads spot p (in_turn f xs p)
-leads-each spot P f h k [] p i g = leads-nothing spot p i
-leads-each spot P f h k (x ∷ xs) p i g =
-    let first = h p x i g.0 in
+-- plans for items: each leads on, and what an item needs stays so
+pub record LeadsEach {A : Type 0} (spot : Option NodeName) (P : Part → A → Type 0) (f : A → Plan) : Type 0 where
+  pub leads : (p : Part) (x : A) → IsPart p → P p x → Leads spot p (f x p)
+  pub stays : (p q : Part) (x : A) → Changed spot p q → P p x → P q x
+
+-- so they lead on one after another
+pub leads-each : {A : Type 0} {spot : Option NodeName} {P : Part → A → Type 0} {f : A → Plan} → LeadsEach spot P f → (xs : List A) (p : Part) → IsPart p →
+    AllByRecursion (P p) xs → Leads spot p (in_turn f xs p)
+leads-each {spot = spot} each [] p i g = leads-nothing spot p i
+leads-each {spot = spot} {P = P} {f = f} each (x ∷ xs) p i g =
+    let first = each.leads p x i g.0 in
     let q = after p (f x p) in
     leads-then spot p (f x p) (in_turn f xs q) first
-    (leads-each spot P f h k xs q first.changed.part (all-then (P p) (P q) (λ y. k p q y first.changed) xs g.1))
+    (leads-each each xs q first.changed.part (all-then (P p) (P q) (λ y. each.stays p q y first.changed) xs g.1))
 
 -- one of two lists of steps
 pub leads-if : (spot : Option NodeName) (p : Part) (b : Bool) (xs ys : List Step) → Leads spot p xs → Leads spot p ys → Leads spot p (if b then xs else ys)
@@ -274,11 +278,18 @@ leads-placing parent before p x i m =
     leads-then (Some parent) p (adopting d x p) (place x parent before ∷ []) first
     (leads-one q (place x parent before) first.changed.part (n.below, n.apart, root-adopting d x p m.there))
 
+-- removals
+pub removing-each : (how : Observing) → LeadsEach None (λ p (x : NodeName). ⊤) (removing how)
+removing-each how = record { leads = λ p x i t. leads-removing how x p i; stays = λ p q x c t. tt }
+
+-- placings
+pub placing-each : (parent : NodeName) (before : Option NodeName) → LeadsEach (Some parent) (MayGo parent) (placing parent before)
+placing-each parent before = record { leads = leads-placing parent before; stays = may-still parent }
+
 -- Insertions.
 leads-emptying : (node : NodeName) (children : List NodeName) (p : Part) → IsPart p → Leads None p (emptying node children p)
 leads-emptying node children p i =
-    let first = leads-each None (λ q (y : NodeName). ⊤) (removing suppressed) (λ q y j t. leads-removing suppressed y q j) (λ q r y c t. tt)
-    children p i (all-from (λ y. ⊤) (λ y. tt) children) in
+    let first = leads-each (removing-each suppressed) children p i (all-from (λ y. ⊤) (λ y. tt) children) in
     leads-then None p (in_turn (removing suppressed) children p) (queue_record (child_list node [] children None None) ∷ []) first
     (leads-one (after p (in_turn (removing suppressed) children p)) (queue_record (child_list node [] children None None)) first.changed.part tt)
 
@@ -332,7 +343,7 @@ leads-inserting how node parent before p i m =
     let ab = leads-then spot p one two a b in
     let r = after p (one ++ two) in
     let three = in_turn (placing parent before) moved r in
-    let c = leads-each spot (MayGo parent) (placing parent before) (leads-placing parent before) (may-still parent) moved r ab.changed.part
+    let c = leads-each (placing-each parent before) moved r ab.changed.part
     (all-then (MayGo parent p) (MayGo parent r) (λ y. may-still parent p r y ab.changed) moved (placed-may parent p node i m)) in
     let abc = leads-then spot p (one ++ two) three ab c in
     let d = leads-eased spot (after p ((one ++ two) ++ three)) told
@@ -340,3 +351,7 @@ leads-inserting how node parent before p i m =
     abc.changed.part) in
     leads-if spot p (is_empty moved) [] (inserting_nodes how node moved parent before p) (leads-nothing spot p i)
     (leads-then spot p ((one ++ two) ++ three) told abc d)
+
+-- insertions of nodes behind the children of one
+pub inserting-each : (x : NodeName) → LeadsEach (Some x) (MayGo x) (λ y. inserting suppressed y x None)
+inserting-each x = record { leads = λ p y i m. leads-inserting suppressed y x None p i m; stays = may-still x }

@@ -33,7 +33,7 @@ use Rattle.dom_worlds.proofs.TableSteps.{HasNode}
 use Rattle.dom_worlds.proofs.Insides.{inside-new}
 use Rattle.dom_worlds.proofs.InsideAncestors.{parent-there, child-there}
 use Rattle.dom_worlds.proofs.PlanPlaces.{Changed, Leads, MayGo, may-still, still, after-append, leads-then, leads-eased, leads-nothing, leads-one}
-use Rattle.dom_worlds.proofs.PlanPlaces.{leads-each, leads-if, leads-removing, leads-inserting}
+use Rattle.dom_worlds.proofs.PlanPlaces.{LeadsEach, leads-each, removing-each, inserting-each, leads-if, leads-removing, leads-inserting}
 
 -- One plan and then another in what it leaves.
 pub leads-plan : (spot : Option NodeName) (f g : Plan) (p : Part) → Leads spot p (f p) → ((q : Part) → Changed spot p q → Leads spot q (g q)) →
@@ -199,8 +199,7 @@ texts-beside x parent size all p i e =
 
 -- removals
 pub leads-removals : (how : Observing) (xs : List NodeName) (p : Part) → IsPart p → Leads None p (in_turn (removing how) xs p)
-leads-removals how xs p i = leads-each None (λ q (y : NodeName). ⊤) (removing how) (λ q y j t. leads-removing how y q j) (λ q r y c t. tt) xs p i
-    (all-from (λ y. ⊤) (λ y. tt) xs)
+leads-removals how xs p i = leads-each (removing-each how) xs p i (all-from (λ y. ⊤) (λ y. tt) xs)
 
 -- Texts that are joined
 leads-joining : (x parent : NodeName) (p : Part) → IsPart p → HasNode p x → parent_of p.trees x ≡ Some parent →
@@ -237,11 +236,15 @@ descend-there ts x =
     (all-then (λ (n : Node). 1 ≤ times_in (subtree ts x) n.name) (λ n. 1 ≤ times_in ts n.name)
     (λ n h. let s = times-subtree ts x n.name in omega arith) (nodes (subtree ts x)) (nodes-there (subtree ts x)))
 
+-- Texts that are normalized
+pub normalizing-each : LeadsEach None HasNode normalizing_text
+normalizing-each = record { leads = leads-normalizing_text; stays = λ p q x c t. still c x t }
+
 -- all Texts below a node
 pub leads-normalizing : (x : NodeName) (p : Part) → IsPart p → Leads None p (normalizing x p)
 leads-normalizing x p i =
     let texts = filter (λ y. is_text (kind_of p.trees y)) (descendants p.trees x) in
-    leads-each None HasNode normalizing_text leads-normalizing_text (λ q r y c t. still c y t) texts p i
+    leads-each normalizing-each texts p i
     (all-filter (HasNode p) (λ y. is_text (kind_of p.trees y)) (descendants p.trees x)
     (all-dropped (HasNode p) (inclusive_descendants p.trees x) (descend-there p.trees x)))
 
@@ -262,8 +265,7 @@ leads-replaced x p made told old added a m t =
     let r = after p (made ++ in_turn (removing suppressed) old q) in
     let same : r ≡ after q (in_turn (removing suppressed) old q) = after-append p made (in_turn (removing suppressed) old q) in
     let c : Changed spot q r = subst (Changed spot q) (sym same) (leads-eased spot q (in_turn (removing suppressed) old q) b).changed in
-    leads-each spot (MayGo x) (λ y. inserting suppressed y x None) (λ s y j n. leads-inserting suppressed y x None s j n) (may-still x) added r
-    c.part (all-then (MayGo x q) (MayGo x r) (λ y. may-still x q r y c) added m)))
+    leads-each (inserting-each x) added r c.part (all-then (MayGo x q) (MayGo x r) (λ y. may-still x q r y c) added m)))
     (λ q c. leads-eased spot q told (t q c.part))
 
 -- a record, if so

@@ -62,33 +62,6 @@ record IsMadeBelow (xs : List NodeName) (y : NodeName) (n : Node) (into : NodeNa
   there : HasNode (after p (making_below into n p)) (next_name p)
   kind : kind_of (after p (making_below into n p)).trees (next_name p) ≡ n.kind
 
--- is such
-made-below : (xs : List NodeName) (y : NodeName) (n : Node) (into : NodeName) (p : Part) → n.name ≡ next_name p → IsPart p → HasNode p into →
-    IsOpen p into → HasRoom nowhere p → AreChildren xs y p → IsMadeBelow xs y n into p
-made-below xs y n into p e i t k h c =
-    let q = part_step p (make n) in
-    let first = leads-one p (make n) i tt in
-    let may : MayGo into q n.name = subst (MayGo into q) (sym e) (new-may p n into i t) in
-    let steps = inserting observed n.name into None q in
-    let put = leads-inserting observed n.name into None q first.changed.part may in
-    let r = after q steps in
-    let not_y : IsNot y n.name = ap (λ z. name_eq z y) e ∙ next-not p i y c.1 in
-    let qc = all-then (λ x. IsChild x y p) (λ x. IsChild x y q) (λ x g. child-make x y n p g) xs c.0 in
-    let made : node_in q.trees (next_name p) ≡ with_name (next_name p) n = node-new (with_name (next_name p) n) p.trees (next-absent p i) in
-    record {
-      room = room-inserting observed n.name into None q first.changed.part may (open-still first.changed into t k) (room-make nowhere p n i h);
-      children = (each xs c.0 q first.changed.part may not_y qc, still put.changed y (still first.changed y c.1));
-      there = still put.changed (next_name p) (new-there p n);
-      kind = put.changed.kinds (next_name p) (new-there p n) ∙ ap (λ (m : Node). m.kind) made;
-    }
-  where
-    each : (xs : List NodeName) → AllByRecursion (λ x. IsChild x y p) xs → (q : Part) → IsPart q → MayGo into q n.name → IsNot y n.name →
-        AllByRecursion (λ x. IsChild x y q) xs → AllByRecursion (λ x. IsChild x y (after q (inserting observed n.name into None q))) xs
-    each [] g q j m d h = tt
-    each (x ∷ xs) g q j m d h =
-        let not_x : IsNot x n.name = ap (λ z. name_eq z x) e ∙ next-not p i x (child-there_in p x y i g.0) in
-        (child-inserting x y observed n.name into None q j m (record { first = not_x; second = d; child = h.0 }), each xs g.1 q j m d h.1)
-
 -- What the taking of pieces leaves.
 record IsTaken (xs : List NodeName) (y : NodeName) (into : NodeName) (pieces : Pieces) (p : Part) : Type 0 where
   room : HasRoom nowhere (after p (taking into pieces p))
@@ -120,21 +93,52 @@ pub record MayTake (xs : List NodeName) (y : NodeName) (count : ℕ) (pieces : P
   pub children : AreChildren xs y p
 
 module _ (xs : List NodeName) (y : NodeName) (count : ℕ) where
-  -- then some of them may be taken still after steps that put nodes below it
-  may-take-still : {pieces : Pieces} {into : NodeName} {p q : Part} (rest : Pieces) → MayTake xs y count pieces into p → Changed (Some into) p q →
-      AllWhole (OldIn count p) rest → AreFit (Misses xs y) (IsData p) (IsOpenIn p) rest → HasRoom nowhere q → AreChildren xs y q →
-      MayTake xs y count rest into q
-  may-take-still {into = into} {p = p} {q = q} rest may changed old fit room children = record {
-    part = changed.part;
-    counted = let a = changed.count in let k = may.counted in omega arith;
-    new = may.new;
-    old = whole-then (OldIn count p) (OldIn count q) (old-still count into p q may.new changed) rest old;
-    there = still changed into may.there;
-    opened = open-still changed into may.there may.opened;
-    fit = fits-still xs y p q changed rest fit;
-    room = room;
-    children = children;
-  }
+  -- some of them may be taken still after steps that put nodes below it
+  module _ {pieces : Pieces} {into : NodeName} {p : Part} (may : MayTake xs y count pieces into p) where
+    may-take-still : {q : Part} (rest : Pieces) → Changed (Some into) p q → AllWhole (OldIn count p) rest →
+        AreFit (Misses xs y) (IsData p) (IsOpenIn p) rest → HasRoom nowhere q → AreChildren xs y q → MayTake xs y count rest into q
+    may-take-still {q = q} rest changed old fit room children = record {
+      part = changed.part;
+      counted = let a = changed.count in let k = may.counted in omega arith;
+      new = may.new;
+      old = whole-then (OldIn count p) (OldIn count q) (old-still count into p q may.new changed) rest old;
+      there = still changed into may.there;
+      opened = open-still changed into may.there may.opened;
+      fit = fits-still xs y p q changed rest fit;
+      room = room;
+      children = children;
+    }
+
+  -- a new node that goes below it leaves it such
+  made-below : {pieces : Pieces} {into : NodeName} {p : Part} (n : Node) → MayTake xs y count pieces into p → n.name ≡ next_name p → IsMadeBelow xs y n into p
+  made-below {into = into} {p = p} n may e =
+      let i = may.part in
+      let t = may.there in
+      let k = may.opened in
+      let h = may.room in
+      let c = may.children in
+      let q = part_step p (make n) in
+      let first = leads-one p (make n) i tt in
+      let may : MayGo into q n.name = subst (MayGo into q) (sym e) (new-may p n into i t) in
+      let steps = inserting observed n.name into None q in
+      let put = leads-inserting observed n.name into None q first.changed.part may in
+      let r = after q steps in
+      let not_y : IsNot y n.name = ap (λ z. name_eq z y) e ∙ next-not p i y c.1 in
+      let qc = all-then (λ x. IsChild x y p) (λ x. IsChild x y q) (λ x g. child-make x y n p g) xs c.0 in
+      let made : node_in q.trees (next_name p) ≡ with_name (next_name p) n = node-new (with_name (next_name p) n) p.trees (next-absent p i) in
+      record {
+        room = room-inserting observed n.name into None q first.changed.part may (open-still first.changed into t k) (room-make nowhere p n i h);
+        children = (each xs c.0 q first.changed.part may not_y qc, still put.changed y (still first.changed y c.1));
+        there = still put.changed (next_name p) (new-there p n);
+        kind = put.changed.kinds (next_name p) (new-there p n) ∙ ap (λ (m : Node). m.kind) made;
+      }
+    where
+      each : (xs : List NodeName) → AllByRecursion (λ x. IsChild x y p) xs → (q : Part) → IsPart q → MayGo into q n.name → IsNot y n.name →
+          AllByRecursion (λ x. IsChild x y q) xs → AllByRecursion (λ x. IsChild x y (after q (inserting observed n.name into None q))) xs
+      each [] g q j m d h = tt
+      each (x ∷ xs) g q j m d h =
+          let not_x : IsNot x n.name = ap (λ z. name_eq z x) e ∙ next-not p may.part x (child-there_in p x y may.part g.0) in
+          (child-inserting x y observed n.name into None q j m (record { first = not_x; second = d; child = h.0 }), each xs g.1 q j m d h.1)
 
   -- the taking of pieces
   pub room-taking : (pieces : Pieces) (into : NodeName) (p : Part) → MayTake xs y count pieces into p →
@@ -150,13 +154,13 @@ module _ (xs : List NodeName) (y : NodeName) (count : ℕ) where
       (λ z n g. child-inserting z y observed x into None p i goes (record { first = n; second = f.0.0; child = g })) may.children in
       taken-then xs y p one (taking into rest (after p one))
       (room-taking rest into (after p one)
-      (may-take-still rest may l.changed may.old.1 f.1 (room-inserting observed x into None p i goes may.opened may.room) children))
+      (may-take-still may rest l.changed may.old.1 f.1 (room-inserting observed x into None p i goes may.opened may.room) children))
   room-taking (cut x from to rest) into p may =
       let i = may.part in
       let n = clone_part (next_name p) from to (node_in p.trees x) in
       let one = making_below into n p in
       let l = leads-making_below into n p refl i may.there in
-      let made = made-below xs y n into p refl i may.there may.opened may.room may.children in
+      let made = made-below n may refl in
       let q = after p one in
       let two = replacing_data x from (to - from) [] q in
       let lq = leads-replacing_data x from (to - from) [] q l.changed.part in
@@ -173,14 +177,14 @@ module _ (xs : List NodeName) (y : NodeName) (count : ℕ) where
       ) in
       let after_both = taken-then xs y p one two (room-replacing_data x from (to - from) [] q l.changed.part units made.room, cs) in
       taken-then xs y p (one ++ two) (taking into rest (after p (one ++ two)))
-      (room-taking rest into (after p (one ++ two)) (may-take-still rest may both.changed old.1 fit.1 after_both.0 after_both.1))
+      (room-taking rest into (after p (one ++ two)) (may-take-still may rest both.changed old.1 fit.1 after_both.0 after_both.1))
   room-taking (clone x inner rest) into p may =
       let i = may.part in
       let new = next_name p in
       let n = with_name new (node_in p.trees x) in
       let one = making_below into n p in
       let l = leads-making_below into n p refl i may.there in
-      let made = made-below xs y n into p refl i may.there may.opened may.room may.children in
+      let made = made-below n may refl in
       let q = after p one in
       let two = taking new inner q in
       let old = may.old in
@@ -202,4 +206,4 @@ module _ (xs : List NodeName) (y : NodeName) (count : ℕ) where
       subst (Changed (Some into) p) (sym (after-append p one two))
       (changed-inner into new p q (after q two) (next-absent p i) l.changed lq.changed) in
       taken-then xs y p (one ++ two) (taking into rest (after p (one ++ two)))
-      (room-taking rest into (after p (one ++ two)) (may-take-still rest may both old.2 fit.2 deep.0 deep.1))
+      (room-taking rest into (after p (one ++ two)) (may-take-still may rest both old.2 fit.2 deep.0 deep.1))

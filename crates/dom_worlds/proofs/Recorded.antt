@@ -22,8 +22,9 @@ use Rattle.dom_worlds.specs.Tables.{IsNodeIn, IsNodeIf, IsRecordIn, HasRecords}
 use Rattle.dom_worlds.proofs.Insides.{times-taken_out_all}
 use Rattle.dom_worlds.proofs.InsideAncestors.{children-inside, child-there, parent-there, times-has_node}
 use Rattle.dom_worlds.proofs.Lists.{all-then, all-append, all-from, all-set}
-use Rattle.dom_worlds.proofs.PlanPlaces.{Changed, Leads, MayGo, may-still, still, emptied_of, leads-then, leads-eased, leads-one, leads-each}
-use Rattle.dom_worlds.proofs.PlanPlaces.{leads-removing, leads-placing, leads-emptied, leads-making_room, leads-inserting, placed-may}
+use Rattle.dom_worlds.proofs.PlanPlaces.{Changed, Leads, MayGo, may-still, still, emptied_of, leads-then, leads-eased, leads-one, LeadsEach, leads-each}
+use Rattle.dom_worlds.proofs.PlanPlaces.{removing-each, placing-each}
+use Rattle.dom_worlds.proofs.PlanPlaces.{leads-removing, leads-emptied, leads-making_room, leads-inserting, placed-may}
 use Rattle.dom_worlds.proofs.PlanTexts.{leads-plan, leads-removals}
 use Rattle.dom_worlds.proofs.TableSteps.{HasNode, Fits, Grows, grows-step, grows-times}
 use Rattle.dom_worlds.proofs.TableRecords.{IfSome, first-all, last-all, before-all, after-all, all-get}
@@ -125,18 +126,17 @@ pub tells-plan : (spot : Option NodeName) (f g : Plan) (p : Part) → Leads spot
     ((q : Part) → Changed spot p q → TellsIn q (g q)) → TellsIn p ((f and_then g) p)
 tells-plan spot f g p l a b = tells-append p (f p) (g (after p (f p))) a (b (after p (f p)) l.changed)
 
--- plans for items: each leads on and tells, and what an item needs stays so
-module _ {A : Type 0} (spot : Option NodeName) (P : Part → A → Type 0) (f : A → Plan)
-    (leads : (p : Part) (x : A) → IsPart p → P p x → Leads spot p (f x p)) (tells : (p : Part) (x : A) → IsPart p → P p x → TellsIn p (f x p))
-    (stays : (p q : Part) (x : A) → Changed spot p q → P p x → P q x) where
+-- plans for items that lead on, each of which tells
+module _ {A : Type 0} {spot : Option NodeName} {P : Part → A → Type 0} {f : A → Plan} (each : LeadsEach spot P f)
+    (tells : (p : Part) (x : A) → IsPart p → P p x → TellsIn p (f x p)) where
   -- so do all in turn
   pub tells-each : (xs : List A) (p : Part) → IsPart p → AllByRecursion (P p) xs → TellsIn p (in_turn f xs p)
   tells-each [] p i g = tt
   tells-each (x ∷ xs) p i g =
-      let first = leads p x i g.0 in
+      let first = each.leads p x i g.0 in
       let q = after p (f x p) in
       tells-append p (f x p) (in_turn f xs q) (tells p x i g.0)
-      (tells-each xs q first.changed.part (all-then (P p) (P q) (λ y. stays p q y first.changed) xs g.1))
+      (tells-each xs q first.changed.part (all-then (P p) (P q) (λ y. each.stays p q y first.changed) xs g.1))
 
 -- Nodes that are there stay there.
 pub still-all : {spot : Option NodeName} {p q : Part} → Changed spot p q → (xs : List NodeName) → AllByRecursion (HasNode p) xs → AllByRecursion (HasNode q) xs
@@ -229,8 +229,8 @@ tells-placing parent before p x i m = let d =
 
 -- removals
 pub tells-removals : (how : Observing) (xs : List NodeName) (p : Part) → IsPart p → TellsIn p (in_turn (removing how) xs p)
-tells-removals how xs p i = tells-each None (λ q (y : NodeName). ⊤) (removing how) (λ q y j t. leads-removing how y q j)
-    (λ q y j t. tells-removing how y q j) (λ q r y c t. tt) xs p i (all-from (λ y. ⊤) (λ y. tt) xs)
+tells-removals how xs p i = tells-each (removing-each how) (λ q y j t. tells-removing how y q j) xs p i
+    (all-from (λ y. ⊤) (λ y. tt) xs)
 
 -- what is placed is there
 placed-there : (p : Part) (node : NodeName) → HasNode p node → AllByRecursion (HasNode p) (placed_nodes p.trees node)
@@ -266,14 +266,13 @@ tells-inserting how node parent before p i m b =
     let three = in_turn (placing parent before) moved r in
     let may = all-then (MayGo parent p) (MayGo parent r) (λ y. may-still parent p r y ab.changed) moved (placed-may parent p node i m) in
     let abc = leads-then spot p (one ++ two) three ab
-    (leads-each spot (MayGo parent) (placing parent before) (leads-placing parent before) (may-still parent) moved r ab.changed.part may) in
+    (leads-each (placing-each parent before) moved r ab.changed.part may) in
     let c = abc.changed in
     let s = after p ((one ++ two) ++ three) in
     either_way (TellsIn p) (is_empty moved) [] (inserting_nodes how node moved parent before p) tt
     (tells-append p ((one ++ two) ++ three) (telling how change)
     (tells-append p (one ++ two) three (tells-append p one two (tells-emptied node p i m.there) (roomy before (length moved) q))
-    (tells-each spot (MayGo parent) (placing parent before) (leads-placing parent before) (tells-placing parent before) (may-still parent) moved r
-    ab.changed.part may))
+    (tells-each (placing-each parent before) (tells-placing parent before) moved r ab.changed.part may))
     (tells-telling how change s (children-recorded s parent moved [] front before (still c parent m.below)
     (still-all c moved (placed-there p node m.there)) tt (still-if c front (front-there p parent before b)) (still-if c before b))))
   where

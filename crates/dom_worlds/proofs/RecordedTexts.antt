@@ -16,9 +16,9 @@ use Rattle.dom_model.specs.TextChanges.{replacing_data, new_text_node, replacing
 use Rattle.dom_model.specs.TextChanges.{normalizing_text, normalizing, replacing_children, setting_text}
 use Rattle.dom_worlds.specs.Worlds.{IsPart}
 use Rattle.dom_worlds.proofs.Lists.{all-dropped, all-then, all-filter}
-use Rattle.dom_worlds.proofs.PlanPlaces.{Changed, Leads, MayGo, may-still, still, leads-then, leads-eased, leads-nothing, leads-one, leads-each}
+use Rattle.dom_worlds.proofs.PlanPlaces.{Changed, Leads, MayGo, may-still, still, leads-then, leads-eased, leads-nothing, leads-one, leads-each, inserting-each}
 use Rattle.dom_worlds.proofs.PlanPlaces.{leads-inserting}
-use Rattle.dom_worlds.proofs.PlanTexts.{leads-removals, leads-replacing_data, leads-tail, leads-joins, leads-normalizing_text, may-follow}
+use Rattle.dom_worlds.proofs.PlanTexts.{leads-removals, leads-replacing_data, leads-tail, leads-joins, normalizing-each, may-follow}
 use Rattle.dom_worlds.proofs.PlanTexts.{new-there, new-may, texts-beside, descend-there}
 use Rattle.dom_worlds.proofs.Recorded.{TellsIn, tells-append, tells-plan, tells-each, children-recorded, still-all, children-there, next-there}
 use Rattle.dom_worlds.proofs.Recorded.{tells-removing, tells-removals, tells-inserting, tells-replacing_data}
@@ -106,7 +106,7 @@ tells-normalizing_text p x i t =
 pub tells-normalizing : (x : NodeName) (p : Part) → IsPart p → TellsIn p (normalizing x p)
 tells-normalizing x p i =
     let texts = filter (λ y. is_text (kind_of p.trees y)) (descendants p.trees x) in
-    tells-each None HasNode normalizing_text leads-normalizing_text tells-normalizing_text (λ q r y c t. still c y t) texts p i
+    tells-each normalizing-each tells-normalizing_text texts p i
     (all-filter (HasNode p) (λ y. is_text (kind_of p.trees y)) (descendants p.trees x)
     (all-dropped (HasNode p) (inclusive_descendants p.trees x) (descend-there p.trees x)))
 
@@ -125,7 +125,7 @@ tells-replaced x p made old added b a tm m t o =
     (leads-eased spot q gone (leads-removals suppressed old q a.changed.part)).changed in
     let may = all-then (MayGo x q) (MayGo x r) (λ y. may-still x q r y c) added m in
     let put : NodeName → Plan = λ y. inserting suppressed y x None in
-    let d = leads-each spot (MayGo x) put (λ s y j n. leads-inserting suppressed y x None s j n) (may-still x) added r c.part may in
+    let d = leads-each (inserting-each x) added r c.part may in
     let three = in_turn put added r in
     let all = leads-then spot p (made ++ gone) three ab d in
     let s = after p ((made ++ gone) ++ three) in
@@ -134,8 +134,7 @@ tells-replaced x p made old added b a tm m t o =
     let told = queue_record (child_list x added old None None) in
     tells-append p ((made ++ gone) ++ three) (only_if b told)
     (tells-append p (made ++ gone) three (tells-append p made gone tm (tells-removals suppressed old q a.changed.part))
-    (tells-each spot (MayGo x) put (λ v y j n. leads-inserting suppressed y x None v j n)
-    (λ v y j n. tells-inserting suppressed y x None v j n tt) (may-still x) added r c.part may))
+    (tells-each (inserting-each x) (λ v y j n. tells-inserting suppressed y x None v j n tt) added r c.part may))
     (either_way (TellsIn s) b (told ∷ []) [] (
       children-recorded s x added old None None (still all.changed x t)
           (still-all e added (all-then (MayGo x r) (HasNode r) (λ y n. n.there) added may)) (still-all all.changed old o) tt tt,

@@ -30,7 +30,7 @@ use Rattle.dom_worlds.proofs.PartSteps.{some-keeps, next-absent}
 use Rattle.dom_worlds.proofs.PlanBounds.{room-then, room-plan, room-removing, room-removals, room-inserting, room-replacing_data, IsOpen}
 use Rattle.dom_worlds.proofs.PlanBounds.{open-still}
 use Rattle.dom_worlds.proofs.PlacedBounds.{texts-inserting, kids-plain}
-use Rattle.dom_worlds.proofs.PlanPlaces.{Changed, Leads, MayGo, may-still, still, after-append, leads-then, leads-eased, leads-nothing, leads-one}
+use Rattle.dom_worlds.proofs.PlanPlaces.{LeadsEach, Changed, Leads, MayGo, may-still, still, after-append, leads-then, leads-eased, leads-nothing, leads-one}
 use Rattle.dom_worlds.proofs.PlanPlaces.{leads-inserting}
 use Rattle.dom_worlds.proofs.PlanTexts.{MayFollow, may-follow, texts-beside, next-not, new-there, new-may, descend-there, leads-removals}
 use Rattle.dom_worlds.proofs.PlanTexts.{leads-tail, leads-joins, leads-replacing_data, leads-normalizing_text}
@@ -294,18 +294,17 @@ module _ (x parent : NodeName) (p : Part) (i : IsPart p) (t : HasNode p x) (k : 
       (room-joins ts x parent size nexts q fits.0 fits.1 (room-replacing_data x size 0 all p i k h)))
       (λ r c g. room-removals nowhere observed nexts r c.part g)
 
--- Plans for items: each leads on and keeps room, and what an item needs stays so.
-module _ {A : Type 0} (P : Part → A → Type 0) (f : A → Plan) (leads : (p : Part) (x : A) → IsPart p → P p x → Leads None p (f x p))
-    (room : (p : Part) (x : A) → IsPart p → P p x → HasRoom nowhere p → HasRoom nowhere (after p (f x p)))
-    (stays : (p q : Part) (x : A) → Changed None p q → P p x → P q x) where
+-- Plans for items that lead on, each of which keeps room.
+module _ {A : Type 0} {spot : Option NodeName} {P : Part → A → Type 0} {f : A → Plan} (each : LeadsEach spot P f)
+    (room : (p : Part) (x : A) → IsPart p → P p x → HasRoom nowhere p → HasRoom nowhere (after p (f x p))) where
   -- so do all in turn
   pub room-turns : (xs : List A) (p : Part) → IsPart p → AllByRecursion (P p) xs → HasRoom nowhere p → HasRoom nowhere (after p (in_turn f xs p))
   room-turns [] p i g r = r
   room-turns (x ∷ xs) p i g r =
-      let first = leads p x i g.0 in
+      let first = each.leads p x i g.0 in
       let q = after p (f x p) in
       room-then nowhere p (f x p) (in_turn f xs q)
-      (room-turns xs q first.changed.part (all-then (P p) (P q) (λ y. stays p q y first.changed) xs g.1) (room p x i g.0 r))
+      (room-turns xs q first.changed.part (all-then (P p) (P q) (λ y. each.stays p q y first.changed) xs g.1) (room p x i g.0 r))
 
 -- a Text that is there
 abbrev pub TextIn : Part → NodeName → Type 0
@@ -331,8 +330,9 @@ pub room-normalizing : (x : NodeName) (p : Part) → IsPart p → HasRoom nowher
 room-normalizing x p i h =
     let is = λ (y : NodeName). is_text (kind_of p.trees y) in
     let texts = filter is (descendants p.trees x) in
-    room-turns TextIn normalizing_text (λ q y j t. leads-normalizing_text q y j t.0) room-normalizing_text
-    (λ q r y c t. (still c y t.0, ap is_text (c.kinds y t.0) ∙ t.1)) texts p i
+    let each : LeadsEach None TextIn normalizing_text =
+    record { leads = λ q y j t. leads-normalizing_text q y j t.0; stays = λ q r y c t. (still c y t.0, ap is_text (c.kinds y t.0) ∙ t.1) } in
+    room-turns each room-normalizing_text texts p i
     (all-kept (HasNode p) is (descendants p.trees x) (all-dropped (HasNode p) (inclusive_descendants p.trees x) (descend-there p.trees x))) h
 
 -- Text content.
@@ -349,19 +349,15 @@ room-replaced x p made old added a m t k h =
     let c : Changed spot q r = subst (Changed spot q) (sym same) (leads-eased spot q gone b).changed in
     let there = still a.changed x t in
     let room_r : HasRoom nowhere r = room-then nowhere p made gone (room-removals nowhere suppressed old q a.changed.part h) in
-    let put = room-each_in x added r c.part (all-then (MayGo x q) (MayGo x r) (λ y. may-still x q r y c) added m) (still c x there)
-    (open-still c x there (open-still a.changed x t k)) room_r in
-    room-then nowhere p (made ++ gone) (in_turn (λ y. inserting suppressed y x None) added r) put
-  where
-    room-each_in : (x : NodeName) (ys : List NodeName) (q : Part) → IsPart q → AllByRecursion (MayGo x q) ys → HasNode q x → IsOpen q x →
-        HasRoom nowhere q → HasRoom nowhere (after q (in_turn (λ y. inserting suppressed y x None) ys q))
-    room-each_in x [] q i m t k h = h
-    room-each_in x (y ∷ ys) q i m t k h =
-        let first = leads-inserting suppressed y x None q i m.0 in
-        let r = after q (inserting suppressed y x None q) in
-        room-then nowhere q (inserting suppressed y x None q) (in_turn (λ y. inserting suppressed y x None) ys r)
-        (room-each_in x ys r first.changed.part (all-then (MayGo x q) (MayGo x r) (λ z. may-still x q r z first.changed) ys m.1)
-        (still first.changed x t) (open-still first.changed x t k) (room-inserting suppressed y x None q i m.0 k h))
+    let MayGoIn : Part → NodeName → Type 0 = λ q y. MayGo x q y × HasNode q x × IsOpen q x in
+    let each : LeadsEach spot MayGoIn (λ y. inserting suppressed y x None) = record {
+      leads = λ q y j n. leads-inserting suppressed y x None q j n.0;
+      stays = λ q r y c n. (may-still x q r y c n.0, still c x n.1, open-still c x n.1 n.2);
+    } in
+    let open_r = open-still c x there (open-still a.changed x t k) in
+    let may = all-then (MayGo x q) (MayGoIn r) (λ y n. (may-still x q r y c n, still c x there, open_r)) added m in
+    room-then nowhere p (made ++ gone) (in_turn (λ y. inserting suppressed y x None) added r)
+    (room-turns each (λ q y j n g. room-inserting suppressed y x None q j n.0 n.2 g) added r c.part may room_r)
 
 -- A node that gets a text.
 module _ (x : NodeName) (new : DomString) (p : Part) (i : IsPart p) (t : HasNode p x) where
