@@ -167,29 +167,29 @@ module _ (g : Owner → Bool) (closed : KeepsFamilies g) where
       effect-in w v (ground-of w q.world) (ground-of v p.world) same o h (effect (part_of w o) c) (base-effect (part_of w o) c)
       ∙ ap (λ x. group_run g (effect_in v o (effect x c))) (same-part g closed w v same o h)
 
-  -- with the turn that it opens
-  opened : (w v : World) → IsQuiet w → IsQuiet v → group_world g w ≡ group_world g v → (o : Owner) → g o ≡ true → has_other_turn w o ≡ false →
-      has_other_turn v o ≡ false → (c : Command) → group_run g (perform (opening_turn w o) o c) ≡ group_run g (perform (opening_turn v o) o c)
-  opened w v q p same o h a b c =
-      perform-in (opening_turn w o) (opening_turn v o) (opened-quiet w q o a) (opened-quiet v p o b) (opening-in g closed w v same o h a b) o h c
+  -- Two quiet worlds that show the group the same, and an owner of the group, whose turn may be opened in both.
+  module _ (w v : World) (q : IsQuiet w) (p : IsQuiet v) (same : group_world g w ≡ group_world g v) (o : Owner) (h : g o ≡ true)
+      (a : has_other_turn w o ≡ false) (b : has_other_turn v o ≡ false) where
+    -- with the turn that it opens
+    opened : (c : Command) → group_run g (perform (opening_turn w o) o c) ≡ group_run g (perform (opening_turn v o) o c)
+    opened c =
+        perform-in (opening_turn w o) (opening_turn v o) (opened-quiet w q o a) (opened-quiet v p o b) (opening-in g closed w v same o h a b) o h c
 
-  -- `.` apart, which opens none
-  accepted-in : (w v : World) → IsQuiet w → IsQuiet v → group_world g w ≡ group_world g v → (o : Owner) → g o ≡ true → has_other_turn w o ≡ false →
-      has_other_turn v o ≡ false → (c : Command) → group_run g (accepted w o c) ≡ group_run g (accepted v o c)
-  accepted-in w v q p same o h a b Command.end_turn = perform-in w v q p same o h Command.end_turn
-  accepted-in w v q p same o h a b c = opened w v q p same o h a b c
+    -- `.` apart, which opens none
+    accepted-in : (c : Command) → group_run g (accepted w o c) ≡ group_run g (accepted v o c)
+    accepted-in Command.end_turn = perform-in w v q p same o h Command.end_turn
+    accepted-in c = opened c
 
-  -- A command, refused or accepted.
-  pub command-in : (w v : World) → IsQuiet w → IsQuiet v → group_world g w ≡ group_world g v → (o : Owner) → g o ≡ true → has_other_turn w o ≡ false →
-      has_other_turn v o ≡ false → (c : Command) → group_run g (run_command o c w) ≡ group_run g (run_command o c v)
-  command-in w v q p same o h a b c = from (refusal w o c) refl
-    where
-      from : (r : Option Refusal) → refusal w o c ≡ r →
-          group_run g (unless_refused o (refusal w o c) w (accepted w o c)) ≡ group_run g (unless_refused o (refusal v o c) v (accepted v o c))
-      from (Some r) e =
-          ap (λ x. group_run g (unless_refused o x w (accepted w o c))) e
-          ∙ ap (λ u. (u, group_outputs g (says o (refused r) ∷ []))) same
-          ∙ sym (ap (λ x. group_run g (unless_refused o x v (accepted v o c))) (sym (refusal-in w v same o h c) ∙ e))
-      from None e =
-          ap (λ x. group_run g (unless_refused o x w (accepted w o c))) e ∙ accepted-in w v q p same o h a b c
-          ∙ sym (ap (λ x. group_run g (unless_refused o x v (accepted v o c))) (sym (refusal-in w v same o h c) ∙ e))
+    -- A command, refused or accepted.
+    pub command-in : (c : Command) → group_run g (run_command o c w) ≡ group_run g (run_command o c v)
+    command-in c = from (refusal w o c) refl
+      where
+        from : (r : Option Refusal) → refusal w o c ≡ r →
+            group_run g (unless_refused o (refusal w o c) w (accepted w o c)) ≡ group_run g (unless_refused o (refusal v o c) v (accepted v o c))
+        from (Some r) e =
+            ap (λ x. group_run g (unless_refused o x w (accepted w o c))) e
+            ∙ ap (λ u. (u, group_outputs g (says o (refused r) ∷ []))) same
+            ∙ sym (ap (λ x. group_run g (unless_refused o x v (accepted v o c))) (sym (refusal-in w v same o h c) ∙ e))
+        from None e =
+            ap (λ x. group_run g (unless_refused o x w (accepted w o c))) e ∙ accepted-in c
+            ∙ sym (ap (λ x. group_run g (unless_refused o x v (accepted v o c))) (sym (refusal-in w v same o h c) ∙ e))

@@ -15,7 +15,7 @@ use Rattle.dom_model.specs.Command.{Command, NodeWord, EventWords}
 use Rattle.dom_model.specs.Output.{Output, Said, Value, says, replied, refused, nothing, a_truth, a_component}
 use Rattle.dom_model.specs.Part.{Part}
 use Rattle.dom_model.specs.Runs.{Run, run_then, answering, unless_refused}
-use Rattle.dom_model.specs.CommandRefusals.{is_command_of, part_refusal}
+use Rattle.dom_model.specs.CommandRefusals.{part_refusal}
 use Rattle.dom_model.specs.CommandNames.{named}
 use Rattle.dom_model.specs.Effects.{Effect, tables, changes, effect}
 use Rattle.dom_model.specs.World.{World, micro_task, part_of, with_part, component_made}
@@ -67,6 +67,15 @@ command_event-page w o c e h = by_test (is_none (refusal w o c)) h
     by_test : (b : Bool) → (if b then outward_dispatch w o c else None) ≡ Some e → e.host.owner ≡ Page
     by_test true k = event-page w o c e k
     by_test false k = cc
+
+-- a command of a component outside the group passes, in a quiet world that is calm and whose open turn is not the group's
+record PassesOutside (g : Owner → Bool) (w : World) (k : ComponentName) (c : Command) : Type 0 where
+  quiet : IsQuiet w
+  outside : g (Component k) ≡ false
+  calm : IsCalm g w
+  other_turn : is_of g w.turn ≡ false
+  passes : part_refusal (part_of w (Component k)) c ≡ None
+  fits : Holds (part_of w (Component k)) (effect (part_of w (Component k)) c)
 
 module _ (g : Owner → Bool) (closed : KeepsFamilies g) where
   -- a run of which the group has nothing
@@ -131,30 +140,28 @@ module _ (g : Owner → Bool) (closed : KeepsFamilies g) where
           ∙ same
 
   -- Any accepted command.
-  perform-out : (w : World) (k : ComponentName) → IsQuiet w → g (Component k) ≡ false → IsCalm g w → is_of g w.turn ≡ false → (c : Command) →
-      is_command_of (Component k) c ≡ true → part_refusal (part_of w (Component k)) c ≡ None →
-      Holds (part_of w (Component k)) (effect (part_of w (Component k)) c) →
-      Shows w (perform w (Component k) c) (outward_dispatch w (Component k) c)
-  perform-out w k q h calm t (Command.attach a) m r f =
+  perform-out : (w : World) (k : ComponentName) (c : Command) → PassesOutside g w k c → Shows w (perform w (Component k) c) (outward_dispatch w (Component k) c)
+  perform-out w k (Command.attach a) out =
       let o = Component k in
-      attaching-out w o h (named (part_of w o) a)
-      (closed.made o (length (part_of w o).attached) (attach-may w o a r) (λ e. Component-IsNoPage k e) ∙ h)
-  perform-out w k q h calm t (Command.connected a) m r f = answered-out (Component k) h _ w w refl
-  perform-out w k q h calm t (Command.assigned a) m r f = answered-out (Component k) h _ w w refl
-  perform-out w k q h calm t (Command.dispatch a b c) m r f = dispatched-out w k q h a b c r
-  perform-out w k q h calm t (Command.micro a) m r f =
+      attaching-out w o out.outside (named (part_of w o) a)
+      (closed.made o (length (part_of w o).attached) (attach-may w o a out.passes) (λ e. Component-IsNoPage k e) ∙ out.outside)
+  perform-out w k (Command.connected a) out = answered-out (Component k) out.outside _ w w refl
+  perform-out w k (Command.assigned a) out = answered-out (Component k) out.outside _ w w refl
+  perform-out w k (Command.dispatch a b c) out = dispatched-out w k out.quiet out.outside a b c out.passes
+  perform-out w k (Command.micro a) out =
       let u : World = record w { tasks = w.tasks ++ micro_task (Component k) a ∷ [] } in
-      answered-out (Component k) h nothing w u
+      answered-out (Component k) out.outside nothing w u
       (ap (λ ts. record (group_world g w) { tasks = ts })
       (filter-append (is_task_of g) w.tasks (micro_task (Component k) a ∷ [])
-      ∙ ap (λ ts. filter (is_task_of g) w.tasks ++ ts) (filter-away (is_task_of g) (micro_task (Component k) a) [] h)
+      ∙ ap (λ ts. filter (is_task_of g) w.tasks ++ ts) (filter-away (is_task_of g) (micro_task (Component k) a) [] out.outside)
       ∙ append-nil (filter (is_task_of g) w.tasks)))
-  perform-out w k q h calm t Command.end_turn m r f =
-      let first = ending-out g closed w q calm (turn-none g closed w.turn t) in
+  perform-out w k Command.end_turn out =
+      let first = ending-out g closed w out.quiet out.calm (turn-none g closed w.turn out.other_turn) in
       quiet-then g closed (ending_turn w) w (answering (Component k) nothing) (w, []) first
-      (answered-out (Component k) h nothing w (ending_turn w).0 (ap (λ (r : Run World). r.0) first))
-  perform-out w k q h calm t c m r f =
-      effect-out w (ground-of w q.world) (Component k) h (effect (part_of w (Component k)) c) (base-effect (part_of w (Component k)) c) f
+      (answered-out (Component k) out.outside nothing w (ending_turn w).0 (ap (λ (r : Run World). r.0) first))
+  perform-out w k c out =
+      effect-out w (ground-of w out.quiet.world) (Component k) out.outside (effect (part_of w (Component k)) c) (base-effect (part_of w (Component k)) c)
+      out.fits
 
   -- The turn that is open before a line of a component outside, where it is not the page's, is not the group's.
   turn-out : (w : World) (k : ComponentName) → g (Component k) ≡ false → has_other_turn w (Component k) ≡ false → is_page_turn w.turn ≡ false →
@@ -170,29 +177,32 @@ module _ (g : Owner → Bool) (closed : KeepsFamilies g) where
           (λ s. ap g (owner_eq-true (Component j) (Component k) s) ∙ h) (λ s. absurd (true≢false (sym (ap not s) ∙ a)))
 
   -- with the turn that it opens
-  opened : (w : World) (k : ComponentName) → IsQuiet w → g (Component k) ≡ false → IsCalm g w → has_other_turn w (Component k) ≡ false →
-      is_of g w.turn ≡ false → (c : Command) → is_command_of (Component k) c ≡ true → part_refusal (part_of w (Component k)) c ≡ None →
-      Holds (part_of w (Component k)) (effect (part_of w (Component k)) c) →
+  opened : (w : World) (k : ComponentName) (c : Command) → has_other_turn w (Component k) ≡ false → PassesOutside g w k c →
       Shows w (perform (opening_turn w (Component k)) (Component k) c) (outward_dispatch w (Component k) c)
-  opened w k q h calm a t c m r f =
+  opened w k c a out =
       let o = Component k in
       let u = opening_turn w o in
-      let same = opening-out g closed w o h in
-      let p = opened-quiet w q o a in
+      let same = opening-out g closed w o out.outside in
+      let p = opened-quiet w out.quiet o a in
       let still : is_of g u.turn ≡ false = by_cases (is_of g u.turn)
-      (λ e. absurd (true≢false (sym e ∙ ap (is_of g) (same-turn g closed u w same e) ∙ t))) (λ e. e) in
-      perform-out u k p h (same-calm g closed w u (sym same) calm) still c m (ap (λ x. part_refusal x c) (part_of-opening w o o) ∙ r)
-      (subst (λ x. Holds x (effect x c)) (sym (part_of-opening w o o)) f)
-      ∙ outward-in g closed u w p q same (outward_dispatch u o c) (event-page u o c)
+      (λ e. absurd (true≢false (sym e ∙ ap (is_of g) (same-turn g closed u w same e) ∙ out.other_turn))) (λ e. e) in
+      let after : PassesOutside g u k c = record {
+        quiet = p;
+        outside = out.outside;
+        calm = same-calm g closed w u (sym same) out.calm;
+        other_turn = still;
+        passes = ap (λ x. part_refusal x c) (part_of-opening w o o) ∙ out.passes;
+        fits = subst (λ x. Holds x (effect x c)) (sym (part_of-opening w o o)) out.fits;
+      } in
+      perform-out u k c after
+      ∙ outward-in g closed u w p out.quiet same (outward_dispatch u o c) (event-page u o c)
       ∙ ap (λ e. group_run g (outward_run w e)) (opened-event w k c)
 
   -- `.` apart, which opens none
-  accepted-out : (w : World) (k : ComponentName) → IsQuiet w → g (Component k) ≡ false → IsCalm g w → has_other_turn w (Component k) ≡ false →
-      is_of g w.turn ≡ false → (c : Command) → is_command_of (Component k) c ≡ true → part_refusal (part_of w (Component k)) c ≡ None →
-      Holds (part_of w (Component k)) (effect (part_of w (Component k)) c) →
+  accepted-out : (w : World) (k : ComponentName) (c : Command) → has_other_turn w (Component k) ≡ false → PassesOutside g w k c →
       Shows w (accepted w (Component k) c) (outward_dispatch w (Component k) c)
-  accepted-out w k q h calm a t Command.end_turn m r f = perform-out w k q h calm t Command.end_turn m r f
-  accepted-out w k q h calm a t c m r f = opened w k q h calm a t c m r f
+  accepted-out w k Command.end_turn a out = perform-out w k Command.end_turn out
+  accepted-out w k c a out = opened w k c a out
 
   -- A command, refused or accepted. What it does fits where it is accepted.
   pub command-out : (w : World) (k : ComponentName) → IsQuiet w → g (Component k) ≡ false → IsCalm g w → has_other_turn w (Component k) ≡ false →
@@ -209,6 +219,14 @@ module _ (g : Owner → Bool) (closed : KeepsFamilies g) where
           ∙ sym (ap (λ o. group_run g (outward_run w (if is_none o then outward_dispatch w (Component k) c else None))) e)
       from None e =
           let known = accepted-facts w (Component k) c e in
+          let out : PassesOutside g w k c = record {
+            quiet = q;
+            outside = h;
+            calm = calm;
+            other_turn = turn-out w k h a (and-true_false (is_page_turn w.turn) known.calm);
+            passes = known.part;
+            fits = f e;
+          } in
           ap (λ o. group_run g (unless_refused (Component k) o w (accepted w (Component k) c))) e
-          ∙ accepted-out w k q h calm a (turn-out w k h a (and-true_false (is_page_turn w.turn) known.calm)) c known.grammar known.part (f e)
+          ∙ accepted-out w k c a out
           ∙ sym (ap (λ o. group_run g (outward_run w (if is_none o then outward_dispatch w (Component k) c else None))) e)
