@@ -221,20 +221,19 @@ listen_end_sound n event l a bytes c e =
           (flag_sound (codes "once") capture.1 (flag passive.0 (codes "passive") []) (flag_sound (codes "passive") once.1 [] end.1)),
     )
 
-pub listen_end_complete : (n : NodeWord) (event l : Word) (a : Action) (capture once passive : Bool) (bytes : List ℕ) →
-    Spells (listener_flags capture once passive) bytes →
-    listen_end n event l a bytes ≡ Some (listen n (record { event = event; label = l; action = a; capture = capture; once = once; passive = passive }))
-listen_end_complete n event l a capture once passive bytes s =
-    let after_once = flag passive (codes "passive") [] in
-    let after_capture = flag once (codes "once") after_once in
+pub listen_end_complete : (n : NodeWord) (l : ListenerWords) (bytes : List ℕ) → Spells (listener_flags l.capture l.once l.passive) bytes →
+    listen_end n l.event l.label l.action bytes ≡ Some (listen n l)
+listen_end_complete n l bytes s =
+    let after_once = flag l.passive (codes "passive") [] in
+    let after_capture = flag l.once (codes "once") after_once in
     let is_once = word_by_test (codes "once") refl refl in
     let is_passive = word_by_test (codes "passive") refl refl in
-    let f₁ = flag_complete (codes "capture") capture after_capture bytes (word_by_test (codes "capture") refl refl)
-    (λ q. avoids_flag (codes "capture") once (codes "once") after_once is_once refl
-    (avoids_flag (codes "capture") passive (codes "passive") [] is_passive refl (avoids_nothing (codes "capture")))) s in
-    let f₂ = flag_complete (codes "once") once after_once f₁.0 is_once
-    (λ q. avoids_flag (codes "once") passive (codes "passive") [] is_passive refl (avoids_nothing (codes "once"))) f₁.2 in
-    let f₃ = flag_complete (codes "passive") passive [] f₂.0 is_passive (λ q. avoids_nothing (codes "passive")) f₂.2 in
+    let f₁ = flag_complete (codes "capture") l.capture after_capture bytes (word_by_test (codes "capture") refl refl)
+    (λ q. avoids_flag (codes "capture") l.once (codes "once") after_once is_once refl
+    (avoids_flag (codes "capture") l.passive (codes "passive") [] is_passive refl (avoids_nothing (codes "capture")))) s in
+    let f₂ = flag_complete (codes "once") l.once after_once f₁.0 is_once
+    (λ q. avoids_flag (codes "once") l.passive (codes "passive") [] is_passive refl (avoids_nothing (codes "once"))) f₁.2 in
+    let f₃ = flag_complete (codes "passive") l.passive [] f₂.0 is_passive (λ q. avoids_nothing (codes "passive")) f₂.2 in
     rw (f₁.1, f₂.1, f₃.1, f₃.2) refl
 
 pub listen_sound : (o : Owner) (bytes : List ℕ) (c : Command) → listen_at o bytes ≡ Some c → IsBehind keyword.Listen o bytes c
@@ -271,7 +270,7 @@ listen_complete o n l bytes s =
     let v = u.3 in
     let e₄ : action_at u.1 ≡ Some (l.action, v.1) =
     rw (v.4) (action_reads.complete v.0 v.1 l.action v.2 (Spells-ends (listener_flags l.capture l.once l.passive) v.1 v.3)) in
-    rw (e₁, e₂, e₃, e₄) (listen_end_complete n l.event l.label l.action l.capture l.once l.passive v.1 v.3)
+    rw (e₁, e₂, e₃, e₄) (listen_end_complete n l v.1 v.3)
 
 pub unlisten_end_sound : (n : NodeWord) (event l : Word) (bytes : List ℕ) (c : Command) → unlisten_end n event l bytes ≡ Some c →
     (capture : Bool) × (unlisten n event l capture ≡ c) × Spells (flag capture (codes "capture") []) bytes

@@ -68,21 +68,20 @@ dispatch_end_sound o n event bytes c e =
           (flag_sound (codes "composed") cancelable.1 (related_parts o r) (related_sound o composed.1 r h))),
     )
 
-pub dispatch_end_complete : (o : Owner) (n : NodeWord) (event : Word) (bubbles cancelable composed : Bool) (r : Option NodeWord) (bytes : List ℕ) →
-    Spells (event_flags bubbles cancelable composed (related_parts o r)) bytes →
-    dispatch_end o n event bytes ≡ Some (dispatch n (record { event = event; bubbles = bubbles; cancelable = cancelable; composed = composed }) r)
-dispatch_end_complete o n event bubbles cancelable composed r bytes s =
+pub dispatch_end_complete : (o : Owner) (n : NodeWord) (e : EventWords) (r : Option NodeWord) (bytes : List ℕ) →
+    Spells (event_flags e.bubbles e.cancelable e.composed (related_parts o r)) bytes → dispatch_end o n e.event bytes ≡ Some (dispatch n e r)
+dispatch_end_complete o n e r bytes s =
     let after_composed = related_parts o r in
-    let after_cancelable = flag composed (codes "composed") after_composed in
-    let after_bubbles = flag cancelable (codes "cancelable") after_cancelable in
+    let after_cancelable = flag e.composed (codes "composed") after_composed in
+    let after_bubbles = flag e.cancelable (codes "cancelable") after_cancelable in
     let is_cancelable = word_by_test (codes "cancelable") refl refl in
     let is_composed = word_by_test (codes "composed") refl refl in
-    let f₁ = flag_complete (codes "bubbles") bubbles after_bubbles bytes (word_by_test (codes "bubbles") refl refl)
-    (λ q. avoids_flag (codes "bubbles") cancelable (codes "cancelable") after_cancelable is_cancelable refl
-    (avoids_flag (codes "bubbles") composed (codes "composed") after_composed is_composed refl (avoids_related (codes "bubbles") o r refl))) s in
-    let f₂ = flag_complete (codes "cancelable") cancelable after_cancelable f₁.0 is_cancelable
-    (λ q. avoids_flag (codes "cancelable") composed (codes "composed") after_composed is_composed refl (avoids_related (codes "cancelable") o r refl)) f₁.2 in
-    let f₃ = flag_complete (codes "composed") composed after_composed f₂.0 is_composed (λ q. avoids_related (codes "composed") o r refl) f₂.2 in
+    let f₁ = flag_complete (codes "bubbles") e.bubbles after_bubbles bytes (word_by_test (codes "bubbles") refl refl)
+    (λ q. avoids_flag (codes "bubbles") e.cancelable (codes "cancelable") after_cancelable is_cancelable refl
+    (avoids_flag (codes "bubbles") e.composed (codes "composed") after_composed is_composed refl (avoids_related (codes "bubbles") o r refl))) s in
+    let f₂ = flag_complete (codes "cancelable") e.cancelable after_cancelable f₁.0 is_cancelable
+    (λ q. avoids_flag (codes "cancelable") e.composed (codes "composed") after_composed is_composed refl (avoids_related (codes "cancelable") o r refl)) f₁.2 in
+    let f₃ = flag_complete (codes "composed") e.composed after_composed f₂.0 is_composed (λ q. avoids_related (codes "composed") o r refl) f₂.2 in
     let last = related_complete o r f₃.0 f₃.2 in
     rw (f₁.1, f₂.1, f₃.1, last) refl
 
@@ -102,7 +101,7 @@ dispatch_complete o n e r bytes s =
     let e₁ : node_at o bytes ≡ Some (n, s.1) = rw (s.4) ((node_reads o).complete s.0 s.1 n s.2 (Spells-ends (event_parts o e r) s.1 s.3)) in
     let t = s.3 in
     let e₂ : label_at s.1 ≡ Some (e.event, t.1) = rw (t.4) (label_reads.complete t.0 t.1 e.event t.2 (Spells-ends (drop 1 (event_parts o e r)) t.1 t.3)) in
-    rw (e₁, e₂) (dispatch_end_complete o n e.event e.bubbles e.cancelable e.composed r t.1 t.3)
+    rw (e₁, e₂) (dispatch_end_complete o n e r t.1 t.3)
 
 -- the first part, if there is one, begins as an attribute filter does
 pub avoids_attribute_filter : (name : List ℕ) (f : Option (List Word)) → get_or name 0 0 ≢ 102 → Avoids name (perhaps IsAttributeFilter f)

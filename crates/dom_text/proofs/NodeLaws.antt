@@ -29,11 +29,9 @@ full_name_sound w s e =
     let whole : w ≡ component ++ codes ":m" ++ node = parted ∙ sym (append_assoc component (codes ":m") node) in
     (cc, (k, j, component, node, component_sound component k ek, number_sound node j ej, whole))
 
-full_name_parts : (front back component text : List ℕ) (q : ComponentName) (j : ℕ) → front ≡ component → back ≡ codes ":m" ++ text →
-    IsComponent q component → IsNumber j text →
-    (component_of front >>= λ i. behind (codes ":m") back >>= λ rest. number_of rest >>= λ l. Some foreign) ≡ Some foreign
-full_name_parts front back component text q j f b hq hj =
-    rw (f, b, component_complete q component hq, number_complete text j hj) refl
+full_name_parts : (component text : List ℕ) (q : ComponentName) (j : ℕ) → IsComponent q component → IsNumber j text →
+    (component_of component >>= λ i. behind (codes ":m") (codes ":m" ++ text) >>= λ rest. number_of rest >>= λ l. Some foreign) ≡ Some foreign
+full_name_parts component text q j hq hj = rw (component_complete q component hq, number_complete text j hj) refl
 
 full_name_complete : (w : List ℕ) → IsFullName w → full_name_of w ≡ Some foreign
 full_name_complete w h =
@@ -41,7 +39,7 @@ full_name_complete w h =
     let r = run_complete is_no_colon h.2 (codes ":m" ++ h.3) (component_passes h.0 h.2 h.4) refl in
     let front : run is_no_colon w ≡ h.2 = ap (run is_no_colon) parted ∙ r.0 in
     let back : behind_run is_no_colon w ≡ codes ":m" ++ h.3 = ap (behind_run is_no_colon) parted ∙ r.1 in
-    full_name_parts (run is_no_colon w) (behind_run is_no_colon w) h.2 h.3 h.0 h.1 front back h.4 h.5
+    rw (front, back) (full_name_parts h.2 h.3 h.0 h.1 h.4 h.5)
 
 option_map_some : {A B : Type 0} (f : A → B) (o : Option A) (y : B) → option_map f o ≡ Some y → (x : A) × (o ≡ Some x) × (f x ≡ y)
 option_map_some f (Some x) y e = (x, refl, some_is e)
