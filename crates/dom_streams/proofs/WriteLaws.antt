@@ -1,5 +1,5 @@
 -- Laws of bytes that are written piece by piece.
-use Rattle.std.proofs.Common.{◌≡◌, ℕ, ◌+◌, ◌-◌, List, [], ◌++◌, length, take, drop, Option, Result, Ok, Err, refl, sym, ap, subst, ◌∙◌, append_assoc}
+use Rattle.std.proofs.Common.{◌≡◌, ℕ, ◌+◌, ◌-◌, List, [], ◌++◌, length, take, drop, Option, Result, Ok, Err, sym, ap, subst, ◌∙◌, append_assoc}
 use Rattle.std.proofs.Common.{append-nil, arith, length-drop}
 use Rattle.std.proofs.lemmas.List.{take_all, take-append-drop}
 use Rattle.std.specs.Io.KnownBytes.{Appends}
@@ -16,20 +16,6 @@ rest_behind bytes front rest n h =
     h ∙ ap (λ (x : List ℕ). front ++ x) (sym (take-append-drop n rest)) ∙ sym (append_assoc front (take n rest) (drop n rest)) ∙
     ap (λ (x : List ℕ). (front ++ take n rest) ++ x) (sym all)
 
--- some first bytes behind a text, of which more was to come
-pub front_behind : (a b c : Option (List ℕ)) (all front text back : List ℕ) → Appends a b front → all ≡ (front ++ text) ++ back →
-    AppendsFront b c text → AppendsFront a c all
-front_behind a b c all front text back before e h = record {
-  front = front ++ h.front;
-  back = h.back ++ back;
-  split =
-      e
-      ∙ ap (λ (x : List ℕ). (front ++ x) ++ back) h.split
-      ∙ ap (λ (x : List ℕ). x ++ back) (sym (append_assoc front h.front h.back))
-      ∙ append_assoc (front ++ h.front) h.back back;
-  appends = Appends-trans a b c front h.front before h.appends;
-}
-
 -- a front was written, and no call of the sink failed: its counts of failed calls and what it holds, before and after
 pub record HasWritten (failed fails : ℕ) (old new : Option (List ℕ)) (front : List ℕ) : Type 0 where
   pub none_failed : fails ≡ failed
@@ -38,12 +24,24 @@ pub record HasWritten (failed fails : ℕ) (old new : Option (List ℕ)) (front 
 -- ---- behind a front that was written
 
 module _ {f₀ f₁ : ℕ} {a b : Option (List ℕ)} {front : List ℕ} (before : HasWritten f₀ f₁ a b front) where
+  -- some first bytes of a text are written, of which more was to come
+  front_behind : (c : Option (List ℕ)) (text back : List ℕ) → AppendsFront b c text → AppendsFront a c ((front ++ text) ++ back)
+  front_behind c text back h = record {
+    front = front ++ h.front;
+    back = h.back ++ back;
+    split =
+        ap (λ (x : List ℕ). (front ++ x) ++ back) h.split
+        ∙ ap (λ (x : List ℕ). x ++ back) (sym (append_assoc front h.front h.back))
+        ∙ append_assoc (front ++ h.front) h.back back;
+    appends = Appends-trans a b c front h.front before.appends h.appends;
+  }
+
   -- A text is written.
   pub ends_behind : {A : Type 0} (r : Result A RunFault) (f₂ : ℕ) (c : Option (List ℕ)) (text : List ℕ) (some : Type 0)
       → EndsWriting r f₁ f₂ b c text some → EndsWriting r f₀ f₂ a c (front ++ text) some
   ends_behind (Ok x) f₂ c text some h = (h.0 ∙ before.none_failed, Appends-trans a b c front text before.appends h.1)
   ends_behind (Err Write) f₂ c text some h =
-      (h.0 ∙ ap (λ n. n + 1) before.none_failed, front_behind a b c (front ++ text) front text [] before.appends (sym (append-nil (front ++ text))) h.1)
+      (h.0 ∙ ap (λ n. n + 1) before.none_failed, subst (AppendsFront a c) (append-nil (front ++ text)) (front_behind c text [] h.1))
   ends_behind (Err Memory) f₂ c text some h = (h.0 ∙ before.none_failed, h.1)
   ends_behind (Err Read) f₂ c text some h = h
   ends_behind (Err InputLimit) f₂ c text some h = h
@@ -52,7 +50,7 @@ module _ {f₀ f₁ : ℕ} {a b : Option (List ℕ)} {front : List ℕ} (before 
   pub stops_between : (e : RunFault) (f₂ : ℕ) (c : Option (List ℕ)) (text back : List ℕ) (some : Type 0)
       → StopsWriting e f₁ f₂ b c text some → StopsWriting e f₀ f₂ a c ((front ++ text) ++ back) some
   stops_between Write f₂ c text back some h =
-      (h.0 ∙ ap (λ n. n + 1) before.none_failed, front_behind a b c ((front ++ text) ++ back) front text back before.appends refl h.1)
+      (h.0 ∙ ap (λ n. n + 1) before.none_failed, front_behind c text back h.1)
   stops_between Memory f₂ c text back some h = (h.0 ∙ before.none_failed, h.1)
   stops_between Read f₂ c text back some h = h
   stops_between InputLimit f₂ c text back some h = h
