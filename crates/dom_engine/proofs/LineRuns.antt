@@ -1,5 +1,5 @@
 -- Lines that are run behind other lines.
-use Rattle.std.proofs.Common.{◌≡◌, ℕ, ◌+◌, ◌<◌, ◌≤◌, List, [], ◌∷◌, ◌++◌, length, take, drop, get_or, map, Option, Result, refl, sym, ap, subst, ◌∙◌}
+use Rattle.std.proofs.Common.{◌≡◌, ℕ, ◌+◌, ◌<◌, ◌≤◌, List, [], ◌∷◌, ◌++◌, length, take, drop, get_or, map, Option, refl, sym, ap, subst, ◌∙◌}
 use Rattle.std.proofs.Common.{arith, length-append}
 use Rattle.std.proofs.lemmas.List.{map-append, take_more, take-append-le, take-append-drop}
 use Rattle.std.proofs.Math.Seq.{take-append-add}
@@ -8,9 +8,9 @@ use Rattle.std.proofs.KnownBytes.{Appends-nil, Appends-trans}
 use Rattle.dom_base.specs.declared.Owner.{Owner}
 use Rattle.dom_model.specs.World.{World}
 use Rattle.dom_streams.specs.declared.fault.RunFault.{RunFault}
-use Rattle.dom_engine.specs.Run.{world_after, shown, WritesSome, EndsLines}
+use Rattle.dom_engine.specs.Run.{world_after, shown, WritesSome}
 use Rattle.dom_streams.specs.Writing.{StopsWriting}
-use Rattle.dom_streams.proofs.WriteLaws.{ends_behind, stops_between}
+use Rattle.dom_streams.proofs.WriteLaws.{HasWritten, stops_between, stops_as}
 use Rattle.dom_engine.proofs.RunLaws.{world_after-none, world_after-append, shown-none, shown-append}
 
 -- an owner whose lines are written, and a world, are what they were behind lines that were run
@@ -31,65 +31,53 @@ behind-none view w done e = record { same = refl; world = sym (ap (world_after w
 pub shows-none : (a : Option (List ℕ)) (view : Option Owner) (w : World) (done : List (List ℕ)) → done ≡ [] → Appends a a (shown view w done)
 shows-none a view w done e = subst (Appends a a) (sym (ap (shown view w) e ∙ shown-none view w)) (Appends-nil a)
 
--- what is shown of all lines is what is shown of the first, and then of the others
-pub shown-behind : (view view' : Option Owner) (w w' : World) (done more : List (List ℕ)) → Behind view w done view' w' →
-    shown view w (done ++ more) ≡ shown view w done ++ shown view' w' more
-shown-behind view view' w w' done more b = rw (b.same, b.world) (shown-append view w done more)
+-- ---- behind lines that were run
 
--- some lines behind others, of which more were to come
-pub some_behind : (view view' : Option Owner) (w w' : World) (done more rest all : List (List ℕ)) (a b c : Option (List ℕ)) → Behind view w done view' w'
-    → all ≡ (done ++ more) ++ rest → Appends a b (shown view w done) → WritesSome b c (shown view' w') more →
-    (some : WritesSome a c (shown view w) all) × (length done ≤ some.count) × (some.count ≤ length (done ++ more))
-some_behind view view' w w' done more rest all a b c at e before h =
-    let few : length done + h.count ≤ length (done ++ more) = omega (arith, length-append done more, h.within) in
-    let front : take (length done + h.count) all ≡ done ++ take h.count more =
-    ap (take (length done + h.count)) e ∙ take-append-le (length done + h.count) (done ++ more) rest few ∙ take-append-add done more h.count in
-    let all_shown = sym (ap (shown view w) front ∙ shown-behind view view' w w' done (take h.count more) at) in (
-      record {
-        count = length done + h.count;
-        within = omega (arith, few, ap length e, length-append (done ++ more) rest);
-        appends = subst (Appends a c) all_shown (Appends-trans a b c (shown view w done) (shown view' w' (take h.count more)) before h.appends);
-      },
-      omega arith,
-      few,
-    )
+module _ {view view' : Option Owner} {w w' : World} {done : List (List ℕ)} (at : Behind view w done view' w') where
+  -- what is shown of all lines is what is shown of the first, and then of the others
+  pub shown-behind : (more : List (List ℕ)) → shown view w (done ++ more) ≡ shown view w done ++ shown view' w' more
+  shown-behind more = rw (at.same, at.world) (shown-append view w done more)
 
--- Lines are run behind others.
-pub lines_behind : {A : Type 0} (r : Result A RunFault) (view view' : Option Owner) (w w' : World) (done more : List (List ℕ)) (f₀ f₁ f₂ : ℕ)
-    (a b c : Option (List ℕ))
-    → Behind view w done view' w' → f₁ ≡ f₀ → Appends a b (shown view w done) → EndsLines r f₁ f₂ b c (shown view' w') more →
-    EndsLines r f₀ f₂ a c (shown view w) (done ++ more)
-lines_behind r view view' w w' done more f₀ f₁ f₂ a b c at f before h =
-    ends_behind r f₀ f₁ f₂ a b c (shown view w (done ++ more)) (shown view w done) (shown view' w' more) _ _ f before
-    (shown-behind view view' w w' done more at)
-    (λ some. (some_behind view view' w w' done more [] (done ++ more) a b c at (no_lines-behind (done ++ more)) before some).0) h
+  -- the world behind more lines
+  pub world-behind : (more all : List (List ℕ)) (v : World) → all ≡ done ++ more → v ≡ world_after w' more → v ≡ world_after w all
+  world-behind more all v e h = h ∙ ap (λ x. world_after x more) at.world ∙ sym (world_after-append w done more) ∙ ap (world_after w) (sym e)
 
--- Lines behind others, and before more, meet a fault.
-pub lines_between : (e : RunFault) (view view' : Option Owner) (w w' : World) (done more rest all : List (List ℕ)) (f₀ f₁ f₂ : ℕ) (a b c : Option (List ℕ))
-    → Behind view w done view' w' → all ≡ (done ++ more) ++ rest → f₁ ≡ f₀ → Appends a b (shown view w done)
-    → StopsWriting e f₁ f₂ b c (shown view' w' more) (WritesSome b c (shown view' w') more) →
-    StopsWriting e f₀ f₂ a c (shown view w all) (WritesSome a c (shown view w) all)
-lines_between e view view' w w' done more rest all f₀ f₁ f₂ a b c at whole f before h =
-    let split : shown view w all ≡ (shown view w done ++ shown view' w' more) ++ shown view (world_after w (done ++ more)) rest =
-    ap (shown view w) whole ∙ shown-append view w (done ++ more) rest ∙ ap (λ (x : List ℕ). x ++ shown view (world_after w (done ++ more)) rest)
-    (shown-behind view view' w w' done more at) in
-    stops_between e f₀ f₁ f₂ a b c (shown view w all) (shown view w done) (shown view' w' more) (shown view (world_after w (done ++ more)) rest) _
-    _ f before split
-    (λ some. (some_behind view view' w w' done more rest all a b c at whole before some).0) h
+  -- more lines are run
+  pub lines_done : (more all : List (List ℕ)) (a b c : Option (List ℕ)) → all ≡ done ++ more → Appends a b (shown view w done) →
+      Appends b c (shown view' w' more) → Appends a c (shown view w all)
+  lines_done more all a b c e before h =
+      subst (Appends a c) (sym (ap (shown view w) e ∙ shown-behind more))
+      (Appends-trans a b c (shown view w done) (shown view' w' more) before h)
 
--- the world behind more lines
-pub world-behind : (view view' : Option Owner) (w w' : World) (done more all : List (List ℕ)) (v : World) → Behind view w done view' w' →
-    all ≡ done ++ more → v ≡ world_after w' more
-    → v ≡ world_after w all
-world-behind view view' w w' done more all v at e h =
-    h ∙ ap (λ x. world_after x more) at.world ∙ sym (world_after-append w done more) ∙ ap (world_after w) (sym e)
+  -- some lines behind these, of which more were to come
+  pub some_behind : (more rest all : List (List ℕ)) (a b c : Option (List ℕ)) → all ≡ (done ++ more) ++ rest → Appends a b (shown view w done) →
+      WritesSome b c (shown view' w') more →
+      (some : WritesSome a c (shown view w) all) × (length done ≤ some.count) × (some.count ≤ length (done ++ more))
+  some_behind more rest all a b c e before h =
+      let few : length done + h.count ≤ length (done ++ more) = omega (arith, length-append done more, h.within) in
+      let front : take (length done + h.count) all ≡ done ++ take h.count more =
+      ap (take (length done + h.count)) e ∙ take-append-le (length done + h.count) (done ++ more) rest few ∙ take-append-add done more h.count in
+      let all_shown = sym (ap (shown view w) front ∙ shown-behind (take h.count more)) in (
+        record {
+          count = length done + h.count;
+          within = omega (arith, few, ap length e, length-append (done ++ more) rest);
+          appends = subst (Appends a c) all_shown (Appends-trans a b c (shown view w done) (shown view' w' (take h.count more)) before h.appends);
+        },
+        omega arith,
+        few,
+      )
 
--- more lines are run
-pub lines_done : (view view' : Option Owner) (w w' : World) (done more all : List (List ℕ)) (a b c : Option (List ℕ))
-    → Behind view w done view' w' → all ≡ done ++ more → Appends a b (shown view w done) → Appends b c (shown view' w' more) → Appends a c (shown view w all)
-lines_done view view' w w' done more all a b c at e before h =
-    subst (Appends a c) (sym (ap (shown view w) e ∙ shown-behind view view' w w' done more at))
-    (Appends-trans a b c (shown view w done) (shown view' w' more) before h)
+  -- Lines behind these, of which the text was written, and before more meet a fault.
+  module _ {f₀ f₁ : ℕ} {a b : Option (List ℕ)} (before : HasWritten f₀ f₁ a b (shown view w done)) where
+    pub lines_between : (e : RunFault) (more rest all : List (List ℕ)) (f₂ : ℕ) (c : Option (List ℕ)) → all ≡ (done ++ more) ++ rest
+        → StopsWriting e f₁ f₂ b c (shown view' w' more) (WritesSome b c (shown view' w') more) →
+        StopsWriting e f₀ f₂ a c (shown view w all) (WritesSome a c (shown view w) all)
+    lines_between e more rest all f₂ c whole h =
+        let later = shown view (world_after w (done ++ more)) rest in
+        let split : shown view w all ≡ (shown view w done ++ shown view' w' more) ++ later =
+        ap (shown view w) whole ∙ shown-append view w (done ++ more) rest ∙ ap (λ (x : List ℕ). x ++ later) (shown-behind more) in
+        stops_as (sym split) (λ some. (some_behind more rest all a b c whole before.appends some).0) e f₀ f₂ a c
+        (stops_between before e f₂ c (shown view' w' more) later (WritesSome b c (shown view' w') more) h)
 
 module _ {V : Type 0} (bytes : V → List ℕ) where
   -- one more of some lines

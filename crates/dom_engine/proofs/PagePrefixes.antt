@@ -95,24 +95,24 @@ page-ended bytes more = page-more (cut_of bytes).finished (lines_of ((cut_of byt
 
 -- ---- faults
 
--- what the page sees is at the front of what it would see
-sees-front : (view : Option Owner) (old new : Option (List ℕ)) (seen rest all : List ℕ) → all ≡ seen ++ rest → PageSees view old new seen →
-    PageSeesFront view old new all
-sees-front view old new seen rest all e s =
-    record { written = s.written; appends = s.appends; back = rest; split = e ∙ ap (λ (x : List ℕ). x ++ rest) (sym s.seen) }
+-- A view, and what is written from one state of a sink to the next.
+module _ (view : Option Owner) (old new : Option (List ℕ)) where
+  -- what the page sees is at the front of what it would see
+  sees-front : (seen rest all : List ℕ) → all ≡ seen ++ rest → PageSees view old new seen → PageSeesFront view old new all
+  sees-front seen rest all e s =
+      record { written = s.written; appends = s.appends; back = rest; split = e ∙ ap (λ (x : List ℕ). x ++ rest) (sym s.seen) }
 
--- some first bytes of a text, of which the page sees some first bytes of its own
-sees-cut : (view : Option Owner) (old new : Option (List ℕ)) (text front back seen rest all : List ℕ) → text ≡ front ++ back →
-    page_seen view text ≡ seen → all ≡ seen ++ rest
-    → Appends old new front → PageSeesFront view old new all
-sees-cut view old new text front back seen rest all split is e written =
-    let cut = seen-front view front back in
-    record {
-      written = front;
-      appends = written;
-      back = cut.0 ++ rest;
-      split = e ∙ ap (λ (x : List ℕ). x ++ rest) (sym is ∙ ap (page_seen view) split ∙ cut.1) ∙ append_assoc (page_seen view front) cut.0 rest;
-    }
+  -- some first bytes of a text, of which the page sees some first bytes of its own
+  sees-cut : (text front back seen rest all : List ℕ) → text ≡ front ++ back → page_seen view text ≡ seen → all ≡ seen ++ rest → Appends old new front →
+      PageSeesFront view old new all
+  sees-cut text front back seen rest all split is e written =
+      let cut = seen-front view front back in
+      record {
+        written = front;
+        appends = written;
+        back = cut.0 ++ rest;
+        split = e ∙ ap (λ (x : List ℕ). x ++ rest) (sym is ∙ ap (page_seen view) split ∙ cut.1) ∙ append_assoc (page_seen view front) cut.0 rest;
+      }
 
 -- The lines named.
 pub page-sees_lines_named : PageSeesLinesNamed

@@ -4,17 +4,18 @@ use Rattle.std.proofs.lemmas.List.{take-append-drop}
 use Rattle.dom_reader.specs.Streams.{fed}
 use Rattle.dom_reader.proofs.StreamLaws.{fed-pieces}
 
--- the lines of bytes in two pieces
-pub fed-lines : (kept kept' passed piece all : List ℕ) → kept' ≡ (fed kept passed).rest → all ≡ passed ++ piece →
-    (fed kept all).finished ≡ (fed kept passed).finished ++ (fed kept' piece).finished
-fed-lines kept kept' passed piece all k e =
-    ap (λ x. (fed kept x).finished) e ∙ ap (λ cut. cut.finished) (fed-pieces kept passed piece) ∙
-    ap (λ x. (fed kept passed).finished ++ (fed x piece).finished) (sym k)
+-- A piece that is fed behind others.
+module _ (kept kept' passed piece all : List ℕ) (k : kept' ≡ (fed kept passed).rest) (e : all ≡ passed ++ piece) where
+  -- the lines of bytes in two pieces
+  pub fed-lines : (fed kept all).finished ≡ (fed kept passed).finished ++ (fed kept' piece).finished
+  fed-lines =
+      ap (λ x. (fed kept x).finished) e ∙ ap (λ cut. cut.finished) (fed-pieces kept passed piece) ∙
+      ap (λ x. (fed kept passed).finished ++ (fed x piece).finished) (sym k)
 
--- the unfinished line of bytes in two pieces
-pub fed-rest : (kept kept' passed piece all : List ℕ) → kept' ≡ (fed kept passed).rest → all ≡ passed ++ piece → (fed kept all).rest ≡ (fed kept' piece).rest
-fed-rest kept kept' passed piece all k e =
-    ap (λ x. (fed kept x).rest) e ∙ ap (λ cut. cut.rest) (fed-pieces kept passed piece) ∙ ap (λ x. (fed x piece).rest) (sym k)
+  -- the unfinished line of bytes in two pieces
+  pub fed-rest : (fed kept all).rest ≡ (fed kept' piece).rest
+  fed-rest =
+      ap (λ x. (fed kept x).rest) e ∙ ap (λ cut. cut.rest) (fed-pieces kept passed piece) ∙ ap (λ x. (fed x piece).rest) (sym k)
 
 -- bytes of which a front of the rest more has passed
 pub front-behind : (bytes passed rest front later : List ℕ) → bytes ≡ passed ++ rest → rest ≡ front ++ later → bytes ≡ (passed ++ front) ++ later

@@ -10,7 +10,7 @@ pub loop-left-init : goal.loop-left-init
 loop-left-init g c = ([], read-none c.args.self.now.view _ _ _ _ c.requires.splitter c.requires.world, refl, refl, refl, refl)
 
 pub take_read-requires-clause-kept : goal.take_read-requires-clause-kept
-take_read-requires-clause-kept g c = let i = c.loop-left.invariant in read-kept i.0 _ _ _ _ _ _ _ i.1
+take_read-requires-clause-kept g c = let i = c.loop-left.invariant in read-kept i.1
 
 pub returns-in_err-n-clause-stops : goal.returns-in_err-n-clause-stops
 returns-in_err-n-clause-stops g c =
@@ -18,8 +18,8 @@ returns-in_err-n-clause-stops g c =
     let p = err_from_is_err_and c.from_residual.result c.from_residual.ensures.1 in
     let few = length-take c.min-room.result c.loop-left.buffer in
     rw (p.1, p.2)
-    (stops-one_read _ i.0 _ c.args.self.now.view _ _ _ _ _ _ _ _ _ _ _ i.1 (omega (arith, c.min-room.ensures, few))
-    (omega (arith, c.min-room.ensures, few, i.3)) i.2 c.in_err-n.ensures.stops)
+    (stops-one_read i.1 i.2 _ _ _ _ _ _ (omega (arith, c.min-room.ensures, few)) (omega (arith, c.min-room.ensures, few, i.3))
+    c.in_err-n.ensures.stops)
 
 pub returns-then-n-eq0-clause-read : goal.returns-then-n-eq0-clause-read
 returns-then-n-eq0-clause-read g c =
@@ -27,7 +27,7 @@ returns-then-n-eq0-clause-read g c =
     let e = c.in_ok-n.ensures in
     let bytes = take c.in_ok-n.n c.take_read.new.buffer in (
       i.0 ++ bytes,
-      read-more i.0 bytes _ _ _ _ _ _ _ _ _ _ _ _ i.1 i.2 e.consumed e.splitter e.world e.written,
+      read-more i.1 i.2 bytes _ _ _ _ e.consumed e.splitter e.world e.written,
       e.end c.if-n-eq0.true,
       omega
           (arith, i.3, e.bound.1, c.if-n-eq0.true, length-append i.0 bytes),
@@ -39,7 +39,7 @@ loop-left-preserved g c =
     let e = c.in_ok-n.ensures in
     let bytes = take c.in_ok-n.n c.take_read.new.buffer in (
       i.0 ++ bytes,
-      read-more i.0 bytes _ _ _ _ _ _ _ _ _ _ _ _ i.1 i.2 e.consumed e.splitter e.world e.written,
+      read-more i.1 i.2 bytes _ _ _ _ e.consumed e.splitter e.world e.written,
       e.view ∙
           i.2,
       omega (
@@ -62,4 +62,4 @@ returns-clause-stops g c =
     let i = c.loop-left.invariant in
     let more = c.expect_end.ensures.more in
     let full : length i.0 ≡ input_limit = omega (arith, i.3, c.loop-left-test.false) in
-    MatchResult-weaker c.expect_end.result more.2 (λ _ _. tt) (λ e at. stops-more e i.0 more.0 _ _ _ _ _ _ _ _ i.1 full more.1 at)
+    MatchResult-weaker c.expect_end.result more.2 (λ _ _. tt) (λ e at. stops-more i.1 e more.0 _ full more.1 at)

@@ -15,7 +15,7 @@ pub returns-clause-written : goal.returns-clause-written
 returns-clause-written g c =
     let w = c.args.self.now.session.world in
     let text = c.deref.ensures.value ∙ c.in_ok-text.ensures.text ∙ sym (answers-one w c.args.line.now) in
-    ends_as c.write.result _ _ _ _ _ _ ⊥ _ (ap (viewed c.args.self.now.view) text) absurd c.write.ensures
+    ends_as (ap (viewed c.args.self.now.view) text) (λ (x : ⊥). absurd x) c.write.result _ _ _ _ c.write.ensures
 
 pub returns-clause-world : goal.returns-clause-world
 returns-clause-world g c = on_ok c.write.result

@@ -21,14 +21,16 @@ loop-line-preserved g c =
     record { same = i.2; world = i.0 } in
     let more = one_more (λ line. line.items) c.args.lines.now c.loop-line.line-index c.line-item.result _ c.loop-line-test.true c.line-item.is
     c.deref.ensures.value in
-    (world-behind _ _ _ _ _ _ _ _ at more e.world, e.splitter ∙ i.1, e.view ∙ i.2, e.written.0 ∙ i.3, lines_done _ _ _ _ _ _ _ _ _ _ at more i.4 e.written.1)
+    (world-behind at _ _ _ more e.world, e.splitter ∙ i.1, e.view ∙ i.2, e.written.0 ∙ i.3, lines_done at _ _ _ _ _ more i.4 e.written.1)
 
 pub returns-in_err-run_line-clause-written : goal.returns-in_err-run_line-clause-written
 returns-in_err-run_line-clause-written g c =
     let i = c.loop-line.invariant in
     let p = err_from_is_err_and c.from_residual.result c.from_residual.ensures.1 in
-    let done = map (λ line. line.items) (take c.loop-line.line-index c.args.lines.now) in
+    let at : Behind c.args.self.now.view c.args.self.now.session.world (map (λ line. line.items) (take c.loop-line.line-index c.args.lines.now))
+    c.loop-line.self.view c.loop-line.self.session.world =
+    record { same = i.2; world = i.0 } in
     rw (p.1, p.2)
-    (lines_between _ _ _ _ _ done _ _ _ _ _ _ _ _ _ (record { same = i.2; world = i.0 })
+    (lines_between at (record { none_failed = i.3; appends = i.4 }) _ _ _ _ _ _
     (around (λ line. line.items) c.args.lines.now c.loop-line.line-index c.line-item.result _ c.loop-line-test.true c.line-item.is
-    c.deref.ensures.value) i.3 i.4 c.in_err-run_line.ensures.written)
+    c.deref.ensures.value) c.in_err-run_line.ensures.written)
