@@ -16,64 +16,77 @@ use Rattle.dom_ranges.specs.Staying.{AreWithin, SameWithin, RemovalWithin, Inser
 use Rattle.dom_ranges.specs.Tables.{RangeLists, ranges_of}
 use Rattle.dom_callers.specs.Moving.{HasRoom, shown_ranges, with_coming}
 
--- a node leaves its parent, or has none
-pub out-within : SameWithin → RemovalWithin → (f : NamedTrees) (most node : ℕ) (was now : RangeLists) (parent : Option ℕ) →
-    option_map (name_at f.names) parent ≡ parent_of f.trees (name_at f.names node) → ForSome parent (λ k. k < length f.names) →
-    index_of f.trees (name_at f.names node) ≤ most →
-    (parent_of f.trees (name_at f.names node) ≡ None → (o : Owner) → ranges_of now o ≡ ranges_of was o) →
-    ((p : ℕ) → p < length f.names → parent_of f.trees (name_at f.names node) ≡ Some (name_at f.names p) →
-    HasMoved (after_removal nat_eq (is_inside f node) p (index_of f.trees (name_at f.names node))) was now) →
-    AreWithin f.names most was → AreWithin f.names most now
-out-within same removal f most node was now None is there few root child within = same f.names most was now (root (sym is)) within
-out-within same removal f most node was now (Some p) is there few root child within =
-    (removal f most node p (index_of f.trees (name_at f.names node)) (there p refl) few was within).1 now (child p (there p refl) (sym is))
+-- ---- a node leaves its parent, or has none
 
--- so there is as much room as before
-pub out-room : SameWithin → RemovalWithin → (f g : NamedTrees) (node : ℕ) (was now : RangeLists) (parent : Option ℕ) → g.names ≡ f.names →
-    option_map (name_at f.names) parent ≡ parent_of f.trees (name_at f.names node) → ForSome parent (λ k. k < length f.names) →
-    index_of f.trees (name_at f.names node) < length f.names →
-    (parent_of f.trees (name_at f.names node) ≡ None → (o : Owner) → ranges_of now o ≡ ranges_of was o) →
-    ((p : ℕ) → p < length f.names → parent_of f.trees (name_at f.names node) ≡ Some (name_at f.names p) →
-    HasMoved (after_removal nat_eq (is_inside f node) p (index_of f.trees (name_at f.names node))) was now) →
-    (n : ℕ) → HasRoom n f was → HasRoom n g now
-out-room same removal f g node was now parent all is there few root child n h =
-    let nodes = h.nodes in
-    record {
-      most = h.most;
-      nodes = subst (λ (ns : List NodeName). length ns ≤ h.most) (sym all) h.nodes;
-      fits = h.fits;
-      within = subst (λ (ns : List NodeName). AreWithin ns h.most now) (sym all)
-          (out-within same removal f h.most node was now parent is there (omega (arith, few, nodes)) root child h.within);
-    }
+-- the live ranges before and after it
+pub record NodeLeaves (f : NamedTrees) (node : ℕ) (was now : RangeLists) : Type 0 where
+  -- the key of its parent
+  pub parent : Option ℕ
+  pub parent_is : option_map (name_at f.names) parent ≡ parent_of f.trees (name_at f.names node)
+  pub there : ForSome parent (λ k. k < length f.names)
+  -- without a parent they stay, and else they move
+  pub root : parent_of f.trees (name_at f.names node) ≡ None → (o : Owner) → ranges_of now o ≡ ranges_of was o
+  pub child : (p : ℕ) → p < length f.names → parent_of f.trees (name_at f.names node) ≡ Some (name_at f.names p) →
+    HasMoved (after_removal nat_eq (is_inside f node) p (index_of f.trees (name_at f.names node))) was now
 
--- a node comes before the child at an index
+module _ (same : SameWithin) (removal : RemovalWithin) {f : NamedTrees} {node : ℕ} {was now : RangeLists} (leaves : NodeLeaves f node was now) where
+  -- their offsets stay below a bound
+  out-within : (most : ℕ) → index_of f.trees (name_at f.names node) ≤ most → AreWithin f.names most was → AreWithin f.names most now
+  out-within most few within = by leaves.parent leaves.parent_is leaves.there
+    where
+      by : (parent : Option ℕ) → option_map (name_at f.names) parent ≡ parent_of f.trees (name_at f.names node) →
+          ForSome parent (λ k. k < length f.names) → AreWithin f.names most now
+      by None is there = same f.names most was now (leaves.root (sym is)) within
+      by (Some p) is there =
+          (removal f most node p (index_of f.trees (name_at f.names node)) (there p refl) few was within).1 now (leaves.child p (there p refl) (sym is))
+
+  -- so there is as much room as before
+  pub out-room : (g : NamedTrees) → g.names ≡ f.names → index_of f.trees (name_at f.names node) < length f.names → (n : ℕ) → HasRoom n f was → HasRoom n g now
+  out-room g all few n h =
+      let nodes = h.nodes in
+      record {
+        most = h.most;
+        nodes = subst (λ (ns : List NodeName). length ns ≤ h.most) (sym all) h.nodes;
+        fits = h.fits;
+        within = subst (λ (ns : List NodeName). AreWithin ns h.most now) (sym all) (out-within h.most (omega (arith, few, nodes)) h.within);
+      }
+
+-- ---- a node comes before the child at an index
+
+-- there is room for it
 pub in-fits : InsertWithin → (f : NamedTrees) (parent index : ℕ) (was : RangeLists) → parent < length f.names → HasRoom 1 f was →
     FitBy (after_insert nat_eq parent index 1) was
 in-fits insert f parent index was node h = (insert f.names h.most parent index 1 node was h.within).0 h.fits
 
-pub in-room : InsertWithin → (f g : NamedTrees) (parent index : ℕ) (was now : RangeLists) → g.names ≡ f.names → parent < length f.names →
-    HasMoved (after_insert nat_eq parent index 1) was now → (n : ℕ) → HasRoom (suc n) f was → HasRoom n g now
-in-room insert f g parent index was now all node moved n h =
-    let nodes = h.nodes in
-    let fits = h.fits in
-    record {
-      most = h.most + 1;
-      nodes = subst (λ (ns : List NodeName). length ns ≤ h.most + 1) (sym all) (omega (arith, nodes));
-      fits = omega (arith, fits);
-      within = subst (λ (ns : List NodeName). AreWithin ns (h.most + 1) now) (sym all)
-          ((insert f.names h.most parent index 1 node was h.within).1 now moved);
-    }
+-- the live ranges before and after it
+pub record NodeComes (f g : NamedTrees) (parent index : ℕ) (was now : RangeLists) : Type 0 where
+  pub names : g.names ≡ f.names
+  pub there : parent < length f.names
+  pub moved : HasMoved (after_insert nat_eq parent index 1) was now
 
--- less room
+module _ {f g : NamedTrees} {parent index : ℕ} {was now : RangeLists} (comes : NodeComes f g parent index was now) where
+  -- it takes room
+  pub in-room : InsertWithin → (n : ℕ) → HasRoom (suc n) f was → HasRoom n g now
+  in-room insert n h =
+      let nodes = h.nodes in
+      let fits = h.fits in
+      record {
+        most = h.most + 1;
+        nodes = subst (λ (ns : List NodeName). length ns ≤ h.most + 1) (sym comes.names) (omega (arith, nodes));
+        fits = omega (arith, fits);
+        within = subst (λ (ns : List NodeName). AreWithin ns (h.most + 1) now) (sym comes.names)
+            ((insert f.names h.most parent index 1 comes.there was h.within).1 now comes.moved);
+      }
+
+  -- where an owner's live ranges stand then, by names
+  pub in-shown : InsertNamed → WithinAtNodes → TellApart f.names → (child : ℕ) → index ≡ index_of f.trees (name_at f.names child) → HasRoom 1 f was →
+      (o : Owner) → shown_ranges g now o ≡ with_coming f.trees (name_at f.names parent) (name_at f.names child) (shown_ranges f was o)
+  in-shown named at_nodes apart child is h o =
+      ap (λ (ns : List NodeName). named_ranges ns (ranges_of now o)) comes.names ∙ ap (named_ranges f.names) (comes.moved o)
+      ∙ (named f.names apart parent index 1 comes.there).0 (ranges_of was o) (at_nodes f.names h.most was h.within o)
+      ∙ ap (λ i. named_ends_by (after_insert name_eq (name_at f.names parent) i 1) (shown_ranges f was o)) is
+
+-- ---- less room
+
 pub less-room : (f : NamedTrees) (t : RangeLists) → HasRoom 1 f t → HasRoom 0 f t
 less-room f t h = let fits = h.fits in record { most = h.most; nodes = h.nodes; fits = omega (arith, fits); within = h.within }
-
--- where an owner's live ranges stand then, by names
-pub in-shown : InsertNamed → WithinAtNodes → (f g : NamedTrees) (parent index child : ℕ) (was now : RangeLists) → g.names ≡ f.names → TellApart f.names →
-    parent < length f.names → index ≡ index_of f.trees (name_at f.names child) → HasRoom 1 f was →
-    HasMoved (after_insert nat_eq parent index 1) was now → (o : Owner) →
-    shown_ranges g now o ≡ with_coming f.trees (name_at f.names parent) (name_at f.names child) (shown_ranges f was o)
-in-shown named at_nodes f g parent index child was now all apart node is h moved o =
-    ap (λ (ns : List NodeName). named_ranges ns (ranges_of now o)) all ∙ ap (named_ranges f.names) (moved o)
-    ∙ (named f.names apart parent index 1 node).0 (ranges_of was o) (at_nodes f.names h.most was h.within o)
-    ∙ ap (λ i. named_ends_by (after_insert name_eq (name_at f.names parent) i 1) (shown_ranges f was o)) is

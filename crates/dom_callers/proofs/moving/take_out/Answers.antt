@@ -1,7 +1,7 @@
 use Rattle.std.proofs.Common.{ap, ◌∙◌}
 use Rattle.dom_ranges.specs.Settings.{named_ranges}
 use Rattle.dom_ranges.specs.Tables.{ranges_of}
-use Rattle.dom_callers.proofs.Rooms.{out-room}
+use Rattle.dom_callers.proofs.Rooms.{NodeLeaves, out-room}
 use Rattle.dom_callers.proofs.moving.take_out.Goals as goal
 
 pub on_remove-requires-clause-ends : goal.on_remove-requires-clause-ends
@@ -13,6 +13,12 @@ returns-clause-ranges c = λ o. ap (λ ns. named_ranges ns (ranges_of c.on_remov
 
 pub returns-clause-room : goal.returns-clause-room
 returns-clause-room c =
-    out-room c.law_ends_stay.ensures.same c.law_ends_stay.ensures.removal c.args.forest.now c.unlink.new.self c.args.node c.args.ranges.now
-    c.on_remove.new.self c.parent-parent.result c.unlink.ensures.names c.parent-parent.ensures.value c.parent-parent.ensures.node
-    (c.law_index.ensures c.args.node c.requires.node_is_node) c.on_remove.ensures.root c.on_remove.ensures.child
+    let leaves : NodeLeaves c.args.forest.now c.args.node c.args.ranges.now c.on_remove.new.self = record {
+      parent = c.parent-parent.result;
+      parent_is = c.parent-parent.ensures.value;
+      there = c.parent-parent.ensures.node;
+      root = c.on_remove.ensures.root;
+      child = c.on_remove.ensures.child;
+    } in
+    out-room c.law_ends_stay.ensures.same c.law_ends_stay.ensures.removal leaves c.unlink.new.self c.unlink.ensures.names
+    (c.law_index.ensures c.args.node c.requires.node_is_node)
