@@ -42,17 +42,18 @@ module _ {A : Type 0} (f : World → A → Run World) where
   pub ran_none : (w : World) (all : List A) (text : List ℕ) → Ran w w all all text text
   ran_none w all text = record { world = refl; text = refl }
 
-  -- one more
-  pub ran_more : (was now then : World) (all rest : List A) (x : A) (before after next : List ℕ) → Ran was now all (x ∷ rest) before after →
-      then ≡ (f now x).0 → next ≡ after ++ output_text (f now x).1 → Ran was then all rest before next
-  ran_more was now then all rest x before after next ran world text =
-      let r = f now x in
-      record {
-        world = ap (λ v. (run_each f v rest).0) world ∙ ran.world;
-        text = ap (λ v. next ++ output_text (run_each f v rest).1) world ∙ ap (λ t. t ++ output_text (run_each f r.0 rest).1) text
-            ∙ append_assoc after (output_text r.1) (output_text (run_each f r.0 rest).1)
-            ∙ ap (λ (t : List ℕ). after ++ t) (sym (output_text-append r.1 (run_each f r.0 rest).1)) ∙ ran.text;
-      }
+  -- A run over all items, at the item x.
+  module _ (was now then : World) (all rest : List A) (x : A) (before after next : List ℕ) where
+    -- one more
+    pub ran_more : Ran was now all (x ∷ rest) before after → then ≡ (f now x).0 → next ≡ after ++ output_text (f now x).1 → Ran was then all rest before next
+    ran_more ran world text =
+        let r = f now x in
+        record {
+          world = ap (λ v. (run_each f v rest).0) world ∙ ran.world;
+          text = ap (λ v. next ++ output_text (run_each f v rest).1) world ∙ ap (λ t. t ++ output_text (run_each f r.0 rest).1) text
+              ∙ append_assoc after (output_text r.1) (output_text (run_each f r.0 rest).1)
+              ∙ ap (λ (t : List ℕ). after ++ t) (sym (output_text-append r.1 (run_each f r.0 rest).1)) ∙ ran.text;
+        }
 
   -- no item is left
   pub ran_world : (was now : World) (all : List A) (before after : List ℕ) → Ran was now all [] before after → now ≡ (run_each f was all).0

@@ -79,56 +79,57 @@ whole-opening w o h = either_way IsWhole (is_some w.turn) w (record w { turn = S
 
 -- ---- refusals
 
--- a command that is refused before it begins
-pub stopped-heard : (of : Owner → List (Listener NodeName)) (w : World) → FitsIn of w → (o : Owner) (c : Command) (text : List ℕ) (f : Fault) →
-    IsHandled o c w w text text (Err f) → IsHandled o c (heard of w) (heard of w) text text (Err f)
-stopped-heard of w fits o c text (Refused r) h = (refusal-heard of w fits o c ∙ h.0, refl, refl)
-stopped-heard of w fits o c text Memory h = tt
+-- A world with listeners, and an owner's command.
+module _ (of : Owner → List (Listener NodeName)) (w : World) (fits : FitsIn of w) (o : Owner) (c : Command) where
+  -- a command that is refused before it begins
+  pub stopped-heard : (text : List ℕ) (f : Fault) → IsHandled o c w w text text (Err f) → IsHandled o c (heard of w) (heard of w) text text (Err f)
+  stopped-heard text (Refused r) h = (refusal-heard of w fits o c ∙ h.0, refl, refl)
+  stopped-heard text Memory h = tt
 
--- one that passes, and has no refusal of its own
-pub passed-heard : (of : Owner → List (Listener NodeName)) (w : World) → FitsIn of w → (o : Owner) (c : Command) (names : List Operand) →
-    IsNaming c names → let_pass (early_refusal w o names) ≡ Ok tt → own_refusal (part_of w o) c ≡ None →
-    refusal (heard of w) o c ≡ None
-passed-heard of w fits o c names is pass none =
-    refusal-heard of w fits o c ∙ refusal-of_names w o c names is ∙ ap (λ e. option_or e (own_refusal (part_of w o) c))
-    (passed (early_refusal w o names) pass) ∙ none
+  -- one that passes, and has no refusal of its own
+  pub passed-heard : (names : List Operand) → IsNaming c names → let_pass (early_refusal w o names) ≡ Ok tt → own_refusal (part_of w o) c ≡ None →
+      refusal (heard of w) o c ≡ None
+  passed-heard names is pass none =
+      refusal-heard of w fits o c ∙ refusal-of_names w o c names is ∙ ap (λ e. option_or e (own_refusal (part_of w o) c))
+      (passed (early_refusal w o names) pass) ∙ none
 
 -- ---- listeners
 
 module _ (names : List NodeName) (ls now : List (Listener ℕ)) (w : World) (there : OwnersAreThere names w)
     (at : AllByRecursion (IsListenerAt names) ls) (at_now : AllByRecursion (IsListenerAt names) now)
     (reached : IsReached false (heard (own_listeners names ls) w)) where
-  -- A command that passes, and then changes its owner's listeners alone.
-  pub listens : (o : Owner) (c : Command) (nodes : List Operand) (f : List (Listener NodeName) → List (Listener NodeName)) → IsNaming c nodes →
-      let_pass (early_refusal w o nodes) ≡ Ok tt → own_refusal (part_of w o) c ≡ None →
-      ((v : World) → accepted v o c ≡ effect_in (opening_turn v o) o (effect (part_of (opening_turn v o) o) c)) →
-      ((p : Part) → p.owner ≡ o → effect p c ≡ keeps (record p { listeners = f p.listeners }) nothing) →
-      own_listeners names now o ≡ f (own_listeners names ls o) → ((q : Owner) → o ≢ q → own_listeners names now q ≡ own_listeners names ls q) →
-      (end : World) (before after : List ℕ) (r : Result (Unit {0}) Fault) → IsDone None (opening_turn w o, says o (replied nothing) ∷ []) w end before after r →
-      IsHandled o c (heard (own_listeners names ls) w) (heard (own_listeners names now) end) before after r
-  listens o c nodes f is pass none runs does mine others end before after (Err (Refused q)) done = let no : None ≡ Some q = done.0 in absurd cc
-  listens o c nodes f is pass none runs does mine others end before after (Err Memory) done = tt
-  listens o c nodes f is pass none runs does mine others end before after (Ok x) done =
-      let of = own_listeners names ls in
-      let to = own_listeners names now in
-      let here : is_there w o ≡ true = admitted w o nodes pass in
-      let v = opening_turn w o in
-      let fits : FitsIn of w = fits-own names w there ls at in
-      let fits_v : FitsIn of v = fits-opening of w o fits in
-      let fits_to : FitsIn to v = fits-opening to w o (fits-own names w there now at_now) in
-      let reached_v : IsReached false (heard of v) =
-      subst (IsReached false) (opening-heard of w o) (reached-opening (heard of w) o (there-heard of w o ∙ here) reached) in
-      let p = part_of (heard of v) o in
-      let hears : p.listeners ≡ of o = ap (λ (q : Part). q.listeners) (part-heard of v fits_v o) ∙ ap of (owner-part_of v o) in
-      let run : accepted (heard of w) o c ≡ (heard to v, says o (replied nothing) ∷ []) =
-      runs (heard of w) ∙ ap (λ (u : World). effect_in u o (effect (part_of u o) c)) (opening-heard of w o) ∙
-      ap (effect_in (heard of v) o) (does p (owner-part_of (heard of v) o))
-      ∙ ap (λ (u : World). (u, says o (replied nothing) ∷ []))
-      (written-heard of to v fits_v fits_to reached_v o (opened-there w o here) (f p.listeners) (mine ∙ ap f (sym hears)) others) in (
-        passed-heard of w fits o c nodes is pass none,
-        ap (heard to) done.1 ∙ sym (ap (λ (q : Run World). q.0) run),
-        done.2 ∙ sym (ap (λ (q : Run World). before ++ output_text q.1) run),
-      )
+  -- A command that names these nodes and passes.
+  module _ (o : Owner) (c : Command) (nodes : List Operand) (f : List (Listener NodeName) → List (Listener NodeName)) (is : IsNaming c nodes)
+      (pass : let_pass (early_refusal w o nodes) ≡ Ok tt) (none : own_refusal (part_of w o) c ≡ None) where
+    -- A command that passes, and then changes its owner's listeners alone.
+    pub listens : ((v : World) → accepted v o c ≡ effect_in (opening_turn v o) o (effect (part_of (opening_turn v o) o) c)) →
+        ((p : Part) → p.owner ≡ o → effect p c ≡ keeps (record p { listeners = f p.listeners }) nothing) → own_listeners names now o
+        ≡ f (own_listeners names ls o) → ((q : Owner) → o ≢ q → own_listeners names now q ≡ own_listeners names ls q) → (end : World)
+        (before after : List ℕ) (r : Result (Unit {0}) Fault) → IsDone None (opening_turn w o, says o (replied nothing) ∷ []) w end before after r →
+        IsHandled o c (heard (own_listeners names ls) w) (heard (own_listeners names now) end) before after r
+    listens runs does mine others end before after (Err (Refused q)) done = let no : None ≡ Some q = done.0 in absurd cc
+    listens runs does mine others end before after (Err Memory) done = tt
+    listens runs does mine others end before after (Ok x) done =
+        let of = own_listeners names ls in
+        let to = own_listeners names now in
+        let here : is_there w o ≡ true = admitted w o nodes pass in
+        let v = opening_turn w o in
+        let fits : FitsIn of w = fits-own names w there ls at in
+        let fits_v : FitsIn of v = fits-opening of w o fits in
+        let fits_to : FitsIn to v = fits-opening to w o (fits-own names w there now at_now) in
+        let reached_v : IsReached false (heard of v) =
+        subst (IsReached false) (opening-heard of w o) (reached-opening (heard of w) o (there-heard of w o ∙ here) reached) in
+        let p = part_of (heard of v) o in
+        let hears : p.listeners ≡ of o = ap (λ (q : Part). q.listeners) (part-heard of v fits_v o) ∙ ap of (owner-part_of v o) in
+        let run : accepted (heard of w) o c ≡ (heard to v, says o (replied nothing) ∷ []) =
+        runs (heard of w) ∙ ap (λ (u : World). effect_in u o (effect (part_of u o) c)) (opening-heard of w o) ∙
+        ap (effect_in (heard of v) o) (does p (owner-part_of (heard of v) o))
+        ∙ ap (λ (u : World). (u, says o (replied nothing) ∷ []))
+        (written-heard of to v fits_v fits_to reached_v o (opened-there w o here) (f p.listeners) (mine ∙ ap f (sym hears)) others) in (
+          passed-heard of w fits o c nodes is pass none,
+          ap (heard to) done.1 ∙ sym (ap (λ (q : Run World). q.0) run),
+          done.2 ∙ sym (ap (λ (q : Run World). before ++ output_text q.1) run),
+        )
 
 -- an owner's parts read a spelling alike
 pub named_alike : (p q : Part) (x : NodeWord) → p.owner ≡ q.owner → named p x ≡ named q x

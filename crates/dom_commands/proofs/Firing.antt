@@ -66,33 +66,34 @@ Fires names t m now target related e outcome =
     AllByRecursion (IsListenerAt t.names) now × ((machine_now t now).world ≡ d.run.0) × (map (line_shown names) outcome.lines.items ≡ d.run.1) ×
     (outcome.answer ≡ d.answer)
 
--- in a machine that is seen so
-pub fired : (s : DocState) (ls now : List (Listener ℕ)) (m : MachineNow) → machine_now s ls ≡ m → IsAtRest m →
-    (f : NamedTrees) (hosts : List ShadowHost) → f.names ≡ s.names → OwnersAreThere s.names s.world →
-    IsShownBy (shadows f hosts) s.world → (target : ℕ) (related : Option ℕ) (e : EventWords) (outcome : Outcome) →
-    IsDispatched f hosts ls now target related e outcome →
-    (AllByRecursion (IsListenerAt f.names) ls → IsDispatchedIn f hosts ls now target related e outcome) → Fires f.names s m now target related e outcome
-fired s ls now m seen sound f hosts ns there shown target related e outcome keys names =
-    subst (λ (n : MachineNow). Fires f.names s n now target related e outcome) seen
-    (subst (λ (t : DocState). IsAtRest (machine_now t ls) → OwnersAreThere t.names t.world → IsShownBy (shadows f hosts) t.world →
-    Fires f.names t (machine_now t ls) now target related e outcome)
-    (ap (λ (xs : List NodeName). state xs) ns) from (subst IsAtRest (sym seen) sound) there shown)
-  where
-    state : List NodeName → DocState
-    state xs = record { names = xs; world = s.world }
+-- A dispatch, told by keys, in a machine that is seen so and whose world a forest and its hosts show.
+module _ (s : DocState) (ls now : List (Listener ℕ)) (m : MachineNow) (seen : machine_now s ls ≡ m) (sound : IsAtRest m) (f : NamedTrees)
+    (hosts : List ShadowHost) (ns : f.names ≡ s.names) (there : OwnersAreThere s.names s.world) (shown : IsShownBy (shadows f hosts) s.world) (target : ℕ)
+    (related : Option ℕ) (e : EventWords) (outcome : Outcome) (keys : IsDispatched f hosts ls now target related e outcome) where
+  -- it does what the dispatch of the document machine does
+  pub fired : (AllByRecursion (IsListenerAt f.names) ls → IsDispatchedIn f hosts ls now target related e outcome) →
+      Fires f.names s m now target related e outcome
+  fired names =
+      subst (λ (n : MachineNow). Fires f.names s n now target related e outcome) seen
+      (subst (λ (t : DocState). IsAtRest (machine_now t ls) → OwnersAreThere t.names t.world → IsShownBy (shadows f hosts) t.world →
+      Fires f.names t (machine_now t ls) now target related e outcome)
+      (ap (λ (xs : List NodeName). state xs) ns) from (subst IsAtRest (sym seen) sound) there shown)
+    where
+      state : List NodeName → DocState
+      state xs = record { names = xs; world = s.world }
 
-    from : IsAtRest (machine_now (state f.names) ls) → OwnersAreThere f.names s.world → IsShownBy (shadows f hosts) s.world →
-        Fires f.names (state f.names) (machine_now (state f.names) ls) now target related e outcome
-    from sound there shown =
-        let at = sound.listeners in
-        let done = names at in
-        let of = own_listeners f.names ls in
-        let fits : FitsIn of s.world = fits-own f.names s.world there ls at in
-        let is : IsWorldOf f hosts (heard of s.world) =
-        record { shown = shown-heard of (shadows f hosts) s.world fits shown; reached = sound.reached; whole = sound.whole } in
-        let end = done (heard of s.world) is (has-own f.names s.world ls fits) in (
-          fired_at f hosts ls now s.world there at shown sound.reached sound.whole target related e outcome keys,
-          fired_world f hosts ls now s.world there at shown sound.reached sound.whole target related e outcome keys done,
-          lines_shown f.names outcome.lines.items ∙ sym end.1,
-          sym end.2,
-        )
+      from : IsAtRest (machine_now (state f.names) ls) → OwnersAreThere f.names s.world → IsShownBy (shadows f hosts) s.world →
+          Fires f.names (state f.names) (machine_now (state f.names) ls) now target related e outcome
+      from sound there shown =
+          let at = sound.listeners in
+          let done = names at in
+          let of = own_listeners f.names ls in
+          let fits : FitsIn of s.world = fits-own f.names s.world there ls at in
+          let is : IsWorldOf f hosts (heard of s.world) =
+          record { shown = shown-heard of (shadows f hosts) s.world fits shown; reached = sound.reached; whole = sound.whole } in
+          let end = done (heard of s.world) is (has-own f.names s.world ls fits) in (
+            fired_at f hosts ls now s.world there at shown sound.reached sound.whole target related e outcome keys,
+            fired_world f hosts ls now s.world there at shown sound.reached sound.whole target related e outcome keys done,
+            lines_shown f.names outcome.lines.items ∙ sym end.1,
+            sym end.2,
+          )

@@ -45,25 +45,25 @@ use Rattle.dom_commands.proofs.RangeLaws.{range_ends-unheard, shadow_roots-unhea
 pub begins_same : (names : List NodeName) → BeginsWith names names
 begins_same names = take-length names
 
--- The component that an owner's next attach makes was not there.
-next_absent : (of : Owner → List (Listener NodeName)) (w : World) → FitsIn of w → IsReached false (heard of w) → (o : Owner) → MayAttach o →
-    is_there w (component_made o (length (part_of w o).attached)) ≡ false
-next_absent of w fits reached o may =
-    let hosts = (part_of w o).attached in
-    let c = component_made o (length hosts) in
-    sym (there-heard of w c) ∙ attached-are_there false (heard of w) reached c (component_made-no_page o (length hosts))
-    ∙ ap is_some (host_of-made (heard of w) o (length hosts) may)
-    ∙ ap (λ (p : Part). is_some (slice_get p.attached (length hosts))) (part-heard of w fits o) ∙
-    ap is_some (slice_get_past hosts (length hosts) (omega arith))
+-- A world that was reached, with its listeners.
+module _ (of : Owner → List (Listener NodeName)) (w : World) (fits : FitsIn of w) (reached : IsReached false (heard of w)) (o : Owner) where
+  -- The component that an owner's next attach makes was not there.
+  next_absent : MayAttach o → is_there w (component_made o (length (part_of w o).attached)) ≡ false
+  next_absent may =
+      let hosts = (part_of w o).attached in
+      let c = component_made o (length hosts) in
+      sym (there-heard of w c) ∙ attached-are_there false (heard of w) reached c (component_made-no_page o (length hosts))
+      ∙ ap is_some (host_of-made (heard of w) o (length hosts) may)
+      ∙ ap (λ (p : Part). is_some (slice_get p.attached (length hosts))) (part-heard of w fits o) ∙
+      ap is_some (slice_get_past hosts (length hosts) (omega arith))
 
--- so the component that a command makes has no listeners
-made_new : (of : Owner → List (Listener NodeName)) (w : World) → FitsIn of w → IsReached false (heard of w) → (o : Owner) (c : Command) →
-    refusal w o c ≡ None → IsNew of (opening_turn w o) o c
-made_new of w fits reached o (Command.attach x) passes =
-    let may = attach-may w o x (accepted-facts w o (Command.attach x) passes).part in
-    ap (λ (p : Part). of (component_made o (length p.attached))) (sym (opened-part w o)) ∙
-    fits (component_made o (length (part_of w o).attached)) (next_absent of w fits reached o may)
-made_new of w fits reached o c passes = tt
+  -- so the component that a command makes has no listeners
+  made_new : (c : Command) → refusal w o c ≡ None → IsNew of (opening_turn w o) o c
+  made_new (Command.attach x) passes =
+      let may = attach-may w o x (accepted-facts w o (Command.attach x) passes).part in
+      ap (λ (p : Part). of (component_made o (length p.attached))) (sym (opened-part w o)) ∙
+      fits (component_made o (length (part_of w o).attached)) (next_absent may)
+  made_new c passes = tt
 
 module _ (s t : DocState) (ls : List (Listener ℕ)) (there : OwnersAreThere s.names s.world) (at : AllByRecursion (IsListenerAt s.names) ls) where
   -- listeners hear in the state behind as before

@@ -52,18 +52,19 @@ pub opened_names : (w v : World) (o : Owner) (r : Option line.NodeWord) →
 opened_names w v o None = refl
 opened_names w v o (Some x) = ap Some (opened_name w v o (word_view x))
 
--- what a dispatch does: its world, its lines, and then its answer
-pub dispatch_handled : (w : World) (o : Owner) (x : NodeWord) (e : EventWords) (related : Option NodeWord) (d : Dispatched World) →
-    refusal w o (Command.dispatch x e related) ≡ None →
-    d ≡ dispatch_in (opening_turn w o) (named (part_of (opening_turn w o) o) x) (option_map (named (part_of (opening_turn w o) o)) related) e →
-    (end : World) (before middle after : List ℕ) (answer : Bool) →
-    end ≡ d.run.0 → middle ≡ before ++ output_text d.run.1 → answer ≡ d.answer → after ≡ middle ++ output_text (says o (replied (a_truth answer)) ∷ []) →
-    IsHandled o (Command.dispatch x e related) w end before after (Ok tt)
-dispatch_handled w o x e related d none same end before middle after answer world text truth ending =
-    let reply = says o (replied (a_truth d.answer)) ∷ [] in (
-      none,
-      world ∙ ap (λ (q : Dispatched World). q.run.0) same,
-      ending ∙ ap (λ (b : Bool). middle ++ output_text (says o (replied (a_truth b)) ∷ [])) truth ∙ ap (λ (t : List ℕ). t ++ output_text reply) text
-          ∙ append_assoc before (output_text d.run.1) (output_text reply) ∙ ap (λ (t : List ℕ). before ++ t) (sym (output_text-append d.run.1 reply))
-          ∙ ap (λ (q : Dispatched World). before ++ output_text (q.run.1 ++ says o (replied (a_truth q.answer)) ∷ [])) same,
-    )
+-- A dispatch that no test refuses, and what it does.
+module _ (w : World) (o : Owner) (x : NodeWord) (e : EventWords) (related : Option NodeWord) (d : Dispatched World)
+    (none : refusal w o (Command.dispatch x e related) ≡ None)
+    (same : d ≡ dispatch_in (opening_turn w o) (named (part_of (opening_turn w o) o) x) (option_map (named (part_of (opening_turn w o) o)) related) e) where
+  -- what a dispatch does: its world, its lines, and then its answer
+  pub dispatch_handled : (end : World) (before middle after : List ℕ) (answer : Bool) → end ≡ d.run.0 → middle ≡ before ++ output_text d.run.1 →
+      answer ≡ d.answer → after ≡ middle ++ output_text (says o (replied (a_truth answer)) ∷ []) →
+      IsHandled o (Command.dispatch x e related) w end before after (Ok tt)
+  dispatch_handled end before middle after answer world text truth ending =
+      let reply = says o (replied (a_truth d.answer)) ∷ [] in (
+        none,
+        world ∙ ap (λ (q : Dispatched World). q.run.0) same,
+        ending ∙ ap (λ (b : Bool). middle ++ output_text (says o (replied (a_truth b)) ∷ [])) truth ∙ ap (λ (t : List ℕ). t ++ output_text reply) text
+            ∙ append_assoc before (output_text d.run.1) (output_text reply) ∙ ap (λ (t : List ℕ). before ++ t) (sym (output_text-append d.run.1 reply))
+            ∙ ap (λ (q : Dispatched World). before ++ output_text (q.run.1 ++ says o (replied (a_truth q.answer)) ∷ [])) same,
+      )
