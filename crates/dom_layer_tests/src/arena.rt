@@ -178,6 +178,67 @@ fn many_children_go_and_stay(rt: HostRuntime) -> Result<(), Fail> {
     Ok(())
 }
 
+// Checks the place of each child of a node, as far as a limit, against a walk over the links.
+fn check_places(rt: &impl Abort, arena: &Arena<u32>, parent: Key, count: usize, limit: usize)
+    requires { parent < length arena.now.payloads }
+{
+    let mut at = arena.first(parent);
+    for place in 0..count {
+        match at {
+            Some(child) => {
+                let wanted = if place < limit { Some(place) } else { None };
+                assert!(rt; arena.index_below(child, limit) == wanted);
+                at = arena.next(child);
+            }
+            None => assert!(rt; false, "a child is missing"),
+        }
+    }
+    assert!(rt; at.is_none());
+}
+
+// The last child of a node is remembered, taken out, and put before the one in the middle of those remembered.
+fn put_last_in_front(rt: &impl Abort, arena: &mut Arena<u32>, parent: Key, steps: usize)
+    requires { parent < length arena.old.payloads }
+    ensures { length arena.new.payloads ≡ length arena.old.payloads }
+{
+    let Some(last) = arena.last(parent) else {
+        return;
+    };
+    arena.remember_siblings(last, 1_000);
+    arena.unlink(last);
+    let mut at = arena.first(parent);
+    for _ in 0..steps {
+        if let Some(child) = at {
+            at = arena.next(child);
+        }
+    }
+    link(rt, arena, parent, last, at);
+}
+
+#[test]
+fn places_are_the_same_where_they_are_remembered(rt: HostRuntime) -> Result<(), Fail> {
+    let mut arena = Arena::new(rt.alloc());
+    let root = arena.add(0)?;
+    for number in 1..1_000u32 {
+        let child = arena.add(number)?;
+        link(&rt, &mut arena, root, child, None);
+    }
+    check_places(&rt, &arena, root, 999, 1_000);
+    for turn in 0..300 {
+        put_last_in_front(&rt, &mut arena, root, turn * 3);
+    }
+    check_places(&rt, &arena, root, 999, 1_000);
+    check_places(&rt, &arena, root, 999, 300);
+    for _ in 0..500 {
+        if let Some(child) = arena.first(root) {
+            arena.unlink(child);
+            assert!(rt; arena.index_below(child, 1) == Some(0));
+        }
+    }
+    check_places(&rt, &arena, root, 499, 1_000);
+    Ok(())
+}
+
 #[test]
 fn payloads_go_with_the_arena(rt: HostRuntime) -> Result<(), Fail> {
     let mut arena = Arena::new(rt.alloc());
