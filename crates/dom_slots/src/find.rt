@@ -1,5 +1,5 @@
 //! Slots by their names.
-ghost use Rattle.std.specs.Prelude.{◌≡◌, map, find, filter, Some, IfOk, All};
+ghost use Rattle.std.specs.Prelude.{◌≡◌, map, find, filter, Some, IfOk, All, codes};
 ghost use Rattle.std.specs.Option.{option_map, ForSome};
 ghost use Rattle.dom_model.specs.Slots.{is_slot_element, has_slot_name, slottable_name, slot_name, slots_among};
 ghost use Rattle.dom_base.specs.declared.NodeName.{NodeName as Name};
@@ -54,7 +54,7 @@ pub(crate) fn is_slot(forest: &Forest, key: Key) -> bool
     requires { IsNode forest.now key }
     ensures { result ≡ is_slot_element (node_in forest.now.trees (name_of forest.now key)) }
 {
-    matches!(forest.kind(key), Kind::Element) && is_word(forest.element(key), "slot")
+    matches!(forest.kind(key), Kind::Element) && is_slot_word(forest.element(key))
 }
 
 /// Whether a node is a slot of this name.
@@ -103,8 +103,24 @@ pub(crate) fn looks_for(forest: &Forest, key: Key, name: &[u16]) -> bool
     }
 }
 
+/// The first sibling behind a child that looks for a slot of the name of this one. Where there is no sibling behind it the name is
+/// not read.
+pub(crate) fn next_looking_for(forest: &Forest, child: Key, slot: Key) -> Option<Key>
+    requires node { IsNode forest.now child }
+    requires slot { IsNode forest.now slot }
+    requires parent { (h : Name) × (parent_of forest.now.trees (name_of forest.now child) ≡ Some h) }
+    ensures value { option_map (name_of forest.now) result ≡ first_of
+        (filter (λ y. looks_for (slot_name (node_in forest.now.trees (name_of forest.now slot))) (node_in forest.now.trees y))
+        (items_after name_eq (name_of forest.now child) (siblings forest.now.trees (name_of forest.now child)))) }
+    ensures node { ForSome result (IsNode forest.now) }
+{
+    forest.nodes_stand_once();
+    let _sibling = forest.next(child)?;
+    next_looking(forest, child, slot_name(forest, slot))
+}
+
 /// The first sibling behind a child that looks for a slot of this name. It looks at each sibling up to that one.
-pub(crate) fn next_looking(forest: &Forest, child: Key, name: &[u16]) -> Option<Key>
+fn next_looking(forest: &Forest, child: Key, name: &[u16]) -> Option<Key>
     requires node { IsNode forest.now child }
     requires parent { (h : Name) × (parent_of forest.now.trees (name_of forest.now child) ≡ Some h) }
     ensures value { option_map (name_of forest.now) result ≡ first_of
@@ -123,11 +139,11 @@ pub(crate) fn next_looking(forest: &Forest, child: Key, name: &[u16]) -> Option<
     None
 }
 
-/// Whether two texts are the same.
-fn is_word(text: &str, other: &str) -> bool
-    ensures { result ≡ text_eq text.now other.now }
+/// Whether a text is the word `slot`.
+fn is_slot_word(text: &str) -> bool
+    ensures { result ≡ text_eq text.now (codes "slot") }
 {
-    text == other
+    matches!(text.as_bytes(), [b's', b'l', b'o', b't'])
 }
 
 /// Whether two strings of code units are the same.

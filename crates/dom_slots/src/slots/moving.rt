@@ -15,7 +15,7 @@ ghost use Rattle.dom_slots.specs.Tables.{SlotTable, list_of};
 use super::Begun;
 use crate::Slots;
 use crate::changes::add_once;
-use crate::find::{next_looking, slot_name};
+use crate::find::next_looking_for;
 use dom_tree::Forest;
 use node_arena::Key;
 use std::alloc::AllocError;
@@ -111,7 +111,7 @@ impl Slots {
         if !self.is_of_parent(forest, key, node) {
             return self.renew_slot(forest, key, signals);
         }
-        let before = next_looking(forest, node, slot_name(forest, key));
+        let before = next_looking_for(forest, node, key);
         self.table.put(self.alloc, key, node, before)?;
         add_once(signals, key)
     }

@@ -2,14 +2,12 @@ use Rattle.std.proofs.Common.{◌≡◌, ℕ, ◌++◌, true, not, filter, sym, 
 use Rattle.std.specs.Prelude.{nat_eq, if◌then◌else◌, option_to_list}
 use Rattle.std.specs.Option.{option_map}
 use Rattle.std.proofs.lemmas.Result.{on_ok_weaker}
-use Rattle.dom_model.specs.Names.{append_once, name_eq, first_of, items_after, list_eq}
-use Rattle.dom_model.specs.Tree.{node_in, siblings}
+use Rattle.dom_model.specs.Names.{append_once, list_eq}
 use Rattle.dom_tree.specs.Forest.{name_at}
 use Rattle.dom_traversal.proofs.Counts.{Once-forest, Has-forest}
 use Rattle.node_arena.specs.Nodes.{insert_before}
 use Rattle.dom_slots.specs.Kept.{SlotsNow}
 use Rattle.dom_slots.specs.Renewals.{AreRenewed}
-use Rattle.dom_slots.specs.Shadows.{looks_for}
 use Rattle.dom_slots.specs.Tables.{SlotTable, list_of}
 use Rattle.dom_slots.proofs.Joining.{inserted-differs, joined, not-listed, joined-inside}
 use Rattle.dom_slots.proofs.Leaving.{at-slot}
@@ -27,21 +25,20 @@ returns-clause-renewed c =
     let node = c.args.node in
     let x = name_at f.names node in
     let list = list_of s.table k in
-    let before = c.next_looking-before.result in
+    let before = c.next_looking_for-before.result in
     let new = insert_before list node before in
     let keys = c.args.signals.now.items in
     let tables : c.self.inside.table ≡ s.table = ap (λ (t : SlotsNow). t.table) c.self.view_is in
     let under = c.is_of_parent.ensures c.if-not-is_of_parent.false in
     let at = Has-forest f e.once node c.requires.node in
     let own = sym c.requires.own ∙ ap (option_map (name_at f.names)) c.in-Some.is in
-    let is = c.next_looking-before.ensures.value ∙
-    ap (λ a. first_of (filter (λ z. looks_for a (node_in f.trees z)) (items_after name_eq x (siblings f.trees x)))) c.slot_name.ensures in
+    let is = c.next_looking_for-before.ensures.value in
     let names = joined f once e.distinct s.hosts node k under.0 at under.2 under.1 own list (r.nodes k) (right k c.in-Some.is) before
-    c.next_looking-before.ensures.node is in
+    c.next_looking_for-before.ensures.node is in
     let within = joined-inside f once e.distinct s.hosts node k under.0 at under.2 under.1 own list (r.nodes k) (right k c.in-Some.is) before
-    c.next_looking-before.ensures.node is c.requires.node in
+    c.next_looking_for-before.ensures.node is c.requires.node in
     let off = not-listed f once e.distinct s.hosts node k under.0 at under.2 under.1 own list (r.nodes k) (right k c.in-Some.is) before
-    c.next_looking-before.ensures.node is in
+    c.next_looking_for-before.ensures.node is in
     let differs : true ≡ not (list_eq nat_eq list new) = inserted-differs node before list off in
     let lists = λ (j : ℕ). c.in_ok-put.ensures j ∙ ap (λ (t : SlotTable). if nat_eq k j then insert_before (list_of t j) node before else list_of t j) tables in
     on_ok_weaker c.add_once.result
