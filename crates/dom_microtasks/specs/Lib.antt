@@ -1,4 +1,5 @@
 -- Unmarked: own rules, about what the code holds and its contracts say.
 pub mod Tasks
 pub mod ByOwner
+pub mod OwnerNumbers
 pub mod Signalled

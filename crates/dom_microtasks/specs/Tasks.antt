@@ -1,9 +1,8 @@
 -- What a contract sees of a queue: the tasks of the meaning.
-use Rattle.std.specs.Prelude.{◌≡◌, List, map, count_by, if◌then◌else◌}
-use Rattle.std.specs.HashSet.{contains}
+use Rattle.std.specs.Prelude.{◌≡◌, ◌≤◌, List, map, count_by}
 use Rattle.dom_base.specs.declared.Owner.{Owner}
-use Rattle.dom_base.specs.contracts.OwnerPartialEq.TheImpl as OwnerImpl
 use Rattle.dom_model.specs.World.{Task as Meant, micro_task, notify_task, is_notify_of}
+use Rattle.dom_microtasks.specs.OwnerNumbers.{number_at}
 use Rattle.dom_microtasks.specs.declared.Task.{Task}
 use Rattle.dom_microtasks.specs.declared.Task.TheVariants.{Micro, Notify}
 use Rattle.dom_microtasks.specs.declared.Queue.TheInside.{Inside}
@@ -17,6 +16,6 @@ task_of (Notify o) = notify_task o
 abbrev pub tasks_of : Inside → List Meant
 tasks_of q = map task_of q.tasks.items
 
--- each owner's notification is queued once where the owner is among those that wait for one, and else not at all (own rule)
+-- each owner's notification is queued as often as is kept of it: once or not at all (own rule)
 abbrev pub WaitsOnce : Inside → Type 0
-WaitsOnce q = (o : Owner) → count_by (is_notify_of o) (tasks_of q) ≡ (if contains OwnerImpl.ghosts.eq q.waiting o then 1 else 0)
+WaitsOnce q = (o : Owner) → (count_by (is_notify_of o) (tasks_of q) ≡ number_at q.waiting o) × (number_at q.waiting o ≤ 1)

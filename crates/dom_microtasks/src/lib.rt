@@ -9,12 +9,14 @@ ghost use Rattle.dom_model.specs.World.{micro_task, queued_notify};
 ghost use Rattle.dom_microtasks.specs.Tasks.{task_of};
 
 mod by_owner;
+mod owner_numbers;
 mod signals;
 
+use crate::owner_numbers::OwnerNumbers;
 use dom_base::Owner;
 pub use signals::Signals;
 use std::alloc::{AllocError, Global};
-use std::collections::{HashSet, VecDeque};
+use std::collections::VecDeque;
 use std::marker::Model;
 
 /// What is to be run when a turn ends (HTML Standard, concept: microtask): a label that an owner asked to be printed, or
@@ -30,7 +32,7 @@ pub enum Task {
 #[derive(Drop)]
 pub struct Queue {
     tasks: VecDeque<Task>,
-    waiting: HashSet<Owner>,
+    waiting: OwnerNumbers,
 }
 
 impl Model for Queue {
@@ -53,7 +55,7 @@ impl Queue {
     {
         Queue {
             tasks: VecDeque::new(alloc),
-            waiting: HashSet::new(alloc),
+            waiting: OwnerNumbers::new(alloc),
         }
     }
 
@@ -74,11 +76,11 @@ impl Queue {
         ensures ok { OnOk result (self.new ≡ queued_notify owner self.old) }
         ensures err { OnErr result (self.new ≡ self.old) }
     {
-        if self.waiting.contains(&owner) {
+        if self.waiting.get(owner) != 0 {
             return Ok(());
         }
         self.tasks.reserve(1)?;
-        self.waiting.insert(owner)?;
+        self.waiting.set(owner, 1)?;
         let _ = self.tasks.push_back(Task::Notify(owner));
         Ok(())
     }
@@ -91,7 +93,7 @@ impl Queue {
     {
         let task = self.tasks.pop_front()?;
         if let Task::Notify(owner) = &task {
-            self.waiting.remove(owner);
+            self.waiting.clear(*owner);
         }
         Some(task)
     }

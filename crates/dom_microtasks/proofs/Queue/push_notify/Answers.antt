@@ -1,17 +1,15 @@
-use Rattle.std.proofs.Common.{◌≡◌, ◌+◌, ◌++◌, ◌∷◌, [], ℕ, Bool, true, false, cond, List, inl, inr, refl, sym, ap, ◌∙◌, subst, arith, true≢false}
-use Rattle.std.specs.Prelude.{count_by, map}
+use Rattle.std.proofs.Common.{◌≡◌, ◌≢◌, ◌≤◌, ◌+◌, ◌++◌, ◌∷◌, [], ℕ, Bool, true, false, cond, List, inl, inr, refl, sym, ap, ◌∙◌, subst, arith}
+use Rattle.std.specs.Prelude.{count_by, map, if◌then◌else◌}
 use Rattle.std.proofs.lemmas.Grind.{common_steps}
 use Rattle.std.specs.List.{list_any}
-use Rattle.std.specs.HashSet.{contains}
 use Rattle.std.proofs.lemmas.Bool.{cases_Bool, cond-true, cond-false, or_from, or_parts}
 use Rattle.std.proofs.lemmas.List.Sums.{sum_by-cons, sum_by-append}
 use Rattle.dom_base.specs.declared.Owner.{Owner}
-use Rattle.dom_base.specs.contracts.OwnerPartialEq.TheImpl as OwnerImpl
 use Rattle.dom_model.specs.Names.{owner_eq}
 use Rattle.dom_model.proofs.OwnerLaws.{owner_eq-true}
-use Rattle.dom_model.proofs.OwnerTests.{same_owner}
 use Rattle.dom_model.specs.World.{Task, notify_task, is_notify_of, queued_notify}
 use Rattle.dom_microtasks.specs.declared.Queue.TheInside.{Inside}
+use Rattle.dom_microtasks.specs.OwnerNumbers.{number_at}
 use Rattle.dom_microtasks.specs.Tasks.{task_of, tasks_of, WaitsOnce}
 use Rattle.dom_microtasks.proofs.Queue.push_notify.Goals as goal
 
@@ -41,34 +39,33 @@ count_none p (x ∷ xs) e =
     let after = count_none p xs both.1 in
     omega (arith, parts, here, after)
 
--- a notification is queued where its owner waits for one
-queued : (q : Inside) → WaitsOnce q → (o : Owner) (b : Bool) → b ≡ contains OwnerImpl.ghosts.eq q.waiting o → list_any (is_notify_of o) (tasks_of q) ≡ b
-unfolding one
-queued q once o b e = by b (once o ∙ ap one (sym e))
-  where
-    by : (b : Bool) → count_by (is_notify_of o) (tasks_of q) ≡ one b → list_any (is_notify_of o) (tasks_of q) ≡ b
-    by false e = any_none (is_notify_of o) (tasks_of q) e
-    by true e = elim (cases_Bool (list_any (is_notify_of o) (tasks_of q))) [
-      | inl h ↦ h
-      | inr h ↦ absurd (omega (arith, e, count_none (is_notify_of o) (tasks_of q) h))
-    ]
+-- a notification is queued where its owner has a number
+queued : (q : Inside) → WaitsOnce q → (o : Owner) → number_at q.waiting o ≢ 0 → list_any (is_notify_of o) (tasks_of q) ≡ true
+queued q once o some = elim (cases_Bool (list_any (is_notify_of o) (tasks_of q))) [
+  | inl h ↦ h
+  | inr h ↦ absurd (some (sym (once o).0 ∙ count_none (is_notify_of o) (tasks_of q) h))
+]
+
+-- and else it is not
+not_queued : (q : Inside) → WaitsOnce q → (o : Owner) → number_at q.waiting o ≡ 0 → list_any (is_notify_of o) (tasks_of q) ≡ false
+not_queued q once o none = any_none (is_notify_of o) (tasks_of q) ((once o).0 ∙ none)
 
 -- where it is not queued, it comes last
 queued-new : (o : Owner) (ts : List Task) → list_any (is_notify_of o) ts ≡ false → queued_notify o ts ≡ ts ++ notify_task o ∷ []
 queued-new o ts e = cond-false (list_any (is_notify_of o) ts) ts (ts ++ notify_task o ∷ []) e
 
-pub returns-then-contains-clause-ok : goal.returns-then-contains-clause-ok
-returns-then-contains-clause-ok c =
+pub returns-then-get-ne0-clause-ok : goal.returns-then-get-ne0-clause-ok
+returns-then-get-ne0-clause-ok c =
     let o = c.args.owner in
     let there = subst (λ (ts : List Task). list_any (is_notify_of o) ts ≡ true) c.self.view_is
-    (queued c.self.inside c.self.invariant o true (c.if-contains.ensures)) in
+    (queued c.self.inside c.self.invariant o (λ e. c.if-get-ne0.true (c.get.ensures ∙ e))) in
     sym (cond-true (list_any (is_notify_of o) c.args.self.now) c.args.self.now (c.args.self.now ++ notify_task o ∷ []) there)
 
 pub returns-clause-ok : goal.returns-clause-ok
 returns-clause-ok c =
     let o = c.args.owner in
     let off = subst (λ (ts : List Task). list_any (is_notify_of o) ts ≡ false) c.self.view_is
-    (queued c.self.inside c.self.invariant o false (c.if-contains.ensures)) in
+    (not_queued c.self.inside c.self.invariant o (sym c.get.ensures ∙ c.if-get-ne0.false)) in
     let last : map task_of c.push_back.new.self.items ≡ c.args.self.now ++ notify_task o ∷ [] = grind (arith, common_steps) in
     last ∙ sym (queued-new o c.args.self.now off)
 
@@ -89,15 +86,13 @@ invariant_of-self-2 c p =
     let was = tasks_of c.self.inside in
     let last : map task_of c.push_back.new.self.items ≡ was ++ notify_task o ∷ [] = grind (arith, common_steps) in
     let now = ap (count_by (is_notify_of p)) last ∙ counted-more o p was in
-    let there : contains OwnerImpl.ghosts.eq c.insert.new.self p ≡ cond (owner_eq o p) true (contains OwnerImpl.ghosts.eq c.self.inside.waiting p) =
-    c.in_ok-insert.ensures.updates.0 p ∙ ap (λ b. cond b true (contains OwnerImpl.ghosts.eq c.self.inside.waiting p)) (same_owner o p) in
-    now ∙ by (owner_eq o p) refl (contains OwnerImpl.ghosts.eq c.self.inside.waiting p) refl (count_by (is_notify_of p) was)
-    (c.self.invariant p) ∙ sym (ap one there)
+    let there : number_at c.set.new.self p ≡ (if owner_eq o p then 1 else number_at c.self.inside.waiting p) = c.in_ok-set.ensures.ok p in
+    by (owner_eq o p) refl (count_by (is_notify_of p) was) (c.self.invariant p).0 (c.self.invariant p).1 _ now _ there
   where
-    by : (b : Bool) → owner_eq c.args.owner p ≡ b → (w : Bool) → contains OwnerImpl.ghosts.eq c.self.inside.waiting p ≡ w → (n : ℕ) → n ≡ one w →
-        n + one b ≡ one (cond b true w)
-    by false e w f n h = omega (arith, h)
-    by true e false f n h = omega (arith, h)
-    by true e true f n h =
-        let same = ap (contains OwnerImpl.ghosts.eq c.self.inside.waiting) (owner_eq-true c.args.owner p e) in
-        absurd (true≢false (sym f ∙ sym same ∙ sym c.if-contains.ensures))
+    by : (b : Bool) → owner_eq c.args.owner p ≡ b → (n : ℕ) → n ≡ number_at c.self.inside.waiting p → number_at c.self.inside.waiting p ≤ 1 →
+        (m : ℕ) → m ≡ n + one b → (k : ℕ) → k ≡ (if b then 1 else number_at c.self.inside.waiting p) → (m ≡ k) × (k ≤ 1)
+    by false e n is most m counted k kept = (omega (arith, is, counted, kept), omega (arith, most, kept))
+    by true e n is most m counted k kept =
+        let none : number_at c.self.inside.waiting p ≡ 0 =
+        ap (number_at c.self.inside.waiting) (sym (owner_eq-true c.args.owner p e)) ∙ (sym c.get.ensures ∙ c.if-get-ne0.false) in
+        (omega (arith, is, none, counted, kept), omega (arith, kept))
