@@ -1,25 +1,18 @@
 //! Numbers: `0`, or a digit from 1 to 9 and up to eight digits.
 
-ghost use Rattle.std.specs.Prelude.{◌≡◌, IfErr, IsTrue};
+ghost use Rattle.std.specs.Prelude.{◌≡◌, ◌<◌, ◌≤◌, length, IfErr};
 ghost use Rattle.std.specs.List.{list_all};
 ghost use Rattle.std.specs.Char.{is_ascii_digit};
 ghost use Rattle.std.specs.Int.{is_in_range};
-ghost use Rattle.std.specs.Str.Parse.{digits_value};
-ghost use Rattle.dom_text.specs.Readers.{is_positive as spec_is_positive, is_number as spec_is_number, number_of as spec_number_of};
-ghost use Rattle.dom_text.specs.Readers.{positive_of as spec_positive_of, numbered as spec_numbered, next_as};
+ghost use Rattle.std.specs.Str.Parse.{digits_value_after};
+ghost use Rattle.dom_text.specs.Readers.{only_if, number_of as spec_number_of, positive_of as spec_positive_of};
+ghost use Rattle.dom_text.specs.Readers.{numbered as spec_numbered, next_as};
 ghost use Rattle.dom_text.specs.Decode.{number_at};
 ghost use Rattle.dom_words.specs.declared.not_read.NotRead.TheVariants.{Syntax};
 ghost use Rattle.dom_words.specs.Gives.{Takes};
 
 use crate::not_read::NotRead;
 use crate::words::WordReader;
-
-/// Whether each byte is a digit.
-fn all_digits(bytes: &[u8]) -> bool
-    ensures { result ≡ list_all is_ascii_digit bytes.now }
-{
-    bytes.iter().all(|d| d.is_ascii_digit())
-}
 
 /// Whether the byte is a digit from 1 to 9.
 fn leads(first: u8) -> bool
@@ -28,53 +21,42 @@ fn leads(first: u8) -> bool
     b'1' <= first && first <= b'9'
 }
 
-/// Whether the text is a digit from 1 to 9 and up to eight digits.
-fn is_positive(text: &[u8]) -> bool
-    ensures { result ≡ spec_is_positive text.now }
+/// The number with these digits behind its own; none where a byte is no digit.
+fn with_digits(number: u32, digits: &[u8]) -> Option<u32>
+    requires one { number < 10 }
+    requires few { length digits.now ≤ 8 }
+    ensures { result ≡ only_if (list_all is_ascii_digit digits.now) (digits_value_after 10 number digits.now) }
 {
-    match text {
-        [] => false,
-        [first, digits @ ..] => leads(*first) && (all_digits(digits) && digits.len() <= 8),
-    }
-}
-
-/// Whether the text is `0`, or a digit from 1 to 9 and up to eight digits.
-fn is_number(text: &[u8]) -> bool
-    ensures { result ≡ spec_is_number text.now }
-{
-    text == b"0".as_slice() || is_positive(text)
-}
-
-/// The number of up to nine digits.
-fn value_of(digits: &[u8]) -> u32
-    requires { IsTrue (spec_is_number digits.now) }
-    ensures { result ≡ digits_value 10 digits.now }
-{
-    let mut n: u32 = 0;
+    let mut n = number;
     for d in digits {
+        if !d.is_ascii_digit() {
+            return None;
+        }
         n = n * 10 + (*d - b'0') as u32;
     }
-    n
+    Some(n)
 }
 
 /// The number that the text says (own rule): `0`, or a digit from 1 to 9 and up to eight digits.
 pub fn number_of(text: &[u8]) -> Option<u32>
     ensures { result ≡ spec_number_of text.now }
 {
-    if !is_number(text) {
-        return None;
+    match text {
+        [b'0'] => Some(0),
+        _ => positive_of(text),
     }
-    Some(value_of(text))
 }
 
 /// The number that the text says, as `number_of` has it, where 0 is refused.
 pub fn positive_of(text: &[u8]) -> Option<u32>
     ensures { result ≡ spec_positive_of text.now }
 {
-    if !is_positive(text) {
-        return None;
+    match text {
+        [first, digits @ ..] if leads(*first) && digits.len() <= 8 => {
+            with_digits((*first - b'0') as u32, digits)
+        }
+        _ => None,
     }
-    Some(value_of(text))
 }
 
 /// The number behind this letter.

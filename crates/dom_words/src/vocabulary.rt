@@ -1,6 +1,6 @@
 //! The words that say kinds, actions, moves and ends.
 
-ghost use Rattle.std.specs.Prelude.{◌≡◌, IfErr, true, false, ◌∷◌, [], bytes_eq};
+ghost use Rattle.std.specs.Prelude.{◌≡◌, IfErr, true, false, ◌∷◌, []};
 ghost use Rattle.dom_text.specs.Readers.{named, next_as};
 ghost use Rattle.dom_text.specs.Words.{kind_word, new_kinds, action_word, actions_listed, move_word, moves_listed, end_word};
 ghost use Rattle.dom_text.specs.Decode.{action_at, move_at, to_start_at};
@@ -11,27 +11,16 @@ use crate::not_read::NotRead;
 use crate::words::WordReader;
 use dom_base::{Action, Kind, Move};
 
-/// Whether the word is this text.
-fn says(word: &[u8], text: &str) -> bool
-    ensures { result ≡ bytes_eq text.now word.now }
-{
-    text.as_bytes() == word
-}
-
 /// What a listener does.
 fn action_of(word: &[u8]) -> Option<Action>
     ensures { result ≡ named action_word actions_listed word.now }
 {
-    if says(word, "log") {
-        Some(Action::Log)
-    } else if says(word, "stop") {
-        Some(Action::Stop)
-    } else if says(word, "stop-now") {
-        Some(Action::StopNow)
-    } else if says(word, "cancel") {
-        Some(Action::Cancel)
-    } else {
-        None
+    match word {
+        b"log" => Some(Action::Log),
+        b"stop" => Some(Action::Stop),
+        b"stop-now" => Some(Action::StopNow),
+        b"cancel" => Some(Action::Cancel),
+        _ => None,
     }
 }
 
@@ -39,16 +28,12 @@ fn action_of(word: &[u8]) -> Option<Action>
 fn new_kind_of(word: &[u8]) -> Option<Kind>
     ensures { result ≡ named kind_word new_kinds word.now }
 {
-    if says(word, "element") {
-        Some(Kind::Element)
-    } else if says(word, "text") {
-        Some(Kind::Text)
-    } else if says(word, "comment") {
-        Some(Kind::Comment)
-    } else if says(word, "fragment") {
-        Some(Kind::Fragment)
-    } else {
-        None
+    match word {
+        b"element" => Some(Kind::Element),
+        b"text" => Some(Kind::Text),
+        b"comment" => Some(Kind::Comment),
+        b"fragment" => Some(Kind::Fragment),
+        _ => None,
     }
 }
 
@@ -92,12 +77,10 @@ fn move_of(word: &[u8]) -> Option<Move>
 fn to_start_of(word: &[u8]) -> Option<bool>
     ensures { result ≡ named end_word (true ∷ false ∷ []) word.now }
 {
-    if says(word, "start") {
-        Some(true)
-    } else if says(word, "end") {
-        Some(false)
-    } else {
-        None
+    match word {
+        b"start" => Some(true),
+        b"end" => Some(false),
+        _ => None,
     }
 }
 

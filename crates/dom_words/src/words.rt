@@ -69,10 +69,7 @@ pub fn text_of(alloc: Global, word: &[u8]) -> Result<String, AllocError>
     requires { IsTrue (list_all is_ascii_graphic word.now) }
     ensures { IfOk result (λ text. string_bytes text ≡ word.now) }
 {
-    match std::str::from_utf8(word) {
-        Ok(text) => String::from_str(alloc, text),
-        Err(_) => unreachable!(),
-    }
+    String::from_str(alloc, unsafe { std::str::from_utf8_unchecked(word) })
 }
 
 /// The words of a line that are still to be read: the bytes behind those that were. Each word stands behind a space.
