@@ -1,5 +1,6 @@
 -- Reading digits one after the other.
-use Rattle.std.proofs.Common.{◌≡◌, ℕ, ◌+◌, ◌-◌, ◌*◌, ◌^◌, ◌<◌, ◌≤◌, true, false, List, length, get_or, drop, Option, Some, None, refl, sym, ap, ◌∙◌, arith, add-one}
+use Rattle.std.proofs.Common.{◌≡◌, ℕ, ◌+◌, ◌-◌, ◌*◌, ◌^◌, ◌<◌, ◌≤◌, true, List}
+use Rattle.std.proofs.Common.{length, get_or, drop, Option, Some, refl, sym, ap, ◌∙◌, arith, add-one}
 use Rattle.std.proofs.Math.ListN.{drop_of_length-le}
 use Rattle.std.proofs.Math.Nat.{pow-le-pow_right}
 use Rattle.std.proofs.Math.Seq.{drop-cons}
@@ -15,18 +16,15 @@ abbrev pub read_on : ℕ → List ℕ → Option ℕ
 read_on n digits = only_if (list_all is_ascii_digit digits) (digits_value_after 10 n digits)
 
 -- what a digit byte is worth
-pub digit_is : (d : ℕ) → is_ascii_digit d ≡ true → (48 ≤ d) × (d ≤ 57) × (digit_value d ≡ d - 48)
+digit_is : (d : ℕ) → is_ascii_digit d ≡ true → (48 ≤ d) × (d ≤ 57) × (digit_value d ≡ d - 48)
 digit_is d h = grind (arith, nat_tests)
-
--- a byte that is no digit ends the reading
-pub no_digit : (n i : ℕ) (digits : List ℕ) → i < length digits → is_ascii_digit (get_or digits i 0) ≡ false → read_on n (drop i digits) ≡ None
-no_digit n i digits l h = rw (drop-cons digits i 0, h) refl
 
 -- a digit is read first
 pub one_digit : (n i : ℕ) (digits : List ℕ) → i < length digits → is_ascii_digit (get_or digits i 0) ≡ true →
     read_on (n * 10 + (get_or digits i 0 - 48)) (drop (i + 1) digits) ≡ read_on n (drop i digits)
 one_digit n i digits l h =
-    let first : read_on n (drop i digits) ≡ read_on (n * 10 + digit_value (get_or digits i 0)) (drop (i + 1) digits) = rw (drop-cons digits i 0, h, add-one) refl in
+    let first : read_on n (drop i digits) ≡ read_on (n * 10 + digit_value (get_or digits i 0)) (drop (i + 1) digits) =
+    rw (drop-cons digits i 0, h, add-one) refl in
     ap (λ (v : ℕ). read_on (n * 10 + v) (drop (i + 1) digits)) (sym (digit_is (get_or digits i 0) h).2) ∙ sym first
 
 -- behind the last digit the number is read
@@ -34,7 +32,8 @@ pub no_more : (n i : ℕ) (digits : List ℕ) → length digits ≤ i → read_o
 no_more n i digits l = rw (drop_of_length-le digits l) refl
 
 -- a number of up to eight digits, and of one more
-pub few_digits : (i n d : ℕ) → i < 8 → n < 10 ^ (i + 1) → is_ascii_digit d ≡ true → (n < 10 ^ 8) × (48 ≤ d) × (d ≤ 57) × (n * 10 + (d - 48) < 10 ^ (i + 1 + 1))
+pub few_digits : (i n d : ℕ) → i < 8 → n < 10 ^ (i + 1) → is_ascii_digit d ≡ true →
+    (n < 10 ^ 8) × (48 ≤ d) × (d ≤ 57) × (n * 10 + (d - 48) < 10 ^ (i + 1 + 1))
 few_digits i n d few h digit =
     let p : 10 ^ (i + 1) ≤ 10 ^ 8 = pow-le-pow_right {n = 10} (omega arith) {i = i + 1} {j = 8} (omega arith) in
     let v = digit_is d digit in

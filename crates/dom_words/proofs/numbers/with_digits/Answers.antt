@@ -7,10 +7,14 @@ pub loop-d-init : goal.loop-d-init
 loop-d-init c = (refl, omega arith)
 
 pub overflow_mul-n : goal.overflow_mul-n
-overflow_mul-n c = omega (arith, few_digits c.loop-d.d-index c.loop-d.n (get_or c.args.digits.now c.loop-d.d-index 0) (omega arith) c.loop-d.invariant.1 (sym c.if-not-is_ascii_digit.ensures.value))
+overflow_mul-n c =
+    let d = get_or c.args.digits.now c.loop-d.d-index 0 in
+    omega (arith, few_digits c.loop-d.d-index c.loop-d.n d (omega arith) c.loop-d.invariant.1 (sym c.if-not-is_ascii_digit.ensures.value))
 
 pub overflow_add-n : goal.overflow_add-n
-overflow_add-n c = omega (arith, few_digits c.loop-d.d-index c.loop-d.n (get_or c.args.digits.now c.loop-d.d-index 0) (omega arith) c.loop-d.invariant.1 (sym c.if-not-is_ascii_digit.ensures.value))
+overflow_add-n c =
+    let d = get_or c.args.digits.now c.loop-d.d-index 0 in
+    omega (arith, few_digits c.loop-d.d-index c.loop-d.n d (omega arith) c.loop-d.invariant.1 (sym c.if-not-is_ascii_digit.ensures.value))
 
 pub loop-d-preserved : goal.loop-d-preserved
 loop-d-preserved c =
