@@ -1,5 +1,7 @@
 //! Replies and refusals.
 ghost use Rattle.std.specs.Prelude.{◌≡◌, ◌++◌, ◌∷◌, [], OnOk, OnErr, codes};
+ghost use Rattle.std.specs.Fmt.{decimal};
+ghost use Rattle.dom_base.specs.declared.Owner.TheVariants.{Page};
 ghost use Rattle.dom_model.specs.Output.{a_node, boundaries, nothing, reference, replied, says};
 ghost use Rattle.dom_text.specs.Text.{node_text, output_text};
 ghost use Rattle.dom_printer.specs.Keeping.{Keeps};
@@ -10,6 +12,7 @@ use crate::buffers::cut_if_refused;
 use crate::names::{put_node, put_owner};
 use crate::pieces::{Piece, put_line};
 use dom_base::{NodeName, Owner, Refusal};
+use itoa::Buffer;
 use std::alloc::AllocError;
 
 /// A boundary point: a node and an offset, in children or in code units (DOM Standard, 5.2 Boundary points).
@@ -57,14 +60,36 @@ pub fn put_reply(out: &mut Vec<u8>, owner: Owner, value: &Value<'_>) -> Result<(
         ≡ out.old.items ++ output_text (says owner (replied (value_view value.now)) ∷ [])) }
     ensures err { OnErr result (out.new.items ≡ out.old.items) }
 {
-    match value {
-        Value::Nothing => put_done(out, owner),
-        Value::Node(node) => put_found(out, owner, *node),
+    match (owner, value) {
+        (Owner::Page, Value::Nothing) => out.extend_from_slice(b"p ok\n"),
+        (
+            Owner::Page,
+            Value::Node(
+                NodeName {
+                    owner: Owner::Page,
+                    number,
+                },
+            ),
+        ) => put_page_node(out, *number),
         _ => put_value(out, owner, value),
     }
 }
 
-/// Puts the reply that has no value: the one that most lines get.
+/// Puts the page's reply that has a node of its own, and asks once for the room of all of it.
+fn put_page_node(out: &mut Vec<u8>, number: u32) -> Result<(), AllocError>
+    ensures ok { OnOk result (out.new.items ≡ out.old.items ++ line_text Page (codes "ok n" ++ decimal number)) }
+    ensures err { OnErr result (out.new.items ≡ out.old.items) }
+{
+    let mut digits = Buffer::new();
+    let digits = digits.format(number as usize).as_bytes();
+    out.reserve(b"p ok n\n".len() + digits.len())?;
+    out.extend_from_slice(b"p ok n")?;
+    out.extend_from_slice(digits)?;
+    out.push(b'\n')?;
+    Ok(())
+}
+
+/// Puts the reply that has no value.
 fn put_done(out: &mut Vec<u8>, owner: Owner) -> Result<(), AllocError>
     ensures ok { OnOk result (out.new.items ≡ out.old.items ++ output_text (says owner (replied nothing) ∷ [])) }
     ensures err { OnErr result (out.new.items ≡ out.old.items) }

@@ -131,6 +131,21 @@ fn beginning_with(first: u8) -> &'static [Keyword]
     }
 }
 
+/// Whether the word is this text. Words are short, so their bytes are compared one by one.
+fn says(text: &[u8], word: &[u8]) -> bool
+    ensures { result ≡ bytes_eq text.now word.now }
+{
+    if text.len() != word.len() {
+        return false;
+    }
+    for (i, b) in word.iter().enumerate() {
+        if text[i] != *b {
+            return false;
+        }
+    }
+    true
+}
+
 /// The one of these words that the word is.
 fn among(keywords: &[Keyword], word: &[u8]) -> Option<Keyword>
     ensures { result ≡ find (λ k. bytes_eq (keyword_word (keyword_view k)) word.now) keywords.now }
@@ -138,7 +153,7 @@ fn among(keywords: &[Keyword], word: &[u8]) -> Option<Keyword>
     keywords
         .iter()
         .copied()
-        .find(|k| k.text().as_bytes() == word)
+        .find(|k| says(k.text().as_bytes(), word))
 }
 
 /// The word with which a command begins.

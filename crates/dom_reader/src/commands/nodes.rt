@@ -181,6 +181,33 @@ pub fn content_command(
     }
 }
 
+/// The words of `attr`.
+fn attribute(alloc: Global, owner: Owner, words: &mut WordReader) -> Result<Command, NotRead>
+    ensures { Gives command_view result (two (node_at owner) next_word model.attribute words.old) }
+{
+    let element = next_node(owner, words)?;
+    let name = words.text(alloc)?;
+    ended(Command::Attribute(element, name), words)
+}
+
+/// The words of `query`.
+fn query(alloc: Global, owner: Owner, words: &mut WordReader) -> Result<Command, NotRead>
+    ensures { Gives command_view result (two (node_at owner) next_string model.query words.old) }
+{
+    let node = next_node(owner, words)?;
+    let selector = words.string(alloc)?;
+    ended(Command::Query(node, selector), words)
+}
+
+/// The words of `matches`.
+fn matches(alloc: Global, owner: Owner, words: &mut WordReader) -> Result<Command, NotRead>
+    ensures { Gives command_view result (two (node_at owner) next_string model.matches words.old) }
+{
+    let element = next_node(owner, words)?;
+    let selector = words.string(alloc)?;
+    ended(Command::Matches(element, selector), words)
+}
+
 /// The command that asks about nodes, and goes on with the words.
 pub fn question_command(
     alloc: Global,
@@ -192,10 +219,7 @@ pub fn question_command(
 {
     match word {
         QuestionWord::Tree => Ok(Command::Tree(one_node(owner, words)?)),
-        QuestionWord::Attr => ended(
-            Command::Attribute(next_node(owner, words)?, words.text(alloc)?),
-            words,
-        ),
+        QuestionWord::Attr => attribute(alloc, owner, words),
         QuestionWord::Parent => Ok(Command::Parent(one_node(owner, words)?)),
         QuestionWord::Docof => Ok(Command::DocumentOf(one_node(owner, words)?)),
         QuestionWord::Children => Ok(Command::Children(one_node(owner, words)?)),
@@ -207,13 +231,7 @@ pub fn question_command(
         QuestionWord::ShadowRoot => Ok(Command::ShadowRoot(one_node(owner, words)?)),
         QuestionWord::SlotOf => Ok(Command::SlotOf(one_node(owner, words)?)),
         QuestionWord::Assigned => assigned(owner, words),
-        QuestionWord::Query => ended(
-            Command::Query(next_node(owner, words)?, words.string(alloc)?),
-            words,
-        ),
-        QuestionWord::Matches => ended(
-            Command::Matches(next_node(owner, words)?, words.string(alloc)?),
-            words,
-        ),
+        QuestionWord::Query => query(alloc, owner, words),
+        QuestionWord::Matches => matches(alloc, owner, words),
     }
 }
