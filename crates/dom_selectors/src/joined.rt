@@ -10,6 +10,7 @@ ghost use Rattle.dom_selectors.specs.Search.{SegmentEnds, SegmentIsAbove};
 ghost use Rattle.dom_selectors.specs.Views.{complex_from, complex_view};
 
 use crate::chain::{Place, chain_before, chain_end};
+use crate::matching::compound_matches;
 use crate::selector::{Combinator, Complex, CompoundPart, Link};
 use dom_tree::Forest;
 use node_arena::Key;
@@ -73,7 +74,8 @@ fn segment_above<'a>(
 }
 
 /// Whether a node matches a complex selector.
-pub(crate) fn complex_matches(forest: &Forest, complex: &Complex, key: Key) -> bool
+#[inline(never)]
+fn joined_matches(forest: &Forest, complex: &Complex, key: Key) -> bool
     requires { IsNode forest.now key }
     ensures { result ≡ spec_complex_matches forest.now.trees (complex_view complex.now) (name_of forest.now key) }
 {
@@ -88,4 +90,24 @@ pub(crate) fn complex_matches(forest: &Forest, complex: &Complex, key: Key) -> b
         end = next;
     }
     true
+}
+
+/// The last compound of a complex selector.
+#[inline(always)]
+fn last_compound(complex: &Complex) -> &[CompoundPart]
+{
+    match complex.links.last() {
+        Some(link) => link.compound.as_slice(),
+        None => complex.first.as_slice(),
+    }
+}
+
+/// Whether a node matches a complex selector.
+#[inline(always)]
+pub(crate) fn complex_matches(forest: &Forest, complex: &Complex, key: Key) -> bool
+    requires { IsNode forest.now key }
+    ensures { result ≡ spec_complex_matches forest.now.trees (complex_view complex.now) (name_of forest.now key) }
+{
+    compound_matches(forest, last_compound(complex), key)
+        && (complex.links.is_empty() || joined_matches(forest, complex, key))
 }

@@ -34,6 +34,7 @@ fn attribute<'a>(forest: &'a Forest, key: Key, name: &str) -> Option<&'a [u16]>
 }
 
 /// Whether a node has an attribute with a value as a test asks.
+#[inline(always)]
 fn attribute_passes(
     forest: &Forest,
     key: Key,
@@ -51,13 +52,15 @@ fn attribute_passes(
 }
 
 /// Whether two names are the same.
+#[inline(always)]
 fn is_same_name(name: &str, other: &str) -> bool
     ensures { result ≡ text_eq name.now other.now }
 {
-    name == other
+    name.len() == other.len() && name.bytes().zip(other.bytes()).all(|(a, b)| a == b)
 }
 
 /// Whether an element matches a simple selector.
+#[inline(always)]
 fn simple_matches(forest: &Forest, simple: &Simple, key: Key) -> bool
     requires { IsNode forest.now key }
     ensures { result ≡ spec_simple_matches forest.now.trees (name_of forest.now key) (simple_view simple.now) }
@@ -79,14 +82,21 @@ fn simple_matches(forest: &Forest, simple: &Simple, key: Key) -> bool
 }
 
 /// Whether an element matches all of some simple selectors.
+#[inline(always)]
 fn all_simple_match(forest: &Forest, simples: &[Simple], key: Key) -> bool
     requires { IsNode forest.now key }
     ensures { result ≡ list_all (λ s. spec_simple_matches forest.now.trees (name_of forest.now key) (simple_view s)) simples.now }
 {
-    simples.iter().all(|s| simple_matches(forest, s, key))
+    for simple in simples {
+        if !simple_matches(forest, simple, key) {
+            return false;
+        }
+    }
+    true
 }
 
 /// Whether an element matches a part of a compound.
+#[inline(always)]
 fn part_matches(forest: &Forest, part: &CompoundPart, key: Key) -> bool
     requires { IsNode forest.now key }
     ensures { result ≡ spec_part_matches forest.now.trees (name_of forest.now key) (part_view part.now) }
@@ -98,14 +108,21 @@ fn part_matches(forest: &Forest, part: &CompoundPart, key: Key) -> bool
 }
 
 /// Whether an element matches all of some parts of a compound.
+#[inline(always)]
 fn all_parts_match(forest: &Forest, parts: &[CompoundPart], key: Key) -> bool
     requires { IsNode forest.now key }
     ensures { result ≡ list_all (λ p. spec_part_matches forest.now.trees (name_of forest.now key) (part_view p)) parts.now }
 {
-    parts.iter().all(|p| part_matches(forest, p, key))
+    for part in parts {
+        if !part_matches(forest, part, key) {
+            return false;
+        }
+    }
+    true
 }
 
 /// Whether a node is an element that matches a compound.
+#[inline(always)]
 pub(crate) fn compound_matches(forest: &Forest, parts: &[CompoundPart], key: Key) -> bool
     requires { IsNode forest.now key }
     ensures { result ≡ spec_compound_matches forest.now.trees (compound_view parts.now) (name_of forest.now key) }

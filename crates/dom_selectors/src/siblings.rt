@@ -11,6 +11,7 @@ use dom_tree::Forest;
 use node_arena::Key;
 
 /// Whether a node is an element.
+#[inline(always)]
 pub(crate) fn is_element(forest: &Forest, key: Key) -> bool
     requires { IsNode forest.now key }
     ensures { result ≡ spec_is_element (kind_of forest.now.trees (name_of forest.now key)) }

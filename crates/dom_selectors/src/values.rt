@@ -10,13 +10,15 @@ use crate::selector::AttributeTest;
 use crate::tokens::is_space;
 
 /// Whether two strings are the same.
+#[inline(always)]
 fn is_same(text: &[u16], other: &[u16]) -> bool
     ensures { result ≡ text_eq text.now other.now }
 {
-    text == other
+    text.len() == other.len() && text.last() == other.last() && text == other
 }
 
 /// How many units stand before the first white space.
+#[inline(always)]
 fn word_len(text: &[u16]) -> usize
     ensures count { result ≡ prefix_len (λ c. not (spec_is_space c)) text.now }
     ensures within { result ≤ length text.now }
@@ -83,7 +85,7 @@ pub(crate) fn value_passes(test: AttributeTest, value: &[u16], text: &[u16]) -> 
     match test {
         AttributeTest::Equals => is_same(text, value),
         AttributeTest::HasWord => {
-            !(value.is_empty() || has_space(value)) && has_word(text, value)
+            has_word(text, value) && !(value.is_empty() || has_space(value))
         }
         AttributeTest::BeginsWithDash => begins_with_dash(text, value),
         AttributeTest::Begins => !value.is_empty() && text.starts_with(value),
