@@ -74,7 +74,8 @@ fn write(doc: &mut Doc, owner: Owner, paragraph: Key, node: NodeData) -> Result<
     Ok((text, tail))
 }
 
-/// A new live range of an owner, from the beginning of a Text to the beginning of another one.
+/// A new live range of an owner, from the beginning of a Text to behind the first code unit of another one. Refused with `IndexSize`
+/// where that one is empty.
 fn select(doc: &mut Doc, owner: Owner, first: Key, text: Key, tail: Key) -> Result<u32, Fault>
     requires ready { IsReady doc.old }
     requires first_is_node { HoldsNode doc.old first }
@@ -88,12 +89,8 @@ fn select(doc: &mut Doc, owner: Owner, first: Key, text: Key, tail: Key) -> Resu
     law_still();
     law_newly_there();
     let range = doc.range_make(owner, first)?;
-    if let Err(refusal) = doc.range_set_start(owner, range, text, 0) {
-        return Err(Fault::Refused(refusal));
-    }
-    if let Err(refusal) = doc.range_set_end(owner, range, tail, 0) {
-        return Err(Fault::Refused(refusal));
-    }
+    doc.range_set_start(owner, range, text, 0)?;
+    doc.range_set_end(owner, range, tail, 1)?;
     Ok(range)
 }
 

@@ -17,9 +17,9 @@ returns-clause-still c =
     let make : HasStillAll d e = c.law_still.ensures.tables d e o Command.range_new [] (a_range number) tt c.in_ok-range.ensures.names
     c.in_ok-range.ensures.world in
     let start : HasStillAll e f = c.law_still.ensures.tables e f o (Command.range_start number (own (name_in e c.args.text).number) 0) [] nothing tt
-    c.in_default.ensures.names c.in_default.ensures.world in
-    let end : HasStillAll f g = c.law_still.ensures.tables f g o (Command.range_end number (own (name_in f c.args.tail).number) 0) [] nothing tt
-    c.in_default-range_set_end.ensures.names c.in_default-range_set_end.ensures.world in
+    c.in_ok-range_set_start.ensures.names c.in_ok-range_set_start.ensures.world in
+    let end : HasStillAll f g = c.law_still.ensures.tables f g o (Command.range_end number (own (name_in f c.args.tail).number) 1) [] nothing tt
+    c.in_ok-range_set_end.ensures.names c.in_ok-range_set_end.ensures.world in
     c.law_still.ensures.next d f g (c.law_still.ensures.next d e f make start) end
 
 pub returns-clause-range : goal.returns-clause-range
@@ -31,8 +31,8 @@ returns-clause-range c =
     let o = c.args.owner in
     let number = c.in_ok-range.range in
     let start : HasStillAll e f = c.law_still.ensures.tables e f o (Command.range_start number (own (name_in e c.args.text).number) 0) [] nothing tt
-    c.in_default.ensures.names c.in_default.ensures.world in
-    let end : HasStillAll f g = c.law_still.ensures.tables f g o (Command.range_end number (own (name_in f c.args.tail).number) 0) [] nothing tt
-    c.in_default-range_set_end.ensures.names c.in_default-range_set_end.ensures.world in
+    c.in_ok-range_set_start.ensures.names c.in_ok-range_set_start.ensures.world in
+    let end : HasStillAll f g = c.law_still.ensures.tables f g o (Command.range_end number (own (name_in f c.args.tail).number) 1) [] nothing tt
+    c.in_ok-range_set_end.ensures.names c.in_ok-range_set_end.ensures.world in
     range-still f g o number end
     (range-still e f o number start (c.law_newly_there.ensures.range d.world e.world o number c.in_ok-range.ensures.world))
