@@ -202,6 +202,91 @@ fn many_children_go_and_stay(rt: HostRuntime) -> Result<(), Fail> {
     Ok(())
 }
 
+// A number below a bound, which changes from call to call.
+fn next_below(state: &mut u64, bound: u64) -> usize
+    requires { 0 < bound }
+    ensures { result < bound }
+{
+    *state = state
+        .wrapping_mul(6_364_136_223_846_793_005)
+        .wrapping_add(1_442_695_040_888_963_407);
+    ((*state >> 33) % bound) as usize
+}
+
+// A child of a list by its number there.
+fn child_at<T>(rt: &impl Abort, arena: &Arena<T>, children: &[Key], number: usize) -> Key
+    requires { All (λ k. k < length arena.now.payloads) children.now }
+    ensures { result < length arena.now.payloads }
+{
+    *children.get(number).expect(rt, "a child is missing")
+}
+
+// Puts a child before another one, after its siblings and those of the other one are remembered.
+fn move_before<T>(rt: &impl Abort, arena: &mut Arena<T>, root: Key, child: Key, next: Key)
+    requires root { root < length arena.old.payloads }
+    requires child { child < length arena.old.payloads }
+    requires next { next < length arena.old.payloads }
+    ensures { length arena.new.payloads ≡ length arena.old.payloads }
+{
+    arena.remember_siblings(child, usize::MAX);
+    arena.unlink(child);
+    arena.remember_siblings(next, usize::MAX);
+    link(rt, arena, root, child, Some(next));
+}
+
+// Moves children, by turns one at random and the first one into the middle, and does the same with a plain list of their numbers.
+fn reorder<T>(
+    rt: &impl Abort,
+    arena: &mut Arena<T>,
+    root: Key,
+    children: &[Key],
+    order: &mut Vec<usize>,
+) -> Result<(), AllocError>
+    requires root { root < length arena.old.payloads }
+    requires children { All (λ k. k < length arena.old.payloads) children.now }
+    ensures { length arena.new.payloads ≡ length arena.old.payloads }
+{
+    let mut state = 1;
+    for turn in 0..2_000 {
+        let (from, to) = if turn % 2 == 0 {
+            (
+                next_below(&mut state, 100_000),
+                next_below(&mut state, 99_999),
+            )
+        } else {
+            (0, 50_000)
+        };
+        assert!(rt; from < order.len());
+        let number = order.remove(from);
+        assert!(rt; to < order.len());
+        let next = child_at(rt, arena, children, order[to]);
+        let child = child_at(rt, arena, children, number);
+        order.insert(to, number)?;
+        move_before(rt, arena, root, child, next);
+        assert!(rt; arena.index_below(child, usize::MAX) == Some(to));
+    }
+    Ok(())
+}
+
+#[test]
+fn remembered_children_are_where_they_are_put(rt: HostRuntime) -> Result<(), Fail> {
+    let mut arena = Arena::new(rt.alloc());
+    let root = arena.add(Vec::new(rt.alloc()))?;
+    let children = add_numbers(&rt, rt.alloc(), &mut arena, root)?;
+    let mut order = Vec::new(rt.alloc());
+    for number in (0..100_000).rev() {
+        order.push(number)?;
+    }
+    reorder(&rt, &mut arena, root, children.as_slice(), &mut order)?;
+    for step in 0..1_000 {
+        let place = step * 100;
+        assert!(rt; place < order.len());
+        let child = child_at(&rt, &arena, children.as_slice(), order[place]);
+        assert!(rt; arena.index_below(child, usize::MAX) == Some(place));
+    }
+    Ok(())
+}
+
 #[test]
 fn payloads_go_with_the_arena(rt: HostRuntime) -> Result<(), Fail> {
     let mut arena = Arena::new(rt.alloc());

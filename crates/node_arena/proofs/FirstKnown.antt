@@ -1,28 +1,31 @@
 -- First children that are kept beside the links: what changes leave of them, and walks back to them.
-use Rattle.std.proofs.Common.{◌≡◌, ◌≢◌, ◌⊎◌, inl, inr, ℕ, zero, suc, ◌+◌, ◌-◌, ◌<◌, ◌≤◌, true, false, eqb, List, [], ◌∷◌, ◌++◌, map, length, set, get_or}
-use Rattle.std.proofs.Common.{Option, Some, None, refl, sym, ap, subst, ◌∙◌, arith, append_assoc, take, drop, true≢false, not}
+use Rattle.std.proofs.Common.{◌≡◌, ◌≢◌, ◌⊎◌, inl, inr, ℕ, suc, ◌+◌, ◌-◌, ◌<◌, ◌≤◌, Bool, true, false, eqb, List, [], ◌∷◌, ◌++◌, map, length, set, get_or}
+use Rattle.std.proofs.Common.{Option, Some, None, refl, sym, ap, subst, ◌∙◌, arith, append_assoc, append-nil, true≢false, not}
 use Rattle.std.specs.Prelude.{slice_get, is_none}
-use Rattle.std.specs.List.{insert, remove}
 use Rattle.std.specs.Option.{option_and_then}
 use Rattle.std.proofs.lemmas.Bool.{eq-eqb, eqb-true, both_ways, or_left, or_right, or_parts, false_from_ne_true, cases_eq}
 use Rattle.std.proofs.lemmas.Bool.Decides.{eqb_tells}
-use Rattle.std.proofs.lemmas.List.{get_or-set_same, get_or-set_other, take-append-drop}
+use Rattle.std.proofs.lemmas.List.{get_or-set_same, get_or-set_other}
 use Rattle.std.proofs.lemmas.Option.{same_Some, none-some}
 use Rattle.node_arena.specs.Nodes.{children_of, siblings_in, contains, parent_of, prev_of, prev_in, prev_from, next_in, head_of, last_from, last_of, place_in}
 use Rattle.node_arena.specs.Nodes.{place_of, put_before, insert_before, without, IsOnce, IsForest}
-use Rattle.node_arena.specs.Known.{AreFirst}
+use Rattle.node_arena.specs.Known.{AreFirst, IsBehind}
 use Rattle.node_arena.specs.declared.first_children.FirstChildren.{FirstChildren}
-use Rattle.node_arena.proofs.Lists.{contains-append, contains-last_of, IsOnce-append_left, IsOnce-append_right, IsOnce-apart, is, head_or, next_in_is, last_from-Some}
+use Rattle.node_arena.proofs.Lists.{contains-append, contains-last_of, IsOnce-append_left, IsOnce-append_right, IsOnce-apart, IsOnce-closed}
+use Rattle.node_arena.proofs.Lists.{is, head_or, next_in_is, last_from-Some}
 use Rattle.node_arena.proofs.Lists.{next_from-append, next_from_is, head_or-None, prev_from-append, without-absent}
 use Rattle.node_arena.proofs.Forests.{cases_Option, contains-parent, children_of-without, parent_of_is}
 use Rattle.node_arena.proofs.Indexes.{prev_place, first_place, no_prev, place_of-root, place_of-child}
 
--- ---- a key that is found in a list, and one that is not
+-- ---- a key of a list, and one that it lacks
 
-pub contains-found : (xs : List ℕ) (i k : ℕ) → slice_get xs i ≡ Some k → contains xs k ≡ true
-contains-found [] i k e = absurd (none-some k e)
-contains-found (x ∷ xs) zero k e = or_left (eqb x k) _ (eq-eqb x k (same_Some x k e))
-contains-found (x ∷ xs) (suc i) k e = or_right (eqb x k) _ (contains-found xs i k e)
+-- a list has a key or lacks it
+pub cases_has : (xs : List ℕ) (k : ℕ) → (contains xs k ≡ true) ⊎ (contains xs k ≡ false)
+cases_has xs k = by (contains xs k) refl
+  where
+    by : (b : Bool) → contains xs k ≡ b → (contains xs k ≡ true) ⊎ (contains xs k ≡ false)
+    by true e = inl e
+    by false e = inr e
 
 -- a list of which no item is k
 pub contains-none : (xs : List ℕ) (k : ℕ) → ((i : ℕ) → i < length xs → get_or xs i 0 ≢ k) → contains xs k ≡ false
@@ -35,15 +38,12 @@ contains-none (x ∷ xs) k other =
 pub same_from : (a b : ℕ) → false ≡ not (eqb a b) → a ≡ b
 same_from a b e = elim (eqb_tells a b) [ inl h ↦ h.1 | inr h ↦ absurd (true≢false (sym (e ∙ ap not h.0))) ]
 
--- the first of a list is no later item of it
-apart_from : (x : ℕ) (xs : List ℕ) (k : ℕ) → contains xs x ≡ false → contains xs k ≡ true → eqb x k ≡ false
-apart_from x xs k lacks found = false_from_ne_true _ (λ same. both_ways _ lacks (ap (contains xs) (eqb-true x k same) ∙ found))
-
-pub place_in-found : (xs rest : List ℕ) (i k : ℕ) → IsOnce xs → slice_get xs i ≡ Some k → place_in (xs ++ rest) k ≡ i
-place_in-found [] rest i k once e = absurd (none-some k e)
-place_in-found (x ∷ xs) rest zero k once e = rw (eq-eqb x k (same_Some x k e)) refl
-place_in-found (x ∷ xs) rest (suc i) k once e =
-    rw (apart_from x xs k once.0 (contains-found xs i k e)) (ap suc (place_in-found xs rest i k once.1 e))
+pub place_in-before : (xs rest : List ℕ) (k : ℕ) → contains xs k ≡ true → place_in (xs ++ rest) k ≡ place_in xs k
+place_in-before [] rest k found = absurd (true≢false (sym found))
+place_in-before (x ∷ xs) rest k found = elim (eqb_tells x k) [
+  | inl h ↦ rw h.0
+  | inr h ↦ rw h.0 (ap suc (place_in-before xs rest k (rw h.0 at found)))
+]
 
 pub place_in-behind : (xs rest : List ℕ) (k : ℕ) → contains xs k ≡ false → place_in (xs ++ rest) k ≡ length xs + place_in rest k
 place_in-behind [] rest k absent = omega arith
@@ -53,11 +53,12 @@ place_in-behind (x ∷ xs) rest k absent =
 
 -- ---- what a change of a list leaves of its first items
 
-pub put_before-found : (xs rest : List ℕ) (i c b : ℕ) → IsOnce xs → slice_get xs i ≡ Some b → put_before (xs ++ rest) c b ≡ insert xs i c ++ rest
-put_before-found [] rest i c b once e = absurd (none-some b e)
-put_before-found (x ∷ xs) rest zero c b once e = rw (eq-eqb x b (same_Some x b e)) refl
-put_before-found (x ∷ xs) rest (suc i) c b once e =
-    rw (apart_from x xs b once.0 (contains-found xs i b e)) (ap (λ ys. x ∷ ys) (put_before-found xs rest i c b once.1 e))
+pub put_before-before : (xs rest : List ℕ) (c b : ℕ) → contains xs b ≡ true → put_before (xs ++ rest) c b ≡ put_before xs c b ++ rest
+put_before-before [] rest c b found = absurd (true≢false (sym found))
+put_before-before (x ∷ xs) rest c b found = elim (eqb_tells x b) [
+  | inl h ↦ rw h.0
+  | inr h ↦ rw h.0 (ap (λ ys. x ∷ ys) (put_before-before xs rest c b (rw h.0 at found)))
+]
 
 pub put_before-behind : (xs rest : List ℕ) (c b : ℕ) → contains xs b ≡ false → put_before (xs ++ rest) c b ≡ xs ++ put_before rest c b
 put_before-behind [] rest c b absent = refl
@@ -65,20 +66,12 @@ put_before-behind (x ∷ xs) rest c b absent =
     let parts = or_parts (eqb x b) (contains xs b) absent in
     rw parts.0 (ap (λ ys. x ∷ ys) (put_before-behind xs rest c b parts.1))
 
-pub without-found : (xs rest : List ℕ) (i c : ℕ) → IsOnce (xs ++ rest) → slice_get xs i ≡ Some c → without c (xs ++ rest) ≡ remove xs i ++ rest
-without-found [] rest i c once e = absurd (none-some c e)
-without-found (x ∷ xs) rest zero c once e =
-    let same = same_Some x c e in
-    rw (eq-eqb x c same) (without-absent c (xs ++ rest) (ap (contains (xs ++ rest)) (sym same) ∙ once.0))
-without-found (x ∷ xs) rest (suc i) c once e =
-    let found = contains-append xs rest c ∙ or_left (contains xs c) _ (contains-found xs i c e) in
-    rw (apart_from x (xs ++ rest) c once.0 found) (ap (λ ys. x ∷ ys) (without-found xs rest i c once.1 e))
-
-pub without-behind : (xs rest : List ℕ) (c : ℕ) → contains xs c ≡ false → without c (xs ++ rest) ≡ xs ++ without c rest
-without-behind [] rest c absent = refl
-without-behind (x ∷ xs) rest c absent =
-    let parts = or_parts (eqb x c) (contains xs c) absent in
-    rw parts.0 (ap (λ ys. x ∷ ys) (without-behind xs rest c parts.1))
+pub without-append : (k : ℕ) (xs rest : List ℕ) → without k (xs ++ rest) ≡ without k xs ++ without k rest
+without-append k [] rest = refl
+without-append k (x ∷ xs) rest = elim (eqb_tells x k) [
+  | inl h ↦ rw h.0 (without-append k xs rest)
+  | inr h ↦ rw h.0 (ap (λ ys. x ∷ ys) (without-append k xs rest))
+]
 
 pub first_none : (list : List ℕ) → AreFirst [] list
 first_none list = (list, refl)
@@ -86,29 +79,31 @@ first_none list = (list, refl)
 pub first_pushed : (xs list : List ℕ) (c : ℕ) → AreFirst xs list → AreFirst xs (list ++ c ∷ [])
 first_pushed xs list c first = (first.0 ++ c ∷ [], ap (λ ys. ys ++ c ∷ []) first.1 ∙ append_assoc xs first.0 (c ∷ []))
 
-pub first_put-found : (xs list : List ℕ) (i c b : ℕ) → IsOnce xs → slice_get xs i ≡ Some b → AreFirst xs list → AreFirst (insert xs i c) (put_before list c b)
-first_put-found xs list i c b once e first =
-    (first.0, ap (λ ys. put_before ys c b) first.1 ∙ put_before-found xs first.0 i c b once e)
+pub first_put-there : (xs list : List ℕ) (c b : ℕ) → contains xs b ≡ true → AreFirst xs list → AreFirst (put_before xs c b) (put_before list c b)
+first_put-there xs list c b found first = (first.0, ap (λ ys. put_before ys c b) first.1 ∙ put_before-before xs first.0 c b found)
 
 pub first_put-behind : (xs list : List ℕ) (c b : ℕ) → contains xs b ≡ false → AreFirst xs list → AreFirst xs (put_before list c b)
 first_put-behind xs list c b absent first =
     (put_before first.0 c b, ap (λ ys. put_before ys c b) first.1 ∙ put_before-behind xs first.0 c b absent)
 
-pub first_without-found : (xs list : List ℕ) (i c : ℕ) → IsOnce list → slice_get xs i ≡ Some c → AreFirst xs list → AreFirst (remove xs i) (without c list)
-first_without-found xs list i c once e first =
-    (first.0, ap (without c) first.1 ∙ without-found xs first.0 i c (subst IsOnce first.1 once) e)
+pub first_without : (xs list : List ℕ) (c : ℕ) → AreFirst xs list → AreFirst (without c xs) (without c list)
+first_without xs list c first = (without c first.0, ap (without c) first.1 ∙ without-append c xs first.0)
 
-pub first_without-behind : (xs list : List ℕ) (c : ℕ) → contains xs c ≡ false → AreFirst xs list → AreFirst xs (without c list)
-first_without-behind xs list c absent first =
-    (without c first.0, ap (without c) first.1 ∙ without-behind xs first.0 c absent)
+-- first items that were kept or given up
+pub first_kept : {xs kept list : List ℕ} → (kept ≡ xs) ⊎ (kept ≡ []) → AreFirst xs list → AreFirst kept list
+first_kept {list = list} (inl e) first = subst (λ ys. AreFirst ys list) (sym e) first
+first_kept {list = list} (inr e) first = subst (λ ys. AreFirst ys list) (sym e) (first_none list)
 
-pub first_taken : (xs list : List ℕ) (n : ℕ) → AreFirst xs list → AreFirst (take n xs) list
-first_taken xs list n first =
-    (drop n xs ++ first.0, first.1 ∙ (ap (λ ys. ys ++ first.0) (sym (take-append-drop n xs)) ∙ append_assoc (take n xs) (drop n xs) first.0))
+-- what a list lacks is not among its first items
+pub first_absent : (xs list : List ℕ) (c : ℕ) → contains list c ≡ false → AreFirst xs list → contains xs c ≡ false
+first_absent xs list c absent first =
+    (or_parts (contains xs c) (contains first.0 c) (sym (contains-append xs first.0 c) ∙ (ap (λ ys. contains ys c) (sym first.1) ∙ absent))).0
 
--- first items are told apart as all items are
-pub first_once : (xs list : List ℕ) → IsOnce list → AreFirst xs list → IsOnce xs
-first_once xs list once first = IsOnce-append_left xs first.0 (subst IsOnce first.1 once)
+-- the item behind the first ones is none of them
+pub first_other : (xs list : List ℕ) (c : ℕ) → IsOnce list → AreFirst (xs ++ c ∷ []) list → contains xs c ≡ false
+first_other xs list c once first =
+    let closed = IsOnce-closed xs [] c (IsOnce-append_left (xs ++ c ∷ []) first.0 (subst IsOnce first.1 once)) in
+    ap (λ ys. contains ys c) (sym (append-nil xs)) ∙ closed.absent
 
 -- ---- one more of the first items
 
@@ -152,11 +147,6 @@ pub first_begun : (xs list : List ℕ) (c : ℕ) → xs ≡ [] → head_of list 
 first_begun xs list c none e = rw none (one_more [] list c e)
 
 -- ---- a walk back from a node to the last of the first siblings that are known
-
--- the first siblings of a node are known, and it is not one of them
-pub record IsBehind (lists : List (List ℕ)) (known : List ℕ) (k : ℕ) : Type 0 where
-  pub first : AreFirst known (siblings_in lists (parent_of lists k))
-  pub absent : contains known k ≡ false
 
 -- a node that stands just behind those known is the first of the others
 ends_in : (known rest : List ℕ) (k : ℕ) (last : Option ℕ) → IsOnce (known ++ rest) → contains rest k ≡ true → last_of known ≡ last →
@@ -255,48 +245,47 @@ behind_none lists forest known k behind e = elim (cases_Option (parent_of lists 
     by rest None found none = refl
     by rest (Some x) found none = absurd (no_prev x rest k found none)
 
-siblings_once : (lists : List (List ℕ)) → IsForest lists → (o : Option ℕ) → IsOnce (siblings_in lists o)
-siblings_once lists forest None = tt
-siblings_once lists forest (Some p) = forest.once p
-
 -- the place of a node among the first siblings that are known is its place
-pub known_place : (lists : List (List ℕ)) → IsForest lists → (known : List ℕ) (i k : ℕ) → AreFirst known (siblings_in lists (parent_of lists k)) →
-    slice_get known i ≡ Some k → i ≡ place_of lists k
+pub known_place : (lists : List (List ℕ)) (known : List ℕ) (k : ℕ) → AreFirst known (siblings_in lists (parent_of lists k)) →
+    contains known k ≡ true → place_in known k ≡ place_of lists k
 unfolding place_of
-known_place lists forest known i k first found =
-    let once = first_once known (siblings_in lists (parent_of lists k)) (siblings_once lists forest (parent_of lists k)) first in
-    sym (ap (λ xs. place_in xs k) first.1 ∙ place_in-found known first.0 i k once found)
+known_place lists known k first found = sym (ap (λ xs. place_in xs k) first.1 ∙ place_in-before known first.0 k found)
+
+-- a node without a parent is not among the children of one
+pub root_absent : (lists : List (List ℕ)) → IsForest lists → (p c : ℕ) → parent_of lists c ≡ None → contains (children_of lists p) c ≡ false
+root_absent lists forest p c root =
+    false_from_ne_true _ (λ found. absurd (none-some p (sym root ∙ parent_of_is lists forest.one_list p c found)))
 
 -- ---- what the changes of an arena leave of what is kept
 
 pub first_linked : (lists : List (List ℕ)) (p c : ℕ) (before : Option ℕ) (f g : FirstChildren) → p < length lists →
-    AreFirst f.keys.items (children_of lists f.parent) → g.parent ≡ f.parent →
-    (p ≡ f.parent → (siblings : List ℕ) → AreFirst f.keys.items siblings → AreFirst g.keys.items (insert_before siblings c before)) →
-    (p ≢ f.parent → g.keys.items ≡ f.keys.items) →
-    AreFirst g.keys.items (children_of (set lists p (insert_before (children_of lists p) c before)) g.parent)
+    AreFirst f.keys (children_of lists f.parent) → g.parent ≡ f.parent →
+    (p ≡ f.parent → (siblings : List ℕ) → AreFirst f.keys siblings → AreFirst g.keys (insert_before siblings c before)) →
+    (p ≢ f.parent → g.keys ≡ f.keys) →
+    AreFirst g.keys (children_of (set lists p (insert_before (children_of lists p) c before)) g.parent)
 first_linked lists p c before f g node first same there elsewhere = elim (cases_eq p f.parent) [
   | inl e ↦
-      subst (AreFirst g.keys.items) (sym (ap (children_of (set lists p (insert_before (children_of lists p) c before))) (same ∙ sym e)
+      subst (AreFirst g.keys) (sym (ap (children_of (set lists p (insert_before (children_of lists p) c before))) (same ∙ sym e)
       ∙ get_or-set_same lists p (insert_before (children_of lists p) c before) [] node))
-      (there e (children_of lists p) (subst (λ (q : ℕ). AreFirst f.keys.items (children_of lists q)) (sym e) first))
+      (there e (children_of lists p) (subst (λ (q : ℕ). AreFirst f.keys (children_of lists q)) (sym e) first))
   | inr n ↦
       let left : children_of (set lists p (insert_before (children_of lists p) c before)) g.parent ≡ children_of lists f.parent =
       ap (children_of (set lists p (insert_before (children_of lists p) c before))) same
       ∙ get_or-set_other lists p f.parent (insert_before (children_of lists p) c before) [] (λ e. n (sym e)) in
-      subst (AreFirst g.keys.items) (sym left) (subst (λ (xs : List ℕ). AreFirst xs (children_of lists f.parent)) (sym (elsewhere n)) first)
+      subst (AreFirst g.keys) (sym left) (subst (λ (xs : List ℕ). AreFirst xs (children_of lists f.parent)) (sym (elsewhere n)) first)
 ]
 
 pub first_unlinked : (lists : List (List ℕ)) → IsForest lists → (p c : ℕ) (f g : FirstChildren) → parent_of lists c ≡ Some p →
-    AreFirst f.keys.items (children_of lists f.parent) → g.parent ≡ f.parent →
-    (p ≡ f.parent → (siblings : List ℕ) → IsOnce siblings → AreFirst f.keys.items siblings → AreFirst g.keys.items (without c siblings)) →
-    (p ≢ f.parent → g.keys.items ≡ f.keys.items) → AreFirst g.keys.items (children_of (map (without c) lists) g.parent)
+    AreFirst f.keys (children_of lists f.parent) → g.parent ≡ f.parent →
+    (p ≡ f.parent → (siblings : List ℕ) → AreFirst f.keys siblings → AreFirst g.keys (without c siblings)) →
+    (p ≢ f.parent → g.keys ≡ f.keys) → AreFirst g.keys (children_of (map (without c) lists) g.parent)
 first_unlinked lists forest p c f g child first same there elsewhere =
-    subst (AreFirst g.keys.items) (sym (children_of-without lists c g.parent ∙ ap (λ q. without c (children_of lists q)) same)) (by (cases_eq p f.parent))
+    subst (AreFirst g.keys) (sym (children_of-without lists c g.parent ∙ ap (λ q. without c (children_of lists q)) same)) (by (cases_eq p f.parent))
   where
-    by : (p ≡ f.parent) ⊎ (p ≢ f.parent) → AreFirst g.keys.items (without c (children_of lists f.parent))
-    by (inl e) = there e (children_of lists f.parent) (forest.once f.parent) first
+    by : (p ≡ f.parent) ⊎ (p ≢ f.parent) → AreFirst g.keys (without c (children_of lists f.parent))
+    by (inl e) = there e (children_of lists f.parent) first
     by (inr n) =
         let apart : contains (children_of lists f.parent) c ≡ false =
         false_from_ne_true _ (λ found. n (forest.one_list p f.parent c (contains-parent lists c p child) found)) in
-        subst (AreFirst g.keys.items) (sym (without-absent c (children_of lists f.parent) apart))
+        subst (AreFirst g.keys) (sym (without-absent c (children_of lists f.parent) apart))
         (subst (λ (xs : List ℕ). AreFirst xs (children_of lists f.parent)) (sym (elsewhere n)) first)

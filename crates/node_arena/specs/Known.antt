@@ -1,6 +1,6 @@
 -- The first children of one node, which an arena keeps in order beside the links.
-use Rattle.std.specs.Prelude.{◌≡◌, ℕ, List, ◌++◌}
-use Rattle.node_arena.specs.Nodes.{children_of}
+use Rattle.std.specs.Prelude.{◌≡◌, ℕ, List, ◌++◌, Option, false, length}
+use Rattle.node_arena.specs.Nodes.{children_of, contains, last_of, parent_of, siblings_in}
 use Rattle.node_arena.specs.Links.{Cells}
 use Rattle.node_arena.specs.Cells.{lists_of, IsLinked}
 use Rattle.node_arena.specs.declared.first_children.FirstChildren.{FirstChildren}
@@ -9,7 +9,19 @@ use Rattle.node_arena.specs.declared.first_children.FirstChildren.{FirstChildren
 abbrev pub AreFirst : List ℕ → List ℕ → Type 0
 AreFirst xs list = (rest : List ℕ) × (list ≡ xs ++ rest)
 
+-- some of the first siblings of k are known, and k is not one of them
+pub record IsBehind (lists : List (List ℕ)) (known : List ℕ) (k : ℕ) : Type 0 where
+  pub first : AreFirst known (siblings_in lists (parent_of lists k))
+  pub absent : contains known k ≡ false
+
+-- so many of the first siblings of k are known, to the last one given, and k is not one of them
+pub record IsBehindFirst (lists : List (List ℕ)) (count : ℕ) (last : Option ℕ) (k : ℕ) : Type 0 where
+  pub known : List ℕ
+  pub behind : IsBehind lists known k
+  pub counted : count ≡ length known
+  pub ends : last ≡ last_of known
+
 -- the links are those of a forest, and what is kept are first children
 pub record IsIndexed {T : Type 0} (cells : Cells T) (kept : FirstChildren) : Type 0 where
   pub linked : IsLinked cells
-  pub first : AreFirst kept.keys.items (children_of (lists_of cells.links) kept.parent)
+  pub first : AreFirst kept.keys (children_of (lists_of cells.links) kept.parent)

@@ -1,11 +1,12 @@
 //! The first children of one node, kept in order beside the links, so that their places are found without a walk.
-ghost use Rattle.std.specs.Prelude.{◌≡◌, ◌≢◌, ◌<◌, ◌≤◌, ℕ, List, [], ◌∷◌, ◌++◌, length, slice_get, false, None};
+ghost use Rattle.std.specs.Prelude.{◌≡◌, ◌≢◌, ◌<◌, ◌⊎◌, ℕ, List, [], ◌∷◌, ◌++◌, length, false};
 ghost use Rattle.std.specs.Option.{ForSome};
 ghost use Rattle.node_arena.specs.Cells.{lists_of, IsLinked};
 ghost use Rattle.node_arena.specs.Known.{AreFirst};
-ghost use Rattle.node_arena.specs.Nodes.{IsOnce, children_of, contains, siblings_in, insert_before, without};
+ghost use Rattle.node_arena.specs.Nodes.{children_of, contains, siblings_in, insert_before, without};
 
 use crate::Key;
+use crate::ordered_keys::OrderedKeys;
 use crate::store::{Link, Store};
 use std::alloc::Global;
 
@@ -16,69 +17,45 @@ const MOST_UNASKED: u32 = 16;
 #[derive(Drop)]
 pub(crate) struct FirstChildren {
     parent: Key,
-    keys: Vec<Key>,
-    latest: usize,
+    keys: OrderedKeys,
     unasked: u32,
 }
 
 impl FirstChildren {
     /// No children, which take no memory yet.
     pub(crate) fn new(alloc: Global) -> Self
-        ensures { result.keys.items ≡ [] }
+        ensures { result.keys ≡ [] }
     {
         FirstChildren {
             parent: Key { index: 0 },
-            keys: Vec::new(alloc),
-            latest: 0,
+            keys: OrderedKeys::new(alloc),
             unasked: 0,
         }
     }
 
-    /// The first children of a node that are kept, at most so many: none of another node than the one whose they are.
-    pub(crate) fn of(&self, parent: Option<Key>, limit: usize) -> &[Key]
-        ensures few { length result.now ≤ limit }
-        ensures first { (lists : List (List ℕ)) → AreFirst self.now.keys.items (children_of lists self.now.parent) →
-            AreFirst result.now (siblings_in lists parent) }
+    /// The first children of a node that are kept, where it is the node whose they are.
+    pub(crate) fn of(&self, parent: Option<Key>) -> Option<&OrderedKeys>
+        ensures { ForSome result (λ keys. (lists : List (List ℕ)) → AreFirst self.now.keys (children_of lists self.now.parent) →
+            AreFirst keys.now (siblings_in lists parent)) }
     {
-        let Some(parent) = parent else {
-            return &[];
-        };
+        let parent = parent?;
         if parent != self.parent {
-            return &[];
+            return None;
         }
-        &self.keys[..limit.min(self.keys.len())]
-    }
-
-    /// Where a key is among first children. It is looked for first where the latest one was asked for.
-    pub(crate) fn find(&self, known: &[Key], key: Key) -> Option<usize>
-        ensures found { ForSome result (λ i. slice_get known.now i ≡ Some key) }
-        ensures absent { result ≡ None → contains known.now key ≡ false }
-    {
-        if let Some(child) = known.get(self.latest) {
-            if *child == key {
-                return Some(self.latest);
-            }
-        }
-        for place in 0..known.len() {
-            if known[place] == key {
-                return Some(place);
-            }
-        }
-        None
+        Some(&self.keys)
     }
 
     /// Keeps the first children of a node from now on, and no longer those of another one. The place of one of them is
     /// being asked for.
-    pub(crate) fn turn_to(&mut self, parent: Key, place: usize)
+    pub(crate) fn turn_to(&mut self, parent: Key)
         ensures parent { self.new.parent ≡ parent }
-        ensures first { (lists : List (List ℕ)) → AreFirst self.old.keys.items (children_of lists self.old.parent) →
-            AreFirst self.new.keys.items (children_of lists parent) }
+        ensures first { (lists : List (List ℕ)) → AreFirst self.old.keys (children_of lists self.old.parent) →
+            AreFirst self.new.keys (children_of lists parent) }
     {
         if parent != self.parent {
             self.keys.clear();
             self.parent = parent;
         }
-        self.latest = place;
         self.unasked = 0;
     }
 
@@ -86,24 +63,25 @@ impl FirstChildren {
     fn next_child<T>(&self, store: &Store<T>) -> Option<Key>
         requires linked { IsLinked store.now }
         requires parent_is_cell { self.now.parent < length store.now.links }
-        requires first { AreFirst self.now.keys.items (children_of (lists_of store.now.links) self.now.parent) }
-        ensures { ForSome result (λ k. AreFirst (self.now.keys.items ++ k ∷ []) (children_of (lists_of store.now.links) self.now.parent)) }
+        requires first { AreFirst self.now.keys (children_of (lists_of store.now.links) self.now.parent) }
+        ensures first { ForSome result (λ k. AreFirst (self.now.keys ++ k ∷ []) (children_of (lists_of store.now.links) self.now.parent)) }
+        ensures other { ForSome result (λ k. contains self.now.keys k ≡ false) }
     {
         match self.keys.last() {
-            Some(last) => store.link(*last, Link::Next),
+            Some(last) => store.link(last, Link::Next),
             None => store.link(self.parent, Link::First),
         }
     }
 
-    /// Puts up to so many of the next children behind those that are kept, as far as memory allows.
+    /// Keeps the next children too, until so many are kept, as far as memory allows.
     pub(crate) fn extend<T>(&mut self, store: &Store<T>, count: usize)
         requires linked { IsLinked store.now }
         requires parent_is_cell { self.old.parent < length store.now.links }
-        requires first { AreFirst self.old.keys.items (children_of (lists_of store.now.links) self.old.parent) }
+        requires first { AreFirst self.old.keys (children_of (lists_of store.now.links) self.old.parent) }
         ensures parent { self.new.parent ≡ self.old.parent }
-        ensures first { AreFirst self.new.keys.items (children_of (lists_of store.now.links) self.old.parent) }
+        ensures first { AreFirst self.new.keys (children_of (lists_of store.now.links) self.old.parent) }
     {
-        for _ in 0..count {
+        for _ in self.keys.len()..count {
             let Some(child) = self.next_child(store) else {
                 return;
             };
@@ -116,11 +94,11 @@ impl FirstChildren {
     /// Tells that a child came into the list of a parent, just before the one given or last. Where memory is refused, what
     /// was kept is given up.
     pub(crate) fn on_link(&mut self, parent: Key, child: Key, before: Option<Key>)
-        requires once { IsOnce self.old.keys.items }
+        requires other { contains self.old.keys child ≡ false }
         ensures parent { self.new.parent ≡ self.old.parent }
-        ensures there { parent ≡ self.old.parent → (siblings : List ℕ) → AreFirst self.old.keys.items siblings →
-            AreFirst self.new.keys.items (insert_before siblings child before) }
-        ensures elsewhere { parent ≢ self.old.parent → self.new.keys.items ≡ self.old.keys.items }
+        ensures there { parent ≡ self.old.parent → (siblings : List ℕ) → AreFirst self.old.keys siblings →
+            AreFirst self.new.keys (insert_before siblings child before) }
+        ensures elsewhere { parent ≢ self.old.parent → self.new.keys ≡ self.old.keys }
     {
         if parent != self.parent {
             return;
@@ -129,37 +107,29 @@ impl FirstChildren {
             return;
         };
         self.tire();
-        let Some(place) = self.find(self.keys.as_slice(), next) else {
-            return;
-        };
-        if self.keys.insert(place, child).is_err() {
+        if self.keys.put_before(child, next).is_err() {
             self.keys.clear();
         }
     }
 
     /// Tells that a child left the list of a parent.
     pub(crate) fn on_unlink(&mut self, parent: Key, child: Key)
-        requires once { IsOnce self.old.keys.items }
         ensures parent { self.new.parent ≡ self.old.parent }
-        ensures there { parent ≡ self.old.parent → (siblings : List ℕ) → IsOnce siblings → AreFirst self.old.keys.items siblings →
-            AreFirst self.new.keys.items (without child siblings) }
-        ensures elsewhere { parent ≢ self.old.parent → self.new.keys.items ≡ self.old.keys.items }
+        ensures there { parent ≡ self.old.parent → (siblings : List ℕ) → AreFirst self.old.keys siblings →
+            AreFirst self.new.keys (without child siblings) }
+        ensures elsewhere { parent ≢ self.old.parent → self.new.keys ≡ self.old.keys }
     {
         if parent != self.parent {
             return;
         }
         self.tire();
-        if let Some(place) = self.find(self.keys.as_slice(), child) {
-            let _ = self.keys.remove(place);
-        }
+        self.keys.remove(child);
     }
 
     /// Counts a change, and gives up what is kept where too many have come since a place was asked for.
     fn tire(&mut self)
-        requires once { IsOnce self.old.keys.items }
-        ensures once { IsOnce self.new.keys.items }
         ensures parent { self.new.parent ≡ self.old.parent }
-        ensures first { (siblings : List ℕ) → AreFirst self.old.keys.items siblings → AreFirst self.new.keys.items siblings }
+        ensures kept { (self.new.keys ≡ self.old.keys) ⊎ (self.new.keys ≡ []) }
     {
         if self.unasked < MOST_UNASKED {
             self.unasked += 1;

@@ -1,11 +1,11 @@
 use Rattle.std.proofs.Common.{◌≡◌, ◌+◌, ◌<◌, length}
 use Rattle.node_arena.specs.Nodes.{place_of}
-use Rattle.node_arena.proofs.FirstKnown.{IsBehind}
+use Rattle.node_arena.specs.Known.{IsBehindFirst}
 use Rattle.node_arena.proofs.Arena.walk_back.Given as goal
 
 abbrev pub invariant-loop-index : goal.invariant-loop-index
 invariant-loop-index g l = record {
   node : l.at < length l.self.payloads;
-  behind : IsBehind l.self.children l.known l.at;
-  counted : l.index + place_of l.self.children l.at ≡ length l.known + place_of l.self.children l.fn.key;
+  behind : IsBehindFirst l.self.children l.known l.last l.at;
+  counted : l.index + place_of l.self.children l.at ≡ l.known + place_of l.self.children l.fn.key;
 }

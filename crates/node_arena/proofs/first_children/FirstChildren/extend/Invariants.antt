@@ -7,5 +7,5 @@ use Rattle.node_arena.proofs.first_children.FirstChildren.extend.Given as goal
 abbrev pub invariant-loop : goal.invariant-loop
 invariant-loop g l = record {
   parent : l.self.parent ≡ l.fn.self.parent;
-  first : AreFirst l.self.keys.items (children_of (lists_of l.store.links) l.fn.self.parent);
+  first : AreFirst l.self.keys (children_of (lists_of l.store.links) l.fn.self.parent);
 }
