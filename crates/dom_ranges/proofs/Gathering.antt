@@ -1,22 +1,19 @@
 -- Listed ends that change places while those at one node are brought together and put back in order.
-use Rattle.std.proofs.Common.{◌≡◌, ◌≢◌, ◌⊎◌, inl, inr, ℕ, ◌+◌, ◌-◌, ◌<◌, ◌≤◌, List, [], ◌∷◌, zero, suc, set, length, get_or, take, drop, ◌++◌, refl}
+use Rattle.std.proofs.Common.{◌≡◌, ◌≢◌, ◌⊎◌, inl, inr, ℕ, ◌+◌, ◌-◌, ◌<◌, ◌≤◌, List, [], ◌∷◌, suc, set, length, get_or, take, drop, ◌++◌}
 use Rattle.std.proofs.Common.{sym, ap, ◌∙◌, subst, arith}
 use Rattle.std.specs.List.{SwappedAt, RotatedLeft, remove}
 use Rattle.std.specs.List.Sorted.{IsPermutation}
-use Rattle.std.proofs.lemmas.List.Edits.{length-remove, get_or-remove_below, get_or-remove_above}
 use Rattle.std.proofs.lemmas.List.Sorted.{IsPermutation-remove, IsPermutation-trans, IsPermutation-sym}
 use borrow.Rule.Slice.PartMut.{put_mid, mid_of}
 use Rattle.std.specs.Prelude.{true}
 use Rattle.std.proofs.lemmas.Bool.{cases_eq, cases_lt, cases_order, le-leb, lt-ltb}
-use Rattle.std.proofs.lemmas.List.{append-nil, drop_at, take_all, get_or-take, get_or-drop, length-drop, length-append, length-set, get_or-set_same}
-use Rattle.std.proofs.lemmas.List.{get_or-set_other, take-set-le, drop-set-lt, get_or_append_left, get_or-append_right, length-take-le}
+use Rattle.std.proofs.lemmas.List.{append-nil, drop_at, take_all, get_or-take, get_or-drop, length-drop, length-set, get_or-set_same}
+use Rattle.std.proofs.lemmas.List.{take-set-le, drop-set-lt, get_or_append_left, get_or-append_right, length-take-le}
 use Rattle.dom_ranges.specs.declared.ends.RangeEnd.{RangeEnd}
 use Rattle.dom_ranges.specs.declared.ends.Span.{Span}
-use Rattle.dom_ranges.specs.Listed.{AreAt, IsFirm, IsSortedBeside, IsSortedByNode, IsSortedIn, IsTurned, HasChanged, is_in}
-
--- an equal node is as great
-le_same : (a b c e : ℕ) → a ≡ c → b ≡ e → c ≤ e → a ≤ b
-le_same a b c e p q l = omega (arith, p, q, l)
+use Rattle.dom_model.specs.Place.{Boundary}
+use Rattle.dom_ranges.specs.Listed.{AreAt, AtMostBut, IsFirm, IsOrdered, IsSortedBeside, IsTurned, HasChanged, is_in, point_of}
+use Rattle.dom_ranges.proofs.Orders.{points_same}
 
 module _ (es now : List RangeEnd) (low high node kept i : ℕ) (order : low ≤ kept) (behind : kept ≤ i) (inside : i < high)
     (within : high ≤ length es) (same : length now ≡ length es)
@@ -65,17 +62,18 @@ module _ (es now : List RangeEnd) (low high node kept i : ℕ) (order : low ≤ 
   pub IsSortedBeside-more : IsSortedBeside now low high node
   IsSortedBeside-more a b d le in_list firm_a firm_b = elim (stood a d firm_a) [
     | inl p ↦ elim (stood b d firm_b) [
-      | inl q ↦ le_same _ _ _ _ (node_at p.1) (node_at q.1) (omega arith)
-      | inr q ↦ le_same _ _ _ _ (node_at p.1) (node_at q.1) (sorted i b d (order_of p.0 q.0) (omega (arith, same)) (inr (inr (other d))) (firm_at b q.1 firm_b))
+      | inl q ↦ by p.1 q.1 (omega arith, λ _ _. omega arith)
+      | inr q ↦ by p.1 q.1 (sorted i b d (order_of p.0 q.0) (omega (arith, same)) (inr (inr (other d))) (firm_at b q.1 firm_b))
     ]
     | inr p ↦ elim (stood b d firm_b) [
-      | inl q ↦ le_same _ _ _ _ (node_at p.1) (node_at q.1) (sorted a i d (omega (arith, le, q.0)) (omega arith) (firm_at a p.1 firm_a) (inr (inr (other d))))
-      | inr q ↦ le_same _ _ _ _ (node_at p.1) (node_at q.1) (sorted a b d le (omega (arith, same)) (firm_at a p.1 firm_a) (firm_at b q.1 firm_b))
+      | inl q ↦ by p.1 q.1 (sorted a i d (omega (arith, le, q.0)) (omega arith) (firm_at a p.1 firm_a) (inr (inr (other d))))
+      | inr q ↦ by p.1 q.1 (sorted a b d le (omega (arith, same)) (firm_at a p.1 firm_a) (firm_at b q.1 firm_b))
     ]
   ]
     where
-      node_at : {x y : RangeEnd} → x ≡ y → x.node ≡ y.node
-      node_at e = ap (λ (x : RangeEnd). x.node) e
+      by : {x y : RangeEnd} → get_or now a d ≡ x → get_or now b d ≡ y → AtMostBut node (point_of x) (point_of y) →
+          AtMostBut node (point_of (get_or now a d)) (point_of (get_or now b d))
+      by e f h = points_same (AtMostBut node) _ _ _ _ e f h
 
       order_of : a ≡ kept → (b < kept) ⊎ (i < b) → i ≤ b
       order_of e f = elim f [ inl l ↦ absurd (omega (arith, e, l, le)) | inr l ↦ omega (arith, l) ]
@@ -83,45 +81,52 @@ module _ (es now : List RangeEnd) (low high node kept i : ℕ) (order : low ≤ 
       firm_at : (k : ℕ) → get_or now k d ≡ get_or es k d → IsFirm low high node k (get_or now k d) → IsFirm low high node k (get_or es k d)
       firm_at k e f = subst (IsFirm low high node k) e f
 
+-- a part of a list that was written
+module _ (es ys : List RangeEnd) (first behind : ℕ) (order : first ≤ behind) (within : behind ≤ length es)
+    (same : length ys ≡ length (mid_of first (behind - first) es)) where
+  pub length-mid : length (mid_of first (behind - first) es) ≡ behind - first
+  length-mid = length-take-le (behind - first) (drop first es) (omega (arith, length-drop first es))
+
+  front : length (take first es) ≡ first
+  front = length-take-le first es (omega arith)
+
+  pub mid-outside : (k : ℕ) (d : RangeEnd) → (k < first) ⊎ (behind ≤ k) → get_or (put_mid first (behind - first) es ys) k d ≡ get_or es k d
+  mid-outside k d (inl l) =
+      get_or_append_left (take first es) (ys ++ drop (behind - first) (drop first es)) d k (omega (arith, front, l)) ∙ get_or-take first es k d l
+  mid-outside k d (inr l) =
+      get_or-append_right (take first es) (ys ++ drop (behind - first) (drop first es)) first k d front (omega (arith, l))
+      ∙ (get_or-append_right ys (drop (behind - first) (drop first es)) (behind - first) (k - first) d (same ∙ length-mid) (omega (arith, l))
+      ∙ (get_or-drop (behind - first) (drop first es) (k - first - (behind - first)) d
+      ∙ (get_or-drop first es (behind - first + (k - first - (behind - first))) d ∙ ap (λ (t : ℕ). get_or es t d) (omega (arith, l)))))
+
+  pub mid-part : (k : ℕ) (d : RangeEnd) → first ≤ k → k < behind → get_or (put_mid first (behind - first) es ys) k d ≡ get_or ys (k - first) d
+  mid-part k d l m =
+      get_or-append_right (take first es) (ys ++ drop (behind - first) (drop first es)) first k d front l
+      ∙ get_or_append_left ys (drop (behind - first) (drop first es)) d (k - first) (omega (arith, same, length-mid, l, m))
+
+-- what the part held
+pub mid-was : (es : List RangeEnd) (first behind j i : ℕ) (d : RangeEnd) → first + j ≡ i → j < behind - first →
+    get_or (mid_of first (behind - first) es) j d ≡ get_or es i d
+mid-was es first behind j i d e l = get_or-take (behind - first) (drop first es) j d l ∙ (get_or-drop first es j d ∙ ap (λ (t : ℕ). get_or es t d) e)
+
 -- a part of a list that was rotated
 pub IsTurned-rotated : (es ys : List RangeEnd) (first middle behind : ℕ) → first ≤ middle → middle ≤ behind → behind ≤ length es →
     RotatedLeft (mid_of first (behind - first) es) ys (length (mid_of first (behind - first) es)) (middle - first)
     → length ys ≡ length (mid_of first (behind - first) es) → IsTurned es (put_mid first (behind - first) es ys) first middle behind
 IsTurned-rotated es ys first middle behind one two within rotated same =
     record {
-      outside = λ k d p. elim p [ inl l ↦ before k d l | inr l ↦ after k d l ];
-      second = λ k d l m. part k d l (omega (arith, m, one)) ∙
-          (rotated.0 (k - first) d (omega (arith, size, m, l)) ∙ was (k - first + (middle - first)) (k + middle - first) d (omega (arith, l))
-          (omega (arith, m, l)));
-      first_part = λ k d l m. part k d (omega (arith, m, two)) l ∙
+      outside = mid-outside es ys first behind (omega arith) within same;
+      second = λ k d l m. mid-part es ys first behind (omega arith) within same k d l (omega (arith, m, one)) ∙
+          (rotated.0 (k - first) d (omega (arith, size, m, l)) ∙
+          mid-was es first behind (k - first + (middle - first)) (k + middle - first) d (omega (arith, l)) (omega (arith, m, l)));
+      first_part = λ k d l m. mid-part es ys first behind (omega arith) within same k d (omega (arith, m, two)) l ∙
           (rotated.1 (k - first) d (omega (arith, size, m, two)) (omega (arith, size, l, m, two)) ∙
-          was (k - first + (middle - first) - length (mid_of first (behind - first) es)) (k + middle - behind) d (omega (arith, size, l, m))
-          (omega (arith, size, l, m)));
+          mid-was es first behind (k - first + (middle - first) - length (mid_of first (behind - first) es)) (k + middle - behind) d
+          (omega (arith, size, l, m)) (omega (arith, size, l, m)));
     }
   where
     size : length (mid_of first (behind - first) es) ≡ behind - first
-    size = length-take-le (behind - first) (drop first es) (omega (arith, length-drop first es))
-
-    front : length (take first es) ≡ first
-    front = length-take-le first es (omega arith)
-
-    before : (k : ℕ) (d : RangeEnd) → k < first → get_or (put_mid first (behind - first) es ys) k d ≡ get_or es k d
-    before k d l = get_or_append_left (take first es) (ys ++ drop (behind - first) (drop first es)) d k (omega (arith, front, l)) ∙ get_or-take first es k d l
-
-    after : (k : ℕ) (d : RangeEnd) → behind ≤ k → get_or (put_mid first (behind - first) es ys) k d ≡ get_or es k d
-    after k d l =
-        get_or-append_right (take first es) (ys ++ drop (behind - first) (drop first es)) first k d front (omega (arith, l))
-        ∙ (get_or-append_right ys (drop (behind - first) (drop first es)) (behind - first) (k - first) d (same ∙ size) (omega (arith, l))
-        ∙ (get_or-drop (behind - first) (drop first es) (k - first - (behind - first)) d
-        ∙ (get_or-drop first es (behind - first + (k - first - (behind - first))) d ∙ ap (λ (t : ℕ). get_or es t d) (omega (arith, l)))))
-
-    part : (k : ℕ) (d : RangeEnd) → first ≤ k → k < behind → get_or (put_mid first (behind - first) es ys) k d ≡ get_or ys (k - first) d
-    part k d l m =
-        get_or-append_right (take first es) (ys ++ drop (behind - first) (drop first es)) first k d front l
-        ∙ get_or_append_left ys (drop (behind - first) (drop first es)) d (k - first) (omega (arith, same, size, l, m))
-
-    was : (j i : ℕ) (d : RangeEnd) → first + j ≡ i → j < behind - first → get_or (mid_of first (behind - first) es) j d ≡ get_or es i d
-    was j i d e l = get_or-take (behind - first) (drop first es) j d l ∙ (get_or-drop first es j d ∙ ap (λ (t : ℕ). get_or es t d) e)
+    size = length-mid es ys first behind (omega arith) within same
 
 -- what stands between two places of a list, as it is turned
 module _ (es now : List RangeEnd) (first middle behind : ℕ) (one : first ≤ middle) (two : middle ≤ behind) (within : behind ≤ length es)
@@ -143,11 +148,12 @@ module _ (es now : List RangeEnd) (first middle behind : ℕ) (one : first ≤ m
   ]
 
   -- the list is sorted then, where it was but for these two parts
-  pub IsSortedByNode-turned :
-      ((i j : ℕ) (d : RangeEnd) → i ≤ j → j < length es → (first ≤ i → i < middle → middle ≤ j → j < behind → ⊥) → (get_or es i d).node ≤ (get_or es j d).node)
-      → ((i j : ℕ) (d : RangeEnd) → first ≤ i → i < middle → middle ≤ j → j < behind → (get_or es j d).node ≤ (get_or es i d).node)
-      → IsSortedByNode now
-  IsSortedByNode-turned keeps turns a b d le in_list = elim (stood_before a d) [
+  pub IsOrdered-turned : (R : Boundary ℕ → Boundary ℕ → Type 0)
+      → ((i j : ℕ) (d : RangeEnd) → i ≤ j → j < length es → (first ≤ i → i < middle → middle ≤ j → j < behind → ⊥) →
+      R (point_of (get_or es i d)) (point_of (get_or es j d)))
+      → ((i j : ℕ) (d : RangeEnd) → first ≤ i → i < middle → middle ≤ j → j < behind → R (point_of (get_or es j d)) (point_of (get_or es i d)))
+      → IsOrdered R now
+  IsOrdered-turned R keeps turns a b d le in_list = elim (stood_before a d) [
     | inl p ↦ elim (stood_before b d) [
       | inl q ↦ by a b p.1 q.1 (keeps a b d le (omega (arith, same)) (λ f g h i. out a p.0 f (omega (arith, g))))
       | inr q ↦ elim q [
@@ -183,9 +189,9 @@ module _ (es now : List RangeEnd) (first middle behind : ℕ) (one : first ≤ m
     ]
   ]
     where
-      by : (i j : ℕ) → get_or now a d ≡ get_or es i d → get_or now b d ≡ get_or es j d → (get_or es i d).node ≤ (get_or es j d).node →
-          (get_or now a d).node ≤ (get_or now b d).node
-      by i j e f l = le_same _ _ _ _ (ap (λ (x : RangeEnd). x.node) e) (ap (λ (x : RangeEnd). x.node) f) l
+      by : (i j : ℕ) → get_or now a d ≡ get_or es i d → get_or now b d ≡ get_or es j d → R (point_of (get_or es i d)) (point_of (get_or es j d)) →
+          R (point_of (get_or now a d)) (point_of (get_or now b d))
+      by i j e f l = points_same R _ _ _ _ e f l
 
       out : (k : ℕ) → (k < first) ⊎ (behind ≤ k) → first ≤ k → k < behind → ⊥
       out k p f g = elim p [ inl l ↦ omega (arith, l, f) | inr l ↦ omega (arith, l, g) ]
@@ -198,66 +204,6 @@ module _ (es now : List RangeEnd) (first middle behind : ℕ) (one : first ≤ m
 
       above : (k : ℕ) → (k < first) ⊎ (behind ≤ k) → first ≤ k → (j : ℕ) → j < behind → j ≤ k
       above k p l j m = elim p [ inl f ↦ absurd (omega (arith, f, l)) | inr f ↦ omega (arith, f, m) ]
-
--- the ends before and behind those at the node are sorted each
-pub IsSortedIn-front : (es : List RangeEnd) (first high node : ℕ) → first ≤ length es → IsSortedBeside es first high node →
-    IsSortedIn es (record { first = 0; behind = first })
-IsSortedIn-front es first high node within sorted i j d from le l = sorted i j d le (omega arith) (inl (omega arith)) (inl l)
-
-pub IsSortedIn-back : (es : List RangeEnd) (first high node n : ℕ) → n ≡ length es → IsSortedBeside es first high node →
-    IsSortedIn es (record { first = high; behind = n })
-IsSortedIn-back es first high node n e sorted i j d from le l = sorted i j d le (omega (arith, e)) (inr (inl from)) (inr (inl (omega arith)))
-
-module _ (es now : List RangeEnd) (first high node : ℕ) (order : first ≤ high) (within : high ≤ length es) (same : length now ≡ length es)
-    (gathered : AreAt es first high node) (sorted : IsSortedBeside es first high node) where
-  -- the ends at the node come before some that stand before them
-  pub IsSortedByNode-earlier : (before : ℕ) → before < first → ((k : ℕ) (d : RangeEnd) → k < before → (get_or es k d).node ≤ node) →
-      ((k : ℕ) (d : RangeEnd) → before ≤ k → k < first → node < (get_or es k d).node)
-      → IsTurned es now before first high → IsSortedByNode now
-  IsSortedByNode-earlier before some less more turned =
-      IsSortedByNode-turned es now before first high (omega arith) order within same turned
-      (λ i j d le l off. elim (cases_lt j first) [
-        | inl m ↦ sorted i j d le l (inl (omega (arith, m, le))) (inl m)
-        | inr m ↦ elim (cases_lt j high) [
-          | inl n ↦ elim (cases_lt i first) [
-            | inl p ↦ elim (cases_lt i before) [ inl q ↦ omega (arith, less i d q, gathered j d m n) | inr q ↦ absurd (off q p m n) ]
-            | inr p ↦ omega (arith, gathered i d p (omega (arith, le, n)), gathered j d m n)
-          ]
-          | inr n ↦ elim (cases_lt i first) [
-            | inl p ↦ sorted i j d le l (inl p) (inr (inl n))
-            | inr p ↦ elim (cases_lt i high) [
-              | inl q ↦ omega (arith, gathered i d p q, more before d (omega arith) some, sorted before j d (omega (arith, m, some)) l (inl some) (inr (inl n)))
-              | inr q ↦ sorted i j d le l (inr (inl q)) (inr (inl n))
-            ]
-          ]
-        ]
-      ])
-      (λ i j d f g h k. omega (arith, more i d f g, gathered j d h k))
-
-  -- the ends at the node come behind some that stand behind them
-  pub IsSortedByNode-later : (behind : ℕ) → high ≤ behind → behind ≤ length es →
-      ((k : ℕ) (d : RangeEnd) → k < first → (get_or es k d).node ≤ node) →
-      ((k : ℕ) (d : RangeEnd) → high ≤ k → k < behind → (get_or es k d).node ≤ node)
-      → ((k : ℕ) (d : RangeEnd) → behind ≤ k → k < length es → node < (get_or es k d).node) → IsTurned es now first high behind → IsSortedByNode now
-  IsSortedByNode-later behind from inside less next more turned =
-      IsSortedByNode-turned es now first high behind order from inside same turned
-      (λ i j d le l off. elim (cases_lt j first) [
-        | inl m ↦ sorted i j d le l (inl (omega (arith, m, le))) (inl m)
-        | inr m ↦ elim (cases_lt j high) [
-          | inl n ↦ elim (cases_lt i first) [
-            | inl p ↦ omega (arith, less i d p, gathered j d m n)
-            | inr p ↦ omega (arith, gathered i d p (omega (arith, le, n)), gathered j d m n)
-          ]
-          | inr n ↦ elim (cases_lt i first) [
-            | inl p ↦ sorted i j d le l (inl p) (inr (inl n))
-            | inr p ↦ elim (cases_lt i high) [
-              | inl q ↦ elim (cases_lt j behind) [ inl r ↦ absurd (off p q n r) | inr r ↦ omega (arith, gathered i d p q, more j d r l) ]
-              | inr q ↦ sorted i j d le l (inr (inl q)) (inr (inl n))
-            ]
-          ]
-        ]
-      ])
-      (λ i j d f g h k. omega (arith, gathered i d f g, next j d h k))
 
 -- a place between two is in the part
 pub is_in-between : (part : Span) (k : ℕ) → part.first ≤ k → k < part.behind → is_in part k ≡ true
@@ -278,65 +224,6 @@ others-more es now low node kept i swapped le other others k d from to e = elim 
   | inl f ↦ other d (sym (ap (λ (x : RangeEnd). x.node) (ap (λ (t : ℕ). get_or now t d) f ∙ swapped.0 d)) ∙ e)
   | inr off ↦ others k d from (omega (arith, off)) (sym (ap (λ (x : RangeEnd). x.node) (swapped.2 k d off (λ g. omega (arith, g, off)))) ∙ e)
 ]
-
--- one end at another node: the list is sorted but for it
-pub IsSortedBeside-set : (es : List RangeEnd) (i node : ℕ) (x : RangeEnd) → i < length es → x.node ≡ node → IsSortedByNode es →
-    IsSortedBeside (set es i x) i (i + 1) node
-IsSortedBeside-set es i node x within at sorted a b d le l p q =
-    le_same _ _ _ _ (ap (λ (y : RangeEnd). y.node) (get_or-set_other es i a x d (off a p)))
-    (ap (λ (y : RangeEnd). y.node) (get_or-set_other es i b x d (off b q))) (sorted a b d le (omega (arith, l, length-set es i x)))
-  where
-    off : (k : ℕ) → IsFirm i (i + 1) node k (get_or (set es i x) k d) → k ≢ i
-    off k f e = elim f [
-      | inl m ↦ omega (arith, m, e)
-      | inr g ↦ elim g [
-        | inl m ↦ omega (arith, m, e)
-        | inr h ↦ h
-            (ap (λ t. (get_or (set es i x) t d).node) e ∙ (ap (λ (y : RangeEnd). y.node) (get_or-set_same es i x d within) ∙ at))
-      ]
-    ]
-
--- two ends at a node behind a sorted list
-pub IsSortedBeside-pushed : (es : List RangeEnd) (node : ℕ) (x y : RangeEnd) → x.node ≡ node → y.node ≡ node → IsSortedByNode es →
-    IsSortedBeside (es ++ x ∷ y ∷ []) (length es) (length es + 2) node
-IsSortedBeside-pushed es node x y at_x at_y sorted a b d le l p q =
-    le_same _ _ _ _ (ap (λ (z : RangeEnd). z.node) (get_or_append_left es (x ∷ y ∷ []) d a (low a (omega (arith, le, l, length-append es (x ∷ y ∷ []))) p)))
-    (ap (λ (z : RangeEnd). z.node) (get_or_append_left es (x ∷ y ∷ []) d b (low b (omega (arith, l, length-append es (x ∷ y ∷ []))) q)))
-    (sorted a b d le (low b (omega (arith, l, length-append es (x ∷ y ∷ []))) q))
-  where
-    new : (j : ℕ) → j < 2 → (get_or (x ∷ y ∷ []) j d).node ≡ node
-    new zero m = at_x
-    new (suc zero) m = at_y
-    new (suc (suc j)) m = absurd (omega (arith, m))
-
-    low : (k : ℕ) → k < length es + 2 → IsFirm (length es) (length es + 2) node k (get_or (es ++ x ∷ y ∷ []) k d) → k < length es
-    low k m f = elim f [
-      | inl n ↦ n
-      | inr g ↦ elim g [
-        | inl n ↦ absurd (omega (arith, m, n))
-        | inr h ↦ elim (cases_lt k (length es)) [
-          | inl n ↦ n
-          | inr n ↦ absurd (h (ap (λ (z : RangeEnd). z.node) (get_or-append_right es (x ∷ y ∷ []) (length es) k d refl n) ∙
-              new (k - length es) (omega (arith, m, n))))
-        ]
-      ]
-    ]
-
--- a sorted list without one end
-pub IsSortedByNode-removed : (es : List RangeEnd) (i : ℕ) → i < length es → IsSortedByNode es → IsSortedByNode (remove es i)
-IsSortedByNode-removed es i within sorted a b d le l =
-    let size = length-remove es i within in
-    elim (cases_lt b i) [
-      | inl m ↦ le_same _ _ _ _ (ap (λ (x : RangeEnd). x.node) (get_or-remove_below es i d a (omega (arith, m, le)) within))
-          (ap (λ (x : RangeEnd). x.node) (get_or-remove_below es i d b m within)) (sorted a b d le (omega (arith, m, within)))
-      | inr m ↦ elim (cases_lt a i) [
-        | inl n ↦ le_same _ _ _ _ (ap (λ (x : RangeEnd). x.node) (get_or-remove_below es i d a n within))
-            (ap (λ (x : RangeEnd). x.node) (get_or-remove_above es i d b m within)) (sorted a (b + 1) d (omega (arith, le)) (omega (arith, l, size)))
-        | inr n ↦ le_same _ _ _ _ (ap (λ (x : RangeEnd). x.node) (get_or-remove_above es i d a n within))
-            (ap (λ (x : RangeEnd). x.node) (get_or-remove_above es i d b m within))
-            (sorted (a + 1) (b + 1) d (omega (arith, le)) (omega (arith, l, size)))
-      ]
-    ]
 
 -- an end that was set and then taken out
 pub remove-set : (es : List RangeEnd) (i : ℕ) (x : RangeEnd) → remove (set es i x) i ≡ remove es i

@@ -14,7 +14,7 @@ use Rattle.dom_ranges.specs.declared.table.Points.{Points}
 use Rattle.dom_ranges.specs.declared.ends.RangeEnd.{RangeEnd}
 use Rattle.dom_ranges.specs.Tables.{RangeLists, RangeList, EachRange, BothEnds, ranges_of, range_from, ends_by}
 use Rattle.dom_ranges.specs.RangeSlots.{HaveNumbers, range_kept, slots_of}
-use Rattle.dom_ranges.specs.Listed.{IsListed, IsSortedByNode, point_at, end_of, end_in, node_of}
+use Rattle.dom_ranges.specs.Listed.{IsListed, IsSortedByPoint, point_of, end_of, end_in}
 use Rattle.dom_ranges.specs.Rules.{IsUpTo, IsNear, after_leaving, after_closing}
 use Rattle.dom_ranges.proofs.Lists.{cons_same}
 use Rattle.dom_ranges.proofs.Listing.{listed-once}
@@ -73,17 +73,14 @@ moves-twice f g h live mid after first second both slot =
 
 -- by the list of ends
 pub each-listed : (P : Boundary ℕ → Type 0) (live : Slab Points) (es : List RangeEnd) → IsListed live es
-    → ((k : ℕ) (d : RangeEnd) (b : Boundary ℕ) → k < length es → point_at live (get_or es k d).slot (get_or es k d).is_end ≡ Some b →
-    b.node ≡ (get_or es k d).node → P b) → OfEach P live
+    → ((k : ℕ) (d : RangeEnd) → k < length es → P (point_of (get_or es k d))) → OfEach P live
 each-listed P live es listed holds slot p there = (one false, one true)
   where
     one : (e : Bool) → P (end_of e p)
     one e =
         let w = listed-once live es listed slot e p there in
-        let d = end_in 0 false 0 in
-        holds w.place d (end_of e p) w.within
-        (subst (λ (x : RangeEnd). point_at live x.slot x.is_end ≡ Some (end_of e p)) (sym (w.there d)) (ap (option_map (end_of e)) there))
-        (sym (ap node_of (w.there d)))
+        let d = end_in 0 false (at 0 0) in
+        subst P (ap (λ (x : RangeEnd). point_of x) (w.there d)) (holds w.place d w.within)
 
 module _ (P : Boundary ℕ → Type 0) (live : Slab Points) (n : Numbers) (v : RangeLists) (shows : Shows live n v) where
   -- of the ranges that are held, where it holds of those that are shown
@@ -105,6 +102,12 @@ module _ (P : Boundary ℕ → Type 0) (live : Slab Points) (n : Numbers) (v : R
       by None f = cc
       by (Some None) f = cc
       by (Some (Some slot)) f = held slot (get live slot) refl f
+
+  -- and of the list of ends
+  pub each-seen : (es seen : List RangeEnd) → IsListed live es → seen ≡ es → ((k : ℕ) (d : RangeEnd) → k < length seen → P (point_of (get_or seen k d))) →
+      (o : Owner) → EachRange (BothEnds P) (ranges_of v o)
+  each-seen es seen listed same holds = each-shown (each-listed P live es listed
+      (subst (λ (xs : List RangeEnd). (k : ℕ) (d : RangeEnd) → k < length xs → P (point_of (get_or xs k d))) same holds))
 
 -- ---- rules that move no end up to an offset
 
@@ -161,11 +164,7 @@ join-near first size next parent index near b (inr h) =
 -- ---- a removal in two steps
 
 module _ (inside : ℕ → Bool) (parent index : ℕ) where
-  -- an end that is not inside stays at first
-  pub leaving-none : (b : Boundary ℕ) → inside b.node ≡ false → after_leaving inside parent index b ≡ b
-  leaving-none b e = ap (λ (t : Bool). cond t (at parent index) b) e
-
-  -- and the second step is all there is
+  -- of an end that is not inside the second step is all there is
   pub removal-outside : (b : Boundary ℕ) → inside b.node ≡ false → after_removal eqb inside parent index b ≡ after_closing parent index b
   removal-outside b e = ap (λ (t : Bool). cond t (at parent index) (after_closing parent index b)) e
 
@@ -181,10 +180,10 @@ module _ (inside : ℕ → Bool) (parent index : ℕ) where
 
 -- what a table keeps
 pub kept-moved : (rule : Boundary ℕ → Boundary ℕ) (live after : Slab Points) (n : Numbers) (es now : List RangeEnd) → Moves rule live after →
-    HaveNumbers live n → IsListed after now → IsSortedByNode now → es ≡ now
-    → HaveNumbers after n × IsListed after es × IsSortedByNode es
+    HaveNumbers live n → IsListed after now → IsSortedByPoint now → es ≡ now
+    → HaveNumbers after n × IsListed after es × IsSortedByPoint es
 kept-moved rule live after n es now moved held listed sorted same = (
   HaveNumbers-same live after n n (HoldSame-moved (map_ends rule) live after moved) (λ o. refl) held,
   subst (IsListed after) (sym same) listed,
-  subst IsSortedByNode (sym same) sorted,
+  subst IsSortedByPoint (sym same) sorted,
 )

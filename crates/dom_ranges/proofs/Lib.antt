@@ -8,7 +8,9 @@ pub mod Climbing
 pub mod Naming
 pub mod EndsAfterCalls
 pub mod Vacant
+mod Orders
 mod Gathering
+mod Placing
 mod Listing
 mod Parts
 mod Moved

@@ -15,7 +15,7 @@ use Rattle.slab.specs.Slab.{Slab, get, Updates}
 use Rattle.dom_model.specs.Place.{Boundary}
 use Rattle.dom_ranges.specs.declared.table.Points.{Points}
 use Rattle.dom_ranges.specs.declared.ends.RangeEnd.{RangeEnd}
-use Rattle.dom_ranges.specs.Listed.{is_end_of, times, point_at, end_of, Stands, IsListed, IsListedOnce, HasChanged, end_in, with_end_at}
+use Rattle.dom_ranges.specs.Listed.{is_end_of, times, point_at, point_of, end_of, Stands, IsListed, IsListedOnce, HasChanged, end_in, with_end_at}
 
 -- one for true
 abbrev bit : Bool → ℕ
@@ -87,7 +87,7 @@ module _ (live after : Slab Points) (es now xs ys : List RangeEnd) (listed : IsL
       let once = was_times e.slot e.is_end in
       let here = listed-counts changed.rest k d l in
       elim (others e.slot e.is_end (omega (arith, once, here, most (is_some (get live e.slot))))) [
-        | inl f ↦ ap (option_map (λ (b : Boundary ℕ). b.node)) f ∙ stood
+        | inl f ↦ f ∙ stood
         | inr f ↦ absurd (omega (arith, once, here, ap (λ (t : Option Points). bit (is_some t)) f))
       ]
     where
@@ -112,18 +112,6 @@ module _ (live after : Slab Points) (es now xs ys : List RangeEnd) (listed : IsL
               (rest_stands (k - length ys) d (omega (arith, l, m, length-append ys changed.rest)))
         ]);
       }
-
--- an end that is counted once at most stands at one place
-pub counted-once : (slot : ℕ) (is_end : Bool) (es : List RangeEnd) → times slot is_end es ≤ 1 → (j k : ℕ) (d : RangeEnd) → j < length es → k < length es
-    → is_end_of slot is_end (get_or es j d) ≡ true → is_end_of slot is_end (get_or es k d) ≡ true → j ≡ k
-counted-once slot is_end [] l j k d m n e f = absurd (omega (arith, m))
-counted-once slot is_end (x ∷ es) l zero zero d m n e f = refl
-counted-once slot is_end (x ∷ es) l zero (suc k) d m n e f =
-    absurd (omega (arith, l, sum_by-cons (one_if slot is_end) x es, get_or-le-sum_by (one_if slot is_end) es k d (omega (arith, n)), ap bit e, ap bit f))
-counted-once slot is_end (x ∷ es) l (suc j) zero d m n e f =
-    absurd (omega (arith, l, sum_by-cons (one_if slot is_end) x es, get_or-le-sum_by (one_if slot is_end) es j d (omega (arith, m)), ap bit e, ap bit f))
-counted-once slot is_end (x ∷ es) l (suc j) (suc k) d m n e f =
-    ap suc (counted-once slot is_end es (omega (arith, l, sum_by-cons (one_if slot is_end) x es)) j k d (omega (arith, m)) (omega (arith, n)) e f)
 
 -- the test reads the slot and which end it is
 pub is_end_of-alike : (slot : ℕ) (is_end : Bool) (x y : RangeEnd) → x.slot ≡ y.slot → x.is_end ≡ y.is_end → is_end_of slot is_end x ≡ is_end_of slot is_end y
@@ -152,23 +140,13 @@ IsListed-permuted live es now listed moved =
       standing = All-permutation (Stands live) es now moved listed.standing;
     }
 
--- a listed end's place is its own
-pub places-once : (live : Slab Points) (es : List RangeEnd) → IsListed live es → (slot : ℕ) (is_end : Bool) (j k : ℕ) (d : RangeEnd) →
-    j < length es → k < length es
-    → is_end_of slot is_end (get_or es j d) ≡ true → is_end_of slot is_end (get_or es k d) ≡ true → j ≡ k
-places-once live es listed slot is_end = counted-once slot is_end es (by (is_some (get live slot)) (listed.counted slot is_end))
-  where
-    by : (b : Bool) → times slot is_end es ≡ cond b 1 0 → times slot is_end es ≤ 1
-    by true e = omega (arith, e)
-    by false e = omega (arith, e)
-
 -- an end is its parts
-pub end-same : (x y : RangeEnd) → x.slot ≡ y.slot → x.is_end ≡ y.is_end → x.node ≡ y.node → x ≡ y
-end-same x y e f g = ap (λ n. end_in x.slot x.is_end n) g ∙ (ap (λ b. end_in x.slot b y.node) f ∙ ap (λ s. end_in s y.is_end y.node) e)
+pub end-same : (x y : RangeEnd) → x.slot ≡ y.slot → x.is_end ≡ y.is_end → point_of x ≡ point_of y → x ≡ y
+end-same x y e f g = ap (λ b. end_in x.slot x.is_end b) g ∙ (ap (λ b. end_in x.slot b (point_of y)) f ∙ ap (λ s. end_in s y.is_end (point_of y)) e)
 
 -- the end of a range that is there is listed once
 pub listed-once : (live : Slab Points) (es : List RangeEnd) → IsListed live es → (slot : ℕ) (is_end : Bool) (p : Points) →
-    get live slot ≡ Some p → IsListedOnce es (end_in slot is_end (end_of is_end p).node)
+    get live slot ≡ Some p → IsListedOnce es (end_in slot is_end (end_of is_end p))
 listed-once live es listed slot is_end p there =
     let w = counts-listed slot is_end es (omega (arith, listed.counted slot is_end, ap bit (ap is_some there))) in
     record {
@@ -179,12 +157,11 @@ listed-once live es listed slot is_end p there =
     }
   where
     it : (k : ℕ) (d : RangeEnd) → k < length es → (get_or es k d).slot ≡ slot → (get_or es k d).is_end ≡ is_end →
-        get_or es k d ≡ end_in slot is_end (end_of is_end p).node
+        get_or es k d ≡ end_in slot is_end (end_of is_end p)
     it k d l e f =
-        end-same (get_or es k d) (end_in slot is_end (end_of is_end p).node) e f
-        (same_Some _ _ (sym (listed.standing k d l) ∙ (ap (λ s. option_map (λ (b : Boundary ℕ). b.node) (point_at live s (get_or es k d).is_end)) e
-        ∙ (ap (λ t. option_map (λ (b : Boundary ℕ). b.node) (point_at live slot t)) f ∙
-        ap (λ (m : Option Points). option_map (λ (b : Boundary ℕ). b.node) (option_map (end_of is_end) m)) there))))
+        end-same (get_or es k d) (end_in slot is_end (end_of is_end p)) e f
+        (same_Some _ _ (sym (listed.standing k d l) ∙ (ap (λ s. point_at live s (get_or es k d).is_end) e
+        ∙ (ap (λ t. point_at live slot t) f ∙ ap (option_map (end_of is_end)) there))))
 
 -- a range of which first the start and then the end was put
 pub both-put : (m : Option Points) (p : Points) → IsSome m →
@@ -193,15 +170,15 @@ both-put None p i = absurd (true≢false (sym i))
 both-put (Some q) p i = refl
 
 -- one end of a range was put
-pub IsListed-put : (live after : Slab Points) (es now : List RangeEnd) (slot : ℕ) (is_end : Bool) (node offset : ℕ) (p : Points) →
-    IsListed live es → get live slot ≡ Some p → get after slot ≡ option_map (with_end_at is_end node offset) (get live slot)
+pub IsListed-put : (live after : Slab Points) (es now : List RangeEnd) (slot : ℕ) (is_end : Bool) (b : Boundary ℕ) (p : Points) →
+    IsListed live es → get live slot ≡ Some p → get after slot ≡ option_map (with_end_at is_end b.node b.offset) (get live slot)
     → ((s : ℕ) → s ≢ slot → get after s ≡ get live s) →
-    HasChanged es now (end_in slot is_end (end_of is_end p).node ∷ []) (end_in slot is_end node ∷ []) → IsListed after now
-IsListed-put live after es now slot is_end node offset p listed there put others changed =
-    IsListed-changed live after es now (end_in slot is_end (end_of is_end p).node ∷ []) (end_in slot is_end node ∷ []) listed changed counts points stands
+    HasChanged es now (end_in slot is_end (end_of is_end p) ∷ []) (end_in slot is_end b ∷ []) → IsListed after now
+IsListed-put live after es now slot is_end b p listed there put others changed =
+    IsListed-changed live after es now (end_in slot is_end (end_of is_end p) ∷ []) (end_in slot is_end b ∷ []) listed changed counts points stands
   where
-    here : get after slot ≡ Some (with_end_at is_end node offset p)
-    here = put ∙ ap (option_map (with_end_at is_end node offset)) there
+    here : get after slot ≡ Some (with_end_at is_end b.node b.offset p)
+    here = put ∙ ap (option_map (with_end_at is_end b.node b.offset)) there
 
     held : (s : ℕ) → is_some (get after s) ≡ is_some (get live s)
     held s = elim (cases_eq s slot) [
@@ -210,54 +187,54 @@ IsListed-put live after es now slot is_end node offset p listed there put others
       | inr off ↦ ap is_some (others s off)
     ]
 
-    counts : (s : ℕ) (b : Bool) → times s b (end_in slot is_end node ∷ []) + cond (is_some (get live s)) 1 0 ≡ times s b
-        (end_in slot is_end (end_of is_end p).node ∷ []) + cond (is_some (get after s)) 1 0
-    counts s b =
+    counts : (s : ℕ) (e : Bool) → times s e (end_in slot is_end b ∷ []) + cond (is_some (get live s)) 1 0 ≡ times s e
+        (end_in slot is_end (end_of is_end p) ∷ []) + cond (is_some (get after s)) 1 0
+    counts s e =
         ap {B = ℕ} (λ t. 0 + cond t 1 0 + cond (is_some (get live s)) 1 0)
-        (is_end_of-alike s b (end_in slot is_end node) (end_in slot is_end (end_of is_end p).node) refl refl)
-        ∙ ap {B = ℕ} (λ t. times s b (end_in slot is_end (end_of is_end p).node ∷ []) + cond t 1 0) (sym (held s))
+        (is_end_of-alike s e (end_in slot is_end b) (end_in slot is_end (end_of is_end p)) refl refl)
+        ∙ ap {B = ℕ} (λ t. times s e (end_in slot is_end (end_of is_end p) ∷ []) + cond t 1 0) (sym (held s))
 
-    same_ends : (b c : Bool) (q : Points) → b ≢ c → end_of b (with_end_at c node offset q) ≡ end_of b q
+    same_ends : (e c : Bool) (q : Points) → e ≢ c → end_of e (with_end_at c b.node b.offset q) ≡ end_of e q
     same_ends true true q off = absurd (off refl)
     same_ends true false q off = refl
     same_ends false true q off = refl
     same_ends false false q off = absurd (off refl)
 
-    points : (s : ℕ) (b : Bool) → times s b (end_in slot is_end (end_of is_end p).node ∷ []) ≡ 0 → (point_at after s b ≡ point_at live s b) ⊎
+    points : (s : ℕ) (e : Bool) → times s e (end_in slot is_end (end_of is_end p) ∷ []) ≡ 0 → (point_at after s e ≡ point_at live s e) ⊎
         (get live s ≡ None)
-    points s b none = elim (cases_eq s slot) [
-      | inr off ↦ inl (ap (option_map (end_of b)) (others s off))
-      | inl e ↦
-          let apart : (b ≡ is_end → ⊥) =
-          λ f. one_not_none (is_end_of s b (end_in slot is_end (end_of is_end p).node)) none
-          (ap (λ t. is_end_of t b (end_in slot is_end (end_of is_end p).node)) e ∙
-          (ap (λ (t : Bool). is_end_of slot t (end_in slot is_end (end_of is_end p).node)) f ∙
-          is_end_of-same (end_in slot is_end (end_of is_end p).node))) in
-          inl (ap (λ t. point_at after t b) e ∙
-          (ap (option_map (end_of b)) here ∙
-          (ap Some (same_ends b is_end p apart) ∙ (sym (ap (option_map (end_of b)) there) ∙ ap (λ t. point_at live t b) (sym e)))))
+    points s e none = elim (cases_eq s slot) [
+      | inr off ↦ inl (ap (option_map (end_of e)) (others s off))
+      | inl same ↦
+          let apart : (e ≡ is_end → ⊥) =
+          λ f. one_not_none (is_end_of s e (end_in slot is_end (end_of is_end p))) none
+          (ap (λ t. is_end_of t e (end_in slot is_end (end_of is_end p))) same ∙
+          (ap (λ (t : Bool). is_end_of slot t (end_in slot is_end (end_of is_end p))) f ∙
+          is_end_of-same (end_in slot is_end (end_of is_end p)))) in
+          inl (ap (λ t. point_at after t e) same ∙
+          (ap (option_map (end_of e)) here ∙
+          (ap Some (same_ends e is_end p apart) ∙ (sym (ap (option_map (end_of e)) there) ∙ ap (λ t. point_at live t e) (sym same)))))
     ]
       where
         one_not_none : (t : Bool) → 0 + cond t 1 0 ≡ 0 → t ≡ true → ⊥
         one_not_none true n f = omega (arith, n)
         one_not_none false n f = true≢false (sym f)
 
-    put_node : (c : Bool) (q : Points) → (end_of c (with_end_at c node offset q)).node ≡ node
-    put_node true q = refl
-    put_node false q = refl
+    put_point : (c : Bool) (q : Points) → end_of c (with_end_at c b.node b.offset q) ≡ b
+    put_point true q = refl
+    put_point false q = refl
 
-    stands : All (Stands after) (end_in slot is_end node ∷ [])
-    stands zero d l = ap (λ (m : Option Points). option_map (λ (b : Boundary ℕ). b.node) (option_map (end_of is_end) m)) here ∙ ap Some (put_node is_end p)
+    stands : All (Stands after) (end_in slot is_end b ∷ [])
+    stands zero d l = ap (option_map (end_of is_end)) here ∙ ap Some (put_point is_end p)
     stands (suc k) d l = absurd (omega (arith, l))
 
 -- both ends of a slot's range are listed once
-pair-times : (slot n m s : ℕ) (t : Bool) → times s t (end_in slot false n ∷ end_in slot true m ∷ []) ≡ cond (eqb slot s) 1 0
-pair-times slot n m s true = by (eqb slot s)
+pair-times : (slot s : ℕ) (n m : Boundary ℕ) (t : Bool) → times s t (end_in slot false n ∷ end_in slot true m ∷ []) ≡ cond (eqb slot s) 1 0
+pair-times slot s n m true = by (eqb slot s)
   where
     by : (e : Bool) → 0 + cond (e && false) 1 0 + cond (e && true) 1 0 ≡ cond e 1 0
     by true = refl
     by false = refl
-pair-times slot n m s false = by (eqb slot s)
+pair-times slot s n m false = by (eqb slot s)
   where
     by : (e : Bool) → 0 + cond (e && not false) 1 0 + cond (e && not true) 1 0 ≡ cond e 1 0
     by true = refl
@@ -268,7 +245,7 @@ other-slot : (slot s : ℕ) → s ≢ slot → eqb slot s ≡ false
 other-slot slot s off = elim (cases_Bool (eqb slot s)) [ inl e ↦ absurd (off (sym (eqb-true slot s e))) | inr e ↦ e ]
 
 -- the list after a range was dropped
-pub IsListed-dropped : (live after : Slab Points) (es mid now : List RangeEnd) (slot n m : ℕ) → IsListed live es →
+pub IsListed-dropped : (live after : Slab Points) (es mid now : List RangeEnd) (slot : ℕ) (n m : Boundary ℕ) → IsListed live es →
     is_some (get live slot) ≡ true → Updates live after slot None
     → IsPermutation es (end_in slot false n ∷ mid) → IsPermutation mid (end_in slot true m ∷ now) → IsListed after now
 IsListed-dropped live after es mid now slot n m listed there u one two =
@@ -281,22 +258,22 @@ IsListed-dropped live after es mid now slot n m listed there u one two =
     (λ s b. elim (cases_eq s slot) [
       | inl e ↦ omega (
         arith,
-        pair-times slot n m s b,
+        pair-times slot s n m b,
         ap bit (eq-eqb slot s (sym e)),
         ap bit (ap (λ t. is_some (get live t)) e ∙ there),
         ap bit
             (ap (λ t. is_some (get after t)) e ∙ ap is_some u.changed),
       )
-      | inr off ↦ omega (arith, pair-times slot n m s b, ap bit (other-slot slot s off), ap bit (ap is_some (u.others s off)))
+      | inr off ↦ omega (arith, pair-times slot s n m b, ap bit (other-slot slot s off), ap bit (ap is_some (u.others s off)))
     ])
     (λ s b none. elim (cases_eq s slot) [
-      | inl e ↦ absurd (omega (arith, none, pair-times slot n m s b, ap bit (eq-eqb slot s (sym e))))
+      | inl e ↦ absurd (omega (arith, none, pair-times slot s n m b, ap bit (eq-eqb slot s (sym e))))
       | inr off ↦ inl (ap (option_map (end_of b)) (u.others s off))
     ])
     (λ k d l. absurd (omega (arith, l)))
 
 -- the other end of the range is still listed
-pub listed-once-rest : (live : Slab Points) (es mid : List RangeEnd) (slot n m : ℕ) → IsListed live es → is_some (get live slot) ≡ true →
+pub listed-once-rest : (live : Slab Points) (es mid : List RangeEnd) (slot : ℕ) (n m : Boundary ℕ) → IsListed live es → is_some (get live slot) ≡ true →
     IsPermutation es (end_in slot false n ∷ mid) → IsListedOnce es (end_in slot true m) → IsListedOnce mid (end_in slot true m)
 listed-once-rest live es mid slot n m listed there one once =
     let w = counts-listed slot true mid (omega (
@@ -324,26 +301,27 @@ listed-once-rest live es mid slot n m listed there one once =
         once.alone (suc k) d (omega (arith, l))
 
 -- the list after a range came
-pub IsListed-added : (live after : Slab Points) (es now : List RangeEnd) (slot node : ℕ) (p : Points) → IsListed live es → get live slot ≡ None →
-    Updates live after slot (Some p) → p.start.0 ≡ node → p.end.0 ≡ node
-    → IsPermutation (es ++ end_in slot false node ∷ end_in slot true node ∷ []) now → IsListed after now
-IsListed-added live after es now slot node p listed free u start end moved =
-    IsListed-changed live after es now [] (end_in slot false node ∷ end_in slot true node ∷ []) listed
+pub IsListed-added : (live after : Slab Points) (es now : List RangeEnd) (slot : ℕ) (at_first : Boundary ℕ) (p : Points) → IsListed live es →
+    get live slot ≡ None →
+    Updates live after slot (Some p) → end_of false p ≡ at_first → end_of true p ≡ at_first
+    → IsPermutation (es ++ end_in slot false at_first ∷ end_in slot true at_first ∷ []) now → IsListed after now
+IsListed-added live after es now slot at_first p listed free u start end moved =
+    IsListed-changed live after es now [] (end_in slot false at_first ∷ end_in slot true at_first ∷ []) listed
     (record {
       rest = es;
       before = IsPermutation-refl es;
-      after = IsPermutation-trans _ _ _ (IsPermutation-append_comm (end_in slot false node ∷ end_in slot true node ∷ []) es) moved;
+      after = IsPermutation-trans _ _ _ (IsPermutation-append_comm (end_in slot false at_first ∷ end_in slot true at_first ∷ []) es) moved;
     })
     (λ s b. elim (cases_eq s slot) [
       | inl e ↦ omega (
         arith,
-        pair-times slot node node s b,
+        pair-times slot s at_first at_first b,
         ap bit (eq-eqb slot s (sym e)),
         ap bit
             (ap (λ t. is_some (get live t)) e ∙ ap is_some free),
         ap bit (ap (λ t. is_some (get after t)) e ∙ ap is_some u.changed),
       )
-      | inr off ↦ omega (arith, pair-times slot node node s b, ap bit (other-slot slot s off), ap bit (ap is_some (u.others s off)))
+      | inr off ↦ omega (arith, pair-times slot s at_first at_first b, ap bit (other-slot slot s off), ap bit (ap is_some (u.others s off)))
     ])
     (λ s b none. elim (cases_eq s slot) [
       | inl e ↦ inr (ap (get live) e ∙ free)
@@ -351,9 +329,9 @@ IsListed-added live after es now slot node p listed free u start end moved =
     ])
     stands
   where
-    stands : All (Stands after) (end_in slot false node ∷ end_in slot true node ∷ [])
-    stands zero d l = ap (λ (m : Option Points). option_map (λ (b : Boundary ℕ). b.node) (option_map (end_of false) m)) u.changed ∙ ap Some start
-    stands (suc zero) d l = ap (λ (m : Option Points). option_map (λ (b : Boundary ℕ). b.node) (option_map (end_of true) m)) u.changed ∙ ap Some end
+    stands : All (Stands after) (end_in slot false at_first ∷ end_in slot true at_first ∷ [])
+    stands zero d l = ap (option_map (end_of false)) u.changed ∙ ap Some start
+    stands (suc zero) d l = ap (option_map (end_of true)) u.changed ∙ ap Some end
     stands (suc (suc k)) d l = absurd (omega (arith, l))
 
 -- slots that hold the same
@@ -361,6 +339,5 @@ pub IsListed-same : (live after : Slab Points) (es : List RangeEnd) → ((s : �
 IsListed-same live after es same listed =
     record {
       counted = λ s b. listed.counted s b ∙ ap bit (ap is_some (sym (same s)));
-      standing = λ k d l. ap (λ (m : Option Points). option_map (λ (b : Boundary ℕ). b.node) (option_map (end_of (get_or es k d).is_end) m))
-          (same (get_or es k d).slot) ∙ listed.standing k d l;
+      standing = λ k d l. ap (option_map (end_of (get_or es k d).is_end)) (same (get_or es k d).slot) ∙ listed.standing k d l;
     }

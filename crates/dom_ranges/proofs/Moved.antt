@@ -1,22 +1,21 @@
 -- The ends of all ranges after two parts of their list were moved.
-use Rattle.std.proofs.Common.{◌≡◌, ◌⊎◌, inl, inr, ℕ, ◌<◌, ◌≤◌, Bool, true, false, cond, List, length, get_or, min, max, Option, Some, None, is_some}
-use Rattle.std.proofs.Common.{refl, sym, ap, ◌∙◌, subst, arith, true≢false}
-use Rattle.std.specs.Option.{option_map}
+use Rattle.std.proofs.Common.{◌≡◌, ◌⊎◌, inl, inr, ℕ, ◌<◌, ◌≤◌, Bool, true, false, not, cond, ◌&&◌, List, length, get_or, min, max, Option, Some, None, is_some}
+use Rattle.std.proofs.Common.{refl, sym, ap, ◌∙◌, subst, arith}
+use Rattle.std.specs.Option.{option_map, ForSome}
 use Rattle.std.proofs.lemmas.Bool.{cases_Bool, cases_lt}
 use Rattle.std.proofs.lemmas.Option.{same_Some}
-use Rattle.std.proofs.lemmas.List.{get_or_default}
 use Rattle.slab.specs.Slab.{Slab, get}
 use Rattle.dom_model.specs.Place.{Boundary}
 use Rattle.dom_model.specs.Ranges.{at, from_to, map_ends}
-use Rattle.dom_ranges.specs.Tables.{range_from}
+use Rattle.dom_ranges.specs.Rules.{KeepsOrder, KeepsOrderBut}
+use Rattle.dom_ranges.specs.Tables.{range_from, BothEnds}
 use Rattle.dom_ranges.specs.declared.table.Points.{Points}
 use Rattle.dom_ranges.specs.declared.ends.RangeEnd.{RangeEnd}
 use Rattle.dom_ranges.specs.declared.ends.Span.{Span}
-use Rattle.dom_ranges.specs.Listed.{is_end_of, point_at, end_of, end_in, IsListed, IsMovedPart, IsSortedBeside, IsSortedByNode, IsFirm, AreAllIn}
-use Rattle.dom_ranges.specs.Listed.{is_in, is_chosen}
-use Rattle.dom_ranges.proofs.Listing.{is_end_of-same, is_end_of-true, is_end_of-alike, counts-listed, places-once, times-same}
-use Rattle.dom_ranges.proofs.Parts.{chosen-true, outside-part, the_point}
-use Rattle.dom_ranges.proofs.Gathering.{is_in-between}
+use Rattle.dom_ranges.specs.Listed.{point_at, point_of, end_of, end_in, IsListed, IsMovedPart, IsSortedBeside, IsSortedByPoint, IsSortedBut, IsFirm}
+use Rattle.dom_ranges.specs.Listed.{AreAllIn, is_in, is_chosen}
+use Rattle.dom_ranges.proofs.Listing.{is_end_of-true, counts-listed, times-same}
+use Rattle.dom_ranges.proofs.Parts.{outside-part}
 
 -- ranges with the same ends
 pub both_same : (a b c d : Boundary ℕ) → a ≡ c → b ≡ d → from_to a b ≡ from_to c d
@@ -25,15 +24,6 @@ both_same a b c d e f = ap (λ x. from_to x b) e ∙ ap (from_to c) f
 -- no place
 abbrev pub nowhere : Span
 nowhere = record { first = 0; behind = 0 }
-
--- the list after a part was moved
-pub IsListed-moved : (rule : Boundary ℕ → Boundary ℕ) (target : ℕ) (start live : Slab Points) (es now : List RangeEnd) (P : ℕ → Bool) →
-    IsListed start es → IsMovedPart rule target start live es now P → IsListed live now
-IsListed-moved rule target start live es now P listed m =
-    record {
-      counted = λ s b. times-same s b es now m.same_length m.same_slot m.same_end ∙ (listed.counted s b ∙ ap {B = ℕ} (λ t. cond t 1 0) (sym (m.held s)));
-      standing = λ k d l. m.standing k d (omega (arith, l, m.same_length));
-    }
 
 -- ranges of which each end was moved
 ranges_by_ends : (rule : Boundary ℕ → Boundary ℕ) (a b : Option Points) → is_some b ≡ is_some a →
@@ -46,102 +36,115 @@ ranges_by_ends rule (Some p) (Some q) e h =
     ap Some (both_same (end_of false q) (end_of true q) (rule (end_of false p)) (rule (end_of true p)) (let f = h refl false in cc)
     (let f = h refl true in cc))
 
--- what holds of both ends of a range holds of each
-pub holds-point : (Q : Boundary ℕ → Type 0) (m : Option Points) (b : Bool) (x : Boundary ℕ) →
-    ((p : Points) → m ≡ Some p → Q (end_of false p) × Q (end_of true p)) → option_map (end_of b) m ≡ Some x → Q x
-holds-point Q None b x h e = cc
-holds-point Q (Some p) true x h e = subst Q (same_Some _ _ e) (h p refl).1
-holds-point Q (Some p) false x h e = subst Q (same_Some _ _ e) (h p refl).0
+-- what holds of both ends of a range that is held holds of each that is listed
+pub holds-listed : (Q : Boundary ℕ → Type 0) (live : Slab Points) (es : List RangeEnd) → IsListed live es →
+    ((slot : ℕ) → ForSome (get live slot) (λ p. BothEnds Q (range_from p)))
+    → (k : ℕ) (d : RangeEnd) → k < length es → Q (point_of (get_or es k d))
+holds-listed Q live es listed each k d l = by (get_or es k d).is_end (get live (get_or es k d).slot) (each (get_or es k d).slot) (listed.standing k d l)
+  where
+    by : (b : Bool) (m : Option Points) → ((p : Points) → m ≡ Some p → BothEnds Q (range_from p)) → option_map (end_of b) m ≡ Some (point_of (get_or es k d)) →
+        Q (point_of (get_or es k d))
+    by b None h e = cc
+    by true (Some p) h e = subst Q (same_Some _ _ e) (h p refl).1
+    by false (Some p) h e = subst Q (same_Some _ _ e) (h p refl).0
 
--- an end outside the first part stands where it stood
-pub stays-outside : (rule : Boundary ℕ → Boundary ℕ) (target : ℕ) (start mid : Slab Points) (es now : List RangeEnd) (one : Span) →
-    IsListed start es → IsMovedPart rule target start mid es now (is_chosen one nowhere)
-    → (k : ℕ) (d : RangeEnd) → k < length now → is_in one k ≡ false →
-    point_at mid (get_or now k d).slot (get_or now k d).is_end ≡ point_at start (get_or es k d).slot (get_or es k d).is_end
-stays-outside rule target start mid es now one listed first k d l out =
-    let e = get_or es k d in
-    let within : k < length es = omega (arith, l, first.same_length) in
-    ap (λ n. point_at mid n (get_or now k d).is_end) (first.same_slot k d) ∙ (ap (λ t. point_at mid e.slot t) (first.same_end k d)
-    ∙ first.kept e.slot e.is_end (λ j f m g h.
-    let w = chosen-true one nowhere j g in
-    let same : j ≡ k = places-once start es listed e.slot e.is_end j k f m within h
-    (subst (λ (x : RangeEnd). is_end_of e.slot e.is_end x ≡ true) (get_or_default es k d f within) (is_end_of-same e)) in
-    true≢false (sym (is_in-between one j w.0 w.1) ∙ (ap (is_in one) same ∙ out))))
+-- a list of which each end was moved by a rule
+pub record AreRuled (rule : Boundary ℕ → Boundary ℕ) (es now : List RangeEnd) : Type 0 where
+  pub same_length : length now ≡ length es
+  pub same_slot : (k : ℕ) (d : RangeEnd) → (get_or now k d).slot ≡ (get_or es k d).slot
+  pub same_end : (k : ℕ) (d : RangeEnd) → (get_or now k d).is_end ≡ (get_or es k d).is_end
+  pub moved : (k : ℕ) (d : RangeEnd) → k < length es → point_of (get_or now k d) ≡ rule (point_of (get_or es k d))
 
-module _ (rule : Boundary ℕ → Boundary ℕ) (target : ℕ) (start mid after : Slab Points) (es now last : List RangeEnd) (one two : Span)
-    (listed : IsListed start es)
-    (first : IsMovedPart rule target start mid es now (is_chosen one nowhere))
-    (second : IsMovedPart rule target mid after now last (is_chosen two one)) (all : AreAllIn rule es one two) where
-  -- the first part whole is chosen
+-- one for true, each
+bit_same : (a b : Bool) → cond {A = ℕ} a 1 0 ≡ cond b 1 0 → a ≡ b
+bit_same true true e = refl
+bit_same true false e = absurd (omega (arith, e))
+bit_same false true e = absurd (omega (arith, e))
+bit_same false false e = refl
+
+-- all ranges were moved then
+pub ranges-ruled : (rule : Boundary ℕ → Boundary ℕ) (start after : Slab Points) (es now : List RangeEnd) → IsListed start es → IsListed after now →
+    AreRuled rule es now → (slot : ℕ) → option_map range_from (get after slot) ≡ option_map (λ p. map_ends rule (range_from p)) (get start slot)
+ranges-ruled rule start after es now listed then ruled slot =
+    ranges_by_ends rule (get start slot) (get after slot)
+    (bit_same _ _ (sym (then.counted slot true) ∙ (times-same slot true es now ruled.same_length ruled.same_slot ruled.same_end ∙ listed.counted slot true)))
+    (λ there b.
+    let w = counts-listed slot b es (omega (arith, listed.counted slot b, ap {B = ℕ} (λ t. cond t 1 0) there)) in
+    let d = end_in 0 false (record { node = 0; offset = 0 }) in
+    let x = get_or es w.0 d in
+    let y = get_or now w.0 d in
+    let its = is_end_of-true slot b x (w.2 d) in
+    let was : point_at start slot b ≡ Some (point_of x) =
+    ap (λ s. point_at start s b) (sym its.0) ∙ (ap (λ t. point_at start x.slot t) (sym its.1) ∙ listed.standing w.0 d w.1) in
+    let is : point_at after slot b ≡ Some (point_of y) =
+    ap (λ s. point_at after s b) (sym (ruled.same_slot w.0 d ∙ its.0)) ∙
+    (ap (λ t. point_at after y.slot t) (sym (ruled.same_end w.0 d ∙ its.1)) ∙ then.standing w.0 d (omega (arith, w.1, ruled.same_length))) in
+    is ∙ (ap Some (ruled.moved w.0 d w.1) ∙ ap (option_map rule) (sym was)))
+
+-- an end outside a part that was moved is listed as it was
+pub stays-outside : (rule : Boundary ℕ → Boundary ℕ) (target : ℕ) (es now : List RangeEnd) (one : Span) →
+    IsMovedPart rule target es now (is_chosen one nowhere)
+    → (k : ℕ) (d : RangeEnd) → is_in one k ≡ false → get_or now k d ≡ get_or es k d
+stays-outside rule target es now one first k d out = first.same_others k d (rw out refl)
+
+module _ (rule : Boundary ℕ → Boundary ℕ) (target : ℕ) (es now last : List RangeEnd) (one two : Span)
+    (first : IsMovedPart rule target es now (is_chosen one nowhere)) (second : IsMovedPart rule target now last (is_chosen two one))
+    (all : AreAllIn rule es one two) where
+  -- what is chosen
   in_one : (k : ℕ) → is_in one k ≡ true → is_chosen one nowhere k ≡ true
   in_one k e = rw (e, outside-part nowhere k (inr (omega arith))) refl
 
-  chosen_in : (part skipped : Span) (k : ℕ) → is_chosen part skipped k ≡ true → is_in part k ≡ true
-  chosen_in part skipped k e = let w = chosen-true part skipped k e in is_in-between part k w.0 w.1
+  in_two : (k : ℕ) → is_in one k ≡ false → is_in two k ≡ true → is_chosen two one k ≡ true
+  in_two k e f = rw (f, e) refl
 
-  pub listed-first : IsListed mid now
-  listed-first = IsListed-moved rule target start mid es now (is_chosen one nowhere) listed first
+  in_none : (k : ℕ) → is_in two k ≡ false → is_chosen two one k ≡ false
+  in_none k e = rw e refl
 
-  pub listed-both : IsListed after last
-  listed-both = IsListed-moved rule target mid after now last (is_chosen two one) listed-first second
-
-  module _ (s : ℕ) (b : Bool) (k : ℕ) (l : k < length es) (here : (d : RangeEnd) → is_end_of s b (get_or es k d) ≡ true) where
-    -- no other place has this end
-    only_here : (j : ℕ) (d : RangeEnd) → j < length es → is_end_of s b (get_or es j d) ≡ true → j ≡ k
-    only_here j d m e = places-once start es listed s b j k d m l e (here d)
-
-    only_now : (j : ℕ) (d : RangeEnd) → j < length now → is_end_of s b (get_or now j d) ≡ true → j ≡ k
-    only_now j d m e = only_here j d (omega (arith, m, first.same_length))
-        (sym (is_end_of-alike s b (get_or now j d) (get_or es j d) (first.same_slot j d) (first.same_end j d)) ∙ e)
-
-    -- the end by a filler
-    abbrev it : RangeEnd
-    it = get_or es k (end_in 0 false 0)
-
-    is_it : (it.slot ≡ s) × (it.is_end ≡ b)
-    is_it = is_end_of-true s b it (here (end_in 0 false 0))
-
-    at_it : (t : Slab Points) → point_at t it.slot it.is_end ≡ point_at t s b
-    at_it t = ap (λ n. point_at t n it.is_end) is_it.0 ∙ ap (λ e. point_at t s e) is_it.1
-
-    now_it : (t : Slab Points) → point_at t (get_or now k (end_in 0 false 0)).slot (get_or now k (end_in 0 false 0)).is_end ≡ point_at t s b
-    now_it t =
-        ap (λ n. point_at t n (get_or now k (end_in 0 false 0)).is_end) (first.same_slot k (end_in 0 false 0)) ∙
-        (ap (λ e. point_at t it.slot e) (first.same_end k (end_in 0 false 0)) ∙ at_it t)
-
-    -- it was moved by the rule
-    moved_once : point_at after s b ≡ option_map rule (point_at start s b)
-    moved_once = elim (cases_Bool (is_in one k)) [
-      | inl e ↦
-          second.kept s b (λ j d m f g. true≢false (sym e ∙ (ap (is_in one) (sym (only_now j d m g)) ∙ (chosen-true two one j f).2)))
-          ∙ (sym (at_it mid) ∙ (first.moved k (end_in 0 false 0) l (in_one k e) ∙ ap (option_map rule) (at_it start)))
-      | inr e ↦
-          let stays : point_at mid s b ≡ point_at start s b =
-          first.kept s b (λ j d m f g. true≢false (sym (chosen_in one nowhere j f) ∙ (ap (is_in one) (only_here j d m g) ∙ e))) in
-          elim (cases_Bool (is_in two k)) [
-            | inl f ↦ sym (now_it after) ∙
-                (second.moved k (end_in 0 false 0) (omega (arith, l, first.same_length)) (rw (f, e) refl) ∙ ap (option_map rule) (now_it mid ∙ stays))
-            | inr f ↦
-                second.kept s b (λ j d m g h. true≢false (sym (chosen_in two one j g) ∙ (ap (is_in two) (only_now j d m h) ∙ f)))
-                ∙ (stays
-                ∙ (let p = the_point (point_at start s b) it.node
-                (ap (option_map (λ (t : Boundary ℕ). t.node)) (sym (at_it start)) ∙ listed.standing k (end_in 0 false 0) l) in
-                p.1 ∙ (ap Some (sym (unmoved p.0 p.2 (all k (end_in 0 false 0) p.0.offset l e f))) ∙ ap (option_map rule) (sym p.1))))
+  -- each end was moved
+  pub ruled-both : AreRuled rule es last
+  ruled-both =
+      record {
+        same_length = second.same_length ∙ first.same_length;
+        same_slot = λ k d. second.same_slot k d ∙ first.same_slot k d;
+        same_end = λ k d. second.same_end k d ∙ first.same_end k d;
+        moved = λ k d l. elim (cases_Bool (is_in one k)) [
+          | inl e ↦ ap (λ (x : RangeEnd). point_of x) (second.same_others k d (by (is_in two k) (is_in one k) e)) ∙ first.moved k d l (in_one k e)
+          | inr e ↦ elim (cases_Bool (is_in two k)) [
+            | inl f ↦ second.moved k d (omega (arith, l, first.same_length)) (in_two k e f) ∙
+                ap (λ (x : RangeEnd). rule (point_of x)) (stays-outside rule target es now one first k d e)
+            | inr f ↦ ap (λ (x : RangeEnd). point_of x) (second.same_others k d (in_none k f) ∙ stays-outside rule target es now one first k d e) ∙
+                sym (all k d l e f)
           ]
-    ]
-      where
-        unmoved : (p : Boundary ℕ) → p.node ≡ it.node → rule (at it.node p.offset) ≡ at it.node p.offset → rule p ≡ p
-        unmoved p e f = ap (λ n. rule (at n p.offset)) e ∙ (f ∙ ap (λ n. at n p.offset) (sym e))
+        ];
+      }
+    where
+      by : (b c : Bool) → c ≡ true → (b && not c) ≡ false
+      by true true e = refl
+      by false true e = refl
+      by b false e = cc
 
-  -- all ranges were
-  pub ranges-both : (slot : ℕ) → option_map range_from (get after slot) ≡ option_map (λ p. map_ends rule (range_from p)) (get start slot)
-  ranges-both slot =
-      ranges_by_ends rule (get start slot) (get after slot) (second.held slot ∙ first.held slot)
-      (λ there b.
-      let w = counts-listed slot b es (omega (arith, listed.counted slot b, ap {B = ℕ} (λ t. cond t 1 0) there)) in
-      moved_once slot b w.0 w.1 w.2)
+  -- a rule that keeps the order keeps the list sorted
+  pub IsSortedByPoint-kept : KeepsOrder rule → IsSortedByPoint es → IsSortedByPoint last
+  IsSortedByPoint-kept keeps sorted i j d le l =
+      let m : j < length es = omega (arith, l, ruled-both.same_length) in
+      let x = get_or es i d in
+      let y = get_or es j d in
+      let first_is = ruled-both.moved i d (omega (arith, le, m)) in
+      let second_is = ruled-both.moved j d m in
+      let a = ap (λ (b : Boundary ℕ). b.node) first_is ∙ (keeps x.node x.offset x.offset (omega arith)).0 in
+      let b = ap (λ (b : Boundary ℕ). b.node) second_is ∙ (keeps y.node y.offset y.offset (omega arith)).0 in
+      let s = sorted i j d le m in (
+        omega (arith, a, b, s.0),
+        λ e. omega (
+          arith,
+          ap (λ (b : Boundary ℕ). b.offset) first_is,
+          ap (λ (b : Boundary ℕ). b.offset) second_is,
+          subst (λ n. (rule (at x.node x.offset)).offset ≤ (rule (at n y.offset)).offset) (sym a ∙ (e ∙ b))
+              (keeps x.node x.offset y.offset (s.1 (sym a ∙ (e ∙ b)))).1,
+        ),
+      )
 
-  module _ (sorted : IsSortedByNode es) (here there : Span)
+  module _ (others : KeepsOrderBut target rule) (sorted : IsSortedByPoint es) (here there : Span)
       (nodes_first : (k : ℕ) (d : RangeEnd) → (k < here.first) ⊎ (here.behind ≤ k) → (get_or now k d).node ≡ (get_or es k d).node)
       (nodes_second : (k : ℕ) (d : RangeEnd) → (k < there.first) ⊎ (there.behind ≤ k) → (get_or last k d).node ≡ (get_or now k d).node)
       (low high : ℕ) (is_low : low ≡ min here.first there.first) (is_high : high ≡ max here.behind there.behind) where
@@ -158,15 +161,33 @@ module _ (rule : Boundary ℕ → Boundary ℕ) (target : ℕ) (start mid after 
       ]
     ]
 
-    size : length last ≡ length es
-    size = second.same_length ∙ first.same_length
-
     pub IsSortedBeside-both : IsSortedBeside last low high target
-    IsSortedBeside-both i j d le l p q = omega (arith, stays_firm i d p, stays_firm j d q, sorted i j d le (omega (arith, l, size)))
+    IsSortedBeside-both i j d le l p q =
+        let m : j < length es = omega (arith, l, ruled-both.same_length) in
+        let n : i < length es = omega (arith, le, m) in
+        let a = stays_firm i d p in
+        let b = stays_firm j d q in
+        let s = sorted i j d le m in (
+          omega (arith, a, b, s.0),
+          λ e off.
+              let x = get_or es i d in
+              let y = get_or es j d in
+              let same : x.node ≡ y.node = sym a ∙ (e ∙ b) in
+              let first_is = ruled-both.moved i d n in
+              let second_is = ruled-both.moved j d m in
+              omega (
+                arith,
+                ap (λ (b : Boundary ℕ). b.offset) first_is,
+                ap (λ (b : Boundary ℕ). b.offset) second_is,
+                subst (λ n. (rule (at x.node x.offset)).offset ≤ (rule (at n y.offset)).offset) same
+                    (others x.node x.offset y.offset (λ f. off (a ∙ f)) (s.1 same) (sym (ap (λ (b : Boundary ℕ). b.node) first_is) ∙ a)
+                    (subst (λ n. (rule (at n y.offset)).node ≡ n) (sym same) (sym (ap (λ (b : Boundary ℕ). b.node) second_is) ∙ b))),
+              ),
+        )
 
     -- where none left its node the list is sorted still
-    pub IsSortedByNode-both : high ≤ low → IsSortedByNode last
-    IsSortedByNode-both none i j d le l = omega (arith, stays_firm i d (out i), stays_firm j d (out j), sorted i j d le (omega (arith, l, size)))
+    pub IsSortedBut-both : high ≤ low → IsSortedBut target last
+    IsSortedBut-both none i j d le l = IsSortedBeside-both i j d le l (out i) (out j)
       where
         out : (k : ℕ) → IsFirm low high target k (get_or last k d)
         out k = elim (cases_lt k low) [ inl m ↦ inl m | inr m ↦ inr (inl (omega (arith, m, none))) ]

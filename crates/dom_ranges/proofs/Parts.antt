@@ -1,17 +1,20 @@
 -- The ends that are listed in a part are moved, one after another.
-use Rattle.std.proofs.Common.{◌≡◌, ◌≢◌, ◌⊎◌, inl, inr, ℕ, ◌+◌, ◌<◌, ◌≤◌, Bool, true, false, List, length, get_or, set, min, Option, Some, None}
-use Rattle.std.proofs.Common.{is_some, IsSome, ltb, leb, refl, sym, ap, ◌∙◌, subst, arith, true≢false}
+use Rattle.std.proofs.Common.{◌≡◌, ◌≢◌, ◌⊎◌, inl, inr, ℕ, ◌+◌, ◌<◌, ◌≤◌, Bool, true, false, List, length, get_or, set, min}
+use Rattle.std.proofs.Common.{[], ◌∷◌, Option, Some, None, ltb, leb, refl, sym, ap, ◌∙◌, subst, arith, true≢false}
 use Rattle.std.specs.Prelude.{◌&&◌, not}
-use Rattle.std.specs.Option.{option_map, ForSome}
 use Rattle.std.proofs.lemmas.Bool.{cases_Bool, cases_eq, leb-true, ltb-true, le-leb, lt-ltb}
-use Rattle.std.proofs.lemmas.List.{get_or_default, get_or-set_same}
+use Rattle.std.specs.Option.{option_map}
+use Rattle.std.proofs.lemmas.List.{get_or-set_same, get_or-set_other, length-set}
+use Rattle.std.proofs.lemmas.List.Sorted.{IsPermutation-refl}
+use Rattle.std.proofs.lemmas.Option.{same_Some}
 use Rattle.slab.specs.Slab.{Slab, get}
 use Rattle.dom_model.specs.Place.{Boundary}
 use Rattle.dom_ranges.specs.declared.table.Points.{Points}
 use Rattle.dom_ranges.specs.declared.ends.RangeEnd.{RangeEnd}
 use Rattle.dom_ranges.specs.declared.ends.Span.{Span}
-use Rattle.dom_ranges.specs.Listed.{is_end_of, point_at, end_of, Stands, IsListed, IsMovedPart, is_in, is_chosen, at_node}
-use Rattle.dom_ranges.proofs.Listing.{is_end_of-same, places-once}
+use Rattle.dom_ranges.specs.Listed.{IsListed, IsMovedPart, HasChanged, Stands, is_in, is_chosen, end_in, end_of, point_of, with_end_at}
+use Rattle.dom_ranges.proofs.Gathering.{HasChanged-set}
+use Rattle.dom_ranges.proofs.Listing.{IsListed-put, end-same}
 
 -- the part up to a place
 abbrev pub up_to : ℕ → ℕ → Span
@@ -44,62 +47,9 @@ outside-part part k p = by (is_in part k) refl
         inside true false f g h = cc
         inside false c f g h = cc
 
--- nothing is moved at first
-pub IsMovedPart-none : (rule : Boundary ℕ → Boundary ℕ) (target : ℕ) (live : Slab Points) (es : List RangeEnd) (first : ℕ) (skipped : Span) →
-    IsListed live es → IsMovedPart rule target live live es es (is_chosen (up_to first first) skipped)
-IsMovedPart-none rule target live es first skipped listed =
-    record {
-      same_length = refl;
-      same_slot = λ k d. refl;
-      same_end = λ k d. refl;
-      same_others = λ k d e. refl;
-      goes = λ k d. inl refl;
-      moved = λ k d l e. let w = chosen-true (up_to first first) skipped k e in absurd (omega (arith, w.0, w.1));
-      kept = λ s b h. refl;
-      held = λ s. refl;
-      standing = listed.standing;
-    }
-
--- the same places
-pub IsMovedPart-same : (rule : Boundary ℕ → Boundary ℕ) (target : ℕ) (start live : Slab Points) (es now : List RangeEnd) (P Q : ℕ → Bool) →
-    ((k : ℕ) → P k ≡ true → Q k ≡ true) → ((k : ℕ) → Q k ≡ true → P k ≡ true)
-    → IsMovedPart rule target start live es now P → IsMovedPart rule target start live es now Q
-IsMovedPart-same rule target start live es now P Q to back m =
-    record {
-      same_length = m.same_length;
-      same_slot = m.same_slot;
-      same_end = m.same_end;
-      same_others = λ k d e. m.same_others k d (elim (cases_Bool (P k)) [ inl f ↦ absurd (true≢false (sym (to k f) ∙ e)) | inr f ↦ f ]);
-      goes = m.goes;
-      moved = λ k d l e. m.moved k d l (back k e);
-      kept = λ s b h. m.kept s b (λ k d l e f. h k d l (to k e) f);
-      held = m.held;
-      standing = m.standing;
-    }
-
--- a part up to its end is the part
-pub IsMovedPart-whole : (rule : Boundary ℕ → Boundary ℕ) (target : ℕ) (start live : Slab Points) (es now : List RangeEnd) (part skipped : Span)
-    (i : ℕ) → (i ≡ part.first) ⊎ (i ≤ part.behind) → part.behind ≤ i
-    → IsMovedPart rule target start live es now (is_chosen (up_to part.first i) skipped) → IsMovedPart rule target start live es now (is_chosen part skipped)
-IsMovedPart-whole rule target start live es now part skipped i p l =
-    IsMovedPart-same rule target start live es now (is_chosen (up_to part.first i) skipped) (is_chosen part skipped)
-    (λ k e. let w = chosen-true (up_to part.first i) skipped k e in chosen-made part skipped k w.0
-    (elim p [ inl f ↦ absurd (omega (arith, f, w.0, w.1)) | inr f ↦ omega (arith, f, w.1) ]) w.2)
-    (λ k e. let w = chosen-true part skipped k e in chosen-made (up_to part.first i) skipped k w.0 (omega (arith, w.1, l)) w.2)
-
--- a boundary point of which the node is known
-pub the_point : (m : Option (Boundary ℕ)) (n : ℕ) → option_map (λ (b : Boundary ℕ). b.node) m ≡ Some n → (b : Boundary ℕ) × (m ≡ Some b) × (b.node ≡ n)
-the_point None n e = cc
-the_point (Some b) n e = (b, refl, cc)
-
--- a range that has an end is there
-pub there_is : (m : Option Points) (is_end : Bool) (b : Boundary ℕ) → option_map (end_of is_end) m ≡ Some b → is_some m ≡ true
-there_is None is_end b e = cc
-there_is (Some p) is_end b e = refl
-
-module _ (rule : Boundary ℕ → Boundary ℕ) (target : ℕ) (start live : Slab Points) (es now : List RangeEnd) (first i : ℕ) (skipped : Span)
-    (listed : IsListed start es) (within : i < length es) (from : first ≤ i)
-    (so_far : IsMovedPart rule target start live es now (is_chosen (up_to first i) skipped)) where
+module _ (rule : Boundary ℕ → Boundary ℕ) (target : ℕ) (es now : List RangeEnd) (first i : ℕ) (skipped : Span)
+    (within : i < length es) (from : first ≤ i)
+    (so_far : IsMovedPart rule target es now (is_chosen (up_to first i) skipped)) where
   -- a place that is chosen then was, or is this one
   earlier : (k : ℕ) → is_chosen (up_to first (i + 1)) skipped k ≡ true → k ≢ i → is_chosen (up_to first i) skipped k ≡ true
   earlier k e off = let w = chosen-true (up_to first (i + 1)) skipped k e in chosen-made (up_to first i) skipped k w.0 (omega (arith, w.1, off)) w.2
@@ -116,7 +66,7 @@ module _ (rule : Boundary ℕ → Boundary ℕ) (target : ℕ) (start live : Sla
       [ inl f ↦ absurd (let w = chosen-true (up_to first i) skipped i f in omega (arith, w.1)) | inr f ↦ f ])
 
   -- a place that is skipped
-  pub IsMovedPart-skipped : is_in skipped i ≡ true → IsMovedPart rule target start live es now (is_chosen (up_to first (i + 1)) skipped)
+  pub IsMovedPart-skipped : is_in skipped i ≡ true → IsMovedPart rule target es now (is_chosen (up_to first (i + 1)) skipped)
   IsMovedPart-skipped here =
       record {
         same_length = so_far.same_length;
@@ -126,81 +76,33 @@ module _ (rule : Boundary ℕ → Boundary ℕ) (target : ℕ) (start live : Sla
         goes = so_far.goes;
         moved = λ k d l e. so_far.moved k d l
             (earlier k e (λ f. true≢false (sym here ∙ (ap (is_in skipped) (sym f) ∙ (chosen-true (up_to first (i + 1)) skipped k e).2))));
-        kept = λ s b h. so_far.kept s b (λ k d l e f. h k d l (later k e) f);
-        held = so_far.held;
-        standing = so_far.standing;
       }
 
-  -- the end at this place has not been moved yet
-  pub still : (d : RangeEnd) → point_at live (get_or es i d).slot (get_or es i d).is_end ≡ point_at start (get_or es i d).slot (get_or es i d).is_end
-  still d =
-      let e = get_or es i d in
-      so_far.kept e.slot e.is_end (λ k f l g h.
-      let w = chosen-true (up_to first i) skipped k g in
-      let same : k ≡ i = places-once start es listed e.slot e.is_end k i f l within h
-      (subst (λ (x : RangeEnd). is_end_of e.slot e.is_end x ≡ true) (at_any f) (is_end_of-same e)) in
-      omega (arith, w.1, same))
-    where
-      at_any : (f : RangeEnd) → get_or es i d ≡ get_or es i f
-      at_any f = get_or_default es i d f within
+  module _ (one : RangeEnd) (b : Boundary ℕ) (chosen : is_in skipped i ≡ false) (is_one : (d : RangeEnd) → get_or es i d ≡ one)
+      (by_rule : b ≡ rule (point_of one)) (it_goes : (b.node ≡ one.node) ⊎ (b.node ≡ target)) where
+    abbrev next : List RangeEnd
+    next = set now i (end_in one.slot one.is_end b)
 
-  module _ (after : Slab Points) (next : List RangeEnd) (node : ℕ) (chosen : is_in skipped i ≡ false) (one : RangeEnd) (is_one : one ≡ get_or es i one)
-      (moved : point_at after one.slot one.is_end ≡ option_map rule (point_at live one.slot one.is_end))
-      (other_end : (is_end : Bool) → is_end ≢ one.is_end → point_at after one.slot is_end ≡ point_at live one.slot is_end)
-      (others : (slot : ℕ) → slot ≢ one.slot → get after slot ≡ get live slot)
-      (held : IsSome (get live one.slot) → IsSome (get after one.slot))
-      (stands : ForSome (point_at live one.slot one.is_end) (λ b. node ≡ (rule b).node))
-      (goes : ForSome (point_at live one.slot one.is_end) (λ b. (node ≡ b.node) ⊎ (node ≡ target)))
-      (same_length : length next ≡ length now) (here : (d : RangeEnd) → get_or next i d ≡ at_node (get_or now i d) node)
-      (elsewhere : (k : ℕ) (d : RangeEnd) → k ≢ i → get_or next k d ≡ get_or now k d) where
-    -- this end by any filler
-    this : (d : RangeEnd) → one ≡ get_or es i d
-    this d = is_one ∙ get_or_default es i one d within
+    -- what the list has at this place, and had
+    has : (k : ℕ) (d : RangeEnd) → k ≡ i → get_or next k d ≡ end_in one.slot one.is_end b
+    has k d e = ap (λ t. get_or next t d) e ∙ get_or-set_same now i (end_in one.slot one.is_end b) d (omega (arith, within, so_far.same_length))
 
-    still_one : point_at live one.slot one.is_end ≡ point_at start one.slot one.is_end
-    still_one = subst (λ (x : RangeEnd). point_at live x.slot x.is_end ≡ point_at start x.slot x.is_end) (sym (this one)) (still one)
+    had : (k : ℕ) (d : RangeEnd) → k ≡ i → get_or es k d ≡ one
+    had k d e = ap (λ t. get_or es t d) e ∙ is_one d
 
-    -- where it stood
-    point : (b : Boundary ℕ) × (point_at live one.slot one.is_end ≡ Some b) × (b.node ≡ one.node)
-    point = the_point (point_at live one.slot one.is_end) one.node
-        (ap (option_map (λ (b : Boundary ℕ). b.node)) still_one ∙ subst (Stands start) (sym (this one)) (listed.standing i one within))
+    elsewhere : (k : ℕ) (d : RangeEnd) → k ≢ i → get_or next k d ≡ get_or now k d
+    elsewhere k d off = get_or-set_other now i k (end_in one.slot one.is_end b) d off
 
-    -- other ends stand where they stood
-    other_points : (s : ℕ) (b : Bool) → is_end_of s b one ≡ false → point_at after s b ≡ point_at live s b
-    other_points s b e = elim (cases_eq s one.slot) [
-      | inl f ↦ subst (λ t. point_at after t b ≡ point_at live t b) (sym f)
-          (other_end b (λ g. true≢false (sym (is_end_of-same one) ∙
-          (ap (λ (t : Bool). is_end_of one.slot t one) (sym g) ∙ (ap (λ (t : ℕ). is_end_of t b one) (sym f) ∙ e)))))
-      | inr off ↦ ap (option_map (end_of b)) (others s off)
-    ]
-
-    -- so do those at other places
-    unmoved : (k : ℕ) (d : RangeEnd) → k < length es → k ≢ i →
-        point_at after (get_or es k d).slot (get_or es k d).is_end ≡ point_at live (get_or es k d).slot (get_or es k d).is_end
-    unmoved k d l off = let e = get_or es k d in elim (cases_Bool (is_end_of e.slot e.is_end one)) [
-      | inl f ↦ absurd (off (places-once start es listed e.slot e.is_end k i d l within (is_end_of-same e)
-          (subst (λ (x : RangeEnd). is_end_of e.slot e.is_end x ≡ true) (this d) f)))
-      | inr f ↦ other_points e.slot e.is_end f
-    ]
-
-    -- a listed end stands where another one with the same slot does
-    stands_by : (x y : RangeEnd) → x.slot ≡ y.slot → x.is_end ≡ y.is_end → x.node ≡ y.node → Stands after y → Stands after x
-    stands_by x y e f g h =
-        ap (λ s. option_map (λ (b : Boundary ℕ). b.node) (point_at after s x.is_end)) e ∙
-        (ap (λ t. option_map (λ (b : Boundary ℕ). b.node) (point_at after y.slot t)) f ∙ (h ∙ ap Some (sym g)))
-
-    pub IsMovedPart-more : IsMovedPart rule target start after es next (is_chosen (up_to first (i + 1)) skipped)
+    pub IsMovedPart-more : IsMovedPart rule target es next (is_chosen (up_to first (i + 1)) skipped)
     IsMovedPart-more =
         record {
-          same_length = same_length ∙ so_far.same_length;
+          same_length = length-set now i (end_in one.slot one.is_end b) ∙ so_far.same_length;
           same_slot = λ k d. elim (cases_eq k i) [
-            | inl e ↦ ap (λ t. (get_or next t d).slot) e ∙
-                (ap (λ (x : RangeEnd). x.slot) (here d) ∙ (so_far.same_slot i d ∙ ap (λ t. (get_or es t d).slot) (sym e)))
+            | inl e ↦ ap (λ (x : RangeEnd). x.slot) (has k d e) ∙ sym (ap (λ (x : RangeEnd). x.slot) (had k d e))
             | inr off ↦ ap (λ (x : RangeEnd). x.slot) (elsewhere k d off) ∙ so_far.same_slot k d
           ];
           same_end = λ k d. elim (cases_eq k i) [
-            | inl e ↦ ap (λ t. (get_or next t d).is_end) e ∙
-                (ap (λ (x : RangeEnd). x.is_end) (here d) ∙ (so_far.same_end i d ∙ ap (λ t. (get_or es t d).is_end) (sym e)))
+            | inl e ↦ ap (λ (x : RangeEnd). x.is_end) (has k d e) ∙ sym (ap (λ (x : RangeEnd). x.is_end) (had k d e))
             | inr off ↦ ap (λ (x : RangeEnd). x.is_end) (elsewhere k d off) ∙ so_far.same_end k d
           ];
           same_others = λ k d e. elim (cases_eq k i) [
@@ -211,9 +113,9 @@ module _ (rule : Boundary ℕ → Boundary ℕ) (target : ℕ) (start live : Sla
           ];
           goes = λ k d. elim (cases_eq k i) [
             | inl e ↦
-                let here_node : (get_or next k d).node ≡ node = ap (λ t. (get_or next t d).node) e ∙ ap (λ (x : RangeEnd). x.node) (here d) in
-                elim (goes point.0 point.1) [
-                  | inl f ↦ inl (here_node ∙ (f ∙ (point.2 ∙ (ap (λ (x : RangeEnd). x.node) (this d) ∙ ap (λ t. (get_or es t d).node) (sym e)))))
+                let here_node : (get_or next k d).node ≡ b.node = ap (λ (x : RangeEnd). x.node) (has k d e) in
+                elim it_goes [
+                  | inl f ↦ inl (here_node ∙ (f ∙ sym (ap (λ (x : RangeEnd). x.node) (had k d e))))
                   | inr f ↦ inr (here_node ∙ f)
                 ]
             | inr off ↦
@@ -221,44 +123,27 @@ module _ (rule : Boundary ℕ → Boundary ℕ) (target : ℕ) (start live : Sla
                 elim (so_far.goes k d) [ inl f ↦ inl (same ∙ f) | inr f ↦ inr (same ∙ f) ]
           ];
           moved = λ k d l e. elim (cases_eq k i) [
-            | inl f ↦
-                subst (λ (x : RangeEnd). point_at after x.slot x.is_end ≡ option_map rule (point_at start x.slot x.is_end))
-                (this d ∙ ap (λ t. get_or es t d) (sym f)) (moved ∙ ap (option_map rule) still_one)
-            | inr off ↦ unmoved k d l off ∙ so_far.moved k d l (earlier k e off)
-          ];
-          kept = λ s b h.
-              other_points s b (elim (cases_Bool (is_end_of s b one)) [
-                | inl f ↦ absurd (h i one within (chosen-made (up_to first (i + 1)) skipped i from (omega arith) chosen)
-                    (subst (λ (x : RangeEnd). is_end_of s b x ≡ true) (this one) f))
-                | inr f ↦ f
-              ])
-              ∙ so_far.kept s b (λ k d l e f. h k d l (later k e) f);
-          held = λ s. elim (cases_eq s one.slot) [
-            | inl e ↦
-                let there : is_some (get live one.slot) ≡ true = there_is (get live one.slot) one.is_end point.0 point.1 in
-                ap (λ t. is_some (get after t)) e ∙ (held there ∙ (sym there ∙ ap (λ t. is_some (get live t)) (sym e))) ∙ so_far.held s
-            | inr off ↦ ap is_some (others s off) ∙ so_far.held s
-          ];
-          standing = λ k d l. elim (cases_eq k i) [
-            | inl e ↦
-                subst (λ t. Stands after (get_or next t d)) (sym e)
-                (stands_by (get_or next i d) (at_node one node)
-                (ap (λ (x : RangeEnd). x.slot) (here d) ∙ (so_far.same_slot i d ∙ ap (λ (x : RangeEnd). x.slot) (sym (this d))))
-                (ap (λ (x : RangeEnd). x.is_end) (here d) ∙ (so_far.same_end i d ∙ ap (λ (x : RangeEnd). x.is_end) (sym (this d))))
-                (ap (λ (x : RangeEnd). x.node) (here d))
-                (ap (option_map (λ (b : Boundary ℕ). b.node)) (moved ∙ ap (option_map rule) point.1) ∙ ap Some (sym (stands point.0 point.1))))
-            | inr off ↦
-                let same = λ (t : Slab Points). ap (λ s. point_at t s (get_or now k d).is_end) (so_far.same_slot k d) ∙
-                ap (λ b. point_at t (get_or es k d).slot b) (so_far.same_end k d) in
-                subst (Stands after) (sym (elsewhere k d off))
-                (ap (option_map (λ (b : Boundary ℕ). b.node)) (same after ∙ (unmoved k d l off ∙ sym (same live))) ∙ so_far.standing k d l)
+            | inl f ↦ ap (λ (x : RangeEnd). point_of x) (has k d f) ∙ (by_rule ∙ ap (λ (x : RangeEnd). rule (point_of x)) (sym (had k d f)))
+            | inr off ↦ ap (λ (x : RangeEnd). point_of x) (elsewhere k d off) ∙ so_far.moved k d l (earlier k e off)
           ];
         }
 
--- an end that was set
-pub set-here : (now : List RangeEnd) (i node : ℕ) (r : RangeEnd) → i < length now → (d : RangeEnd) →
-    get_or (set now i (at_node (get_or now i r) node)) i d ≡ at_node (get_or now i d) node
-set-here now i node r l d = get_or-set_same now i (at_node (get_or now i r) node) d l ∙ ap (λ (x : RangeEnd). at_node x node) (get_or_default now i r d l)
+-- an end that was put is listed where it stands then
+pub IsListed-set : (live after : Slab Points) (es : List RangeEnd) (i : ℕ) (one : RangeEnd) (b : Boundary ℕ) → IsListed live es → i < length es →
+    ((d : RangeEnd) → get_or es i d ≡ one) → get after one.slot ≡ option_map (with_end_at one.is_end b.node b.offset) (get live one.slot)
+    → ((s : ℕ) → s ≢ one.slot → get after s ≡ get live s) → IsListed after (set es i (end_in one.slot one.is_end b))
+IsListed-set live after es i one b listed within is_one put others =
+    by (get live one.slot) refl (subst (Stands live) (is_one one) (listed.standing i one within))
+  where
+    by : (m : Option Points) → get live one.slot ≡ m → option_map (end_of one.is_end) m ≡ Some (point_of one) →
+        IsListed after (set es i (end_in one.slot one.is_end b))
+    by None e f = cc
+    by (Some p) e f =
+        let y = end_in one.slot one.is_end b in
+        IsListed-put live after es (set es i y) one.slot one.is_end b p listed e put others
+        (subst (λ (x : RangeEnd). HasChanged es (set es i y) (x ∷ []) (y ∷ []))
+        (end-same one (end_in one.slot one.is_end (end_of one.is_end p)) refl refl (sym (same_Some _ _ f)))
+        (HasChanged-set es (set es i y) i one y within is_one (IsPermutation-refl (set es i y))))
 
 -- the part outside which no node changed, after one end more
 pub nodes-more : (es now next : List RangeEnd) (i first behind least : ℕ) → ((k : ℕ) (d : RangeEnd) → k ≢ i → get_or next k d ≡ get_or now k d) →

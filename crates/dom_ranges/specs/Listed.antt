@@ -1,4 +1,4 @@
--- How the ends of live ranges are listed: each end once, at the node where it stands, sorted by node.
+-- How the ends of live ranges are listed: each end once, with the boundary point where it stands, sorted by nodes and offsets.
 use Rattle.std.specs.Prelude.{◌≡◌, ◌⊎◌, ℕ, ◌+◌, ◌-◌, ◌<◌, ◌≤◌, ◌≢◌, Bool, true, false, not, ◌&&◌, List, ◌++◌, length, slice_index_or, nat_eq, nat_lt}
 use Rattle.std.specs.Prelude.{nat_le, Option, Some, option_map, is_some, count_by, cond}
 use Rattle.std.specs.List.Sorted.{IsNonDecreasingBy, IsPermutation}
@@ -12,6 +12,14 @@ use Rattle.dom_ranges.specs.declared.ends.Span.{Span}
 -- the node of a listed end
 abbrev pub node_of : RangeEnd → ℕ
 node_of e = e.node
+
+-- its offset
+abbrev pub offset_of : RangeEnd → ℕ
+offset_of e = e.offset
+
+-- the boundary point where it stands
+abbrev pub point_of : RangeEnd → Boundary ℕ
+point_of e = at e.node e.offset
 
 -- whether a listed end is this one of a slot's range
 abbrev pub is_end_of : ℕ → Bool → RangeEnd → Bool
@@ -38,18 +46,42 @@ point_at live slot is_end = option_map (end_of is_end) (get live slot)
 
 -- a listed end stands where the list says
 abbrev pub Stands : Slab Points → RangeEnd → Type 0
-Stands live e = option_map (λ (b : Boundary ℕ). b.node) (point_at live e.slot e.is_end) ≡ Some e.node
+Stands live e = point_at live e.slot e.is_end ≡ Some (point_of e)
 
 -- each end is listed once, where it stands
 pub record IsListed (live : Slab Points) (es : List RangeEnd) : Type 0 where
   pub counted : (slot : ℕ) (is_end : Bool) → times slot is_end es ≡ cond (is_some (get live slot)) 1 0
   pub standing : (k : ℕ) (d : RangeEnd) → k < length es → Stands live (slice_index_or es k d)
 
--- the ends are sorted by their nodes
+-- of two boundary points the first does not come after the second, by nodes and then by offsets
+abbrev pub AtMost : Boundary ℕ → Boundary ℕ → Type 0
+AtMost b c = (b.node ≤ c.node) × (b.node ≡ c.node → b.offset ≤ c.offset)
+
+-- it comes before the second
+abbrev pub LessThan : Boundary ℕ → Boundary ℕ → Type 0
+LessThan b c = (b.node ≤ c.node) × (b.node ≡ c.node → b.offset < c.offset)
+
+-- it does not come after the second, or both are at this node
+abbrev pub AtMostBut : ℕ → Boundary ℕ → Boundary ℕ → Type 0
+AtMostBut node b c = (b.node ≤ c.node) × (b.node ≡ c.node → b.node ≢ node → b.offset ≤ c.offset)
+
+-- of each two ends, the one that is listed first and the other one are in a relation
+abbrev pub IsOrdered : (Boundary ℕ → Boundary ℕ → Type 0) → List RangeEnd → Type 0
+IsOrdered R es = (i j : ℕ) (d : RangeEnd) → i ≤ j → j < length es → R (point_of (slice_index_or es i d)) (point_of (slice_index_or es j d))
+
+-- the ends are sorted by their nodes, and those at one node by their offsets
+abbrev pub IsSortedByPoint : List RangeEnd → Type 0
+IsSortedByPoint es = IsOrdered AtMost es
+
+-- they are, but for the offsets of those at one node
+abbrev pub IsSortedBut : ℕ → List RangeEnd → Type 0
+IsSortedBut node es = IsOrdered (AtMostBut node) es
+
+-- they are sorted by their nodes
 abbrev pub IsSortedByNode : List RangeEnd → Type 0
 IsSortedByNode es = IsNonDecreasingBy node_of es
 
--- a part of the ends is
+-- a part of the ends is sorted by node
 abbrev pub IsSortedIn : List RangeEnd → Span → Type 0
 IsSortedIn es part =
     (i j : ℕ) (d : RangeEnd) → part.first ≤ i → i ≤ j → j < part.behind → (slice_index_or es i d).node ≤ (slice_index_or es j d).node
@@ -62,11 +94,11 @@ AreAt es low high node = (k : ℕ) (d : RangeEnd) → low ≤ k → k < high →
 abbrev pub IsFirm : ℕ → ℕ → ℕ → ℕ → RangeEnd → Type 0
 IsFirm low high node k e = (k < low) ⊎ ((high ≤ k) ⊎ (e.node ≢ node))
 
--- the ends are sorted but for those from low to high that are at a node
+-- the ends are sorted but for those from low to high that are at a node, and for the offsets of all that are there
 abbrev pub IsSortedBeside : List RangeEnd → ℕ → ℕ → ℕ → Type 0
 IsSortedBeside es low high node =
     (i j : ℕ) (d : RangeEnd) → i ≤ j → j < length es → IsFirm low high node i (slice_index_or es i d) →
-    IsFirm low high node j (slice_index_or es j d) → (slice_index_or es i d).node ≤ (slice_index_or es j d).node
+    IsFirm low high node j (slice_index_or es j d) → AtMostBut node (point_of (slice_index_or es i d)) (point_of (slice_index_or es j d))
 
 -- what stood from middle to behind stands before what stood from first to middle
 pub record IsTurned (es now : List RangeEnd) (first middle behind : ℕ) : Type 0 where
@@ -83,38 +115,24 @@ abbrev pub is_chosen : Span → Span → ℕ → Bool
 is_chosen part skipped k = is_in part k && not (is_in skipped k)
 
 -- the ends that are listed at the places within were moved by a rule, and the list says where they stand then
-pub record IsMovedPart (rule : Boundary ℕ → Boundary ℕ) (target : ℕ) (live after : Slab Points) (es now : List RangeEnd) (within : ℕ → Bool) : Type 0 where
+pub record IsMovedPart (rule : Boundary ℕ → Boundary ℕ) (target : ℕ) (es now : List RangeEnd) (within : ℕ → Bool) : Type 0 where
   pub same_length : length now ≡ length es
   pub same_slot : (k : ℕ) (d : RangeEnd) → (slice_index_or now k d).slot ≡ (slice_index_or es k d).slot
   pub same_end : (k : ℕ) (d : RangeEnd) → (slice_index_or now k d).is_end ≡ (slice_index_or es k d).is_end
   pub same_others : (k : ℕ) (d : RangeEnd) → within k ≡ false → slice_index_or now k d ≡ slice_index_or es k d
   pub goes : (k : ℕ) (d : RangeEnd) → ((slice_index_or now k d).node ≡ (slice_index_or es k d).node) ⊎ ((slice_index_or now k d).node ≡ target)
-  pub moved : (k : ℕ) (d : RangeEnd) → k < length es → within k ≡ true
-      → point_at after (slice_index_or es k d).slot (slice_index_or es k d).is_end ≡ option_map rule
-      (point_at live (slice_index_or es k d).slot (slice_index_or es k d).is_end)
-  pub kept : (slot : ℕ) (is_end : Bool) →
-      ((k : ℕ) (d : RangeEnd) → k < length es → within k ≡ true → is_end_of slot is_end (slice_index_or es k d) ≡ true → ⊥) →
-      point_at after slot is_end ≡ point_at live slot is_end
-  pub held : (slot : ℕ) → is_some (get after slot) ≡ is_some (get live slot)
-  pub standing : (k : ℕ) (d : RangeEnd) → k < length es → Stands after (slice_index_or now k d)
+  pub moved : (k : ℕ) (d : RangeEnd) → k < length es → within k ≡ true →
+      point_of (slice_index_or now k d) ≡ rule (point_of (slice_index_or es k d))
 
 -- no end outside two parts is moved by a rule
 abbrev pub AreAllIn : (Boundary ℕ → Boundary ℕ) → List RangeEnd → Span → Span → Type 0
 AreAllIn rule es one two =
-    (k : ℕ) (d : RangeEnd) (i : ℕ) → k < length es → is_in one k ≡ false → is_in two k ≡ false →
-    rule (at (slice_index_or es k d).node i) ≡ at (slice_index_or es k d).node i
+    (k : ℕ) (d : RangeEnd) → k < length es → is_in one k ≡ false → is_in two k ≡ false →
+    rule (point_of (slice_index_or es k d)) ≡ point_of (slice_index_or es k d)
 
--- boundary points at other nodes than these two are not moved by a rule
-abbrev pub IsAtTwo : (Boundary ℕ → Boundary ℕ) → ℕ → ℕ → Type 0
-IsAtTwo rule one two = (node i : ℕ) → node ≢ one → node ≢ two → rule (at node i) ≡ at node i
-
--- a listed end that stands at another node
-abbrev pub at_node : RangeEnd → ℕ → RangeEnd
-at_node e node = record { node = node; slot = e.slot; is_end = e.is_end }
-
--- an end of the range in a slot, at a node
-abbrev pub end_in : ℕ → Bool → ℕ → RangeEnd
-end_in slot is_end node = record { node = node; slot = slot; is_end = is_end }
+-- an end of the range in a slot, at a boundary point
+abbrev pub end_in : ℕ → Bool → Boundary ℕ → RangeEnd
+end_in slot is_end b = record { node = b.node; offset = b.offset; slot = slot; is_end = is_end }
 
 -- an end is listed, and no other one is that end of the same range
 pub record IsListedOnce (es : List RangeEnd) (e : RangeEnd) : Type 0 where

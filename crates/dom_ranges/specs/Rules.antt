@@ -1,5 +1,5 @@
 -- What the calls that are told of a change ask of boundary points, and how a removal goes in two steps.
-use Rattle.std.specs.Prelude.{ℕ, ◌<◌, ◌≤◌, ◌-◌, ◌^◌, ◌≡◌, ◌⊎◌, Bool, ◌&&◌, List, length, nat_eq, nat_lt, if◌then◌else◌}
+use Rattle.std.specs.Prelude.{ℕ, ◌<◌, ◌≤◌, ◌-◌, ◌^◌, ◌≡◌, ◌≢◌, ◌⊎◌, Bool, ◌&&◌, List, length, nat_eq, nat_lt, if◌then◌else◌}
 use Rattle.dom_base.specs.declared.NodeName.{NodeName}
 use Rattle.dom_model.specs.Place.{Boundary}
 use Rattle.dom_model.specs.Ranges.{at}
@@ -33,3 +33,12 @@ IsUpTo node offset b = b.node ≡ node → b.offset ≤ offset
 -- a number stands for an index in a node: it is the index, or not greater, and greater than its offset where it stands in the node
 abbrev pub IsNear : ℕ → ℕ → ℕ → Boundary ℕ → Type 0
 IsNear node index near b = (near ≡ index) ⊎ ((near ≤ index) × (b.node ≡ node → b.offset < near))
+
+-- a rule leaves each boundary point at its node, and those at one node in their order
+abbrev pub KeepsOrder : (Boundary ℕ → Boundary ℕ) → Type 0
+KeepsOrder rule = (n i j : ℕ) → i ≤ j → ((rule (at n i)).node ≡ n) × ((rule (at n i)).offset ≤ (rule (at n j)).offset)
+
+-- it leaves those in their order that stay at one node, another one than this
+abbrev pub KeepsOrderBut : ℕ → (Boundary ℕ → Boundary ℕ) → Type 0
+KeepsOrderBut node rule = (n i j : ℕ) → n ≢ node → i ≤ j → (rule (at n i)).node ≡ n → (rule (at n j)).node ≡ n →
+    (rule (at n i)).offset ≤ (rule (at n j)).offset

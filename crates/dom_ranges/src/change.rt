@@ -1,8 +1,8 @@
 //! What each step of a change does to a boundary point (DOM Standard, 5.3 and 5.5).
-ghost use Rattle.std.specs.Prelude.{◌≡◌, ◌⊎◌, ℕ, nat_eq};
+ghost use Rattle.std.specs.Prelude.{◌≡◌, ◌⊎◌, ℕ, nat_eq, true};
 ghost use Rattle.dom_model.specs.Place.{Boundary};
 ghost use Rattle.dom_model.specs.Ranges.{at, after_insert, after_replace_data, after_split, after_join};
-ghost use Rattle.dom_ranges.specs.Rules.{Fits, IsAtNode, is_inside, after_leaving, after_closing};
+ghost use Rattle.dom_ranges.specs.Rules.{Fits, IsAtNode, KeepsOrder, KeepsOrderBut, is_inside, after_leaving, after_closing};
 ghost use Rattle.dom_tree.specs.Forest.{IsNode};
 
 use dom_tree::Forest;
@@ -25,6 +25,12 @@ pub(crate) trait Change {
     /// The node to which the step brings boundary points of other nodes.
     fn target(&self) -> Key
         ensures { result ≡ target self.now };
+
+    /// Whether the step leaves all boundary points at their nodes, and those at one node in their order. That order is kept at
+    /// all nodes but its target by each step.
+    fn keeps_order(&self) -> bool
+        ensures all { result ≡ true → KeepsOrder (rule self.now) }
+        ensures others { KeepsOrderBut (target self.now) (rule self.now) };
 }
 
 /// `count` nodes come into `parent` before its child at `index`.
@@ -51,6 +57,10 @@ impl Change for Insertion {
 
     fn target(&self) -> Key {
         self.parent
+    }
+
+    fn keeps_order(&self) -> bool {
+        true
     }
 }
 
@@ -80,6 +90,10 @@ impl Change for Leaving<'_> {
     fn target(&self) -> Key {
         self.parent
     }
+
+    fn keeps_order(&self) -> bool {
+        false
+    }
 }
 
 /// The child of `parent` at `index` is gone: what was behind it moves up.
@@ -105,6 +119,10 @@ impl Change for Closing {
 
     fn target(&self) -> Key {
         self.parent
+    }
+
+    fn keeps_order(&self) -> bool {
+        true
     }
 }
 
@@ -136,6 +154,10 @@ impl Change for Replacement {
 
     fn target(&self) -> Key {
         self.node
+    }
+
+    fn keeps_order(&self) -> bool {
+        true
     }
 }
 
@@ -169,6 +191,10 @@ impl Change for Split {
     fn target(&self) -> Key {
         self.new
     }
+
+    fn keeps_order(&self) -> bool {
+        false
+    }
 }
 
 /// The data of the Text `next`, the child of `parent` at `index`, were put behind those of the Text `first`, which had
@@ -201,5 +227,9 @@ impl Change for Join {
 
     fn target(&self) -> Key {
         self.first
+    }
+
+    fn keeps_order(&self) -> bool {
+        false
     }
 }

@@ -24,7 +24,7 @@ impl RangeTable {
             index,
             count,
         };
-        self.apply(&change, parent, parent);
+        self.apply(&change);
     }
 
     /// Tells the table that `count` nodes are to come into `parent` before `child`, as `on_insert` does of the child's

@@ -3,6 +3,7 @@
 
 mod change;
 mod children;
+mod concerned;
 mod ends;
 mod indexes;
 mod laws;
@@ -10,6 +11,7 @@ mod moving;
 mod numbers;
 mod order;
 mod removing;
+mod searching;
 mod setting;
 mod table;
 

@@ -1,39 +1,17 @@
 //! What a step of a change does to the ends of the live ranges and to their list.
-ghost use Rattle.std.specs.Prelude.{◌≡◌, ◌≢◌, ◌⊎◌, ℕ, ◌≤◌, ◌<◌, Bool, true, length, slice_index_or, IsSome, None};
+ghost use Rattle.std.specs.Prelude.{◌≡◌, ◌≢◌, ◌⊎◌, ℕ, ◌≤◌, ◌<◌, true, length, slice_index_or, IsSome, None};
 ghost use Rattle.std.specs.Option.{option_map, ForSome};
 ghost use Rattle.dom_model.specs.Ranges.{map_ends};
 ghost use Rattle.slab.specs.Slab.{get, Updates};
 ghost use Rattle.dom_ranges.specs.Tables.{BothEnds, range_from};
-ghost use Rattle.dom_ranges.specs.Listed.{IsListed, IsSortedByNode, IsMovedPart, AreAllIn, is_chosen, point_at, with_end_at};
+ghost use Rattle.dom_ranges.specs.Listed.{IsListed, IsSortedByPoint, IsMovedPart, AreAllIn, is_chosen, point_of, with_end_at};
 
 use crate::change::Change;
-use crate::ends::{RangeEnd, Span, bring, drop_end, settle};
+use crate::concerned::LocalChange;
+use crate::ends::{RangeEnd, Span, bring, drop_end, put_in_order, settle};
 use crate::table::Points;
 use node_arena::Key;
 use slab::Slab;
-
-/// Moves an end that is listed. Answers the node where it stands then.
-fn move_end<C: Change>(live: &mut Slab<Points>, end: RangeEnd, change: &C) -> Key
-    requires { ForSome (point_at live.old end.slot end.is_end) (C.can_move change.now) }
-    ensures moved { point_at live.new end.slot end.is_end ≡ option_map (C.rule change.now) (point_at live.old end.slot end.is_end) }
-    ensures other_end { (is_end : Bool) → is_end ≢ end.is_end → point_at live.new end.slot is_end ≡ point_at live.old end.slot is_end }
-    ensures others { (slot : ℕ) → slot ≢ end.slot → get live.new slot ≡ get live.old slot }
-    ensures held { IsSome (get live.old end.slot) → IsSome (get live.new end.slot) }
-    ensures node { ForSome (point_at live.old end.slot end.is_end) (λ b. result ≡ (C.rule change.now b).node) }
-    ensures goes { ForSome (point_at live.old end.slot end.is_end) (λ b. (result ≡ b.node) ⊎ (result ≡ C.target change.now)) }
-{
-    let Some(points) = live.get_mut(end.slot) else {
-        return end.node;
-    };
-    let (node, offset) = if end.is_end { points.end } else { points.start };
-    let (node, offset) = change.moved(node, offset);
-    if end.is_end {
-        points.end = (node, offset);
-    } else {
-        points.start = (node, offset);
-    }
-    node
-}
 
 /// Moves the ends that are listed in a part, but for those of another part, and says in the list where they stand then.
 /// Answers a part outside which no node changed.
@@ -47,8 +25,9 @@ fn move_part<C: Change>(
     requires within { part.behind ≤ length ends.old }
     requires listed { IsListed live.old ends.old }
     requires can_move { (k : ℕ) (d : RangeEnd) → k < length ends.old → is_chosen part skipped k ≡ true →
-        ForSome (point_at live.old (slice_index_or ends.old k d).slot (slice_index_or ends.old k d).is_end) (C.can_move change.now) }
-    ensures moved { IsMovedPart (C.rule change.now) (C.target change.now) live.old live.new ends.old ends.new (is_chosen part skipped) }
+        C.can_move change.now (point_of (slice_index_or ends.old k d)) }
+    ensures moved { IsMovedPart (C.rule change.now) (C.target change.now) ends.old ends.new (is_chosen part skipped) }
+    ensures listed { IsListed live.new ends.new }
     ensures within { result.behind ≤ length ends.old }
     ensures nodes { (k : ℕ) (d : RangeEnd) → (k < result.first) ⊎ (result.behind ≤ k) →
         (slice_index_or ends.new k d).node ≡ (slice_index_or ends.old k d).node }
@@ -60,8 +39,15 @@ fn move_part<C: Change>(
     for i in part.first..part.behind {
         if !skipped.has(i) {
             let end = ends[i];
-            let node = move_end(live, end, change);
-            ends[i].node = node;
+            let (node, offset) = change.moved(end.node, end.offset);
+            put_point(live, end.slot, end.is_end, (node, offset));
+            let moved = RangeEnd {
+                node,
+                offset,
+                slot: end.slot,
+                is_end: end.is_end,
+            };
+            ends[i] = moved;
             if node != end.node {
                 changed.first = changed.first.min(i);
                 changed.behind = i + 1;
@@ -72,7 +58,7 @@ fn move_part<C: Change>(
 }
 
 /// Moves the ends of all ranges, by two parts of their list outside which a step of a change moves none: those are not
-/// looked at.
+/// looked at. Where the step brings ends to another node, they are put in order there by a sort of that node's ends.
 pub(crate) fn move_ends<C: Change>(
     live: &mut Slab<Points>,
     ends: &mut [RangeEnd],
@@ -81,26 +67,50 @@ pub(crate) fn move_ends<C: Change>(
     two: Span,
 )
     requires listed { IsListed live.old ends.old }
-    requires sorted { IsSortedByNode ends.old }
+    requires sorted { IsSortedByPoint ends.old }
     requires one_within { one.behind ≤ length ends.old }
     requires two_within { two.behind ≤ length ends.old }
     requires all { AreAllIn (C.rule change.now) ends.old one two }
     requires can_move { (slot : ℕ) → ForSome (get live.old slot) (λ p. BothEnds (C.can_move change.now) (range_from p)) }
     ensures moved { (slot : ℕ) → option_map range_from (get live.new slot) ≡ option_map (λ p. map_ends (C.rule change.now) (range_from p)) (get live.old slot) }
     ensures listed { IsListed live.new ends.new }
-    ensures sorted { IsSortedByNode ends.new }
+    ensures sorted { IsSortedByPoint ends.new }
 {
+    if one.is_empty() && two.is_empty() {
+        return;
+    }
     let nothing = Span {
         first: 0,
         behind: 0,
     };
     let here = move_part(live, ends, change, one, nothing);
     let there = move_part(live, ends, change, two, one);
+    if change.keeps_order() {
+        return;
+    }
     let low = here.first.min(there.first);
     let high = here.behind.max(there.behind);
     if low < high {
         settle(ends, low, high, change.target());
     }
+    put_in_order(ends, change.target());
+}
+
+/// Moves the ends of all ranges by a step that tells which of them it may move: the others are not looked at.
+pub(crate) fn move_concerned<C: LocalChange>(
+    live: &mut Slab<Points>,
+    ends: &mut [RangeEnd],
+    change: &C,
+)
+    requires listed { IsListed live.old ends.old }
+    requires sorted { IsSortedByPoint ends.old }
+    requires can_move { (slot : ℕ) → ForSome (get live.old slot) (λ p. BothEnds (C.can_move change.now) (range_from p)) }
+    ensures moved { (slot : ℕ) → option_map range_from (get live.new slot) ≡ option_map (λ p. map_ends (C.rule change.now) (range_from p)) (get live.old slot) }
+    ensures listed { IsListed live.new ends.new }
+    ensures sorted { IsSortedByPoint ends.new }
+{
+    let (one, two) = change.parts(ends);
+    move_ends(live, ends, change, one, two);
 }
 
 /// Writes one end of the range in a slot.
@@ -128,35 +138,42 @@ pub(crate) fn put_end(
 )
     requires held { IsSome (get live.old slot) }
     requires listed { IsListed live.old ends.old }
-    requires sorted { IsSortedByNode ends.old }
+    requires sorted { IsSortedByPoint ends.old }
     ensures put { get live.new slot ≡ option_map (with_end_at is_end point.0 point.1) (get live.old slot) }
     ensures others { (s : ℕ) → s ≢ slot → get live.new s ≡ get live.old s }
     ensures listed { IsListed live.new ends.new }
-    ensures sorted { IsSortedByNode ends.new }
+    ensures sorted { IsSortedByPoint ends.new }
 {
     if let Some(points) = live.get(slot).copied() {
-        let (node, _offset) = if is_end { points.end } else { points.start };
-        let (to, offset) = point;
-        put_point(live, slot, is_end, (to, offset));
-        bring(ends, RangeEnd { node, slot, is_end }, to);
+        let (from, at) = if is_end { points.end } else { points.start };
+        let (node, offset) = point;
+        put_point(live, slot, is_end, (node, offset));
+        let end = RangeEnd {
+            node: from,
+            offset: at,
+            slot,
+            is_end,
+        };
+        bring(ends, end, node, offset);
     }
 }
 
 /// Drops the range in a slot, and its ends from the list.
 pub(crate) fn drop_range(live: &mut Slab<Points>, ends: &mut Vec<RangeEnd>, slot: usize)
     requires listed { IsListed live.old ends.old.items }
-    requires sorted { IsSortedByNode ends.old.items }
+    requires sorted { IsSortedByPoint ends.old.items }
     ensures updates { Updates live.old live.new slot None }
     ensures listed { IsListed live.new ends.new.items }
-    ensures sorted { IsSortedByNode ends.new.items }
+    ensures sorted { IsSortedByPoint ends.new.items }
 {
     if let Some(points) = live.try_remove(slot) {
-        let (start, _from) = points.start;
-        let (end, _to) = points.end;
+        let (start, from) = points.start;
+        let (end, to) = points.end;
         drop_end(
             ends,
             RangeEnd {
                 node: start,
+                offset: from,
                 slot,
                 is_end: false,
             },
@@ -165,6 +182,7 @@ pub(crate) fn drop_range(live: &mut Slab<Points>, ends: &mut Vec<RangeEnd>, slot
             ends,
             RangeEnd {
                 node: end,
+                offset: to,
                 slot,
                 is_end: true,
             },

@@ -6,13 +6,14 @@ ghost use Rattle.dom_model.specs.Ranges.{map_ends, after_removal};
 ghost use Rattle.dom_model.specs.Tree.{index_of};
 ghost use Rattle.dom_tree.specs.Forest.{IsNode, name_of};
 ghost use Rattle.dom_ranges.specs.Tables.{BothEnds, range_from};
-ghost use Rattle.dom_ranges.specs.Listed.{IsListed, IsSortedByNode, is_in};
+ghost use Rattle.dom_ranges.specs.Listed.{IsListed, IsSortedByPoint, is_in};
 ghost use Rattle.dom_ranges.specs.Rules.{IsAtNode, is_inside, after_closing};
 
 use crate::change::{Closing, Leaving};
-use crate::ends::{RangeEnd, Span, part_of};
+use crate::ends::{RangeEnd, Span};
 use crate::indexes::index_before_ends;
-use crate::moving::move_ends;
+use crate::moving::{move_concerned, move_ends};
+use crate::searching::part_of;
 use crate::table::Points;
 use dom_tree::Forest;
 use node_arena::Key;
@@ -29,18 +30,18 @@ pub(crate) fn move_out(
     parent: Key,
 )
     requires listed { IsListed live.old ends.old }
-    requires sorted { IsSortedByNode ends.old }
+    requires sorted { IsSortedByPoint ends.old }
     requires node_is_node { IsNode forest.now node }
     requires ends { (slot : ℕ) → ForSome (get live.old slot) (λ p. BothEnds (IsAtNode forest.now.names) (range_from p)) }
     ensures moved { (slot : ℕ) → option_map range_from (get live.new slot) ≡ option_map
         (λ p. map_ends (after_removal nat_eq (is_inside forest.now node) parent (index_of forest.now.trees (name_of forest.now node)))
         (range_from p)) (get live.old slot) }
     ensures listed { IsListed live.new ends.new }
-    ensures sorted { IsSortedByNode ends.new }
+    ensures sorted { IsSortedByPoint ends.new }
 {
     let inside = part_inside(forest, node, ends);
     if inside.is_empty() {
-        if let Some(index) = index_before_ends(live, ends, forest, parent, node) {
+        if let Some(index) = index_before_ends(ends, forest, parent, node) {
             close(live, ends, parent, index);
         }
         return;
@@ -63,25 +64,20 @@ pub(crate) fn move_out(
 /// Moves the ends behind the child of a node that is gone, by the index that it had.
 fn close(live: &mut Slab<Points>, ends: &mut [RangeEnd], parent: Key, index: usize)
     requires listed { IsListed live.old ends.old }
-    requires sorted { IsSortedByNode ends.old }
+    requires sorted { IsSortedByPoint ends.old }
     ensures moved { (slot : ℕ) → option_map range_from (get live.new slot) ≡ option_map
         (λ p. map_ends (after_closing parent index) (range_from p)) (get live.old slot) }
     ensures listed { IsListed live.new ends.new }
-    ensures sorted { IsSortedByNode ends.new }
+    ensures sorted { IsSortedByPoint ends.new }
 {
-    let there = part_of(ends, parent);
-    let nothing = Span {
-        first: 0,
-        behind: 0,
-    };
-    move_ends(live, ends, &Closing { parent, index }, there, nothing);
+    move_concerned(live, ends, &Closing { parent, index });
 }
 
 /// The places from the first to the last of the ends that are at nodes in the tree of `top`. Each node of the tree costs
 /// two binary searches in the list. Where the tree has more nodes than the list has ends, the walk stops after as many:
 /// to test each end is less then.
 fn part_inside(forest: &Forest, top: Key, ends: &[RangeEnd]) -> Span
-    requires sorted { IsSortedByNode ends.now }
+    requires sorted { IsSortedByPoint ends.now }
     requires nodes { (k : ℕ) (d : RangeEnd) → k < length ends.now → (IsNode forest.now top) ×
         (IsNode forest.now (slice_index_or ends.now k d).node) }
     ensures within { result.behind ≤ length ends.now }

@@ -9,15 +9,15 @@ ghost use Rattle.dom_model.specs.Ranges.{at, from_to, map_ends, after_insert, af
 ghost use Rattle.dom_model.specs.Tree.{parent_of, index_of, length_of};
 ghost use Rattle.dom_tree.specs.Forest.{IsNode, name_of};
 ghost use Rattle.slab.specs.Slab.{get, Updates};
-ghost use Rattle.dom_ranges.specs.Listed.{IsAtTwo};
 ghost use Rattle.dom_ranges.specs.Rules.{Fits, IsAtNode, IsNear, IsUpTo, is_inside};
 ghost use Rattle.dom_ranges.specs.Settings.{start_set, end_set, named_ranges, with_named, without_named};
 ghost use Rattle.dom_ranges.specs.Tables.{ranges_of, range_in, with_ranges, range_from, ends_by, EachRange, BothEnds, collapsed_range};
 
-use crate::change::{Change, Join, Replacement, Split};
-use crate::ends::{RangeEnd, Span, list_range, part_of};
+use crate::change::{Join, Replacement, Split};
+use crate::concerned::LocalChange;
+use crate::ends::{RangeEnd, list_range};
 use crate::indexes::{index_among_ends, index_before_ends, reach};
-use crate::moving::{drop_range, move_ends, put_end};
+use crate::moving::{drop_range, move_concerned, put_end};
 use crate::numbers::Numbers;
 use crate::removing::move_out;
 use crate::setting::{with_end, with_start};
@@ -50,11 +50,11 @@ impl Model for RangeTable {
     ghost Value = { RangeLists };
 
     ghost use Rattle.dom_ranges.specs.RangeSlots.{shown, HaveNumbers};
-    ghost use Rattle.dom_ranges.specs.Listed.{IsListed, IsSortedByNode};
+    ghost use Rattle.dom_ranges.specs.Listed.{IsListed, IsSortedByPoint};
 
     ghost view = { λ t. shown t.live t.numbers };
 
-    ghost invariant = { λ t. HaveNumbers t.live t.numbers × IsListed t.live t.ends.items × IsSortedByNode t.ends.items };
+    ghost invariant = { λ t. HaveNumbers t.live t.numbers × IsListed t.live t.ends.items × IsSortedByPoint t.ends.items };
 }
 
 impl RangeTable {
@@ -264,7 +264,7 @@ impl RangeTable {
     pub fn reach(&self, node: Key) -> usize
         ensures { (o : Owners) → EachRange (BothEnds (IsUpTo node result)) (ranges_of self.now o) }
     {
-        reach(&self.live, self.ends.as_slice(), node)
+        reach(self.ends.as_slice(), node)
     }
 
     /// The index of a child, where boundary points stand behind the child in its parent.
@@ -274,7 +274,7 @@ impl RangeTable {
         ensures none { result ≡ None → (o : Owners) →
             EachRange (BothEnds (IsUpTo parent (index_of forest.now.trees (name_of forest.now child)))) (ranges_of self.now o) }
     {
-        index_before_ends(&self.live, self.ends.as_slice(), forest, parent, child)
+        index_before_ends(self.ends.as_slice(), forest, parent, child)
     }
 
     /// Tells the table that a node is to leave its parent, in whose tree it is still linked (DOM Standard, concept:
@@ -322,7 +322,7 @@ impl RangeTable {
             count,
             length,
         };
-        self.apply(&change, node, node);
+        self.apply(&change);
     }
 
     /// Tells the table that a Text was split at `offset`, and what was past it is in the Text `new` (DOM Standard,
@@ -342,7 +342,7 @@ impl RangeTable {
                 parent,
                 index,
             };
-            self.apply(&change, node, parent);
+            self.apply(&change);
         }
     }
 
@@ -360,7 +360,7 @@ impl RangeTable {
             parent,
             index,
         };
-        self.apply(&change, next, parent);
+        self.apply(&change);
     }
 
     /// The index of a child, as far as boundary points stand in its parent.
@@ -369,25 +369,14 @@ impl RangeTable {
         ensures { (o : Owners) → EachRange (BothEnds (IsNear parent (index_of forest.now.trees (name_of forest.now child)) result))
             (ranges_of self.now o) }
     {
-        index_among_ends(&self.live, self.ends.as_slice(), forest, parent, child)
+        index_among_ends(self.ends.as_slice(), forest, parent, child)
     }
 
-    /// Rewrites the ends of all ranges for a step of a change, which moves none but those at two nodes, or at one.
-    pub(crate) fn apply<C: Change>(&mut self, change: &C, one: Key, two: Key)
-        requires can_move { (o : Owners) → EachRange (BothEnds (C.can_move change.now)) (ranges_of self.old o) }
-        requires nodes { IsAtTwo (C.rule change.now) one two }
+    /// Rewrites the ends of all ranges for a step of a change that tells which of them it may move.
+    pub(crate) fn apply<C: LocalChange>(&mut self, change: &C)
+        requires { (o : Owners) → EachRange (BothEnds (C.can_move change.now)) (ranges_of self.old o) }
         ensures { (o : Owners) → ranges_of self.new o ≡ ends_by (C.rule change.now) (ranges_of self.old o) }
     {
-        let ends = self.ends.as_mut_slice();
-        let here = part_of(ends, one);
-        let there = if one == two {
-            Span {
-                first: 0,
-                behind: 0,
-            }
-        } else {
-            part_of(ends, two)
-        };
-        move_ends(&mut self.live, ends, change, here, there);
+        move_concerned(&mut self.live, self.ends.as_mut_slice(), change);
     }
 }

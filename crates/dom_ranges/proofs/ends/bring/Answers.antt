@@ -1,19 +1,55 @@
-use Rattle.std.proofs.Common.{refl, subst, get_or, [], ◌∷◌}
-use Rattle.dom_ranges.specs.declared.ends.RangeEnd.{RangeEnd}
-use Rattle.dom_ranges.specs.Listed.{HasChanged, at_node}
-use Rattle.dom_ranges.proofs.Gathering.{IsSortedBeside-set, HasChanged-set}
+use Rattle.std.proofs.Common.{◌+◌, ◌≤◌, inl, inr, length, length-set, set, arith}
+use Rattle.dom_model.specs.Ranges.{at}
+use Rattle.dom_ranges.specs.Listed.{AtMost, end_in}
+use Rattle.dom_ranges.proofs.Gathering.{HasChanged-set}
+use Rattle.dom_ranges.proofs.Placing.{placed-earlier, placed-later, group-set, behind-set, ahead-set}
 use Rattle.dom_ranges.proofs.ends.bring.Goals as goal
 
-pub settle-requires-clause-sorted : goal.settle-requires-clause-sorted
-settle-requires-clause-sorted c =
-    IsSortedBeside-set c.args.ends.now c.find-place.result c.args.node
-    (at_node (get_or c.args.ends.now c.find-place.result c.index-ends-place.result) c.args.node) c.find-place.ensures.within refl
-    c.requires.sorted
+pub returns-then-to-place-clause-brought : goal.returns-then-to-place-clause-brought
+returns-then-to-place-clause-brought c =
+    HasChanged-set c.args.ends.now c.turn.new.ends c.find-place.result c.args.end
+    (end_in c.args.end.slot c.args.end.is_end (at c.args.node c.args.offset)) c.find-place.ensures.within c.find-place.ensures.found
+    c.turn.ensures.permutation
 
-pub returns-clause-brought : goal.returns-clause-brought
-returns-clause-brought c =
-    subst (λ (z : RangeEnd). HasChanged c.args.ends.now c.settle.new.ends (c.args.end ∷ []) (at_node z c.args.node ∷ []))
-    (c.find-place.ensures.found c.index-ends-place.result)
-    (HasChanged-set c.args.ends.now c.settle.new.ends c.find-place.result c.args.end
-    (at_node (get_or c.args.ends.now c.find-place.result c.index-ends-place.result) c.args.node) c.find-place.ensures.within
-    c.find-place.ensures.found c.settle.ensures.permutation)
+pub returns-then-to-place-clause-sorted : goal.returns-then-to-place-clause-sorted
+returns-then-to-place-clause-sorted c =
+    let es = c.args.ends.now in
+    let place = c.find-place.result in
+    let within = c.find-place.ensures.within in
+    let y = end_in c.args.end.slot c.args.end.is_end (at c.args.node c.args.offset) in
+    let size = length-set es place y in
+    placed-earlier AtMost (set es place y) c.turn.new.ends place (place + 1) (group-set es place y within c.requires.sorted) c.turn.ensures.len
+    c.place_behind-to.result c.if-to-place.true
+    (λ i l. behind-set es place y within c.requires.sorted i (inl (omega (arith, l, c.if-to-place.true))) (λ d. c.place_behind-to.ensures.less i d l))
+    (λ j p l. elim p [
+      | inl q ↦ ahead-set es place y within c.requires.sorted j (inl q.1) (λ d. c.place_behind-to.ensures.more j d q.0 (omega (arith, l, size)))
+      | inr q ↦ ahead-set es place y within c.requires.sorted j (inr q)
+          (λ d. c.place_behind-to.ensures.more j d (omega (arith, q, c.if-to-place.true)) (omega (arith, l, size)))
+    ])
+    c.turn.ensures.turned
+
+pub returns-else-to-place-clause-brought : goal.returns-else-to-place-clause-brought
+returns-else-to-place-clause-brought c =
+    HasChanged-set c.args.ends.now c.turn-else-to-place.new.ends c.find-place.result c.args.end
+    (end_in c.args.end.slot c.args.end.is_end (at c.args.node c.args.offset)) c.find-place.ensures.within c.find-place.ensures.found
+    c.turn-else-to-place.ensures.permutation
+
+pub returns-else-to-place-clause-sorted : goal.returns-else-to-place-clause-sorted
+returns-else-to-place-clause-sorted c =
+    let es = c.args.ends.now in
+    let place = c.find-place.result in
+    let to = c.place_behind-to.result in
+    let within = c.find-place.ensures.within in
+    let y = end_in c.args.end.slot c.args.end.is_end (at c.args.node c.args.offset) in
+    let size = length-set es place y in
+    let past : place + 1 ≤ to = omega (arith, c.if-to-place.false) in
+    let in_list : to ≤ length (set es place y) = omega (arith, size, c.place_behind-to.ensures.within) in
+    placed-later AtMost (set es place y) c.turn-else-to-place.new.ends place (place + 1) (group-set es place y within c.requires.sorted)
+    c.turn-else-to-place.ensures.len to past in_list
+    (λ i p. elim p [
+      | inl q ↦ behind-set es place y within c.requires.sorted i (inl q) (λ d. c.place_behind-to.ensures.less i d (omega (arith, q, past)))
+      | inr q ↦ behind-set es place y within c.requires.sorted i (inr q.0) (λ d. c.place_behind-to.ensures.less i d q.1)
+    ])
+    (λ j l m. ahead-set es place y within c.requires.sorted j (inr (omega (arith, l, past)))
+    (λ d. c.place_behind-to.ensures.more j d l (omega (arith, m, size))))
+    c.turn-else-to-place.ensures.turned

@@ -2,8 +2,8 @@ use Rattle.std.proofs.Common.{◌≡◌, ◌<◌, List, ◌∷◌, length, get_o
 use Rattle.std.specs.List.Sorted.{IsPermutation}
 use Rattle.std.proofs.lemmas.List.Sorted.{IsPermutation-remove}
 use Rattle.dom_ranges.specs.declared.ends.RangeEnd.{RangeEnd}
-use Rattle.dom_ranges.specs.Listed.{IsSortedByNode}
-use Rattle.dom_ranges.proofs.Gathering.{IsSortedByNode-removed}
+use Rattle.dom_ranges.specs.Listed.{IsSortedByPoint}
+use Rattle.dom_ranges.proofs.Placing.{IsSortedByPoint-removed}
 use Rattle.dom_ranges.proofs.ends.drop_end.Goals as goal
 
 pub returns-clause-dropped : goal.returns-clause-dropped
@@ -22,4 +22,4 @@ returns-clause-sorted c =
     let es = c.args.ends.now.items in
     let within : c.find-place.result < length es =
     subst (λ (xs : List RangeEnd). c.find-place.result < length xs) c.as_slice.ensures.value c.find-place.ensures.within in
-    subst IsSortedByNode (sym c.remove.ensures.items) (IsSortedByNode-removed es c.find-place.result within c.requires.sorted)
+    subst IsSortedByPoint (sym c.remove.ensures.items) (IsSortedByPoint-removed es c.find-place.result within c.requires.sorted)

@@ -1,15 +1,20 @@
 use Rattle.std.proofs.Common.{◌≡◌, ◌+◌, ◌<◌, ◌≤◌, ◌/◌, ◌-◌, get_or, sym, ap, ◌∙◌, arith, rules}
 use Rattle.std.proofs.lemmas.List.{get_or_default}
 use Rattle.dom_ranges.specs.declared.ends.RangeEnd.{RangeEnd}
+use Rattle.dom_ranges.proofs.ends.place_in.Goals.{then-lt, else-lt+then-eq, else-lt+else-eq}
 use Rattle.dom_ranges.proofs.ends.place_in.Goals as goal
 
-pub loop-low-preserved-then-le : goal.loop-low-preserved-then-le
-loop-low-preserved-then-le c =
+pub loop-low-preserved-then-end-offset : goal.loop-low-preserved-then-end-offset
+loop-low-preserved-then-end-offset c =
     let es = c.args.ends.now in
     let part = c.args.part in
     let middle = c.loop-low.low + (c.loop-low.high - c.loop-low.low) / 2 in
     let below : middle < c.loop-low.high = omega arith in
-    let less : c.index-ends-middle.result.node ≤ c.args.node = search rules in
+    let less : c.index-ends-middle.result.node ≤ c.args.node = elim c.if-lt.branch [
+      | then-lt w ↦ search rules
+      | else-lt+then-eq w ↦ search rules
+      | else-lt+else-eq w ↦ search rules
+    ] in
     let read : (d : RangeEnd) → get_or es middle d ≡ c.index-ends-middle.result =
     λ d. get_or_default es middle d c.index-ends-middle.result (omega arith) ∙ sym c.index-ends-middle.is in
     record {
@@ -25,7 +30,11 @@ loop-low-preserved c =
     let es = c.args.ends.now in
     let middle = c.loop-low.low + (c.loop-low.high - c.loop-low.low) / 2 in
     let below : middle < c.loop-low.high = omega arith in
-    let more : c.args.node < c.index-ends-middle.result.node = search rules in
+    let more : c.args.node ≤ c.index-ends-middle.result.node = elim c.if-lt.branch [
+      | then-lt w ↦ search rules
+      | else-lt+then-eq w ↦ search rules
+      | else-lt+else-eq w ↦ search rules
+    ] in
     let read : (d : RangeEnd) → get_or es middle d ≡ c.index-ends-middle.result =
     λ d. get_or_default es middle d c.index-ends-middle.result (omega arith) ∙ sym c.index-ends-middle.is in
     record {

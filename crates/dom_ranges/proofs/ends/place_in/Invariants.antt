@@ -8,7 +8,7 @@ invariant-loop-low l = record {
   order : l.low ≤ l.high;
   behind : l.high ≤ l.fn.part.behind;
   less : (k : ℕ) (d : RangeEnd) → l.fn.part.first ≤ k → k < l.low → (get_or l.ends k d).node ≤ l.node;
-  more : (k : ℕ) (d : RangeEnd) → l.high ≤ k → k < l.fn.part.behind → l.node < (get_or l.ends k d).node;
+  more : (k : ℕ) (d : RangeEnd) → l.high ≤ k → k < l.fn.part.behind → l.node ≤ (get_or l.ends k d).node;
 }
 
 abbrev pub decreases-loop-low : goal.decreases-loop-low

@@ -1,18 +1,45 @@
-use Rattle.std.proofs.Common.{inl, inr, sym, ◌∙◌, arith, true≢false}
+use Rattle.std.proofs.Common.{◌≢◌, ◌-◌, ◌<◌, inl, inr, length, ap, ◌∙◌, arith, rules}
 use Rattle.std.proofs.lemmas.Bool.{cases_lt}
-use Rattle.dom_ranges.specs.Rules.{IsUpTo}
-use Rattle.dom_ranges.proofs.Leaving.{each-listed}
-use Rattle.dom_ranges.proofs.Parts.{outside-part}
+use Rattle.std.proofs.lemmas.List.{get_or_default}
+use Rattle.dom_ranges.specs.declared.ends.RangeEnd.{RangeEnd}
+use Rattle.dom_ranges.proofs.indexes.reach.Goals.{else-behind-gt0-via-then-behind-gt0+else-eq, else-behind-gt0-via-else-behind-gt0}
 use Rattle.dom_ranges.proofs.indexes.reach.Goals as goal
 
-pub loop-i-init : goal.loop-i-init
-loop-i-init c k d l within here b e = absurd (true≢false (sym (c.part_of-part.ensures.all k d within here) ∙ outside-part c.part_of-part.result k (inl l)))
+pub returns-then-eq : goal.returns-then-eq
+returns-then-eq c =
+    λ k d l e.
+    let es = c.args.ends.now in
+    let last = c.behind_node-behind.result - 1 in
+    let within : last < length es = omega (arith, c.if-behind-gt0.true, c.behind_node-behind.ensures.within) in
+    elim (cases_lt k c.behind_node-behind.result) [
+      | inl m ↦
+          let s = c.requires k last d (omega (arith, m)) within in
+          let up = c.behind_node-behind.ensures.less last d (omega (arith, m)) in
+          omega (
+            arith,
+            s.1 (omega (arith, s.0, up, e)),
+            ap (λ (x : RangeEnd). x.offset) (get_or_default es last d c.index-ends-behind-then-eq.result within),
+          )
+      | inr m ↦ absurd (omega (arith, e, c.behind_node-behind.ensures.more k d m l))
+    ]
 
 pub returns : goal.returns
 returns c =
-    each-listed (IsUpTo c.args.node c.loop-i.reach) c.args.live.now c.args.ends.now c.requires.listed
-    (λ k d b l e same here. elim (cases_lt k c.loop-i.i) [
-      | inl m ↦ c.loop-i.invariant k d m l (sym same ∙ here) b e
-      | inr m ↦ absurd (true≢false (sym (c.part_of-part.ensures.all k d l (sym same ∙ here)) ∙
-          outside-part c.part_of-part.result k (inr (omega (arith, m, c.loop-i-test.false)))))
-    ])
+    λ k d l e.
+    let es = c.args.ends.now in
+    elim c.else-behind-gt0.branch [
+      | else-behind-gt0-via-then-behind-gt0+else-eq w ↦
+          let last = c.behind_node-behind.result - 1 in
+          let within : last < length es = omega (arith, w.if-behind-gt0.true, c.behind_node-behind.ensures.within) in
+          let apart : w.index-ends-behind.result.node ≢ c.args.node = search rules in
+          elim (cases_lt k c.behind_node-behind.result) [
+            | inl m ↦
+                let s = c.requires k last d (omega (arith, m)) within in
+                let up = c.behind_node-behind.ensures.less last d (omega (arith, m)) in
+                absurd (apart (ap (λ (x : RangeEnd). x.node) (w.index-ends-behind.is ∙ get_or_default es last w.index-ends-behind.result d within) ∙
+                omega (arith, s.0, up, e)))
+            | inr m ↦ absurd (omega (arith, e, c.behind_node-behind.ensures.more k d m l))
+          ]
+      | else-behind-gt0-via-else-behind-gt0 w ↦
+          absurd (omega (arith, e, c.behind_node-behind.ensures.more k d (omega (arith, w.if-behind-gt0.false)) l))
+    ]

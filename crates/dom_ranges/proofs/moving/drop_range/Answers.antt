@@ -1,5 +1,6 @@
 use Rattle.std.proofs.Common.{◌≡◌, Some, true, false, is_some, sym, ap}
 use Rattle.slab.specs.Slab.{get}
+use Rattle.dom_ranges.specs.Listed.{end_of}
 use Rattle.dom_ranges.proofs.Listing.{IsListed-dropped, listed-once, listed-once-rest}
 use Rattle.dom_ranges.proofs.moving.drop_range.Goals as goal
 
@@ -11,7 +12,7 @@ drop_end-requires-clause-there c =
 pub drop_end-requires-in-Some-clause-there : goal.drop_end-requires-in-Some-clause-there
 drop_end-requires-in-Some-clause-there c =
     let there : get c.args.live.now c.args.slot ≡ Some c.in-Some.points = sym c.in-Some.ensures.value in
-    listed-once-rest c.args.live.now c.args.ends.now.items c.drop_end.new.ends.items c.args.slot c.in-Some.points.start.0 c.in-Some.points.end.0
+    listed-once-rest c.args.live.now c.args.ends.now.items c.drop_end.new.ends.items c.args.slot (end_of false c.in-Some.points) (end_of true c.in-Some.points)
     c.requires.listed (ap is_some there) c.drop_end.ensures.dropped
     (listed-once c.args.live.now c.args.ends.now.items c.requires.listed c.args.slot true c.in-Some.points there)
 
@@ -19,5 +20,5 @@ pub returns-in-Some-clause-listed : goal.returns-in-Some-clause-listed
 returns-in-Some-clause-listed c =
     let there : get c.args.live.now c.args.slot ≡ Some c.in-Some.points = sym c.in-Some.ensures.value in
     IsListed-dropped c.args.live.now c.try_remove.new.self c.args.ends.now.items c.drop_end.new.ends.items c.drop_end-in-Some.new.ends.items
-    c.args.slot c.in-Some.points.start.0 c.in-Some.points.end.0 c.requires.listed (ap is_some there) c.try_remove.ensures.updates
+    c.args.slot (end_of false c.in-Some.points) (end_of true c.in-Some.points) c.requires.listed (ap is_some there) c.try_remove.ensures.updates
     c.drop_end.ensures.dropped c.drop_end-in-Some.ensures.dropped

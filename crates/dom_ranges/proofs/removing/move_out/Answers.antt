@@ -1,10 +1,11 @@
-use Rattle.std.proofs.Common.{◌≡◌, ℕ, false, sym, subst, ◌∙◌}
+use Rattle.std.proofs.Common.{◌≡◌, ℕ, get_or, subst, ◌∙◌}
 use Rattle.std.specs.Prelude.{nat_eq}
 use Rattle.dom_model.specs.Place.{Boundary}
 use Rattle.dom_model.specs.Ranges.{after_removal}
 use Rattle.dom_model.specs.Tree.{index_of}
 use Rattle.dom_tree.specs.Forest.{name_at}
-use Rattle.dom_ranges.specs.Rules.{is_inside, after_leaving, after_closing}
+use Rattle.dom_ranges.specs.Rules.{IsUpTo, is_inside, after_leaving, after_closing}
+use Rattle.dom_ranges.specs.Listed.{point_of}
 use Rattle.dom_ranges.proofs.Leaving.{Moves, OfEach, moves-alike, moves-none, moves-twice, each-listed, removal-outside, removal-twice, closing-none}
 use Rattle.dom_ranges.proofs.removing.move_out.Goals as goal
 
@@ -18,9 +19,8 @@ returns-in-Some-clause-moved c =
     (c.index_before_ends.ensures.index c.in-Some.index c.in-Some.is) c.close.ensures.moved)
     (each-listed (λ b. after_removal nat_eq inside c.args.parent index b ≡ after_closing c.args.parent index b) c.args.live.now c.args.ends.now
     c.requires.listed
-    (λ k d b l e same.
-    removal-outside inside c.args.parent index b
-    (subst (λ (n : ℕ). inside n ≡ false) (sym same) (c.part_inside-inside.ensures.all k d l (c.is_empty.ensures c.if-is_empty.true k)))))
+    (λ k d l. removal-outside inside c.args.parent index (point_of (get_or c.args.ends.now k d))
+    (c.part_inside-inside.ensures.all k d l (c.is_empty.ensures c.if-is_empty.true k))))
 
 pub returns-in_default-clause-moved : goal.returns-in_default-clause-moved
 returns-in_default-clause-moved c =
@@ -29,13 +29,14 @@ returns-in_default-clause-moved c =
     let index = index_of f.trees (name_at f.names c.args.node) in
     let outside : OfEach (λ b. after_removal nat_eq inside c.args.parent index b ≡ after_closing c.args.parent index b) c.args.live.now =
     each-listed (λ b. after_removal nat_eq inside c.args.parent index b ≡ after_closing c.args.parent index b) c.args.live.now c.args.ends.now c.requires.listed
-    (λ k d b l e same.
-    removal-outside inside c.args.parent index b
-    (subst (λ (n : ℕ). inside n ≡ false) (sym same) (c.part_inside-inside.ensures.all k d l (c.is_empty.ensures c.if-is_empty.true k)))) in
+    (λ k d l. removal-outside inside c.args.parent index (point_of (get_or c.args.ends.now k d))
+    (c.part_inside-inside.ensures.all k d l (c.is_empty.ensures c.if-is_empty.true k))) in
+    let up_to : OfEach (IsUpTo c.args.parent index) c.args.live.now =
+    each-listed (IsUpTo c.args.parent index) c.args.live.now c.args.ends.now c.requires.listed (c.index_before_ends.ensures.none c.in_default.is) in
     moves-none (after_removal nat_eq inside c.args.parent index) c.args.live.now
     (λ slot p e.
     let a = outside slot p e in
-    let b = c.index_before_ends.ensures.none c.in_default.is slot p e in
+    let b = up_to slot p e in
     (a.0 ∙ closing-none c.args.parent index _ b.0, a.1 ∙ closing-none c.args.parent index _ b.1))
 
 pub returns-clause-moved : goal.returns-clause-moved

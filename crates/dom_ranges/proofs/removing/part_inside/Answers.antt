@@ -4,6 +4,7 @@ use Rattle.dom_tree.specs.Forest.{name_at}
 use Rattle.dom_traversal.proofs.Counts.{Once-forest}
 use Rattle.dom_traversal.proofs.Order.{outside-test}
 use Rattle.dom_traversal.proofs.Searching.{following_step}
+use Rattle.dom_model.specs.Ranges.{at}
 use Rattle.dom_ranges.specs.Listed.{end_in}
 use Rattle.dom_ranges.proofs.Inside.{from_key, all-from_top, top-stands, next-from}
 use Rattle.dom_ranges.proofs.removing.part_inside.Goals as goal
@@ -13,7 +14,7 @@ loop-at-init c =
     let f = c.args.forest.now in
     let e = c.nodes_stand_once.ensures in
     record {
-      stands = λ some. top-stands f c.args.top e.once e.only (c.requires.nodes 0 (end_in 0 false 0) some).0;
+      stands = λ some. top-stands f c.args.top e.once e.only (c.requires.nodes 0 (end_in 0 false (at 0 0)) some).0;
       few = omega arith;
       within = omega arith;
       ahead = λ k d l out. all-from_top f c.args.top e.once e.only (c.requires.nodes k d l).0 (name_at f.names (get_or c.args.ends.now k d).node);
@@ -23,7 +24,7 @@ pub following-at-requires-clause-key_is_node : goal.following-at-requires-clause
 following-at-requires-clause-key_is_node c = (c.loop-at.invariant.stands (omega arith) c.in-Some.key c.in-Some.is).node
 
 pub following-at-requires-clause-top_is_node : goal.following-at-requires-clause-top_is_node
-following-at-requires-clause-top_is_node c = (c.requires.nodes 0 (end_in 0 false 0) (omega arith)).0
+following-at-requires-clause-top_is_node c = (c.requires.nodes 0 (end_in 0 false (at 0 0)) (omega arith)).0
 
 pub following-at-requires-clause-within : goal.following-at-requires-clause-within
 following-at-requires-clause-within c = (c.loop-at.invariant.stands (omega arith) c.in-Some.key c.in-Some.is).within

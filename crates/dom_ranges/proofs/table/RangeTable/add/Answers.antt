@@ -1,11 +1,12 @@
 use Rattle.std.proofs.Common.{◌≡◌, ℕ, List, [], ◌∷◌, ◌++◌, true, false, IsSome, sym, subst, refl, ap, ◌∙◌, length, Option, Result, Ok, Err, OnErr, arith}
 use Rattle.slab.specs.Slab.{get, Slab}
+use Rattle.dom_model.specs.Ranges.{at}
 use Rattle.dom_ranges.specs.declared.table.Points.{Points}
 use Rattle.dom_ranges.specs.Tables.{ranges_of}
 use Rattle.dom_ranges.specs.RangeSlots.{HaveNumbers}
 use Rattle.std.specs.List.Sorted.{IsPermutation}
 use Rattle.dom_ranges.specs.declared.ends.RangeEnd.{RangeEnd}
-use Rattle.dom_ranges.specs.Listed.{IsListed, IsSortedByNode, end_in}
+use Rattle.dom_ranges.specs.Listed.{IsListed, IsSortedByPoint, end_in}
 use Rattle.dom_ranges.proofs.Listing.{IsListed-added, IsListed-same}
 use Rattle.dom_ranges.proofs.Writing.{Shows, Shows-view, Shows-same, HaveNumbers-same, HaveNumbers-pushed, ranges-shown, ranges-pushed, length-ranges}
 use Rattle.dom_ranges.proofs.table.RangeTable.add.Goals as goal
@@ -34,7 +35,7 @@ invariant_of-self-in_err-slot c =
           (λ s. (λ i. subst IsSome (same s) i, λ i. subst IsSome (sym (same s)) i)) c.reserve.ensures.slots c.self.invariant.0,
       subst (IsListed c.insert.new.self) (sym c.reserve-2.ensures.items)
           (IsListed-same c.self.inside.live c.insert.new.self c.self.inside.ends.items same c.self.invariant.1),
-      subst IsSortedByNode (sym c.reserve-2.ensures.items) c.self.invariant.2,
+      subst IsSortedByPoint (sym c.reserve-2.ensures.items) c.self.invariant.2,
     )
 
 pub returns-in_err-slot-clause-err : goal.returns-in_err-slot-clause-err
@@ -71,10 +72,10 @@ held-then c =
 pub invariant_of-self-2 : goal.invariant_of-self-2
 invariant_of-self-2 c = (
   held-then c,
-  IsListed-added c.self.inside.live c.insert.new.self c.self.inside.ends.items c.list_range.new.ends.items c.in_ok-slot.slot c.args.node _
+  IsListed-added c.self.inside.live c.insert.new.self c.self.inside.ends.items c.list_range.new.ends.items c.in_ok-slot.slot (at c.args.node 0) _
       c.self.invariant.1 c.in_ok-slot.ensures.was_vacant c.in_ok-slot.ensures.updates refl refl
       (subst (λ (xs : List RangeEnd). IsPermutation
-      (xs ++ end_in c.in_ok-slot.slot false c.args.node ∷ end_in c.in_ok-slot.slot true c.args.node ∷ []) c.list_range.new.ends.items)
+      (xs ++ end_in c.in_ok-slot.slot false (at c.args.node 0) ∷ end_in c.in_ok-slot.slot true (at c.args.node 0) ∷ []) c.list_range.new.ends.items)
       c.reserve-2.ensures.items c.list_range.ensures.listed),
   c.list_range.ensures.sorted,
 )

@@ -1,12 +1,12 @@
 use Rattle.dom_model.specs.Tree.{index_of}
 use Rattle.dom_tree.specs.Forest.{name_at}
 use Rattle.dom_ranges.specs.Rules.{IsNear}
-use Rattle.dom_ranges.proofs.Leaving.{each-shown}
+use Rattle.dom_ranges.proofs.Leaving.{each-seen}
 use Rattle.dom_ranges.proofs.Writing.{Shows-view}
 use Rattle.dom_ranges.proofs.table.RangeTable.index_among.Goals as goal
 
 pub returns : goal.returns
 returns c =
-    each-shown (IsNear c.args.parent (index_of c.args.forest.now.trees (name_at c.args.forest.now.names c.args.child)) c.index_among_ends.result)
-    c.self.inside.live c.self.inside.numbers _
-    (Shows-view c.self.inside.live c.self.inside.numbers _ c.self.view_is) c.index_among_ends.ensures
+    each-seen (IsNear c.args.parent (index_of c.args.forest.now.trees (name_at c.args.forest.now.names c.args.child)) c.index_among_ends.result)
+    c.self.inside.live c.self.inside.numbers _ (Shows-view c.self.inside.live c.self.inside.numbers _ c.self.view_is) c.self.inside.ends.items
+    c.as_slice.result.now c.self.invariant.1 c.as_slice.ensures.value c.index_among_ends.ensures

@@ -5,7 +5,7 @@ use Rattle.dom_ranges.proofs.Listing.{both-put}
 use Rattle.slab.specs.Slab.{Updates, get}
 use Rattle.std.specs.Option.{option_map}
 use Rattle.dom_ranges.specs.declared.ends.RangeEnd.{RangeEnd}
-use Rattle.dom_ranges.specs.Listed.{IsListed, IsSortedByNode, with_end_at}
+use Rattle.dom_ranges.specs.Listed.{IsListed, IsSortedByPoint, with_end_at}
 use Rattle.dom_ranges.proofs.Gathering.{written-back}
 use Rattle.dom_ranges.proofs.table.RangeTable.write.Goals as goal
 
@@ -47,7 +47,7 @@ invariant_of-self c =
           (c.self.invariant.0.held c.args.owner c.args.number c.in-Some.slot
           (slot-under c.self.inside.numbers c.args.owner c.args.number c.in-Some.slot c.in-Some.ensures))) (λ o. refl) c.self.invariant.0,
       subst (IsListed c.put_end-in-Some.new.live) back c.put_end-in-Some.ensures.listed,
-      subst IsSortedByNode back c.put_end-in-Some.ensures.sorted,
+      subst IsSortedByPoint back c.put_end-in-Some.ensures.sorted,
     )
 
 pub returns-in_default : goal.returns-in_default
