@@ -1,9 +1,8 @@
 -- Folds and filters, and sets of numbers in order.
-use Rattle.std.proofs.Common.{◌≡◌, ℕ, ◌+◌, ◌<◌, ◌≤◌, Bool, true, false, not, ◌&&◌, ◌||◌, cond, eqb, List, [], ◌∷◌, ◌++◌, length, map, get_or, take}
+use Rattle.std.proofs.Common.{◌≡◌, ℕ, ◌+◌, ◌<◌, Bool, true, false, not, ◌&&◌, ◌||◌, cond, eqb, List, [], ◌∷◌, ◌++◌, length, map, get_or, take}
 use Rattle.std.proofs.Common.{inl, inr, refl, sym, ap, ◌∙◌, subst, arith}
 use Rattle.std.specs.List.{fold, filter, list_any, flat_map}
-use Rattle.std.proofs.lemmas.List.{append_assoc, append-nil, length-map, get_or-map, take_all, map-append}
-use Rattle.std.proofs.lemmas.List.Sums.{fold_more}
+use Rattle.std.proofs.lemmas.List.{append_assoc, append-nil, length-map, get_or-map, map-append}
 use Rattle.std.proofs.lemmas.List.Elements.{filter-append, filter_agree, filter_more}
 use Rattle.std.proofs.lemmas.List.Folds.{list_any-append}
 use Rattle.std.proofs.lemmas.Bool.{cond-true, cond-false, eqb-true, eq-eqb, ne_eqb, cases_eq, or_left, and_from, and_left, and_right, not_from_true}
@@ -130,18 +129,6 @@ fold-distinct xs = fold-append_once [] xs ∙ all_pass (distinct eqb xs)
 pub list_any_of_map : {X Y : Type 0} (p : X → Bool) (h : Y → X) (ys : List Y) → list_any p (map h ys) ≡ list_any (λ y. p (h y)) ys
 list_any_of_map p h [] = refl
 list_any_of_map p h (y ∷ ys) = ap (λ b. p (h y) || b) (list_any_of_map p h ys)
-
--- A fold over views of the first items.
-module _ {X Y B : Type 0} (f : B → Y → B) (view : X → Y) (b : B) (xs : List X) (i : ℕ) where
-  -- one image more in a fold
-  pub fold-view_more : (x : X) → i < length xs → x ≡ get_or xs i x → fold f b (take (i + 1) (map view xs)) ≡ f (fold f b (take i (map view xs))) (view x)
-  fold-view_more x short is =
-      fold_more f b (map view xs) i (view x) (let same = length-map xs view in omega (arith, same, short))
-      ∙ ap (f (fold f b (take i (map view xs)))) (get_or-map view xs i x (view x) short ∙ ap view (sym is))
-
-  -- all images in a fold
-  pub fold-view_all : length xs ≤ i → fold f b (take i (map view xs)) ≡ fold f b (map view xs)
-  fold-view_all long = ap (fold f b) (take_all i (map view xs) (let same = length-map xs view in omega (arith, same, long)))
 
 -- one image more that passes a test
 pub filter-view_more : {X Y Z : Type 0} (p : Y → Bool) (g : Y → Z) (view : X → Y) (xs : List X) (i : ℕ) (x : X) → i < length xs → x ≡ get_or xs i x

@@ -6,7 +6,7 @@ use Rattle.std.proofs.lemmas.Bool.{cond-true, cond-false}
 use Rattle.dom_model.specs.Names.{is_in, append_once, distinct, is_empty}
 use Rattle.dom_model.specs.Output.{Change}
 use Rattle.dom_model.specs.Observers.{Registration, registrations_on, fits, fitting, interested, asks_for_old, transients_for}
-use Rattle.dom_observers.specs.Taking.{Found, none_found, and_found, found_by, found_on, transient_copy, copied_by, copied_on}
+use Rattle.dom_observers.specs.Taking.{Found, none_found, and_found, found_by, transient_copy, copied_by}
 use Rattle.dom_observers.proofs.Folds.{fold-flat_map, or_no, eqb-turned, is_in-append_once, fold-distinct}
 
 -- a fold that passes over what a test rejects
@@ -23,16 +23,6 @@ fold-passing {B = B} f g p takes stays b (x ∷ xs) = by (p x) refl (λ c. fold-
         ap (λ d. fold f d xs) (stays b x e) ∙ rest b
         ∙ sym (ap (fold g b) (cond-false (p x) (x ∷ filter p xs) (filter p xs) e))
 
--- a fold over what two tests pass
-fold_both : {A B : Type 0} (f g : B → A → B) (p q : A → Bool) → ((b : B) (x : A) → f b x ≡ cond (q x && p x) (g b x) b)
-    → (b : B) (xs : List A) → fold f b xs ≡ fold g b (filter p (filter q xs))
-fold_both f g p q is b xs =
-    fold-passing f (λ c x. cond (p x) (g c x) c) q
-    (λ c x e. is c x ∙ ap (λ t. cond (t && p x) (g c x) c) e)
-    (λ c x e. is c x ∙ ap (λ t. cond (t && p x) (g c x) c) e)
-    b xs
-    ∙ fold-passing (λ c x. cond (p x) (g c x) c) g p (λ c x e. cond-true (p x) (g c x) c e) (λ c x e. cond-false (p x) (g c x) c e) b (filter q xs)
-
 -- two folds whose steps agree
 pub fold-agree : {A B : Type 0} (f g : B → A → B) → ((b : B) (x : A) → f b x ≡ g b x) → (b : B) (xs : List A) → fold f b xs ≡ fold g b xs
 fold-agree f g same b [] = refl
@@ -42,24 +32,11 @@ fold-agree f g same b (x ∷ xs) = ap (λ c. fold f c xs) (same b x) ∙ fold-ag
 abbrev adds : Change ℕ → Found → Registration ℕ → Found
 adds c f r = and_found f r.observer (asks_for_old r.options c)
 
--- the walk goes over the fitting registrations
-walk-fitting : (rs : List (Registration ℕ)) (c : Change ℕ) (path : List ℕ) →
-    fold (found_on rs c) none_found path ≡ fold (adds c) none_found (fitting eqb path rs c)
-walk-fitting rs c path =
-    fold-agree (found_on rs c) (λ f x. fold (adds c) f (filter (fits eqb c) (filter (λ r. eqb r.node x) rs)))
-    (λ f x. fold_both (found_by c x) (adds c) (fits eqb c) (λ r. eqb r.node x) (λ g r. refl) f rs) none_found path
-    ∙ sym (fold-flat_map (adds c) (fits eqb c) (λ x. filter (λ r. eqb r.node x) rs) none_found path)
-
 -- the observers that it finds
 found-observers : (c : Change ℕ) (f : Found) (rs : List (Registration ℕ)) →
     (fold (adds c) f rs).observers ≡ fold (append_once eqb) f.observers (map (λ r. r.observer) rs)
 found-observers c f [] = refl
 found-observers c f (r ∷ rs) = found-observers c (adds c f r) rs
-
-pub walk-observers : (rs : List (Registration ℕ)) (c : Change ℕ) (path : List ℕ) → (fold (found_on rs c) none_found path).observers ≡ interested eqb path rs c
-walk-observers rs c path =
-    ap (λ (f : Found). f.observers) (walk-fitting rs c path)
-    ∙ (found-observers c none_found (fitting eqb path rs c) ∙ fold-distinct (map (λ r. r.observer) (fitting eqb path rs c)))
 
 -- a registration of an observer that asks for the old value
 abbrev wants_old : Change ℕ → ℕ → Registration ℕ → Bool
@@ -90,10 +67,6 @@ found-with_old c k f (r ∷ rs) =
     ∙ (ap (λ b. b || list_any (wants_old c k) rs) (one_more f.with_old k r.observer (asks_for_old r.options c))
     ∙ or-assoc (is_in eqb k f.with_old) (wants_old c k r) (list_any (wants_old c k) rs))
 
-pub walk-with_old : (rs : List (Registration ℕ)) (c : Change ℕ) (path : List ℕ) (k : ℕ)
-    → is_in eqb k (fold (found_on rs c) none_found path).with_old ≡ list_any (wants_old c k) (fitting eqb path rs c)
-walk-with_old rs c path k = ap (λ (f : Found). is_in eqb k f.with_old) (walk-fitting rs c path) ∙ found-with_old c k none_found (fitting eqb path rs c)
-
 -- ---- transient copies
 
 -- a fold that puts each item's image behind others
@@ -101,15 +74,39 @@ fold-behind : {A B : Type 0} (f : A → B) (ys : List B) (xs : List A) → fold 
 fold-behind f ys [] = sym (append-nil ys)
 fold-behind f ys (x ∷ xs) = fold-behind f (ys ++ f x ∷ []) xs ∙ append_assoc ys (f x ∷ []) (map f xs)
 
--- the copies are those of the rule
-pub walk-copies : (rs : List (Registration ℕ)) (node : ℕ) (path : List ℕ) → fold (copied_on node rs) [] path ≡ transients_for eqb node path rs
-walk-copies rs node path =
-    fold-agree (copied_on node rs) (λ copies x. fold (λ zs r. zs ++ transient_copy node r ∷ []) copies
-    (filter (λ r. r.options.subtree) (filter (λ r. eqb r.node x) rs)))
-    (λ copies x. fold_both (copied_by node x) (λ zs r. zs ++ transient_copy node r ∷ []) (λ r. r.options.subtree) (λ r. eqb r.node x)
-    (λ zs r. refl) copies rs) [] path
-    ∙ (sym (fold-flat_map (λ zs r. zs ++ transient_copy node r ∷ []) (λ r. r.options.subtree) (λ x. filter (λ r. eqb r.node x) rs) [] path)
-    ∙ fold-behind (transient_copy node) [] (filter (λ r. r.options.subtree) (registrations_on eqb path rs)))
+-- ---- whole walks
+
+-- The walk over the registrations on the nodes of a path.
+module _ (rs : List (Registration ℕ)) (on : ℕ → List (Registration ℕ)) (is : (x : ℕ) → on x ≡ filter (λ r. eqb r.node x) rs) where
+  -- it goes over the fitting ones
+  walk-fitting : (c : Change ℕ) (path : List ℕ) → fold (λ f x. fold (found_by c) f (on x)) none_found path ≡ fold (adds c) none_found (fitting eqb path rs c)
+  walk-fitting c path =
+      fold-agree (λ f x. fold (found_by c) f (on x)) (λ f x. fold (adds c) f (filter (fits eqb c) (filter (λ r. eqb r.node x) rs)))
+      (λ f x. ap (fold (found_by c) f) (is x)
+      ∙ fold-passing (found_by c) (adds c) (fits eqb c) (λ g r e. cond-true (fits eqb c r) (adds c g r) g e)
+      (λ g r e. cond-false (fits eqb c r) (adds c g r) g e) f (filter (λ r. eqb r.node x) rs)) none_found path
+      ∙ sym (fold-flat_map (adds c) (fits eqb c) (λ x. filter (λ r. eqb r.node x) rs) none_found path)
+
+  pub walk-observers : (c : Change ℕ) (path : List ℕ) → (fold (λ f x. fold (found_by c) f (on x)) none_found path).observers ≡ interested eqb path rs c
+  walk-observers c path =
+      ap (λ (f : Found). f.observers) (walk-fitting c path)
+      ∙ (found-observers c none_found (fitting eqb path rs c) ∙ fold-distinct (map (λ r. r.observer) (fitting eqb path rs c)))
+
+  pub walk-with_old : (c : Change ℕ) (path : List ℕ) (k : ℕ)
+      → is_in eqb k (fold (λ f x. fold (found_by c) f (on x)) none_found path).with_old ≡ list_any (wants_old c k) (fitting eqb path rs c)
+  walk-with_old c path k = ap (λ (f : Found). is_in eqb k f.with_old) (walk-fitting c path) ∙ found-with_old c k none_found (fitting eqb path rs c)
+
+  -- the copies are those of the rule
+  pub walk-copies : (node : ℕ) (path : List ℕ) → fold (λ copies x. fold (copied_by node) copies (on x)) [] path ≡ transients_for eqb node path rs
+  walk-copies node path =
+      fold-agree (λ copies x. fold (copied_by node) copies (on x)) (λ copies x. fold (λ zs r. zs ++ transient_copy node r ∷ []) copies
+      (filter (λ r. r.options.subtree) (filter (λ r. eqb r.node x) rs)))
+      (λ copies x. ap (fold (copied_by node) copies) (is x)
+      ∙ fold-passing (copied_by node) (λ zs r. zs ++ transient_copy node r ∷ []) (λ r. r.options.subtree)
+      (λ zs r e. cond-true r.options.subtree (zs ++ transient_copy node r ∷ []) zs e)
+      (λ zs r e. cond-false r.options.subtree (zs ++ transient_copy node r ∷ []) zs e) copies (filter (λ r. eqb r.node x) rs)) [] path
+      ∙ (sym (fold-flat_map (λ zs r. zs ++ transient_copy node r ∷ []) (λ r. r.options.subtree) (λ x. filter (λ r. eqb r.node x) rs) [] path)
+      ∙ fold-behind (transient_copy node) [] (filter (λ r. r.options.subtree) (registrations_on eqb path rs)))
 
 -- ---- an owner without registrations
 

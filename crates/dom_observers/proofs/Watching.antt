@@ -1,141 +1,110 @@
--- What is noted of an owner's registrations, what is known of nodes of which nothing is noted, and the walk upwards that looks for
--- noted nodes.
-use Rattle.std.proofs.Common.{◌≡◌, ℕ, ◌<◌, Bool, true, false, ◌&&◌, ◌||◌, cond, eqb, List, [], ◌∷◌, ◌++◌, length, map, Option, Some, None, refl, sym}
-use Rattle.std.proofs.Common.{ap, ◌∙◌, subst, arith}
-use Rattle.std.specs.Prelude.{option_map}
+-- What is noted of an owner's registrations: their places, and the nodes from which what is below is observed; what is found in these
+-- places, what is known of nodes of which nothing is noted, and the walk upwards that looks for noted nodes.
+use Rattle.std.proofs.Common.{◌≡◌, ℕ, ◌+◌, ◌<◌, ◌≤◌, Bool, true, false, not, ◌&&◌, ◌||◌, cond, eqb, List, [], ◌∷◌, ◌++◌, length, map, get_or, take, Option}
+use Rattle.std.proofs.Common.{Some, None, Bor, refl, sym, ap, ◌∙◌, subst, arith}
+use Rattle.std.specs.Prelude.{option_map, slice_get, if◌then◌else◌}
 use Rattle.std.specs.Option.{ForSome}
-use Rattle.std.specs.List.{All, list_any, filter, fold}
-use Rattle.std.proofs.lemmas.Bool.{cond-true, cond-false, or_parts, or_from, or_left, or_right, and_left, and_right, eq-eqb, eqb-true}
-use Rattle.std.proofs.lemmas.Bool.{false_from_ne_true, true≢false}
-use Rattle.std.proofs.lemmas.List.{length-map, get_or-map}
-use Rattle.std.proofs.lemmas.List.Elements.{All-map, All-filter, All-weaker, filter-append, filter_passes}
-use Rattle.std.proofs.lemmas.List.Folds.{list_any-append, list_any_none}
-use Rattle.dom_model.specs.Names.{is_in, append_once, distinct}
+use Rattle.std.specs.Slice.{IsItemAt}
+use Rattle.std.specs.List.{list_any, filter, cons_option, fold}
+use Rattle.std.proofs.lemmas.Bool.{cond-true, cond-false, or_parts, or_from, or_left, or_right, and_left, and_right, eqb-true}
+use Rattle.std.proofs.lemmas.List.{append_assoc, length-map, length_push, length-take-le, take_all, take_more}
+use Rattle.std.proofs.lemmas.Option.{slice_get-map, slice_get_past, slice_get_read}
+use Rattle.std.proofs.lemmas.List.Elements.{filter-append, filter_map-append}
+use Rattle.std.proofs.lemmas.List.Folds.{list_any-append}
+use Rattle.std.proofs.lemmas.List.Sums.{length-filter, count_by-le-length}
+use Rattle.dom_model.specs.Names.{is_in, append_once}
 use Rattle.dom_model.specs.Tree.{parent_of}
 use Rattle.dom_model.specs.Output.{Change}
-use Rattle.dom_model.specs.Observers.{Registration, registrations_on, asks_for, fits, interested, transients_for, target_of}
+use Rattle.dom_model.specs.Observers.{Registration, registrations_on, asks_for, fits, fitting, transients_for, target_of, is_transient}
 use Rattle.dom_tree.specs.Forest.{NamedTrees, name_at}
 use Rattle.dom_tree.specs.Apart.{TellApart}
 use Rattle.dom_traversal.proofs.Counts.{StandOnce, StandAlone}
+use Rattle.dom_observers.specs.declared.places.Places.{Places}
 use Rattle.dom_observers.specs.declared.registered.Registered.{Registered}
 use Rattle.dom_observers.specs.declared.watched.Watched.{Watched}
+use Rattle.dom_observers.specs.Views.{registration_of}
 use Rattle.dom_observers.specs.Naming.{IsKey}
 use Rattle.dom_observers.specs.Paths.{path_keys}
-use Rattle.dom_observers.specs.Taking.{Found, found_by, found_on, transient_copy, copied_by, copied_on}
-use Rattle.dom_observers.specs.Views.{registration_of}
-use Rattle.dom_observers.specs.Watching.{IsNoted, AreNoted}
+use Rattle.dom_observers.specs.Taking.{transient_copy, picked}
+use Rattle.dom_observers.specs.Watching.{places_in, places_or, places_at, places_from, is_above, AreNoted, any_transient}
 use Rattle.dom_observers.proofs.Ascending.{HasClimbed, climbs-first, climbs-more, climbs-all, climbs-through}
-use Rattle.dom_observers.proofs.Folds.{is_in-append_once, filter-filter}
+use Rattle.dom_observers.proofs.Folds.{is_in-append_once, filter-filter, fold-append, eqb-turned}
 
--- a registration on a node that was added
-pub noted-added : (w v : Watched) (node : ℕ) (below : Bool) (r : Registration ℕ) → v.targets.keys ≡ append_once eqb w.targets.keys node
-    → v.above.keys ≡ cond below (append_once eqb w.above.keys node) w.above.keys → r.node ≡ node → r.options.subtree ≡ below → IsNoted v r
-noted-added w v node below r targets above on is =
-    let same = eq-eqb r.node node on in
-    record {
-      target = ap (is_in eqb r.node) targets ∙
-          (is_in-append_once r.node node w.targets.keys ∙ or_right (is_in eqb r.node w.targets.keys) (eqb r.node node) same);
-      above = λ e. ap (is_in eqb r.node) (above ∙ cond-true below (append_once eqb w.above.keys node) w.above.keys (sym is ∙ e))
-          ∙ (is_in-append_once r.node node w.above.keys ∙ or_right (is_in eqb r.node w.above.keys) (eqb r.node node) same);
-    }
+-- ---- the places of a node's registrations
 
--- what is noted of the registrations of a list, as a contract sees it
-pub noted-view : (w : Watched) (items : List Registered) (rs : List (Registration ℕ)) → map registration_of items ≡ rs → AreNoted w items → All (IsNoted w) rs
-noted-view w items rs view all = subst (All (IsNoted w)) view (All-map (IsNoted w) registration_of items all)
-
--- more may be noted
-pub noted-more : (w v : Watched) (items : List Registered) → ((r : Registration ℕ) → IsNoted w r → IsNoted v r) → AreNoted w items → AreNoted v items
-noted-more w v items keeps all = All-weaker (λ r. IsNoted w (registration_of r)) (λ r. IsNoted v (registration_of r)) (λ r. keeps (registration_of r)) items all
-
--- fewer registrations are noted too
-pub noted-filter : (w : Watched) (p : Registered → Bool) (items kept : List Registered) → kept ≡ filter p items → AreNoted w items → AreNoted w kept
-noted-filter w p items kept is all = subst (AreNoted w) (sym is) (All-filter p (λ r. IsNoted w (registration_of r)) items all)
-
--- transient copies for a node that was added
-pub noted-copies : (w v : Watched) (node : ℕ) (path : List ℕ) (rs : List (Registration ℕ)) (copies : List Registered) →
-    v.targets.keys ≡ append_once eqb w.targets.keys node
-    → v.above.keys ≡ append_once eqb w.above.keys node → map registration_of copies ≡ transients_for eqb node path rs → AreNoted v copies
-noted-copies w v node path rs copies targets above is =
-    λ k d short.
-    let same = length-map copies registration_of in
-    subst (IsNoted v) (get_or-map registration_of copies k d (registration_of d) short)
-    (subst (All (IsNoted v)) (sym is)
-    (All-map (IsNoted v) (transient_copy node) (filter (λ r. r.options.subtree) (registrations_on eqb path rs))
-    (All-weaker (λ r. r.options.subtree ≡ true) (λ r. IsNoted v (transient_copy node r))
-    (λ r e. noted-added w v node true (transient_copy node r) targets above refl e)
-    (filter (λ r. r.options.subtree) (registrations_on eqb path rs))
-    (filter_passes (λ (r : Registration ℕ). r.options.subtree) (registrations_on eqb path rs))))
-    k (registration_of d) (omega (arith, same, short)))
-
--- ---- nodes of which nothing is noted
-
--- where a registration's node is the one that is not in a set
-elsewhere : (ks : List ℕ) (x y : ℕ) → is_in eqb x ks ≡ false → (eqb y x ≡ true → is_in eqb y ks ≡ true) → eqb y x ≡ false
-elsewhere ks x y off on = false_from_ne_true (eqb y x) (λ e. true≢false (sym (on e) ∙ (ap (λ z. is_in eqb z ks) (eqb-true y x e) ∙ off)))
-
--- a node that is no target has no registration
-pub unnoted-target : (w : Watched) (rs : List (Registration ℕ)) (x : ℕ) → All (IsNoted w) rs → is_in eqb x w.targets.keys ≡ false →
-    list_any (λ r. eqb r.node x) rs ≡ false
-unnoted-target w rs x all off =
-    list_any_none (λ r. eqb r.node x) rs
-    (All-weaker (IsNoted w) (λ r. eqb r.node x ≡ false) (λ r h. elsewhere w.targets.keys x r.node off (λ e. h.target)) rs all)
-
--- one from which nothing below is observed has none that observes it
-not_below : (w : Watched) (r : Registration ℕ) (x : ℕ) → IsNoted w r → is_in eqb x w.above.keys ≡ false → (eqb r.node x && r.options.subtree) ≡ false
-not_below w r x h off = by r.options.subtree refl
+-- with one registration more
+places-more : (x n : ℕ) (rs : List (Registration ℕ)) (r : Registration ℕ)
+    → places_from x n (rs ++ r ∷ []) ≡ (if eqb r.node x then places_from x n rs ++ (n + length rs) ∷ [] else places_from x n rs)
+places-more x n [] r = ap (λ m. cond (eqb r.node x) (m ∷ []) []) (omega arith)
+places-more x n (s ∷ rs) r = by (eqb s.node x) (eqb r.node x) (places-more x (n + 1) rs r)
   where
-    by : (b : Bool) → r.options.subtree ≡ b → (eqb r.node x && b) ≡ false
-    by true e = and_left (eqb r.node x) true (elsewhere w.above.keys x r.node off (λ _. h.above e))
-    by false e = and_right (eqb r.node x) false refl
+    by : (here last : Bool)
+        → places_from x (n + 1) (rs ++ r ∷ []) ≡ cond last (places_from x (n + 1) rs ++ ((n + 1) + length rs) ∷ []) (places_from x (n + 1) rs)
+        → cond here (n ∷ places_from x (n + 1) (rs ++ r ∷ [])) (places_from x (n + 1) (rs ++ r ∷ []))
+        ≡ cond last (cond here (n ∷ places_from x (n + 1) rs) (places_from x (n + 1) rs) ++ (n + length (s ∷ rs)) ∷ [])
+        (cond here (n ∷ places_from x (n + 1) rs) (places_from x (n + 1) rs))
+    by true true rest = ap (λ ps. n ∷ ps) rest ∙ ap (λ m. n ∷ places_from x (n + 1) rs ++ m ∷ []) (omega arith)
+    by true false rest = ap (λ ps. n ∷ ps) rest
+    by false true rest = rest ∙ ap (λ m. places_from x (n + 1) rs ++ m ∷ []) (omega arith)
+    by false false rest = rest
 
-pub unnoted-above : (w : Watched) (rs : List (Registration ℕ)) (x : ℕ) → All (IsNoted w) rs → is_in eqb x w.above.keys ≡ false
-    → list_any (λ r. eqb r.node x && r.options.subtree) rs ≡ false
-unnoted-above w rs x all off =
-    list_any_none (λ r. eqb r.node x && r.options.subtree) rs
-    (All-weaker (IsNoted w) (λ r. (eqb r.node x && r.options.subtree) ≡ false) (λ r h. not_below w r x h off) rs all)
+-- what stands behind others
+get-seam : {X : Type 0} (xs : List X) (y : X) (ys : List X) → slice_get (xs ++ y ∷ ys) (length xs) ≡ Some y
+get-seam [] y ys = refl
+get-seam (x ∷ xs) y ys = get-seam xs y ys
 
--- and none there fits a change of a node that is no target
-not_fitting : (w : Watched) (c : Change ℕ) (r : Registration ℕ) (x : ℕ) → IsNoted w r → is_in eqb (target_of c) w.targets.keys ≡ false →
-    is_in eqb x w.above.keys ≡ false
-    → (eqb r.node x && fits eqb c r) ≡ false
-not_fitting w c r x h off past =
-    ap (λ b. eqb r.node x && (asks_for r.options c && (b || r.options.subtree))) (elsewhere w.targets.keys (target_of c) r.node off (λ _. h.target))
-    ∙ by (eqb r.node x) (asks_for r.options c) r.options.subtree (not_below w r x h past)
-  where
-    by : (on asks below : Bool) → (on && below) ≡ false → (on && (asks && below)) ≡ false
-    by true true below e = e
-    by true false below e = refl
-    by false asks below e = refl
+-- The registrations in the places of a node are those on the node, in their order.
+module _ (x : ℕ) where
+  -- the places behind some others, with one of these less
+  moved : (done : List (Registration ℕ)) (r : Registration ℕ) (rs : List (Registration ℕ))
+      → picked ((done ++ r ∷ []) ++ rs) (places_from x (length (done ++ r ∷ [])) rs) ≡ picked (done ++ r ∷ rs) (places_from x (length done + 1) rs)
+  moved done r rs = λ j. picked (append_assoc done (r ∷ []) rs j) (places_from x (length_push done r j) rs)
 
--- ---- what is not there is passed over
+  picked-behind : (done rs : List (Registration ℕ)) → picked (done ++ rs) (places_from x (length done) rs) ≡ filter (λ r. eqb r.node x) rs
+  picked-behind done [] = refl
+  picked-behind done (r ∷ rs) = by (eqb r.node x) (sym (moved done r rs) ∙ picked-behind (done ++ r ∷ []) rs)
+    where
+      by : (here : Bool) → picked (done ++ r ∷ rs) (places_from x (length done + 1) rs) ≡ filter (λ s. eqb s.node x) rs
+          → picked (done ++ r ∷ rs) (cond here (length done ∷ places_from x (length done + 1) rs) (places_from x (length done + 1) rs))
+          ≡ cond here (r ∷ filter (λ s. eqb s.node x) rs) (filter (λ s. eqb s.node x) rs)
+      by true rest = λ j. cons_option (get-seam done r rs j) (rest j)
+      by false rest = rest
 
--- a test that nothing passes
+-- what is read in a place
+pub read : (items : List Registered) {i : ℕ} (r : Option (Bor Registered)) → IsItemAt items i r
+    → slice_get (map registration_of items) i ≡ option_map (λ b. registration_of b.now) r
+read items {i = i} None is =
+    slice_get_past (map registration_of items) i (let same = length-map items registration_of in let past = is.3 in omega (arith, same, past))
+read items {i = i} (Some b) is =
+    slice_get-map registration_of items i ∙ ap (option_map registration_of) (slice_get_read items (length items) i b.now refl is.3.0 is.1)
+
+-- what a walk over places has found after one place more
+pub picked-next : {B : Type 0} (f : B → Registration ℕ → B) (b : B) (rs : List (Registration ℕ)) (places : List ℕ) (i : ℕ) → i < length places
+    → fold f b (picked rs (take (i + 1) places)) ≡ fold f (fold f b (picked rs (take i places))) (cons_option (slice_get rs (get_or places i 0)) [])
+picked-next f b rs places i short =
+    ap (λ ps. fold f b (picked rs ps)) (take_more places i 0 short)
+    ∙ (ap (fold f b) (filter_map-append (slice_get rs) (take i places) (get_or places i 0 ∷ []))
+    ∙ fold-append f b (picked rs (take i places)) (cons_option (slice_get rs (get_or places i 0)) []))
+
+-- ---- where nothing passes a test
+
+-- a test that nothing passes keeps nothing
 nothing_passes : {X : Type 0} (p : X → Bool) (xs : List X) → list_any p xs ≡ false → filter p xs ≡ []
 nothing_passes p [] e = refl
 nothing_passes p (x ∷ xs) e =
     let parts = or_parts (p x) (list_any p xs) e in
     cond-false (p x) (x ∷ filter p xs) (filter p xs) parts.0 ∙ nothing_passes p xs parts.1
 
--- a fold that does nothing
-nothing_folds : {A B : Type 0} (f : B → A → B) (p : A → Bool) → ((b : B) (x : A) → p x ≡ false → f b x ≡ b) → (b : B) (xs : List A) →
-    list_any p xs ≡ false → fold f b xs ≡ b
-nothing_folds f p stays b [] e = refl
-nothing_folds f p stays b (x ∷ xs) e =
-    let parts = or_parts (p x) (list_any p xs) e in
-    ap (λ c. fold f c xs) (stays b x parts.0) ∙ nothing_folds f p stays b xs parts.1
+-- and where it keeps nothing, nothing passes it
+none_kept : {X : Type 0} (p : X → Bool) (xs : List X) → filter p xs ≡ [] → list_any p xs ≡ false
+none_kept p [] e = refl
+none_kept p (x ∷ xs) e = by (p x) refl (none_kept p xs)
+  where
+    by : (b : Bool) → p x ≡ b → (filter p xs ≡ [] → list_any p xs ≡ false) → list_any p (x ∷ xs) ≡ false
+    by true h rest = let wrong = ap length (sym (cond-true (p x) (x ∷ filter p xs) (filter p xs) h) ∙ e) in absurd (omega (arith, wrong))
+    by false h rest = or_from (p x) (list_any p xs) h (rest (sym (cond-false (p x) (x ∷ filter p xs) (filter p xs) h) ∙ e))
 
-pub found_on-none : (rs : List (Registration ℕ)) (c : Change ℕ) (f : Found) (x : ℕ) → list_any (λ r. eqb r.node x) rs ≡ false → found_on rs c f x ≡ f
-found_on-none rs c f x e =
-    nothing_folds (found_by c x) (λ r. eqb r.node x)
-    (λ g r off. cond-false (eqb r.node x && fits eqb c r) _ g (and_left (eqb r.node x) (fits eqb c r) off)) f rs e
-
-pub copied_on-none : (node : ℕ) (rs copies : List (Registration ℕ)) (x : ℕ) → list_any (λ r. eqb r.node x && r.options.subtree) rs ≡ false →
-    copied_on node rs copies x ≡ copies
-copied_on-none node rs copies x e =
-    nothing_folds (copied_by node x) (λ r. eqb r.node x && r.options.subtree)
-    (λ list r off. cond-false (eqb r.node x && r.options.subtree) _ list off) copies rs e
-
--- on a whole path
+-- none on a whole path
 none_on_path : (rs : List (Registration ℕ)) (p : Registration ℕ → Bool) (keys path : List ℕ) →
     ((x : ℕ) → is_in eqb x keys ≡ false → list_any (λ r. eqb r.node x && p r) rs ≡ false)
     → list_any (λ x. is_in eqb x keys) path ≡ false → filter p (registrations_on eqb path rs) ≡ []
@@ -147,22 +116,159 @@ none_on_path rs p keys (x ∷ path) none e =
     (filter-filter p (λ r. eqb r.node x) rs ∙ nothing_passes (λ r. eqb r.node x && p r) rs (none x parts.0))
     ∙ none_on_path rs p keys path none parts.1)
 
--- nobody is interested
-pub interested-unnoted : (w : Watched) (rs : List (Registration ℕ)) (path : List ℕ) (c : Change ℕ) → All (IsNoted w) rs →
-    is_in eqb (target_of c) w.targets.keys ≡ false
-    → list_any (λ x. is_in eqb x w.above.keys) path ≡ false → interested eqb path rs c ≡ []
-interested-unnoted w rs path c all off past =
-    ap (λ list. distinct eqb (map (λ (r : Registration ℕ). r.observer) list))
-    (none_on_path rs (fits eqb c) w.above.keys path
-    (λ x none. list_any_none (λ r. eqb r.node x && fits eqb c r) rs
-    (All-weaker (IsNoted w) (λ r. (eqb r.node x && fits eqb c r) ≡ false) (λ r h. not_fitting w c r x h off none) rs all)) past)
+-- none on a node fits a change of a node without registrations, if none on it observes what is below
+nothing_fits : (c : Change ℕ) (x : ℕ) (rs : List (Registration ℕ)) → list_any (λ r. eqb r.node (target_of c)) rs ≡ false → list_any (is_above x) rs ≡ false
+    → list_any (λ r. eqb r.node x && fits eqb c r) rs ≡ false
+nothing_fits c x [] off past = refl
+nothing_fits c x (r ∷ rs) off past =
+    let here = or_parts (eqb r.node (target_of c)) (list_any (λ s. eqb s.node (target_of c)) rs) off in
+    let below = or_parts (is_above x r) (list_any (is_above x) rs) past in
+    or_from (eqb r.node x && fits eqb c r) (list_any (λ s. eqb s.node x && fits eqb c s) rs)
+    (ap (λ b. eqb r.node x && (asks_for r.options c && (b || r.options.subtree))) here.0
+    ∙ by (eqb r.node x) (asks_for r.options c) r.options.subtree below.0) (nothing_fits c x rs here.1 below.1)
+  where
+    by : (on asks below : Bool) → (on && below) ≡ false → (on && (asks && below)) ≡ false
+    by true true below e = e
+    by true false below e = refl
+    by false asks below e = refl
 
--- and nothing is copied
-pub copies-unnoted : (w : Watched) (rs : List (Registration ℕ)) (path : List ℕ) (node : ℕ) → All (IsNoted w) rs →
-    list_any (λ x. is_in eqb x w.above.keys) path ≡ false
-    → transients_for eqb node path rs ≡ []
-copies-unnoted w rs path node all past =
-    ap (map (transient_copy node)) (none_on_path rs (λ r. r.options.subtree) w.above.keys path (λ x none. unnoted-above w rs x all none) past)
+-- ---- the lists of places
+
+-- the lists after that of one node was changed
+pub list-changed : (change : List ℕ → List ℕ) (node : ℕ) (v : Places) (was now : ℕ → Option Places) →
+    ((x : ℕ) → now x ≡ cond (eqb node x) (Some v) (was x))
+    → places_in v ≡ change (places_or (was node)) → (x : ℕ) → places_or (now x) ≡ cond (eqb node x) (change (places_or (was x))) (places_or (was x))
+list-changed change node v was now updated is x = ap places_or (updated x) ∙ by (eqb node x) refl
+  where
+    by : (b : Bool) → eqb node x ≡ b → places_or (cond b (Some v) (was x)) ≡ cond b (change (places_or (was x))) (places_or (was x))
+    by true e = is ∙ ap (λ y. change (places_or (was y))) (eqb-true node x e)
+    by false e = refl
+
+-- ---- what is noted
+
+-- What one more noted registration changes.
+pub record NotesNext (w v : Watched) (r : Registration ℕ) : Type 0 where
+  pub places : (x : ℕ) → places_at v x ≡ (if eqb r.node x then places_at w x ++ w.noted ∷ [] else places_at w x)
+  pub above : v.above.keys ≡ cond r.options.subtree (append_once eqb w.above.keys r.node) w.above.keys
+  pub noted : v.noted ≡ w.noted + 1
+
+module _ {w : Watched} {rs : List (Registration ℕ)} (noted : AreNoted w rs) where
+  -- one registration more is noted
+  module _ {v : Watched} (r : Registration ℕ) (short : w.noted < length rs) (there : get_or rs w.noted r ≡ r) (next : NotesNext w v r) where
+    one_more : take v.noted rs ≡ take w.noted rs ++ r ∷ []
+    one_more = ap (λ n. take n rs) next.noted ∙ (take_more rs w.noted r short ∙ ap (λ s. take w.noted rs ++ s ∷ []) there)
+
+    -- a node that is not above now was not so before, nor does the registration observe what is below it
+    off_above : (x : ℕ) → is_in eqb x v.above.keys ≡ false → (is_in eqb x w.above.keys ≡ false) × (is_above x r ≡ false)
+    off_above x off = by r.options.subtree refl (sym (ap (is_in eqb x) next.above) ∙ off)
+      where
+        by : (below : Bool) → r.options.subtree ≡ below → is_in eqb x (cond below (append_once eqb w.above.keys r.node) w.above.keys) ≡ false
+            → (is_in eqb x w.above.keys ≡ false) × (is_above x r ≡ false)
+        by true e h =
+            let parts = or_parts (is_in eqb x w.above.keys) (eqb x r.node) (sym (is_in-append_once x r.node w.above.keys) ∙ h) in
+            (parts.0, and_left (eqb r.node x) r.options.subtree (eqb-turned r.node x ∙ parts.1))
+        by false e h = (h, and_right (eqb r.node x) r.options.subtree e)
+
+    pub noted-next : AreNoted v rs
+    noted-next = record {
+      within = omega (arith, next.noted, short);
+      places = λ x.
+          next.places x
+          ∙ (ap (λ ps. cond (eqb r.node x) (ps ++ w.noted ∷ []) ps) (noted.places x)
+          ∙ (ap (λ n. cond (eqb r.node x) (places_from x 0 (take w.noted rs) ++ n ∷ []) (places_from x 0 (take w.noted rs)))
+          (let long = length-take-le w.noted rs noted.within in omega (arith, long))
+          ∙ (sym (places-more x 0 (take w.noted rs) r) ∙ ap (places_from x 0) (sym one_more))));
+      above = λ x off.
+          let parts = off_above x off in
+          ap (list_any (is_above x)) one_more
+          ∙ (list_any-append (is_above x) (take w.noted rs) (r ∷ [])
+          ∙ or_from (list_any (is_above x) (take w.noted rs)) (is_above x r || false) (noted.above x parts.0)
+          (or_from (is_above x r) false parts.1 refl));
+    }
+
+  -- ---- where all are noted
+  module _ (all : length rs ≤ w.noted) where
+    whole : take w.noted rs ≡ rs
+    whole = take_all w.noted rs all
+
+    -- those found by a node's places are those on the node
+    pub picked-on : (x : ℕ) → picked rs (places_at w x) ≡ filter (λ r. eqb r.node x) rs
+    picked-on x = ap (picked rs) (noted.places x ∙ ap (places_from x 0) whole) ∙ picked-behind x [] rs
+
+    -- a node without places has no registration
+    off_target : (x : ℕ) → places_at w x ≡ [] → list_any (λ r. eqb r.node x) rs ≡ false
+    off_target x none = none_kept (λ r. eqb r.node x) rs (sym (picked-on x) ∙ ap (picked rs) none)
+
+    -- one that is not above has none that observes what is below it
+    off_below : (x : ℕ) → is_in eqb x w.above.keys ≡ false → list_any (is_above x) rs ≡ false
+    off_below x off = ap (list_any (is_above x)) (sym whole) ∙ noted.above x off
+
+    module _ (path : List ℕ) (past : list_any (λ x. is_in eqb x w.above.keys) path ≡ false) where
+      -- none fits a change of a node without registrations
+      pub fitting-unnoted : (c : Change ℕ) → places_at w (target_of c) ≡ [] → fitting eqb path rs c ≡ []
+      fitting-unnoted c none =
+          none_on_path rs (fits eqb c) w.above.keys path (λ x off. nothing_fits c x rs (off_target (target_of c) none) (off_below x off)) past
+
+      -- and nothing is copied
+      pub copies-unnoted : (node : ℕ) → transients_for eqb node path rs ≡ []
+      copies-unnoted node = ap (map (transient_copy node)) (none_on_path rs (λ r. r.options.subtree) w.above.keys path off_below past)
+
+-- ---- registrations that go
+
+-- a test that all pass keeps all
+pub kept-all : {X : Type 0} (p : X → Bool) (xs : List X) → length xs ≤ length (filter p xs) → filter p xs ≡ xs
+kept-all p [] long = refl
+kept-all p (x ∷ xs) long = by (p x) refl (kept-all p xs)
+  where
+    by : (b : Bool) → p x ≡ b → (length xs ≤ length (filter p xs) → filter p xs ≡ xs) → filter p (x ∷ xs) ≡ x ∷ xs
+    by true e rest =
+        let same = cond-true (p x) (x ∷ filter p xs) (filter p xs) e in
+        let less = ap length same in
+        same ∙ ap (λ ys. x ∷ ys) (rest (omega (arith, long, less)))
+    by false e rest =
+        let less = ap length (cond-false (p x) (x ∷ filter p xs) (filter p xs) e) in
+        let most = count_by-le-length p xs in
+        let count = length-filter p xs in
+        absurd (omega (arith, long, less, most, count))
+
+-- where none is transient, none goes
+pub kept-lasting : (q : Registration ℕ → Bool) (rs : List (Registration ℕ)) → any_transient rs ≡ false
+    → filter (λ r. not (is_transient r.source && q r)) rs ≡ rs
+kept-lasting q [] e = refl
+kept-lasting q (r ∷ rs) e =
+    let parts = or_parts (is_transient r.source) (any_transient rs) e in
+    let p = λ (s : Registration ℕ). not (is_transient s.source && q s) in
+    cond-true (p r) (r ∷ filter p rs) (filter p rs) (ap not (and_left (is_transient r.source) (q r) parts.0))
+    ∙ ap (λ ss. r ∷ ss) (kept-lasting q rs parts.1)
+
+-- no other becomes transient
+pub transients-kept : (p : Registration ℕ → Bool) (rs : List (Registration ℕ)) → any_transient (filter p rs) ≡ true → any_transient rs ≡ true
+transients-kept p [] e = e
+transients-kept p (r ∷ rs) e = by (p r) refl (is_transient r.source) refl (transients-kept p rs)
+  where
+    by : (b : Bool) → p r ≡ b → (t : Bool) → is_transient r.source ≡ t → (any_transient (filter p rs) ≡ true → any_transient rs ≡ true)
+        → any_transient (r ∷ rs) ≡ true
+    by b h true g rest = or_left (is_transient r.source) (any_transient rs) g
+    by true h false g rest =
+        or_right (is_transient r.source) (any_transient rs)
+        (rest (sym (ap (λ t. t || any_transient (filter p rs)) g) ∙ (sym (ap any_transient (cond-true (p r) (r ∷ filter p rs) (filter p rs) h)) ∙ e)))
+    by false h false g rest =
+        or_right (is_transient r.source) (any_transient rs) (rest (sym (ap any_transient (cond-false (p r) (r ∷ filter p rs) (filter p rs) h)) ∙ e))
+
+-- ---- a list that is read as a slice
+
+-- what is noted of the registrations as a contract sees them
+pub noted-now : {w v : Watched} {slice items : List Registered} {rs : List (Registration ℕ)} → slice ≡ items → map registration_of items ≡ rs
+    → (AreNoted w (map registration_of slice) → AreNoted v (map registration_of slice)) → AreNoted w (map registration_of items) → AreNoted v rs
+noted-now {w = w} {v = v} is view notes noted =
+    subst (AreNoted v) (ap (map registration_of) is ∙ view) (notes (subst (AreNoted w) (sym (ap (map registration_of) is)) noted))
+
+-- all are noted
+pub all-now : {slice items : List Registered} {rs : List (Registration ℕ)} {n : ℕ} → slice ≡ items → map registration_of items ≡ rs
+    → length slice ≤ n → length rs ≤ n
+all-now {slice = slice} {n = n} is view short =
+    subst (λ (xs : List (Registration ℕ)). length xs ≤ n) (ap (map registration_of) is ∙ view)
+    (let same = length-map slice registration_of in omega (arith, same, short))
 
 -- ---- the walk upwards
 

@@ -1,14 +1,13 @@
 //! The observers that take the record of a change.
-ghost use Rattle.std.specs.Prelude.{◌≡◌, ℕ, nat_eq, map, IfOk, OnOk, ◌&&◌, ◌==◌};
+ghost use Rattle.std.specs.Prelude.{◌≡◌, nat_eq, map, fold, IfOk, OnOk};
 ghost use Rattle.std.specs.List.{list_any};
-ghost use Rattle.dom_model.specs.Observers.{fitting, interested, asks_for_old};
 ghost use Rattle.dom_observers.specs.Views.{change_of, registration_of};
-ghost use Rattle.dom_observers.specs.Taking.{and_found, found_on};
+ghost use Rattle.dom_observers.specs.Taking.{none_found, and_found, found_by, found_at, picked};
 ghost use Rattle.dom_observers.specs.InterestedObservers.{found_of};
 
 use crate::change::Change;
 use crate::registered::Registered;
-use crate::registrations::Registrations;
+use crate::watched::Watched;
 use indexmap::IndexSet;
 use node_arena::Key;
 use std::alloc::{AllocError, Global};
@@ -22,42 +21,49 @@ pub struct InterestedObservers {
 }
 
 impl InterestedObservers {
-    /// The interested observers of a change, by an owner's registrations and the inclusive ancestors of the changed node.
+    /// No observers. It takes no memory yet.
+    pub(crate) fn new(alloc: Global) -> Self
+        ensures { found_of result ≡ none_found }
+    {
+        InterestedObservers {
+            observers: IndexSet::new(alloc),
+            with_old: IndexSet::new(alloc),
+        }
+    }
+
+    /// The interested observers of a change, by an owner's registrations, their places, and the inclusive ancestors of the changed node.
     pub(crate) fn of(
         alloc: Global,
-        registrations: &Registrations,
+        registrations: &[Registered],
+        watched: &Watched,
         path: &[Key],
         change: &Change,
     ) -> Result<InterestedObservers, AllocError>
-        ensures observers { IfOk result (λ t. t.observers.keys ≡ interested nat_eq path.now registrations.now (change_of change.now)) }
-        ensures with_old { IfOk result (λ t. (k : ℕ) →
-            list_any (nat_eq k) t.with_old.keys ≡ list_any (λ r. (r.observer == k) && asks_for_old r.options (change_of change.now))
-            (fitting nat_eq path.now registrations.now (change_of change.now))) }
+        ensures { IfOk result (λ t. found_of t ≡
+            fold (found_at (map registration_of registrations.now) watched.now (change_of change.now)) none_found path.now) }
     {
-        let mut interested = InterestedObservers {
-            observers: IndexSet::new(alloc),
-            with_old: IndexSet::new(alloc),
-        };
+        let mut interested = InterestedObservers::new(alloc);
         for node in path {
-            if registrations.may_be_on(*node) {
-                interested.add_on(registrations.as_slice(), *node, change)?;
-            }
+            interested.add_from(registrations, watched.places(*node), change)?;
         }
         Ok(interested)
     }
 
-    /// Adds the observers of the registrations on a node that fit a change.
-    fn add_on(
+    /// Adds the observers of the registrations in some places that fit a change.
+    fn add_from(
         &mut self,
         registrations: &[Registered],
-        node: Key,
+        places: &[usize],
         change: &Change,
     ) -> Result<(), AllocError>
-        ensures { OnOk result (found_of self.new ≡ found_on (map registration_of registrations.now) (change_of change.now) (found_of self.old) node) }
+        ensures { OnOk result (found_of self.new ≡
+            fold (found_by (change_of change.now)) (found_of self.old) (picked (map registration_of registrations.now) places.now)) }
     {
-        for registered in registrations {
-            if registered.fits(node, change) {
-                self.add(registered.observer, registered.options.ask_for_old(change))?;
+        for place in places {
+            if let Some(registered) = registrations.get(*place) {
+                if registered.fits(change) {
+                    self.add(registered.observer, registered.options.ask_for_old(change))?;
+                }
             }
         }
         Ok(())

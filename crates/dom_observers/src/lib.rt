@@ -9,6 +9,7 @@ mod laws;
 mod observers;
 mod options;
 mod path;
+mod places;
 mod registered;
 mod registrations;
 mod table;

@@ -30,20 +30,11 @@ pub struct Registered {
 }
 
 impl Registered {
-    /// Whether it is on a node, and fits a change of that node or one below it (DOM Standard, queue a mutation record).
-    pub(crate) fn fits(&self, node: Key, change: &Change) -> bool
-        ensures { result ≡ (nat_eq self.now.node node && fits nat_eq (change_of change.now) (registration_of self.now)) }
+    /// Whether it fits a change of its node or one below that (DOM Standard, queue a mutation record).
+    pub(crate) fn fits(&self, change: &Change) -> bool
+        ensures { result ≡ fits nat_eq (change_of change.now) (registration_of self.now) }
     {
-        self.node == node
-            && self.options.ask_for(change)
-            && (self.node == change.target() || self.options.subtree)
-    }
-
-    /// Whether it is on a node, and observes what is below that too.
-    pub(crate) fn observes_below(&self, node: Key) -> bool
-        ensures { result ≡ (nat_eq self.now.node node && (words_of self.now.options.value).subtree) }
-    {
-        self.node == node && self.options.subtree
+        self.options.ask_for(change) && (self.node == change.target() || self.options.subtree)
     }
 
     /// Whether it is transient (DOM Standard, concept: transient registered observer).

@@ -1,16 +1,19 @@
 //! The registrations of an owner's observers.
-ghost use Rattle.std.specs.Prelude.{◌≡◌, ℕ, false, not, nat_eq, [], ◌∷◌, ◌++◌, map, filter, IfOk, OnOk, OnErr, ◌&&◌, ◌==◌};
+ghost use Rattle.std.specs.Prelude.{◌≡◌, ℕ, not, nat_eq, [], ◌∷◌, ◌++◌, map, filter, fold, IfOk, OnOk, OnErr, ◌&&◌, ◌==◌};
 ghost use Rattle.std.specs.List.{list_any};
 ghost use Rattle.dom_model.specs.Names.{is_empty};
-ghost use Rattle.dom_model.specs.Output.{Change as Changed};
 ghost use Rattle.dom_model.specs.Observers.{is_asked_for, stems_from, with_options, with_registration, without_observer, without_transients};
-ghost use Rattle.dom_model.specs.Observers.{transients_for, interested, target_of, asked_for};
+ghost use Rattle.dom_model.specs.Observers.{transients_for, interested, record_for, target_of, asked_for};
+ghost use Rattle.dom_observers.specs.InterestedObservers.{record_of};
 ghost use Rattle.dom_observers.specs.Paths.{path_keys};
-ghost use Rattle.dom_observers.specs.Views.{words_of, registration_of};
-ghost use Rattle.dom_observers.specs.Taking.{copied_on};
+ghost use Rattle.dom_observers.specs.Views.{words_of, change_of, registration_of};
+ghost use Rattle.dom_observers.specs.Taking.{picked, copied_by, copied_at};
 ghost use Rattle.dom_tree.specs.Forest.{IsNode};
 
+use crate::change::Change;
+use crate::interested::InterestedObservers;
 use crate::options::Options;
+use crate::path::inclusive_ancestors;
 use crate::registered::{Registered, Source};
 use crate::watched::Watched;
 use dom_tree::Forest;
@@ -21,12 +24,12 @@ use std::marker::Model;
 use std::rc::Rc;
 
 /// The registrations of an owner's observers in the order of their making (DOM Standard, concept: registered observer
-/// list), and the nodes that they watch. After registrations have gone these may be too many, which `is_stale` says.
+/// list), the nodes that they watch, and whether some of them may be transient.
 #[derive(Drop)]
 pub struct Registrations {
     list: Vec<Registered>,
     watched: Watched,
-    is_stale: bool,
+    may_be_transient: bool,
     alloc: Global,
 }
 
@@ -37,11 +40,11 @@ impl Model for Registrations {
     ghost Value = { List (Registration ℕ) };
 
     ghost use Rattle.dom_observers.specs.Views.{registration_of};
-    ghost use Rattle.dom_observers.specs.Watching.{AreNoted};
+    ghost use Rattle.dom_observers.specs.Watching.{AreKept};
 
     ghost view = { λ r. map registration_of r.list.items };
 
-    ghost invariant = { λ r. AreNoted r.watched r.list.items };
+    ghost invariant = { λ r. AreKept r.watched r.may_be_transient (map registration_of r.list.items) };
 }
 
 impl Registrations {
@@ -52,7 +55,7 @@ impl Registrations {
         Registrations {
             list: Vec::new(alloc),
             watched: Watched::new(alloc),
-            is_stale: false,
+            may_be_transient: false,
             alloc,
         }
     }
@@ -64,47 +67,33 @@ impl Registrations {
         self.list.is_empty()
     }
 
-    /// All of them, in order.
-    pub(crate) fn as_slice(&self) -> &[Registered]
-        ensures { map registration_of result.now ≡ self.now }
+    /// The observers that are interested in a change of a node, found by looks at the registrations on its inclusive ancestors alone
+    /// (DOM Standard, queue a mutation record: interested observers). Where nobody may be, one look for each of these serves.
+    pub(crate) fn interested_in(
+        &mut self,
+        forest: &Forest,
+        change: &Change,
+    ) -> Result<InterestedObservers, AllocError>
+        requires { IsNode forest.now (target_of (change_of change.now)) }
+        ensures keeps { self.new ≡ self.old }
+        ensures observers { IfOk result (λ t. t.observers.keys ≡
+            interested nat_eq (path_keys forest.now (target_of (change_of change.now))) self.old (change_of change.now)) }
+        ensures with_old { IfOk result (λ t. (k : ℕ) → record_of t (change_of change.now) k ≡
+            record_for nat_eq (path_keys forest.now (target_of (change_of change.now))) self.old (change_of change.now) k) }
     {
-        self.list.as_slice()
-    }
-
-    /// Whether a node may have some, by one look: where the answer is no, it has none.
-    pub(crate) fn may_be_on(&self, node: Key) -> bool
-        ensures { result ≡ false → list_any (λ r. nat_eq r.node node) self.now ≡ false }
-    {
-        self.watched.has(node)
-    }
-
-    /// Whether somebody may be interested in a change of a node, by one look for each of its inclusive ancestors: where the
-    /// answer is no, nobody is (DOM Standard, queue a mutation record: interested observers).
-    pub(crate) fn may_concern(&self, forest: &Forest, target: Key) -> bool
-        requires { IsNode forest.now target }
-        ensures { result ≡ false → (c : Changed ℕ) → target_of c ≡ target → interested nat_eq (path_keys forest.now target) self.now c ≡ [] }
-    {
-        !self.is_empty() && (self.watched.has(target) || self.watched.covers(forest, target))
-    }
-
-    /// Whether a node that is removed may get transient ones from its parent's inclusive ancestors, by one look for each of
-    /// these: where the answer is no, it gets none (DOM Standard, remove).
-    pub(crate) fn may_be_left(&self, forest: &Forest, parent: Key) -> bool
-        requires { IsNode forest.now parent }
-        ensures { result ≡ false → (node : ℕ) → transients_for nat_eq node (path_keys forest.now parent) self.now ≡ [] }
-    {
-        !self.is_empty() && self.watched.covers(forest, parent)
-    }
-
-    /// Finds anew the nodes that are watched, where some may be watched no more.
-    pub(crate) fn refresh(&mut self) -> Result<(), AllocError>
-        ensures { self.new ≡ self.old }
-    {
-        if self.is_stale {
-            self.watched.renew(self.alloc, self.list.as_slice())?;
-            self.is_stale = false;
+        let target = change.target();
+        self.watched.note(self.list.as_slice())?;
+        if self.watched.places(target).is_empty() && !self.watched.covers(forest, target) {
+            return Ok(InterestedObservers::new(self.alloc));
         }
-        Ok(())
+        let path = inclusive_ancestors(self.alloc, forest, target)?;
+        InterestedObservers::of(
+            self.alloc,
+            self.list.as_slice(),
+            &self.watched,
+            path.as_slice(),
+            change,
+        )
     }
 
     /// Registers an observer on a node, or gives its registration there other options (DOM Standard, observe()).
@@ -130,10 +119,9 @@ impl Registrations {
             (filter (λ r. not ((r.observer == observer) && stems_from nat_eq node r.source)) self.old)) }
         ensures err { OnErr result (self.new ≡ self.old) }
     {
-        let list = self.renewed(observer, node, options)?;
-        self.watched.renew(self.alloc, list.as_slice())?;
-        self.list = list;
-        self.is_stale = false;
+        self.list = self.renewed(observer, node, options)?;
+        self.watched = Watched::new(self.alloc);
+        self.may_be_transient = true;
         Ok(())
     }
 
@@ -143,7 +131,6 @@ impl Registrations {
             record { node = node; observer = observer; options = words_of options.value; source = asked_for } ∷ []) }
         ensures err { OnErr result (self.new ≡ self.old) }
     {
-        self.watched.add(node, options.subtree)?;
         self.list.push(Registered {
             node,
             observer,
@@ -185,56 +172,91 @@ impl Registrations {
     pub(crate) fn remove_of(&mut self, observer: u32)
         ensures { self.new ≡ without_observer observer self.old }
     {
+        let before = self.list.len();
         self.list
             .retain(|registered| registered.observer != observer);
-        self.is_stale = true;
+        self.watched.forget_if(self.list.len() < before);
     }
 
-    /// Takes the transient registrations of some observers away (DOM Standard, notify mutation observers).
+    /// Takes the transient registrations of some observers away (DOM Standard, notify mutation observers). Where there is no transient
+    /// one, no registration is looked at.
     pub(crate) fn remove_transients(&mut self, observers: &IndexSet<u32>)
         ensures { self.new ≡ without_transients observers.now.keys self.old }
     {
+        if !self.may_be_transient {
+            return;
+        }
         let before = self.list.len();
         self.list.retain(|registered| {
             !(registered.is_transient() && observers.contains(&registered.observer))
         });
-        self.is_stale = self.is_stale || self.list.len() < before;
+        self.watched.forget_if(self.list.len() < before);
+        self.may_be_transient = self.list.iter().any(|registered| registered.is_transient());
     }
 
-    /// Adds the transient registrations of a removed node, whose parent had these inclusive ancestors (DOM Standard,
-    /// remove).
-    pub(crate) fn add_transients(&mut self, path: &[Key], node: Key) -> Result<(), AllocError>
-        ensures ok { OnOk result (self.new ≡ self.old ++ transients_for nat_eq node path.now self.old) }
+    /// Adds the transient registrations of a node that is removed from a parent (DOM Standard, remove). Where it gets none, this costs
+    /// a look for each inclusive ancestor of the parent.
+    pub(crate) fn add_transients(
+        &mut self,
+        forest: &Forest,
+        parent: Key,
+        node: Key,
+    ) -> Result<(), AllocError>
+        requires { IsNode forest.now parent }
+        ensures ok { OnOk result (self.new ≡ self.old ++ transients_for nat_eq node (path_keys forest.now parent) self.old) }
         ensures err { OnErr result (self.new ≡ self.old) }
     {
-        let mut copies = Vec::new(self.alloc);
-        for above in path {
-            if self.watched.has_above(*above) {
-                copy_on(self.list.as_slice(), *above, node, &mut copies)?;
-            }
-        }
-        if copies.is_empty() {
+        self.watched.note(self.list.as_slice())?;
+        if !self.watched.covers(forest, parent) {
             return Ok(());
         }
-        self.watched.add(node, true)?;
+        let path = inclusive_ancestors(self.alloc, forest, parent)?;
+        let mut copies = copies_for(
+            self.alloc,
+            self.list.as_slice(),
+            &self.watched,
+            path.as_slice(),
+            node,
+        )?;
         self.list.append(&mut copies)?;
+        self.may_be_transient = true;
         Ok(())
     }
 }
 
-/// Puts the transient copies of the registrations on a node that observe its subtree behind others, for a removed node.
-fn copy_on(
+/// The transient copies for a removed node of the registrations that observe subtrees, of those on the nodes of a path.
+fn copies_for(
+    alloc: Global,
     registrations: &[Registered],
-    above: Key,
+    watched: &Watched,
+    path: &[Key],
+    node: Key,
+) -> Result<Vec<Registered>, AllocError>
+    ensures { IfOk result (λ copies. map registration_of copies.items ≡
+        fold (copied_at node (map registration_of registrations.now) watched.now) [] path.now) }
+{
+    let mut copies = Vec::new(alloc);
+    for above in path {
+        copy_from(registrations, watched.places(*above), node, &mut copies)?;
+    }
+    Ok(copies)
+}
+
+/// Puts the transient copies of the registrations in some places that observe subtrees behind others, for a removed node.
+fn copy_from(
+    registrations: &[Registered],
+    places: &[usize],
     node: Key,
     copies: &mut Vec<Registered>,
 ) -> Result<(), AllocError>
-    ensures { OnOk result (map registration_of copies.new.items ≡ copied_on node (map registration_of registrations.now)
-        (map registration_of copies.old.items) above) }
+    ensures { OnOk result (map registration_of copies.new.items ≡ fold (copied_by node) (map registration_of copies.old.items)
+        (picked (map registration_of registrations.now) places.now)) }
 {
-    for registered in registrations {
-        if registered.observes_below(above) {
-            copies.push(registered.copied_to(node)?)?;
+    for place in places {
+        if let Some(registered) = registrations.get(*place) {
+            if registered.options.subtree {
+                copies.push(registered.copied_to(node)?)?;
+            }
         }
     }
     Ok(())

@@ -16,7 +16,6 @@ ghost use Rattle.dom_tree.specs.Forest.{IsNode};
 use crate::change::{Change, Record};
 use crate::interested::InterestedObservers;
 use crate::options::Options;
-use crate::path::inclusive_ancestors;
 use crate::registrations::Registrations;
 use dom_base::{Fault, MAX_NODES, Refusal};
 use dom_tree::Forest;
@@ -141,40 +140,8 @@ impl Table {
         ensures tables { OnOk result (table_of self.new ≡ told nat_eq (path_keys forest.now (target_of (change_of change))) (change_of change)
             (table_of self.old)) }
     {
-        match self.may_concern(forest, change.target()) {
-            Ok(true) => {
-                let interested = self.interested_in(forest, &change)?;
-                self.give_to(&interested, change)
-            }
-            answer => answer,
-        }
-    }
-
-    /// Whether somebody may be interested in a change of a node: where the answer is no, nobody is.
-    fn may_concern(&mut self, forest: &Forest, target: Key) -> Result<bool, AllocError>
-        requires { IsNode forest.now target }
-        ensures tables { table_of self.new ≡ table_of self.old }
-        ensures nobody { IfOk result (λ may. may ≡ false → (c : Changed ℕ) → target_of c ≡ target →
-            interested nat_eq (path_keys forest.now target) (table_of self.old).registrations c ≡ []) }
-    {
-        self.registrations.refresh()?;
-        Ok(self.registrations.may_concern(forest, target))
-    }
-
-    /// The observers that are interested in a change of a node (DOM Standard, queue a mutation record: interested observers).
-    fn interested_in(
-        &self,
-        forest: &Forest,
-        change: &Change,
-    ) -> Result<InterestedObservers, AllocError>
-        requires { IsNode forest.now (target_of (change_of change.now)) }
-        ensures observers { IfOk result (λ t. t.observers.keys ≡
-            interested nat_eq (path_keys forest.now (target_of (change_of change.now))) (table_of self.now).registrations (change_of change.now)) }
-        ensures with_old { IfOk result (λ t. (k : ℕ) → record_of t (change_of change.now) k ≡
-            record_for nat_eq (path_keys forest.now (target_of (change_of change.now))) (table_of self.now).registrations (change_of change.now) k) }
-    {
-        let path = inclusive_ancestors(self.alloc, forest, change.target())?;
-        InterestedObservers::of(self.alloc, &self.registrations, path.as_slice(), change)
+        let interested = self.registrations.interested_in(forest, &change)?;
+        self.give_to(&interested, change)
     }
 
     /// Gives the record of a change to these observers, and answers whether there are some. The last of them gets the change
@@ -247,13 +214,7 @@ impl Table {
         requires { IsNode forest.now parent }
         ensures { OnOk result (table_of self.new ≡ left nat_eq node (path_keys forest.now parent) (table_of self.old)) }
     {
-        self.registrations.refresh()?;
-        if !self.registrations.may_be_left(forest, parent) {
-            return Ok(());
-        }
-        let path = inclusive_ancestors(self.alloc, forest, parent)?;
-        self.registrations.add_transients(path.as_slice(), node)?;
-        Ok(())
+        self.registrations.add_transients(forest, parent, node)
     }
 
     /// Empties the set of pending observers, and gives each with its records, in order; these are then gone from the queues,

@@ -1,9 +1,0 @@
-use Rattle.std.proofs.Common.{◌≡◌, take, map, []}
-use Rattle.std.specs.List.{fold}
-use Rattle.dom_observers.specs.Views.{registration_of}
-use Rattle.dom_observers.specs.Taking.{copied_on}
-use Rattle.dom_observers.proofs.registrations.Registrations.add_transients.Given as goal
-
-abbrev pub invariant-loop-above : goal.invariant-loop-above
-invariant-loop-above l = map registration_of l.copies.items ≡ fold (copied_on l.node (map registration_of l.self-inside.list.items)) []
-    (take l.above-index l.path)

@@ -1,0 +1,44 @@
+use Rattle.std.proofs.Common.{◌≡◌, ℕ, ◌++◌, ◌∷◌, [], Option, Some, None, map, get_or, sym, ap, ◌∙◌, arith}
+use Rattle.std.specs.Prelude.{slice_get}
+use Rattle.std.specs.List.{fold, cons_option}
+use Rattle.std.proofs.lemmas.Bool.{cond-true, cond-false}
+use Rattle.std.proofs.lemmas.List.{map_push}
+use Rattle.dom_model.specs.Observers.{Registration}
+use Rattle.dom_observers.specs.declared.options.Options.{Options}
+use Rattle.dom_observers.specs.Views.{registration_of}
+use Rattle.dom_observers.specs.Taking.{transient_copy, copied_by}
+use Rattle.dom_observers.proofs.Watching.{picked-next, read}
+use Rattle.dom_observers.proofs.registrations.copy_from.Goals as goal
+use Rattle.dom_observers.proofs.registrations.copy_from.Goals.{in-Some+then-deref+in_ok-copied_to+in_ok-push, in-Some+else-deref, in_default}
+
+pub loop-place-preserved : goal.loop-place-preserved
+loop-place-preserved c =
+    let f = copied_by c.args.node in
+    let rs = map registration_of c.args.registrations.now in
+    let places = c.args.places.now in
+    let i = c.loop-place.place-index in
+    let before = map registration_of c.loop-place.copies.items in
+    let there = λ (o : Option (Registration ℕ)). fold f before (cons_option o []) in
+    let here : map registration_of c.match-get.copies.items ≡ fold f before (cons_option (slice_get rs (get_or places i 0)) []) =
+    elim c.match-get.branch [
+      | in-Some+then-deref+in_ok-copied_to+in_ok-push w ↦
+          let item = registration_of w.in-Some.registered.now in
+          ap (λ copies. map registration_of copies.items) w.copies-is
+          ∙ (ap (map registration_of) w.in_ok-push.ensures.items
+          ∙ (map_push registration_of c.loop-place.copies.items _
+          ∙ (ap (λ r. before ++ r ∷ []) w.in_ok-copied_to.ensures
+          ∙ (sym (cond-true item.options.subtree (before ++ transient_copy c.args.node item ∷ []) before
+          (ap (λ (o : Options). o.subtree) (sym w.deref.ensures) ∙ w.if-deref.true))
+          ∙ sym (ap there (read c.args.registrations.now (Some w.in-Some.registered) w.in-Some.ensures.lookup))))))
+      | in-Some+else-deref w ↦
+          let item = registration_of w.in-Some.registered.now in
+          ap (λ copies. map registration_of copies.items) w.copies-is
+          ∙ (sym (cond-false item.options.subtree (before ++ transient_copy c.args.node item ∷ []) before
+          (ap (λ (o : Options). o.subtree) (sym w.deref.ensures) ∙ w.if-deref.false))
+          ∙ sym (ap there (read c.args.registrations.now (Some w.in-Some.registered) w.in-Some.ensures.lookup)))
+      | in_default w ↦ ap (λ copies. map registration_of copies.items) w.copies-is
+          ∙ sym (ap there (read c.args.registrations.now None w.in_default.ensures.lookup))
+    ] in
+    here
+    ∙ (ap (λ b. fold f b (cons_option (slice_get rs (get_or places i 0)) [])) c.loop-place.invariant
+    ∙ sym (picked-next f (map registration_of c.args.copies.now.items) rs places i (omega arith)))

@@ -1,0 +1,32 @@
+use Rattle.std.proofs.Common.{◌+◌, ◌++◌, ◌∷◌, [], eqb, cond, map, get_or, refl, sym, ap, ◌∙◌, arith}
+use Rattle.std.proofs.lemmas.List.{length-map, get_or-map}
+use Rattle.dom_model.specs.Names.{append_once}
+use Rattle.dom_observers.specs.declared.options.Options.{Options}
+use Rattle.dom_observers.specs.Views.{registration_of}
+use Rattle.dom_observers.specs.Watching.{places_at}
+use Rattle.dom_observers.proofs.Watching.{noted-next}
+use Rattle.dom_observers.proofs.watched.Watched.note.Goals as goal
+
+pub loop-place-preserved : goal.loop-place-preserved
+loop-place-preserved c =
+    let items = c.args.registrations.now in
+    let i = c.loop-place.place in
+    let item = c.index-registrations-place.result in
+    let before = c.loop-place.self in
+    let next = c.loop-place.invariant.next in
+    let short = c.loop-place-test.true in
+    record {
+      next = refl;
+      noted = λ was.
+          noted-next (c.loop-place.invariant.noted was) (registration_of item) (let same = length-map items registration_of in omega (arith, same, next, short))
+          (ap (λ n. get_or (map registration_of items) n (registration_of item)) next
+          ∙ (get_or-map registration_of items i item (registration_of item) (omega (arith, short)) ∙ ap registration_of (sym c.index-registrations-place.is)))
+          (record {
+            places = λ x.
+                c.in_ok-add.ensures.places x ∙ ap (λ n. cond (eqb item.node x) (places_at before x ++ n ∷ []) (places_at before x)) (sym next);
+            above =
+                c.in_ok-add.ensures.above
+                ∙ ap (λ (o : Options). cond o.subtree (append_once eqb before.above.keys item.node) before.above.keys) c.deref.ensures;
+            noted = ap (λ n. n + 1) (sym next);
+          });
+    }

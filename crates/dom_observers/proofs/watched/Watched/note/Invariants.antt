@@ -1,0 +1,11 @@
+use Rattle.std.proofs.Common.{◌≡◌, map}
+use Rattle.dom_observers.specs.Views.{registration_of}
+use Rattle.dom_observers.specs.Watching.{AreNoted}
+use Rattle.dom_observers.proofs.watched.Watched.note.Given as goal
+
+-- the next place is the first that is not noted
+abbrev pub invariant-loop-place : goal.invariant-loop-place
+invariant-loop-place l = record {
+  next : l.self.noted ≡ l.place;
+  noted : AreNoted l.fn.self (map registration_of l.registrations) → AreNoted l.self (map registration_of l.registrations);
+}
