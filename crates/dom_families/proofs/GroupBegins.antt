@@ -26,6 +26,7 @@ use Rattle.dom_worlds.proofs.Visits.{rest-visits}
 use Rattle.dom_families.specs.Laws.{IsCalm}
 use Rattle.dom_families.proofs.GroupSlots.{outside-no_page}
 use Rattle.dom_families.proofs.GroupTurns.{ending-in, ending-out}
+use Rattle.dom_families.proofs.GroupDispatches.{IsSameView}
 
 -- A dispatch queues no task, and so no task does.
 pub tasks-dispatch : (w : World) (x : NodeName) (r : Option NodeName) (e : EventWords) → (dispatch_in w x r e).run.0.tasks ≡ w.tasks
@@ -59,8 +60,8 @@ no_other-ended w o =
     (λ h. subst (λ (r : Run World). has_other_turn r.0 o ≡ false) (sym (cond-false (has_other_turn w o) (ending_turn w) (quiet w) h)) h)
 
 -- so a line may open a turn
-pub opened-quiet : (w : World) → IsQuiet w → (o : Owner) → has_other_turn w o ≡ false → IsQuiet (opening_turn w o)
-opened-quiet w q o h = quiet-opening w q o (λ e. subst (λ a. has_other_turn w a ≡ false) e h)
+pub opened-quiet : (w : World) → IsQuiet w → (o : Owner) → IsQuiet (opening_turn w o)
+opened-quiet w q o = quiet-opening w q o
 
 module _ (g : Owner → Bool) (closed : KeepsFamilies g) where
   -- A turn of the group, and of none of it.
@@ -124,31 +125,29 @@ module _ (g : Owner → Bool) (closed : KeepsFamilies g) where
   same-none w v same h = turn-is_of v.turn ∙ ap is_some (sym (ap (λ (u : World). u.turn) same)) ∙ sym (turn-is_of w.turn) ∙ h
 
   -- Before a line, in two such worlds.
-  pub ending_other-in : (w v : World) → IsQuiet w → IsQuiet v → group_world g w ≡ group_world g v → IsCalm g w → (o : Owner) →
-      group_run g (ending_other_turn w o) ≡ group_run g (ending_other_turn v o)
-  ending_other-in w v q p same calm o =
+  pub ending_other-in : (w v : World) → IsSameView g w v → IsCalm g w → (o : Owner) → group_run g (ending_other_turn w o) ≡ group_run g (ending_other_turn v o)
+  ending_other-in w v s calm o =
       by_cases (is_of g w.turn)
-      (λ h. let other : has_other_turn w o ≡ has_other_turn v o = ap (λ t. option_map_or (is_other_component o) t false) (same-turn w v same h) in
+      (λ h. let other : has_other_turn w o ≡ has_other_turn v o = ap (λ t. option_map_or (is_other_component o) t false) (same-turn w v s.same h) in
       by_cases (has_other_turn w o)
-      (λ e. ap (group_run g) (cond-true (has_other_turn w o) (ending_turn w) (quiet w) e) ∙ ending-in g closed w v q p same
+      (λ e. ap (group_run g) (cond-true (has_other_turn w o) (ending_turn w) (quiet w) e) ∙ ending-in g closed w v s
       ∙ sym (ap (group_run g) (cond-true (has_other_turn v o) (ending_turn v) (quiet v) (sym other ∙ e))))
-      (λ e. ap (group_run g) (cond-false (has_other_turn w o) (ending_turn w) (quiet w) e) ∙ ap (λ u. (u, [])) same
+      (λ e. ap (group_run g) (cond-false (has_other_turn w o) (ending_turn w) (quiet w) e) ∙ ap (λ u. (u, [])) s.same
       ∙ sym (ap (group_run g) (cond-false (has_other_turn v o) (ending_turn v) (quiet v) (sym other ∙ e)))))
-      (λ h. ending_other-out w q calm h o ∙ ap (λ u. (u, [])) same
-      ∙ sym (ending_other-out v p (same-calm w v same calm) (same-none w v same h) o))
+      (λ h. ending_other-out w s.first calm h o ∙ ap (λ u. (u, [])) s.same
+      ∙ sym (ending_other-out v s.second (same-calm w v s.same calm) (same-none w v s.same h) o))
 
   -- At the end of input.
-  pub ending_any-in : (w v : World) → IsQuiet w → IsQuiet v → group_world g w ≡ group_world g v → IsCalm g w →
-      group_run g (ending_any_turn w) ≡ group_run g (ending_any_turn v)
-  ending_any-in w v q p same calm =
+  pub ending_any-in : (w v : World) → IsSameView g w v → IsCalm g w → group_run g (ending_any_turn w) ≡ group_run g (ending_any_turn v)
+  ending_any-in w v s calm =
       by_cases (is_of g w.turn)
-      (λ h. let both : is_some w.turn ≡ is_some v.turn = ap is_some (same-turn w v same h) in
+      (λ h. let both : is_some w.turn ≡ is_some v.turn = ap is_some (same-turn w v s.same h) in
       by_cases (is_some w.turn)
-      (λ e. ap (group_run g) (cond-true (is_some w.turn) (ending_turn w) (quiet w) e) ∙ ending-in g closed w v q p same
+      (λ e. ap (group_run g) (cond-true (is_some w.turn) (ending_turn w) (quiet w) e) ∙ ending-in g closed w v s
       ∙ sym (ap (group_run g) (cond-true (is_some v.turn) (ending_turn v) (quiet v) (sym both ∙ e))))
-      (λ e. ap (group_run g) (cond-false (is_some w.turn) (ending_turn w) (quiet w) e) ∙ ap (λ u. (u, [])) same
+      (λ e. ap (group_run g) (cond-false (is_some w.turn) (ending_turn w) (quiet w) e) ∙ ap (λ u. (u, [])) s.same
       ∙ sym (ap (group_run g) (cond-false (is_some v.turn) (ending_turn v) (quiet v) (sym both ∙ e)))))
-      (λ h. ending_any-out w q calm h ∙ ap (λ u. (u, [])) same ∙ sym (ending_any-out v p (same-calm w v same calm) (same-none w v same h)))
+      (λ h. ending_any-out w s.first calm h ∙ ap (λ u. (u, [])) s.same ∙ sym (ending_any-out v s.second (same-calm w v s.same calm) (same-none w v s.same h)))
 
   -- after the ending the group has tasks in a turn of its own alone
   pub calm-ended : (w : World) → IsCalm g w → (o : Owner) → IsCalm g (ending_other_turn w o).0

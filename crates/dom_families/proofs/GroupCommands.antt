@@ -29,15 +29,14 @@ use Rattle.dom_model.specs.Turns.{ending_turn, opening_turn, has_other_turn, is_
 use Rattle.dom_model.specs.DocumentMachine.{refusal, effect_in, attaching, part_with_root, perform, accepted, run_command}
 use Rattle.dom_model.specs.Groups.{KeepsFamilies, group_world, group_outputs, group_run, is_task_of}
 use Rattle.dom_model.proofs.PartLaws.{owner-part_of}
-use Rattle.dom_worlds.specs.Reached.{IsQuiet}
 use Rattle.dom_worlds.proofs.Owners.{owner-named}
 use Rattle.dom_worlds.proofs.TableEffects.{KeepsBase, base-effect}
 use Rattle.dom_worlds.proofs.Tests.{by_cases}
 use Rattle.dom_families.proofs.GroupParts.{in_node, part-in, there-in, with_part-in, with_part-out, filter-here}
 use Rattle.dom_families.proofs.GroupSlots.{IsGround, ground-of, assigned-in}
-use Rattle.dom_families.proofs.GroupSteps.{steps-in}
+use Rattle.dom_families.proofs.GroupSteps.{IsSameGround, steps-in}
 use Rattle.dom_families.proofs.GroupPaths.{In, including-in, including-inside}
-use Rattle.dom_families.proofs.GroupDispatches.{runs-then, dispatch-in}
+use Rattle.dom_families.proofs.GroupDispatches.{same-ground, IsSameView, runs-then, dispatch-in}
 use Rattle.dom_families.proofs.GroupTurns.{same-part, ending-in}
 use Rattle.dom_families.proofs.GroupBegins.{same-page_turn, opening-in, opened-quiet}
 
@@ -63,17 +62,16 @@ module _ (g : Owner → Bool) (closed : KeepsFamilies g) where
   answered o a u v same = ap (λ x. (x, group_outputs g (says o (replied a) ∷ []))) same
 
   -- Effects.
-  pub effect-in : (w v : World) → IsGround w → IsGround v → group_world g w ≡ group_world g v → (o : Owner) → g o ≡ true → (e : Effect) →
-      KeepsBase (part_of w o) e →
+  pub effect-in : {w v : World} → IsSameGround g w v → (o : Owner) → g o ≡ true → (e : Effect) → KeepsBase (part_of w o) e →
       group_run g (effect_in w o e) ≡ group_run g (effect_in v o e)
-  effect-in w v i j same o h (tables p lines a) k =
+  effect-in {w} {v} s o h (tables p lines a) k =
       let mine = ap g (k.0 ∙ owner-part_of w o) ∙ h in
       let here : group_world g (with_part w p) ≡ group_world g (with_part v p) =
-      with_part-in g w p mine ∙ ap (λ u. with_part u p) same ∙ sym (with_part-in g v p mine) in
+      with_part-in g w p mine ∙ ap (λ u. with_part u p) s.same ∙ sym (with_part-in g v p mine) in
       runs-then g closed (with_part w p, map (says o) lines) (with_part v p, map (says o) lines) (answering o a) (answering o a)
       (ap (λ u. (u, group_outputs g (map (says o) lines))) here) (answered o a (with_part w p) (with_part v p) here)
-  effect-in w v i j same o h (changes steps a) k =
-      answered o a (world_after o w steps) (world_after o v steps) (steps-in g closed o h steps w v i j same)
+  effect-in {w} {v} s o h (changes steps a) k =
+      answered o a (world_after o w steps) (world_after o v steps) (steps-in g closed o h steps w v s)
 
   -- An attach writes the part of the group, and the new component's, which may be of the group or outside.
   attaching-in : (w v : World) → group_world g w ≡ group_world g v → (o : Owner) → g o ≡ true → (x : NodeName) →
@@ -104,15 +102,15 @@ module _ (g : Owner → Bool) (closed : KeepsFamilies g) where
       (part-in g w last.owner (last-all (In g closed w i) None (shadow_including_ancestors w x) x (including-inside g closed w i x h) h))
 
   -- a dispatch with its answer
-  dispatched-in : (w v : World) → IsQuiet w → IsQuiet v → group_world g w ≡ group_world g v → (o : Owner) →
+  dispatched-in : {w v : World} → IsSameView g w v → (o : Owner) →
       (x : NodeName) (r : Option NodeName) (e : EventWords) →
       in_node g x ≡ true → AllByRecursion (λ y. in_node g y ≡ true) (option_to_list r) →
       group_run g (run_then (dispatch_in w x r e).run (answering o (a_truth (dispatch_in w x r e).answer)))
       ≡ group_run g (run_then (dispatch_in v x r e).run (answering o (a_truth (dispatch_in v x r e).answer)))
-  dispatched-in w v q p same o x r e h k =
+  dispatched-in {w} {v} s o x r e h k =
       let d = dispatch_in w x r e in
       let b = dispatch_in v x r e in
-      let shown = dispatch-in g closed w v q p same x r e h k in
+      let shown = dispatch-in g closed s x r e h k in
       runs-then g closed d.run b.run (answering o (a_truth d.answer)) (answering o (a_truth b.answer))
       (ap (λ (d : Dispatched World). d.run) shown)
       (ap (λ (d : Dispatched World). (d.run.0, group_outputs g (says o (replied (a_truth d.answer)) ∷ []))) shown)
@@ -128,56 +126,56 @@ module _ (g : Owner → Bool) (closed : KeepsFamilies g) where
       ∙ sym (ap (λ ts. record (group_world g v) { tasks = ts }) (more v))
 
   -- What an accepted command does.
-  pub perform-in : (w v : World) → IsQuiet w → IsQuiet v → group_world g w ≡ group_world g v → (o : Owner) → g o ≡ true → (c : Command) →
-      group_run g (perform w o c) ≡ group_run g (perform v o c)
-  perform-in w v q p same o h (Command.attach a) =
-      attaching-in w v same o h (named (part_of w o) a) ∙ ap (λ x. group_run g (attaching v o (named x a))) (same-part g closed w v same o h)
-  perform-in w v q p same o h (Command.connected a) =
+  pub perform-in : (w v : World) → IsSameView g w v → (o : Owner) → g o ≡ true → (c : Command) → group_run g (perform w o c) ≡ group_run g (perform v o c)
+  perform-in w v s o h (Command.attach a) =
+      attaching-in w v s.same o h (named (part_of w o) a) ∙ ap (λ x. group_run g (attaching v o (named x a))) (same-part g closed w v s.same o h)
+  perform-in w v s o h (Command.connected a) =
       let x = named (part_of w o) a in
       let mine = ap g (owner-named (part_of w o) a ∙ owner-part_of w o) ∙ h in
-      answered o (a_truth (is_connected w x)) w v same
+      answered o (a_truth (is_connected w x)) w v s.same
       ∙ ap (λ b. group_run g (answering o (a_truth b) v))
-      (sym (connected-group w (ground-of w q.world) x mine) ∙ ap (λ u. is_connected u x) same ∙ connected-group v (ground-of v p.world) x mine)
-      ∙ ap (λ r. group_run g (answering o (a_truth (is_connected v (named r a))) v)) (same-part g closed w v same o h)
-  perform-in w v q p same o h (Command.assigned a) =
+      (sym (connected-group w (ground-of w s.first.world) x mine) ∙ ap (λ u. is_connected u x) s.same ∙ connected-group v (ground-of v s.second.world) x mine)
+      ∙ ap (λ r. group_run g (answering o (a_truth (is_connected v (named r a))) v)) (same-part g closed w v s.same o h)
+  perform-in w v s o h (Command.assigned a) =
       let x = named (part_of w o) a in
       let mine = ap g (owner-named (part_of w o) a ∙ owner-part_of w o) ∙ h in
-      answered o (a_list (assigned w x)) w v same
+      answered o (a_list (assigned w x)) w v s.same
       ∙ ap (λ b. group_run g (answering o (a_list b) v))
-      (sym (assigned-in g closed w (ground-of w q.world) x mine) ∙ ap (λ u. assigned u x) same ∙ assigned-in g closed v (ground-of v p.world) x mine)
-      ∙ ap (λ r. group_run g (answering o (a_list (assigned v (named r a))) v)) (same-part g closed w v same o h)
-  perform-in w v q p same o h (Command.dispatch a e r) =
+      (sym (assigned-in g closed w (ground-of w s.first.world) x mine) ∙ ap (λ u. assigned u x) s.same ∙ assigned-in g closed v
+      (ground-of v s.second.world) x mine)
+      ∙ ap (λ r. group_run g (answering o (a_list (assigned v (named r a))) v)) (same-part g closed w v s.same o h)
+  perform-in w v k o h (Command.dispatch a e r) =
       let x = part_of w o in
       let mine : (s : NodeWord) → in_node g (named x s) ≡ true = λ s. ap g (owner-named x s ∙ owner-part_of w o) ∙ h in
       let done : Part → Run World = λ y. let d = dispatch_in v (named y a) (option_map (named y) r) e in run_then d.run (answering o (a_truth d.answer)) in
-      dispatched-in w v q p same o (named x a) (option_map (named x) r) e (mine a) (near mine r)
-      ∙ ap (λ y. group_run g (done y)) (same-part g closed w v same o h)
+      dispatched-in k o (named x a) (option_map (named x) r) e (mine a) (near mine r)
+      ∙ ap (λ y. group_run g (done y)) (same-part g closed w v k.same o h)
     where
       near : ((s : NodeWord) → in_node g (named (part_of w o) s) ≡ true) → (r : Option NodeWord) →
           AllByRecursion (λ y. in_node g y ≡ true) (option_to_list (option_map (named (part_of w o)) r))
       near mine None = tt
       near mine (Some s) = (mine s, tt)
-  perform-in w v q p same o h (Command.micro a) =
-      answered o nothing (record w { tasks = w.tasks ++ micro_task o a ∷ [] }) (record v { tasks = v.tasks ++ micro_task o a ∷ [] }) (micro-in w v same o h a)
-  perform-in w v q p same o h Command.end_turn =
-      let first = ending-in g closed w v q p same in
+  perform-in w v s o h (Command.micro a) =
+      answered o nothing (record w { tasks = w.tasks ++ micro_task o a ∷ [] }) (record v { tasks = v.tasks ++ micro_task o a ∷ [] }) (micro-in w v s.same o h a)
+  perform-in w v s o h Command.end_turn =
+      let first = ending-in g closed w v s in
       runs-then g closed (ending_turn w) (ending_turn v) (answering o nothing) (answering o nothing) first
       (answered o nothing (ending_turn w).0 (ending_turn v).0 (ap (λ (r : Run World). r.0) first))
-  perform-in w v q p same o h c =
-      effect-in w v (ground-of w q.world) (ground-of v p.world) same o h (effect (part_of w o) c) (base-effect (part_of w o) c)
-      ∙ ap (λ x. group_run g (effect_in v o (effect x c))) (same-part g closed w v same o h)
+  perform-in w v s o h c =
+      effect-in (same-ground s) o h (effect (part_of w o) c) (base-effect (part_of w o) c)
+      ∙ ap (λ x. group_run g (effect_in v o (effect x c))) (same-part g closed w v s.same o h)
 
   -- Two quiet worlds that show the group the same, and an owner of the group, whose turn may be opened in both.
-  module _ (w v : World) (q : IsQuiet w) (p : IsQuiet v) (same : group_world g w ≡ group_world g v) (o : Owner) (h : g o ≡ true)
-      (a : has_other_turn w o ≡ false) (b : has_other_turn v o ≡ false) where
+  module _ {w v : World} (s : IsSameView g w v) (o : Owner) (h : g o ≡ true) (a : has_other_turn w o ≡ false) (b : has_other_turn v o ≡ false) where
     -- with the turn that it opens
     opened : (c : Command) → group_run g (perform (opening_turn w o) o c) ≡ group_run g (perform (opening_turn v o) o c)
     opened c =
-        perform-in (opening_turn w o) (opening_turn v o) (opened-quiet w q o a) (opened-quiet v p o b) (opening-in g closed w v same o h a b) o h c
+        perform-in (opening_turn w o) (opening_turn v o)
+        (record { first = opened-quiet w s.first o; second = opened-quiet v s.second o; same = opening-in g closed w v s.same o h a b }) o h c
 
     -- `.` apart, which opens none
     accepted-in : (c : Command) → group_run g (accepted w o c) ≡ group_run g (accepted v o c)
-    accepted-in Command.end_turn = perform-in w v q p same o h Command.end_turn
+    accepted-in Command.end_turn = perform-in w v s o h Command.end_turn
     accepted-in c = opened c
 
     -- A command, refused or accepted.
@@ -188,8 +186,8 @@ module _ (g : Owner → Bool) (closed : KeepsFamilies g) where
             group_run g (unless_refused o (refusal w o c) w (accepted w o c)) ≡ group_run g (unless_refused o (refusal v o c) v (accepted v o c))
         from (Some r) e =
             ap (λ x. group_run g (unless_refused o x w (accepted w o c))) e
-            ∙ ap (λ u. (u, group_outputs g (says o (refused r) ∷ []))) same
-            ∙ sym (ap (λ x. group_run g (unless_refused o x v (accepted v o c))) (sym (refusal-in w v same o h c) ∙ e))
+            ∙ ap (λ u. (u, group_outputs g (says o (refused r) ∷ []))) s.same
+            ∙ sym (ap (λ x. group_run g (unless_refused o x v (accepted v o c))) (sym (refusal-in w v s.same o h c) ∙ e))
         from None e =
             ap (λ x. group_run g (unless_refused o x w (accepted w o c))) e ∙ accepted-in c
-            ∙ sym (ap (λ x. group_run g (unless_refused o x v (accepted v o c))) (sym (refusal-in w v same o h c) ∙ e))
+            ∙ sym (ap (λ x. group_run g (unless_refused o x v (accepted v o c))) (sym (refusal-in w v s.same o h c) ∙ e))

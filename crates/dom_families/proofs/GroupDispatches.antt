@@ -23,9 +23,11 @@ use Rattle.dom_worlds.proofs.Chains.{below-host, hosts-alone, no_host}
 use Rattle.dom_isolation.proofs.ComponentEvents.{outward_at, HasSameRoot, above-sibling, no_outward-kept, no_outward-outside, outward-composed}
 use Rattle.dom_worlds.proofs.Tests.{by_cases}
 use Rattle.dom_families.proofs.GroupParts.{in_node}
-use Rattle.dom_families.proofs.GroupVisits.{in_view, group_dispatched, same_dispatch, no_dispatch}
+use Rattle.dom_families.proofs.GroupVisits.{in_view, group_dispatched, shown_by, dispatch-shown, no_dispatch}
 use Rattle.dom_families.proofs.GroupViews.{views-in}
 use Rattle.dom_families.proofs.OutsideViews.{HasExit, has-exit, exit-away, exit-host, views-exit, views-kept_in, views-far, views-related}
+use Rattle.dom_families.proofs.GroupSteps.{IsSameGround}
+use Rattle.dom_families.proofs.GroupSlots.{ground-of}
 
 -- an outward event, if there is one
 abbrev pub outward_run : World → Option OutwardEvent → Run World
@@ -50,6 +52,16 @@ outermost-page w x host h =
     by_test true false t e = cc
     by_test false b t e = cc
 
+-- Two worlds that are reached, of which a group sees the same.
+pub record IsSameView (g : Owner → Bool) (w v : World) : Type 0 where
+  pub first : IsQuiet w
+  pub second : IsQuiet v
+  pub same : group_world g w ≡ group_world g v
+
+-- steps may be made in them
+pub same-ground : {g : Owner → Bool} {w v : World} → IsSameView g w v → IsSameGround g w v
+same-ground {w} {v} a = record { first = ground-of w a.first.world; second = ground-of v a.second.world; same = a.same }
+
 module _ (g : Owner → Bool) (closed : KeepsFamilies g) where
   -- Two runs of which the group has the same, and then two more.
   pub runs-then : (r s : Run World) (f h : World → Run World) → group_run g r ≡ group_run g s → group_run g (f r.0) ≡ group_run g (h s.0) →
@@ -70,20 +82,21 @@ module _ (g : Owner → Bool) (closed : KeepsFamilies g) where
       ∙ ap (λ (q : Run World). (group_world g (f r.0).0, q.1 ++ group_outputs g (f r.0).1)) a ∙ b
 
   -- A dispatch at a node of the group.
-  pub dispatch-in : (w v : World) → IsQuiet w → IsQuiet v → group_world g w ≡ group_world g v → (x : NodeName) (r : Option NodeName) (e : EventWords) →
-      in_node g x ≡ true → AllByRecursion (λ y. in_node g y ≡ true) (option_to_list r) →
-      group_dispatched g (dispatch_in w x r e) ≡ group_dispatched g (dispatch_in v x r e)
-  dispatch-in w v q p same x r e h k =
-      same_dispatch g closed w v x x r r e (q.logs refl) (p.logs refl) same
-      (views-in g closed w q.world x r e.composed h k ∙ ap (λ u. views u x r e.composed) same ∙ sym (views-in g closed v p.world x r e.composed h k))
+  pub dispatch-in : {w v : World} → IsSameView g w v → (x : NodeName) (r : Option NodeName) (e : EventWords) → in_node g x ≡ true →
+      AllByRecursion (λ y. in_node g y ≡ true) (option_to_list r) → group_dispatched g (dispatch_in w x r e) ≡ group_dispatched g (dispatch_in v x r e)
+  dispatch-in {w} {v} s x r e h k =
+      let seen = views-in g closed w s.first.world x r e.composed h k ∙ ap (λ u. views u x r e.composed) s.same ∙ sym
+      (views-in g closed v s.second.world x r e.composed h k) in
+      dispatch-shown g closed w x r e (s.first.logs refl) ∙ ap (λ u. shown_by g closed u e (filter (in_view g) (views w x r e.composed))) s.same
+      ∙ ap (shown_by g closed (group_world g v) e) seen ∙ sym (dispatch-shown g closed v x r e (s.second.logs refl))
 
   -- an outward event, in two such worlds
-  pub outward-in : (w v : World) → IsQuiet w → IsQuiet v → group_world g w ≡ group_world g v → (o : Option OutwardEvent) →
-      ((e : OutwardEvent) → o ≡ Some e → e.host.owner ≡ Page) → group_run g (outward_run w o) ≡ group_run g (outward_run v o)
-  outward-in w v q p same None page = ap (λ u. (u, [])) same
-  outward-in w v q p same (Some e) page =
+  pub outward-in : (w v : World) → IsSameView g w v → (o : Option OutwardEvent) → ((e : OutwardEvent) → o ≡ Some e → e.host.owner ≡ Page) →
+      group_run g (outward_run w o) ≡ group_run g (outward_run v o)
+  outward-in w v s None page = ap (λ u. (u, [])) s.same
+  outward-in w v s (Some e) page =
       ap (group_run g) (outward-alone w e)
-      ∙ ap (λ (d : Dispatched World). d.run) (dispatch-in w v q p same e.host None (outward_words e) (ap g (page e refl) ∙ closed.page) tt)
+      ∙ ap (λ (d : Dispatched World). d.run) (dispatch-in s e.host None (outward_words e) (ap g (page e refl) ∙ closed.page) tt)
       ∙ ap (group_run g) (sym (outward-alone v e))
 
   -- no view at a node of the group
@@ -91,9 +104,9 @@ module _ (g : Owner → Bool) (closed : KeepsFamilies g) where
   NoView w x r composed = filter (in_view g) (views w x r composed) ≡ []
 
   -- A dispatch at another node.
-  pub dispatch-out : (w : World) → IsQuiet w → (x : NodeName) (r : Option NodeName) (e : EventWords) → in_node g x ≡ false → HasSameRoot w x r →
+  pub dispatch-out : {w : World} → IsQuiet w → (x : NodeName) (r : Option NodeName) (e : EventWords) → in_node g x ≡ false → HasSameRoot w x r →
       group_run g (dispatch_in w x r e).run ≡ group_run g (outward_run w (outward_at w x e r))
-  dispatch-out w q x r e h same =
+  dispatch-out {w} q x r e h same =
       by_cases e.composed (λ c. by_cases (is_in_shadow_tree w x) (λ t. inside c t r same) (λ t. outside c t)) kept
     where
       none : (r : Option NodeName) → outward_at w x e r ≡ None → NoView w x r e.composed →
@@ -122,7 +135,9 @@ module _ (g : Owner → Bool) (closed : KeepsFamilies g) where
           let seen = subst (λ b. filter (in_view g) (views w x None b) ≡ filter (in_view g) (views w host None b)) (sym c)
           (views-exit g closed w q.world x k page) in
           let words : e ≡ outward_words (outward_of e host) = ap (λ b. record e { composed = b }) c in
-          ap (λ (d : Dispatched World). d.run) (same_dispatch g closed w w x host None None e (q.logs refl) (q.logs refl) refl seen)
+          ap (λ (d : Dispatched World). d.run)
+          (dispatch-shown g closed w x None e (q.logs refl) ∙ ap (shown_by g closed (group_world g w) e) seen ∙ sym
+          (dispatch-shown g closed w host None e (q.logs refl)))
           ∙ ap (λ e. group_run g (dispatch_in w host None e).run) words
           ∙ sym (ap (group_run g) (outward-alone w (outward_of e host)))
           ∙ sym (ap (λ o. group_run g (outward_run w o)) (outward-composed w x e c (Some host) (exit_is t k true p))))
@@ -140,4 +155,4 @@ module _ (g : Owner → Bool) (closed : KeepsFamilies g) where
           from (Some host) k =
               none (Some y) refl (subst (NoView w x (Some y)) (sym c)
               (views-related g closed w q.world x y host h (below-host w q.world x host k)
-              (below-host w q.world y host (above-sibling w x y host k s.0.0 s.0.1))))
+              (below-host w q.world y host (above-sibling w x y k s.0.0 s.0.1))))

@@ -30,7 +30,7 @@ assigned-agree g closed w i s h = assigned-in g closed w (ground-of w i) s h
 
 -- signals
 pub signals-agree : SignalsAgree
-signals-agree g closed was now i j x around is_move = signals-group g closed was now (ground-of was i) (ground-of now j) x around is_move
+signals-agree g closed was now i j x around is_move = signals-group g closed (ground-of was i) (ground-of now j) x around is_move
 
 -- steps
 pub step-agrees : StepAgrees
@@ -65,26 +65,26 @@ outward_views-agree g closed w i x host h e =
 -- a dispatch
 pub dispatch-agrees : DispatchAgrees
 dispatch-agrees g closed w v q p same x related e h k =
-    let shown = dispatch-in g closed w v q p same x related e h k in
+    let shown = dispatch-in g closed (record { first = q; second = p; same = same }) x related e h k in
     (ap (λ (d : Dispatched World). d.run) shown, ap (λ (d : Dispatched World). d.answer) shown)
 
 -- of a component outside
 pub other_dispatch-agrees : OtherDispatchAgrees
 other_dispatch-agrees g closed w Page h q x e related r = absurd (true≢false (sym closed.page ∙ h))
-other_dispatch-agrees g closed w (Component k) h q x e related r = dispatched-out g closed w k q h x e related r
+other_dispatch-agrees g closed w (Component k) h q x e related r = dispatched-out g closed k q h x e related r
 
 -- the ending of a turn
 pub ending-agrees : EndingAgrees
-ending-agrees g closed w v q p same = ending-in g closed w v q p same
+ending-agrees g closed w v q p same = ending-in g closed w v (record { first = q; second = p; same = same })
 
 -- lines
 pub line-agrees : LineAgrees
-line-agrees g closed w v q p same calm l h = line-in g closed w v q p same calm l h
+line-agrees g closed w v q p same calm l h = line-in g closed w v (record { first = q; second = p; same = same }) calm l h
 
 -- of others
 pub other_line-agrees : OtherLineAgrees
-other_line-agrees g closed w r k calm l h t = line-out g closed w r k calm l h t
+other_line-agrees g closed w r k calm l h t = line-out g closed r k calm l h t
 
 -- the end of input
 pub finish-agrees : FinishAgrees
-finish-agrees g closed w v q p same calm = ending_any-in g closed w v q p same calm
+finish-agrees g closed w v q p same calm = ending_any-in g closed w v (record { first = q; second = p; same = same }) calm

@@ -31,7 +31,7 @@ use Rattle.dom_worlds.proofs.Tests.{by_cases}
 use Rattle.dom_worlds.proofs.WorldSteps.{turn-world_after}
 use Rattle.dom_families.specs.Laws.{IsCalm}
 use Rattle.dom_families.proofs.GroupParts.{filter-away}
-use Rattle.dom_families.proofs.GroupDispatches.{outward_run, runs-then, quiet-then, outward-in}
+use Rattle.dom_families.proofs.GroupDispatches.{IsSameView, outward_run, runs-then, quiet-then, outward-in}
 use Rattle.dom_families.proofs.GroupBegins.{tasks-dispatch, tasks-ending_turn, no_other-ended, ending_other-in, ending_other-out, calm-ended, opening-own}
 use Rattle.dom_families.proofs.GroupBegins.{turn-kept}
 use Rattle.dom_families.proofs.GroupCommands.{refusal-in, command-in}
@@ -55,26 +55,25 @@ may_stop-same w v o c e = refl
 
 module _ (g : Owner → Bool) (closed : KeepsFamilies g) where
   -- A line of the group.
-  pub line-in : (w v : World) → IsQuiet w → IsQuiet v → group_world g w ≡ group_world g v → IsCalm g w → (l : Line) →
-      is_of g (owner_of_line l) ≡ true → group_run g (step w l) ≡ group_run g (step v l)
-  line-in w v q p same calm no_owner h = absurd (true≢false (sym h))
-  line-in w v q p same calm (no_command o) h =
-      let first = ending_other-in g closed w v q p same calm o in
+  pub line-in : (w v : World) → IsSameView g w v → IsCalm g w → (l : Line) → is_of g (owner_of_line l) ≡ true → group_run g (step w l) ≡ group_run g (step v l)
+  line-in w v s calm no_owner h = absurd (true≢false (sym h))
+  line-in w v s calm (no_command o) h =
+      let first = ending_other-in g closed w v s calm o in
       runs-then g closed (ending_other_turn w o) (ending_other_turn v o) (refusing o Syntax) (refusing o Syntax) first
       (ap (λ (r : Run World). (r.0, group_outputs g (says o (refused Syntax) ∷ []))) first)
-  line-in w v q p same calm (command o c) h =
-      let first = ending_other-in g closed w v q p same calm o in
+  line-in w v s calm (command o c) h =
+      let first = ending_other-in g closed w v s calm o in
       runs-then g closed (ending_other_turn w o) (ending_other_turn v o) (run_command o c) (run_command o c) first
-      (command-in g closed (ending_other_turn w o).0 (ending_other_turn v o).0 (quiet-ending_other w q o) (quiet-ending_other v p o)
-      (ap (λ (r : Run World). r.0) first) o h (no_other-ended w o) (no_other-ended v o) c)
+      (command-in g closed
+      (record { first = quiet-ending_other w s.first o; second = quiet-ending_other v s.second o; same = ap (λ (r : Run World). r.0) first }) o h
+      (no_other-ended w o) (no_other-ended v o) c)
 
   -- it stops in both or in none
-  pub may_stop-in : (w v : World) → IsQuiet w → IsQuiet v → group_world g w ≡ group_world g v → IsCalm g w → (l : Line) →
-      is_of g (owner_of_line l) ≡ true → line_may_stop w l ≡ line_may_stop v l
-  may_stop-in w v q p same calm no_owner h = refl
-  may_stop-in w v q p same calm (no_command o) h = refl
-  may_stop-in w v q p same calm (command o c) h =
-      let first = ending_other-in g closed w v q p same calm o in
+  pub may_stop-in : (w v : World) → IsSameView g w v → IsCalm g w → (l : Line) → is_of g (owner_of_line l) ≡ true → line_may_stop w l ≡ line_may_stop v l
+  may_stop-in w v s calm no_owner h = refl
+  may_stop-in w v s calm (no_command o) h = refl
+  may_stop-in w v s calm (command o c) h =
+      let first = ending_other-in g closed w v s calm o in
       may_stop-same (ending_other_turn w o).0 (ending_other_turn v o).0 o c
       (refusal-in g closed (ending_other_turn w o).0 (ending_other_turn v o).0 (ap (λ (r : Run World). r.0) first) o h c)
 
@@ -87,16 +86,16 @@ module _ (g : Owner → Bool) (closed : KeepsFamilies g) where
       (λ t. ending_other-out g closed w q calm t o)
 
   -- such a line
-  pub line-out : (w : World) → IsReached true w → IsWhole w → IsCalm g w → (l : Line) → is_of g (owner_of_line l) ≡ false →
-      ends_group_turn g w l ≡ false → group_run g (step w l) ≡ group_run g (outward_run w (outward_event w l))
-  line-out w r k calm no_owner h t = refl
-  line-out w r k calm (no_command o) h t =
+  pub line-out : {w : World} → IsReached true w → IsWhole w → IsCalm g w → (l : Line) → is_of g (owner_of_line l) ≡ false → ends_group_turn g w l ≡ false →
+      group_run g (step w l) ≡ group_run g (outward_run w (outward_event w l))
+  line-out r k calm no_owner h t = refl
+  line-out {w} r k calm (no_command o) h t =
       let first = ended-out w (sound w r) calm o (sym (ap (λ b. not b && (is_of g w.turn && has_other_turn w o)) h) ∙ t) in
       quiet-then g closed (ending_other_turn w o) w (refusing o Syntax) (w, []) first
       (ap (λ (r : Run World). (r.0, group_outputs g (says o (refused Syntax) ∷ []))) first
       ∙ ap (λ ls. (group_world g w, ls)) (filter-away (λ l. is_of g (owner_of_output l)) (says o (refused Syntax)) [] h))
-  line-out w r k calm (command Page c) h t = absurd (true≢false (sym closed.page ∙ h))
-  line-out w r k calm (command (Component j) c) h t =
+  line-out r k calm (command Page c) h t = absurd (true≢false (sym closed.page ∙ h))
+  line-out {w} r k calm (command (Component j) c) h t =
       let o = Component j in
       let q = sound w r in
       let first = ended-out w q calm o (sym (ap (λ b. not b && (is_of g w.turn && has_other_turn w o)) h) ∙ t) in
@@ -105,9 +104,9 @@ module _ (g : Owner → Bool) (closed : KeepsFamilies g) where
       let same = ap (λ (r : Run World). r.0) first in
       let e = outward_command u o c in
       quiet-then g closed (ending_other_turn w o) w (run_command o c) (outward_run w e) first
-      (command-out g closed u j p h (calm-ended g closed w calm o) (no_other-ended w o) c
+      (command-out g closed j p h (calm-ended g closed w calm o) (no_other-ended w o) c
       (fits u (ending-keeps_reached true w o r) (ending-keeps_whole true w o r k) o c)
-      ∙ outward-in g closed u w p q same e (command_event-page u o c))
+      ∙ outward-in g closed u w (record { first = p; second = q; same = same }) e (command_event-page u o c))
 
   -- Where the group has tasks, a turn of its own is open: outward events keep that,
   pub calm-outward : (w : World) → IsCalm g w → (o : Option OutwardEvent) → IsCalm g (outward_run w o).0

@@ -28,7 +28,7 @@ use Rattle.dom_worlds.proofs.Tests.{by_cases, or-second}
 use Rattle.dom_worlds.proofs.TurnEndings.{quiet-dispatch}
 use Rattle.dom_families.specs.Laws.{IsCalm}
 use Rattle.dom_families.proofs.Families.{family-is_group}
-use Rattle.dom_families.proofs.GroupDispatches.{outward_run, runs-then, outward-in}
+use Rattle.dom_families.proofs.GroupDispatches.{IsSameView, outward_run, runs-then, outward-in}
 use Rattle.dom_families.proofs.GroupTurns.{filter-sub}
 use Rattle.dom_families.proofs.GroupBegins.{same-calm, ending_any-in}
 use Rattle.dom_families.proofs.GroupLines.{line-in, line-out, may_stop-in, calm-in, calm-outward, event-host}
@@ -46,6 +46,10 @@ pub record IsPair (g : Owner → Bool) (closed : KeepsFamilies g) (w v : World) 
   pub right : IsQuiet v
   pub calm : IsCalm g w
 
+-- the group sees the same in them
+pair-view : {g : Owner → Bool} {closed : KeepsFamilies g} {w v : World} → IsPair g closed w v → IsSameView g w v
+pair-view {w} k = record { first = sound w k.left; second = k.right; same = k.same }
+
 -- runs to two such worlds, of which the group has the same
 pub record AreRuns (g : Owner → Bool) (closed : KeepsFamilies g) (r s : Run World) : Type 0 where
   pub shown : group_run g r ≡ group_run g s
@@ -61,26 +65,25 @@ module _ (g : Owner → Bool) (closed : KeepsFamilies g) where
   line-own : (w v : World) → IsPair g closed w v → (l : Line) → line_may_stop w l ≡ false → is_of g (owner_of_line l) ≡ true →
       AreRuns g closed (step w l) (step v l)
   line-own w v k l stops h =
-      let q = sound w k.left in
-      let shown = line-in g closed w v q k.right k.same k.calm l h in
+      let shown = line-in g closed w v (pair-view k) k.calm l h in
       record {
         shown = shown;
         pair = record {
           same = ap (λ (r : Run World). r.0) shown;
           left = step-keeps_reached true w l k.left (λ e. stops);
           whole = step-keeps_whole true w l k.left k.whole;
-          right = quiet-step v l k.right (λ e. sym (may_stop-in g closed w v q k.right k.same k.calm l h) ∙ stops);
+          right = quiet-step v l k.right (λ e. sym (may_stop-in g closed w v (pair-view k) k.calm l h) ∙ stops);
           calm = calm-in g closed w k.calm l h;
         };
       }
 
   -- a line of another owner
-  line-other : (w v : World) → IsPair g closed w v → (l : Line) → line_may_stop w l ≡ false → is_of g (owner_of_line l) ≡ false →
+  line-other : {w v : World} → IsPair g closed w v → (l : Line) → line_may_stop w l ≡ false → is_of g (owner_of_line l) ≡ false →
       ends_group_turn g w l ≡ false → AreRuns g closed (step w l) (outward_run v (outward_event w l))
-  line-other w v k l stops h t =
+  line-other {w} {v} k l stops h t =
       let e = outward_event w l in
-      let own = line-out g closed w k.left k.whole k.calm l h t in
-      let shown = own ∙ outward-in g closed w v (sound w k.left) k.right k.same e (event-host w l) in
+      let own = line-out g closed k.left k.whole k.calm l h t in
+      let shown = own ∙ outward-in g closed w v (pair-view k) e (event-host w l) in
       record {
         shown = shown;
         pair = record {
@@ -109,7 +112,7 @@ module _ (g : Owner → Bool) (closed : KeepsFamilies g) where
         (λ h. subst (AreRuns g closed (step w (read l)))
         (sym (ap silent (cond-true kept (line l ∷ []) others h) ∙ run_each-one (silent_step read) v (line l))) (line-own w v k (read l) stops h))
         (λ h. subst (AreRuns g closed (step w (read l)))
-        (sym (ap silent (cond-false kept (line l ∷ []) others h) ∙ items-outward v (outward_event w (read l)))) (line-other w v k (read l) stops h t))
+        (sym (ap silent (cond-false kept (line l ∷ []) others h) ∙ items-outward v (outward_event w (read l)))) (line-other k (read l) stops h t))
 
     -- lines from a world on
     pub lines-group : (ls : List L) (w v : World) → IsPair g closed w v → no_component_stops_from read w ls ≡ true →
@@ -144,7 +147,7 @@ module _ (g : Owner → Bool) (closed : KeepsFamilies g) where
         let silent = run_each (silent_step read) first_world (trace_from read g first_world ls) in
         ap (λ (r : Run World). r.1)
         (runs-then g closed all silent finish finish k.shown
-        (ending_any-in g closed all.0 silent.0 (sound all.0 k.pair.left) k.pair.right k.pair.same k.pair.calm))
+        (ending_any-in g closed all.0 silent.0 (record { first = sound all.0 k.pair.left; second = k.pair.right; same = k.pair.same }) k.pair.calm))
 
 -- a member's lines are among those of its group
 member-outputs : (g : Owner → Bool) (o : Owner) → g o ≡ true → (ls : List Output) → outputs_for o (group_outputs g ls) ≡ outputs_for o ls

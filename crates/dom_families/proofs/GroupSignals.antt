@@ -130,9 +130,9 @@ module _ (g : Owner → Bool) (closed : KeepsFamilies g) where
           dropped false = refl
 
   -- The signals of a step, of those of the group.
-  pub signals-group : (was now : World) → IsGround was → IsGround now → (x around : NodeName) (is_move : Bool) →
+  pub signals-group : {was now : World} → IsGround was → IsGround now → (x around : NodeName) (is_move : Bool) →
       signals (group_world g was) (group_world g now) x around is_move ≡ filter (in_node g) (signals was now x around is_move)
-  signals-group was now i j x around is_move =
+  signals-group {was} {now} i j x around is_move =
       let here = in_node g in
       let was' = group_world g was in
       let now' = group_world g now in
@@ -160,10 +160,10 @@ module _ (g : Owner → Bool) (closed : KeepsFamilies g) where
   IsOut w depth = (x : NodeName) → in_node g x ≡ false → filter g (components_below depth w x) ≡ []
 
   -- one component with those below it
-  out-each : (w : World) → IsGround w → (depth : ℕ) → IsOut w depth → (o : Owner) → g o ≡ false → (ys : List NodeName) → AllByRecursion (IsOf o) ys →
+  out-each : {w : World} → IsGround w → (depth : ℕ) → IsOut w depth → (o : Owner) → g o ≡ false → (ys : List NodeName) → AllByRecursion (IsOf o) ys →
       filter g (trees_of w depth (filter_map (component_at w) ys)) ≡ []
-  out-each w i depth deeper o out [] h = refl
-  out-each w i depth deeper o out (y ∷ ys) h = one (component_at w y) refl (out-each w i depth deeper o out ys h.1)
+  out-each i depth deeper o out [] h = refl
+  out-each {w} i depth deeper o out (y ∷ ys) h = one (component_at w y) refl (out-each i depth deeper o out ys h.1)
     where
       rest : List Owner
       rest = filter_map (component_at w) ys
@@ -181,7 +181,7 @@ module _ (g : Owner → Bool) (closed : KeepsFamilies g) where
   pub below-outside : (depth : ℕ) (w : World) → IsGround w → IsOut w depth
   below-outside zero w i x out = refl
   below-outside (suc depth) w i x out =
-      out-each w i depth (below-outside depth w i) x.owner out (inclusive_descendants (trees_with w x) x)
+      out-each i depth (below-outside depth w i) x.owner out (inclusive_descendants (trees_with w x) x)
       (all-map (IsOf x.owner) (λ (m : Node). m.name) (nodes (subtree (trees_with w x) x)) (nodes-of w i x.owner x))
 
   -- in what the group has there are none
@@ -196,15 +196,15 @@ module _ (g : Owner → Bool) (closed : KeepsFamilies g) where
   IsSame w depth = (x : NodeName) → in_node g x ≡ true → filter g (components_below depth (group_world g w) x) ≡ filter g (components_below depth w x)
 
   -- one component with those below it
-  in-each : (w : World) → IsGround w → (depth : ℕ) → IsOut w depth → IsSame w depth → (o : Owner) → g o ≡ true → (ys : List NodeName) →
+  in-each : (w : World) → (depth : ℕ) → IsOut w depth → IsSame w depth → (o : Owner) → g o ≡ true → (ys : List NodeName) →
       AllByRecursion (IsOf o) ys →
       filter g (trees_of (group_world g w) depth (filter_map (component_at (group_world g w)) ys)) ≡ filter g (trees_of w depth (filter_map
       (component_at w) ys))
-  in-each w i depth out same o h [] k = refl
-  in-each w i depth out same o h (y ∷ ys) k =
+  in-each w depth out same o h [] k = refl
+  in-each w depth out same o h (y ∷ ys) k =
       ap (λ (p : Part). filter g (trees_of v depth (cons_option (option_map (component_made y.owner) (position (name_eq y) p.attached))
       (filter_map (component_at v) ys)))) (part-in g w y.owner (ap g k.0 ∙ h))
-      ∙ one (component_at w y) (in-each w i depth out same o h ys k.1)
+      ∙ one (component_at w y) (in-each w depth out same o h ys k.1)
     where
       v : World
       v = group_world g w
@@ -236,7 +236,7 @@ module _ (g : Owner → Bool) (closed : KeepsFamilies g) where
   below-in (suc depth) w i x h =
       ap (λ (p : Part). filter g (trees_of (group_world g w) depth (filter_map (component_at (group_world g w)) (inclusive_descendants p.trees x))))
       (part-in g w x.owner h)
-      ∙ in-each w i depth (below-outside depth w i) (below-in depth w i) x.owner h (inclusive_descendants (trees_with w x) x)
+      ∙ in-each w depth (below-outside depth w i) (below-in depth w i) x.owner h (inclusive_descendants (trees_with w x) x)
       (all-map (IsOf x.owner) (λ (m : Node). m.name) (nodes (subtree (trees_with w x) x)) (nodes-of w i x.owner x))
 
   -- of any node

@@ -162,6 +162,12 @@ module _ (g : Owner → Bool) where
       (λ h. ap (λ v. fold (with_shadow_document d) v (filter g cs)) (stepped-out c h w s)
       ∙ sym (ap (fold (with_shadow_document d) (group_world g w)) (filter-away g c cs h)))
 
+-- Two worlds as steps want them, of which a group sees the same.
+pub record IsSameGround (g : Owner → Bool) (w v : World) : Type 0 where
+  pub first : IsGround w
+  pub second : IsGround v
+  pub same : group_world g w ≡ group_world g v
+
 module _ (g : Owner → Bool) (closed : KeepsFamilies g) where
   -- a signal
   signal-in : (s : NodeName) → in_node g s ≡ true → (w : World) → group_world g (with_signal w s) ≡ with_signal (group_world g w) s
@@ -187,17 +193,17 @@ module _ (g : Owner → Bool) (closed : KeepsFamilies g) where
       ∙ sym (ap (fold with_signal (group_world g w)) (filter-away (in_node g) s ss h)))
 
   -- the signals of a step, as a group has them
-  with_signals-group : (was now : World) → IsGround was → IsGround now → (x around : NodeName) (is_move : Bool) →
+  with_signals-group : {was now : World} → IsGround was → IsGround now → (x around : NodeName) (is_move : Bool) →
       group_world g (with_signals was now x around is_move) ≡ with_signals (group_world g was) (group_world g now) x around is_move
-  with_signals-group was now i j x around is_move =
+  with_signals-group {was} {now} i j x around is_move =
       each_signal (signals was now x around is_move) now
-      ∙ ap (fold with_signal (group_world g now)) (sym (signals-group g closed was now i j x around is_move))
+      ∙ ap (fold with_signal (group_world g now)) (sym (signals-group g closed i j x around is_move))
 
   -- of a removal
   removal_signals-group : (was now : World) → IsGround was → IsGround now → (x : NodeName) (parent : Option NodeName) →
       group_world g (with_removal_signals was now x parent) ≡ with_removal_signals (group_world g was) (group_world g now) x parent
   removal_signals-group was now i j x None = refl
-  removal_signals-group was now i j x (Some parent) = with_signals-group was now i j x parent true
+  removal_signals-group was now i j x (Some parent) = with_signals-group i j x parent true
 
   -- A step of an owner of the group does to the group what it does where no others are.
   abbrev IsAlone : Owner → World → Step → Type 0
@@ -211,7 +217,7 @@ module _ (g : Owner → Bool) (closed : KeepsFamilies g) where
   pub step-in : (o : Owner) → g o ≡ true → (w : World) → IsGround w → (s : Step) → IsAlone o w s
   step-in o h w i (place x parent before) =
       let s = place x parent before in
-      whole o w s (with_signals-group w (stepped o w s) i (stepped-ground o w s i) x parent true
+      whole o w s (with_signals-group i (stepped-ground o w s i) x parent true
       ∙ ap (λ now. with_signals (group_world g w) now x parent true) (stepped-in g o h w s))
   step-in o h w i (take_out x) =
       let s = take_out x in
@@ -221,7 +227,7 @@ module _ (g : Owner → Bool) (closed : KeepsFamilies g) where
       ∙ ap (λ (p : Part). with_removal_signals v (stepped o v s) x (parent_of p.trees x)) (sym (part-in g w o h)))
   step-in o h w i (set_attribute x a v) =
       let s = set_attribute x a v in
-      whole o w s (with_signals-group w (stepped o w s) i (stepped-ground o w s i) x x false
+      whole o w s (with_signals-group i (stepped-ground o w s i) x x false
       ∙ ap (λ now. with_signals (group_world g w) now x x false) (stepped-in g o h w s))
   step-in o h w i (set_document x d) =
       let s = set_document x d in
@@ -252,12 +258,17 @@ module _ (g : Owner → Bool) (closed : KeepsFamilies g) where
   step-in o h w i (set_range k r) = whole o w (set_range k r) (stepped-in g o h w (set_range k r))
 
   -- so many steps do the same in two worlds of which the group has the same
-  pub steps-in : (o : Owner) → g o ≡ true → (steps : List Step) (w v : World) → IsGround w → IsGround v → group_world g w ≡ group_world g v →
+  pub steps-in : (o : Owner) → g o ≡ true → (steps : List Step) (w v : World) → IsSameGround g w v →
       group_world g (world_after o w steps) ≡ group_world g (world_after o v steps)
-  steps-in o h [] w v i j e = e
-  steps-in o h (s ∷ steps) w v i j e =
-      steps-in o h steps (world_step o w s) (world_step o v s) (world_step-ground o w s i) (world_step-ground o v s j)
-      (step-in o h w i s ∙ ap (λ u. group_world g (world_step o u s)) e ∙ sym (step-in o h v j s))
+  steps-in o h [] w v s = s.same
+  steps-in o h (s ∷ steps) w v k =
+      steps-in o h steps (world_step o w s) (world_step o v s)
+      (record {
+        first = world_step-ground o w s k.first;
+        second = world_step-ground o v s k.second;
+        same = step-in o h w k.first s ∙ ap
+            (λ u. group_world g (world_step o u s)) k.same ∙ sym (step-in o h v k.second s);
+      })
 
   -- The signals of a step outside: where nothing of the group's changed there are none.
   no_signals : (v : World) (x around : NodeName) (is_move : Bool) → (is_move ≡ true → is_slot_element (node_in (part_of v around.owner).trees around) ≡ false) →
@@ -276,11 +287,11 @@ module _ (g : Owner → Bool) (closed : KeepsFamilies g) where
       none_bare true b = ap (λ t. if t && (is_in_shadow_tree v around && is_empty (assigned v around)) then around ∷ [] else []) (b refl)
 
   -- of a node outside
-  signals-out : (o : Owner) → g o ≡ false → (w : World) → IsGround w → (s : Step) → (x around : NodeName) (is_move : Bool) →
-      (is_move ≡ true → around.owner ≡ o) → group_world g (with_signals w (stepped o w s) x around is_move) ≡ group_world g w
-  signals-out o h w i s x around is_move near =
+  signals-out : (o : Owner) → g o ≡ false → {w : World} → IsGround w → (s : Step) (x around : NodeName) (is_move : Bool) → (is_move ≡ true → around.owner ≡ o) →
+      group_world g (with_signals w (stepped o w s) x around is_move) ≡ group_world g w
+  signals-out o h {w} i s x around is_move near =
       let v = group_world g w in
-      with_signals-group w (stepped o w s) i (stepped-ground o w s i) x around is_move
+      with_signals-group i (stepped-ground o w s i) x around is_move
       ∙ ap (λ now. with_signals v now x around is_move) (stepped-out g o h w s)
       ∙ ap (fold with_signal v) (no_signals v x around is_move
       (λ m. ap (λ (p : Part). is_slot_element (node_in p.trees around)) (part-out g w around.owner (ap g (near m) ∙ h))))
@@ -289,14 +300,14 @@ module _ (g : Owner → Bool) (closed : KeepsFamilies g) where
   pub step-out : (o : Owner) → g o ≡ false → (w : World) → IsGround w → (s : Step) → Fits (part_of w o) s →
       group_world g (world_step o w s) ≡ group_world g w
   step-out o h w i (place x parent before) f =
-      signals-out o h w i (place x parent before) x parent true (λ m. owned-by w i o parent f.0)
+      signals-out o h i (place x parent before) x parent true (λ m. owned-by w i o parent f.0)
   step-out o h w i (take_out x) f = from (parent_of (part_of w o).trees x) refl
     where
       from : (p : Option NodeName) → parent_of (part_of w o).trees x ≡ p →
           group_world g (with_removal_signals w (stepped o w (take_out x)) x p) ≡ group_world g w
       from None e = stepped-out g o h w (take_out x)
-      from (Some parent) e = signals-out o h w i (take_out x) x parent true (λ m. parent-in w i o x parent e)
-  step-out o h w i (set_attribute x a v) f = signals-out o h w i (set_attribute x a v) x x false (λ m. absurd (true≢false (sym m)))
+      from (Some parent) e = signals-out o h i (take_out x) x parent true (λ m. parent-in w i o x parent e)
+  step-out o h w i (set_attribute x a v) f = signals-out o h i (set_attribute x a v) x x false (λ m. absurd (true≢false (sym m)))
   step-out o h w i (set_document x d) f =
       let s = set_document x d in
       documents-group g d (components_below max_depth w x) (stepped o w s)

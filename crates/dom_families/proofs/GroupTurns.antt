@@ -23,7 +23,7 @@ use Rattle.dom_families.specs.Laws.{IsCalm}
 use Rattle.dom_families.proofs.GroupParts.{in_node, part-in, with_part-in, with_part-out, filter-here, filter-away}
 use Rattle.dom_families.proofs.GroupVisits.{no_dispatch}
 use Rattle.dom_families.proofs.OutsideViews.{views-kept_in}
-use Rattle.dom_families.proofs.GroupDispatches.{runs-then, quiet-then, dispatch-in}
+use Rattle.dom_families.proofs.GroupDispatches.{IsSameView, runs-then, quiet-then, dispatch-in}
 
 -- a test on the items of which another holds anyway
 pub filter-sub : {X : Type 0} (p t : X → Bool) → ((x : X) → p x ≡ true → t x ≡ true) → (xs : List X) → filter p (filter t xs) ≡ filter p xs
@@ -45,15 +45,21 @@ module _ (g : Owner → Bool) (closed : KeepsFamilies g) where
   same-part w v same o h = sym (part-in g w o h) ∙ ap (λ u. part_of u o) same ∙ part-in g v o h
 
   -- Events at the signalled slots of the group,
-  firings-in : (ss : List NodeName) (w v : World) → IsQuiet w → IsQuiet v → group_world g w ≡ group_world g v →
-      AllByRecursion (λ s. in_node g s ≡ true) ss → group_run g (run_each firing_slotchange w ss) ≡ group_run g (run_each firing_slotchange v ss)
-  firings-in [] w v q p same h = ap (λ u. (u, [])) same
-  firings-in (s ∷ ss) w v q p same h =
+  firings-in : (ss : List NodeName) (w v : World) → IsSameView g w v → AllByRecursion (λ s. in_node g s ≡ true) ss →
+      group_run g (run_each firing_slotchange w ss) ≡ group_run g (run_each firing_slotchange v ss)
+  firings-in [] w v s h = ap (λ u. (u, [])) s.same
+  firings-in (s ∷ ss) w v k h =
       let first : group_run g (firing_slotchange w s) ≡ group_run g (firing_slotchange v s) =
-      ap (λ (d : Dispatched World). d.run) (dispatch-in g closed w v q p same s None slotchange h.0 tt) in
+      ap (λ (d : Dispatched World). d.run) (dispatch-in g closed k s None slotchange h.0 tt) in
       runs-then g closed (firing_slotchange w s) (firing_slotchange v s) (λ u. run_each firing_slotchange u ss) (λ u. run_each firing_slotchange u ss) first
-      (firings-in ss (firing_slotchange w s).0 (firing_slotchange v s).0 (quiet-dispatch w s None slotchange q) (quiet-dispatch v s None slotchange p)
-      (ap (λ (r : Run World). r.0) first) h.1)
+      (firings-in ss (firing_slotchange w s).0 (firing_slotchange v s).0
+      (record {
+        first = quiet-dispatch w s None slotchange k.first;
+        second = quiet-dispatch v s None slotchange k.second;
+        same = ap
+            (λ (r : Run World). r.0) first;
+      })
+      h.1)
 
   -- and at others'
   firings-out : (ss : List NodeName) (w : World) → IsQuiet w → AllByRecursion (λ s. in_node g s ≡ false) ss →
@@ -74,20 +80,19 @@ module _ (g : Owner → Bool) (closed : KeepsFamilies g) where
       ∙ ap (λ p. with_part (without_signals (group_world g w) o) (notified p)) (sym (part-in g w o h))
 
   -- a notification of the group
-  notifying-in : (w v : World) → IsQuiet w → IsQuiet v → group_world g w ≡ group_world g v → (o : Owner) → g o ≡ true →
-      group_run g (notifying w o) ≡ group_run g (notifying v o)
-  notifying-in w v q p same o h =
+  notifying-in : (w v : World) → IsSameView g w v → (o : Owner) → g o ≡ true → group_run g (notifying w o) ≡ group_run g (notifying v o)
+  notifying-in w v k o h =
       let slots : World → List NodeName = λ u. filter (is_owned_by o) u.signalled in
-      let told = told-group w o h ∙ ap (λ u. told_in u o) same ∙ sym (told-group v o h) in
+      let told = told-group w o h ∙ ap (λ u. told_in u o) k.same ∙ sym (told-group v o h) in
       let first : group_run g (told_in w o, notified_lines (part_of w o)) ≡ group_run g (told_in v o, notified_lines (part_of v o)) =
       ap (λ u. (u, group_outputs g (notified_lines (part_of w o)))) told
-      ∙ ap (λ a. (group_world g (told_in v o), group_outputs g (notified_lines a))) (same-part w v same o h) in
+      ∙ ap (λ a. (group_world g (told_in v o), group_outputs g (notified_lines a))) (same-part w v k.same o h) in
       let same_slots : slots w ≡ slots v =
-      sym (filter-sub (is_owned_by o) (in_node g) (owned-in o h) w.signalled) ∙ ap slots same
+      sym (filter-sub (is_owned_by o) (in_node g) (owned-in o h) w.signalled) ∙ ap slots k.same
       ∙ filter-sub (is_owned_by o) (in_node g) (owned-in o h) v.signalled in
       runs-then g closed (told_in w o, notified_lines (part_of w o)) (told_in v o, notified_lines (part_of v o))
       (λ u. run_each firing_slotchange u (slots w)) (λ u. run_each firing_slotchange u (slots v)) first
-      (firings-in (slots w) (told_in w o) (told_in v o) (quiet-told w o q) (quiet-told v o p) told
+      (firings-in (slots w) (told_in w o) (told_in v o) (record { first = quiet-told w o k.first; second = quiet-told v o k.second; same = told })
       (all-passed (λ s. in_node g s ≡ true) (is_owned_by o) (owned-in o h) w.signalled)
       ∙ ap (λ ss. group_run g (run_each firing_slotchange (told_in v o) ss)) same_slots)
 
@@ -115,10 +120,9 @@ module _ (g : Owner → Bool) (closed : KeepsFamilies g) where
       kept s t = ap not (by_cases (is_owned_by o s) (λ e. absurd (true≢false (sym t ∙ owned-out o h s e))) (λ e. e))
 
   -- Tasks: one of the group,
-  running-in : (w v : World) → IsQuiet w → IsQuiet v → group_world g w ≡ group_world g v → (t : Task) → is_task_of g t ≡ true →
-      group_run g (running_task w t) ≡ group_run g (running_task v t)
-  running-in w v q p same (micro_task o label) h = ap (λ u. (u, group_outputs g (running_task v (micro_task o label)).1)) same
-  running-in w v q p same (notify_task o) h = notifying-in w v q p same o h
+  running-in : (w v : World) → IsSameView g w v → (t : Task) → is_task_of g t ≡ true → group_run g (running_task w t) ≡ group_run g (running_task v t)
+  running-in w v s (micro_task o label) h = ap (λ u. (u, group_outputs g (running_task v (micro_task o label)).1)) s.same
+  running-in w v s (notify_task o) h = notifying-in w v s o h
 
   -- and one of another owner
   running-out : (w : World) → IsQuiet w → (t : Task) → is_task_of g t ≡ false → group_run g (running_task w t) ≡ (group_world g w, [])
@@ -127,34 +131,36 @@ module _ (g : Owner → Bool) (closed : KeepsFamilies g) where
   running-out w q (notify_task o) h = notifying-out w q o h
 
   -- all of them do what those of the group do
-  running-all : (ts : List Task) (w v : World) → IsQuiet w → IsQuiet v → group_world g w ≡ group_world g v →
+  running-all : (ts : List Task) (w v : World) → IsSameView g w v →
       group_run g (run_each running_task w ts) ≡ group_run g (run_each running_task v (filter (is_task_of g) ts))
-  running-all [] w v q p same = ap (λ u. (u, [])) same
-  running-all (t ∷ ts) w v q p same =
+  running-all [] w v s = ap (λ u. (u, [])) s.same
+  running-all (t ∷ ts) w v s =
       by_cases (is_task_of g t)
-      (λ h. let first = running-in w v q p same t h in
+      (λ h. let first = running-in w v s t h in
       runs-then g closed (running_task w t) (running_task v t) (λ u. run_each running_task u ts) (λ u. run_each running_task u (filter (is_task_of g) ts)) first
-      (running-all ts (running_task w t).0 (running_task v t).0 (quiet-running w q t) (quiet-running v p t) (ap (λ (r : Run World). r.0) first))
+      (running-all ts (running_task w t).0 (running_task v t).0
+      (record { first = quiet-running w s.first t; second = quiet-running v s.second t; same = ap (λ (r : Run World). r.0) first }))
       ∙ sym (ap (λ us. group_run g (run_each running_task v us)) (filter-here (is_task_of g) t ts h)))
-      (λ h. let first = running-out w q t h in
+      (λ h. let first = running-out w s.first t h in
       quiet-then g closed (running_task w t) w (λ u. run_each running_task u ts) (run_each running_task v (filter (is_task_of g) ts)) first
-      (running-all ts (running_task w t).0 v (quiet-running w q t) p (ap (λ (r : Run World). r.0) first ∙ same))
+      (running-all ts (running_task w t).0 v
+      (record { first = quiet-running w s.first t; second = s.second; same = ap (λ (r : Run World). r.0) first ∙ s.same }))
       ∙ sym (ap (λ us. group_run g (run_each running_task v us)) (filter-away (is_task_of g) t ts h)))
 
   -- The ending of a turn: in two worlds of which the group has the same,
-  pub ending-in : (w v : World) → IsQuiet w → IsQuiet v → group_world g w ≡ group_world g v → group_run g (ending_turn w) ≡ group_run g (ending_turn v)
-  ending-in w v q p same =
+  pub ending-in : (w v : World) → IsSameView g w v → group_run g (ending_turn w) ≡ group_run g (ending_turn v)
+  ending-in w v s =
       let at_end : World → World = λ u. record u { tasks = []; turn = None } in
-      let same_end = ap at_end same in
-      running-all w.tasks (at_end w) (at_end v) (quiet-at_end w q) (quiet-at_end v p) same_end
-      ∙ ap (λ ts. group_run g (run_each running_task (at_end v) ts)) (ap (λ (u : World). u.tasks) same)
-      ∙ sym (running-all v.tasks (at_end v) (at_end v) (quiet-at_end v p) (quiet-at_end v p) refl)
+      let same_end = ap at_end s.same in
+      running-all w.tasks (at_end w) (at_end v) (record { first = quiet-at_end w s.first; second = quiet-at_end v s.second; same = same_end })
+      ∙ ap (λ ts. group_run g (run_each running_task (at_end v) ts)) (ap (λ (u : World). u.tasks) s.same)
+      ∙ sym (running-all v.tasks (at_end v) (at_end v) (record { first = quiet-at_end v s.second; second = quiet-at_end v s.second; same = refl }))
 
   -- Where no turn of the group is open, and so it has no tasks, the ending of a turn does nothing.
   pub ending-out : (w : World) → IsQuiet w → IsCalm g w → group_turn g w.turn ≡ None → group_run g (ending_turn w) ≡ (group_world g w, [])
   ending-out w q calm h =
       let at_end : World → World = λ u. record u { tasks = []; turn = None } in
-      running-all w.tasks (at_end w) (at_end w) (quiet-at_end w q) (quiet-at_end w q) refl
+      running-all w.tasks (at_end w) (at_end w) (record { first = quiet-at_end w q; second = quiet-at_end w q; same = refl })
       ∙ ap (λ ts. group_run g (run_each running_task (at_end w) ts)) (calm h)
       ∙ ap (λ ts. (record (group_world g w) { tasks = ts; turn = None }, [])) (sym (calm h))
       ∙ ap (λ t. (record (group_world g w) { turn = t }, [])) (sym h)

@@ -14,7 +14,7 @@ use Rattle.dom_model.specs.Listeners.{begun}
 use Rattle.dom_model.specs.Part.{Part}
 use Rattle.dom_model.specs.Paths.{View, views}
 use Rattle.dom_model.specs.World.{World, part_of, with_part}
-use Rattle.dom_model.specs.Dispatch.{Dispatched, world_visit, visits_of, visit_of, is_at_target, event_output, dispatched, dispatch_in}
+use Rattle.dom_model.specs.Dispatch.{Dispatched, world_visit, visits_of, visit_of, is_at_target, event_output, dispatch_in}
 use Rattle.dom_model.specs.Groups.{KeepsFamilies, group_world, group_outputs, group_run}
 use Rattle.dom_model.specs.Trace.{is_of, owner_of_output}
 use Rattle.dom_model.proofs.PartLaws.{owner-part_of}
@@ -79,39 +79,38 @@ module _ (g : Owner → Bool) where
   IsUnseen a b = ((ls : List (Listener NodeName)) → record (seen a) { listeners = ls } ≡ record
       (seen b) { listeners = ls }) × AllByRecursion OnlyLogs a.listeners
 
-  -- a call
-  unseen-call : (e : EventWords) (v : Visit NodeName) → in_visit v ≡ false → (d : Going) (l : Listener NodeName) → OnlyLogs l →
-      AllByRecursion OnlyLogs d.listeners → IsUnseen (call e v d l) d
-  unfolding call
-  unseen-call e v f d l log h =
-      let same = filter-append in_line d.lines (line_of v l.words ∷ [])
-      ∙ ap (λ ls. filter in_line d.lines ++ ls) (filter-away in_line (line_of v l.words) [] f) ∙ append-nil (filter in_line d.lines) in
-      rw log ((λ ls. ap (λ lines. record (seen d) { listeners = ls; lines = lines }) same), all-kept l d.listeners h)
+  -- A visit at a node outside the group.
+  module _ (e : EventWords) (v : Visit NodeName) (f : in_visit v ≡ false) where
+    -- a call
+    unseen-call : (d : Going) (l : Listener NodeName) → OnlyLogs l → AllByRecursion OnlyLogs d.listeners → IsUnseen (call e v d l) d
+    unfolding call
+    unseen-call d l log h =
+        let same = filter-append in_line d.lines (line_of v l.words ∷ [])
+        ∙ ap (λ ls. filter in_line d.lines ++ ls) (filter-away in_line (line_of v l.words) [] f) ∙ append-nil (filter in_line d.lines) in
+        rw log ((λ ls. ap (λ lines. record (seen d) { listeners = ls; lines = lines }) same), all-kept l d.listeners h)
 
-  -- a call at another node is not seen, stopped or not
-  unseen-called : (e : EventWords) (v : Visit NodeName) → in_visit v ≡ false → (d : Going) (l : Listener NodeName) → OnlyLogs l →
-      AllByRecursion OnlyLogs d.listeners → IsUnseen (called name_eq e v d l) d
-  unseen-called e v f d l log h =
-      by_cases d.stopped_now (λ s. subst (λ c. IsUnseen c d) (sym (no_call e v d l s)) ((λ ls. refl), h))
-      (λ s. subst (λ c. IsUnseen c d) (sym (call-of e v d l s)) (unseen-call e v f d l log h))
+    -- it is not seen, stopped or not
+    unseen-called : (d : Going) (l : Listener NodeName) → OnlyLogs l → AllByRecursion OnlyLogs d.listeners → IsUnseen (called name_eq e v d l) d
+    unseen-called d l log h =
+        by_cases d.stopped_now (λ s. subst (λ c. IsUnseen c d) (sym (no_call e v d l s)) ((λ ls. refl), h))
+        (λ s. subst (λ c. IsUnseen c d) (sym (call-of e v d l s)) (unseen-call d l log h))
 
-  -- calls of all that hear
-  unseen-calls : (e : EventWords) (v : Visit NodeName) → in_visit v ≡ false → (ls : List (Listener NodeName)) (d : Going) →
-      AllByRecursion OnlyLogs ls → AllByRecursion OnlyLogs d.listeners → IsUnseen (fold (called name_eq e v) d ls) d
-  unseen-calls e v f [] d logs h = ((λ ls. refl), h)
-  unseen-calls e v f (l ∷ ls) d logs h =
-      let first = unseen-called e v f d l logs.0 h in
-      let later = unseen-calls e v f ls (called name_eq e v d l) logs.1 first.1 in
-      ((λ ks. later.0 ks ∙ first.0 ks), later.1)
+    -- calls of all that hear
+    unseen-calls : (ls : List (Listener NodeName)) (d : Going) → AllByRecursion OnlyLogs ls → AllByRecursion OnlyLogs d.listeners →
+        IsUnseen (fold (called name_eq e v) d ls) d
+    unseen-calls [] d logs h = ((λ ls. refl), h)
+    unseen-calls (l ∷ ls) d logs h =
+        let first = unseen-called d l logs.0 h in
+        let later = unseen-calls ls (called name_eq e v d l) logs.1 first.1 in
+        ((λ ks. later.0 ks ∙ first.0 ks), later.1)
 
-  -- a visit
-  unseen-visited : (e : EventWords) (v : Visit NodeName) → in_visit v ≡ false → (d : Going) → AllByRecursion OnlyLogs d.listeners →
-      IsUnseen (visited name_eq e d v) d
-  unseen-visited e v f d h =
-      let hearing = filter (hears name_eq e v) d.listeners in
-      by_cases d.stopped (λ s. subst (λ c. IsUnseen c d) (sym (cond-true d.stopped d (fold (called name_eq e v) d hearing) s)) ((λ ls. refl), h))
-      (λ s. subst (λ c. IsUnseen c d) (sym (cond-false d.stopped d (fold (called name_eq e v) d hearing) s))
-      (unseen-calls e v f hearing d (all-filter OnlyLogs (hears name_eq e v) d.listeners h) h))
+    -- the whole visit
+    unseen-visited : (d : Going) → AllByRecursion OnlyLogs d.listeners → IsUnseen (visited name_eq e d v) d
+    unseen-visited d h =
+        let hearing = filter (hears name_eq e v) d.listeners in
+        by_cases d.stopped (λ s. subst (λ c. IsUnseen c d) (sym (cond-true d.stopped d (fold (called name_eq e v) d hearing) s)) ((λ ls. refl), h))
+        (λ s. subst (λ c. IsUnseen c d) (sym (cond-false d.stopped d (fold (called name_eq e v) d hearing) s))
+        (unseen-calls hearing d (all-filter OnlyLogs (hears name_eq e v) d.listeners h) h))
 
   -- What the group has of a dispatch on its way: its world, the flags and its lines. The listeners are each visit's own.
   abbrev pub group_going : InWorld → InWorld
@@ -185,27 +184,23 @@ module _ (g : Owner → Bool) (closed : KeepsFamilies g) where
       (visit-out g e s v h (logs v.current.owner (outside-no_page g closed v.current.owner h)) ∙ same)
       ∙ sym (ap (λ us. group_going g (fold (world_visit e) t us)) (filter-away (in_visit g) v vs h)))
 
-  -- Two dispatches in worlds of which the group has the same, with the same views at its nodes, show it the same.
-  pub same_dispatch : (w v : World) (x y : NodeName) (r s : Option NodeName) (e : EventWords) → ComponentsOnlyLog w → ComponentsOnlyLog v →
-      group_world g w ≡ group_world g v → filter (in_view g) (views w x r e.composed) ≡ filter (in_view g) (views v y s e.composed) →
-      group_dispatched g (dispatch_in w x r e) ≡ group_dispatched g (dispatch_in v y s e)
-  same_dispatch w v x y r s e logs logs' same seen_same =
+  -- What a dispatch in a world shows, with these views.
+  abbrev pub shown_by : World → EventWords → List (View NodeName) → Dispatched World
+  shown_by u e vs =
+      let t = group_going g (fold (world_visit e) (u, begun []) (visits_of name_eq e.bubbles vs)) in
+      record { run = (t.0, map event_output t.1.lines); answer = not t.1.cancelled }
+
+  -- A dispatch shows the group what it has of the world, and of the views those at its nodes, let it show.
+  pub dispatch-shown : (w : World) (x : NodeName) (r : Option NodeName) (e : EventWords) → ComponentsOnlyLog w →
+      group_dispatched g (dispatch_in w x r e) ≡ shown_by (group_world g w) e (filter (in_view g) (views w x r e.composed))
+  dispatch-shown w x r e logs =
       let ending : InWorld → Dispatched World = λ t. record { run = (t.0, map event_output t.1.lines); answer = not t.1.cancelled } in
-      let end : World → NodeName → Option NodeName → InWorld =
-      λ u z q. fold (world_visit e) (u, begun []) (visits_of name_eq e.bubbles (views u z q e.composed)) in
-      let seen_end : (t : InWorld) → group_dispatched g (dispatched t.0 t.1) ≡ ending (group_going g t) =
-      λ t. ap (λ ls. record { run = (group_world g t.0, ls); answer = not t.1.cancelled }) (outputs-event_lines g t.1.lines) in
-      let at : (u : World) (z : NodeName) (q : Option NodeName) → ComponentsOnlyLog u → group_world g w ≡ group_world g u →
-      group_going g (end u z q)
-      ≡ group_going g (fold (world_visit e) (group_world g w, begun []) (visits_of name_eq e.bubbles (filter (in_view g) (views u z q e.composed)))) =
-      λ u z q l k. visits-group e (visits_of name_eq e.bubbles (views u z q e.composed)) (u, begun []) (group_world g w, begun []) l
-      (ap (λ a. (a, begun [])) (sym k ∙ sym (group-twice g w)))
-      ∙ ap (λ us. group_going g (fold (world_visit e) (group_world g w, begun []) us)) (group_visits g e.bubbles (views u z q e.composed)) in
-      seen_end (end w x r)
-      ∙ ap ending (at w x r logs refl
-      ∙ ap (λ us. group_going g (fold (world_visit e) (group_world g w, begun []) (visits_of name_eq e.bubbles us))) seen_same
-      ∙ sym (at v y s logs' same))
-      ∙ sym (seen_end (end v y s))
+      let vs = views w x r e.composed in
+      let end = fold (world_visit e) (w, begun []) (visits_of name_eq e.bubbles vs) in
+      ap (λ ls. record { run = (group_world g end.0, ls); answer = not end.1.cancelled }) (outputs-event_lines g end.1.lines)
+      ∙ ap ending (visits-group e (visits_of name_eq e.bubbles vs) (w, begun []) (group_world g w, begun []) logs
+      (ap (λ a. (a, begun [])) (sym (group-twice g w)))
+      ∙ ap (λ us. group_going g (fold (world_visit e) (group_world g w, begun []) us)) (group_visits g e.bubbles vs))
 
   -- a dispatch without views at its nodes shows it nothing
   pub no_dispatch : (w : World) (x : NodeName) (r : Option NodeName) (e : EventWords) → ComponentsOnlyLog w →

@@ -94,14 +94,14 @@ module _ (g : Owner → Bool) (closed : KeepsFamilies g) where
   says-out o h (s ∷ ls) = filter-away (λ l. is_of g (owner_of_output l)) (says o s) (map (says o) ls) h ∙ says-out o h ls
 
   -- Effects.
-  effect-out : (w : World) → IsGround w → (o : Owner) → g o ≡ false → (e : Effect) → KeepsBase (part_of w o) e → Holds (part_of w o) e →
+  effect-out : {w : World} → IsGround w → (o : Owner) → g o ≡ false → (e : Effect) → KeepsBase (part_of w o) e → Holds (part_of w o) e →
       ShowsNothing w (effect_in w o e)
-  effect-out w i o h (tables p lines a) k f =
+  effect-out {w} i o h (tables p lines a) k f =
       let here = with_part-out g w p (ap g (k.0 ∙ owner-part_of w o) ∙ h) in
       quiet-then g closed (with_part w p, map (says o) lines) w (answering o a) (w, [])
       (ap (λ u. (u, group_outputs g (map (says o) lines))) here ∙ ap (λ ls. (group_world g w, ls)) (says-out o h lines))
       (answered-out o h a w (with_part w p) here)
-  effect-out w i o h (changes steps a) k f = answered-out o h a w (world_after o w steps) (steps-out g closed o h steps w i f)
+  effect-out {w} i o h (changes steps a) k f = answered-out o h a w (world_after o w steps) (steps-out g closed o h steps w i f)
 
   -- An attach writes two parts outside.
   attaching-out : (w : World) (o : Owner) → g o ≡ false → (x : NodeName) → g (component_made o (length (part_of w o).attached)) ≡ false →
@@ -119,14 +119,14 @@ module _ (g : Owner → Bool) (closed : KeepsFamilies g) where
   Shows w r e = group_run g r ≡ group_run g (outward_run w e)
 
   -- A dispatch.
-  pub dispatched-out : (w : World) (k : ComponentName) → IsQuiet w → g (Component k) ≡ false → (x : NodeWord) (e : EventWords) (r : Option NodeWord) →
+  pub dispatched-out : {w : World} (k : ComponentName) → IsQuiet w → g (Component k) ≡ false → (x : NodeWord) (e : EventWords) (r : Option NodeWord) →
       part_refusal (part_of w (Component k)) (Command.dispatch x e r) ≡ None →
       Shows w (perform w (Component k) (Command.dispatch x e r)) (outward_dispatch w (Component k) (Command.dispatch x e r))
-  dispatched-out w k q h x e r a =
+  dispatched-out {w} k q h x e r a =
       let o = Component k in
       let p = part_of w o in
       let d = dispatch_in w (named p x) (option_map (named p) r) e in
-      let shown = dispatch-out g closed w q (named p x) (option_map (named p) r) e
+      let shown = dispatch-out g closed q (named p x) (option_map (named p) r) e
       (ap g (owner-named p x ∙ owner-part_of w o) ∙ h) (related-same_root w k x e r a) in
       after_reply d.run (outward_run w (outward_at w (named p x) e (option_map (named p) r))) (a_truth d.answer) shown
       ∙ ap (λ v. group_run g (outward_run w v)) (outward-same w k x e r)
@@ -147,7 +147,7 @@ module _ (g : Owner → Bool) (closed : KeepsFamilies g) where
       (closed.made o (length (part_of w o).attached) (attach-may w o a out.passes) (λ e. Component-IsNoPage k e) ∙ out.outside)
   perform-out w k (Command.connected a) out = answered-out (Component k) out.outside _ w w refl
   perform-out w k (Command.assigned a) out = answered-out (Component k) out.outside _ w w refl
-  perform-out w k (Command.dispatch a b c) out = dispatched-out w k out.quiet out.outside a b c out.passes
+  perform-out w k (Command.dispatch a b c) out = dispatched-out k out.quiet out.outside a b c out.passes
   perform-out w k (Command.micro a) out =
       let u : World = record w { tasks = w.tasks ++ micro_task (Component k) a ∷ [] } in
       answered-out (Component k) out.outside nothing w u
@@ -160,7 +160,7 @@ module _ (g : Owner → Bool) (closed : KeepsFamilies g) where
       quiet-then g closed (ending_turn w) w (answering (Component k) nothing) (w, []) first
       (answered-out (Component k) out.outside nothing w (ending_turn w).0 (ap (λ (r : Run World). r.0) first))
   perform-out w k c out =
-      effect-out w (ground-of w out.quiet.world) (Component k) out.outside (effect (part_of w (Component k)) c) (base-effect (part_of w (Component k)) c)
+      effect-out (ground-of w out.quiet.world) (Component k) out.outside (effect (part_of w (Component k)) c) (base-effect (part_of w (Component k)) c)
       out.fits
 
   -- The turn that is open before a line of a component outside, where it is not the page's, is not the group's.
@@ -183,7 +183,7 @@ module _ (g : Owner → Bool) (closed : KeepsFamilies g) where
       let o = Component k in
       let u = opening_turn w o in
       let same = opening-out g closed w o out.outside in
-      let p = opened-quiet w out.quiet o a in
+      let p = opened-quiet w out.quiet o in
       let still : is_of g u.turn ≡ false = by_cases (is_of g u.turn)
       (λ e. absurd (true≢false (sym e ∙ ap (is_of g) (same-turn g closed u w same e) ∙ out.other_turn))) (λ e. e) in
       let after : PassesOutside g u k c = record {
@@ -195,7 +195,7 @@ module _ (g : Owner → Bool) (closed : KeepsFamilies g) where
         fits = subst (λ x. Holds x (effect x c)) (sym (part_of-opening w o o)) out.fits;
       } in
       perform-out u k c after
-      ∙ outward-in g closed u w p out.quiet same (outward_dispatch u o c) (event-page u o c)
+      ∙ outward-in g closed u w (record { first = p; second = out.quiet; same = same }) (outward_dispatch u o c) (event-page u o c)
       ∙ ap (λ e. group_run g (outward_run w e)) (opened-event w k c)
 
   -- `.` apart, which opens none
@@ -205,10 +205,10 @@ module _ (g : Owner → Bool) (closed : KeepsFamilies g) where
   accepted-out w k c a out = opened w k c a out
 
   -- A command, refused or accepted. What it does fits where it is accepted.
-  pub command-out : (w : World) (k : ComponentName) → IsQuiet w → g (Component k) ≡ false → IsCalm g w → has_other_turn w (Component k) ≡ false →
+  pub command-out : {w : World} (k : ComponentName) → IsQuiet w → g (Component k) ≡ false → IsCalm g w → has_other_turn w (Component k) ≡ false →
       (c : Command) → (refusal w (Component k) c ≡ None → Holds (part_of w (Component k)) (effect (part_of w (Component k)) c)) →
       Shows w (run_command (Component k) c w) (outward_command w (Component k) c)
-  command-out w k q h calm a c f = from (refusal w (Component k) c) refl
+  command-out {w} k q h calm a c f = from (refusal w (Component k) c) refl
     where
       from : (r : Option Refusal) → refusal w (Component k) c ≡ r →
           Shows w (unless_refused (Component k) (refusal w (Component k) c) w (accepted w (Component k) c))

@@ -106,9 +106,9 @@ worded-then r f h g = let more = g r.0 h.0 in (more.0, all-append HasOwner r.1 (
 
 -- a run for each item
 worded-each : {A : Type 0} (P : A → Type 0) (f : World → A → Run World) → ((w : World) (x : A) → IsWordedWorld w → P x → IsWordedRun (f w x)) →
-    (xs : List A) (w : World) → IsWordedWorld w → AllByRecursion P xs → IsWordedRun (run_each f w xs)
-worded-each P f g [] w h all = (h, tt)
-worded-each P f g (x ∷ xs) w h all = worded-then (f w x) (λ v. run_each f v xs) (g w x h all.0) (λ v k. worded-each P f g xs v k all.1)
+    (xs : List A) {w : World} → IsWordedWorld w → AllByRecursion P xs → IsWordedRun (run_each f w xs)
+worded-each P f g [] h all = (h, tt)
+worded-each P f g (x ∷ xs) {w} h all = worded-then (f w x) (λ v. run_each f v xs) (g w x h all.0) (λ v k. worded-each P f g xs k all.1)
 
 -- A dispatch: the lines are of owners of nodes.
 abbrev IsWordedLine : EventLine NodeName → Type 0
@@ -185,7 +185,7 @@ worded-dispatch w x r e h =
 worded-notifying : (w : World) (o : Owner) → IsWordedWorld w → IsWordedRun (notifying w o)
 worded-notifying w o h = worded-then (with_part (without_signals w o) (notified p), notified_lines p) (λ v. run_each firing_slotchange v slots) (first
     (h.parts o))
-    (λ v k. worded-each (λ s. ⊤) firing_slotchange (λ u s k t. worded-dispatch u s None slotchange k) slots v k (all-from (λ s. ⊤) (λ s. tt) slots))
+    (λ v k. worded-each (λ s. ⊤) firing_slotchange (λ u s k t. worded-dispatch u s None slotchange k) slots k (all-from (λ s. ⊤) (λ s. tt) slots))
   where
     p : Part
     p = part_of w o
@@ -215,7 +215,7 @@ worded-running w (notify_task o) h g = worded-notifying w o h
 -- the ending of a turn
 worded-ending_turn : (w : World) → IsWordedWorld w → IsWordedRun (ending_turn w)
 worded-ending_turn w h =
-    worded-each IsWordedTask running_task worded-running w.tasks (record w { tasks = []; turn = None }) (record { parts = h.parts; tasks = tt }) h.tasks
+    worded-each IsWordedTask running_task worded-running w.tasks (record { parts = h.parts; tasks = tt }) h.tasks
 
 -- of another component's turn
 worded-ending_other : (w : World) (o : Owner) → IsWordedWorld w → IsWordedRun (ending_other_turn w o)
@@ -300,4 +300,4 @@ worded-first = record { parts = parts; tasks = tt }
 -- all lines of output of a script
 pub worded-outputs : (ls : List Line) → AllByRecursion IsWordedInput ls → AllByRecursion HasOwner (outputs_of ls)
 worded-outputs ls h =
-    (worded-then (run_lines first_world ls) finish (worded-each IsWordedInput step worded-line ls first_world worded-first h) worded-ending_any).1
+    (worded-then (run_lines first_world ls) finish (worded-each IsWordedInput step worded-line ls worded-first h) worded-ending_any).1

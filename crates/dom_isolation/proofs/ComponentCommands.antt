@@ -16,7 +16,7 @@ use Rattle.dom_model.specs.Command.{Command, NodeWord, EventWords}
 use Rattle.dom_model.specs.Output.{says, nothing, a_truth}
 use Rattle.dom_model.specs.Part.{Part}
 use Rattle.dom_model.specs.Runs.{quiet, run_then, answering, unless_refused}
-use Rattle.dom_model.specs.CommandRefusals.{is_command_of, part_refusal, related_refusal, has_other_root}
+use Rattle.dom_model.specs.CommandRefusals.{part_refusal, related_refusal, has_other_root}
 use Rattle.dom_model.specs.CommandNames.{named}
 use Rattle.dom_model.specs.Effects.{Effect, tables, changes, effect}
 use Rattle.dom_model.specs.World.{World, hosts_from, host_above, is_in_shadow_tree, micro_task, part_of, with_part, component_made}
@@ -53,9 +53,9 @@ effect-other w k (tables p lines v) h =
 effect-other w k (changes steps v) h = ap (λ s. quiet s) (page_of-world_after-other (Component k) (Component-IsNoPage k) w steps)
 
 -- What an accepted dispatch of a component is known to have.
-pub related-near : (p : Part) (k : ComponentName) (x : NodeWord) (e : EventWords) (y : NodeWord) → p.owner ≡ Component k →
+pub related-near : {k : ComponentName} (p : Part) (x : NodeWord) (e : EventWords) (y : NodeWord) → p.owner ≡ Component k →
     part_refusal p (Command.dispatch x e (Some y)) ≡ None → root_of p.trees (named p y) ≡ root_of p.trees (named p x)
-related-near p k x e y o h =
+related-near {k} p x e y o h =
     let c = Command.dispatch x e (Some y) in
     let own : related_refusal (Component k) p (named p x) (Some y) ≡ None =
     subst (λ o. related_refusal o p (named p x) (Some y) ≡ None) o (part-accepted p c h).own in
@@ -79,7 +79,7 @@ related-same_root w k x e (Some y) g =
     let at_x : (named p x).owner ≡ Component k = owner-named p x ∙ o in (
       (
         at_y ∙ sym at_x,
-        ap (λ q. root_of (part_of w q).trees (named p y)) at_y ∙ related-near p k x e y o g ∙
+        ap (λ q. root_of (part_of w q).trees (named p y)) at_y ∙ related-near p x e y o g ∙
             ap (λ q. root_of (part_of w q).trees (named p x)) (sym at_x),
       ),
       tt,
@@ -93,17 +93,17 @@ outward-same w k x e None = refl
 outward-same w k x e (Some y) = refl
 
 -- A dispatch.
-dispatched-component : (w : World) (k : ComponentName) → IsQuiet w → (x : NodeWord) (e : EventWords) (related : Option NodeWord) →
+dispatched-component : {w : World} (k : ComponentName) → IsQuiet w → (x : NodeWord) (e : EventWords) (related : Option NodeWord) →
     part_refusal (part_of w (Component k)) (Command.dispatch x e related) ≡ None →
     page_run (perform w (Component k) (Command.dispatch x e related)) ≡ outward_run (page_of w)
     (outward_dispatch w (Component k) (Command.dispatch x e related))
-dispatched-component w k q x e related h =
+dispatched-component {w} k q x e related h =
     let p = part_of w (Component k) in
     let o = owner-part_of w (Component k) in
     let target = named p x in
     let mine : target.owner ≡ Component k = owner-named p x ∙ o in
     let d = dispatch_in w target (option_map (named p) related) e in
-    let seen = dispatch-component w q target (option_map (named p) related) e (λ z. Component-IsNoPage k (sym mine ∙ z))
+    let seen = dispatch-component q target (option_map (named p) related) e (λ z. Component-IsNoPage k (sym mine ∙ z))
     (related-same_root w k x e related h) in
     run_then-square d.run (answering (Component k) (a_truth d.answer)) quiet refl
     ∙ ap (λ r. run_then r quiet) seen ∙ run_then-quiet_end (outward_run (page_of w) (outward_at w target e (option_map (named p) related)))
@@ -112,7 +112,7 @@ dispatched-component w k q x e related h =
 -- any component's
 pub component_dispatch-agrees : ComponentDispatchAgrees
 component_dispatch-agrees w Page off q x e related h = absurd (off refl)
-component_dispatch-agrees w (Component k) off q x e related h = dispatched-component w k q x e related h
+component_dispatch-agrees w (Component k) off q x e related h = dispatched-component k q x e related h
 
 -- An attach writes two parts, neither of which is the page's.
 attaching-component : (w : World) (k : ComponentName) (x : NodeName) → page_run (attaching w (Component k) x) ≡ quiet (page_of w)
@@ -129,18 +129,17 @@ attaching-component w k x =
     refl refl)
 
 -- Any accepted command.
-pub perform-component : (w : World) (k : ComponentName) → IsQuiet w → is_page_turn w.turn ≡ false → (c : Command) → is_command_of (Component k) c ≡ true →
-    part_refusal (part_of w (Component k)) c ≡ None →
-    page_run (perform w (Component k) c) ≡ outward_run (page_of w) (outward_dispatch w (Component k) c)
-perform-component w k q t (Command.attach a) h r = attaching-component w k (named (part_of w (Component k)) a)
-perform-component w k q t (Command.connected a) h r = refl
-perform-component w k q t (Command.assigned a) h r = refl
-perform-component w k q t (Command.dispatch a b c) h r = dispatched-component w k q a b c r
-perform-component w k q t (Command.micro a) h r =
+pub perform-component : (w : World) (k : ComponentName) → IsQuiet w → is_page_turn w.turn ≡ false → (c : Command) →
+    part_refusal (part_of w (Component k)) c ≡ None → page_run (perform w (Component k) c) ≡ outward_run (page_of w) (outward_dispatch w (Component k) c)
+perform-component w k q t (Command.attach a) r = attaching-component w k (named (part_of w (Component k)) a)
+perform-component w k q t (Command.connected a) r = refl
+perform-component w k q t (Command.assigned a) r = refl
+perform-component w k q t (Command.dispatch a b c) r = dispatched-component k q a b c r
+perform-component w k q t (Command.micro a) r =
     ap quiet (same_page_of (record w { tasks = w.tasks ++ micro_task (Component k) a ∷ [] }) w refl
     (filter-append is_page_task w.tasks (micro_task (Component k) a ∷ []) ∙ append-nil (filter is_page_task w.tasks)) refl)
-perform-component w k q t Command.end_turn h r = quiet_then (ending_turn w) (page_of w) (answering (Component k) nothing) (ending-component w q t) refl
-perform-component w k q t c h r = effect-other w k (effect (part_of w (Component k)) c) (base-effect (part_of w (Component k)) c)
+perform-component w k q t Command.end_turn r = quiet_then (ending_turn w) (page_of w) (answering (Component k) nothing) (ending-component w q t) refl
+perform-component w k q t c r = effect-other w k (effect (part_of w (Component k)) c) (base-effect (part_of w (Component k)) c)
 
 -- With the turn that it opens.
 each-same : {X Y : Type 0} (f g : X → List Y) → ((x : X) → f x ≡ g x) → (xs : List X) → flat_map f xs ≡ flat_map g xs
@@ -162,7 +161,6 @@ opened-event w k c =
   where
     in_turn : (c : Command) → outward_dispatch (record w { turn = Some (Component k) }) (Component k) c ≡ outward_dispatch w (Component k) c
     in_turn (Command.dispatch a b None) =
-        let v : World = record w { turn = Some (Component k) } in
         let x = named (part_of w (Component k)) a in
         ap (λ xs. if b.composed then option_map (outward_of b)
         (if is_in_shadow_tree w x && is_page (unwrap_or (last_of xs) x).owner then Some (unwrap_or (last_of xs) x) else None) else None)
@@ -170,22 +168,20 @@ opened-event w k c =
     in_turn c = refl
 
 -- with the turn that it opens
-opened : (w : World) (k : ComponentName) → IsQuiet w → is_page_turn w.turn ≡ false → (c : Command) → is_command_of (Component k) c ≡ true →
-    part_refusal (part_of w (Component k)) c ≡ None →
+opened : (w : World) (k : ComponentName) → IsQuiet w → is_page_turn w.turn ≡ false → (c : Command) → part_refusal (part_of w (Component k)) c ≡ None →
     page_run (perform (opening_turn w (Component k)) (Component k) c) ≡ outward_run (page_of w) (outward_dispatch w (Component k) c)
-opened w k q t c h r =
-    perform-component (opening_turn w (Component k)) k (quiet-opening w q (Component k) (λ e. absurd (Component-IsNoPage k e)))
-    (ap (λ (s : PageState). s.is_open) (opening-component w k t) ∙ t) c h
+opened w k q t c r =
+    perform-component (opening_turn w (Component k)) k (quiet-opening w q (Component k))
+    (ap (λ (s : PageState). s.is_open) (opening-component w k t) ∙ t) c
     (ap (λ p. part_refusal p c) (part_of-opening w (Component k) (Component k)) ∙ r)
     ∙ ap (λ s. outward_run s (outward_dispatch (opening_turn w (Component k)) (Component k) c)) (opening-component w k t)
     ∙ ap (outward_run (page_of w)) (opened-event w k c)
 
 -- `.` apart, which opens none
-accepted-component : (w : World) (k : ComponentName) → IsQuiet w → is_page_turn w.turn ≡ false → (c : Command) → is_command_of (Component k) c ≡ true →
-    part_refusal (part_of w (Component k)) c ≡ None →
-    page_run (accepted w (Component k) c) ≡ outward_run (page_of w) (outward_dispatch w (Component k) c)
-accepted-component w k q t Command.end_turn h r = perform-component w k q t Command.end_turn h r
-accepted-component w k q t c h r = opened w k q t c h r
+accepted-component : (w : World) (k : ComponentName) → IsQuiet w → is_page_turn w.turn ≡ false → (c : Command) →
+    part_refusal (part_of w (Component k)) c ≡ None → page_run (accepted w (Component k) c) ≡ outward_run (page_of w) (outward_dispatch w (Component k) c)
+accepted-component w k q t Command.end_turn r = perform-component w k q t Command.end_turn r
+accepted-component w k q t c r = opened w k q t c r
 
 -- refused or accepted
 pub command-component : (w : World) (k : ComponentName) → IsQuiet w → (c : Command) →
@@ -201,5 +197,5 @@ command-component w k q c = from (refusal w (Component k) c) refl
     from None e =
         let a = accepted-facts w (Component k) c e in
         ap (λ o. page_run (unless_refused (Component k) o w (accepted w (Component k) c))) e
-        ∙ accepted-component w k q (and-true_false (is_page_turn w.turn) a.calm) c a.grammar a.part
+        ∙ accepted-component w k q (and-true_false (is_page_turn w.turn) a.calm) c a.part
         ∙ sym (ap (λ o. outward_run (page_of w) (if is_none o then outward_dispatch w (Component k) c else None)) e)

@@ -1,7 +1,7 @@
 -- A dispatch of a component, as the page sees it: nothing, or the outward event at its host.
 use Rattle.dom_isolation.proofs.PagePaths.{views-page}
 use Rattle.dom_model.proofs.OwnerLaws.{owner_eq-true, owner_eq-false}
-use Rattle.std.proofs.Common.{◌≡◌, ◌≢◌, Bool, true, false, ◌&&◌, [], ◌∷◌, filter, Option, Some, None, option_map, unwrap_or, refl, sym}
+use Rattle.std.proofs.Common.{◌≡◌, Bool, true, false, ◌&&◌, [], ◌∷◌, filter, Option, Some, None, option_map, unwrap_or, refl, sym}
 use Rattle.std.proofs.Common.{ap, ◌∙◌, true≢false, subst, append-nil}
 use Rattle.std.specs.Prelude.{is_some, if◌then◌else◌, option_to_list}
 use Rattle.std.specs.List.{AllByRecursion}
@@ -33,8 +33,9 @@ abbrev pub above_as : World → NodeName → Owner → Option NodeName
 above_as w r o = option_and_then (some_if (name_eq r (shadow_root_of o))) (host_of w o)
 
 -- nodes with one root have one host above
-pub above-sibling : (w : World) (x y host : NodeName) → host_above w x ≡ Some host → y.owner ≡ x.owner → root_at w y ≡ root_at w x → host_above w y ≡ Some host
-above-sibling w x y host h e r = ap (above_as w (root_at w y)) e ∙ ap (λ z. above_as w z x.owner) r ∙ h
+pub above-sibling : {host : NodeName} (w : World) (x y : NodeName) → host_above w x ≡ Some host → y.owner ≡ x.owner → root_at w y ≡ root_at w x →
+    host_above w y ≡ Some host
+above-sibling w x y h e r = ap (above_as w (root_at w y)) e ∙ ap (λ z. above_as w z x.owner) r ∙ h
 
 -- The page's answer to a dispatch of a component.
 abbrev pub outward_run : PageState → Option OutwardEvent → Run PageState
@@ -52,9 +53,9 @@ outermost-last w x k h =
     ∙ ap (λ o. if is_page (unwrap_or o x).owner then Some (unwrap_or o x) else None) (ap last_of k.chain ∙ last-push None k.inner k.last)
 
 -- an outward event is one at the host, as the page sees it
-outward-event : (o : Owner) → o ≢ Page → (w : World) (x : NodeName) (e : EventWords) → IsQuiet w → e.composed ≡ true → (host : NodeName) → IsUnder w x host →
+outward-event : {w : World} {x : NodeName} (e : EventWords) → IsQuiet w → e.composed ≡ true → {host : NodeName} → IsUnder w x host →
     page_run (dispatch_in w x None e).run ≡ (page_outward (page_of w) (outward_of e host))
-outward-event o f w x e q c host u =
+outward-event {w} {x} e q c {host} u =
     let as_outward : e ≡ record { event = e.event; bubbles = e.bubbles; cancelable = e.cancelable; composed = true } = ap (λ b. record e { composed = b }) c in
     let seen = subst (λ b. filter is_page_view (views w x None b) ≡ plain_views (part_of w Page).trees host None) (sym c) (views-outward w q.world x host u) in
     ap (λ (d : Dispatched PageState). d.run) (dispatch-page w x host None None e (q.logs refl) seen)
@@ -93,9 +94,9 @@ abbrev NoView : World → NodeName → Option NodeName → Bool → Type 0
 NoView w x related composed = filter is_page_view (views w x related composed) ≡ []
 
 -- a dispatch of a component, as the page sees it
-pub dispatch-component : (w : World) → IsQuiet w → (x : NodeName) (related : Option NodeName) (e : EventWords) → IsForeignTo Page x → HasSameRoot w x related →
+pub dispatch-component : {w : World} → IsQuiet w → (x : NodeName) (related : Option NodeName) (e : EventWords) → IsForeignTo Page x → HasSameRoot w x related →
     page_run (dispatch_in w x related e).run ≡ outward_run (page_of w) (outward_at w x e related)
-dispatch-component w q x related e f same =
+dispatch-component {w} q x related e f same =
     by_cases e.composed (λ c. by_cases (is_in_shadow_tree w x) (λ h. inside c h) (λ h. outside c h)) (λ c. kept c)
   where
     none : outward_at w x e related ≡ None → NoView w x related e.composed →
@@ -118,7 +119,7 @@ dispatch-component w q x related e f same =
     alone c h =
         let k = has-chain w q.world x in
         by_cases (is_page k.last.owner)
-        (λ p. outward-event x.owner f w x e q c k.last (record { inner = k.inner; chain = k.chain; trees = k.trees; page = owner_eq-true k.last.owner Page p })
+        (λ p. outward-event {x = x} e q c (record { inner = k.inner; chain = k.chain; trees = k.trees; page = owner_eq-true k.last.owner Page p })
         ∙ sym (run_then-quiet_end (page_outward (page_of w) (outward_of e k.last)))
         ∙ sym (ap (outward_run (page_of w)) (outward-composed w x e c (Some k.last) (outermost h k true p))))
         (λ p. dispatch-nothing w x None e (q.logs refl) (views-far w q.world x None e.composed (far k p))
@@ -140,7 +141,7 @@ dispatch-component w q x related e f same =
         from (Some host) g =
             dispatch-nothing w x (Some y) e (q.logs refl)
             (subst (NoView w x (Some y)) (sym c)
-            (views-related w q.world x y host (below-host w q.world x host g) (below-host w q.world y host (above-sibling w x y host g s.0.0 s.0.1))))
+            (views-related w q.world x y host (below-host w q.world x host g) (below-host w q.world y host (above-sibling w x y g s.0.0 s.0.1))))
 
     inside : e.composed ≡ true → is_in_shadow_tree w x ≡ true → page_run (dispatch_in w x related e).run ≡ outward_run (page_of w) (outward_at w x e related)
     inside c h = by_related related c h same
@@ -148,7 +149,7 @@ dispatch-component w q x related e f same =
 -- The visits at page nodes.
 pub page_visits-agree : PageVisitsAgree
 page_visits-agree w q x related bubbles composed h g =
-    page_visits_of bubbles (views w x related composed) ∙ ap (visits_of name_eq bubbles) (views-page w q.world x related composed h g)
+    page_visits_of bubbles (views w x related composed) ∙ ap (visits_of name_eq bubbles) (views-page q.world x related composed h g)
 
 -- of an event that goes out
 pub outward_visits-agree : OutwardVisitsAgree

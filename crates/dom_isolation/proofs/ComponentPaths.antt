@@ -106,8 +106,8 @@ whole_path-under w x host u =
     (append-nil (way_up w host))
 
 -- page nodes see the host in its place
-pub retarget-under : (w : World) → IsWorld w → (x host y : NodeName) → IsUnder w x host → y.owner ≡ Page → retarget w x y ≡ host
-retarget-under w i x host y u h =
+pub retarget-under : {w : World} → IsWorld w → {x host : NodeName} (y : NodeName) → IsUnder w x host → y.owner ≡ Page → retarget w x y ≡ host
+retarget-under {w} i {x} {host} y u h =
     ap (λ xs. unwrap_or (find (λ z. not (is_hidden_from w y z)) xs) x) u.chain ∙ ap (λ o. unwrap_or o x) (outermost u.inner u.trees)
   where
     outermost : (inner : List NodeName) → AllByRecursion (λ z. IsInTree w z.owner z) inner →
@@ -115,7 +115,7 @@ retarget-under w i x host y u h =
     outermost [] t = cond-true (not (is_hidden_from w y host)) (Some host) None (ap not (page-not_hidden w y host u.page))
     outermost (z ∷ zs) t =
         cond-false (not (is_hidden_from w y z)) (Some z) (find (λ z. not (is_hidden_from w y z)) (zs ++ host ∷ []))
-        (ap not (in_tree-hidden w i z.owner y z h t.0))
+        (ap not (in_tree-hidden i y h t.0))
         ∙ outermost zs t.1
 
 -- An outward event: without a related node the path is not cut, and the page sees the event at the host.
@@ -159,7 +159,7 @@ views-outward w i x host u =
     ∙ way-pages w i max_depth up owned in
     let seen = all-append (IsSeen w) inner outer (all-then (IsInSome w) (IsSeen w) (seen-in_some w i) inner inside) (way-seen w i max_depth up owned) in
     let at : (y : NodeName) → y.owner ≡ Page → view_at w x None (inner ++ outer) y ≡ plain_view host None up y =
-    λ y e. view_at-page w x host None (inner ++ outer) up y (retarget-under w i x host y u e) refl
+    λ y e. view_at-page w x (inner ++ outer) y (retarget-under i y u e) refl
     (filter_same (λ z. not (is_hidden_from w y z)) is_page_node (inner ++ outer)
     (all-then (IsSeen w) (λ z. not (is_hidden_from w y z) ≡ is_page_node z) (λ z s. s y e) (inner ++ outer) seen) ∙ pages) in
     ap (λ path. filter is_page_view (map (view_at w x None path) path)) (event_path-outward w x host u)

@@ -25,8 +25,8 @@ pub page-not_hidden : (w : World) (x y : NodeName) → y.owner ≡ Page → is_h
 page-not_hidden w x y h = ap (λ b. b && not (is_in name_eq (root_at w y) (shadow_including_ancestors w x))) (page_in_no_tree w y h)
 
 -- a node of a shadow tree is hidden from a page node
-pub in_tree-hidden : (w : World) → IsWorld w → (c : Owner) (x y : NodeName) → x.owner ≡ Page → IsInTree w c y → is_hidden_from w x y ≡ true
-in_tree-hidden w i c x y h t =
+pub in_tree-hidden : {w : World} → IsWorld w → {c : Owner} (x : NodeName) {y : NodeName} → x.owner ≡ Page → IsInTree w c y → is_hidden_from w x y ≡ true
+in_tree-hidden {w} i {c} x {y} h t =
     ap (λ b. b && not (is_in name_eq (root_at w y) (shadow_including_ancestors w x))) (in_tree w c y t)
     ∙ ap (λ xs. not (is_in name_eq (root_at w y) xs)) (shadow_including-page w x h)
     ∙ ap not (not_in (root_at w y) (ancestors_at w x) Page (λ e. t.foreign (sym (ap (λ (r : NodeName). r.owner) t.root) ∙ e))

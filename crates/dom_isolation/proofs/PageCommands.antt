@@ -113,7 +113,7 @@ dispatched-page w q x e related =
     let p = part_of w Page in
     let d = dispatch_in w (named p x) (option_map (named p) related) e in
     let same = dispatch-page w (named p x) (named p x) (option_map (named p) related) (option_map (named p) related) e (q.logs refl)
-    (views-page w q.world (named p x) (option_map (named p) related) e.composed (page_named w x) (page_related w related)) in
+    (views-page q.world (named p x) (option_map (named p) related) e.composed (page_named w x) (page_related w related)) in
     run_then-square d.run (answering Page (a_truth d.answer)) (answering Page (a_truth d.answer)) refl
     ∙ ap (λ (f : Dispatched PageState). run_then f.run (answering Page (a_truth f.answer))) same
 
@@ -133,7 +133,7 @@ perform-page w q c h = effect-page w (effect (part_of w Page) c) (base-effect (p
 -- with the turn that it opens
 opened : (w : World) → IsQuiet w → IsPageTime w → (c : Command) → is_command_of Page c ≡ true →
     page_run (perform (opening_turn w Page) Page c) ≡ page_perform (record (page_of w) { is_open = true }) c
-opened w q t c h = perform-page (opening_turn w Page) (quiet-opening w q Page (λ e. t)) c h ∙ ap (λ s. page_perform s c) (opening-page w t)
+opened w q t c h = perform-page (opening_turn w Page) (quiet-opening w q Page) c h ∙ ap (λ s. page_perform s c) (opening-page w t)
 
 -- the turn is opened by every command but `.`
 pub accepted-page : (w : World) → IsQuiet w → IsPageTime w → (c : Command) → is_command_of Page c ≡ true →

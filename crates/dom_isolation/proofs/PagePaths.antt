@@ -43,7 +43,7 @@ in_some-foreign w y t e = t.1.foreign (sym t.1.owner ∙ e)
 
 -- and it is not seen
 pub seen-in_some : (w : World) → IsWorld w → (y : NodeName) → IsInSome w y → IsSeen w y
-seen-in_some w i y t x e = ap not (in_tree-hidden w i t.0 x y e t.1) ∙ sym (ne-owner_eq y.owner Page (in_some-foreign w y t))
+seen-in_some w i y t x e = ap not (in_tree-hidden i x e t.1) ∙ sym (ne-owner_eq y.owner Page (in_some-foreign w y t))
 
 -- the way through slots is in shadow trees
 pub slot_way-in_some : (depth : ℕ) (w : World) → IsWorld w → (x : NodeName) → AllByRecursion (IsInSome w) (slot_way depth w x)
@@ -116,10 +116,9 @@ and-not true = refl
 and-not false = refl
 
 -- the path of an event of a page target
-pub event_path-page : (w : World) → IsWorld w → (target : NodeName) (related : Option NodeName) (composed : Bool) → target.owner ≡ Page →
-    AllByRecursion (IsOf Page) (option_to_list related) →
-    event_path w target related composed ≡ way_up w target
-event_path-page w i target related composed h g =
+pub event_path-page : (w : World) (target : NodeName) (related : Option NodeName) (composed : Bool) → target.owner ≡ Page →
+    AllByRecursion (IsOf Page) (option_to_list related) → event_path w target related composed ≡ way_up w target
+event_path-page w target related composed h g =
     let whole : whole_path w target composed ≡ way_up w target = ap (flat_map (way_up w)) (chain composed) ∙ append-nil (way_up w target) in
     let cut = λ (xs : List NodeName). take_while (λ y. not (ends_at w target related y)) xs in
     ap (λ r. if is_node target r && not (is_node target related) then [] else cut (whole_path w target composed)) (retarget_related-page w related target g)
@@ -132,26 +131,26 @@ event_path-page w i target related composed h g =
     chain false = refl
 
 -- The views at page nodes are those of the page alone.
-pub view_at-page : (w : World) (target near : NodeName) (related : Option NodeName) (path pages : List NodeName) (x : NodeName) →
+pub view_at-page : {near : NodeName} {related : Option NodeName} {pages : List NodeName} (w : World) (target : NodeName) (path : List NodeName) (x : NodeName) →
     retarget w target x ≡ near → retarget_related w related x ≡ related → filter (λ y. not (is_hidden_from w x y)) path ≡ pages →
     view_at w target related path x ≡ plain_view near related pages x
-view_at-page w target near related path pages x a b c =
+view_at-page {near} {related} w target path x a b c =
     ap (λ t. record { node = x; target = t; related = retarget_related w related x; path = filter (λ y. not (is_hidden_from w x y)) path }) a
     ∙ ap (λ r. record { node = x; target = near; related = r; path = filter (λ y. not (is_hidden_from w x y)) path }) b
     ∙ ap (λ p. record { node = x; target = near; related = related; path = p }) c
 
 -- the views at its page nodes are the page machine's
-pub views-page : (w : World) → IsWorld w → (target : NodeName) (related : Option NodeName) (composed : Bool) → target.owner ≡ Page →
+pub views-page : {w : World} → IsWorld w → (target : NodeName) (related : Option NodeName) (composed : Bool) → target.owner ≡ Page →
     AllByRecursion (IsOf Page) (option_to_list related) →
     filter is_page_view (views w target related composed) ≡ plain_views (part_of w Page).trees target related
-views-page w i target related composed h g =
+views-page {w} i target related composed h g =
     let way = way_up w target in
     let up = ancestors_at w target in
     let owned = subst (λ o. AllByRecursion (IsOf o) up) h (ancestors-owned w i target) in
     let pages = way-pages w i max_depth up owned in
-    let path_is = event_path-page w i target related composed h g in
+    let path_is = event_path-page w target related composed h g in
     let at : (x : NodeName) → x.owner ≡ Page → view_at w target related way x ≡ plain_view target related up x =
-    λ x e. view_at-page w target target related way up x (retarget-page w target x h) (retarget_related-page w related x g)
+    λ x e. view_at-page w target way x (retarget-page w target x h) (retarget_related-page w related x g)
     (filter_same (λ y. not (is_hidden_from w x y)) is_page_node way (all-then (IsSeen w) (λ y. not (is_hidden_from w x y) ≡ is_page_node y)
     (λ y s. s x e) way (way-seen w i max_depth up owned)) ∙ pages) in
     ap (λ path. filter is_page_view (map (view_at w target related path) path)) path_is

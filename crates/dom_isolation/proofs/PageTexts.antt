@@ -1,5 +1,5 @@
 -- Texts: the page's lines of input and of output are those that begin with `p `.
-use Rattle.std.proofs.Common.{◌≡◌, ◌≢◌, ℕ, true, List, [], ◌∷◌, ◌++◌, map, Option, Some, None, refl, sym, ap, ◌∙◌, true≢false, subst}
+use Rattle.std.proofs.Common.{◌≡◌, ◌≢◌, ℕ, true, List, [], ◌∷◌, ◌++◌, map, Option, Some, None, refl, sym, ap, ◌∙◌, true≢false}
 use Rattle.std.specs.Prelude.{option_to_list}
 use Rattle.std.proofs.lemmas.Bool.{cond-true, cond-false, false_from_ne_true}
 use Rattle.dom_base.specs.declared.Owner.{Owner}
@@ -13,10 +13,8 @@ use Rattle.dom_model.specs.PageMachine.{PageState, page_outputs_of}
 use Rattle.dom_model.specs.Trace.{TraceItem, line, outward, is_page, is_of, owner_of_line, items_of, trace_from, outputs_for, outward_event, OutwardEvent}
 use Rattle.dom_model.specs.World.{World}
 use Rattle.dom_text.specs.Lines.{lines_of, owner_prefix, begins_with, page_lines, text_of_lines}
-use Rattle.dom_text.specs.Grammar.{MayUse, Says}
 use Rattle.dom_text.specs.Decode.{decode}
 use Rattle.dom_text.specs.Text.{output_line}
-use Rattle.dom_text.proofs.DecodeLaws.{decode_says}
 use Rattle.dom_text.proofs.TextLaws.{IsSaidBy, begins-says, says-begins}
 use Rattle.dom_isolation.specs.Texts.{ReadsPrefix, lines_in, OutputHasPageLines, PageViewIsItsOutput, TraceHasPageLines, PageLinesAgree}
 use Rattle.dom_isolation.specs.Texts.{PageLinesAgreeSoFar, PageTextAgrees, SamePageText, ForeignLineIsRefused}
@@ -114,12 +112,11 @@ module _ (read : List ℕ → Line) where
       page_text-agrees first h ∙ ap (λ items. text_of_lines (map output_line (page_outputs_of read items))) e ∙ sym (page_text-agrees second g)
 
 -- Foreign names.
-component-may_use : (o : Owner) (c : Command) → o ≢ Page → MayUse c o → is_command_of o c ≡ true
-component-may_use Page c off h = absurd (off refl)
-component-may_use (Component q) c off h = refl
+component-may_use : (o : Owner) (c : Command) → o ≢ Page → is_command_of o c ≡ true
+component-may_use Page c off = absurd (off refl)
+component-may_use (Component q) c off = refl
 
 -- a line of bytes with such a command
 pub foreign_line-is_refused : ForeignLineIsRefused
 foreign_line-is_refused w bytes o c off e h =
-    let says : Says bytes (command o c) = subst (Says bytes) e (decode_says bytes) in
-    ap (step w) e ∙ foreign_is_refused w o c off (component-may_use o c off says.may_use) h
+    ap (step w) e ∙ foreign_is_refused w o c off (component-may_use o c off) h

@@ -214,7 +214,7 @@ plain-first = record { parts = parts; tasks = tt }
 
 -- the lines of a script, run from the first world
 plain-run : (ls : List Line) → AllByRecursion IsPlainLine ls → IsPlainRun (run_lines first_world ls)
-plain-run ls h = plain-run_each IsPlainLine step plain-step ls first_world plain-first h
+plain-run ls h = plain-run_each IsPlainLine step plain-step ls plain-first h
 
 -- what they say
 pub plain-outputs_so_far : (ls : List Line) → AllByRecursion IsPlainLine ls → AllByRecursion IsPlainOutput (run_lines first_world ls).1

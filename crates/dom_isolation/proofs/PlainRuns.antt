@@ -71,9 +71,9 @@ plain-run_then r f h g = let more = g r.0 h.0 in (more.0, all-append IsPlainOutp
 
 -- a run for each item
 pub plain-run_each : {A : Type 0} (P : A → Type 0) (f : World → A → Run World) → ((w : World) (x : A) → IsPlainWorld w → P x → IsPlainRun (f w x)) →
-    (xs : List A) (w : World) → IsPlainWorld w → AllByRecursion P xs → IsPlainRun (run_each f w xs)
-plain-run_each P f g [] w h all = (h, tt)
-plain-run_each P f g (x ∷ xs) w h all = plain-run_then (f w x) (λ v. run_each f v xs) (g w x h all.0) (λ v k. plain-run_each P f g xs v k all.1)
+    (xs : List A) {w : World} → IsPlainWorld w → AllByRecursion P xs → IsPlainRun (run_each f w xs)
+plain-run_each P f g [] h all = (h, tt)
+plain-run_each P f g (x ∷ xs) {w} h all = plain-run_then (f w x) (λ v. run_each f v xs) (g w x h all.0) (λ v k. plain-run_each P f g xs k all.1)
 
 -- A dispatch.
 abbrev IsPlainGoing : Dispatching NodeName → Type 0
@@ -159,7 +159,7 @@ plain-notifying w o h =
     (all-from (λ k. AllByRecursion IsPlainOutput (records_of p k))
     (λ k. plain-records p.owner k (queue_of p.record_queues k) (plain-queue p.record_queues k i.2)) p.pending) in
     plain-run_then (with_part (without_signals w o) (notified p), flat_map (records_of p) p.pending) (λ v. run_each firing_slotchange v slots) (told, lines)
-    (λ v g. plain-run_each (λ s. ⊤) firing_slotchange (λ u s k t. plain-dispatch u s None slotchange k) slots v g (all-from (λ s. ⊤) (λ s. tt) slots))
+    (λ v g. plain-run_each (λ s. ⊤) firing_slotchange (λ u s k t. plain-dispatch u s None slotchange k) slots g (all-from (λ s. ⊤) (λ s. tt) slots))
 
 -- a task
 plain-running : (w : World) (t : Task) → IsPlainWorld w → IsPlainTask t → IsPlainRun (running_task w t)
@@ -168,7 +168,7 @@ plain-running w (notify_task o) h g = plain-notifying w o h
 
 -- the ending of a turn
 pub plain-ending_turn : (w : World) → IsPlainWorld w → IsPlainRun (ending_turn w)
-plain-ending_turn w h = plain-run_each IsPlainTask running_task plain-running w.tasks (record w { tasks = []; turn = None })
+plain-ending_turn w h = plain-run_each IsPlainTask running_task plain-running w.tasks
     (record { parts = h.parts; tasks = tt }) h.tasks
 
 -- of another component's turn

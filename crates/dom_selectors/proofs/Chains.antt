@@ -25,8 +25,8 @@ pub leads-same : (ts : Trees) (c : Complex) (x : NodeName) → Leads ts c x c x
 leads-same ts c x = record { same = refl; beside = λ h. h; above = λ h. h }
 
 -- a search that goes on
-pub leads-on : (ts : Trees) (c d e : Complex) (x y z : NodeName) → Leads ts c x d y → Leads ts d y e z → Leads ts c x e z
-leads-on ts c d e x y z f g = record { same = f.same ∙ g.same; beside = λ h. g.beside (f.beside h); above = λ h. g.above (f.above h) }
+pub leads-on : {ts : Trees} {c d e : Complex} {x y z : NodeName} → Leads ts c x d y → Leads ts d y e z → Leads ts c x e z
+leads-on f g = record { same = f.same ∙ g.same; beside = λ h. g.beside (f.beside h); above = λ h. g.above (f.above h) }
 
 -- ---- where the last compound matches, the nodes that the combinator leaves answer
 

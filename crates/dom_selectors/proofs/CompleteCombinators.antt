@@ -37,11 +37,10 @@ sign-none (c ∷ cs) h =
     rw (b.0, b.1, a.1) refl
 
 -- a sign with white space around it
-spaced-read : (text said rest : DomString) (how : Combinator) → IsSpaced text said →
-    ((t : DomString) → read_one_of combinator_signs (said ++ t) ≡ Some (how, t)) → ((t : DomString) → head_passes is_space (said ++ t) ≡ false) →
-    Begins rest
-    → read_combinator (text ++ rest) ≡ Some (how, rest)
-spaced-read text said rest how h found apart begins =
+spaced-read : {text said rest : DomString} (how : Combinator) → IsSpaced text said →
+    ((t : DomString) → read_one_of combinator_signs (said ++ t) ≡ Some (how, t)) → ((t : DomString) → head_passes is_space (said ++ t) ≡ false) → Begins rest →
+    read_combinator (text ++ rest) ≡ Some (how, rest)
+spaced-read {text} {said} {rest} how h found apart begins =
     let tail = h.after ++ rest in
     let cs = text ++ rest in
     let shape : cs ≡ h.before ++ (said ++ tail) =
@@ -54,9 +53,9 @@ spaced-read text said rest how h found apart begins =
 -- a combinator
 combinator-read : (text : DomString) (how : Combinator) (rest : DomString) → IsCombinator text how → Begins rest →
     read_combinator (text ++ rest) ≡ Some (how, rest)
-combinator-read text child rest h begins = spaced-read text (codes ">") rest child h (λ t. refl) (λ t. refl) begins
-combinator-read text next rest h begins = spaced-read text (codes "+") rest next h (λ t. refl) (λ t. refl) begins
-combinator-read text later rest h begins = spaced-read text (codes "~") rest later h (λ t. refl) (λ t. refl) begins
+combinator-read text child rest h begins = spaced-read child h (λ t. refl) (λ t. refl) begins
+combinator-read text next rest h begins = spaced-read next h (λ t. refl) (λ t. refl) begins
+combinator-read text later rest h begins = spaced-read later h (λ t. refl) (λ t. refl) begins
 combinator-read text descendant rest h begins =
     let cs = text ++ rest in
     let skipped = skip-read text rest h.0 begins.space in
@@ -106,9 +105,9 @@ data Stops (rest : DomString) : Type 0 where
   comma : (spaces more : DomString) → IsSpaces spaces → rest ≡ spaces ++ 44 ∷ more → Stops rest
 
 -- no link is read from units of which none but these is left behind white space
-no-link : (rest spaced : DomString) → skip_space rest ≡ spaced → read_one_of combinator_signs spaced ≡ None → skip_space spaced ≡ spaced →
-    read_compound spaced ≡ None → read_link rest ≡ None
-no-link rest spaced e none same empty =
+no-link : (rest spaced : DomString) → skip_space rest ≡ spaced → read_one_of combinator_signs spaced ≡ None → read_compound spaced ≡ None →
+    read_link rest ≡ None
+no-link rest spaced e none empty =
     let on : Option (Combinator × DomString) → Option ((Combinator × List CompoundPart) × DomString) =
     λ o. option_and_then (λ (how, rest'). read_map (λ c. (how, c)) (read_compound rest')) o in
     ap (λ k. on (combinator_at k rest)) e
@@ -118,17 +117,17 @@ no-link rest spaced e none same empty =
     (λ _. ap (λ k. read_map (λ c. (descendant, c)) (read_compound k)) e ∙ ap (read_map (λ c. (descendant, c))) empty) (λ _. refl)
 
 stops-link : (rest : DomString) → Stops rest → read_link rest ≡ None
-stops-link rest (ended h) = no-link rest [] (ap skip_space (sym (append-nil rest)) ∙ skip-read rest [] h refl) refl refl refl
-stops-link rest (comma spaces more h e) = no-link rest (44 ∷ more) (ap skip_space e ∙ skip-read spaces (44 ∷ more) h refl) refl refl refl
+stops-link rest (ended h) = no-link rest [] (ap skip_space (sym (append-nil rest)) ∙ skip-read rest [] h refl) refl refl
+stops-link rest (comma spaces more h e) = no-link rest (44 ∷ more) (ap skip_space e ∙ skip-read spaces (44 ∷ more) h refl) refl refl
 
 stops-off : (rest : DomString) → Stops rest → Off rest
 stops-off rest (ended h) = subst Off (append-nil rest) (spaces_off rest [] h (record { name = refl; part = refl }))
 stops-off rest (comma spaces more h e) = subst Off (sym e) (spaces_off spaces (44 ∷ more) h (record { name = refl; part = refl }))
 
 -- a complex selector
-complex-read : (before text : DomString) (x : Complex) (rest : DomString) → IsSpaces before → IsComplex text x → Stops rest →
+complex-read : {text : DomString} {x : Complex} {rest : DomString} (before : DomString) → IsSpaces before → IsComplex text x → Stops rest →
     read_complex (before ++ (text ++ rest)) ≡ Some (x, rest)
-complex-read before text x rest spaces h stops =
+complex-read {text} {rest} before spaces h stops =
     let off = stops-off rest stops in
     let tail = h.back ++ rest in
     let on : Option (List CompoundPart × DomString) → Option (Complex × DomString) =
@@ -157,7 +156,7 @@ split x [] text h = (
   h.after,
   h.spaces_after,
   h.after,
-  ap read_complex h.whole ∙ complex-read h.before h.inner x h.after h.spaces_before h.complex
+  ap read_complex h.whole ∙ complex-read h.before h.spaces_before h.complex
       (ended h.spaces_after),
   all-none read_next h.after (next-none h.after h.spaces_after),
 )
@@ -172,7 +171,7 @@ split x (y ∷ ys) text h =
       more.0,
       more.1,
       left,
-      ap read_complex shape ∙ complex-read front.before front.inner x left front.spaces_before front.complex (comma front.after rest front.spaces_after refl),
+      ap read_complex shape ∙ complex-read front.before front.spaces_before front.complex (comma front.after rest front.spaces_after refl),
       all-one read_next next-ends left (y, more.2) (next-step front.after rest front.spaces_after ∙ more.3) ∙ ap (behind_list (y ∷ [])) more.4,
     )
 

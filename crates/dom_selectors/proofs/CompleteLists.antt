@@ -178,9 +178,9 @@ module _ {A : Type 0} (part : Simple → A) (form : Form A) (read : Reader A) (s
       longer [] more e = cc
       longer (c ∷ first) more e = e
 
-  compound-none : (types : List Simple) (parts : List A) (all : List A) (back rest : DomString) → AreEach form back parts →
-      all ≡ map part types ++ parts → is_empty all ≡ false → types ≡ [] → read_type_name (back ++ rest) ≡ None
-  compound-none types parts all back rest h joined some e =
+  compound-none : {types : List Simple} {all : List A} (parts : List A) (back rest : DomString) → AreEach form back parts → all ≡ map part types ++ parts →
+      is_empty all ≡ false → types ≡ [] → read_type_name (back ++ rest) ≡ None
+  compound-none {all} parts back rest h joined some e =
       let shape : all ≡ parts = joined ∙ ap (λ ts. map part ts ++ parts) e in
       none (back ++ rest) (back-head parts back rest h (sym (ap (is_empty {X = A}) shape) ∙ some))
     where
@@ -196,7 +196,7 @@ module _ {A : Type 0} (part : Simple → A) (form : Form A) (read : Reader A) (s
       ap (λ t. read_compound_of part read (t ++ rest)) h.whole
       ∙ ap (read_compound_of part read) (append_assoc h.front h.back rest)
       ∙ ap found (type-read h.types h.front (h.back ++ rest) h.typed (back-off h.parts h.back rest h.each off)
-      (compound-none h.types h.parts all h.back rest h.each h.joined h.some))
+      (compound-none h.parts h.back rest h.each h.joined h.some))
       ∙ ap more (back-read h.parts h.back rest h.each off)
       ∙ ap (λ ys. some_of (ys, rest)) (sym h.joined)
       ∙ cond-false (is_empty all) None (Some (all, rest)) h.some
@@ -227,10 +227,11 @@ simples-read : (text : DomString) (ss : List Simple) (rest : DomString) → IsCo
 simples-read = compound-read (λ s. s) IsSimple read_simple simple-ends simple-head simple-read simple-none
 
 -- `:not(..)`, behind its bracket
-negation-read : (ss : List Simple) (before inner after rest : DomString) → IsSpaces before → IsSpaces after → IsCompoundOf (λ s. s) IsSimple inner ss
+negation-read : {ss : List Simple} {inner : DomString} (before after rest : DomString) → IsSpaces before → IsSpaces after →
+    IsCompoundOf (λ s. s) IsSimple inner ss
     → closed_by (codes ")") (read_map is_not (read_compound_of (λ s. s) read_simple (skip_space (before ++ (inner ++ (after ++ 41 ∷ rest)))))) ≡
     Some (is_not ss, rest)
-negation-read ss before inner after rest h1 h2 h =
+negation-read {ss} {inner} before after rest h1 h2 h =
     let end = after ++ 41 ∷ rest in
     let begins = compound-begins (λ s. s) IsSimple read_simple simple-ends simple-head simple-read simple-none inner ss end h in
     ap (λ k. closed_by (codes ")") (read_map is_not (read_compound_of (λ s. s) read_simple k))) (skip-read before (inner ++ end) h1 begins.space)
@@ -248,7 +249,7 @@ part-read text (is_not ss) rest h off =
     ∙ ap (λ t. h.before ++ t) (append_assoc h.inner (h.after ++ codes ")") rest ∙ ap (λ t. h.inner ++ t) (append_assoc h.after (codes ")") rest)) in
     ap (λ t. read_part (t ++ rest)) h.whole
     ∙ ap (λ t. closed_by (codes ")") (read_map is_not (read_compound_of (λ s. s) read_simple (skip_space t)))) whole
-    ∙ negation-read ss h.before h.inner h.after rest h.spaces_before h.spaces_after h.negated
+    ∙ negation-read h.before h.after rest h.spaces_before h.spaces_after h.negated
 
 -- a compound
 pub full-read : (text : DomString) (c : List CompoundPart) (rest : DomString) → IsCompound text c → Off rest → read_compound (text ++ rest) ≡ Some (c, rest)

@@ -210,10 +210,10 @@ earlier_less f k at o is e =
     omega (arith, longer, length-append front (name_at f.names k ∷ []), ap (length {A = NodeName}) e)
 
 -- an element that fails a test is passed by
-pub earlier_passed : (f : NamedTrees) (p : NodeName → Bool) (k : ℕ) (at o : Option ℕ) → at ≡ Some k → p (name_at f.names k) ≡ false →
-    elements_before f.trees (name_at f.names k) ≡ elements_upto f.trees (option_map (name_at f.names) o)
-    → list_any p (elements_upto f.trees (option_map (name_at f.names) o)) ≡ list_any p (elements_upto f.trees (option_map (name_at f.names) at))
-earlier_passed f p k at o is miss e =
+pub earlier_passed : {k : ℕ} {at : Option ℕ} (f : NamedTrees) (p : NodeName → Bool) (o : Option ℕ) → at ≡ Some k → p (name_at f.names k) ≡ false →
+    elements_before f.trees (name_at f.names k) ≡ elements_upto f.trees (option_map (name_at f.names) o) →
+    list_any p (elements_upto f.trees (option_map (name_at f.names) o)) ≡ list_any p (elements_upto f.trees (option_map (name_at f.names) at))
+earlier_passed {k} {at = at} f p o is miss e =
     let front = elements_before f.trees (name_at f.names k) in
     ap (list_any p) (sym e)
     ∙ sym (ap (λ o'. list_any p (elements_upto f.trees (option_map (name_at f.names) o'))) is

@@ -62,10 +62,10 @@ above_less f k at o is e =
     omega (arith, longer, ap (length {A = NodeName}) e)
 
 -- an ancestor that fails a test is passed by
-pub above_miss : (f : NamedTrees) (p : NodeName → Bool) (k : ℕ) (at o : Option ℕ) → at ≡ Some k → p (name_at f.names k) ≡ false →
-    ancestors f.trees (name_at f.names k) ≡ from_above f.trees (option_map (name_at f.names) o)
-    → list_any p (from_above f.trees (option_map (name_at f.names) o)) ≡ list_any p (from_above f.trees (option_map (name_at f.names) at))
-above_miss f p k at o is h e =
+pub above_miss : {k : ℕ} {at : Option ℕ} (f : NamedTrees) (p : NodeName → Bool) (o : Option ℕ) → at ≡ Some k → p (name_at f.names k) ≡ false →
+    ancestors f.trees (name_at f.names k) ≡ from_above f.trees (option_map (name_at f.names) o) →
+    list_any p (from_above f.trees (option_map (name_at f.names) o)) ≡ list_any p (from_above f.trees (option_map (name_at f.names) at))
+above_miss {k} {at = at} f p o is h e =
     ap (list_any p) (sym e)
     ∙ sym (ap (λ o'. list_any p (from_above f.trees (option_map (name_at f.names) o'))) is ∙
     ap (λ b. b || list_any p (ancestors f.trees (name_at f.names k))) h)

@@ -26,14 +26,14 @@ more-enough {A} read j k cs (Some r) e same =
     ap put (same r.1 e)
 
 -- no more rounds are needed than there are units
-each-enough : {A : Type 0} (read : Reader A) → Shrinks read → (j k : ℕ) (cs : DomString) → length cs ≤ j → length cs ≤ k →
+each-enough : {A : Type 0} {read : Reader A} → Shrinks read → (j k : ℕ) (cs : DomString) → length cs ≤ j → length cs ≤ k →
     read_each j read cs ≡ read_each k read cs
-each-enough read s j k [] h g = each-nil read s j ∙ sym (each-nil read s k)
-each-enough read s zero k (c ∷ cs) h g = absurd (omega (arith, h))
-each-enough read s (suc j) zero (c ∷ cs) h g = absurd (omega (arith, g))
-each-enough read s (suc j) (suc k) (c ∷ cs) h g =
+each-enough {read} s j k [] h g = each-nil read s j ∙ sym (each-nil read s k)
+each-enough s zero k (c ∷ cs) h g = absurd (omega (arith, h))
+each-enough s (suc j) zero (c ∷ cs) h g = absurd (omega (arith, g))
+each-enough {read} s (suc j) (suc k) (c ∷ cs) h g =
     more-enough read j k (c ∷ cs) (read (c ∷ cs)) (s.shorter (c ∷ cs))
-    (λ rest short. each-enough read s j k rest (omega (arith, short, h)) (omega (arith, short, g)))
+    (λ rest short. each-enough s j k rest (omega (arith, short, h)) (omega (arith, short, g)))
 
 -- where one is read, the others stand behind it
 pub all-one : {A : Type 0} (read : Reader A) → Shrinks read → (cs : DomString) (r : A × DomString) → read cs ≡ Some r →
@@ -43,7 +43,7 @@ all-one {A} read s (c ∷ cs) r h =
     let short = Shrinks-rest read s (c ∷ cs) r h in
     let put : List A × DomString → List A × DomString = λ more. (r.0 ∷ more.0, more.1) in
     ap (read_more (λ rest. read_each (length cs) read rest) (c ∷ cs)) h
-    ∙ ap put (each-enough read s (length cs) (length r.1) r.1 (omega (arith, short)) (omega arith))
+    ∙ ap put (each-enough s (length cs) (length r.1) r.1 (omega (arith, short)) (omega arith))
 
 -- where none is read, there are none
 pub all-none : {A : Type 0} (read : Reader A) (cs : DomString) → read cs ≡ None → read_all read cs ≡ ([], cs)
@@ -51,10 +51,9 @@ all-none read [] h = refl
 all-none read (c ∷ cs) h = ap (read_more (λ rest. read_each (length cs) read rest) (c ∷ cs)) h
 
 -- one more is read, and put behind those so far
-pub one_more : {X A : Type 0} (read : Reader A) → Shrinks read → (view : X → A) (before : List X) (x : X) (cs behind : DomString) →
-    read cs ≡ Some (view x, behind)
-    → behind_list (map view (before ++ x ∷ [])) (read_all read behind) ≡ behind_list (map view before) (read_all read cs)
-one_more {X} {A} read s view before x cs behind h =
+pub one_more : {X A : Type 0} {read : Reader A} → Shrinks read → (view : X → A) (before : List X) (x : X) (cs : DomString) {behind : DomString} →
+    read cs ≡ Some (view x, behind) → behind_list (map view (before ++ x ∷ [])) (read_all read behind) ≡ behind_list (map view before) (read_all read cs)
+one_more {X} {A} {read} s view before x cs {behind} h =
     let more = read_all read behind in
     let front : List A → List A × DomString = λ ys. (ys ++ more.0, more.1) in
     ap front (map-append view before (x ∷ []))

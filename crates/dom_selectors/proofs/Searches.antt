@@ -66,14 +66,14 @@ stop-above ts (joined l later k) z stops w = absurd stops.0
 -- ---- chains
 
 -- a chain ends where a search along it stops
-pub chain-ends : (ts : Trees) (c d : Complex) (x z : NodeName) → Once ts → Has ts z → Leads ts c x d z → StopsAt IsSearched ts d z → ChainEnds ts c x d z
-chain-ends ts c d x z once h l stops = record { same = l.same; beside = λ e. stop-beside ts d z once h stops (l.beside e); above = l.above; stops = stops }
+pub chain-ends : {ts : Trees} {c d : Complex} {x z : NodeName} → Once ts → Has ts z → Leads ts c x d z → StopsAt IsSearched ts d z → ChainEnds ts c x d z
+chain-ends {ts} {d} {z} once h l stops = record { same = l.same; beside = λ e. stop-beside ts d z once h stops (l.beside e); above = l.above; stops = stops }
 
 -- the nearest element before at which it holds answers for those that are farther
-pub chain-before : (ts : Trees) (c d : Complex) (x y z : NodeName) → ancestors ts y ≡ ancestors ts x →
-    list_any (complex_matches ts c) (elements_to ts y) ≡ list_any (complex_matches ts c) (elements_before ts x)
-    → ChainEnds ts c y d z → ChainIsBefore ts c x d z
-chain-before ts c d x y z up all w = record {
+pub chain-before : {ts : Trees} {c d : Complex} {y z : NodeName} (x : NodeName) → ancestors ts y ≡ ancestors ts x →
+    list_any (complex_matches ts c) (elements_to ts y) ≡ list_any (complex_matches ts c) (elements_before ts x) → ChainEnds ts c y d z →
+    ChainIsBefore ts c x d z
+chain-before {ts} {c} {y} x up all w = record {
   same = sym all ∙ same_answer _ _ w.beside
       (λ e. passes-any (complex_matches ts c) (elements_to ts y) y (In-right y (elements_before ts y) (y ∷ []) (inl refl)) (w.same ∙ e));
   above = λ m. w.above (record { node = m.node; front = m.front; above = up ∙ m.above; matches = m.matches });
@@ -125,21 +125,20 @@ not_later child s other = s
 not_later next s other = s
 not_later later s other = other refl
 
-pub stops-white : (ts : Trees) (d l : Complex) (how : Combinator) (k : List CompoundPart) (z : NodeName) → d ≡ joined l how k →
-    (how ≡ later → ⊥) → StopsAt IsSearched ts d z → StopsAt IsDescendant ts d z
-stops-white ts d l how k z is other stops =
+pub stops-white : {d l : Complex} {how : Combinator} {k : List CompoundPart} (ts : Trees) (z : NodeName) → d ≡ joined l how k → (how ≡ later → ⊥) →
+    StopsAt IsSearched ts d z → StopsAt IsDescendant ts d z
+stops-white {how} ts z is other stops =
     let s = subst (λ b. StopsAt IsSearched ts b z) is stops in
     subst (λ b. StopsAt IsDescendant ts b z) (sym is) (not_later how s.0 other, s.1)
 
 -- a segment ends there
-pub segment-ends : (ts : Trees) (c d : Complex) (x z : NodeName) → Comes ts c x d z → StopsAt IsDescendant ts d z → SegmentEnds ts c x d z
-segment-ends ts c d x z w stops = record { same = w.same; above = λ m. stop-above ts d z stops (w.above m); stops = stops }
+pub segment-ends : {ts : Trees} {c d : Complex} {x z : NodeName} → Comes ts c x d z → StopsAt IsDescendant ts d z → SegmentEnds ts c x d z
+segment-ends {ts} {d} {z} w stops = record { same = w.same; above = λ m. stop-above ts d z stops (w.above m); stops = stops }
 
 -- the nearest ancestor at which it holds answers for those that are farther
-pub segment-above : (ts : Trees) (c d : Complex) (x y z : NodeName) → Once ts → Has ts y →
-    list_any (complex_matches ts c) (y ∷ ancestors ts y) ≡ list_any (complex_matches ts c) (ancestors ts x)
-    → SegmentEnds ts c y d z → SegmentIsAbove ts c x d z
-segment-above ts c d x y z once h all w =
+pub segment-above : {ts : Trees} {c d : Complex} {y z : NodeName} (x : NodeName) → Once ts → Has ts y →
+    list_any (complex_matches ts c) (y ∷ ancestors ts y) ≡ list_any (complex_matches ts c) (ancestors ts x) → SegmentEnds ts c y d z → SegmentIsAbove ts c x d z
+segment-above {ts} {c} {d} {y} {z} x once h all w =
     record { same = sym all ∙ same_answer _ _ found (λ e. or_left (complex_matches ts c y) _ (w.same ∙ e)); stops = w.stops }
   where
     found : list_any (complex_matches ts c) (y ∷ ancestors ts y) ≡ true → complex_matches ts d z ≡ true
@@ -154,19 +153,19 @@ segment-above ts c d x y z once h all w =
 -- ---- the whole
 
 -- a segment above, left of white space
-pub goes-above : (ts : Trees) (d l e : Complex) (how : Combinator) (k : List CompoundPart) (y z : NodeName) → d ≡ joined l how k →
-    StopsAt IsDescendant ts d y → SegmentIsAbove ts l y e z → complex_matches ts d y ≡ complex_matches ts e z
-goes-above ts d l e descendant k y z is stops v =
+pub goes-above : {ts : Trees} {d l e : Complex} {how : Combinator} {k : List CompoundPart} {y z : NodeName} → d ≡ joined l how k → StopsAt IsDescendant ts d y →
+    SegmentIsAbove ts l y e z → complex_matches ts d y ≡ complex_matches ts e z
+goes-above {ts} {l} {how = descendant} {k} {y} is stops v =
     ap (λ b. complex_matches ts b y) is ∙ (combined ts l descendant k y (subst (λ b. StopsAt IsDescendant ts b y) is stops).1 ∙ v.same)
-goes-above ts d l e child k y z is stops v = absurd (subst (λ b. StopsAt IsDescendant ts b y) is stops).0
-goes-above ts d l e next k y z is stops v = absurd (subst (λ b. StopsAt IsDescendant ts b y) is stops).0
-goes-above ts d l e later k y z is stops v = absurd (subst (λ b. StopsAt IsDescendant ts b y) is stops).0
+goes-above {ts} {how = child} {y} is stops v = absurd (subst (λ b. StopsAt IsDescendant ts b y) is stops).0
+goes-above {ts} {how = next} {y} is stops v = absurd (subst (λ b. StopsAt IsDescendant ts b y) is stops).0
+goes-above {ts} {how = later} {y} is stops v = absurd (subst (λ b. StopsAt IsDescendant ts b y) is stops).0
 
 -- where there is none, nothing matches
-pub none-above : (ts : Trees) (d l : Complex) (how : Combinator) (k : List CompoundPart) (y : NodeName) → d ≡ joined l how k →
-    StopsAt IsDescendant ts d y → list_any (complex_matches ts l) (ancestors ts y) ≡ false → complex_matches ts d y ≡ false
-none-above ts d l descendant k y is stops e =
+pub none-above : {d l : Complex} {how : Combinator} {k : List CompoundPart} (ts : Trees) (y : NodeName) → d ≡ joined l how k → StopsAt IsDescendant ts d y →
+    list_any (complex_matches ts l) (ancestors ts y) ≡ false → complex_matches ts d y ≡ false
+none-above {l} {how = descendant} {k} ts y is stops e =
     ap (λ b. complex_matches ts b y) is ∙ (combined ts l descendant k y (subst (λ b. StopsAt IsDescendant ts b y) is stops).1 ∙ e)
-none-above ts d l child k y is stops e = absurd (subst (λ b. StopsAt IsDescendant ts b y) is stops).0
-none-above ts d l next k y is stops e = absurd (subst (λ b. StopsAt IsDescendant ts b y) is stops).0
-none-above ts d l later k y is stops e = absurd (subst (λ b. StopsAt IsDescendant ts b y) is stops).0
+none-above {how = child} ts y is stops e = absurd (subst (λ b. StopsAt IsDescendant ts b y) is stops).0
+none-above {how = next} ts y is stops e = absurd (subst (λ b. StopsAt IsDescendant ts b y) is stops).0
+none-above {how = later} ts y is stops e = absurd (subst (λ b. StopsAt IsDescendant ts b y) is stops).0

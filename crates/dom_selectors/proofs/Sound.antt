@@ -25,8 +25,8 @@ Stands text cs None = Unit {0}
 Stands text cs (Some rest) = cs ≡ text ++ rest
 
 -- a text and one behind it are one text
-pub put : (cs x k y rest : DomString) → cs ≡ x ++ k → k ≡ y ++ rest → cs ≡ (x ++ y) ++ rest
-put cs x k y rest e g = e ∙ ap (λ t. x ++ t) g ∙ sym (append_assoc x y rest)
+pub put : {cs k : DomString} (x y rest : DomString) → cs ≡ x ++ k → k ≡ y ++ rest → cs ≡ (x ++ y) ++ rest
+put x y rest e g = e ∙ ap (λ t. x ++ t) g ∙ sym (append_assoc x y rest)
 
 -- white space behind white space
 pub more_spaces : (x y : DomString) → IsSpaces x → IsSpaces y → IsSpaces (x ++ y)
@@ -97,7 +97,7 @@ says-then {A} form t cs read h = at (expect t cs) (expect-stands t cs)
   where
     on : (rest : DomString) → cs ≡ t ++ rest → (r : Option (A × DomString)) → Says (λ text x. form (t ++ text) x) rest r → Says form cs r
     on rest s None g = tt
-    on rest s (Some r) g = (t ++ g.0, g.1, put cs t rest g.0 r.1 s g.2)
+    on rest s (Some r) g = (t ++ g.0, g.1, put t g.0 r.1 s g.2)
 
     at : (o : Option DomString) → Stands t cs o → Says form cs (option_and_then read o)
     at None s = tt
@@ -125,7 +125,7 @@ quoted-says quote cs = at (expect (quote ∷ []) (drop_while (may_stand_quoted q
     at (Some behind) s =
         let split = while_split (may_stand_quoted quote) cs in
         let v = take_while (may_stand_quoted quote) cs in
-        (v ++ quote ∷ [], (refl, split.0), put cs v (drop_while (may_stand_quoted quote) cs) (quote ∷ []) behind split.1 s)
+        (v ++ quote ∷ [], (refl, split.0), put v (quote ∷ []) behind split.1 s)
 
 -- a value
 value-says : (cs : DomString) → Says IsValue cs (read_value cs)
@@ -158,6 +158,13 @@ sign-says cs =
     (says-or form cs _ _ (says-means form ends (codes "$=") cs refl)
     (says-or form cs _ _ (says-means form holds (codes "*=") cs refl) tt)))))
 
+-- An attribute's name, and the sign behind it.
+record HasSign (cs : DomString) (a : Word) (t : AttributeTest) (behind : DomString) : Type 0 where
+  named : is_name a ≡ true
+  rest : DomString
+  name_is : skip_space cs ≡ a ++ rest
+  sign_is : skip_space rest ≡ sign t ++ behind
+
 -- what stands in brackets
 attribute-says : (cs : DomString) → Says (λ text s. IsSimple (codes "[" ++ text) s) cs (read_attribute cs)
 attribute-says cs = named (read_name (skip_space cs)) (name-says (skip_space cs))
@@ -180,29 +187,29 @@ attribute-says cs = named (read_name (skip_space cs)) (name-says (skip_space cs)
             named = n;
             whole = refl;
           },
-          put cs first.0 (skip_space cs) (a ++ (after ++ codes "]")) behind first.2
-              (put (skip_space cs) a rest (after ++ codes "]") behind e
-              (put rest after (skip_space (skip_space rest)) (codes "]") behind
-              (put rest middle.0 (skip_space rest) last.0 (skip_space (skip_space rest)) middle.2 last.2) s)),
+          put first.0 (a ++ (after ++ codes "]")) behind first.2
+              (put a (after ++ codes "]") behind e
+              (put after (codes "]") behind
+              (put middle.0 last.0 (skip_space (skip_space rest)) middle.2 last.2) s)),
         )
 
-    closed : (a : Word) (t : AttributeTest) (rest behind left : DomString) (v said : DomString) → is_name a ≡ true → skip_space cs ≡ a ++ rest →
-        skip_space rest ≡ sign t ++ behind → IsValue said v → skip_space behind ≡ said ++ left
-        → (o : Option DomString) → Stands (codes "]") (skip_space left) o →
+    closed : {a : Word} {t : AttributeTest} {behind v said : DomString} (left : DomString) → HasSign cs a t behind → IsValue said v →
+        skip_space behind ≡ said ++ left → (o : Option DomString) → Stands (codes "]") (skip_space left) o →
         Says (λ text s. IsSimple (codes "[" ++ text) s) cs (option_map (λ b. (with_value a t v, b)) o)
-    closed a t rest behind left v said n e g value h None s = tt
-    closed a t rest behind left v said n e g value h (Some b) s =
+    closed left m value h None s = tt
+    closed {a} {t} {behind} {said = said} left m value h (Some b) s =
+        let rest = m.rest in
         let one = skips cs in
         let two = skips rest in
         let three = skips behind in
         let four = skips left in
         let end = four.0 ++ codes "]" in
-        let end_is = put left four.0 (skip_space left) (codes "]") b four.2 s in
-        let said_is = put (skip_space behind) said left end b h end_is in
-        let behind_is = put behind three.0 (skip_space behind) (said ++ end) b three.2 said_is in
-        let sign_is = put (skip_space rest) (sign t) behind (three.0 ++ (said ++ end)) b g behind_is in
-        let rest_is = put rest two.0 (skip_space rest) (sign t ++ (three.0 ++ (said ++ end))) b two.2 sign_is in
-        let name_is = put (skip_space cs) a rest (two.0 ++ (sign t ++ (three.0 ++ (said ++ end)))) b e rest_is in (
+        let end_is = put four.0 (codes "]") b four.2 s in
+        let said_is = put said end b h end_is in
+        let behind_is = put three.0 (said ++ end) b three.2 said_is in
+        let sign_is = put (sign t) (three.0 ++ (said ++ end)) b m.sign_is behind_is in
+        let rest_is = put two.0 (sign t ++ (three.0 ++ (said ++ end))) b two.2 sign_is in
+        let name_is = put a (two.0 ++ (sign t ++ (three.0 ++ (said ++ end)))) b m.name_is rest_is in (
           one.0 ++ (a ++ (two.0 ++ (sign t ++ (three.0 ++ (said ++ end))))),
           record {
             before = one.0;
@@ -214,26 +221,27 @@ attribute-says cs = named (read_name (skip_space cs)) (name-says (skip_space cs)
             spaces_between = two.1;
             spaces_behind = three.1;
             spaces_after = four.1;
-            named = n;
+            named = m.named;
             valued = value;
             whole = refl;
           },
-          put cs one.0 (skip_space cs) (a ++ (two.0 ++ (sign t ++ (three.0 ++ (said ++ end))))) b one.2 name_is,
+          put one.0 (a ++ (two.0 ++ (sign t ++ (three.0 ++ (said ++ end))))) b one.2 name_is,
         )
 
-    valued : (a : Word) (t : AttributeTest) (rest behind : DomString) → is_name a ≡ true → skip_space cs ≡ a ++ rest →
-        skip_space rest ≡ sign t ++ behind → (r : Option (DomString × DomString)) → Says IsValue (skip_space behind) r
+    valued : {a : Word} {t : AttributeTest} {behind : DomString} → HasSign cs a t behind → (r : Option (DomString × DomString)) →
+        Says IsValue (skip_space behind) r
         → Says (λ text s. IsSimple (codes "[" ++ text) s) cs (closed_by (codes "]") (read_map (with_value a t) r))
-    valued a t rest behind n e g None h = tt
-    valued a t rest behind n e g (Some r) h =
-        closed a t rest behind r.1 r.0 h.0 n e g h.1 h.2 (expect (codes "]") (skip_space r.1)) (expect-stands (codes "]") (skip_space r.1))
+    valued m None h = tt
+    valued m (Some r) h =
+        closed r.1 m h.1 h.2 (expect (codes "]") (skip_space r.1)) (expect-stands (codes "]") (skip_space r.1))
 
     tested : (a : Word) (rest : DomString) → is_name a ≡ true → skip_space cs ≡ a ++ rest → (o : Option (AttributeTest × DomString)) →
         Says (λ text t. text ≡ sign t) (skip_space rest) o
         → Says (λ text s. IsSimple (codes "[" ++ text) s) cs (closed_by (codes "]") (read_test_of a (skip_space rest) o))
     tested a rest n e None h = bare a rest n e (expect (codes "]") (skip_space (skip_space rest))) (expect-stands (codes "]") (skip_space (skip_space rest)))
     tested a rest n e (Some t) h =
-        valued a t.0 rest t.1 n e (h.2 ∙ ap (λ x. x ++ t.1) h.1) (read_value (skip_space t.1)) (value-says (skip_space t.1))
+        valued (record { named = n; rest = rest; name_is = e; sign_is = h.2 ∙ ap (λ x. x ++ t.1) h.1 })
+        (read_value (skip_space t.1)) (value-says (skip_space t.1))
 
     named : (r : Option (Word × DomString)) → Says IsName (skip_space cs) r →
         Says (λ text s. IsSimple (codes "[" ++ text) s) cs (closed_by (codes "]") (option_and_then (λ (a, rest). read_test a (skip_space rest)) r))

@@ -27,7 +27,7 @@ more-says : {A : Type 0} (form : Form A) (read : Reader A) (k : ℕ) (cs : DomSt
 more-says form read k cs None h others = ([], refl, refl)
 more-says form read k cs (Some r) h others =
     let more = others r.1 in
-    (h.0 ++ more.0, (h.0, more.0, h.1, more.1, refl), put cs h.0 r.1 more.0 (read_each k read r.1).1 h.2 more.2)
+    (h.0 ++ more.0, (h.0, more.0, h.1, more.1, refl), put h.0 more.0 (read_each k read r.1).1 h.2 more.2)
 
 -- those that are read one after another
 each-says : {A : Type 0} (form : Form A) (read : Reader A) → ((cs : DomString) → Says form cs (read cs)) → (k : ℕ) (cs : DomString) →
@@ -73,7 +73,7 @@ compound-says {A} part form read s cs =
         some = e;
         whole = refl;
       },
-      put cs front.0 mid back.0 parts.1 front.2 back.2,
+      put front.0 back.0 parts.1 front.2 back.2,
     ))
 
 -- `:not(..)`
@@ -90,11 +90,11 @@ not-says cs = says-then IsPart (codes ":not(") cs
     closed rest inner r h e (Some behind) s =
         let first = skips rest in
         let last = skips r.1 in
-        let end_is = put r.1 last.0 (skip_space r.1) (codes ")") behind last.2 s in (
+        let end_is = put last.0 (codes ")") behind last.2 s in (
           first.0 ++ (inner ++ (last.0 ++ codes ")")),
           record { before = first.0; inner = inner; after = last.0; spaces_before = first.1; spaces_after = last.1; negated = h; whole = refl },
-          put rest first.0 (skip_space rest) (inner ++ (last.0 ++ codes ")")) behind first.2
-              (put (skip_space rest) inner r.1 (last.0 ++ codes ")") behind e end_is),
+          put first.0 (inner ++ (last.0 ++ codes ")")) behind first.2
+              (put inner (last.0 ++ codes ")") behind e end_is),
         )
 
     at : (rest : DomString) (r : Option (List Simple × DomString)) → Says (IsCompoundOf (λ s. s) IsSimple) (skip_space rest) r →
@@ -143,8 +143,8 @@ combinator-says cs =
         record { before = first.0; after = last.0; spaces_before = first.1; spaces_after = last.1; whole = refl } in (
           first.0 ++ (text ++ last.0),
           of_bare (first.0 ++ (text ++ last.0)) text how h said,
-          put cs first.0 (skip_space cs) (text ++ last.0)
-              (skip_space rest) first.2 (put (skip_space cs) text rest last.0 (skip_space rest) e last.2),
+          put first.0 (text ++ last.0)
+              (skip_space rest) first.2 (put text last.0 (skip_space rest) e last.2),
         )
 
     some_space : nat_lt (length (skip_space cs)) (length cs) ≡ true → Says IsCombinator cs (Some (descendant, skip_space cs))
@@ -170,8 +170,8 @@ link-says cs = at (read_combinator cs) (combinator-says cs)
     on how front rest h e (Some c) g = (
       front ++ g.0,
       record { front = front; back = g.0; combines = h; compound = g.1; whole = refl },
-      put cs
-          front rest g.0 c.1 e g.2,
+      put
+          front g.0 c.1 e g.2,
     )
 
     at : (r : Option (Combinator × DomString)) → Says IsCombinator cs r →
@@ -203,7 +203,7 @@ complex-says cs = at (read_compound (skip_space cs)) (compound-says simple IsPar
             record { front = h.0; back = back.0; first = r.0; links = links.0; compound = h.1; linked = back.1; joined = refl; whole = refl },
             refl,
           ),
-          put cs first.0 (skip_space cs) (h.0 ++ back.0) links.1 first.2 (put (skip_space cs) h.0 r.1 back.0 links.1 h.2 back.2),
+          put first.0 (h.0 ++ back.0) links.1 first.2 (put h.0 back.0 links.1 h.2 back.2),
         )
 
 -- `,` with a complex selector, and white space before both
@@ -217,16 +217,24 @@ next-says cs = at (expect (codes ",") (skip_space cs)) (expect-stands (codes ","
     on rest e None h = tt
     on rest e (Some r) h =
         let first = skips cs in
-        (first.0 ++ 44 ∷ h.0, (first.0, h.0, first.1, h.1, refl), put cs first.0 (skip_space cs) (44 ∷ h.0) r.1 first.2 (e ∙ ap (λ t. 44 ∷ t) h.2))
+        (first.0 ++ 44 ∷ h.0, (first.0, h.0, first.1, h.1, refl), put first.0 (44 ∷ h.0) r.1 first.2 (e ∙ ap (λ t. 44 ∷ t) h.2))
 
     at : (o : Option DomString) → Stands (codes ",") (skip_space cs) o → Says IsNext cs (option_and_then read_complex o)
     at None s = tt
     at (Some rest) s = on rest s (read_complex rest) (complex-says rest)
 
--- a first one and those behind it, with white space at the end
-listed : (x : Complex) (xs : List Complex) (cs one others end : DomString) → IsSpacedComplex one x → AreEach IsNext others xs → IsSpaces end →
-    cs ≡ one ++ (others ++ end) → IsSelector cs (x ∷ xs)
-listed x [] cs one others end h each spaces e =
+-- A first one and those behind it, with the text that is left.
+record AreListed (cs : DomString) (x : Complex) (xs : List Complex) (left : DomString) : Type 0 where
+  one : DomString
+  others : DomString
+  first : IsSpacedComplex one x
+  each : AreEach IsNext others xs
+  whole : cs ≡ one ++ (others ++ left)
+
+-- they are a selector, where white space is left
+listed : {x : Complex} (xs : List Complex) {cs end : DomString} → AreListed cs x xs end → IsSpaces end → IsSelector cs (x ∷ xs)
+listed [] {end = end} l spaces =
+    let h = l.first in
     record {
       before = h.0;
       inner = h.1;
@@ -234,11 +242,13 @@ listed x [] cs one others end h each spaces e =
       spaces_before = h.2;
       spaces_after = spaces;
       complex = h.3;
-      whole = e ∙ ap (λ t. one ++ (t ++ end)) each ∙ ap (λ t. t ++ end) h.4 ∙ append_assoc h.0 h.1 end;
+      whole = l.whole ∙ ap (λ t. l.one ++ (t ++ end)) l.each ∙ ap (λ t. t ++ end) h.4 ∙ append_assoc h.0 h.1 end;
     }
-listed x (y ∷ ys) cs one others end h each spaces e =
+listed (y ∷ ys) {end = end} l spaces =
+    let h = l.first in
+    let each = l.each in
     let first = each.2 in (
-      one ++ first.0,
+      l.one ++ first.0,
       first.1 ++ (each.1 ++ end),
       record {
         before = h.0;
@@ -249,10 +259,10 @@ listed x (y ∷ ys) cs one others end h each spaces e =
         complex = h.3;
         whole = ap (λ t. t ++ first.0) h.4 ∙ append_assoc h.0 h.1 first.0;
       },
-      listed y ys (first.1 ++ (each.1 ++ end)) first.1 each.1 end first.3 each.3 spaces refl,
-      e ∙ ap (λ t. one ++ (t ++ end)) (each.4 ∙ ap (λ t. t ++ each.1) first.4)
-          ∙ ap (λ t. one ++ t) (append_assoc (first.0 ++ 44 ∷ first.1) each.1 end ∙ append_assoc first.0 (44 ∷ first.1) (each.1 ++ end))
-          ∙ sym (append_assoc one first.0 (44 ∷ (first.1 ++ (each.1 ++ end)))),
+      listed {x = y} ys (record { one = first.1; others = each.1; first = first.3; each = each.3; whole = refl }) spaces,
+      l.whole ∙ ap (λ t. l.one ++ (t ++ end)) (each.4 ∙ ap (λ t. t ++ each.1) first.4)
+          ∙ ap (λ t. l.one ++ t) (append_assoc (first.0 ++ 44 ∷ first.1) each.1 end ∙ append_assoc first.0 (44 ∷ first.1) (each.1 ++ end))
+          ∙ sym (append_assoc l.one first.0 (44 ∷ (first.1 ++ (each.1 ++ end)))),
     )
 
 -- only white space is left
@@ -269,12 +279,10 @@ only_spaces cs e =
 pub parsed_says : (cs : DomString) (s : List Complex) → parse_selectors cs ≡ Some s → IsSelector cs s
 parsed_says cs s = at (read_complex cs) (complex-says cs)
   where
-    ended : (x : Complex) (one rest : DomString) (xs : List Complex) (others left : DomString) → IsSpacedComplex one x → cs ≡ one ++ rest →
-        AreEach IsNext others xs → rest ≡ others ++ left
-        → (b : Bool) → is_empty (skip_space left) ≡ b → (if b then Some (x ∷ xs) else None) ≡ Some s → IsSelector cs s
-    ended x one rest xs others left h e each g true f is =
-        subst (IsSelector cs) (same_Some _ _ is) (listed x xs cs one others left h each (only_spaces left f) (e ∙ ap (λ t. one ++ t) g))
-    ended x one rest xs others left h e each g false f is = absurd (none-some s is)
+    ended : {x : Complex} {xs : List Complex} {left : DomString} → AreListed cs x xs left → {b : Bool} → is_empty (skip_space left) ≡ b →
+        (if b then Some (x ∷ xs) else None) ≡ Some s → IsSelector cs s
+    ended {xs = xs} {left = left} l {b = true} f is = subst (IsSelector cs) (same_Some _ _ is) (listed xs l (only_spaces left f))
+    ended l {b = false} f is = absurd (none-some s is)
 
     at : (r : Option (Complex × DomString)) → Says IsSpacedComplex cs r
         → option_and_then (λ (c, rest). let more : List Complex × DomString = read_all read_next rest in whole (c ∷ more.0, more.1)) r ≡ Some s →
@@ -282,5 +290,4 @@ parsed_says cs s = at (read_complex cs) (complex-says cs)
     at None h is = absurd (none-some s is)
     at (Some r) h is =
         let more = each-says IsNext read_next next-says (length r.1) r.1 in
-        let found : List Complex × DomString = read_all read_next r.1 in
-        ended r.0 h.0 r.1 found.0 more.0 found.1 h.1 h.2 more.1 more.2 (is_empty (skip_space found.1)) refl is
+        ended (record { one = h.0; others = more.0; first = h.1; each = more.1; whole = h.2 ∙ ap (λ t. h.0 ++ t) more.2 }) refl is

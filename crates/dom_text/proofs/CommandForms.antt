@@ -37,9 +37,9 @@ abbrev pub Keyed : Keyword → List LinePart → List ℕ → Type 0
 Keyed k others bytes = Spells (key (keyword_word k) ∷ others) (32 ∷ keyword_word k ++ bytes)
 
 -- what a reader of lines reads behind the keyword is the command, where the keyword and the values' parts spell it
-pub read_behind : (reader : LineReader Command) (k : Keyword) (o : Owner) (bytes : List ℕ) (c : Command) →
+pub read_behind : {c : Command} (reader : LineReader Command) (k : Keyword) (o : Owner) (bytes : List ℕ) →
     ((x : reader.Values) → Keyed k (reader.parts x) bytes → IsBehind k o bytes (reader.makes x)) → reader.reads bytes ≡ Some c → IsBehind k o bytes c
-read_behind reader k o bytes c is e =
+read_behind {c} reader k o bytes is e =
     let s = reader.sound bytes c e in
     subst (IsBehind k o bytes) s.1 (is s.0 (keyword_word k, bytes, refl, s.2, refl))
 
@@ -139,33 +139,33 @@ kind_reads = next_as_reads (record {
   is_word = λ w k p. rw (p.0) (kind_is_word k);
 })
 
-pub new_of_sound : (k : Kind) (o : Owner) (bytes first rest : List ℕ) (c : Command) → first ≡ kind_word k → bytes ≡ 32 ∷ first ++ rest →
+pub new_of_sound : {bytes first : List ℕ} {c : Command} (k : Kind) (o : Owner) (rest : List ℕ) → first ≡ kind_word k → bytes ≡ 32 ∷ first ++ rest →
     new_of k rest ≡ Some c → IsBehind keyword.New o bytes c
-new_of_sound kinds.Element o bytes first rest c f b e =
+new_of_sound {bytes} {first} {c} kinds.Element o rest f b e =
     let s = (one_part next_word_reads new_element).sound rest c e in
     subst (IsBehind keyword.New o bytes) s.1 (tt, (codes "new", bytes, refl, (first, rest, f, s.2, b), refl))
-new_of_sound kinds.Text o bytes first rest c f b e =
+new_of_sound {bytes} {first} {c} kinds.Text o rest f b e =
     let s = (one_part next_string_reads new_text).sound rest c e in
     subst (IsBehind keyword.New o bytes) s.1 (tt, (codes "new", bytes, refl, (first, rest, f, s.2, b), refl))
-new_of_sound kinds.Comment o bytes first rest c f b e =
+new_of_sound {bytes} {first} {c} kinds.Comment o rest f b e =
     let s = (one_part next_string_reads new_comment).sound rest c e in
     subst (IsBehind keyword.New o bytes) s.1 (tt, (codes "new", bytes, refl, (first, rest, f, s.2, b), refl))
-new_of_sound kinds.Fragment o bytes first rest c f b e =
+new_of_sound {bytes} {first} {c} kinds.Fragment o rest f b e =
     let s = at_end_some new_fragment c rest e in
     subst (IsBehind keyword.New o bytes) s.0 (tt, (codes "new", bytes, refl, (first, rest, f, s.1, b), refl))
-new_of_sound kinds.Document o bytes first rest c f b e = absurd cc
-new_of_sound kinds.Shadow o bytes first rest c f b e = absurd cc
+new_of_sound kinds.Document o rest f b e = absurd cc
+new_of_sound kinds.Shadow o rest f b e = absurd cc
 
 pub new_behind : (o : Owner) (bytes : List ℕ) (c : Command) → new_at bytes ≡ Some c → IsBehind keyword.New o bytes c
 unfolding new_kind
 new_behind o bytes c e =
     bind_then (next_as (named kind_word new_kinds) bytes) (λ kind. new_of kind.0 kind.1) c e λ kind h k.
     let read = kind_reads.sound bytes kind.0 kind.1 h in
-    new_of_sound kind.0 o bytes read.0 kind.1 c read.1.0 read.2 k
+    new_of_sound kind.0 o kind.1 read.1.0 read.2 k
 
 pub assigned_behind : (o : Owner) (bytes : List ℕ) (c : Command) → assigned_at o bytes ≡ Some c → IsBehind keyword.Assigned o bytes c
 assigned_behind Page bytes c e = absurd cc
-assigned_behind (Component q) bytes c e = read_behind (a_node (Component q) assigned) keyword.Assigned (Component q) bytes c (λ x s. (tt, s)) e
+assigned_behind (Component q) bytes c e = read_behind (a_node (Component q) assigned) keyword.Assigned (Component q) bytes (λ x s. (tt, s)) e
 
 pub show_reads : ReadsPart (next_as show_of) IsShow
 show_reads = next_as_reads show_says
@@ -203,11 +203,11 @@ cursor_complete o makes bytes root f s =
 abbrev pub listener_flags : Bool → Bool → Bool → List LinePart
 listener_flags capture once passive = flag capture (codes "capture") (flag once (codes "once") (flag passive (codes "passive") []))
 
-pub listen_end_sound : (n : NodeWord) (event l : Word) (a : Action) (bytes : List ℕ) (c : Command) → listen_end n event l a bytes ≡ Some c →
+pub listen_end_sound : {c : Command} (n : NodeWord) (event l : Word) (a : Action) (bytes : List ℕ) → listen_end n event l a bytes ≡ Some c →
     (capture : Bool) × (once : Bool) × (passive : Bool) ×
     (listen n (record { event = event; label = l; action = a; capture = capture; once = once; passive = passive }) ≡ c) ×
     Spells (listener_flags capture once passive) bytes
-listen_end_sound n event l a bytes c e =
+listen_end_sound {c} n event l a bytes e =
     let capture = flag_at (codes "capture") bytes in
     let once = flag_at (codes "once") capture.1 in
     let passive = flag_at (codes "passive") once.1 in
@@ -229,10 +229,10 @@ listen_end_complete n l bytes s =
     let is_once = word_by_test (codes "once") refl refl in
     let is_passive = word_by_test (codes "passive") refl refl in
     let f₁ = flag_complete (codes "capture") l.capture after_capture bytes (word_by_test (codes "capture") refl refl)
-    (λ q. avoids_flag (codes "capture") l.once (codes "once") after_once is_once refl
-    (avoids_flag (codes "capture") l.passive (codes "passive") [] is_passive refl (avoids_nothing (codes "capture")))) s in
+    (λ q. avoids_flag l.once (codes "once") is_once refl
+    (avoids_flag l.passive (codes "passive") is_passive refl (avoids_nothing (codes "capture")))) s in
     let f₂ = flag_complete (codes "once") l.once after_once f₁.0 is_once
-    (λ q. avoids_flag (codes "once") l.passive (codes "passive") [] is_passive refl (avoids_nothing (codes "once"))) f₁.2 in
+    (λ q. avoids_flag l.passive (codes "passive") is_passive refl (avoids_nothing (codes "once"))) f₁.2 in
     let f₃ = flag_complete (codes "passive") l.passive [] f₂.0 is_passive (λ q. avoids_nothing (codes "passive")) f₂.2 in
     rw (f₁.1, f₂.1, f₃.1, f₃.2) refl
 
@@ -247,7 +247,7 @@ listen_sound o bytes c e =
     let event_is = label_reads.sound n.1 event.0 event.1 h₂ in
     let l_is = label_reads.sound event.1 l.0 l.1 h₃ in
     let a_is = action_reads.sound l.1 a.0 a.1 h₄ in
-    let end = listen_end_sound n.0 event.0 l.0 a.0 a.1 c k₄ in
+    let end = listen_end_sound n.0 event.0 l.0 a.0 a.1 k₄ in
     subst (IsBehind keyword.Listen o bytes) end.3 (
       tt,
       (

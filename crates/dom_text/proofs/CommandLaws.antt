@@ -29,55 +29,55 @@ use Rattle.dom_text.proofs.EventForms.{dispatch_sound, dispatch_complete, observ
 
 pub command_sound : (k : Keyword) (o : Owner) (bytes : List ℕ) (c : Command) → command_behind k o bytes ≡ Some c → IsBehind k o bytes c
 command_sound keyword.New o bytes c e = new_behind o bytes c e
-command_sound keyword.Document o bytes c e = read_behind (ended new_document) keyword.Document o bytes c (λ x s. (tt, s)) e
-command_sound keyword.Append o bytes c e = read_behind (two_nodes o append) keyword.Append o bytes c (λ x s. (tt, s)) e
-command_sound keyword.Insert o bytes c e = read_behind (three_nodes o insert) keyword.Insert o bytes c (λ x s. (tt, s)) e
-command_sound keyword.Replace o bytes c e = read_behind (three_nodes o replace) keyword.Replace o bytes c (λ x s. (tt, s)) e
-command_sound keyword.Adopt o bytes c e = read_behind (two_nodes o adopt) keyword.Adopt o bytes c (λ x s. (tt, s)) e
-command_sound keyword.Set o bytes c e = read_behind (node_word_string o set_attribute) keyword.Set o bytes c (λ x s. (tt, s)) e
-command_sound keyword.Unset o bytes c e = read_behind (node_and_word o unset_attribute) keyword.Unset o bytes c (λ x s. (tt, s)) e
-command_sound keyword.Data o bytes c e = read_behind (node_and_string o set_data) keyword.Data o bytes c (λ x s. (tt, s)) e
-command_sound keyword.ReplaceData o bytes c e = read_behind (node_numbers_string o replace_data) keyword.ReplaceData o bytes c (λ x s. (tt, s)) e
-command_sound keyword.Split o bytes c e = read_behind (node_and_number o split) keyword.Split o bytes c (λ x s. (tt, s)) e
-command_sound keyword.Text o bytes c e = read_behind (node_and_string o set_text) keyword.Text o bytes c (λ x s. (tt, s)) e
-command_sound keyword.Attr o bytes c e = read_behind (node_and_word o attribute) keyword.Attr o bytes c (λ x s. (tt, s)) e
-command_sound keyword.Contains o bytes c e = read_behind (two_nodes o contains) keyword.Contains o bytes c (λ x s. (tt, s)) e
+command_sound keyword.Document o bytes c e = read_behind (ended new_document) keyword.Document o bytes (λ x s. (tt, s)) e
+command_sound keyword.Append o bytes c e = read_behind (two_nodes o append) keyword.Append o bytes (λ x s. (tt, s)) e
+command_sound keyword.Insert o bytes c e = read_behind (three_nodes o insert) keyword.Insert o bytes (λ x s. (tt, s)) e
+command_sound keyword.Replace o bytes c e = read_behind (three_nodes o replace) keyword.Replace o bytes (λ x s. (tt, s)) e
+command_sound keyword.Adopt o bytes c e = read_behind (two_nodes o adopt) keyword.Adopt o bytes (λ x s. (tt, s)) e
+command_sound keyword.Set o bytes c e = read_behind (node_word_string o set_attribute) keyword.Set o bytes (λ x s. (tt, s)) e
+command_sound keyword.Unset o bytes c e = read_behind (node_and_word o unset_attribute) keyword.Unset o bytes (λ x s. (tt, s)) e
+command_sound keyword.Data o bytes c e = read_behind (node_and_string o set_data) keyword.Data o bytes (λ x s. (tt, s)) e
+command_sound keyword.ReplaceData o bytes c e = read_behind (node_numbers_string o replace_data) keyword.ReplaceData o bytes (λ x s. (tt, s)) e
+command_sound keyword.Split o bytes c e = read_behind (node_and_number o split) keyword.Split o bytes (λ x s. (tt, s)) e
+command_sound keyword.Text o bytes c e = read_behind (node_and_string o set_text) keyword.Text o bytes (λ x s. (tt, s)) e
+command_sound keyword.Attr o bytes c e = read_behind (node_and_word o attribute) keyword.Attr o bytes (λ x s. (tt, s)) e
+command_sound keyword.Contains o bytes c e = read_behind (two_nodes o contains) keyword.Contains o bytes (λ x s. (tt, s)) e
 command_sound keyword.Assigned o bytes c e = assigned_behind o bytes c e
-command_sound keyword.RangeNew o bytes c e = read_behind (ended range_new) keyword.RangeNew o bytes c (λ x s. (tt, s)) e
-command_sound keyword.RangeStart o bytes c e = read_behind (range_and_place o range_start) keyword.RangeStart o bytes c (λ x s. (tt, s)) e
-command_sound keyword.RangeEnd o bytes c e = read_behind (range_and_place o range_end) keyword.RangeEnd o bytes c (λ x s. (tt, s)) e
-command_sound keyword.RangeCollapse o bytes c e = read_behind (range_and_end range_collapse) keyword.RangeCollapse o bytes c (λ x s. (tt, s)) e
-command_sound keyword.RangeDrop o bytes c e = read_behind (a_range range_drop) keyword.RangeDrop o bytes c (λ x s. (tt, s)) e
-command_sound keyword.RangeGet o bytes c e = read_behind (a_range range_get) keyword.RangeGet o bytes c (λ x s. (tt, s)) e
-command_sound keyword.RangeText o bytes c e = read_behind (a_range range_text) keyword.RangeText o bytes c (λ x s. (tt, s)) e
-command_sound keyword.Extract o bytes c e = read_behind (a_range extract) keyword.Extract o bytes c (λ x s. (tt, s)) e
-command_sound keyword.Delete o bytes c e = read_behind (a_range delete) keyword.Delete o bytes c (λ x s. (tt, s)) e
-command_sound keyword.InsertNode o bytes c e = read_behind (range_and_node o insert_node) keyword.InsertNode o bytes c (λ x s. (tt, s)) e
+command_sound keyword.RangeNew o bytes c e = read_behind (ended range_new) keyword.RangeNew o bytes (λ x s. (tt, s)) e
+command_sound keyword.RangeStart o bytes c e = read_behind (range_and_place o range_start) keyword.RangeStart o bytes (λ x s. (tt, s)) e
+command_sound keyword.RangeEnd o bytes c e = read_behind (range_and_place o range_end) keyword.RangeEnd o bytes (λ x s. (tt, s)) e
+command_sound keyword.RangeCollapse o bytes c e = read_behind (range_and_end range_collapse) keyword.RangeCollapse o bytes (λ x s. (tt, s)) e
+command_sound keyword.RangeDrop o bytes c e = read_behind (a_range range_drop) keyword.RangeDrop o bytes (λ x s. (tt, s)) e
+command_sound keyword.RangeGet o bytes c e = read_behind (a_range range_get) keyword.RangeGet o bytes (λ x s. (tt, s)) e
+command_sound keyword.RangeText o bytes c e = read_behind (a_range range_text) keyword.RangeText o bytes (λ x s. (tt, s)) e
+command_sound keyword.Extract o bytes c e = read_behind (a_range extract) keyword.Extract o bytes (λ x s. (tt, s)) e
+command_sound keyword.Delete o bytes c e = read_behind (a_range delete) keyword.Delete o bytes (λ x s. (tt, s)) e
+command_sound keyword.InsertNode o bytes c e = read_behind (range_and_node o insert_node) keyword.InsertNode o bytes (λ x s. (tt, s)) e
 command_sound keyword.IterNew o bytes c e =
     let s = cursor_sound o iterator_new bytes c e in
     subst (IsBehind keyword.IterNew o bytes) s.2 (tt, (keyword_word keyword.IterNew, bytes, refl, s.3, refl))
 command_sound keyword.WalkNew o bytes c e =
     let s = cursor_sound o walker_new bytes c e in
     subst (IsBehind keyword.WalkNew o bytes) s.2 (tt, (keyword_word keyword.WalkNew, bytes, refl, s.3, refl))
-command_sound keyword.IterNext o bytes c e = read_behind (an_iterator iterator_next) keyword.IterNext o bytes c (λ x s. (tt, s)) e
-command_sound keyword.IterPrev o bytes c e = read_behind (an_iterator iterator_previous) keyword.IterPrev o bytes c (λ x s. (tt, s)) e
-command_sound keyword.IterAt o bytes c e = read_behind (an_iterator iterator_at) keyword.IterAt o bytes c (λ x s. (tt, s)) e
-command_sound keyword.Walk o bytes c e = read_behind (walker_and_move walk) keyword.Walk o bytes c (λ x s. (tt, s)) e
-command_sound keyword.WalkAt o bytes c e = read_behind (a_walker walker_at) keyword.WalkAt o bytes c (λ x s. (tt, s)) e
-command_sound keyword.WalkSet o bytes c e = read_behind (walker_and_node o walker_set) keyword.WalkSet o bytes c (λ x s. (tt, s)) e
-command_sound keyword.Query o bytes c e = read_behind (node_and_string o query) keyword.Query o bytes c (λ x s. (tt, s)) e
-command_sound keyword.Matches o bytes c e = read_behind (node_and_string o matches) keyword.Matches o bytes c (λ x s. (tt, s)) e
+command_sound keyword.IterNext o bytes c e = read_behind (an_iterator iterator_next) keyword.IterNext o bytes (λ x s. (tt, s)) e
+command_sound keyword.IterPrev o bytes c e = read_behind (an_iterator iterator_previous) keyword.IterPrev o bytes (λ x s. (tt, s)) e
+command_sound keyword.IterAt o bytes c e = read_behind (an_iterator iterator_at) keyword.IterAt o bytes (λ x s. (tt, s)) e
+command_sound keyword.Walk o bytes c e = read_behind (walker_and_move walk) keyword.Walk o bytes (λ x s. (tt, s)) e
+command_sound keyword.WalkAt o bytes c e = read_behind (a_walker walker_at) keyword.WalkAt o bytes (λ x s. (tt, s)) e
+command_sound keyword.WalkSet o bytes c e = read_behind (walker_and_node o walker_set) keyword.WalkSet o bytes (λ x s. (tt, s)) e
+command_sound keyword.Query o bytes c e = read_behind (node_and_string o query) keyword.Query o bytes (λ x s. (tt, s)) e
+command_sound keyword.Matches o bytes c e = read_behind (node_and_string o matches) keyword.Matches o bytes (λ x s. (tt, s)) e
 command_sound keyword.Listen o bytes c e = listen_sound o bytes c e
 command_sound keyword.Unlisten o bytes c e = unlisten_sound o bytes c e
 command_sound keyword.Dispatch o bytes c e = dispatch_sound o bytes c e
-command_sound keyword.Observer o bytes c e = read_behind (ended observer) keyword.Observer o bytes c (λ x s. (tt, s)) e
+command_sound keyword.Observer o bytes c e = read_behind (ended observer) keyword.Observer o bytes (λ x s. (tt, s)) e
 command_sound keyword.Observe o bytes c e = observe_sound o bytes c e
-command_sound keyword.Disconnect o bytes c e = read_behind (an_observer disconnect) keyword.Disconnect o bytes c (λ x s. (tt, s)) e
-command_sound keyword.Take o bytes c e = read_behind (an_observer take) keyword.Take o bytes c (λ x s. (tt, s)) e
-command_sound keyword.Micro o bytes c e = read_behind (a_label micro) keyword.Micro o bytes c (λ x s. (tt, s)) e
-command_sound keyword.End o bytes c e = read_behind (ended end_turn) keyword.End o bytes c (λ x s. (tt, s)) e
+command_sound keyword.Disconnect o bytes c e = read_behind (an_observer disconnect) keyword.Disconnect o bytes (λ x s. (tt, s)) e
+command_sound keyword.Take o bytes c e = read_behind (an_observer take) keyword.Take o bytes (λ x s. (tt, s)) e
+command_sound keyword.Micro o bytes c e = read_behind (a_label micro) keyword.Micro o bytes (λ x s. (tt, s)) e
+command_sound keyword.End o bytes c e = read_behind (ended end_turn) keyword.End o bytes (λ x s. (tt, s)) e
 -- a keyword and a node
-command_sound k o bytes c e = read_behind (a_node o _) k o bytes c (λ x s. (tt, s)) e
+command_sound k o bytes c e = read_behind (a_node o _) k o bytes (λ x s. (tt, s)) e
 
 -- ---- each command is read
 
@@ -102,10 +102,9 @@ at_kind k behind bytes s found =
     ap (λ (x : Option (Kind × List ℕ)). x >>= λ kind. new_of kind.0 kind.1) read
 
 -- a line with a keyword and a node in front is read to its end
-node_complete : (makes : NodeWord → Command) (k : Keyword) (name : List ℕ) (o : Owner) (n : NodeWord) (said : List ℕ) → keyword_of name ≡ Some k →
-    ((bytes : List ℕ) → command_behind k o bytes ≡ one (node_at o) makes bytes) → Spells (key name ∷ node o n ∷ []) said →
-    command_at o said ≡ Some (makes n)
-node_complete makes k name o n said found is s =
+node_complete : {k : Keyword} (makes : NodeWord → Command) (name : List ℕ) (o : Owner) (n : NodeWord) (said : List ℕ) → keyword_of name ≡ Some k →
+    ((bytes : List ℕ) → command_behind k o bytes ≡ one (node_at o) makes bytes) → Spells (key name ∷ node o n ∷ []) said → command_at o said ≡ Some (makes n)
+node_complete {k} makes name o n said found is s =
     let spelled : Spells (key (keyword_word k) ∷ node o n ∷ []) said =
     subst (λ w. Spells (key w ∷ node o n ∷ []) said) (keyword_says.sound name k found) s in
     at k o (node o n ∷ []) said spelled ∙ is spelled.1 ∙ (a_node o makes).complete spelled.1 (n, tt) spelled.3
@@ -186,4 +185,4 @@ command_complete o (unlisten n event l capture) said u s =
 command_complete o (dispatch n e r) said u s = at keyword.Dispatch o (others o (dispatch n e r)) said s ∙ dispatch_complete o n e r s.1 s.3
 command_complete o (observe k n w) said u s = at keyword.Observe o (others o (observe k n w)) said s ∙ observe_complete o k n w s.1 s.3
 -- a keyword and a node
-command_complete o c said u s = node_complete _ _ _ o _ said refl (λ bytes. refl) s
+command_complete o c said u s = node_complete _ _ o _ said refl (λ bytes. refl) s

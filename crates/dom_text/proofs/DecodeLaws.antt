@@ -119,9 +119,9 @@ line_belongs line o c h =
     let b = said_begins o c h.said (command_complete o c h.said h.may_use h.spelled) in
     (h.name, b.0, h.owned, h.whole ∙ ap (λ (x : List ℕ). h.name ++ x) b.1)
 
-same_commands : (o p : Owner) (said said' : List ℕ) (c d : Command) → (o ≡ p) × (said ≡ said') → command_at o said ≡ Some c →
-    command_at p said' ≡ Some d → command o c ≡ command p d
-same_commands o p said said' c d same e f =
+same_commands : {o p : Owner} {said said' : List ℕ} {c d : Command} → (o ≡ p) × (said ≡ said') → command_at o said ≡ Some c → command_at p said' ≡ Some d →
+    command o c ≡ command p d
+same_commands {p} {said'} {c} same e f =
     let g : command_at p said' ≡ Some c = rw (← same.0, ← same.1) e in
     let first = same.0 in
     let second = some_is (sym g ∙ f) in
@@ -132,7 +132,7 @@ pub one_command : (line : List ℕ) (o p : Owner) (c d : Command) → IsLine lin
 one_command line o p c d h k =
     let at = line_at line o c h in
     let at' = line_at line p d k in
-    same_commands o p at.0 at'.0 c d (some_pair_parts o p at.0 at'.0 (sym at.1 ∙ at'.1)) at.2 at'.2
+    same_commands (some_pair_parts o p at.0 at'.0 (sym at.1 ∙ at'.1)) at.2 at'.2
 
 says_one : (line : List ℕ) (l m : Line) → Says line l → Says line m → l ≡ m
 says_one line no_owner no_owner h k = refl

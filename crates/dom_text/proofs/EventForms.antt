@@ -77,10 +77,10 @@ dispatch_end_complete o n e r bytes s =
     let is_cancelable = word_by_test (codes "cancelable") refl refl in
     let is_composed = word_by_test (codes "composed") refl refl in
     let f₁ = flag_complete (codes "bubbles") e.bubbles after_bubbles bytes (word_by_test (codes "bubbles") refl refl)
-    (λ q. avoids_flag (codes "bubbles") e.cancelable (codes "cancelable") after_cancelable is_cancelable refl
-    (avoids_flag (codes "bubbles") e.composed (codes "composed") after_composed is_composed refl (avoids_related (codes "bubbles") o r refl))) s in
+    (λ q. avoids_flag e.cancelable (codes "cancelable") is_cancelable refl
+    (avoids_flag e.composed (codes "composed") is_composed refl (avoids_related (codes "bubbles") o r refl))) s in
     let f₂ = flag_complete (codes "cancelable") e.cancelable after_cancelable f₁.0 is_cancelable
-    (λ q. avoids_flag (codes "cancelable") e.composed (codes "composed") after_composed is_composed refl (avoids_related (codes "cancelable") o r refl)) f₁.2 in
+    (λ q. avoids_flag e.composed (codes "composed") is_composed refl (avoids_related (codes "cancelable") o r refl)) f₁.2 in
     let f₃ = flag_complete (codes "composed") e.composed after_composed f₂.0 is_composed (λ q. avoids_related (codes "composed") o r refl) f₂.2 in
     let last = related_complete o r f₃.0 f₃.2 in
     rw (f₁.1, f₂.1, f₃.1, last) refl
@@ -179,29 +179,29 @@ observe_end_complete k n w bytes s =
     let is4 = word_by_test (codes "attributeOldValue") refl refl in
     let is5 = word_by_test (codes "characterDataOldValue") refl refl in
     let f0 = flag_complete (codes "childList") w.child_list behind0 bytes is0
-    (λ q. avoids_flag (codes "childList") w.attributes (codes "attributes") behind1 is1 refl
-    (avoids_flag (codes "childList") w.character_data (codes "characterData") behind2 is2 refl
-    (avoids_flag (codes "childList") w.subtree (codes "subtree") behind3 is3 refl
-    (avoids_flag (codes "childList") w.attribute_old_value (codes "attributeOldValue") behind4 is4 refl
-    (avoids_flag (codes "childList") w.character_data_old_value (codes "characterDataOldValue") behind5 is5 refl
+    (λ q. avoids_flag w.attributes (codes "attributes") is1 refl
+    (avoids_flag w.character_data (codes "characterData") is2 refl
+    (avoids_flag w.subtree (codes "subtree") is3 refl
+    (avoids_flag w.attribute_old_value (codes "attributeOldValue") is4 refl
+    (avoids_flag w.character_data_old_value (codes "characterDataOldValue") is5 refl
     (avoids_attribute_filter (codes "childList") w.filter (λ e. omega arith))))))) s in
     let f1 = flag_complete (codes "attributes") w.attributes behind1 f0.0 is1
-    (λ q. avoids_flag (codes "attributes") w.character_data (codes "characterData") behind2 is2 refl
-    (avoids_flag (codes "attributes") w.subtree (codes "subtree") behind3 is3 refl
-    (avoids_flag (codes "attributes") w.attribute_old_value (codes "attributeOldValue") behind4 is4 refl
-    (avoids_flag (codes "attributes") w.character_data_old_value (codes "characterDataOldValue") behind5 is5 refl
+    (λ q. avoids_flag w.character_data (codes "characterData") is2 refl
+    (avoids_flag w.subtree (codes "subtree") is3 refl
+    (avoids_flag w.attribute_old_value (codes "attributeOldValue") is4 refl
+    (avoids_flag w.character_data_old_value (codes "characterDataOldValue") is5 refl
     (avoids_attribute_filter (codes "attributes") w.filter (λ e. omega arith)))))) f0.2 in
     let f2 = flag_complete (codes "characterData") w.character_data behind2 f1.0 is2
-    (λ q. avoids_flag (codes "characterData") w.subtree (codes "subtree") behind3 is3 refl
-    (avoids_flag (codes "characterData") w.attribute_old_value (codes "attributeOldValue") behind4 is4 refl
-    (avoids_flag (codes "characterData") w.character_data_old_value (codes "characterDataOldValue") behind5 is5 refl
+    (λ q. avoids_flag w.subtree (codes "subtree") is3 refl
+    (avoids_flag w.attribute_old_value (codes "attributeOldValue") is4 refl
+    (avoids_flag w.character_data_old_value (codes "characterDataOldValue") is5 refl
     (avoids_attribute_filter (codes "characterData") w.filter (λ e. omega arith))))) f1.2 in
     let f3 = flag_complete (codes "subtree") w.subtree behind3 f2.0 is3
-    (λ q. avoids_flag (codes "subtree") w.attribute_old_value (codes "attributeOldValue") behind4 is4 refl
-    (avoids_flag (codes "subtree") w.character_data_old_value (codes "characterDataOldValue") behind5 is5 refl
+    (λ q. avoids_flag w.attribute_old_value (codes "attributeOldValue") is4 refl
+    (avoids_flag w.character_data_old_value (codes "characterDataOldValue") is5 refl
     (avoids_attribute_filter (codes "subtree") w.filter (λ e. omega arith)))) f2.2 in
     let f4 = flag_complete (codes "attributeOldValue") w.attribute_old_value behind4 f3.0 is4
-    (λ q. avoids_flag (codes "attributeOldValue") w.character_data_old_value (codes "characterDataOldValue") behind5 is5 refl
+    (λ q. avoids_flag w.character_data_old_value (codes "characterDataOldValue") is5 refl
     (avoids_attribute_filter (codes "attributeOldValue") w.filter (λ e. omega arith))) f3.2 in
     let f5 = flag_complete (codes "characterDataOldValue") w.character_data_old_value behind5 f4.0 is5
     (λ q. avoids_attribute_filter (codes "characterDataOldValue") w.filter (λ e. omega arith)) f4.2 in

@@ -15,7 +15,7 @@ use Rattle.dom_traversal.specs.Within.{ahead_of, up_to_tree, StandsBelow}
 use Rattle.dom_traversal.proofs.Lists.{name_eq-from, filter-no}
 use Rattle.dom_traversal.proofs.Steps.{top_places, within-top}
 use Rattle.dom_traversal.proofs.Counts.{StandOnce, StandAlone}
-use Rattle.dom_traversal.proofs.Climbing.{was_none, was_some}
+use Rattle.dom_traversal.proofs.Climbing.{no_key, was_some}
 use Rattle.dom_traversal.proofs.Stops.{IsBelow, within-below, stop-here, path_up, below-stop, aback_previous, aback_up}
 use Rattle.dom_traversal.proofs.Aside.{IsBelow-key, StandsBelow-key, SameStop, rises}
 
@@ -66,7 +66,7 @@ module _ (f : NamedTrees) (once : StandOnce f) (only : StandAlone f) (filter_at 
       λ j e. sym is ∙ ap (option_map (name_at f.names)) e in
       let steps : (j : ℕ) → previous ≡ Some j → ahead_of f.trees (stop_above f.trees filter_at (name_at f.names top) (name_at f.names key)) (name_at f.names at)
       ≡ up_to_tree f.trees (stop_above f.trees filter_at (name_at f.names top) (name_at f.names key)) (Some (name_at f.names j)) =
-      λ j e. sym stop_at ∙ ((aback_previous f.trees filter_at (name_at f.names top) (name_at f.names at) (name_at f.names j) b (named j e)).0
+      λ j e. sym stop_at ∙ ((aback_previous filter_at b (named j e)).0
       ∙ ap (λ z. up_to_tree f.trees z (Some (name_at f.names j))) a.stop) in
       record {
         value = record {
@@ -78,14 +78,14 @@ module _ (f : NamedTrees) (once : StandOnce f) (only : StandAlone f) (filter_at 
           none_accepted = a.none_accepted;
         };
         below = λ j e. StandsBelow-key f top j (node j e)
-            (aback_previous f.trees filter_at (name_at f.names top) (name_at f.names at) (name_at f.names j) b (named j e)).1;
+            (aback_previous filter_at b (named j e)).1;
         stop = λ j e. same_path (name_at f.names j)
-            (aback_previous f.trees filter_at (name_at f.names top) (name_at f.names at) (name_at f.names j) b (named j e)).2 ∙ a.stop;
+            (aback_previous filter_at b (named j e)).2 ∙ a.stop;
         path = λ j e. (
           a.above,
           a.path ∙
               ap (λ xs. a.above ++ xs) (sym
-              (aback_previous f.trees filter_at (name_at f.names top) (name_at f.names at) (name_at f.names j) b (named j e)).2),
+              (aback_previous filter_at b (named j e)).2),
         );
       }
     where
@@ -97,8 +97,8 @@ module _ (f : NamedTrees) (once : StandOnce f) (only : StandAlone f) (filter_at 
       (is : option_map (name_at f.names) previous ≡ previous_sibling f.trees (name_at f.names at)) (none_left : is_some previous ≡ false) where
     leaves : ahead_of f.trees (stop_above f.trees filter_at (name_at f.names top) (name_at f.names at)) (name_at f.names at)
         ≡ ahead_of f.trees (stop_above f.trees filter_at (name_at f.names top) (name_at f.names at)) (name_at f.names p) ++ name_at f.names p ∷ []
-    leaves = aback_up f.trees filter_at (name_at f.names top) (name_at f.names at) (name_at f.names p) (IsBelow-key f once only top at a.below)
-        (sym is ∙ ap (option_map (name_at f.names)) (was_none previous none_left)) (sym up)
+    leaves = aback_up filter_at (IsBelow-key f once only top at a.below)
+        (no_key (name_at f.names) previous is none_left) (sym up)
 
     pub back_up : p < length f.names → is_stop f.trees filter_at (name_at f.names top) (name_at f.names p) ≡ false → Aback f filter_at top key p
     back_up node e =

@@ -1,23 +1,21 @@
 -- Steps aside, down and up by keys in a search among siblings.
-use Rattle.std.proofs.Common.{◌≡◌, inl, inr, ℕ, ◌<◌, true, false, [], ◌++◌, length, Option, Some, None, refl, sym, ap, subst, ◌∙◌, arith, eqb}
+use Rattle.std.proofs.Common.{◌≡◌, inl, inr, ℕ, ◌<◌, true, false, [], ◌++◌, length, Option, Some, None, refl, sym, ap, subst, ◌∙◌, arith}
 use Rattle.std.specs.Prelude.{is_some}
 use Rattle.std.specs.Option.{option_map, ForSome}
 use Rattle.std.proofs.lemmas.Option.{none-some, same_Some}
-use Rattle.std.proofs.lemmas.Bool.{eq-eqb, both_ways}
 use Rattle.dom_base.specs.declared.NodeName.{NodeName}
 use Rattle.dom_model.specs.Command.{Filter}
 use Rattle.dom_model.specs.Names.{first_of}
 use Rattle.dom_model.specs.Traversal.{accepts}
-use Rattle.dom_model.specs.Tree.{is_inclusive_ancestor, inclusive_ancestors, ancestors, parent_of, children_of, next_sibling}
+use Rattle.dom_model.specs.Tree.{inclusive_ancestors, ancestors, parent_of, children_of, next_sibling}
 use Rattle.dom_tree.specs.Forest.{NamedTrees, name_at}
-use Rattle.dom_tree.specs.Apart.{TellApart}
 use Rattle.dom_traversal.specs.Walkers.{is_stop, stop_above}
 use Rattle.dom_traversal.specs.Within.{behind, beyond, StandsBelow}
 use Rattle.dom_traversal.proofs.Lists.{In, In-from, is_in-from, first_split}
 use Rattle.dom_traversal.proofs.Order.{here, behind_is}
 use Rattle.dom_traversal.proofs.Steps.{first_child, no_child}
 use Rattle.dom_traversal.proofs.Counts.{StandOnce, StandAlone, Once-forest, Has-forest}
-use Rattle.dom_traversal.proofs.Climbing.{was_none, was_some}
+use Rattle.dom_traversal.proofs.Climbing.{IsInner, no_key, was_some}
 use Rattle.dom_traversal.proofs.Opening.{above-proper}
 use Rattle.dom_traversal.proofs.Stops.{IsBelow, within-below, root-below, below-stop, below-child, below-up, path_up, stop-above, aside_next}
 use Rattle.dom_traversal.proofs.Stops.{aside_ends, aside_up}
@@ -53,10 +51,10 @@ module _ (f : NamedTrees) (once : StandOnce f) (only : StandAlone f) (filter : F
       λ j e. sym is ∙ ap (option_map (name_at f.names)) e in
       record {
         value = ap (option_map (name_at f.names)) found.1 ∙
-            sym (aside_next f.trees filter (name_at f.names top) (name_at f.names k) (name_at f.names found.0) b (found_at found.0 found.1)).0;
+            sym (aside_next filter b (found_at found.0 found.1)).0;
         below = λ j e. StandsBelow-key f top j (node j e)
-            (aside_next f.trees filter (name_at f.names top) (name_at f.names k) (name_at f.names j) b (found_at j e)).1;
-        stop = λ j e. (aside_next f.trees filter (name_at f.names top) (name_at f.names k) (name_at f.names j) b (found_at j e)).2;
+            (aside_next filter b (found_at j e)).1;
+        stop = λ j e. (aside_next filter b (found_at j e)).2;
       }
 
   -- a first child is where a step onward leads
@@ -81,8 +79,8 @@ module _ (f : NamedTrees) (once : StandOnce f) (only : StandAlone f) (filter : F
             ∙ sym (ap first_of (behind_is f.trees stop (name_at f.names k) w ∙
             (first.1 ∙ ap (λ xs. xs ++ beyond f.trees stop (name_at f.names found.0)) (here f.trees stop (name_at f.names found.0) first.0))));
         below = λ j e. StandsBelow-key f top j (node j e)
-            (below-child f.trees filter (name_at f.names top) (name_at f.names k) (name_at f.names j) b no_k (among j e)).0;
-        stop = λ j e. (below-child f.trees filter (name_at f.names top) (name_at f.names k) (name_at f.names j) b no_k (among j e)).1;
+            (below-child filter (name_at f.names j) b no_k (among j e)).0;
+        stop = λ j e. (below-child filter (name_at f.names j) b no_k (among j e)).1;
       }
 
   -- a node without children has nothing but what is beyond it behind it
@@ -94,7 +92,7 @@ module _ (f : NamedTrees) (once : StandOnce f) (only : StandAlone f) (filter : F
       let w = within-below f.trees stop (name_at f.names k)
       (below-stop f.trees filter (name_at f.names top) (name_at f.names k) (IsBelow-key f once only top k s)) in
       behind_is f.trees stop (name_at f.names k) w ∙ ap (λ xs. xs ++ beyond f.trees stop (name_at f.names k))
-      (no_child f.trees (name_at f.names k) (sym is ∙ ap (option_map (name_at f.names)) (was_none child none_left)))
+      (no_child f.trees (name_at f.names k) (no_key (name_at f.names) child is none_left))
 
   -- a node below another one has a parent
   pub no_parent_below : (up : Option ℕ) → option_map (name_at f.names) up ≡ parent_of f.trees (name_at f.names k) → up ≡ None → ⊥
@@ -125,30 +123,28 @@ module _ (f : NamedTrees) (once : StandOnce f) (only : StandAlone f) (filter : F
       → beyond f.trees (stop_above f.trees filter (name_at f.names top) (name_at f.names k)) (name_at f.names k) ≡ beyond f.trees
       (stop_above f.trees filter (name_at f.names top) (name_at f.names p)) (name_at f.names p)
   rises_beyond next is none_left e =
-      aside_up f.trees filter (name_at f.names top) (name_at f.names k) (name_at f.names p) (IsBelow-key f once only top k s)
-      (sym is ∙ ap (option_map (name_at f.names)) (was_none next none_left)) (sym up) e
+      aside_up filter (IsBelow-key f once only top k s)
+      (no_key (name_at f.names) next is none_left) (sym up) e
 
   -- where the parent is the stop and no sibling is behind, nothing is beyond
   pub ends_beyond : (next : Option ℕ) → option_map (name_at f.names) next ≡ next_sibling f.trees (name_at f.names k) → is_some next ≡ false →
       is_stop f.trees filter (name_at f.names top) (name_at f.names p) ≡ true
       → beyond f.trees (stop_above f.trees filter (name_at f.names top) (name_at f.names k)) (name_at f.names k) ≡ []
   ends_beyond next is none_left e =
-      aside_ends f.trees filter (name_at f.names top) (name_at f.names k) (name_at f.names p) (IsBelow-key f once only top k s)
-      (sym is ∙ ap (option_map (name_at f.names)) (was_none next none_left)) (sym up) e
+      aside_ends filter (IsBelow-key f once only top k s)
+      (no_key (name_at f.names) next is none_left) (sym up) e
 
 -- a node that stands in the tree of another one and is not that one stands below it
-pub StandsBelow-walker : (f : NamedTrees) → StandOnce f → StandAlone f → TellApart f.names → (root current : ℕ) →
-    root < length f.names → current < length f.names
-    → eqb current root ≡ false → is_inclusive_ancestor f.trees (name_at f.names root) (name_at f.names current) ≡ true → StandsBelow f root current
-StandsBelow-walker f once only apart root current at_root at_current other above =
-    let at = Has-forest f once current at_current in
+pub inner-below : {f : NamedTrees} {top k : ℕ} → IsInner f top k → StandsBelow f top k
+inner-below {f} {top} {k} i =
+    let at = Has-forest f i.once k i.stands.node in
     record {
-      node = at_current;
-      below = is_in-from (name_at f.names root) (ancestors f.trees (name_at f.names current))
-          (elim (subst (In (name_at f.names root)) (above-proper f.trees (name_at f.names current) at)
-          (In-from (name_at f.names root) (inclusive_ancestors f.trees (name_at f.names current)) above)) [
-            | inl same ↦ absurd (both_ways (eqb current root) other (eq-eqb current root (apart current root at_current at_root (sym same))))
-            | inr i ↦ i
+      node = i.stands.node;
+      below = is_in-from (name_at f.names top) (ancestors f.trees (name_at f.names k))
+          (elim (subst (In (name_at f.names top)) (above-proper f.trees (name_at f.names k) at)
+          (In-from (name_at f.names top) (inclusive_ancestors f.trees (name_at f.names k)) i.stands.within)) [
+            | inl same ↦ absurd (i.other (sym same))
+            | inr above ↦ above
           ]);
     }
 

@@ -26,8 +26,8 @@ use Rattle.dom_traversal.proofs.Order.{IsWithin, stands_in, here, below, joined}
 use Rattle.dom_traversal.proofs.Steps.{last_child, no_last_child, child_places, previous_places, no_previous, within-parent, within-root, top_places}
 use Rattle.dom_traversal.proofs.Steps.{within-top}
 use Rattle.dom_traversal.proofs.Counts.{StandOnce, StandAlone, Has-forest, above-within}
-use Rattle.dom_traversal.proofs.Searching.{IsWithin-key, IsWithin-itself, last-hit, last-miss}
-use Rattle.dom_traversal.proofs.Climbing.{none_left}
+use Rattle.dom_traversal.proofs.Searching.{IsWithin-key, last-hit, last-miss}
+use Rattle.dom_traversal.proofs.Climbing.{IsInner, inner-within}
 use Rattle.dom_traversal.proofs.Opening.{hidden, all-from, all-at, above-proper, proper-parent}
 use Rattle.dom_traversal.proofs.Passing.{passing, walker_nodes-passing, passable-above}
 
@@ -84,7 +84,7 @@ module _ (ts : Trees) (w : Walker) (x : NodeName) (r : Returns ts w x) (other : 
   -- where no sibling is before x, to the parent
   pub returns_parent : (p : NodeName) → previous_sibling ts x ≡ None → parent_of ts x ≡ Some p → ReturnsTo ts w x p
   returns_parent p previous up =
-      let is = no_previous ts w.root x p r.within other up previous in
+      let is = no_previous r.within other up previous in
       let path = (proper-parent ts x p r.within.once (stands_in ts w.root x r.within) up).0 in
       record {
         comes = record {
@@ -97,12 +97,12 @@ module _ (ts : Trees) (w : Walker) (x : NodeName) (r : Returns ts w x) (other : 
       }
 
   -- the node y, lowest in the tree of the sibling s
-  pub returns_sibling : (s y : NodeName) → previous_sibling ts x ≡ Some s → Has ts w.current → IsWithin ts w.root y
-      → ahead_of ts w.root y ++ inclusive_descendants ts y ≡ ahead_of ts w.root s ++ inclusive_descendants ts s
-      → (rejects ts w.filter y ≡ false → inclusive_descendants ts y ≡ y ∷ [])
-      → ((a : NodeName) → is_in name_eq a (ancestors ts y) ≡ true → rejects ts w.filter a ≡ true → is_in name_eq a (ancestors ts s) ≡ true) → ReturnsTo ts w x y
-  returns_sibling s y previous at_current in_y tree ends path =
-      let places = previous_places ts w.root x s r.within other previous in
+  pub returns_sibling : {s y : NodeName} → previous_sibling ts x ≡ Some s → Has ts w.current → IsWithin ts w.root y →
+      ahead_of ts w.root y ++ inclusive_descendants ts y ≡ ahead_of ts w.root s ++ inclusive_descendants ts s →
+      (rejects ts w.filter y ≡ false → inclusive_descendants ts y ≡ y ∷ []) →
+      ((a : NodeName) → is_in name_eq a (ancestors ts y) ≡ true → rejects ts w.filter a ≡ true → is_in name_eq a (ancestors ts s) ≡ true) → ReturnsTo ts w x y
+  returns_sibling {s} {y} previous at_current in_y tree ends path =
+      let places = previous_places r.within other previous in
       let whole : ahead_of ts w.root x ≡ ahead_of ts w.root y ++ inclusive_descendants ts y = places.1 ∙ sym tree in
       let same_path = same_above places.0 places.2 in
       record {
@@ -168,21 +168,6 @@ Returns-begin ts w at = record {
 
 -- ---- the same by keys
 
--- a last child by its key
-pub descends-key : (f : NamedTrees) → StandOnce f → StandAlone f → (k last : ℕ) → k < length f.names →
-    Some (name_at f.names last) ≡ last_of (children_of f.trees (name_at f.names k)) →
-    Descends f.trees (name_at f.names k) (name_at f.names k) (name_at f.names last)
-descends-key f once only k last node is =
-    descends f.trees (name_at f.names k) (name_at f.names k) (name_at f.names last) (IsWithin-itself f once only k node) (sym is)
-
--- a node without children by its key
-pub alone-key : (f : NamedTrees) → StandOnce f → StandAlone f → (k : ℕ) (last : Option ℕ) → k < length f.names →
-    option_map (name_at f.names) last ≡ last_of (children_of f.trees (name_at f.names k)) → ((j : ℕ) → last ≡ Some j → ⊥)
-    → inclusive_descendants f.trees (name_at f.names k) ≡ name_at f.names k ∷ []
-alone-key f once only k last node is empty =
-    alone f.trees (name_at f.names k) (name_at f.names k) (IsWithin-itself f once only k node)
-    (sym is ∙ ap (option_map (name_at f.names)) (none_left last empty))
-
 -- a node that is not rejected is entered on a way through accepted nodes
 entered-through : (ts : Trees) (filter : Filter) (x : NodeName) → rejects ts filter x ≡ not (is_entered ts filter true x)
 entered-through ts filter x = by (answer_at ts filter x)
@@ -218,6 +203,14 @@ pub record StepsBack (f : NamedTrees) (w : KeyedWalker) (k : ℕ) (found : Optio
   pub shorter : length (up_to_node f.trees (name_at f.names w.root) (option_map (name_at f.names) found)) ≤ length
       (ahead_of f.trees (name_at f.names w.root) (name_at f.names k))
 
+-- the node to which a search backward goes in the tree of a sibling s
+pub record IsLowest (f : NamedTrees) (w : KeyedWalker) (s y : ℕ) : Type 0 where
+  pub stands : StandsIn f w.root y
+  pub tree : up_to_tree f.trees (name_at f.names w.root) (Some (name_at f.names y)) ≡ up_to_tree f.trees (name_at f.names w.root) (Some (name_at f.names s))
+  pub ends : is_entered f.trees w.filter true (name_at f.names y) ≡ true → inclusive_descendants f.trees (name_at f.names y) ≡ name_at f.names y ∷ []
+  pub path : (between : List NodeName) × (ancestors f.trees (name_at f.names y) ≡ between ++ ancestors f.trees (name_at f.names s)) ×
+      (list_all (is_entered f.trees w.filter true) between ≡ true)
+
 module _ (f : NamedTrees) (once : StandOnce f) (only : StandAlone f) (w : KeyedWalker) (k : ℕ) (c : ComesBack f w k) where
   -- at the root
   pub steps_root : name_at f.names k ≡ name_at f.names w.root → StepsBack f w k None
@@ -240,36 +233,30 @@ module _ (f : NamedTrees) (once : StandOnce f) (only : StandAlone f) (w : KeyedW
       record { comes = λ j e. subst (ComesBack f w) (same_Some p j e) (ComesBack-key f w p (node p refl) to.comes); value = to.value; shorter = to.shorter }
 
   -- to the lowest node of the sibling's tree
-  pub steps_sibling : (name_at f.names k ≡ name_at f.names w.root → ⊥) → (s y : ℕ) →
-      Some (name_at f.names s) ≡ previous_sibling f.trees (name_at f.names k) → w.current < length f.names → StandsIn f w.root y
-      → up_to_tree f.trees (name_at f.names w.root) (Some (name_at f.names y)) ≡ up_to_tree f.trees (name_at f.names w.root) (Some (name_at f.names s))
-      → (is_entered f.trees w.filter true (name_at f.names y) ≡ true → inclusive_descendants f.trees (name_at f.names y) ≡ name_at f.names y ∷ [])
-      → (between : List NodeName) × (ancestors f.trees (name_at f.names y) ≡ between ++ ancestors f.trees (name_at f.names s)) ×
-      (list_all (is_entered f.trees w.filter true) between ≡ true)
-      → StepsBack f w k (Some y)
-  steps_sibling other s y is at_current at_y tree ends path =
-      let to = returns_sibling f.trees (walker_view f.names w) (name_at f.names k) (Returns-key f once only w k c) other (name_at f.names s)
-      (name_at f.names y) (sym is) (Has-forest f once w.current at_current) (IsWithin-key f once only w.root y at_y) tree
-      (λ e. ends (not-false _ (sym (entered-through f.trees w.filter (name_at f.names y)) ∙ e)))
+  pub steps_sibling : (name_at f.names k ≡ name_at f.names w.root → ⊥) → {s y : ℕ} →
+      Some (name_at f.names s) ≡ previous_sibling f.trees (name_at f.names k) → w.current < length f.names → IsLowest f w s y → StepsBack f w k (Some y)
+  steps_sibling other {s} {y} is at_current low =
+      let path = low.path in
+      let to = returns_sibling f.trees (walker_view f.names w) (name_at f.names k) (Returns-key f once only w k c) other
+      (sym is) (Has-forest f once w.current at_current) (IsWithin-key f once only w.root y low.stands) low.tree
+      (λ e. low.ends (not-false _ (sym (entered-through f.trees w.filter (name_at f.names y)) ∙ e)))
       (λ a above yes_a. is_in-from a (ancestors f.trees (name_at f.names s))
       (passed a yes_a (In-parts a path.0 (ancestors f.trees (name_at f.names s))
       (subst (In a) path.1 (In-from a (ancestors f.trees (name_at f.names y)) above))))) in
-      record { comes = λ j e. subst (ComesBack f w) (same_Some y j e) (ComesBack-key f w y at_y.node to.comes); value = to.value; shorter = to.shorter }
+      record { comes = λ j e. subst (ComesBack f w) (same_Some y j e) (ComesBack-key f w y low.stands.node to.comes); value = to.value; shorter = to.shorter }
     where
-      passed : (a : NodeName) → rejects f.trees w.filter a ≡ true → In a path.0 ⊎ In a (ancestors f.trees (name_at f.names s)) →
+      passed : (a : NodeName) → rejects f.trees w.filter a ≡ true → In a low.path.0 ⊎ In a (ancestors f.trees (name_at f.names s)) →
           In a (ancestors f.trees (name_at f.names s))
       passed a yes_a (inr i) = i
       passed a yes_a (inl i) = absurd (both_ways (rejects f.trees w.filter a)
-          (entered-through f.trees w.filter a ∙ ap not (all-at (is_entered f.trees w.filter true) path.0 path.2 a i)) yes_a)
+          (entered-through f.trees w.filter a ∙ ap not (all-at (is_entered f.trees w.filter true) low.path.0 low.path.2 a i)) yes_a)
 
 -- the sibling stands in the tree of the root
-pub sibling-stands : (f : NamedTrees) → StandOnce f → StandAlone f → (root k s : ℕ) → StandsIn f root k →
-    (name_at f.names k ≡ name_at f.names root → ⊥) → s < length f.names →
+pub sibling-stands : {f : NamedTrees} {root k : ℕ} (s : ℕ) → IsInner f root k → s < length f.names →
     Some (name_at f.names s) ≡ previous_sibling f.trees (name_at f.names k) → StandsIn f root s
-sibling-stands f once only root k s at other node is = record {
+sibling-stands {f} {root} s i node is = record {
   node = node;
-  within = above-within f.trees (name_at f.names root) (name_at f.names s)
-      (previous_places f.trees (name_at f.names root) (name_at f.names k) (name_at f.names s) (IsWithin-key f once only root k at) other (sym is)).0;
+  within = above-within f.trees (name_at f.names root) (name_at f.names s) (previous_places (inner-within i) i.other (sym is)).0;
 }
 
 -- ---- what a search backward finds

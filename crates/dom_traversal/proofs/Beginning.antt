@@ -114,7 +114,7 @@ module _ (ts : Trees) (w : Walker) (b : IsBelow ts w.root w.current) where
       is_opened ts w a ≡ true
   sibling-path_up y e a i =
       opened-above ts w a (subst (In a) (sym (above-proper ts w.current b.stands))
-      (inr (beyond-above ts (length (inclusive_ancestors ts w.current)) (sibling_top ts w) w.current y (omega arith) sibling-within e a i)))
+      (inr (beyond-above (length (inclusive_ancestors ts w.current)) (omega arith) sibling-within e a i)))
 
   -- the siblings behind are the nodes that are reached
   pub siblings-found : walker_siblings ts w (behind ts w.root w.current) ≡ filter (is_reached ts w) (beyond ts (sibling_top ts w) w.current)

@@ -8,7 +8,7 @@ use Rattle.dom_model.specs.Traversal.{Walker, accepts, skips, between, walker_ch
 use Rattle.dom_model.specs.Tree.{Trees, none, tree, inclusive_ancestors, ancestors, is_inclusive_ancestor}
 use Rattle.dom_model.proofs.OwnerLaws.{name_eq-other}
 use Rattle.dom_traversal.specs.Walkers.{is_opened, is_reached}
-use Rattle.dom_traversal.proofs.Lists.{In, In-left, Single, Single-apart, is_in-not, filter-same}
+use Rattle.dom_traversal.proofs.Lists.{In, Single, Single-apart, is_in-not, filter-same}
 use Rattle.dom_traversal.proofs.Shapes.{Has, Once, Has-above, above-here, above-below, above-beside, above-from_below}
 use Rattle.dom_traversal.proofs.Children.{Single-append}
 use Rattle.dom_traversal.proofs.Order.{IsWithin, stands_in, all_single, here, below}
@@ -72,17 +72,13 @@ list_all-same p q (x ∷ xs) h =
     ap (λ b. b && list_all p xs) first ∙ ap (λ b. q x && b) rest
 
 -- what stands between a and y is below a
-between-below : (ts : Trees) (a y c : NodeName) → IsBelow ts a y → In c (between ts a y) → In c (inclusive_ancestors ts a) → ⊥
-between-below ts a y c b i j =
-    let proper = above-proper ts y b.stands in
-    let at_c : Has ts c = Has-above ts c y b.once b.stands
-    (subst (In c) (sym proper) (inr
-    (subst (In c) (sym (proper-split ts a y b)) (In-left c (between ts a y) (inclusive_ancestors ts a) i)))) in
+between-below : {ts : Trees} {a y : NodeName} (c : NodeName) → IsBelow ts a y → In c (between ts a y) → In c (inclusive_ancestors ts a) → ⊥
+between-below {ts} {a} {y} c b i j =
     Single-apart c (between ts a y) (inclusive_ancestors ts a) (subst Single (proper-split ts a y b) (Single-proper ts y b.once b.stands)) i j
 
 -- between the current node and one below it, opened is skipped
 skips-opened : (ts : Trees) (w : Walker) (y c : NodeName) → IsBelow ts w.current y → In c (between ts w.current y) → skips ts w.filter c ≡ is_opened ts w c
-skips-opened ts w y c b i = by (skips ts w.filter c) (is_in-not c (inclusive_ancestors ts w.current) (between-below ts w.current y c b i))
+skips-opened ts w y c b i = by (skips ts w.filter c) (is_in-not c (inclusive_ancestors ts w.current) (between-below c b i))
   where
     by : (s : Bool) → is_inclusive_ancestor ts c w.current ≡ false → s ≡ (s || is_inclusive_ancestor ts c w.current)
     by true e = refl

@@ -111,8 +111,8 @@ first-passes p (x ∷ xs) y e = elim (cases_Bool (p x)) [
     by is same = let q : x ≡ y = cc in ap p (sym q) ∙ is
 
 -- a node before x is not in the tree of x
-pub ahead-apart : (ts : Trees) (top x y : NodeName) → IsWithin ts top x → In y (ahead_of ts top x) → In y (inclusive_descendants ts x) → ⊥
-ahead-apart ts top x y w i j =
+pub ahead-apart : {ts : Trees} {top x : NodeName} (y : NodeName) → IsWithin ts top x → In y (ahead_of ts top x) → In y (inclusive_descendants ts x) → ⊥
+ahead-apart {ts} {top} {x} y w i j =
     Single-apart y (ahead_of ts top x) (inclusive_descendants ts x ++ beyond ts top x) (subst Single (splits ts top x w) (all_single ts top x w))
     i (In-left y (inclusive_descendants ts x) (beyond ts top x) j)
 
@@ -120,7 +120,7 @@ ahead-apart ts top x y w i j =
 pub ahead-outside : (ts : Trees) (top x y : NodeName) → IsWithin ts top x → last_of (ahead_of ts top x) ≡ Some y → is_inclusive_ancestor ts x y ≡ false
 ahead-outside ts top x y w e =
     let s = last_split (ahead_of ts top x) y e in
-    outside-test ts x y w.once (ahead-apart ts top x y w (subst (In y) (sym s.1) (In-right y s.0 (y ∷ []) (inl refl))))
+    outside-test ts x y w.once (ahead-apart y w (subst (In y) (sym s.1) (In-right y s.0 (y ∷ []) (inl refl))))
 
 -- before a node that is not the top stands at least the top
 pub some_ahead : (ts : Trees) (top x : NodeName) → IsWithin ts top top → (x ≡ top → ⊥) → last_of (ahead_of ts top x) ≡ None → ⊥

@@ -31,35 +31,50 @@ none_left None never = refl
 none_left (Some x) never = absurd (never x refl)
 
 -- the next sibling is the first node beyond
-first-tree : (ts : Trees) (top x s : NodeName) → IsWithin ts top x → (x ≡ top → ⊥) → next_sibling ts x ≡ Some s → first_of (beyond ts top x) ≡ Some s
-first-tree ts top x s w other e =
+first-tree : {ts : Trees} {top x s : NodeName} → IsWithin ts top x → (x ≡ top → ⊥) → next_sibling ts x ≡ Some s → first_of (beyond ts top x) ≡ Some s
+first-tree {ts} {top} {x} {s} w other e =
     let is = next_places ts top x s w other e in
     ap first_of (is.1 ∙ ap (λ xs. xs ++ beyond ts top s) (here ts top s is.0))
 
+-- A key that stands in the tree of another one and is not that one, in a forest where nodes stand once.
+pub record IsInner (f : NamedTrees) (top k : ℕ) : Type 0 where
+  pub once : StandOnce f
+  pub only : StandAlone f
+  pub stands : StandsIn f top k
+  pub other : name_at f.names k ≡ name_at f.names top → ⊥
+
+-- its name stands there too
+pub inner-within : {f : NamedTrees} {top k : ℕ} → IsInner f top k → IsWithin f.trees (name_at f.names top) (name_at f.names k)
+inner-within {f} {top} {k} i = IsWithin-key f i.once i.only top k i.stands
+
+-- no node, as a key
+pub no_key : {X Y : Type 0} (f : X → Y) (key : Option X) {o : Option Y} → option_map f key ≡ o → is_some key ≡ false → o ≡ None
+no_key f key is none_left = sym is ∙ ap (option_map f) (was_none key none_left)
+
 -- a step aside goes to what is beyond a node
-pub next_step : (f : NamedTrees) → StandOnce f → StandAlone f → (top k : ℕ) (next : Option ℕ) → StandsIn f top k → (name_at f.names k ≡ name_at f.names top → ⊥)
-    → option_map (name_at f.names) next ≡ next_sibling f.trees (name_at f.names k) → ForSome next (λ j. j < length f.names) → is_some next ≡ true
+pub next_step : {f : NamedTrees} {top k : ℕ} (next : Option ℕ) → IsInner f top k →
+    option_map (name_at f.names) next ≡ next_sibling f.trees (name_at f.names k) → ForSome next (λ j. j < length f.names) → is_some next ≡ true
     → (option_map (name_at f.names) next ≡ first_of (beyond f.trees (name_at f.names top) (name_at f.names k))) × ForSome next (StandsIn f top)
-next_step f once only top k next s other is node some =
-    let w = IsWithin-key f once only top k s in
+next_step {f} {top} {k} next i is node some =
+    let w = inner-within i in
     let found = was_some next some in
     let named : option_map (name_at f.names) next ≡ Some (name_at f.names found.0) = ap (option_map (name_at f.names)) found.1 in (
-      named ∙ sym (first-tree f.trees (name_at f.names top) (name_at f.names k) (name_at f.names found.0) w other (sym is ∙ named)),
-      StandsIn-found f top next _ is node (λ y e. (next_places f.trees (name_at f.names top) (name_at f.names k) y w other e).0),
+      named ∙ sym (first-tree w i.other (sym is ∙ named)),
+      StandsIn-found f top next is node (λ y e. (next_places f.trees (name_at f.names top) (name_at f.names k) y w i.other e).0),
     )
 
 -- a step up, by itself
-pub parent_step : (f : NamedTrees) → StandOnce f → StandAlone f → (top k p : ℕ) → StandsIn f top k →
-    (name_at f.names k ≡ name_at f.names top → ⊥) → Some (name_at f.names p) ≡ parent_of f.trees (name_at f.names k) → p < length f.names
+pub parent_step : {f : NamedTrees} {top k : ℕ} (p : ℕ) → IsInner f top k → Some (name_at f.names p) ≡ parent_of f.trees (name_at f.names k) →
+    p < length f.names
     → StandsIn f top p × (length (inclusive_ancestors f.trees (name_at f.names p)) < length (inclusive_ancestors f.trees (name_at f.names k)))
-parent_step f once only top k p s other up node =
-    let w = IsWithin-key f once only top k s in
+parent_step {f} {top} {k} p i up node =
+    let w = inner-within i in
     let longer = (above-parent f.trees (name_at f.names k) (name_at f.names p) w.once
     (stands_in f.trees (name_at f.names top) (name_at f.names k) w) (sym up)).0 in (
       record {
         node = node;
         within = above-within f.trees (name_at f.names top) (name_at f.names p)
-            (within-parent f.trees (name_at f.names top) (name_at f.names k) (name_at f.names p) w other (sym up));
+            (within-parent f.trees (name_at f.names top) (name_at f.names k) (name_at f.names p) w i.other (sym up));
       },
       omega (arith, ap (length {A = NodeName}) longer),
     )
@@ -71,26 +86,19 @@ pub record Climbs (f : NamedTrees) (top k p : ℕ) : Type 0 where
   pub higher : length (inclusive_ancestors f.trees (name_at f.names p)) < length (inclusive_ancestors f.trees (name_at f.names k))
 
 -- the parent then has the same nodes beyond
-pub climb_step : (f : NamedTrees) → StandOnce f → StandAlone f → (top k p : ℕ) (next up : Option ℕ) → StandsIn f top k →
-    (name_at f.names k ≡ name_at f.names top → ⊥)
-    → option_map (name_at f.names) next ≡ next_sibling f.trees (name_at f.names k) → is_some next ≡ false
-    → option_map (name_at f.names) up ≡ parent_of f.trees (name_at f.names k) → up ≡ Some p → p < length f.names → Climbs f top k p
-climb_step f once only top k p next up s other next_is none_left up_is found node =
-    let w = IsWithin-key f once only top k s in
-    let parent : Some (name_at f.names p) ≡ parent_of f.trees (name_at f.names k) = sym (ap (option_map (name_at f.names)) found) ∙ up_is in
-    let step = parent_step f once only top k p s other parent node in
+pub climb_step : {f : NamedTrees} {top k : ℕ} (p : ℕ) → IsInner f top k → next_sibling f.trees (name_at f.names k) ≡ None →
+    Some (name_at f.names p) ≡ parent_of f.trees (name_at f.names k) → p < length f.names → Climbs f top k p
+climb_step {f} {top} {k} p i last up node =
+    let step = parent_step p i up node in
     record {
       stands = step.0;
-      beyond_is = no_next f.trees (name_at f.names top) (name_at f.names k) (name_at f.names p) w other (sym parent)
-          (sym next_is ∙ ap (option_map (name_at f.names)) (was_none next none_left));
+      beyond_is = no_next f.trees (name_at f.names top) (name_at f.names k) (name_at f.names p) (inner-within i) i.other (sym up) last;
       higher = step.1;
     }
 
 -- only the top has no node above it
-pub climb_ends : (f : NamedTrees) → StandOnce f → StandAlone f → (top k : ℕ) (up : Option ℕ) → StandsIn f top k → (name_at f.names k ≡ name_at f.names top → ⊥)
-    → option_map (name_at f.names) up ≡ parent_of f.trees (name_at f.names k) → up ≡ None → ⊥
-climb_ends f once only top k up s other up_is e =
-    within-root f.trees (name_at f.names top) (name_at f.names k) (IsWithin-key f once only top k s) other (sym up_is ∙ ap (option_map (name_at f.names)) e)
+pub climb_ends : {f : NamedTrees} {top k : ℕ} → IsInner f top k → None ≡ parent_of f.trees (name_at f.names k) → ⊥
+climb_ends {f} {top} {k} i up = within-root f.trees (name_at f.names top) (name_at f.names k) (inner-within i) i.other (sym up)
 
 -- two keys that differ have names that differ
 pub other_name : (f : NamedTrees) → TellApart f.names → (j k : ℕ) → j < length f.names → k < length f.names → not (eqb j k) ≡ true →

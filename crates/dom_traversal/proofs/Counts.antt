@@ -98,9 +98,9 @@ Has-forest f once k node = elim (has_or_not f.trees (name_at f.names k)) [
 ]
 
 -- a node with an inclusive ancestor stands in that one's tree
-pub IsWithin-forest : (f : NamedTrees) → StandOnce f → StandAlone f → (top x : NodeName) → Has f.trees x →
-    is_inclusive_ancestor f.trees top x ≡ true → IsWithin f.trees top x
-IsWithin-forest f once only top x h above =
+pub IsWithin-forest : (f : NamedTrees) → StandOnce f → StandAlone f → {top x : NodeName} → Has f.trees x → is_inclusive_ancestor f.trees top x ≡ true →
+    IsWithin f.trees top x
+IsWithin-forest f once only {top} {x} h above =
     let single = Once-forest f once only in
     let i = In-from top (inclusive_ancestors f.trees x) above in
     record { once = single; top_stands = Has-above f.trees top x single h i; stands = below-from_above f.trees top x single h i }

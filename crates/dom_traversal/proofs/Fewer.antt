@@ -54,30 +54,30 @@ first-in p y (x ∷ xs) e = elim (cases_Bool (p x)) [
 
 -- ---- in a forest
 
-behind_fewer : (f : NamedTrees) → StandOnce f → StandAlone f → (top k : ℕ) (y : NodeName) → StandsIn f top k →
+behind_fewer : {f : NamedTrees} → StandOnce f → StandAlone f → {top k : ℕ} (y : NodeName) → StandsIn f top k →
     In y (behind f.trees (name_at f.names top) (name_at f.names k)) →
     length (behind f.trees (name_at f.names top) y) < length (behind f.trees (name_at f.names top) (name_at f.names k))
-behind_fewer f once only top k y stands i =
+behind_fewer {f} once only {top} {k} y stands i =
     after-fewer (name_at f.names k) y (inclusive_descendants f.trees (name_at f.names top))
     (all_single f.trees (name_at f.names top) (name_at f.names k) (IsWithin-key f once only top k stands)) i
 
-pub walker_fewer : (f : NamedTrees) → StandOnce f → StandAlone f → (w : KeyedWalker) → IsWalkerOf f w → (k : ℕ) →
+pub walker_fewer : {f : NamedTrees} → StandOnce f → StandAlone f → {w : KeyedWalker} → IsWalkerOf f w → (k : ℕ) →
     Some (name_at f.names k) ≡ walker_move f.trees (walker_view f.names w) Next → walker_left f record w { current = k } < walker_left f w
-walker_fewer f once only w placed k e = by (cases_Bool above)
+walker_fewer {f} once only {w} placed k e = by (cases_Bool above)
   where
     above : Bool
     above = is_inclusive_ancestor f.trees (name_at f.names w.root) (name_at f.names w.current)
 
     by : (above ≡ true) ⊎ (above ≡ false) → walker_left f record w { current = k } < walker_left f w
     by (inl h) =
-        behind_fewer f once only w.root w.current (name_at f.names k) record { node = placed.current; within = h }
+        behind_fewer once only (name_at f.names k) record { node = placed.current; within = h }
         (first-in _ (name_at f.names k) (behind f.trees (name_at f.names w.root) (name_at f.names w.current)) (rw h at e))
     by (inr h) = absurd (none-some (name_at f.names k) (sym (rw h at e)))
 
-pub iterator_fewer : (f : NamedTrees) → StandOnce f → StandAlone f → (i : KeyedIterator) → IsIteratorOf f i → (k : ℕ) →
+pub iterator_fewer : {f : NamedTrees} → StandOnce f → StandAlone f → {i : KeyedIterator} → IsIteratorOf f i → (k : ℕ) →
     Some (name_at f.names k) ≡ iterator_next_node f.trees (iterator_view f.names i) →
     iterator_left f record i { reference = k; before = false } < iterator_left f i
-iterator_fewer f once only i placed k e = by (cases_Bool i.before)
+iterator_fewer {f} once only {i} placed k e = by (cases_Bool i.before)
   where
     y : NodeName
     y = name_at f.names k
@@ -89,7 +89,7 @@ iterator_fewer f once only i placed k e = by (cases_Bool i.before)
     found = first-in (accepts f.trees i.filter) y (nodes_ahead f.trees (iterator_view f.names i)) e
 
     further : In y back → length (behind f.trees (name_at f.names i.root) y) < length back
-    further h = behind_fewer f once only i.root i.reference y placed.reference h
+    further h = behind_fewer once only y placed.reference h
 
     here : In y (name_at f.names i.reference ∷ back) → length (behind f.trees (name_at f.names i.root) y) ≤ length back
     here (inl same) = let alike = ap (λ v. length (behind f.trees (name_at f.names i.root) v)) same in omega (arith, alike)

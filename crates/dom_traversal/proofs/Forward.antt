@@ -14,18 +14,18 @@ use Rattle.dom_traversal.proofs.Children.{parent-of_child, In-names}
 use Rattle.dom_traversal.proofs.Order.{IsWithin, stands_in, all_single, here, below, behind_is}
 use Rattle.dom_traversal.proofs.Steps.{first_child, no_child, following_place, ordered}
 use Rattle.dom_traversal.proofs.Searching.{behind-next, first-miss}
-use Rattle.dom_traversal.proofs.Opening.{reached, reached-shut, reached-hit, all-from, all-at, proper-parent, beyond-above, beyond_place}
+use Rattle.dom_traversal.proofs.Opening.{reached, reached-shut, all-from, all-at, proper-parent, beyond-above, beyond_place}
 
 -- what is next behind a node has no other nodes above it than that node and those above it
-pub following-above : (ts : Trees) (top x y : NodeName) → IsWithin ts top x → first_of (behind ts top x) ≡ Some y → (a : NodeName) →
-    In a (ancestors ts y) → In a (x ∷ ancestors ts x)
-following-above ts top x y w e = by (first_of (children_of ts x)) refl
+pub following-above : {ts : Trees} {top x y : NodeName} → IsWithin ts top x → first_of (behind ts top x) ≡ Some y → (a : NodeName) → In a (ancestors ts y) →
+    In a (x ∷ ancestors ts x)
+following-above {ts} {top} {x} {y} w e = by (first_of (children_of ts x)) refl
   where
     by : (o : Option NodeName) → first_of (children_of ts x) ≡ o → (a : NodeName) → In a (ancestors ts y) → In a (x ∷ ancestors ts x)
     by None none_below a i =
         let beyond_it : first_of (beyond ts top x) ≡ Some y =
         ap first_of (sym (behind_is ts top x w ∙ ap (λ xs. xs ++ beyond ts top x) (no_child ts x none_below))) ∙ e in
-        inr (beyond-above ts (length (inclusive_ancestors ts x)) top x y (omega arith) w beyond_it a i)
+        inr (beyond-above (length (inclusive_ancestors ts x)) (omega arith) w beyond_it a i)
     by (Some c) first a i =
         let child = first_child ts top x c w first in
         let is : behind ts top x ≡ inclusive_descendants ts c ++ beyond ts top c = behind_is ts top x w ∙ child.1 in
@@ -53,17 +53,6 @@ pub record Comes (ts : Trees) (accept clear : NodeName → Bool) (top c : NodeNa
   pub left : first_of (filter (reached ts accept clear) (from_node ts top o)) ≡ target
 
 module _ (ts : Trees) (accept clear : NodeName → Bool) (top c : NodeName) (target : Option NodeName) where
-  -- an accepted node is the one that is looked for
-  pub Comes-hit : (x : NodeName) → Comes ts accept clear top c target (Some x) → accept x ≡ true → Some x ≡ target
-  Comes-hit x h yes_x =
-      let w = h.within x refl in
-      let found = ap first_of (reached-hit ts accept clear top x w yes_x (h.path x refl) (beyond ts top x)) in
-      sym found ∙ (ap (λ xs. first_of (filter (reached ts accept clear) xs)) (sym (zone_is ts top x w)) ∙ h.left)
-
-  -- at the end there is none
-  pub Comes-end : Comes ts accept clear top c target None → None ≡ target
-  Comes-end h = h.left
-
   -- a node that is skipped is entered
   pub Comes-skip : (x : NodeName) (o : Option NodeName) → Comes ts accept clear top c target (Some x) → accept x ≡ false → clear x ≡ true →
       o ≡ first_of (behind ts top x) → Comes ts accept clear top c target o
@@ -72,7 +61,7 @@ module _ (ts : Trees) (accept clear : NodeName → Bool) (top c : NodeName) (tar
       let zone : behind ts top x ≡ from_node ts top o = behind-next ts top x w o (sym next) in
       record {
         within = λ y e. (following_place ts top x y w (sym next ∙ e)).0;
-        path = λ y e. all-from clear (ancestors ts y) (λ a i. elim (following-above ts top x y w (sym next ∙ e) a i) [
+        path = λ y e. all-from clear (ancestors ts y) (λ a i. elim (following-above w (sym next ∙ e) a i) [
           | inl same ↦ ap clear same ∙ is_clear
           | inr j ↦ all-at clear (ancestors ts x) (h.path x refl) a j
         ]);
@@ -97,7 +86,7 @@ module _ (ts : Trees) (accept clear : NodeName → Bool) (top c : NodeName) (tar
         within = λ y e. (beyond_place ts top x y w (sym next ∙ e)).0;
         path = λ y e. all-from clear (ancestors ts y)
             (λ a i. all-at clear (ancestors ts x) (h.path x refl) a
-            (beyond-above ts (length (inclusive_ancestors ts x)) top x y (omega arith) w (sym next ∙ e) a i));
+            (beyond-above (length (inclusive_ancestors ts x)) (omega arith) w (sym next ∙ e) a i));
         apart = λ i. h.apart (subst (In c) (sym (zone_is ts top x w)) (In-right c (inclusive_descendants ts x) (beyond ts top x) (subst (In c) (sym zone) i)));
         left =
             ap (λ xs. first_of (filter (reached ts accept clear) xs)) (sym zone)

@@ -24,9 +24,9 @@ use Rattle.dom_traversal.proofs.Stops.{IsBelow, within-below, below-stop}
 use Rattle.dom_traversal.proofs.Candidates.{proper-split, opened-between, below-member}
 
 -- the places around a node in the tree of top, by those in the tree of a node between
-pub nested : (ts : Trees) (top a x : NodeName) → IsWithin ts top a → IsWithin ts a x → IsWithin ts top x
-    → (ahead_of ts top x ≡ ahead_of ts top a ++ ahead_of ts a x) × (beyond ts top x ≡ beyond ts a x ++ beyond ts top a)
-nested ts top a x at_a in_a at_x =
+pub nested : {ts : Trees} {top a x : NodeName} → IsWithin ts top a → IsWithin ts a x → IsWithin ts top x →
+    (ahead_of ts top x ≡ ahead_of ts top a ++ ahead_of ts a x) × (beyond ts top x ≡ beyond ts a x ++ beyond ts top a)
+nested {ts} {top} {a} {x} at_a in_a at_x =
     let tree = inclusive_descendants ts x in
     let whole : inclusive_descendants ts top ≡ (ahead_of ts top a ++ ahead_of ts a x) ++ (tree ++ (beyond ts a x ++ beyond ts top a)) =
     splits ts top a at_a
@@ -66,10 +66,9 @@ sibling-inside ts w y e =
     (ap not (or_right (is_inclusive_ancestor ts y w.current) _ e)))
 
 -- any other one is a sibling if it is reached
-sibling-reached : (ts : Trees) (w : Walker) (y : NodeName) → IsBelow ts (sibling_top ts w) y → IsBelow ts (sibling_top ts w) w.current →
-    is_inclusive_ancestor ts y w.current ≡ false → is_inclusive_ancestor ts w.current y ≡ false
-    → is_sibling ts w y ≡ is_reached ts w y
-sibling-reached ts w y b c up down =
+sibling-reached : {ts : Trees} {y : NodeName} (w : Walker) → IsBelow ts (sibling_top ts w) y → IsBelow ts (sibling_top ts w) w.current →
+    is_inclusive_ancestor ts y w.current ≡ false → is_inclusive_ancestor ts w.current y ≡ false → is_sibling ts w y ≡ is_reached ts w y
+sibling-reached {ts} {y} w b c up down =
     let top = sibling_top ts w in
     let all = opened-between ts w top y b
     (λ d i. above-along ts d top w.current c.once c.stands i (subst (In top) (sym (above-proper ts w.current c.stands)) (inr c.above))) in
@@ -130,7 +129,7 @@ module _ (ts : Trees) (w : Walker) (b : IsBelow ts w.root w.current) where
   pub root-stop : IsWithin ts w.root (sibling_top ts w) →
       (ahead_of ts w.root w.current ≡ ahead_of ts w.root (sibling_top ts w) ++ ahead_of ts (sibling_top ts w) w.current)
       × (beyond ts w.root w.current ≡ beyond ts (sibling_top ts w) w.current ++ beyond ts w.root (sibling_top ts w))
-  root-stop at = nested ts w.root (sibling_top ts w) w.current at in_top in_root
+  root-stop at = nested at in_top in_root
 
   -- among the nodes behind the current one
   pub siblings-behind : IsWithin ts w.root (sibling_top ts w) →
@@ -163,7 +162,7 @@ module _ (ts : Trees) (w : Walker) (b : IsBelow ts w.root w.current) where
       let other : y ≡ stop → ⊥ = λ same. both_ways _ (behind-outside ts stop w.current y in_top later)
       (ap (λ z. is_inclusive_ancestor ts z w.current) same ∙ is_in-from stop (inclusive_ancestors ts w.current)
       (subst (In stop) (sym (above-proper ts w.current b.stands)) (inr top_below.above))) in
-      sibling-reached ts w y (below-other ts stop y itself among other) top_below (behind-outside ts stop w.current y in_top later)
+      sibling-reached w (below-other ts stop y itself among other) top_below (behind-outside ts stop w.current y in_top later)
       (outside-test ts w.current y b.once
       (λ j. Single-apart y tree (beyond ts stop w.current)
       (Single-right (ahead_of ts stop w.current) (tree ++ beyond ts stop w.current) single) j i))))))))
@@ -242,7 +241,7 @@ module _ (ts : Trees) (w : Walker) (b : IsBelow ts w.root w.current) where
       other same = not_before w.current (inclusive_descendants ts (sibling_top ts w)) (subst (λ z. In z (ahead_of ts (sibling_top ts w) w.current)) same i)
 
       down : is_inclusive_ancestor ts w.current y ≡ false
-      down = outside-test ts w.current y b.once (ahead-apart ts (sibling_top ts w) w.current y in_stop i)
+      down = outside-test ts w.current y b.once (ahead-apart y in_stop i)
 
       apart : IsBelow ts (sibling_top ts w) y → (y ≡ sibling_top ts w → ⊥) → (is_inclusive_ancestor ts y w.current ≡ true) ⊎
           (is_inclusive_ancestor ts y w.current ≡ false) → is_sibling ts w y ≡ is_candidate ts w (sibling_top ts w) y
@@ -250,7 +249,7 @@ module _ (ts : Trees) (w : Walker) (b : IsBelow ts w.root w.current) where
           let no_y = above-unaccepted y below_y other (In-from y (inclusive_ancestors ts w.current) up) in
           and_left (accepts ts w.filter y) _ no_y ∙ sym (and_left (is_reached ts w y) _ (and_left (accepts ts w.filter y) _ no_y))
       apart below_y not_stop (inr up) =
-          sibling-reached ts w y below_y stop_below up down ∙
+          sibling-reached w below_y stop_below up down ∙
           sym (ap (λ t. is_reached ts w y && not t) (name_eq-other y (sibling_top ts w) not_stop) ∙ and_true (is_reached ts w y))
         where
           and_true : (t : Bool) → (t && true) ≡ t
@@ -275,5 +274,5 @@ module _ (ts : Trees) (w : Walker) (b : IsBelow ts w.root w.current) where
       ∙ (filter-append (is_sibling ts w) (ahead_of ts w.root stop) (ahead_of ts stop w.current)
       ∙ (ap (λ xs. xs ++ filter (is_sibling ts w) (ahead_of ts stop w.current))
       (filter-none (is_sibling ts w) (ahead_of ts w.root stop)
-      (λ y i. sibling-off ts w y (off-below ts stop y of_stop (ahead-apart ts w.root stop y at i))))
+      (λ y i. sibling-off ts w y (off-below ts stop y of_stop (ahead-apart y at i))))
       ∙ filter-same (is_sibling ts w) (is_candidate ts w stop) (ahead_of ts stop w.current) sibling-candidate))

@@ -10,7 +10,7 @@ use Rattle.dom_base.specs.declared.NodeName.{NodeName}
 use Rattle.dom_model.specs.Names.{name_eq, first_of, items_before, items_after}
 use Rattle.dom_model.specs.Tree.{Trees, subtree, inclusive_ancestors, ancestors, parent_of, children_of, next_sibling, inclusive_descendants}
 use Rattle.dom_traversal.specs.Within.{ahead_of, behind, beyond}
-use Rattle.dom_traversal.proofs.Lists.{In, In-right, Single, Single-apart, no_first, first_split, same_or_not, after-split, filter-none, filter-yes, filter-no}
+use Rattle.dom_traversal.proofs.Lists.{In, In-right, Single, Single-apart, no_first, first_split, same_or_not, after-split, filter-none, filter-no}
 use Rattle.dom_traversal.proofs.Shapes.{Has, Once, Has-subtree, above-present, above-parent, above-from_below, below-from_above}
 use Rattle.dom_traversal.proofs.Children.{parent-of_child, Has-names}
 use Rattle.dom_traversal.proofs.Order.{IsWithin, stands_in, here, below, all_single, splits, behind_is}
@@ -107,18 +107,6 @@ module _ (ts : Trees) (accept clear : NodeName → Bool) (top x : NodeName) (w :
       ∙ (filter-append (reached ts accept clear) (below ts x) zs ∙ ap (λ xs. xs ++ filter (reached ts accept clear) zs)
       (filter-none (reached ts accept clear) (below ts x) (hidden shut))))
 
-  -- a node that is not accepted is passed
-  pub reached-miss : accept x ≡ false → (zs : List NodeName) →
-      filter (reached ts accept clear) (inclusive_descendants ts x ++ zs) ≡ filter (reached ts accept clear) (below ts x ++ zs)
-  reached-miss no_x zs = ap (λ xs. filter (reached ts accept clear) (xs ++ zs)) (here ts top x w) ∙
-      filter-no (reached ts accept clear) x (below ts x ++ zs) (and_left (accept x) _ no_x)
-
-  -- an accepted node is reached, if all above it is open
-  pub reached-hit : accept x ≡ true → list_all clear (ancestors ts x) ≡ true → (zs : List NodeName) →
-      filter (reached ts accept clear) (inclusive_descendants ts x ++ zs) ≡ x ∷ filter (reached ts accept clear) (below ts x ++ zs)
-  reached-hit yes_x path zs = ap (λ xs. filter (reached ts accept clear) (xs ++ zs)) (here ts top x w) ∙
-      filter-yes (reached ts accept clear) x (below ts x ++ zs) (and_from (accept x) _ yes_x path)
-
   -- above a child of an open node all is open, if it is so above the node
   pub path-child : (c : NodeName) → In c (children_of ts x) → clear x ≡ true → list_all clear (ancestors ts x) ≡ true → list_all clear (ancestors ts c) ≡ true
   path-child c i is_open path =
@@ -126,26 +114,26 @@ module _ (ts : Trees) (accept clear : NodeName → Bool) (top x : NodeName) (w :
       ap (list_all clear) (proper-parent ts c x w.once up.1 up.0).0 ∙ and_from (clear x) _ is_open path
 
 -- what is first beyond a node has no other nodes above it than that node
-pub beyond-above : (ts : Trees) (d : ℕ) (top x y : NodeName) → length (inclusive_ancestors ts x) ≤ d → IsWithin ts top x → first_of (beyond ts top x) ≡ Some y
-    → (a : NodeName) → In a (ancestors ts y) → In a (ancestors ts x)
-beyond-above ts zero top x y few w e = absurd (omega (arith, ap (length {A = NodeName}) (above-proper ts x (stands_in ts top x w)), few))
-beyond-above ts (suc d) top x y few w e = elim (same_or_not x top) [
+pub beyond-above : {ts : Trees} (d : ℕ) {top x y : NodeName} → length (inclusive_ancestors ts x) ≤ d → IsWithin ts top x → first_of (beyond ts top x) ≡ Some y →
+    (a : NodeName) → In a (ancestors ts y) → In a (ancestors ts x)
+beyond-above {ts} zero {top} {x} few w e = absurd (omega (arith, ap (length {A = NodeName}) (above-proper ts x (stands_in ts top x w)), few))
+beyond-above {ts} (suc d) {top} {x} {y} few w e = elim (same_or_not x top) [
   | inl same ↦ absurd (none-some y (sym (ap first_of (ap (beyond ts top) same ∙ (top_places ts top (within-top ts top x w)).1)) ∙ e))
-  | inr other ↦ by other (next_sibling ts x) refl (parent_of ts x) refl (λ p above less. beyond-above ts d top p y less above)
+  | inr other ↦ by other refl refl (λ p above less. beyond-above d less above)
 ]
   where
-    by : (x ≡ top → ⊥) → (s : Option NodeName) → next_sibling ts x ≡ s → (o : Option NodeName) → parent_of ts x ≡ o
+    by : (x ≡ top → ⊥) → {s : Option NodeName} → next_sibling ts x ≡ s → {o : Option NodeName} → parent_of ts x ≡ o
         → ((p : NodeName) → IsWithin ts top p → length (inclusive_ancestors ts p) ≤ d → first_of (beyond ts top p) ≡ Some y → (a : NodeName) →
         In a (ancestors ts y) → In a (ancestors ts p))
         → (a : NodeName) → In a (ancestors ts y) → In a (ancestors ts x)
-    by other s next None up more a i = absurd (within-root ts top x w other up)
-    by other (Some s) next (Some p) up more a i =
+    by other next {o = None} up more a i = absurd (within-root ts top x w other up)
+    by other {s = Some s} next {o = Some p} up more a i =
         let is = next_places ts top x s w other next in
         let same : s ≡ y = same_Some s y (sym (ap first_of (is.1 ∙ ap (λ xs. xs ++ beyond ts top s) (here ts top s is.0))) ∙ e) in
         let mine = (proper-parent ts x p w.once (stands_in ts top x w) up).0 in
         let its = (proper-parent ts s p w.once (stands_in ts top s is.0) (is.2 ∙ up)).0 in
         subst (In a) (sym mine) (subst (In a) its (subst (λ z. In a (ancestors ts z)) (sym same) i))
-    by other None next (Some p) up more a i =
+    by other {s = None} next {o = Some p} up more a i =
         let above = within-parent ts top x p w other up in
         let mine = proper-parent ts x p w.once (stands_in ts top x w) up in
         let less : length (inclusive_ancestors ts p) ≤ d =

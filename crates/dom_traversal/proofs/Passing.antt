@@ -57,7 +57,7 @@ Comes-begin ts w at o next =
       within = λ y e. (following_place ts w.root w.current y at (sym next ∙ e)).0;
       path = λ y e. all-from (is_passable ts w) (ancestors ts y)
           (λ a i. passable-above ts w a (subst (In a) (sym (above-proper ts w.current (stands_in ts w.root w.current at)))
-          (following-above ts w.root w.current y at (sym next ∙ e) a i)));
+          (following-above at (sym next ∙ e) a i)));
       apart = λ i. not_behind ts w.root w.current at (subst (In w.current) (sym zone) i);
       left = ap first_of (ap (filter (passing ts w)) (sym zone) ∙ sym (walker_nodes-passing ts w (behind ts w.root w.current)));
     }
@@ -67,15 +67,15 @@ abbrev pub ComesNext : Trees → Walker → Option NodeName → Type 0
 ComesNext ts w o = Comes ts (accepts ts w.filter) (is_passable ts w) w.root w.current (first_of (walker_nodes ts w (behind ts w.root w.current))) o
 
 -- a skipped node is entered
-pub ComesNext-skip : (ts : Trees) (w : Walker) (x : NodeName) (o : Option NodeName) → ComesNext ts w (Some x) →
-    Some Skip ≡ answer_at ts w.filter x → o ≡ first_of (behind ts w.root x) → ComesNext ts w o
-ComesNext-skip ts w x o h answer next =
+pub ComesNext-skip : {ts : Trees} {x : NodeName} {o : Option NodeName} (w : Walker) → ComesNext ts w (Some x) → Some Skip ≡ answer_at ts w.filter x →
+    o ≡ first_of (behind ts w.root x) → ComesNext ts w o
+ComesNext-skip {ts} {x} {o} w h answer next =
     Comes-skip ts (accepts ts w.filter) (is_passable ts w) w.root w.current _ x o h (accepts-some ts w x Skip answer) (passable-skip ts w x answer) next
 
 -- a rejected one is passed with its tree
-pub ComesNext-reject : (ts : Trees) (w : Walker) (x : NodeName) (o : Option NodeName) → IsWithin ts w.root w.current → ComesNext ts w (Some x) →
+pub ComesNext-reject : {ts : Trees} {x : NodeName} {o : Option NodeName} (w : Walker) → IsWithin ts w.root w.current → ComesNext ts w (Some x) →
     Some Reject ≡ answer_at ts w.filter x → o ≡ first_of (beyond ts w.root x) → ComesNext ts w o
-ComesNext-reject ts w x o at h answer next =
+ComesNext-reject {ts} {x} {o} w at h answer next =
     let off = false_from_ne_true _ (Comes-apart ts (accepts ts w.filter) (is_passable ts w) w.root w.current _ x h at) in
     Comes-reject ts (accepts ts w.filter) (is_passable ts w) w.root w.current _ x o h (accepts-some ts w x Reject answer)
     (passable-reject ts w x answer off) next

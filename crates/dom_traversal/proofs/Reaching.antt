@@ -16,7 +16,7 @@ use Rattle.dom_traversal.specs.Within.{behind, beyond, from_node, StandsBelow}
 use Rattle.dom_traversal.proofs.Lists.{In, is_in-from, In-not}
 use Rattle.dom_traversal.proofs.Order.{IsWithin}
 use Rattle.dom_traversal.proofs.Counts.{StandOnce, StandAlone, Has-forest, IsWithin-forest}
-use Rattle.dom_traversal.proofs.Forward.{Comes, Comes-hit, shorter-skip, shorter-reject, Comes-skip, Comes-reject, Comes-apart}
+use Rattle.dom_traversal.proofs.Forward.{Comes, shorter-skip, shorter-reject, Comes-skip, Comes-reject, Comes-apart}
 use Rattle.dom_traversal.proofs.Passing.{accepts-some}
 use Rattle.dom_traversal.proofs.Stops.{within-below, below-stop}
 use Rattle.dom_traversal.proofs.Aside.{IsBelow-key, SameStop}
@@ -52,15 +52,15 @@ pub record Reaches (f : NamedTrees) (w : KeyedWalker) (top : ℕ) (from at : Opt
   pub comes : ComesAside f w top from (option_map (name_at f.names) at)
 
 -- where it begins
-pub Reaches-begin : (f : NamedTrees) → StandOnce f → StandAlone f → (w : KeyedWalker) (top : ℕ) → w.current < length f.names → (from : Option ℕ) →
+pub Reaches-begin : {f : NamedTrees} → StandOnce f → StandAlone f → {w : KeyedWalker} {top : ℕ} → w.current < length f.names → {from : Option ℕ} →
     ForSome from (BeginsForward f w top) → Reaches f w top from from
-Reaches-begin f once only w top at_current None begins = record {
+Reaches-begin once only at_current {from = None} begins = record {
   below = λ k e. absurd cc;
   stop = λ k e. absurd cc;
   around = λ k e. absurd cc;
   comes = record { within = λ x e. absurd cc; path = λ x e. absurd cc; apart = λ i. i; left = refl };
 }
-Reaches-begin f once only w top at_current (Some j) begins =
+Reaches-begin {f} once only {w} {top} at_current {from = Some j} begins =
     let b = begins j refl in
     let stop = stop_above f.trees w.filter (name_at f.names top) (name_at f.names j) in
     let inside = within-below f.trees stop (name_at f.names j)
@@ -68,7 +68,7 @@ Reaches-begin f once only w top at_current (Some j) begins =
     record {
       below = λ k e. subst (StandsBelow f top) (same_Some j k e) b.below;
       stop = λ k e. ap (λ i. stop_above f.trees w.filter (name_at f.names top) (name_at f.names i)) (sym (same_Some j k e));
-      around = λ k e. IsWithin-forest f once only stop (name_at f.names w.current) (Has-forest f once w.current at_current) b.around;
+      around = λ k e. IsWithin-forest f once only (Has-forest f once w.current at_current) b.around;
       comes = record {
         within = λ x e. subst (IsWithin f.trees stop) (same_Some _ x e) inside;
         path = λ x e. subst (λ y. list_all (is_opened f.trees (walker_view f.names w)) (ancestors f.trees y) ≡ true) (same_Some _ x e) b.path;
@@ -81,13 +81,6 @@ module _ (f : NamedTrees) (w : KeyedWalker) (top : ℕ) (from at : Option ℕ) (
   -- where it is, by a key
   pub here_at : ComesAside f w top from (Some (name_at f.names k))
   here_at = subst (ComesAside f w top from) (ap (option_map (name_at f.names)) is) r.comes
-
-  -- an accepted node is the one that is looked for
-  pub Reaches-hit : accepts f.trees w.filter (name_at f.names k) ≡ true
-      → Some (name_at f.names k) ≡ first_of
-      (filter (is_reached f.trees (walker_view f.names w)) (from_node f.trees (stop_from f w top from) (option_map (name_at f.names) from)))
-  Reaches-hit yes_k = Comes-hit f.trees (accepts f.trees w.filter) (is_opened f.trees (walker_view f.names w)) (stop_from f w top from)
-      (name_at f.names w.current) _ (name_at f.names k) here_at yes_k
 
   -- a skipped node is entered
   pub Reaches-skip : (next : Option ℕ) → ForSome next (StandsBelow f top) →

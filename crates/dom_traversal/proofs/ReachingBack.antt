@@ -215,10 +215,10 @@ pub record ReachesBack (f : NamedTrees) (w : KeyedWalker) (top : ℕ) (from at :
       (up_to_tree f.trees (stop_from f w top from) (option_map (name_at f.names) from)))
 
 -- where it begins
-pub ReachesBack-begin : (f : NamedTrees) → StandOnce f → StandAlone f → (w : KeyedWalker) (top : ℕ) (from : Option ℕ) →
-    ForSome from (BeginsBackward f w top) → ReachesBack f w top from from
-ReachesBack-begin f once only w top None begins = record { node = λ k e. absurd (none-some k e); nears = λ k e. absurd (none-some k e); left = refl }
-ReachesBack-begin f once only w top (Some j) begins =
+pub ReachesBack-begin : {f : NamedTrees} → StandOnce f → StandAlone f → {w : KeyedWalker} {top : ℕ} {from : Option ℕ} → ForSome from (BeginsBackward f w top) →
+    ReachesBack f w top from from
+ReachesBack-begin once only {from = None} begins = record { node = λ k e. absurd (none-some k e); nears = λ k e. absurd (none-some k e); left = refl }
+ReachesBack-begin {f} once only {w} {top} {from = Some j} begins =
     let b = begins j refl in
     record {
       node = λ k e. (begins k e).below.node;

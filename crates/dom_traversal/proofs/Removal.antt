@@ -182,9 +182,9 @@ above-put_own x m d (tree n c r) y h off = elim (cases_Bool (name_before x n.nam
         ∙ ap (λ path. on_top path n.name (inclusive_ancestors (put_root x (tree m d none) r) y)) empty
 
 -- a node stays in another one's tree, unless it goes with the tree that is taken out and the other does not
-pub stays : (ts : Trees) (x top y : NodeName) → Has ts x → IsWithin ts top y →
+pub stays : {ts : Trees} {top y : NodeName} (x : NodeName) → Has ts x → IsWithin ts top y →
     (is_inclusive_ancestor ts x top ≡ false → is_inclusive_ancestor ts x y ≡ false) → is_inclusive_ancestor (taken_out x ts) top y ≡ true
-stays ts x top y at_x w left = by (subtree-present ts x at_x) (has_or_not (subtree ts x) y)
+stays {ts} {top} {y} x at_x w left = by (subtree-present ts x at_x) (has_or_not (subtree ts x) y)
   where
     above : In top (inclusive_ancestors ts y)
     above = above-from_below ts top y w.once w.top_stands w.stands

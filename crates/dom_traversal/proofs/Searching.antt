@@ -18,7 +18,7 @@ use Rattle.dom_traversal.proofs.Counts.{StandOnce, StandAlone, Once-forest, Has-
 
 -- a node that stands in a tree by a forest's word
 pub IsWithin-key : (f : NamedTrees) → StandOnce f → StandAlone f → (top k : ℕ) → StandsIn f top k → IsWithin f.trees (name_at f.names top) (name_at f.names k)
-IsWithin-key f once only top k s = IsWithin-forest f once only (name_at f.names top) (name_at f.names k) (Has-forest f once k s.node) s.within
+IsWithin-key f once only top k s = IsWithin-forest f once only (Has-forest f once k s.node) s.within
 
 -- each node stands in its own tree
 pub IsWithin-itself : (f : NamedTrees) → StandOnce f → StandAlone f → (k : ℕ) → k < length f.names → IsWithin f.trees (name_at f.names k) (name_at f.names k)
@@ -33,10 +33,9 @@ IsWithin-itself f once only k node =
     }
 
 -- and the other way round, for the node of a key that was found
-pub StandsIn-found : (f : NamedTrees) (top : ℕ) (found : Option ℕ) (name : Option NodeName) → option_map (name_at f.names) found ≡ name →
-    ForSome found (λ k. k < length f.names)
-    → ((y : NodeName) → name ≡ Some y → IsWithin f.trees (name_at f.names top) y) → ForSome found (StandsIn f top)
-StandsIn-found f top found name is node inside =
+pub StandsIn-found : {name : Option NodeName} (f : NamedTrees) (top : ℕ) (found : Option ℕ) → option_map (name_at f.names) found ≡ name →
+    ForSome found (λ k. k < length f.names) → ((y : NodeName) → name ≡ Some y → IsWithin f.trees (name_at f.names top) y) → ForSome found (StandsIn f top)
+StandsIn-found f top found is node inside =
     λ k e. record {
       node = node k e;
       within = above-within f.trees (name_at f.names top) (name_at f.names k)
@@ -81,18 +80,18 @@ pub following_step : (f : NamedTrees) → StandOnce f → StandAlone f → (top 
 following_step f once only top k next s is node =
     let w = IsWithin-key f once only top k s in (
       behind-next f.trees (name_at f.names top) (name_at f.names k) w (option_map (name_at f.names) next) (sym is),
-      StandsIn-found f top next _ is node (λ y e. (following_place f.trees (name_at f.names top) (name_at f.names k) y w e).0),
+      StandsIn-found f top next is node (λ y e. (following_place f.trees (name_at f.names top) (name_at f.names k) y w e).0),
     )
 
 -- to the node before, in a search backward
-pub preceding_step : (f : NamedTrees) → StandOnce f → StandAlone f → (top k : ℕ) (prev : Option ℕ) → StandsIn f top k
+pub preceding_step : {f : NamedTrees} → StandOnce f → StandAlone f → {top k : ℕ} (prev : Option ℕ) → StandsIn f top k
     → option_map (name_at f.names) prev ≡ last_of (ahead_of f.trees (name_at f.names top) (name_at f.names k)) → ForSome prev (λ j. j < length f.names)
     → (ahead_of f.trees (name_at f.names top) (name_at f.names k) ≡ up_to_node f.trees (name_at f.names top) (option_map (name_at f.names) prev))
     × ForSome prev (StandsIn f top)
-preceding_step f once only top k prev s is node =
+preceding_step {f} once only {top} {k} prev s is node =
     let w = IsWithin-key f once only top k s in (
       ahead-previous f.trees (name_at f.names top) (name_at f.names k) w (option_map (name_at f.names) prev) (sym is),
-      StandsIn-found f top prev _ is node (λ y e. (preceding_place f.trees (name_at f.names top) (name_at f.names k) y w e).0),
+      StandsIn-found f top prev is node (λ y e. (preceding_place f.trees (name_at f.names top) (name_at f.names k) y w e).0),
     )
 
 -- what is left to search is less
@@ -107,11 +106,11 @@ length-behind f top k at next is e =
     omega (arith, longer, ap (length {A = NodeName}) e)
 
 -- a search backward has one node less before it at each step
-pub length-ahead : (f : NamedTrees) (top k : ℕ) (at prev : Option ℕ) → at ≡ Some k
+pub length-ahead : {k : ℕ} {at : Option ℕ} (f : NamedTrees) (top : ℕ) (prev : Option ℕ) → at ≡ Some k
     → ahead_of f.trees (name_at f.names top) (name_at f.names k) ≡ up_to_node f.trees (name_at f.names top) (option_map (name_at f.names) prev)
     → length (up_to_node f.trees (name_at f.names top) (option_map (name_at f.names) prev)) < length
     (up_to_node f.trees (name_at f.names top) (option_map (name_at f.names) at))
-length-ahead f top k at prev is e =
+length-ahead {k} {at} f top prev is e =
     let front = ahead_of f.trees (name_at f.names top) (name_at f.names k) in
     let longer : length (up_to_node f.trees (name_at f.names top) (option_map (name_at f.names) at)) ≡ length (front ++ name_at f.names k ∷ []) =
     ap (λ o. length (up_to_node f.trees (name_at f.names top) (option_map (name_at f.names) o))) is in
@@ -127,10 +126,10 @@ left-behind f p top k at next is passed e =
     first-miss p (name_at f.names k) _ _ passed e)
 
 -- a search backward that passes a node still finds what it would have found
-pub left-ahead : (f : NamedTrees) (p : NodeName → Bool) (top k : ℕ) (at prev : Option ℕ) → at ≡ Some k → p (name_at f.names k) ≡ false
+pub left-ahead : {k : ℕ} {at : Option ℕ} (f : NamedTrees) (p : NodeName → Bool) (top : ℕ) (prev : Option ℕ) → at ≡ Some k → p (name_at f.names k) ≡ false
     → ahead_of f.trees (name_at f.names top) (name_at f.names k) ≡ up_to_node f.trees (name_at f.names top) (option_map (name_at f.names) prev)
     → last_of (filter p (up_to_node f.trees (name_at f.names top) (option_map (name_at f.names) prev))) ≡ last_of
     (filter p (up_to_node f.trees (name_at f.names top) (option_map (name_at f.names) at)))
-left-ahead f p top k at prev is passed e =
+left-ahead {k} f p top prev is passed e =
     sym (ap (λ o. last_of (filter p (up_to_node f.trees (name_at f.names top) (option_map (name_at f.names) o)))) is
     ∙ ap last_of (last-miss p (ahead_of f.trees (name_at f.names top) (name_at f.names k)) (name_at f.names k) passed ∙ ap (filter p) e))

@@ -177,9 +177,9 @@ no_next ts top x p w other up e =
     mine.2 ∙ ap (λ xs. joined ts xs ++ beyond ts top p) (no_first (items_after name_eq x (siblings ts x)) e)
 
 -- before a node comes last the tree of its previous sibling
-pub previous_places : (ts : Trees) (top x s : NodeName) → IsWithin ts top x → (x ≡ top → ⊥) → previous_sibling ts x ≡ Some s
-    → IsWithin ts top s × (ahead_of ts top x ≡ ahead_of ts top s ++ inclusive_descendants ts s) × (parent_of ts s ≡ parent_of ts x)
-previous_places ts top x s w other e = by (parent_of ts x) refl
+pub previous_places : {ts : Trees} {top x s : NodeName} → IsWithin ts top x → (x ≡ top → ⊥) → previous_sibling ts x ≡ Some s →
+    IsWithin ts top s × (ahead_of ts top x ≡ ahead_of ts top s ++ inclusive_descendants ts s) × (parent_of ts s ≡ parent_of ts x)
+previous_places {ts} {top} {x} {s} w other e = by (parent_of ts x) refl
   where
     by : (o : Option NodeName) → parent_of ts x ≡ o → IsWithin ts top s × (ahead_of ts top x ≡ ahead_of ts top s ++ inclusive_descendants ts s) ×
         (parent_of ts s ≡ parent_of ts x)
@@ -207,9 +207,9 @@ previous_places ts top x s w other e = by (parent_of ts x) refl
         )
 
 -- without one its parent
-pub no_previous : (ts : Trees) (top x p : NodeName) → IsWithin ts top x → (x ≡ top → ⊥) → parent_of ts x ≡ Some p → previous_sibling ts x ≡ None →
+pub no_previous : {ts : Trees} {top x p : NodeName} → IsWithin ts top x → (x ≡ top → ⊥) → parent_of ts x ≡ Some p → previous_sibling ts x ≡ None →
     ahead_of ts top x ≡ ahead_of ts top p ++ p ∷ []
-no_previous ts top x p w other up e =
+no_previous {ts} {top} {x} {p} w other up e =
     let above = within-parent ts top x p w other up in
     let mine = child_places ts top p x (items_before name_eq x (siblings ts x)) (items_after name_eq x (siblings ts x)) above
     (siblings-split ts top x p w up) in

@@ -33,15 +33,6 @@ within-below ts top x b =
 pub other-below : (ts : Trees) (top x : NodeName) → IsBelow ts top x → x ≡ top → ⊥
 other-below ts top x b same = not_above_itself ts x b.once b.stands (subst (λ (y : NodeName). In y (ancestors ts x)) (sym same) b.above)
 
--- and the other way round
-pub below-within : (ts : Trees) (top x : NodeName) → IsWithin ts top x → In top (inclusive_ancestors ts x) → (x ≡ top → ⊥) → IsBelow ts top x
-below-within ts top x w i other =
-    record {
-      once = w.once;
-      stands = stands_in ts top x w;
-      above = elim (subst (In top) (above-proper ts x (stands_in ts top x w)) i) [ inl same ↦ absurd (other (sym same)) | inr j ↦ j ];
-    }
-
 -- it has a parent
 pub root-below : (ts : Trees) (top x : NodeName) → IsBelow ts top x → parent_of ts x ≡ None → ⊥
 root-below ts top x b e = subst (In top) (no_first (ancestors ts x) e) b.above
@@ -90,25 +81,25 @@ below-stop ts f top x b = record {
 }
 
 -- siblings have the same nodes above them
-pub sibling-path : (ts : Trees) (x s p : NodeName) → Once ts → Has ts x → Has ts s → parent_of ts x ≡ Some p → parent_of ts s ≡ parent_of ts x →
+pub sibling-path : {p : NodeName} (ts : Trees) (x s : NodeName) → Once ts → Has ts x → Has ts s → parent_of ts x ≡ Some p → parent_of ts s ≡ parent_of ts x →
     ancestors ts s ≡ ancestors ts x
-sibling-path ts x s p once at_x at_s up same = (proper-parent ts s p once at_s (same ∙ up)).0 ∙ sym (proper-parent ts x p once at_x up).0
+sibling-path {p} ts x s once at_x at_s up same = (proper-parent ts s p once at_s (same ∙ up)).0 ∙ sym (proper-parent ts x p once at_x up).0
 
 -- a sibling stands below top too
-pub below-sibling : (ts : Trees) (top x s : NodeName) → IsBelow ts top x → Has ts s → parent_of ts s ≡ parent_of ts x → IsBelow ts top s ×
-    (ancestors ts s ≡ ancestors ts x)
-below-sibling ts top x s b at_s same = by (parent_of ts x) refl
+pub below-sibling : {ts : Trees} {top x : NodeName} (s : NodeName) → IsBelow ts top x → Has ts s → parent_of ts s ≡ parent_of ts x →
+    IsBelow ts top s × (ancestors ts s ≡ ancestors ts x)
+below-sibling {ts} {top} {x} s b at_s same = by (parent_of ts x) refl
   where
     by : (o : Option NodeName) → parent_of ts x ≡ o → IsBelow ts top s × (ancestors ts s ≡ ancestors ts x)
     by None e = absurd (root-below ts top x b e)
     by (Some p) e =
-        let path = sibling-path ts x s p b.once b.stands at_s e same in
+        let path = sibling-path ts x s b.once b.stands at_s e same in
         (record { once = b.once; stands = at_s; above = subst (In top) (sym path) b.above }, path)
 
 -- a child of a node that is no stop has the same stop
-pub below-child : (ts : Trees) (f : Filter) (top x c : NodeName) → IsBelow ts top x → accepts ts f x ≡ false → In c (children_of ts x) →
+pub below-child : {ts : Trees} {top x : NodeName} (f : Filter) (c : NodeName) → IsBelow ts top x → accepts ts f x ≡ false → In c (children_of ts x) →
     IsBelow ts top c × (stop_above ts f top c ≡ stop_above ts f top x)
-below-child ts f top x c b no_x i =
+below-child {ts} {top} {x} f c b no_x i =
     let up = parent-of_child ts x c b.once b.stands i in
     let path = (proper-parent ts c x b.once up.1 up.0).0 in
     let inside : IsBelow ts top c = record { once = b.once; stands = up.1; above = subst (In top) (sym path) (inr b.above) } in
@@ -117,32 +108,31 @@ below-child ts f top x c b no_x i =
 -- ---- aside, towards the end
 
 -- the next sibling is the first node beyond
-pub aside_next : (ts : Trees) (f : Filter) (top x s : NodeName) → IsBelow ts top x → next_sibling ts x ≡ Some s
-    → (first_of (beyond ts (stop_above ts f top x) x) ≡ Some s) × IsBelow ts top s × (stop_above ts f top s ≡ stop_above ts f top x)
-aside_next ts f top x s b next =
+pub aside_next : {ts : Trees} {top x s : NodeName} (f : Filter) → IsBelow ts top x → next_sibling ts x ≡ Some s →
+    (first_of (beyond ts (stop_above ts f top x) x) ≡ Some s) × IsBelow ts top s × (stop_above ts f top s ≡ stop_above ts f top x)
+aside_next {ts} {top} {x} {s} f b next =
     let stop = stop_above ts f top x in
     let b_stop = below-stop ts f top x b in
     let is = next_places ts stop x s (within-below ts stop x b_stop) (other-below ts stop x b_stop) next in
-    let its = below-sibling ts top x s b (stands_in ts stop s is.0) is.2 in (
+    let its = below-sibling s b (stands_in ts stop s is.0) is.2 in (
       ap first_of (is.1 ∙ ap (λ xs. xs ++ beyond ts stop s) (here ts stop s is.0)),
       its.0,
       ap (λ path. unwrap_or (find (is_stop ts f top) path) top) its.1,
     )
 
 -- at the stop nothing is beyond
-pub aside_ends : (ts : Trees) (f : Filter) (top x p : NodeName) → IsBelow ts top x → next_sibling ts x ≡ None → parent_of ts x ≡ Some p →
+pub aside_ends : {ts : Trees} {top x p : NodeName} (f : Filter) → IsBelow ts top x → next_sibling ts x ≡ None → parent_of ts x ≡ Some p →
     is_stop ts f top p ≡ true → beyond ts (stop_above ts f top x) x ≡ []
-aside_ends ts f top x p b next up e =
+aside_ends {ts} {top} {x} {p} f b next up e =
     let b_stop = subst (λ (a : NodeName). IsBelow ts a x) (stop-here ts f top x p b up e) (below-stop ts f top x b) in
     let w = within-below ts p x b_stop in
     ap (λ a. beyond ts a x) (stop-here ts f top x p b up e) ∙
     (no_next ts p x p w (other-below ts p x b_stop) up next ∙ (top_places ts p (within-top ts p x w)).1)
 
 -- below it what is beyond the parent
-pub aside_up : (ts : Trees) (f : Filter) (top x p : NodeName) → IsBelow ts top x → next_sibling ts x ≡ None → parent_of ts x ≡ Some p →
-    is_stop ts f top p ≡ false
-    → beyond ts (stop_above ts f top x) x ≡ beyond ts (stop_above ts f top p) p
-aside_up ts f top x p b next up e =
+pub aside_up : {ts : Trees} {top x p : NodeName} (f : Filter) → IsBelow ts top x → next_sibling ts x ≡ None → parent_of ts x ≡ Some p →
+    is_stop ts f top p ≡ false → beyond ts (stop_above ts f top x) x ≡ beyond ts (stop_above ts f top p) p
+aside_up {ts} {top} {x} {p} f b next up e =
     let stop = stop_above ts f top x in
     let b_stop = below-stop ts f top x b in
     no_next ts stop x p (within-below ts stop x b_stop) (other-below ts stop x b_stop) up next ∙ ap (λ a. beyond ts a p) (stop-above ts f top x p b up e)
@@ -150,20 +140,20 @@ aside_up ts f top x p b next up e =
 -- ---- aside, towards the beginning
 
 -- before a node comes last the tree of its previous sibling
-pub aback_previous : (ts : Trees) (f : Filter) (top x s : NodeName) → IsBelow ts top x → previous_sibling ts x ≡ Some s
+pub aback_previous : {ts : Trees} {top x s : NodeName} (f : Filter) → IsBelow ts top x → previous_sibling ts x ≡ Some s
     → (ahead_of ts (stop_above ts f top x) x ≡ ahead_of ts (stop_above ts f top x) s ++ inclusive_descendants ts s) × IsBelow ts top s ×
     (ancestors ts s ≡ ancestors ts x)
-aback_previous ts f top x s b previous =
+aback_previous {ts} {top} {x} {s} f b previous =
     let stop = stop_above ts f top x in
     let b_stop = below-stop ts f top x b in
-    let is = previous_places ts stop x s (within-below ts stop x b_stop) (other-below ts stop x b_stop) previous in
-    let its = below-sibling ts top x s b (stands_in ts stop s is.0) is.2 in
+    let is = previous_places (within-below ts stop x b_stop) (other-below ts stop x b_stop) previous in
+    let its = below-sibling s b (stands_in ts stop s is.0) is.2 in
     (is.1, its.0, its.1)
 
 -- without one its parent
-pub aback_up : (ts : Trees) (f : Filter) (top x p : NodeName) → IsBelow ts top x → previous_sibling ts x ≡ None → parent_of ts x ≡ Some p
-    → ahead_of ts (stop_above ts f top x) x ≡ ahead_of ts (stop_above ts f top x) p ++ p ∷ []
-aback_up ts f top x p b previous up =
+pub aback_up : {ts : Trees} {top x p : NodeName} (f : Filter) → IsBelow ts top x → previous_sibling ts x ≡ None → parent_of ts x ≡ Some p →
+    ahead_of ts (stop_above ts f top x) x ≡ ahead_of ts (stop_above ts f top x) p ++ p ∷ []
+aback_up {ts} {top} {x} f b previous up =
     let stop = stop_above ts f top x in
     let b_stop = below-stop ts f top x b in
-    no_previous ts stop x p (within-below ts stop x b_stop) (other-below ts stop x b_stop) up previous
+    no_previous (within-below ts stop x b_stop) (other-below ts stop x b_stop) up previous

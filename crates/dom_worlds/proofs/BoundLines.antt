@@ -150,25 +150,34 @@ room-effect p i h Command.new_fragment r s = room-make nowhere p (new_node p Fra
 room-effect p i h Command.new_document r s = room-make nowhere p (new_node p Document [] [] None) i h
 room-effect p i h (Command.append a x) r s =
     let k = part-accepted p (Command.append a x) r in
-    room-inserting observed (named p x) (named p a) None p i
-    (named-may p x (named p a) i (exists-second p a x true true k.exist)
-    (exists-first p a (Rattle.dom_model.specs.Tree.has_node p.trees (named p x) && true) true k.exist)
-    (insertion-apart p.trees (named p a) (named p x) None k.own)) (insertion-open p.trees (named p a) (named p x) None k.own) h
+    room-inserting observed None (record { part = i; room = h })
+    (record {
+      go = named-may x (named p a) i (exists-second p a x true true k.exist)
+          (exists-first p a (Rattle.dom_model.specs.Tree.has_node p.trees (named p x) && true) true k.exist)
+          (insertion-apart p.trees (named p a) (named p x) None k.own);
+      open_parent = insertion-open p.trees (named p a) (named p x) None k.own;
+    })
 room-effect p i h (Command.insert a x c) r s =
     let k = part-accepted p (Command.insert a x c) r in
     let rest = Rattle.dom_model.specs.Tree.has_node p.trees (named p c) && true in
-    room-inserting observed (named p x) (named p a) _ p i
-    (named-may p x (named p a) i (exists-second p a x rest true k.exist)
-    (exists-first p a (Rattle.dom_model.specs.Tree.has_node p.trees (named p x) && rest) true k.exist)
-    (insertion-apart p.trees (named p a) (named p x) (Some (named p c)) k.own))
-    (insertion-open p.trees (named p a) (named p x) (Some (named p c)) k.own) h
+    room-inserting observed _ (record { part = i; room = h })
+    (record {
+      go = named-may x (named p a) i (exists-second p a x rest true k.exist)
+          (exists-first p a (Rattle.dom_model.specs.Tree.has_node p.trees (named p x) && rest) true k.exist)
+          (insertion-apart p.trees (named p a) (named p x) (Some (named p c)) k.own);
+      open_parent =
+          insertion-open p.trees (named p a) (named p x) (Some (named p c)) k.own;
+    })
 room-effect p i h (Command.replace a x c) r s =
     let k = part-accepted p (Command.replace a x c) r in
     let rest = Rattle.dom_model.specs.Tree.has_node p.trees (named p c) && true in
-    room-replacing (named p a) (named p x) (named p c) p i
-    (named-may p x (named p a) i (exists-second p a x rest true k.exist)
-    (exists-first p a (Rattle.dom_model.specs.Tree.has_node p.trees (named p x) && rest) true k.exist)
-    (replacement-apart p.trees (named p a) (named p x) (named p c) k.own)) (replacement-open p.trees (named p a) (named p x) (named p c) k.own) h
+    room-replacing (named p c) (record { part = i; room = h })
+    (record {
+      go = named-may x (named p a) i (exists-second p a x rest true k.exist)
+          (exists-first p a (Rattle.dom_model.specs.Tree.has_node p.trees (named p x) && rest) true k.exist)
+          (replacement-apart p.trees (named p a) (named p x) (named p c) k.own);
+      open_parent = replacement-open p.trees (named p a) (named p x) (named p c) k.own;
+    })
 room-effect p i h (Command.remove x) r s = room-removing nowhere observed (named p x) p i h
 room-effect p i h (Command.adopt d x) r s = room-adopting nowhere (named p d) (named p x) p i h
 room-effect p i h (Command.normalize x) r s = room-normalizing (named p x) p i h
@@ -176,14 +185,15 @@ room-effect p i h (Command.set_attribute x a v) r s = room-setting_attribute (na
 room-effect p i h (Command.unset_attribute x a) r s = room-unsetting_attribute (named p x) a p i h
 room-effect p i h (Command.set_data x t) r s =
     let k = part-accepted p (Command.set_data x t) r in
-    room-replacing_data (named p x) 0 (length_of p.trees (named p x)) t p i (fits-first (has_data (kind_of p.trees (named p x))) true k.fit) h
+    room-replacing_data (named p x) 0 (length_of p.trees (named p x)) t (record { part = i; room = h })
+    (fits-first (has_data (kind_of p.trees (named p x))) true k.fit)
 room-effect p i h (Command.replace_data x j n t) r s =
     let k = part-accepted p (Command.replace_data x j n t) r in
-    room-replacing_data (named p x) j n t p i (fits-first (has_data (kind_of p.trees (named p x))) true k.fit) h
+    room-replacing_data (named p x) j n t (record { part = i; room = h }) (fits-first (has_data (kind_of p.trees (named p x))) true k.fit)
 room-effect p i h (Command.split x j) r s =
     let k = part-accepted p (Command.split x j) r in
-    room-splitting (named p x) j p i (exists-first p x true true k.exist)
-    (text-data (kind_of p.trees (named p x)) (fits-first (is_text (kind_of p.trees (named p x))) true k.fit)) h
+    room-splitting (named p x) j (record { part = i; room = h }) (exists-first p x true true k.exist)
+    (text-data (kind_of p.trees (named p x)) (fits-first (is_text (kind_of p.trees (named p x))) true k.fit))
 room-effect p i h (Command.set_text x t) r s =
     let k = part-accepted p (Command.set_text x t) r in
     room-setting_text (named p x) t p i (exists-first p x true true k.exist) h

@@ -9,8 +9,8 @@ use Rattle.dom_base.specs.declared.Owner.{Owner}
 use Rattle.dom_base.specs.declared.Owner.TheVariants.{Page, Component}
 use Rattle.dom_base.specs.declared.Refusal.{Refusal}
 use Rattle.dom_model.specs.Command.{Command, Line, no_owner, no_command, command, EventWords}
-use Rattle.dom_model.specs.CommandNames.{named, has_range}
-use Rattle.dom_model.specs.CommandRefusals.{is_command_of, part_refusal}
+use Rattle.dom_model.specs.CommandNames.{named}
+use Rattle.dom_model.specs.CommandRefusals.{part_refusal}
 use Rattle.dom_model.specs.Dispatch.{dispatch_in, world_visit, visits_of}
 use Rattle.dom_model.specs.DocumentMachine.{first_world, part_with_root, refusal, effect_in, attaching, perform, accepted, run_command, step, run_lines, finish}
 use Rattle.dom_model.specs.Effects.{Effect, tables, changes, effect}
@@ -24,7 +24,7 @@ use Rattle.dom_model.specs.Ranges.{Range}
 use Rattle.dom_model.specs.Runs.{Run, quiet, run_each, unless_refused}
 use Rattle.dom_model.specs.Slots.{signals, with_signal}
 use Rattle.dom_model.specs.Steps.{Step, place, take_out, set_document, set_attribute, queue_record, part_step, after, is_taken}
-use Rattle.dom_model.specs.Tree.{node_in, has_data, parent_of}
+use Rattle.dom_model.specs.Tree.{node_in, parent_of}
 use Rattle.dom_model.specs.Turns.{slotchange, firing_slotchange, is_owned_by, without_signals, notified, running_task, ending_turn, has_other_turn}
 use Rattle.dom_model.specs.Turns.{ending_other_turn, opening_turn}
 use Rattle.dom_model.specs.Validity.{insertion_refusal}
@@ -50,7 +50,7 @@ use Rattle.dom_worlds.proofs.RangeInsertions.{room-inserting_into_range}
 use Rattle.dom_worlds.proofs.ShadowRoots.{not_taken}
 use Rattle.dom_worlds.proofs.RangePlans.{IsProper, room-deleting}
 use Rattle.dom_worlds.proofs.ExtractionPlans.{room-extracting}
-use Rattle.dom_worlds.proofs.TableCommands.{Holds, exists-first}
+use Rattle.dom_worlds.proofs.TableCommands.{Holds}
 use Rattle.dom_worlds.proofs.TableRegisters.{holds-effect, insert_node-valid, insert_node-may}
 use Rattle.dom_worlds.proofs.TableEffects.{KeepsBase, base-effect}
 use Rattle.dom_worlds.proofs.TableLines.{first-is_whole, step-keeps_whole, ending-keeps_whole, any-reached}
@@ -117,13 +117,13 @@ others-world_step o w (queue_record c) g h = others-notify (is_taken (part_of w 
 others-world_step o w s g h = others-stepped o w s h
 
 -- many steps: in their part they are what they are alone
-rooms-world_after : (o : Owner) (steps : List Step) (w : World) → Ground w → MadeIn (part_of w o) steps → OtherRooms o w →
+rooms-world_after : (o : Owner) (steps : List Step) {w : World} → Ground w → MadeIn (part_of w o) steps → OtherRooms o w →
     HasRoom nowhere (after (part_of w o) steps) → AllRooms (world_after o w steps)
-rooms-world_after o [] w g m h r = λ x. by_cases (Rattle.dom_model.specs.Names.owner_eq x o)
+rooms-world_after o [] {w} g m h r = λ x. by_cases (Rattle.dom_model.specs.Names.owner_eq x o)
     (λ e. subst (λ y. HasRoom nowhere (part_of w y)) (sym (owner_eq-true x o e)) r) (λ e. h x (owner_eq-false x o e))
-rooms-world_after o (s ∷ steps) w g m h r =
+rooms-world_after o (s ∷ steps) {w} g m h r =
     let own = part-own_step o w s g m.0 in
-    rooms-world_after o steps (world_step o w s) (ground-world_step o w s g) (subst (λ p. MadeIn p steps) (sym own) m.1)
+    rooms-world_after o steps (ground-world_step o w s g) (subst (λ p. MadeIn p steps) (sym own) m.1)
     (others-world_step o w s g h) (subst (λ p. HasRoom nowhere (after p steps)) (sym own) r)
 
 -- Dispatches, notifications and the endings of turns.
@@ -167,8 +167,8 @@ rooms-ending_other : (w : World) (o : Owner) → AllRooms w → AllRooms (ending
 rooms-ending_other w o h = either_way (λ (r : Run World). AllRooms r.0) (has_other_turn w o) (ending_turn w) (quiet w) (rooms-ending_turn w h) h
 
 -- A part with its first node alone.
-room-root : (o : Owner) (k : Kind) (d : Option NodeName) → has_data k ≡ false → HasRoom nowhere (part_with_root o k d)
-room-root o k d e = record { bounds = tt; leaves = λ y g. alone y }
+room-root : (o : Owner) (k : Kind) (d : Option NodeName) → HasRoom nowhere (part_with_root o k d)
+room-root o k d = record { bounds = tt; leaves = λ y g. alone y }
   where
     alone : (y : NodeName) → kids (part_with_root o k d).trees y ≡ 0
     alone y = by_cases (name_eq (Rattle.dom_model.specs.Names.node_of o 0) y) (λ t. rw t refl) (λ t. rw t refl)
@@ -180,20 +180,20 @@ rooms-attaching w o x h =
     let c = component_made o (length p.attached) in
     let more : Part = record p { attached = p.attached ++ x ∷ [] } in
     let d = (node_in p.trees x).document in
-    rooms-with_part (with_part w more) (part_with_root c Shadow d) c refl (room-root c Shadow d refl)
+    rooms-with_part (with_part w more) (part_with_root c Shadow d) c refl (room-root c Shadow d)
     (rooms-with_part w more o (owner-part_of w o) (room-same p more refl refl (h o)) h)
 
--- An accepted command.
-rooms-effect : (w : World) (o : Owner) (e : Effect) → Ground w → KeepsBase (part_of w o) e → Holds (part_of w o) e → Roomy (part_of w o) e →
-    AllRooms w → AllRooms (effect_in w o e).0
-rooms-effect w o (tables p lines v) g base m r h = rooms-with_part w p o (base.0 ∙ owner-part_of w o) r h
-rooms-effect w o (changes steps v) g base m r h = rooms-world_after o steps w g m (λ x f. h x) r
-
--- what is asked beside
+-- What is asked beside, where a command runs.
 record Facts (w : World) (o : Owner) : Type 0 where
   ground : Ground w
   tables : HasTables (part_of w o)
   first : IsNodeIn (part_of w o).trees (first_node (part_of w o))
+
+-- An accepted command.
+rooms-effect : {w : World} {o : Owner} (e : Effect) → Facts w o → KeepsBase (part_of w o) e → Holds (part_of w o) e → Roomy (part_of w o) e → AllRooms w →
+    AllRooms (effect_in w o e).0
+rooms-effect {w} {o} (tables p lines v) k base m r h = rooms-with_part w p o (base.0 ∙ owner-part_of w o) r h
+rooms-effect {o} (changes steps v) k base m r h = rooms-world_after o steps k.ground m (λ x f. h x) r
 
 -- a range that is there
 proper : (p : Part) (k : ℕ) → HasTables p → HasRoom nowhere p → (r : Range NodeName) → range_at p k ≡ Some r → IsProper p r
@@ -213,23 +213,26 @@ for-ranges p i t (Command.insert_node k x) n = λ h.
     let parent = insertion_parent p.trees r in
     let refused = insertion_refusal p.trees parent node (start_reference p.trees r) in
     let valid = insert_node-valid p k x a.own r e in
-    room-inserting_into_range k r node p i (range-ends p k t r e).0 (insert_node-may p k x i t (exists-first p x true (has_range p k) a.exist) a.own r e)
-    (insertion-open p.trees parent node (start_reference p.trees r) (not_taken (cannot_take_node p.trees r node) refused valid))
-    (takes (cannot_take_node p.trees r node) refused valid) h)
+    room-inserting_into_range k r (record { part = i; room = h }) (range-ends p k t r e).0
+    (record {
+      go = insert_node-may i t a e;
+      open_parent = insertion-open p.trees parent node
+          (start_reference p.trees r) (not_taken (cannot_take_node p.trees r node) refused valid);
+    })
+    (takes (cannot_take_node p.trees r node) refused valid))
 for-ranges p i t c n = tt
 
 -- any command
-rooms-perform : (w : World) (o : Owner) (c : Command) → Facts w o → is_command_of o c ≡ true → part_refusal (part_of w o) c ≡ None → AllRooms w →
-    AllRooms (perform w o c).0
-rooms-perform w o (Command.attach x) k g r h = rooms-attaching w o (named (part_of w o) x) h
-rooms-perform w o (Command.connected x) k g r h = h
-rooms-perform w o (Command.assigned x) k g r h = h
-rooms-perform w o (Command.dispatch x e related) k g r h = rooms-dispatch w (named (part_of w o) x) (option_map (named (part_of w o)) related) e h
-rooms-perform w o (Command.micro label) k g r h = h
-rooms-perform w o Command.end_turn k g r h = rooms-ending_turn w h
-rooms-perform w o c k g r h =
+rooms-perform : {w : World} {o : Owner} (c : Command) → Facts w o → part_refusal (part_of w o) c ≡ None → AllRooms w → AllRooms (perform w o c).0
+rooms-perform {w} {o} (Command.attach x) k r h = rooms-attaching w o (named (part_of w o) x) h
+rooms-perform (Command.connected x) k r h = h
+rooms-perform (Command.assigned x) k r h = h
+rooms-perform {w} {o} (Command.dispatch x e related) k r h = rooms-dispatch w (named (part_of w o) x) (option_map (named (part_of w o)) related) e h
+rooms-perform (Command.micro label) k r h = h
+rooms-perform {w} Command.end_turn k r h = rooms-ending_turn w h
+rooms-perform {w} {o} c k r h =
     let p = part_of w o in
-    rooms-effect w o (effect p c) k.ground (base-effect p c) (holds-effect p (k.ground.parts o) k.tables k.first c r)
+    rooms-effect (effect p c) k (base-effect p c) (holds-effect p (k.ground.parts o) k.tables k.first c r)
     (room-effect p (k.ground.parts o) (h o) c r (for-ranges p (k.ground.parts o) k.tables c r)) h
 
 -- with the turn that it opens
@@ -239,11 +242,10 @@ facts-opening w o k =
     (record { ground = record { parts = k.ground.parts; makers = k.ground.makers }; tables = k.tables; first = k.first })
 
 -- `.` apart
-rooms-accepted : (w : World) (o : Owner) (c : Command) → Facts w o → is_command_of o c ≡ true → part_refusal (part_of w o) c ≡ None → AllRooms w →
-    AllRooms (accepted w o c).0
-rooms-accepted w o Command.end_turn k g r h = rooms-ending_turn w h
-rooms-accepted w o c k g r h =
-    rooms-perform (opening_turn w o) o c (facts-opening w o k) g (ap (λ p. part_refusal p c) (part_of-opening w o o) ∙ r)
+rooms-accepted : {w : World} {o : Owner} (c : Command) → Facts w o → part_refusal (part_of w o) c ≡ None → AllRooms w → AllRooms (accepted w o c).0
+rooms-accepted {w} Command.end_turn k r h = rooms-ending_turn w h
+rooms-accepted {w} {o} c k r h =
+    rooms-perform c (facts-opening w o k) (ap (λ p. part_refusal p c) (part_of-opening w o o) ∙ r)
     (either_way AllRooms (is_some w.turn) w (record w { turn = Some o }) h h)
 
 -- refused or accepted
@@ -255,7 +257,7 @@ rooms-command w o c r i h = from (refusal w o c) refl
     from None e =
         let a = accepted-facts w o c e in
         subst (λ a. AllRooms (unless_refused o a w (accepted w o c)).0) (sym e)
-        (rooms-accepted w o c (record { ground = ground-of w r.world; tables = i.tables o; first = i.first o a.there }) a.grammar a.part h)
+        (rooms-accepted c (record { ground = ground-of w r.world; tables = i.tables o; first = i.first o a.there }) a.part h)
 
 -- a line
 rooms-line : {only_log : Bool} (w : World) (l : Line) → IsReached only_log w → IsWhole w → AllRooms w → AllRooms (step w l).0
@@ -293,7 +295,7 @@ pub first-is_bounded : FirstIsBounded
 first-is_bounded = bounded-of first_world (first-is_reached false) rooms
   where
     rooms : AllRooms first_world
-    rooms Page = room-root Page Document None refl
+    rooms Page = room-root Page Document None
     rooms (Component k) = record { bounds = tt; leaves = λ y g. refl }
 
 -- Scripts.

@@ -99,13 +99,14 @@ pub record HasChain (w : World) (x : NodeName) : Type 0 where
   pub shallow : AllByRecursion (λ y. owner_depth y.owner ≤ owner_depth x.owner) (inner ++ last ∷ [])
 
 -- each node has one
-climb : (depth : ℕ) (w : World) → IsWorld w → (x : NodeName) → owner_depth x.owner ≤ depth → (o : Option NodeName) → host_above w x ≡ o → HasChain w x
-climb depth w i x h None e = record { inner = []; last = x; chain = hosts-alone (owner_depth x.owner) w x e; trees = tt; out = e; shallow = (omega arith, tt) }
-climb zero w i x h (Some host) e = let b = (below-host w i x host e).deeper in absurd (omega (arith, h, b))
-climb (suc depth) w i x h (Some host) e =
+climb : {w : World} (depth : ℕ) → IsWorld w → (x : NodeName) → owner_depth x.owner ≤ depth → {o : Option NodeName} → host_above w x ≡ o → HasChain w x
+climb {w} depth i x h {o = None} e =
+    record { inner = []; last = x; chain = hosts-alone (owner_depth x.owner) w x e; trees = tt; out = e; shallow = (omega arith, tt) }
+climb {w} zero i x h {o = Some host} e = let b = (below-host w i x host e).deeper in absurd (omega (arith, h, b))
+climb {w} (suc depth) i x h {o = Some host} e =
     let b = below-host w i x host e in
     let deep = b.deeper in
-    let k = climb depth w i host (omega (arith, h, deep)) (host_above w host) refl in
+    let k = climb depth i host (omega (arith, h, deep)) refl in
     record {
       inner = x ∷ k.inner;
       last = k.last;
@@ -121,7 +122,7 @@ climb (suc depth) w i x h (Some host) e =
 
 -- the chain of any node
 pub has-chain : (w : World) → IsWorld w → (x : NodeName) → HasChain w x
-has-chain w i x = climb (owner_depth x.owner) w i x (omega arith) (host_above w x) refl
+has-chain w i x = climb (owner_depth x.owner) i x (omega arith) refl
 
 -- its nodes are no deeper than the first
 pub chain-shallow : (w : World) → IsWorld w → (x : NodeName) → AllByRecursion (λ y. owner_depth y.owner ≤ owner_depth x.owner) (host_chain w x)

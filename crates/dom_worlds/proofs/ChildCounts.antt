@@ -10,13 +10,13 @@ use Rattle.dom_model.specs.Tree.{Trees, none, tree, Node, names_of, roots, subtr
 use Rattle.dom_model.specs.Tree.{inclusive_ancestors, on_top}
 use Rattle.dom_model.specs.TreeChanges.{followed_by, without, put_before, put_below, put_root, taken_out, placed, with_node, map_nodes}
 use Rattle.dom_model.proofs.OwnerLaws.{name_eq-same, name_eq-turned, name_eq-true}
-use Rattle.dom_worlds.proofs.Insides.{inside, times-inside, times-parted, without-absent, or_else-none}
+use Rattle.dom_worlds.proofs.Insides.{CanPlace, times-inside, times-parted, without-absent, or_else-none}
 use Rattle.dom_worlds.proofs.InsideAncestors.{parent-there, no_parent-root}
 use Rattle.dom_worlds.proofs.Tests.{by_cases, or-later}
 use Rattle.dom_worlds.proofs.TreeChangeLaws.{put_where, where-here, where-later, put_before-where, put_root-where, HasRoot, without-here}
 use Rattle.dom_worlds.proofs.TreeChangeLaws.{without-elsewhere, subtree-here, subtree-elsewhere, put_below-here, put_below-elsewhere}
 use Rattle.dom_worlds.proofs.TreeChangeLaws.{put_below-absent}
-use Rattle.dom_worlds.proofs.Trees.{IsUnique, by_times, times-here, times-elsewhere, times-more, subtree-absent}
+use Rattle.dom_worlds.proofs.Trees.{unique-below, IsUnique, by_times, times-here, times-elsewhere, times-more, subtree-absent}
 use Rattle.dom_worlds.proofs.Trees.{root-there, ancestors-absent, ancestors-present}
 
 -- how many roots there are
@@ -181,9 +181,9 @@ kids-parted (tree n c r) x y u h =
     let b = kids-parted r x y (λ k. let o = u k in let m = times-more n c r k in omega arith) later in omega arith)
 
 -- the parent in the trees below a root
-below-parent : (n : Node) (c r : Trees) (x : NodeName) (path : List NodeName) → name_eq n.name x ≡ false → inclusive_ancestors c x ≡ x ∷ path →
+below-parent : {x : NodeName} {path : List NodeName} (n : Node) (c r : Trees) → name_eq n.name x ≡ false → inclusive_ancestors c x ≡ x ∷ path →
     parent_of (tree n c r) x ≡ first_of (path ++ n.name ∷ [])
-below-parent n c r x path e h =
+below-parent {x} n c r e h =
     ap (λ p. first_of (drop 1 p)) (cond-false (name_eq n.name x) (x ∷ []) (on_top (inclusive_ancestors c x) n.name (inclusive_ancestors r x)) e ∙
     ap (λ p. on_top p n.name (inclusive_ancestors r x)) h)
 
@@ -212,20 +212,19 @@ kids-taken (tree n c r) x parent y u h =
     let t = ap (λ t. kids t y) (subtree-elsewhere n c r x e ∙ ap (λ t. or_else t (subtree r x)) (subtree-absent c x z)) in
     ((omega arith), (let v = ap rooted whole in omega arith)))
     (λ z. let at = ancestors-present c x z in
-    let up = sym (below-parent n c r x at.0 e at.1) ∙ h in
+    let up = sym (below-parent n c r e at.1) ∙ h in
     let whole = s ∙ ap (tree n (without x c)) (without-absent r x (omega arith)) in
-    let w = ap (λ t. kids t y) whole in
-    let t = ap (λ t. kids t y) (subtree-elsewhere n c r x e ∙ ap (or_else (subtree c x)) (subtree-absent r x (omega arith)) ∙ or_else-none (subtree c x)) in
-    let v = ap rooted whole in
-    from (λ e. kids-taken c x parent y uc e) at.0 up at.1 uc z w t v))
+    let own = subtree-elsewhere n c r x e ∙ ap (or_else (subtree c x)) (subtree-absent r x (omega arith)) ∙ or_else-none (subtree c x) in
+    from (λ e. kids-taken c x parent y uc e) up at.1 z whole own))
   where
     from : (parent_of c x ≡ Some parent → (kids (without x c) y + kids (subtree c x) y + one_at parent y ≡ kids c y) × (rooted (without x c) ≡ rooted c)) →
-        (path : List NodeName) → first_of (path ++ n.name ∷ []) ≡ Some parent → inclusive_ancestors c x ≡ x ∷ path → IsUnique c → 1 ≤ times_in c x →
-        kids (without x (tree n c r)) y ≡ kids (tree n (without x c) r) y → kids (subtree (tree n c r) x) y ≡ kids (subtree c x) y →
-        rooted (without x (tree n c r)) ≡ rooted (tree n (without x c) r) →
+        {path : List NodeName} → first_of (path ++ n.name ∷ []) ≡ Some parent → inclusive_ancestors c x ≡ x ∷ path → 1 ≤ times_in c x →
+        without x (tree n c r) ≡ tree n (without x c) r → subtree (tree n c r) x ≡ subtree c x →
         (kids (without x (tree n c r)) y + kids (subtree (tree n c r) x) y + one_at parent y ≡ kids (tree n c r) y) ×
         (rooted (without x (tree n c r)) ≡ rooted (tree n c r))
-    from f [] up path uc z w t v =
+    from f {path = []} up path z whole own =
+        let uc = unique-below n c r u in
+        let w = ap (λ t. kids t y) whole in let t = ap (λ t. kids t y) own in let v = ap rooted whole in
         let both : Some n.name ≡ Some parent = up in
         let same : n.name ≡ parent = cc in
         let alone : parent_of c x ≡ None = ap (λ p. first_of (drop 1 p)) path in
@@ -240,7 +239,8 @@ kids-taken (tree n c r) x parent y u h =
               (name_eq n.name y) 1 0 k in omega arith),
           omega arith,
         )
-    from f (q ∷ path) up h uc z w t v =
+    from f {path = q ∷ path} up h z whole own =
+        let w = ap (λ t. kids t y) whole in let t = ap (λ t. kids t y) own in let v = ap rooted whole in
         let inner : parent_of c x ≡ Some parent = ap (λ p. first_of (drop 1 p)) h ∙ up in
         let b = f inner in
         let b0 = b.0 in let b1 = b.1 in (
@@ -269,9 +269,10 @@ rooted-subtree (tree n c r) x h =
     left (tree n c r) b h = h
 
 -- a root that is placed
-pub kids-placed : (ts : Trees) (x parent : NodeName) (before : Option NodeName) (y : NodeName) → IsUnique ts → 1 ≤ times_in ts parent →
-    inside ts x parent ≡ 0 → HasRoot ts x → kids (placed x parent before ts) y ≡ kids ts y + one_at parent y
-kids-placed ts x parent before y u t h k =
+pub kids-placed : {ts : Trees} {x parent : NodeName} (before : Option NodeName) (y : NodeName) → CanPlace ts x parent → HasRoot ts x →
+    kids (placed x parent before ts) y ≡ kids ts y + one_at parent y
+kids-placed {ts} {x} {parent} before y c k =
+    let u = c.unique in let t = c.below.there in let h = c.below.apart in
     let once = u parent in
     let s = times-inside ts x parent in
     let w = times-parted ts x parent u in
@@ -323,18 +324,18 @@ root-below (tree n c r) x parent u h =
     subst (λ t. HasRoot (trees_below t) x)
     (sym (subtree-elsewhere n c r parent other ∙ ap (λ t. or_else t (subtree r parent)) (subtree-absent c parent (omega arith))))
     (root-below r x parent ur up))
-    (λ z. let at = ancestors-present c x z in from (λ e. root-below c x parent uc e) at.0 (sym (below-parent n c r x at.0 e at.1) ∙ h) at.1 uc z once_p))
+    (λ z. let at = ancestors-present c x z in from (λ e. root-below c x parent uc e) (sym (below-parent n c r e at.1) ∙ h) at.1 uc z once_p))
   where
-    from : (parent_of c x ≡ Some parent → HasRoot (trees_below (subtree c parent)) x) → (path : List NodeName) →
-        first_of (path ++ n.name ∷ []) ≡ Some parent → inclusive_ancestors c x ≡ x ∷ path → IsUnique c → 1 ≤ times_in c x →
-        times_in (tree n c r) parent ≤ 1 → HasRoot (trees_below (subtree (tree n c r) parent)) x
-    from f [] up path uc z once =
+    from : (parent_of c x ≡ Some parent → HasRoot (trees_below (subtree c parent)) x) → {path : List NodeName} → first_of (path ++ n.name ∷ []) ≡ Some parent →
+        inclusive_ancestors c x ≡ x ∷ path → IsUnique c → 1 ≤ times_in c x → times_in (tree n c r) parent ≤ 1 →
+        HasRoot (trees_below (subtree (tree n c r) parent)) x
+    from f {path = []} up path uc z once =
         let both : Some n.name ≡ Some parent = up in
         let same : n.name ≡ parent = cc in
         let alone : parent_of c x ≡ None = ap (λ p. first_of (drop 1 p)) path in
         subst (λ t. HasRoot (trees_below t) x) (sym (subtree-here n c r parent (ap (λ q. name_eq n.name q) (sym same) ∙ name_eq-same n.name)))
         (no_parent-root c x z alone)
-    from f (q ∷ path) up h uc z once =
+    from f {path = q ∷ path} up h uc z once =
         let inner : parent_of c x ≡ Some parent = ap (λ p. first_of (drop 1 p)) h ∙ up in
         let there = parent-there c x parent inner in
         let other : name_eq n.name parent ≡ false =

@@ -11,7 +11,7 @@ use Rattle.dom_model.specs.Tree.{Trees, none, tree, Node, names_of, roots, subtr
 use Rattle.dom_model.specs.TreeChanges.{followed_by, without, put_before, put_below, put_root, taken_out, placed, with_node, map_nodes}
 use Rattle.dom_model.proofs.OwnerLaws.{name_eq-same, name_eq-turned, name_eq-true}
 use Rattle.dom_worlds.specs.Worlds.{times_among}
-use Rattle.dom_worlds.proofs.Insides.{inside, times-inside, times-parted, without-absent, or_else-none}
+use Rattle.dom_worlds.proofs.Insides.{CanPlace, times-inside, times-parted, without-absent, or_else-none}
 use Rattle.dom_worlds.proofs.ChildCounts.{rooted, kids}
 use Rattle.dom_worlds.proofs.ReachedFacts.{root-alone}
 use Rattle.dom_worlds.proofs.Lists.{all-then}
@@ -175,11 +175,11 @@ childs-put_below parent before new (tree n c r) x y h =
     )))
 
 -- A node that is placed below a parent.
-module _ (ts : Trees) (z parent : NodeName) (before : Option NodeName) where
+module _ {ts : Trees} {z parent : NodeName} (before : Option NodeName) (place : CanPlace ts z parent) where
   -- other children stay where a node is placed
-  pub childs-placed : (x y : NodeName) → IsUnique ts → 1 ≤ times_in ts parent → inside ts z parent ≡ 0 → name_eq z x ≡ false →
-      childs ts x y ≤ childs (placed z parent before ts) x y
-  childs-placed x y u t h d =
+  pub childs-placed : (x y : NodeName) → name_eq z x ≡ false → childs ts x y ≤ childs (placed z parent before ts) x y
+  childs-placed x y d =
+      let u = place.unique in let t = place.below.there in let h = place.below.apart in
       let once = u parent in
       let s = times-inside ts z parent in
       let w = times-parted ts z parent u in
@@ -187,8 +187,9 @@ module _ (ts : Trees) (z parent : NodeName) (before : Option NodeName) where
       let q = childs-parted ts z x y u d in omega arith
 
   -- and it is a child then
-  pub child-placed : IsUnique ts → 1 ≤ times_in ts parent → inside ts z parent ≡ 0 → 1 ≤ times_in ts z → 1 ≤ childs (placed z parent before ts) z parent
-  child-placed u t h k =
+  pub child-placed : 1 ≤ times_in ts z → 1 ≤ childs (placed z parent before ts) z parent
+  child-placed k =
+      let u = place.unique in let t = place.below.there in let h = place.below.apart in
       let once = u parent in
       let s = times-inside ts z parent in
       let w = times-parted ts z parent u in

@@ -15,7 +15,7 @@ use Rattle.dom_model.specs.Tree.{Trees, none, tree, Node, names_of, roots, subtr
 use Rattle.dom_model.proofs.OwnerLaws.{name_eq-same, name_eq-turned, name_eq-true}
 use Rattle.dom_worlds.proofs.Descents.{ancestor-inside}
 use Rattle.dom_worlds.proofs.Insides.{or_else-none}
-use Rattle.dom_worlds.proofs.InsideAncestors.{parent-there}
+use Rattle.dom_worlds.proofs.InsideAncestors.{child-there, parent-there}
 use Rattle.dom_worlds.proofs.ChildCounts.{root-below}
 use Rattle.dom_worlds.proofs.Lists.{all-then}
 use Rattle.dom_worlds.proofs.Roots.{self-above, parent-above}
@@ -40,9 +40,9 @@ place-here : (k : ℕ) (n : Node) (c r : Trees) (x : NodeName) → name_eq n.nam
 place-here k n c r x e = cond-true (name_eq n.name x) (Some (k ∷ [])) (option_or (option_map (λ path. k ∷ path) (place_from 0 c x)) (place_from (k + 1) r x)) e
 
 -- below
-place-below : (k : ℕ) (n : Node) (c r : Trees) (x : NodeName) (path : List ℕ) → name_eq n.name x ≡ false → place_from 0 c x ≡ Some path →
+place-below : {path : List ℕ} (k : ℕ) (n : Node) (c r : Trees) (x : NodeName) → name_eq n.name x ≡ false → place_from 0 c x ≡ Some path →
     place_from k (tree n c r) x ≡ Some (k ∷ path)
-place-below k n c r x path e h =
+place-below {path} k n c r x e h =
     cond-false (name_eq n.name x) (Some (k ∷ [])) (option_or (option_map (λ path. k ∷ path) (place_from 0 c x)) (place_from (k + 1) r x)) e
     ∙ ap (λ o. option_or (option_map (λ path. k ∷ path) o) (place_from (k + 1) r x)) h
 
@@ -53,6 +53,10 @@ place-behind k n c r x e z =
     cond-false (name_eq n.name x) (Some (k ∷ [])) (option_or (option_map (λ path. k ∷ path) (place_from 0 c x)) (place_from (k + 1) r x)) e
     ∙ ap (λ o. option_or (option_map (λ path. k ∷ path) o) (place_from (k + 1) r x)) (place-absent 0 c x z)
 
+-- what has a place is there
+has-place : (k : ℕ) (ts : Trees) (x : NodeName) (path : List ℕ) → place_from k ts x ≡ Some path → 1 ≤ times_in ts x
+has-place k ts x path p = by_times (times_in ts x) (λ z. let none_there : None ≡ Some path = sym (place-absent k ts x z) ∙ p in cc) (λ z. z)
+
 -- a node that is there has a place
 place-there : (k : ℕ) (ts : Trees) (x : NodeName) → 1 ≤ times_in ts x → (path : List ℕ) × (place_from k ts x ≡ Some path)
 place-there k none x h = absurd (omega arith)
@@ -60,13 +64,15 @@ place-there k (tree n c r) x h =
     by_cases (name_eq n.name x) (λ e. (k ∷ [], place-here k n c r x e))
     (λ e. let g = times-elsewhere n c r x e in
     by_times (times_in c x) (λ z. let at = place-there (k + 1) r x (omega arith) in (at.0, place-behind k n c r x e z ∙ at.1))
-    (λ z. let at = place-there 0 c x z in (k ∷ at.0, place-below k n c r x at.0 e at.1)))
+    (λ z. let at = place-there 0 c x z in (k ∷ at.0, place-below k n c r x e at.1)))
 
 -- the place of a node below another one
-place-nested : (k : ℕ) (ts : Trees) (a z : NodeName) (path rest : List ℕ) → IsUnique ts → place_from k ts a ≡ Some path → 1 ≤ times_in ts a →
-    1 ≤ times_in (trees_below (subtree ts a)) z → place_from 0 (trees_below (subtree ts a)) z ≡ Some rest → place_from k ts z ≡ Some (path ++ rest)
-place-nested k none a z path rest u p t b q = absurd (omega arith)
-place-nested k (tree n c r) a z path rest u p t b q =
+place-nested : (k : ℕ) (ts : Trees) (a z : NodeName) {path rest : List ℕ} → IsUnique ts → place_from k ts a ≡ Some path →
+    place_from 0 (trees_below (subtree ts a)) z ≡ Some rest → place_from k ts z ≡ Some (path ++ rest)
+place-nested k none a z u p q = cc
+place-nested k (tree n c r) a z {path} {rest} u p q =
+    let t = has-place k (tree n c r) a path p in
+    let b = has-place 0 (trees_below (subtree (tree n c r) a)) z rest q in
     let once = u a in
     let once_z = u z in
     let uc : IsUnique c = λ k. let o = u k in let m = times-more n c r k in omega arith in
@@ -78,7 +84,7 @@ place-nested k (tree n c r) a z path rest u p t b q =
     let one : Some (k ∷ []) ≡ Some path = sym (place-here k n c r a e) ∙ p in
     let is : k ∷ [] ≡ path = cc in
     let other : name_eq n.name z ≡ false = by_cases (name_eq n.name z) (λ f. absurd (let g = times-here n c r z f in omega arith)) (λ f. f) in
-    place-below k n c r z rest other at ∙ ap (λ xs. Some (xs ++ rest)) is)
+    place-below k n c r z other at ∙ ap (λ xs. Some (xs ++ rest)) is)
     (λ e. let g = times-elsewhere n c r a e in
     by_times (times_in c a)
     (λ y. let same = ap trees_below (subtree-elsewhere n c r a e ∙ ap (λ t. or_else t (subtree r a)) (subtree-absent c a y)) in
@@ -87,7 +93,7 @@ place-nested k (tree n c r) a z path rest u p t b q =
     let there : 1 ≤ times_in r z = let s = times-below (subtree r a) z in let t = times-subtree r a z in omega arith in
     let other : name_eq n.name z ≡ false = by_cases (name_eq n.name z) (λ f. absurd (let g = times-here n c r z f in omega arith)) (λ f. f) in
     let gz = times-elsewhere n c r z other in
-    place-behind k n c r z other (omega arith) ∙ place-nested (k + 1) r a z path rest ur (sym (place-behind k n c r a e y) ∙ p) (omega arith) inner at)
+    place-behind k n c r z other (omega arith) ∙ place-nested (k + 1) r a z ur (sym (place-behind k n c r a e y) ∙ p) at)
     (λ y. let same = ap trees_below (subtree-elsewhere n c r a e ∙ ap (or_else (subtree c a)) (subtree-absent r a (omega arith)) ∙
     or_else-none (subtree c a)) in
     let inner = subst (λ us. 1 ≤ times_in us z) same b in
@@ -95,9 +101,9 @@ place-nested k (tree n c r) a z path rest u p t b q =
     let there : 1 ≤ times_in c z = let s = times-below (subtree c a) z in let t = times-subtree c a z in omega arith in
     let other : name_eq n.name z ≡ false = by_cases (name_eq n.name z) (λ f. absurd (let g = times-here n c r z f in omega arith)) (λ f. f) in
     let own = place-there 0 c a y in
-    let one : Some (k ∷ own.0) ≡ Some path = sym (place-below k n c r a own.0 e own.1) ∙ p in
+    let one : Some (k ∷ own.0) ≡ Some path = sym (place-below k n c r a e own.1) ∙ p in
     let is : k ∷ own.0 ≡ path = cc in
-    place-below k n c r z (own.0 ++ rest) other (place-nested 0 c a z own.0 rest uc own.1 y inner at) ∙ ap (λ xs. Some (xs ++ rest)) is))
+    place-below k n c r z other (place-nested 0 c a z uc own.1 at) ∙ ap (λ xs. Some (xs ++ rest)) is))
 
 -- Roots of a list, by their numbers: those before a number, and those up to one of them.
 record IsRootAt (k : ℕ) (us : Trees) (bound : ℕ) (x : NodeName) : Type 0 where
@@ -107,9 +113,9 @@ record IsRootAt (k : ℕ) (us : Trees) (bound : ℕ) (x : NodeName) : Type 0 whe
   below : index ≤ bound
 
 -- behind a first root
-later-root : (k : ℕ) (n : Node) (c r : Trees) (bound : ℕ) → IsUnique (tree n c r) → (x : NodeName) → IsRootAt (k + 1) r bound x →
+later-root : {r : Trees} {bound : ℕ} (k : ℕ) (n : Node) (c : Trees) → IsUnique (tree n c r) → (x : NodeName) → IsRootAt (k + 1) r bound x →
     IsRootAt k (tree n c r) (suc bound) x
-later-root k n c r bound u x h =
+later-root {r} k n c u x h =
     let once = u x in
     let t = h.there in
     let g = times-more n c r x in
@@ -136,7 +142,7 @@ roots-taken k none m u = tt
 roots-taken k (tree n c r) zero u = (first-root k n c r 0, tt)
 roots-taken k (tree n c r) (suc m) u = (
   first-root k n c r (suc m),
-  all-then (IsRootAt (k + 1) r m) (IsRootAt k (tree n c r) (suc m)) (later-root k n c r m u) (take (suc m) (names_of (roots r)))
+  all-then (IsRootAt (k + 1) r m) (IsRootAt k (tree n c r) (suc m)) (later-root k n c u) (take (suc m) (names_of (roots r)))
       (roots-taken (k + 1) r m (λ y. let o = u y in let g = times-more n c r y in omega arith)),
 )
 
@@ -168,7 +174,7 @@ roots-up_to k (tree n c r) a u h =
           (sym (cond-false (name_eq a n.name) [] (n.name ∷ items_before name_eq a rest) e)) (
             first-root k n c r (suc more.0),
             all-then (IsRootAt (k + 1) r more.0) (IsRootAt k (tree n c r) (suc more.0))
-                (later-root k n c r more.0 u) (items_before name_eq a rest ++ a ∷ []) more.2,
+                (later-root k n c u) (items_before name_eq a rest ++ a ∷ []) more.2,
           ),
     ))
 
@@ -239,11 +245,11 @@ pub record IsSpared (ts : Trees) (r : Range NodeName) (q : NodeName) (xs : List 
   pub children : AllByRecursion (λ x. is_before ts r.start (at x 0) ≡ false) xs
 
 -- the place of a child
-child-place : (ts : Trees) (q : NodeName) (path : List ℕ) → IsUnique ts → 1 ≤ times_in ts q → place_from 0 ts q ≡ Some path →
-    (bound : ℕ) (x : NodeName) → IsRootAt 0 (trees_below (subtree ts q)) bound x → (i : ℕ) × (place_from 0 ts x ≡ Some (path ++ i ∷ [])) × (i ≤ bound)
-child-place ts q path u t p bound x h =
+child-place : {path : List ℕ} (ts : Trees) (q : NodeName) → IsUnique ts → 1 ≤ times_in ts q → place_from 0 ts q ≡ Some path → {bound : ℕ} {x : NodeName} →
+    IsRootAt 0 (trees_below (subtree ts q)) bound x → (i : ℕ) × (place_from 0 ts x ≡ Some (path ++ i ∷ [])) × (i ≤ bound)
+child-place {path} ts q u t p {x} h =
     let zero_first : 0 + h.index ≡ h.index = omega arith in
-    (h.index, place-nested 0 ts q x path (h.index ∷ []) u p t h.there (h.place ∙ ap (λ i. Some (i ∷ [])) zero_first), h.below)
+    (h.index, place-nested 0 ts q x u p (h.place ∙ ap (λ i. Some (i ∷ [])) zero_first), h.below)
 
 -- The first children of the start node.
 pub spared-first : (ts : Trees) (r : Range NodeName) → IsUnique ts → 1 ≤ times_in ts r.start.node →
@@ -269,7 +275,7 @@ spared-first ts r u t =
         let ub : IsUnique below = λ y. let a = times-below (subtree ts r.start.node) y in let b = times-subtree ts r.start.node y in let o =
         u y in omega arith in
         all-then (IsRootAt 0 below m) (λ x. is_before ts r.start (at x 0) ≡ false)
-        (λ x h. let c = child-place ts r.start.node path u t p m x h in
+        (λ x h. let c = child-place ts r.start.node u t p h in
         let i = c.0 in let le = c.2 in
         ap (λ a. list_before a (boundary_place ts (at x 0))) begins ∙ ap (list_before (map odd path ++ (2 * r.start.offset) ∷ []))
         (place-is ts x (path ++ i ∷ []) 0 c.1 ∙ map-two path (i ∷ []) (0 ∷ []))
@@ -292,9 +298,10 @@ below-rest (tree n c r) a z d =
     either (tree m e q) t h g = h
 
 -- The children up to a node above the start node, or up to the start node.
-pub spared-up_to : (ts : Trees) (r : Range NodeName) (a q : NodeName) → IsUnique ts → parent_of ts a ≡ Some q → 1 ≤ times_in ts a →
+pub spared-up_to : {q : NodeName} (ts : Trees) (r : Range NodeName) (a : NodeName) → IsUnique ts → parent_of ts a ≡ Some q →
     is_inclusive_ancestor ts a r.start.node ≡ true → IsSpared ts r q (items_before name_eq a (children_of ts q) ++ a ∷ [])
-spared-up_to ts r a q u e t above =
+spared-up_to {q} ts r a u e above =
+    let t = child-there ts a q e in
     let start = r.start.node in
     let tq = parent-there ts a q e in
     let at_q = place-there 0 ts q tq in
@@ -305,7 +312,7 @@ spared-up_to ts r a q u e t above =
     let j = up.0 in
     let zero_first : 0 + j ≡ j = omega arith in
     let there = root-there below a (root-below ts a q u e) in
-    let at_a : place_from 0 ts a ≡ Some (path ++ j ∷ []) = place-nested 0 ts q a path (j ∷ []) u at_q.1 tq there (up.1 ∙ ap (λ i. Some (i ∷ [])) zero_first) in
+    let at_a : place_from 0 ts a ≡ Some (path ++ j ∷ []) = place-nested 0 ts q a u at_q.1 (up.1 ∙ ap (λ i. Some (i ∷ [])) zero_first) in
     let tail = start-place t j path at_a in
     let rest = tail.0 in
     let begins : boundary_place ts r.start ≡ map odd path ++ (odd j ∷ rest) = tail.1 in
@@ -314,7 +321,7 @@ spared-up_to ts r a q u e t above =
       parent = ap (λ b. list_before b (boundary_place ts (at q 0))) begins ∙ ap (list_before (map odd path ++ (odd j ∷ rest)))
           (place-is ts q path 0 at_q.1) ∙ before-common path (odd j ∷ rest) (0 ∷ []) ∙ before-zero (odd j) rest;
       children = all-then (IsRootAt 0 below j) (λ x. is_before ts r.start (at x 0) ≡ false)
-          (λ x h. let c = child-place ts q path u tq at_q.1 j x h in
+          (λ x h. let c = child-place ts q u tq at_q.1 h in
           let i = c.0 in
           ap (λ b. list_before b (boundary_place ts (at x 0))) begins ∙ ap (list_before (map odd path ++ (odd j ∷ rest)))
           (place-is ts x (path ++ i ∷ []) 0 c.1 ∙ map-two path (i ∷ []) (0 ∷ []))
@@ -350,7 +357,7 @@ spared-up_to ts r a q u e t above =
         let b = below-rest ts a r.start.node k in
         let there : 1 ≤ times_in (trees_below (subtree ts a)) r.start.node = omega arith in
         let at_s = place-there 0 (trees_below (subtree ts a)) r.start.node there in
-        let whole = place-nested 0 ts a r.start.node (path ++ j ∷ []) at_s.0 u h t there at_s.1 in (
+        let whole = place-nested 0 ts a r.start.node u h at_s.1 in (
           map odd at_s.0 ++ o ∷ [],
           place-is ts r.start.node ((path ++ j ∷ []) ++ at_s.0) r.start.offset whole ∙
               map-two (path ++ j ∷ []) at_s.0 (o ∷ []) ∙ map-two path (j ∷ []) (map odd at_s.0 ++ o ∷ []),

@@ -16,7 +16,7 @@ use Rattle.dom_worlds.proofs.Trees.{IsUnique, by_times, times-here, times-elsewh
 use Rattle.dom_worlds.proofs.Trees.{root-there, nodes-there, ancestors-absent, ancestors-present}
 use Rattle.dom_worlds.proofs.TreeChangeLaws.{HasRoot, without-here, without-elsewhere, subtree-here, subtree-elsewhere, put_below-here}
 use Rattle.dom_worlds.proofs.TreeChangeLaws.{put_below-elsewhere, put_below-absent, times-put_before}
-use Rattle.dom_worlds.proofs.Insides.{inside, inside-here, inside-elsewhere, inside-times, inside-absent, times-inside, inside-put_root}
+use Rattle.dom_worlds.proofs.Insides.{CanPlace, inside, inside-here, inside-elsewhere, inside-times, inside-absent, times-inside, inside-put_root}
 use Rattle.dom_worlds.proofs.Insides.{inside-put_before, without-absent, or_else-none, times-put_below_all}
 use Rattle.dom_worlds.proofs.InsideAncestors.{inside-no_ancestor}
 use Rattle.dom_worlds.proofs.Insides.{times-parted}
@@ -122,9 +122,10 @@ inside-put_below_all parent before new (tree n c r) a z h =
     k in omega arith)))
 
 -- a root that is placed
-pub inside-placed_all : (ts : Trees) (y parent : NodeName) (before : Option NodeName) (a z : NodeName) → IsUnique ts → 1 ≤ times_in ts parent →
-    inside ts y parent ≡ 0 → HasRoot ts y → inside ts a z ≤ inside (placed y parent before ts) a z
-inside-placed_all ts y parent before a z u t h k =
+pub inside-placed_all : {ts : Trees} {y parent : NodeName} (before : Option NodeName) (a z : NodeName) → CanPlace ts y parent → HasRoot ts y →
+    inside ts a z ≤ inside (placed y parent before ts) a z
+inside-placed_all {ts} {y} {parent} before a z c k =
+    let u = c.unique in let t = c.below.there in let h = c.below.apart in
     let once = u parent in
     let s = times-inside ts y parent in
     let w = times-parted ts y parent u in

@@ -34,7 +34,7 @@ use Rattle.dom_worlds.proofs.PlanBounds.{room-then, IsOpen}
 use Rattle.dom_worlds.proofs.PlacedBounds.{texts-inserting}
 use Rattle.dom_worlds.proofs.PlanPlaces.{Changed, MayGo, still, after-append, leads-one, leads-inserting}
 use Rattle.dom_worlds.proofs.PlanTexts.{new-there, next-not, new-may}
-use Rattle.dom_worlds.proofs.PlanContents.{OldIn, old-there, whole-then, leads-making_below, pieces-there, leads-taking}
+use Rattle.dom_worlds.proofs.PlanContents.{CanTake, OldIn, old-there, whole-then, leads-making_below, pieces-there, leads-taking}
 use Rattle.dom_worlds.proofs.PlanChildren.{IsChild, IsNot, child-make, child-parent}
 use Rattle.dom_worlds.proofs.RangeBounds.{AreChildren, Misses, IsData, IsOpenIn, fits-still, room-taking}
 use Rattle.dom_worlds.proofs.RangeEnds.{room-at, above-kids, room-place_new}
@@ -107,7 +107,7 @@ module _ (p : Part) (xs : List NodeName) (y : NodeName) (r : Range NodeName) (i 
         all-then (λ x. IsChild x y p) (λ x. IsNot x z)
             (λ x k. by_cases (name_eq z x)
             (λ e. let same = name_eq-true z x e in
-            absurd (not_over (above-parent ts root x y i.unique (child-parent p x y i k)
+            absurd (not_over (above-parent ts root x i.unique (child-parent p x y i k)
             (subst (λ a. is_inclusive_ancestor ts root a ≡ true) same h.over) (subst (λ a. name_eq root a ≡ false) same lower))))
             (λ e. e))
             xs c.0,
@@ -148,15 +148,15 @@ length-made p n x i k =
     sym (length-data p.trees x k)
 
 -- and where that went below another one
-length-below : (p : Part) (n : Node) (into x : NodeName) → n.name ≡ next_name p → IsPart p → HasNode p into → has_data (kind_of p.trees x) ≡ true →
+length-below : {p : Part} (n : Node) (into x : NodeName) → n.name ≡ next_name p → IsPart p → HasNode p into → has_data (kind_of p.trees x) ≡ true →
     length_of (after p (making_below into n p)).trees x ≡ length_of p.trees x
-length-below p n into x e i t k =
+length-below {p} n into x e i t k =
     let q = part_step p (make n) in
     let first = leads-one p (make n) i tt in
     let there = bounds.data-there p.trees x k in
     let may : MayGo into q n.name = subst (MayGo into q) (sym e) (new-may p n into i t) in
     let put = leads-inserting observed n.name into None q first.changed.part may in
-    let texts = texts-inserting observed n.name into None q first.changed.part may x (still first.changed x there) in
+    let texts = texts-inserting observed None first.changed.part may x (still first.changed x there) in
     let kq : has_data (kind_of q.trees x) ≡ true = ap has_data (first.changed.kinds x there) ∙ k in
     length-data (after q (inserting observed n.name into None q)).trees x (ap has_data (put.changed.kinds x (still first.changed x there)) ∙ kq) ∙
     ap (λ (s : DomString). length s) texts ∙ sym (length-data q.trees x kq) ∙ length-made p n x i k
@@ -205,23 +205,19 @@ room-extracting k r p i g h =
               kc.1,
         ) in
         let old = pieces-old p q c i pieces (pieces-there p r g.start) in
-        let fit = fits-still room.held b.node p q c pieces (fit-range p room.held b.node r i g.start room.spared kc) in
+        let fit = fits-still room.held b.node c pieces (fit-range p room.held b.node r i g.start room.spared kc) in
         let le : p.node_count ≤ (next_name p).number = omega arith in
+        let take : CanTake p.node_count pieces (next_name p) q = record { part = c.part; counted = c.count; new = le; there = new-there p n; old = old } in
         let taken = room-taking room.held b.node p.node_count pieces (next_name p) q (record {
-          part = c.part;
-          counted = c.count;
-          new = le;
-          old = old;
-          there = new-there p n;
+          take = take;
           opened = opened;
           fit = fit;
           room = room-make nowhere p n i h;
           children = kids_q;
         }) in
-        let l = leads-taking p.node_count pieces (next_name p) q c.part c.count (new-there p n) le old in
-        let end = after q (taking (next_name p) pieces q) in (
+        let l = leads-taking pieces take in (
           taken.0,
-          room-at p end r b room l.changed.part
+          room-at room l.changed.part
               (ap has_data (l.changed.kinds b.node (still c b.node kc.1) ∙ c.kinds b.node kc.1) ∙ room.opened) taken.1,
         )
 
@@ -251,18 +247,14 @@ room-extracting k r p i g h =
         let below = making_below (next_name p) m q in
         let s = after q below in
         let lm = leads-making_below (next_name p) m q refl c.part (new-there p n) in
-        let ls = length-below q m (next_name p) x refl c.part (new-there p n) kq in
+        let ls = length-below m (next_name p) x refl c.part (new-there p n) kq in
         let ks : has_data (kind_of s.trees x) ≡ true = ap has_data (lm.changed.kinds x (still c x g.start)) ∙ kq in
         let count = r.end.offset - r.start.offset in
         let left = data-left s x r.start.offset count ks (omega arith) in
         let two = replacing_data x r.start.offset count [] s in
         let old = pieces-old p q c i small (g.start, tt) in
         let taken = room-taking [] x p.node_count small (next_name p) q (record {
-          part = c.part;
-          counted = c.count;
-          new = le;
-          old = old;
-          there = new-there p n;
+          take = record { part = c.part; counted = c.count; new = le; there = new-there p n; old = old };
           opened = opened;
           fit = ((still c x g.start, kq), tt);
           room = room-make nowhere p n i h;

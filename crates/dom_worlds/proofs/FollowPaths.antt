@@ -44,11 +44,10 @@ runs-join up x [] y ys e h g = (h, g)
 runs-join up x (z ∷ xs) y ys e h g = (h.0, runs-join up z xs y ys e h.1 g)
 
 -- by another function that agrees
-runs-change : (up to : NodeName → Option NodeName) (e : Option NodeName) (Q : NodeName → Type 0) →
-    ((y z : NodeName) → Q y → up y ≡ Some z → to y ≡ Some z) → ((y : NodeName) → Q y → up y ≡ None → to y ≡ e) →
-    (x : NodeName) (xs : List NodeName) → AllByRecursion Q (x ∷ xs) → Runs up x xs None → Runs to x xs e
-runs-change up to e Q f g x [] q h = g x q.0 h
-runs-change up to e Q f g x (y ∷ ys) q h = (f x y q.0 h.0, runs-change up to e Q f g y ys q.1 h.1)
+runs-change : {e : Option NodeName} (up to : NodeName → Option NodeName) (Q : NodeName → Type 0) → ((y z : NodeName) → Q y → up y ≡ Some z → to y ≡ Some z) →
+    ((y : NodeName) → Q y → up y ≡ None → to y ≡ e) → (x : NodeName) (xs : List NodeName) → AllByRecursion Q (x ∷ xs) → Runs up x xs None → Runs to x xs e
+runs-change up to Q f g x [] q h = g x q.0 h
+runs-change {e} up to Q f g x (y ∷ ys) q h = (f x y q.0 h.0, runs-change up to Q f g y ys q.1 h.1)
 
 -- Ancestors: each is followed by its parent.
 ancestors-run : (ts : Trees) → IsUnique ts → (x : NodeName) (path : List NodeName) → inclusive_ancestors ts x ≡ x ∷ path → Runs (parent_of ts) x path None
@@ -176,9 +175,9 @@ module _ {only_log : Bool} (w : World) (r : IsReached only_log w) (composed : Bo
       cond-true (is_shadow (kind_at w root)) (up_from root) (parent_at w root) k ∙ shadow-up root k
 
   -- Up through a tree, and on from its root.
-  tree-run : (x : NodeName) → 1 ≤ times_in (trees_with w x) x → (path : List NodeName) → ancestors_at w x ≡ x ∷ path →
-      (e : Option NodeName) → (parent_at w (root_at w x) ≡ None → next_up (root_at w x) ≡ e) → Runs next_up x path e
-  tree-run x t path at e ends =
+  tree-run : (x : NodeName) (path : List NodeName) → ancestors_at w x ≡ x ∷ path → (e : Option NodeName) →
+      (parent_at w (root_at w x) ≡ None → next_up (root_at w x) ≡ e) → Runs next_up x path e
+  tree-run x path at e ends =
       let ts = trees_with w x in
       let u = (r.world.parts x.owner).unique in
       let Q : NodeName → Type 0 = λ y. (y.owner ≡ x.owner) × ((1 ≤ times_in ts y) × (root_of ts y ≡ root_of ts x)) in
@@ -186,7 +185,7 @@ module _ {only_log : Bool} (w : World) (r : IsReached only_log w) (composed : Bo
       let rooted = subst (AllByRecursion (λ y. root_of ts y ≡ root_of ts x)) at (ancestors-root ts u x) in
       let there = subst (AllByRecursion (λ y. 1 ≤ times_in ts y)) at (ancestors-there ts x) in
       let same = λ (y : NodeName) (g : y.owner ≡ x.owner). ap (λ o. parent_of (part_of w o).trees y) g in
-      runs-change (parent_of ts) next_up e Q
+      runs-change (parent_of ts) next_up Q
       (λ y z q g. let up : parent_at w y ≡ Some z = same y q.0 ∙ g in cond-false (is_shadow (kind_at w y)) (up_from y) (parent_at w y) (next-parent y z up)
       ∙ up)
       (λ y q g. let root : root_of ts x ≡ y = sym q.1.1 ∙ root-itself ts y u q.1.0 g in
@@ -235,7 +234,7 @@ module _ {only_log : Bool} (w : World) (r : IsReached only_log w) (composed : Bo
             let shut = composed || not (name_eq (shadow_root_of c) (root_at w first)) in
             let out : next_up (root_at w s) ≡ next_up y =
             ap next_up k.tree.root ∙ next-shadow c k.tree.host ∙ cond-true shut (host_of w c) None (opens c (omega (arith, l, deep))) ∙ k.host ∙ sym after_y in
-            let way = all-ways depth s at.0 (next_up y) each (tree-run s k.there at.0 at.1 (next_up y) (λ p. out)) in
+            let way = all-ways depth s at.0 (next_up y) each (tree-run s at.0 at.1 (next_up y) (λ p. out)) in
             let is : slot_way (suc depth) w y ≡ s ∷ (slot_way depth w s ++ flat_map (with_slots depth w) at.0) =
             ap (λ o. flat_map (with_slots depth w) (flat_map (ancestors_at w) (option_to_list o))) h
             ∙ ap (flat_map (with_slots depth w)) (append-nil (ancestors_at w s) ∙ at.1) ∙ slots-first depth w s at.0 in
@@ -252,7 +251,7 @@ module _ {only_log : Bool} (w : World) (r : IsReached only_log w) (composed : Bo
         (λ z e. slot-ways max_depth z (subst (λ o. least ≤ owner_depth o) (sym e) l) (omega arith)) (x ∷ at.0) owned in (
           slot_way max_depth w x ++ flat_map (with_slots max_depth w) at.0,
           ap (flat_map (with_slots max_depth w)) at.1 ∙ slots-first max_depth w x at.0,
-          all-ways max_depth x at.0 e each (tree-run x t at.0 at.1 e ends),
+          all-ways max_depth x at.0 e each (tree-run x at.0 at.1 e ends),
         )
 
   -- Where a way up ends: below a host at it, if the event is let out,

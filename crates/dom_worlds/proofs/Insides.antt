@@ -211,6 +211,20 @@ times-parted (tree n c r) y x u =
 pub times-taken_out_all : (ts : Trees) (y x : NodeName) → IsUnique ts → times_in (taken_out y ts) x ≡ times_in ts x
 times-taken_out_all ts y x u = let p = times-put_root y (subtree ts y) (without y ts) x in let w = times-parted ts y x u in omega arith
 
+-- so each still stands once
+pub unique-taken_out : (ts : Trees) (y : NodeName) → IsUnique ts → IsUnique (taken_out y ts)
+unique-taken_out ts y u = λ x. let once = u x in let same = times-taken_out_all ts y x u in omega arith
+
+-- A node that is there, and does not stand in the tree of another one.
+pub record IsOutside (ts : Trees) (x y : NodeName) : Type 0 where
+  pub there : 1 ≤ times_in ts y
+  pub apart : inside ts x y ≡ 0
+
+-- Where a node may be placed: below one that is there, once, and does not stand in its tree.
+pub record CanPlace (ts : Trees) (x parent : NodeName) : Type 0 where
+  pub unique : IsUnique ts
+  pub below : IsOutside ts x parent
+
 -- all that is put below a node
 pub times-put_below_all : (parent : NodeName) (before : Option NodeName) (new ts : Trees) (x : NodeName) → times_in ts parent ≡ 1 →
     times_in (put_below parent before new ts) x ≡ times_in new x + times_in ts x
@@ -231,9 +245,10 @@ times-put_below_all parent before new (tree n c r) x h =
     (omega arith) in omega arith))
 
 -- a node that is placed below one that does not stand in its tree
-pub times-placed_all : (ts : Trees) (y parent : NodeName) (before : Option NodeName) (x : NodeName) → IsUnique ts → 1 ≤ times_in ts parent →
-    inside ts y parent ≡ 0 → times_in (placed y parent before ts) x ≡ times_in ts x
-times-placed_all ts y parent before x u t h =
+pub times-placed_all : {ts : Trees} {y parent : NodeName} (before : Option NodeName) (x : NodeName) → CanPlace ts y parent →
+    times_in (placed y parent before ts) x ≡ times_in ts x
+times-placed_all {ts} {y} {parent} before x c =
+    let u = c.unique in let t = c.below.there in let h = c.below.apart in
     let once = u parent in
     let s = times-inside ts y parent in
     let w = times-parted ts y parent u in

@@ -72,9 +72,9 @@ bounds-of p i h =
     within (Some r) g = let a = g.0 in let b = g.1 in (omega arith, omega arith)
 
 -- What goes below a node: it is there, and no inclusive ancestor of that.
-may-go : (p : Part) (x parent : NodeName) → IsPart p → IsTrue (has_node p.trees x) → IsTrue (has_node p.trees parent) →
+may-go : {p : Part} (x parent : NodeName) → IsPart p → IsTrue (has_node p.trees x) → IsTrue (has_node p.trees parent) →
     is_inclusive_ancestor p.trees x parent ≡ false → MayGo parent p x
-may-go p x parent i s t a =
+may-go {p} x parent i s t a =
     let there = has_node-times p.trees x s in
     record { there = there; owner = i.owned x there; below = has_node-times p.trees parent t; apart = inside-no_ancestor p.trees x parent i.unique a }
 
@@ -91,13 +91,13 @@ pub join_at-keeps : (p : Part) (first : NodeName) (size : ℕ) (next parent : No
     size + length_of p.trees next ≤ length_of p.trees first → HasBounds p → HasBounds (part_step p (join_at first size next parent index))
 join_at-keeps p first size next parent index i a h =
     bounds-of (part_step p (join_at first size next parent index)) (part-step p (join_at first size next parent index) i)
-    (room-join p first size next parent index a (room-of p i h))
+    (room-join first size next parent index a (room-of p i h))
 
 -- a range that gets ends within their nodes
 pub set_range-keeps : (p : Part) (k : ℕ) (r : Range NodeName) → IsPart p → IsWithin p.trees r.start → IsWithin p.trees r.end → HasBounds p →
     HasBounds (part_step p (set_range k r))
 set_range-keeps p k r i a b h =
-    bounds-of (part_step p (set_range k r)) (part-step p (set_range k r) i) (room-set nowhere p k r (omega arith) (omega arith) (room-of p i h))
+    bounds-of (part_step p (set_range k r)) (part-step p (set_range k r) i) (room-set k r (omega arith) (omega arith) (room-of p i h))
 
 -- a record
 pub queue_record-keeps : (p : Part) (c : Change NodeName) → IsPart p → HasBounds p → HasBounds (part_step p (queue_record c))
@@ -118,17 +118,18 @@ pub insertion-keeps : (how : Observing) (x parent : NodeName) (before : Option N
     IsTrue (has_node p.trees parent) → is_inclusive_ancestor p.trees x parent ≡ false → has_data (kind_of p.trees parent) ≡ false → HasBounds p →
     HasBounds (after p (inserting how x parent before p))
 insertion-keeps how x parent before p i s t a o h =
-    let m = may-go p x parent i s t a in
+    let m = may-go x parent i s t a in
     bounds-of (after p (inserting how x parent before p)) (leads-inserting how x parent before p i m).changed.part
-    (room-inserting how x parent before p i m o (room-of p i h))
+    (room-inserting how before (record { part = i; room = room-of p i h }) (record { go = m; open_parent = o }))
 
 -- a replacement
 pub replacement-keeps : (parent x child : NodeName) (p : Part) → IsPart p → IsTrue (has_node p.trees x) → IsTrue (has_node p.trees parent) →
     is_inclusive_ancestor p.trees x parent ≡ false → has_data (kind_of p.trees parent) ≡ false → HasBounds p →
     HasBounds (after p (replacing parent x child p))
 replacement-keeps parent x child p i s t a o h =
-    let m = may-go p x parent i s t a in
-    bounds-of (after p (replacing parent x child p)) (leads-replacing parent x child p i m).changed.part (room-replacing parent x child p i m o (room-of p i h))
+    let m = may-go x parent i s t a in
+    bounds-of (after p (replacing parent x child p)) (leads-replacing parent x child p i m).changed.part
+    (room-replacing child (record { part = i; room = room-of p i h }) (record { go = m; open_parent = o }))
 
 -- an attribute that is set
 pub attribute-keeps : (x : NodeName) (a : Word) (v : DomString) (p : Part) → IsPart p → HasBounds p → HasBounds (after p (setting_attribute x a v p))
@@ -145,14 +146,14 @@ pub data-keeps : (x : NodeName) (offset count : ℕ) (new : DomString) (p : Part
     HasBounds (after p (replacing_data x offset count new p))
 data-keeps x offset count new p i k h =
     bounds-of (after p (replacing_data x offset count new p)) (leads-replacing_data x offset count new p i).changed.part
-    (room-replacing_data x offset count new p i k (room-of p i h))
+    (room-replacing_data x offset count new (record { part = i; room = room-of p i h }) k)
 
 -- a split of a Text
 pub split-keeps : (x : NodeName) (offset : ℕ) (p : Part) → IsPart p → IsTrue (has_node p.trees x) → is_text (kind_of p.trees x) ≡ true →
     HasBounds p → HasBounds (after p (splitting x offset p))
 split-keeps x offset p i t k h =
     bounds-of (after p (splitting x offset p)) (leads-splitting x offset p i).changed.part
-    (room-splitting x offset p i (has_node-times p.trees x t) (text-data (kind_of p.trees x) k) (room-of p i h))
+    (room-splitting x offset (record { part = i; room = room-of p i h }) (has_node-times p.trees x t) (text-data (kind_of p.trees x) k))
 
 -- normalize()
 pub normalization-keeps : (x : NodeName) (p : Part) → IsPart p → HasBounds p → HasBounds (after p (normalizing x p))
@@ -201,8 +202,9 @@ range_insertion-keeps k r x p i t e n valid h =
     let refused = insertion_refusal p.trees parent x (start_reference p.trees r) in
     let fits = not_taken (cannot_take_node p.trees r x) refused valid in
     let start = (range-ends p k t r e).0 in
-    let m = may-go p x parent i n (times-has_node p.trees parent (parent-of_range p r start))
+    let m = may-go x parent i n (times-has_node p.trees parent (parent-of_range p r start))
     (insertion-apart p.trees parent x (start_reference p.trees r) fits) in
     bounds-of (after p (inserting_into_range k r x p)) (leads-inserting_into_range k r x p i t e m).changed.part
-    (room-inserting_into_range k r x p i start m (insertion-open p.trees parent x (start_reference p.trees r) fits)
-    (takes (cannot_take_node p.trees r x) refused valid) (room-of p i h))
+    (room-inserting_into_range k r (record { part = i; room = room-of p i h }) start
+    (record { go = m; open_parent = insertion-open p.trees parent x (start_reference p.trees r) fits })
+    (takes (cannot_take_node p.trees r x) refused valid))

@@ -21,12 +21,12 @@ use Rattle.dom_model.proofs.OwnerLaws.{name_eq-same}
 use Rattle.dom_model.proofs.PartLaws.{owner-part_of}
 use Rattle.dom_model.proofs.StepLaws.{owner-part_step, Component-IsNoPage}
 use Rattle.dom_worlds.specs.Reached.{Invariant}
-use Rattle.dom_worlds.specs.Worlds.{MayBeShadow, HasKinds, IsThere}
+use Rattle.dom_worlds.specs.Worlds.{MayBeShadow, HasKinds}
 use Rattle.dom_worlds.proofs.SameInvariant.{AreAlike}
 use Rattle.dom_worlds.proofs.TableEffects.{KeepsBase}
 use Rattle.dom_worlds.proofs.Lists.{all-then, all-from}
 use Rattle.dom_worlds.proofs.NodeKinds.{MakesNoShadow, kinds-step, kinds-alike, fragment-no_shadow, read-no_shadow}
-use Rattle.dom_worlds.proofs.OwnerSteps.{IsPeopled}
+use Rattle.dom_worlds.proofs.OwnerSteps.{IsPresent}
 use Rattle.dom_worlds.proofs.Owners.{there-hosted}
 use Rattle.dom_worlds.proofs.PartSteps.{Allowed, IsOwn, own-step, next-other}
 use Rattle.dom_worlds.proofs.PlanCommands.{Makes, MayDo, made-effect}
@@ -181,13 +181,13 @@ pub kinds-same : (v w : World) → AreAlike v w → AllKinds w → AllKinds v
 kinds-same v w a h = all-kinds v (λ o. kinds-alike (part_of v o) (part_of w o) (owner-part_of v o ∙ sym (owner-part_of w o)) (a o) (h.parts o))
 
 -- no command makes a shadow root
-pub no_shadow-steps : (w : World) (o : Owner) (c : Command) → Invariant false w → IsPeopled w → AllKinds w → IsThere w o →
-    own_refusal (part_of w o) c ≡ None → Makes MakesNoShadow (effect (part_of w o) c)
-no_shadow-steps w Page c q i h t r = made-effect page-rules (part_of w Page) (owner-part_of w Page, h.parts Page) c (page-may_do (part_of w Page) c)
-no_shadow-steps w (Component k) c q i h t r =
+pub no_shadow-steps : {w : World} {o : Owner} (c : Command) → Invariant false w → IsPresent w o → AllKinds w → own_refusal (part_of w o) c ≡ None →
+    Makes MakesNoShadow (effect (part_of w o) c)
+no_shadow-steps {w} {o = Page} c q k h r = made-effect page-rules (part_of w Page) (owner-part_of w Page, h.parts Page) c (page-may_do (part_of w Page) c)
+no_shadow-steps {w} {o = Component k} c q m h r =
     let root = shadow_root_of (Component k) in
     let p = part_of w (Component k) in
-    let own = own-part w q.world (Component k) (there-hosted w i.makers i.owners (Component k) (Component-IsNoPage k) t) in
+    let own = own-part w q.world (Component k) (there-hosted w m.people.makers m.people.owners (Component k) (Component-IsNoPage k) m.there) in
     no_shadow-made root (effect p c) (made-effect (component-rules k) p
     (record { owner = owner-part_of w (Component k); own = own; kinds = h.parts (Component k) }) c
     (component-may_do root p c (may-do root p own c r)))

@@ -18,7 +18,7 @@ use Rattle.dom_model.specs.Names.{name_eq, is_in}
 use Rattle.dom_model.specs.Tree.{Trees, none, tree, Node, nodes, names_of, node_in, kind_of, has_node, no_node, is_element, times_in}
 use Rattle.dom_model.specs.Command.{Command, Line, no_owner, no_command, command, NodeWord}
 use Rattle.dom_model.specs.CommandNames.{named, nodes_exist}
-use Rattle.dom_model.specs.CommandRefusals.{is_command_of, part_refusal, may_be_host}
+use Rattle.dom_model.specs.CommandRefusals.{part_refusal, may_be_host}
 use Rattle.dom_model.specs.DocumentMachine.{first_world, part_with_root, refusal, attaching, perform, accepted, run_command, step}
 use Rattle.dom_model.specs.Effects.{effect}
 use Rattle.dom_model.specs.Part.{Part}
@@ -28,15 +28,15 @@ use Rattle.dom_model.specs.World.{World, part_of, with_part, component_made, sha
 use Rattle.dom_model.proofs.OwnerLaws.{component_made-no_page, name_eq-turned, name_eq-true}
 use Rattle.dom_model.proofs.KindLaws.{is_element-is}
 use Rattle.dom_worlds.specs.Reached.{Invariant}
-use Rattle.dom_worlds.specs.Worlds.{AllNodes, IsElementAt, IsHost, MayBeShadow, times_among, HasKinds, IsThere}
+use Rattle.dom_worlds.specs.Worlds.{AllNodes, IsElementAt, IsHost, MayBeShadow, times_among, HasKinds}
 use Rattle.dom_worlds.proofs.TableEffects.{base-effect}
-use Rattle.dom_worlds.proofs.LineBegins.{IsPageTime, page_time, quiet-opening, quiet-ending_other, part_of-opening}
+use Rattle.dom_worlds.proofs.LineBegins.{quiet-opening, quiet-ending_other, part_of-opening}
 use Rattle.dom_worlds.proofs.Lists.{all-append, all-then}
 use Rattle.dom_worlds.proofs.Tests.{by_cases, either_way}
 use Rattle.dom_worlds.proofs.TreeChangeLaws.{nodes-listed, nodes-then}
-use Rattle.dom_worlds.proofs.OwnerSteps.{IsPeopled}
+use Rattle.dom_worlds.proofs.OwnerSteps.{IsPresent, IsPeopled}
 use Rattle.dom_worlds.proofs.OwnerDispatches.{peopled-ending_other}
-use Rattle.dom_worlds.proofs.OwnerCommands.{there-opening, peopled-opening}
+use Rattle.dom_worlds.proofs.OwnerCommands.{present-opening}
 use Rattle.dom_worlds.proofs.ShadowRoots.{found-absent, found-there}
 use Rattle.dom_worlds.proofs.Acceptance.{next-test, part-accepted, accepted-facts}
 use Rattle.dom_worlds.proofs.Trees.{IsUnique, by_times, times-here, times-elsewhere, times-more}
@@ -168,39 +168,38 @@ kinds-attaching w o x f q h =
     (kinds-root (component_made o n) (node_in p.trees x).document (component_made-no_page o n))
 
 -- An accepted command, and lines.
-kinds-perform : (w : World) (o : Owner) (c : Command) → IsThere w o → is_command_of o c ≡ true → part_refusal (part_of w o) c ≡ None →
-    Invariant false w → IsPeopled w → AllKinds w → AllKinds (perform w o c).0
-kinds-perform w o (Command.attach x) t g r q i h = kinds-attaching w o (named (part_of w o) x) (attach-free (part_of w o) x r) q h
-kinds-perform w o (Command.connected x) t g r q i h = h
-kinds-perform w o (Command.assigned x) t g r q i h = h
-kinds-perform w o (Command.dispatch x e related) t g r q i h =
+kinds-perform : {w : World} {o : Owner} (c : Command) → IsPresent w o → part_refusal (part_of w o) c ≡ None → Invariant false w → AllKinds w →
+    AllKinds (perform w o c).0
+kinds-perform {w} {o} (Command.attach x) k r q h = kinds-attaching w o (named (part_of w o) x) (attach-free (part_of w o) x r) q h
+kinds-perform (Command.connected x) k r q h = h
+kinds-perform (Command.assigned x) k r q h = h
+kinds-perform {w} {o} (Command.dispatch x e related) k r q h =
     kinds-same _ w (alike-dispatch w (named (part_of w o) x) (option_map (named (part_of w o)) related) e) h
-kinds-perform w o (Command.micro label) t g r q i h = all-kinds (perform w o (Command.micro label)).0 h.parts
-kinds-perform w o Command.end_turn t g r q i h = kinds-same (ending_turn w).0 w (alike-ending_turn w) h
-kinds-perform w o c t g r q i h = kinds-effect w o (effect (part_of w o) c) (base-effect (part_of w o) c)
-    (no_shadow-steps w o c q i h t (part-accepted (part_of w o) c r).own) h
+kinds-perform {w} {o} (Command.micro label) k r q h = all-kinds (perform w o (Command.micro label)).0 h.parts
+kinds-perform {w} Command.end_turn k r q h = kinds-same (ending_turn w).0 w (alike-ending_turn w) h
+kinds-perform {w} {o} c k r q h = kinds-effect w o (effect (part_of w o) c) (base-effect (part_of w o) c)
+    (no_shadow-steps c q k h (part-accepted (part_of w o) c r).own) h
 
 -- the turn that a command opens
 kinds-opening : (w : World) (o : Owner) → AllKinds w → AllKinds (opening_turn w o)
 kinds-opening w o h = either_way AllKinds (is_some w.turn) w (record w { turn = Some o }) h (all-kinds (record w { turn = Some o }) h.parts)
 
 -- with that turn
-kinds-accepted : (w : World) (o : Owner) (c : Command) → (o ≡ Page → IsPageTime w) → IsThere w o → is_command_of o c ≡ true →
-    part_refusal (part_of w o) c ≡ None → Invariant false w → IsPeopled w → AllKinds w → AllKinds (accepted w o c).0
-kinds-accepted w o Command.end_turn p t g r q i h = kinds-same (ending_turn w).0 w (alike-ending_turn w) h
-kinds-accepted w o c p t g r q i h =
-    kinds-perform (opening_turn w o) o c (there-opening w o t) g (ap (λ k. part_refusal k c) (part_of-opening w o o) ∙ r) (quiet-opening w q o p)
-    (peopled-opening w o t i) (kinds-opening w o h)
+kinds-accepted : {w : World} {o : Owner} (c : Command) → IsPresent w o → part_refusal (part_of w o) c ≡ None → Invariant false w → AllKinds w →
+    AllKinds (accepted w o c).0
+kinds-accepted {w} Command.end_turn k r q h = kinds-same (ending_turn w).0 w (alike-ending_turn w) h
+kinds-accepted {w} {o} c m r q h =
+    kinds-perform c (present-opening m) (ap (λ k. part_refusal k c) (part_of-opening w o o) ∙ r) (quiet-opening w q o)
+    (kinds-opening w o h)
 
 -- refused or accepted
-kinds-command : (w : World) (o : Owner) (c : Command) → (o ≡ Page → IsPageTime w) → Invariant false w → IsPeopled w → AllKinds w →
-    AllKinds (run_command o c w).0
-kinds-command w o c p q i h = from (refusal w o c) refl
+kinds-command : {w : World} (o : Owner) (c : Command) → Invariant false w → IsPeopled w → AllKinds w → AllKinds (run_command o c w).0
+kinds-command {w} o c q i h = from (refusal w o c) refl
   where
     from : (r : Option Refusal) → refusal w o c ≡ r → AllKinds (unless_refused o (refusal w o c) w (accepted w o c)).0
     from (Some r) e = subst (λ a. AllKinds (unless_refused o a w (accepted w o c)).0) (sym e) h
     from None e = let a = accepted-facts w o c e in subst (λ a. AllKinds (unless_refused o a w (accepted w o c)).0) (sym e)
-        (kinds-accepted w o c p a.there a.grammar a.part q i h)
+        (kinds-accepted c (record { there = a.there; people = i }) a.part q h)
 
 -- the ending of another component's turn
 kinds-ending_other : (w : World) (o : Owner) → AllKinds w → AllKinds (ending_other_turn w o).0
@@ -212,7 +211,7 @@ pub kinds-line : (w : World) (l : Line) → Invariant false w → IsPeopled w �
 kinds-line w no_owner q i h = h
 kinds-line w (no_command o) q i h = kinds-ending_other w o h
 kinds-line w (command o c) q i h =
-    kinds-command (ending_other_turn w o).0 o c (λ e. subst (λ x. IsPageTime (ending_other_turn w x).0) (sym e) (page_time w))
+    kinds-command o c
     (quiet-ending_other w q o) (peopled-ending_other w o q i) (kinds-ending_other w o h)
 
 -- the first world

@@ -58,8 +58,8 @@ opening-page w h = from w.turn refl h
 
 module _ {only_log : Bool} where
   -- either keeps what holds
-  pub quiet-opening : (w : World) → Invariant only_log w → (o : Owner) → (o ≡ Page → IsPageTime w) → Invariant only_log (opening_turn w o)
-  quiet-opening w q o h = from w.turn refl
+  pub quiet-opening : (w : World) → Invariant only_log w → (o : Owner) → Invariant only_log (opening_turn w o)
+  quiet-opening w q o = from w.turn refl
     where
       with_turn : World
       with_turn = record w { turn = Some o }
@@ -71,7 +71,7 @@ module _ {only_log : Bool} where
       from None e =
           subst (λ t. Invariant only_log (if is_some t then w else record w { turn = Some o })) (sym e)
           (record {
-            world = world-alike (record w { turn = Some o }) w (λ x. record { trees = refl; count = refl; attached = refl }) (λ x. x)
+            world = world-alike (record w { turn = Some o }) (λ x. record { trees = refl; count = refl; attached = refl }) (λ x. x)
                 q.world.signalled (tasks e) q.world;
             logs = q.logs;
           })

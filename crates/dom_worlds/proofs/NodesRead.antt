@@ -9,7 +9,7 @@ use Rattle.dom_model.specs.Tree.{Trees, none, tree, Node, nodes, node_in, no_nod
 use Rattle.dom_model.specs.TreeChanges.{taken_out, placed, with_node, map_nodes}
 use Rattle.dom_model.proofs.OwnerLaws.{name_eq-same}
 use Rattle.dom_worlds.specs.Worlds.{AllNodes}
-use Rattle.dom_worlds.proofs.Insides.{inside, times-taken_out_all, times-placed_all}
+use Rattle.dom_worlds.proofs.Insides.{CanPlace, times-taken_out_all, times-placed_all}
 use Rattle.dom_worlds.proofs.KindLines.{all-found}
 use Rattle.dom_worlds.proofs.NodeKinds.{name-node_in}
 use Rattle.dom_worlds.proofs.ShadowRoots.{found-absent, found-there}
@@ -51,12 +51,12 @@ node-taken_out ts x y u h =
     read-same ts (taken_out x ts) y (let t = times-taken_out_all ts x y u in omega arith) (node_in ts y) (nodes-taken_out P x ts (read-all ts y u h))
 
 -- or is placed
-pub node-placed : (ts : Trees) (x parent : NodeName) (before : Option NodeName) (y : NodeName) → IsUnique ts → 1 ≤ times_in ts parent →
-    inside ts x parent ≡ 0 → 1 ≤ times_in ts y → node_in (placed x parent before ts) y ≡ node_in ts y
-node-placed ts x parent before y u t k h =
+pub node-placed : {ts : Trees} {x parent : NodeName} (before : Option NodeName) (y : NodeName) → CanPlace ts x parent → 1 ≤ times_in ts y →
+    node_in (placed x parent before ts) y ≡ node_in ts y
+node-placed {ts} {x} {parent} before y c h =
     let P : Node → Type 0 = λ n. name_eq n.name y ≡ true → n ≡ node_in ts y in
-    read-same ts (placed x parent before ts) y (let t = times-placed_all ts x parent before y u t k in omega arith) (node_in ts y)
-    (nodes-placed P x parent before ts (read-all ts y u h))
+    read-same ts (placed x parent before ts) y (let t = times-placed_all before y c in omega arith) (node_in ts y)
+    (nodes-placed P x parent before ts (read-all ts y c.unique h))
 
 -- or is new
 pub node-with_node : (n : Node) (ts : Trees) (y : NodeName) → IsUnique ts → 1 ≤ times_in ts y → name_eq n.name y ≡ false →

@@ -27,10 +27,10 @@ use Rattle.dom_worlds.specs.Reached.{Invariant}
 use Rattle.dom_worlds.specs.Worlds.{owners_in, IsThere, task_owner, components_of, is_made_by, is_unmade, HasOwners}
 use Rattle.dom_worlds.proofs.TableEffects.{KeepsBase, base-effect}
 use Rattle.dom_worlds.proofs.FirstWorld.{quiet-first, quiet-attaching, by_owner, attached-maker, attached-new, attached-other, attached-there}
-use Rattle.dom_worlds.proofs.LineBegins.{IsPageTime, page_time, part_of-opening, quiet-opening, quiet-ending_other}
+use Rattle.dom_worlds.proofs.LineBegins.{part_of-opening, quiet-opening, quiet-ending_other}
 use Rattle.dom_worlds.proofs.Lists.{all-append, all-then}
 use Rattle.dom_worlds.proofs.Tests.{either_way}
-use Rattle.dom_worlds.proofs.OwnerSteps.{IsPeopled, same-people, peopled-with_part, peopled-world_after}
+use Rattle.dom_worlds.proofs.OwnerSteps.{IsPresent, IsPeopled, same-people, peopled-with_part, peopled-world_after}
 use Rattle.dom_worlds.proofs.OwnerDispatches.{peopled-dispatch, peopled-ending_turn}
 use Rattle.dom_worlds.proofs.OwnerDispatches.{peopled-ending_other}
 use Rattle.dom_worlds.proofs.Owners.{has_owner, there-listed, owners-put, owners-put_new, absent-part, made_by-told, next-absent}
@@ -50,27 +50,26 @@ peopled-first =
     none_made (Component k) = refl
 
 -- where one is added that another owner made, an owner's components stay
-none-more : (v w : World) (o c : Owner) (n : ℕ) → made_by c ≡ Some (o, n) → owners_in v ≡ owners_in w ++ c ∷ [] → HasOwners w → (a : Owner) → a ≢ o →
-    (part_of v a).attached ≡ (part_of w a).attached →
+none-more : {w : World} {o : Owner} {n : ℕ} (v : World) (c : Owner) → made_by c ≡ Some (o, n) → owners_in v ≡ owners_in w ++ c ∷ [] → HasOwners w →
+    (a : Owner) → a ≢ o → (part_of v a).attached ≡ (part_of w a).attached →
     filter (is_made_by a) (owners_in v) ≡ components_of a (length (part_of v a).attached)
-none-more v w o c n named owners i a f same =
+none-more {w} {o} v c named owners i a f same =
     let other : is_made_by a c ≡ false = ap (λ x. option_map_or (λ (m : Owner × ℕ). owner_eq m.0 a) x false) named ∙ ne-owner_eq o a (λ e. f (sym e)) in
     ap (filter (is_made_by a)) owners ∙ filter-append (is_made_by a) (owners_in w) (c ∷ [])
     ∙ ap (λ os. filter (is_made_by a) (owners_in w) ++ os) (cond-false (is_made_by a c) (c ∷ []) [] other)
     ∙ append-nil (filter (is_made_by a) (owners_in w)) ∙ i.made a ∙ sym (ap (λ (hs : List NodeName). components_of a (length hs)) same)
 
 -- attaching adds the new component
-peopled-attaching : (w : World) (o : Owner) (x : NodeName) → MayAttach o → x.owner ≡ o → IsThere w o → Invariant false w → IsPeopled w →
-    IsPeopled (attaching w o x).0
-peopled-attaching w o x may h t q i =
+peopled-attaching : {w : World} {o : Owner} (x : NodeName) → MayAttach o → x.owner ≡ o → IsPresent w o → Invariant false w → IsPeopled (attaching w o x).0
+peopled-attaching {w} {o} x may h k q =
     let p = part_of w o in
     let n = length p.attached in
     let c = component_made o n in
     let more = record p { attached = p.attached ++ x ∷ [] } in
     let marked = with_part w more in
     let v = (attaching w o x).0 in
-    let absent : IsThere w c → ⊥ = next-absent w i.makers i.owners o may in
-    let marked_owners : owners_in marked ≡ owners_in w = owners-put w.parts more (subst (IsThere w) (sym (owner-part_of w o)) t) in
+    let absent : IsThere w c → ⊥ = next-absent w k.people.makers k.people.owners o may in
+    let marked_owners : owners_in marked ≡ owners_in w = owners-put w.parts more (subst (IsThere w) (sym (owner-part_of w o)) k.there) in
     let off : has_owner (owners_in marked) c ≡ false =
     ap (λ os. has_owner os c) marked_owners ∙ sym (there-listed w.parts c) ∙ false_from_ne_true (is_there w c) absent in
     let owners : owners_in v ≡ owners_in w ++ c ∷ [] =
@@ -81,21 +80,21 @@ peopled-attaching w o x may h t q i =
     let stays : (a : Owner) → IsThere w a → IsThere v a = attached-there w o x may in
     record {
       owners = record {
-        first = ap first_of owners ∙ first-more (owners_in w) (c ∷ []) i.owners.first;
-        unmade = filtered is_unmade ∙ ap (λ os. os ++ filter is_unmade (c ∷ [])) i.owners.unmade
+        first = ap first_of owners ∙ first-more (owners_in w) (c ∷ []) k.people.owners.first;
+        unmade = filtered is_unmade ∙ ap (λ os. os ++ filter is_unmade (c ∷ [])) k.people.owners.unmade
             ∙ ap (λ os. Page ∷ os) (cond-false (is_unmade c) (c ∷ []) [] (ap is_none named));
         made = by_owner (λ a. filter (is_made_by a) (owners_in v) ≡ components_of a (length (part_of v a).attached)) o c
             (let longer = length-append p.attached (x ∷ []) in
             let count : length (part_of v o).attached ≡ suc n = ap (λ (q : Part). length q.attached) (attached-maker w o x may) ∙ omega (arith, longer) in
-            filtered (is_made_by o) ∙ ap (λ os. os ++ filter (is_made_by o) (c ∷ [])) (i.owners.made o)
+            filtered (is_made_by o) ∙ ap (λ os. os ++ filter (is_made_by o) (c ∷ [])) (k.people.owners.made o)
             ∙ ap (λ os. components_of o n ++ os) (cond-true (is_made_by o c) (c ∷ []) [] (made_by-told c o n named))
             ∙ sym (ap (components_of o) count))
-            (none-more v w o c n named owners i.owners c (component_made-other o n)
+            (none-more v c named owners k.people.owners c (component_made-other o n)
             (ap (λ (q : Part). q.attached) (attached-new w o x may) ∙ sym (ap (λ (q : Part). q.attached) (absent-part w c absent))))
-            (λ a f g. none-more v w o c n named owners i.owners a f (ap (λ (q : Part). q.attached) (attached-other w o x may a f g)));
-        turn = all-then (IsThere w) (IsThere v) stays (option_to_list w.turn) i.owners.turn;
-        tasks = all-then (λ t. IsThere w (task_owner t)) (λ t. IsThere v (task_owner t)) (λ t. stays (task_owner t)) w.tasks i.owners.tasks;
-        signalled = all-then (λ (s : NodeName). IsThere w s.owner) (λ s. IsThere v s.owner) (λ s. stays s.owner) w.signalled i.owners.signalled;
+            (λ a f g. none-more v c named owners k.people.owners a f (ap (λ (q : Part). q.attached) (attached-other w o x may a f g)));
+        turn = all-then (IsThere w) (IsThere v) stays (option_to_list w.turn) k.people.owners.turn;
+        tasks = all-then (λ t. IsThere w (task_owner t)) (λ t. IsThere v (task_owner t)) (λ t. stays (task_owner t)) w.tasks k.people.owners.tasks;
+        signalled = all-then (λ (s : NodeName). IsThere w s.owner) (λ s. IsThere v s.owner) (λ s. stays s.owner) w.signalled k.people.owners.signalled;
       };
       makers = (quiet-attaching w o x may h q).world.makers;
     }
@@ -105,59 +104,57 @@ peopled-attaching w o x may h t q i =
     first-more (a ∷ os) more e = e
 
 -- who attaches is known from acceptance
-peopled-attach_of : (w : World) (o : Owner) (x : NodeWord) → part_refusal (part_of w o) (Command.attach x) ≡ None → IsThere w o → Invariant false w →
-    IsPeopled w → IsPeopled (perform w o (Command.attach x)).0
-peopled-attach_of w o x r h q i = peopled-attaching w o (named (part_of w o) x) (attach-may w o x r) (owner-named (part_of w o) x ∙ owner-part_of w o) h q i
+peopled-attach_of : {w : World} (o : Owner) (x : NodeWord) → part_refusal (part_of w o) (Command.attach x) ≡ None → IsPresent w o → Invariant false w →
+    IsPeopled (perform w o (Command.attach x)).0
+peopled-attach_of {w} o x r h q = peopled-attaching (named (part_of w o) x) (attach-may w o x r) (owner-named (part_of w o) x ∙ owner-part_of w o) h q
 
 -- Other commands.
-peopled-effect : (w : World) (o : Owner) (e : Effect) → IsThere w o → KeepsBase (part_of w o) e → IsPeopled w → IsPeopled (effect_in w o e).0
-peopled-effect w o (tables p lines v) h base i = peopled-with_part w p o (base.0 ∙ owner-part_of w o) h base.1.attached i
-peopled-effect w o (changes steps v) h base i = peopled-world_after o steps w h i
+peopled-effect : (w : World) (o : Owner) (e : Effect) → IsPresent w o → KeepsBase (part_of w o) e → IsPeopled (effect_in w o e).0
+peopled-effect w o (tables p lines v) h base = peopled-with_part w p o (base.0 ∙ owner-part_of w o) h.there base.1.attached h.people
+peopled-effect w o (changes steps v) h base = peopled-world_after o steps w h
 
 -- every accepted command
-peopled-perform : (w : World) (o : Owner) (c : Command) → IsThere w o → part_refusal (part_of w o) c ≡ None → Invariant false w → IsPeopled w →
-    IsPeopled (perform w o c).0
-peopled-perform w o (Command.attach x) h g q i = peopled-attach_of w o x g h q i
-peopled-perform w o (Command.connected x) h g q i = i
-peopled-perform w o (Command.assigned x) h g q i = i
-peopled-perform w o (Command.dispatch x e related) h g q i = peopled-dispatch w q.world (named (part_of w o) x) (option_map (named (part_of w o)) related) e i
-peopled-perform w o (Command.micro label) h g q i =
-    same-people (perform w o (Command.micro label)).0 w (refl, λ x. refl) i.owners.turn
-    (all-append (λ t. IsThere w (task_owner t)) w.tasks (micro_task o label ∷ []) i.owners.tasks (h, tt)) i.owners.signalled i
-peopled-perform w o Command.end_turn h g q i = peopled-ending_turn w q i
-peopled-perform w o c h g q i = peopled-effect w o (effect (part_of w o) c) h (base-effect (part_of w o) c) i
+peopled-perform : {w : World} (o : Owner) (c : Command) → IsPresent w o → part_refusal (part_of w o) c ≡ None → Invariant false w → IsPeopled (perform w o c).0
+peopled-perform {w} o (Command.attach x) h g q = peopled-attach_of o x g h q
+peopled-perform o (Command.connected x) h g q = h.people
+peopled-perform o (Command.assigned x) h g q = h.people
+peopled-perform {w} o (Command.dispatch x e related) h g q =
+    peopled-dispatch w q.world (named (part_of w o) x) (option_map (named (part_of w o)) related) e h.people
+peopled-perform {w} o (Command.micro label) h g q =
+    same-people (perform w o (Command.micro label)).0 (refl, λ x. refl) h.people.owners.turn
+    (all-append (λ t. IsThere w (task_owner t)) w.tasks (micro_task o label ∷ []) h.people.owners.tasks (h.there, tt)) h.people.owners.signalled h.people
+peopled-perform {w} o Command.end_turn h g q = peopled-ending_turn w q h.people
+peopled-perform {w} o c h g q = peopled-effect w o (effect (part_of w o) c) h (base-effect (part_of w o) c)
 
 -- the turn that it opens
-pub peopled-opening : (w : World) (o : Owner) → IsThere w o → IsPeopled w → IsPeopled (opening_turn w o)
-peopled-opening w o h i =
-    either_way IsPeopled (is_some w.turn) w (record w { turn = Some o }) i
-    (same-people (record w { turn = Some o }) w (refl, λ x. refl) (h, tt) i.owners.tasks i.owners.signalled i)
-
--- its owner stays there
-pub there-opening : (w : World) (o : Owner) → IsThere w o → IsThere (opening_turn w o) o
-there-opening w o h = either_way (λ v. IsThere v o) (is_some w.turn) w (record w { turn = Some o }) h h
+pub present-opening : {w : World} {o : Owner} → IsPresent w o → IsPresent (opening_turn w o) o
+present-opening {w} {o} h =
+    either_way (λ v. IsPresent v o) (is_some w.turn) w (record w { turn = Some o }) h
+    (record {
+      there = h.there;
+      people = same-people (record w { turn = Some o }) (refl, λ x. refl) (h.there, tt) h.people.owners.tasks h.people.owners.signalled h.people;
+    })
 
 -- with that turn
-peopled-accepted : (w : World) (o : Owner) (c : Command) → (o ≡ Page → IsPageTime w) → IsThere w o → part_refusal (part_of w o) c ≡ None →
-    Invariant false w → IsPeopled w → IsPeopled (accepted w o c).0
-peopled-accepted w o Command.end_turn t h g q i = peopled-ending_turn w q i
-peopled-accepted w o c t h r q i =
-    peopled-perform (opening_turn w o) o c (there-opening w o h) (ap (λ p. part_refusal p c) (part_of-opening w o o) ∙ r) (quiet-opening w q o t)
-    (peopled-opening w o h i)
+peopled-accepted : (w : World) (o : Owner) (c : Command) → IsPresent w o → part_refusal (part_of w o) c ≡ None → Invariant false w →
+    IsPeopled (accepted w o c).0
+peopled-accepted w o Command.end_turn h g q = peopled-ending_turn w q h.people
+peopled-accepted w o c h r q =
+    peopled-perform o c (present-opening h) (ap (λ p. part_refusal p c) (part_of-opening w o o) ∙ r) (quiet-opening w q o)
 
 -- Lines.
-peopled-command : (w : World) (o : Owner) (c : Command) → (o ≡ Page → IsPageTime w) → Invariant false w → IsPeopled w → IsPeopled (run_command o c w).0
-peopled-command w o c t q i = from (refusal w o c) refl
+peopled-command : (w : World) (o : Owner) (c : Command) → Invariant false w → IsPeopled w → IsPeopled (run_command o c w).0
+peopled-command w o c q i = from (refusal w o c) refl
   where
     from : (r : Option Refusal) → refusal w o c ≡ r → IsPeopled (unless_refused o (refusal w o c) w (accepted w o c)).0
     from (Some r) e = subst (λ a. IsPeopled (unless_refused o a w (accepted w o c)).0) (sym e) i
     from None e = let a = accepted-facts w o c e in subst (λ a. IsPeopled (unless_refused o a w (accepted w o c)).0) (sym e)
-        (peopled-accepted w o c t a.there a.part q i)
+        (peopled-accepted w o c (record { there = a.there; people = i }) a.part q)
 
 -- a line keeps who is there
 pub peopled-step : (w : World) (l : Line) → Invariant false w → IsPeopled w → IsPeopled (step w l).0
 peopled-step w no_owner q i = i
 peopled-step w (no_command o) q i = peopled-ending_other w o q i
 peopled-step w (command o c) q i =
-    peopled-command (ending_other_turn w o).0 o c (λ e. subst (λ x. IsPageTime (ending_other_turn w x).0) (sym e) (page_time w))
+    peopled-command (ending_other_turn w o).0 o c
     (quiet-ending_other w q o) (peopled-ending_other w o q i)

@@ -135,7 +135,7 @@ module _ {only_log : Bool} where
   peopled-running w (micro_task o label) h q i = i
   peopled-running w (notify_task o) h q i =
       let base = without_signals w o in
-      let calm = same-people base w (refl, λ x. refl) i.owners.turn i.owners.tasks
+      let calm = same-people base (refl, λ x. refl) i.owners.turn i.owners.tasks
       (all-filter (λ s. IsThere w s.owner) (λ s. not (is_owned_by o s)) w.signalled i.owners.signalled) i in
       peopled-firings (filter (is_owned_by o) w.signalled) (with_part base (notified (part_of w o))) (quiet-told w o q)
       (peopled-with_part base (notified (part_of w o)) o (owner-part_of w o) h refl calm)
@@ -170,7 +170,7 @@ module _ {only_log : Bool} where
   pub peopled-ending_turn : (w : World) → Invariant only_log w → IsPeopled w → IsPeopled (ending_turn w).0
   peopled-ending_turn w q i =
       let calm : World = record w { tasks = []; turn = None } in
-      peopled-running_all w.tasks calm i.owners.tasks (quiet-at_end w q) (same-people calm w (refl, λ x. refl) tt tt i.owners.signalled i)
+      peopled-running_all w.tasks calm i.owners.tasks (quiet-at_end w q) (same-people calm (refl, λ x. refl) tt tt i.owners.signalled i)
 
   -- of another component's turn
   pub peopled-ending_other : (w : World) (o : Owner) → Invariant only_log w → IsPeopled w → IsPeopled (ending_other_turn w o).0

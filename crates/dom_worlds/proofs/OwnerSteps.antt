@@ -33,6 +33,11 @@ pub record IsPeopled (w : World) : Type 0 where
   pub owners : HasOwners w
   pub makers : HasMakers w
 
+-- An owner that is there, in such a world.
+pub record IsPresent (w : World) (o : Owner) : Type 0 where
+  pub there : IsThere w o
+  pub people : IsPeopled w
+
 -- so it is of a world that is reached
 pub people : {only_log : Bool} (w : World) → IsReached only_log w → IsPeopled w
 people w r = record { owners = r.owners; makers = r.world.makers }
@@ -47,9 +52,9 @@ all-there : {X : Type 0} (v w : World) (owner : X → Owner) → owners_in v ≡
 all-there v w owner e xs h = all-then (λ x. IsThere w (owner x)) (λ x. IsThere v (owner x)) (λ x t. there-same v w e (owner x) ∙ t) xs h
 
 -- a world with the same owners and hosts
-pub same-people : (v w : World) → SamePeople v w → AllByRecursion (IsThere w) (option_to_list v.turn) →
+pub same-people : {w : World} (v : World) → SamePeople v w → AllByRecursion (IsThere w) (option_to_list v.turn) →
     AllByRecursion (λ t. IsThere w (task_owner t)) v.tasks → AllByRecursion (λ s. IsThere w s.owner) v.signalled → IsPeopled w → IsPeopled v
-same-people v w same turn tasks signalled i =
+same-people {w} v same turn tasks signalled i =
     record {
       owners = record {
         first = ap first_of same.0 ∙ i.owners.first;
@@ -70,30 +75,31 @@ module _ (w : World) (p : Part) (o : Owner) (e : p.owner ≡ o) (h : IsThere w o
 
   -- it keeps who is there
   pub peopled-with_part : IsPeopled w → IsPeopled (with_part w p)
-  peopled-with_part i = same-people (with_part w p) w (people-with_part) i.owners.turn i.owners.tasks i.owners.signalled i
+  peopled-with_part i = same-people (with_part w p) (people-with_part) i.owners.turn i.owners.tasks i.owners.signalled i
 
 -- a step in its part leaves owners and hosts
 people-stepped : (w : World) (o : Owner) (s : Step) → IsThere w o → SamePeople (stepped o w s) w
 people-stepped w o s h = people-with_part w (part_step (part_of w o) s) o (owner-part_step (part_of w o) s ∙ owner-part_of w o) h (rest-step (part_of w o) s).0
 
 -- and keeps who is there
-peopled-stepped : (w : World) (o : Owner) (s : Step) → IsThere w o → IsPeopled w → IsPeopled (stepped o w s)
-peopled-stepped w o s h i = same-people (stepped o w s) w (people-stepped w o s h) i.owners.turn i.owners.tasks i.owners.signalled i
+peopled-stepped : (w : World) (o : Owner) (s : Step) → IsPresent w o → IsPeopled (stepped o w s)
+peopled-stepped w o s h =
+    same-people (stepped o w s) (people-stepped w o s h.there) h.people.owners.turn h.people.owners.tasks h.people.owners.signalled h.people
 
 -- Notifications and signals.
-pub peopled-with_notify : (w : World) (o : Owner) → IsThere w o → IsPeopled w → IsPeopled (with_notify w o)
-peopled-with_notify w o h i =
+pub peopled-with_notify : (w : World) (o : Owner) → IsPresent w o → IsPeopled (with_notify w o)
+peopled-with_notify w o h =
     let P : Task → Type 0 = λ t. IsThere w (task_owner t) in
-    same-people (with_notify w o) w (refl, λ x. refl) i.owners.turn
-    (either_way (AllByRecursion P) (list_any (is_notify_of o) w.tasks) w.tasks (w.tasks ++ notify_task o ∷ []) i.owners.tasks
-    (all-append P w.tasks (notify_task o ∷ []) i.owners.tasks (h, tt))) i.owners.signalled i
+    same-people (with_notify w o) (refl, λ x. refl) h.people.owners.turn
+    (either_way (AllByRecursion P) (list_any (is_notify_of o) w.tasks) w.tasks (w.tasks ++ notify_task o ∷ []) h.people.owners.tasks
+    (all-append P w.tasks (notify_task o ∷ []) h.people.owners.tasks (h.there, tt))) h.people.owners.signalled h.people
 
 -- a signal
 peopled-with_signal : (w : World) (s : NodeName) → IsThere w s.owner → IsPeopled w → IsPeopled (with_signal w s)
 peopled-with_signal w s h i =
-    let g = peopled-with_notify w s.owner h i in
+    let g = peopled-with_notify w s.owner (record { there = h; people = i }) in
     let P : NodeName → Type 0 = λ s. IsThere w s.owner in
-    same-people (with_signal w s) (with_notify w s.owner) (refl, λ x. refl) g.owners.turn g.owners.tasks
+    same-people (with_signal w s) (refl, λ x. refl) g.owners.turn g.owners.tasks
     (either_way (AllByRecursion P) (is_in name_eq s w.signalled) w.signalled (w.signalled ++ s ∷ []) i.owners.signalled
     (all-append P w.signalled (s ∷ []) i.owners.signalled (h, tt))) g
 
@@ -129,9 +135,9 @@ bare-there now i s is_move h =
     from (Some x) e g = hosted-there now i.owners s.owner (ap is_some e)
 
 -- all that is signalled
-signals-there : (was now : World) → IsPeopled now → ((o : Owner) → host_of was o ≡ host_of now o) → (x around : NodeName) (is_move : Bool) →
+signals-there : {now : World} (was : World) → IsPeopled now → ((o : Owner) → host_of was o ≡ host_of now o) → (x around : NodeName) (is_move : Bool) →
     AllByRecursion (λ s. IsThere now s.owner) (signals was now x around is_move)
-signals-there was now i same x around is_move =
+signals-there {now} was i same x around is_move =
     let P : NodeName → Type 0 = λ s. IsThere now s.owner in
     let bare : List NodeName = if is_move && is_bare_slot now around then around ∷ [] else [] in
     let own = filter (is_changed was now) (own_slots was now x) in
@@ -142,13 +148,13 @@ signals-there was now i same x around is_move =
     all-distinct P name_eq (own ++ bare ++ other) (all-append P (own ++ bare) other (all-append P own bare own-all bare-all) other-all)
 
 -- the signals of a step
-signalled-after : (w : World) (o : Owner) (s : Step) → IsThere w o → IsPeopled w → (x around : NodeName) (is_move : Bool) →
+signalled-after : {w : World} {o : Owner} (s : Step) → IsPresent w o → (x around : NodeName) (is_move : Bool) →
     IsPeopled (fold with_signal (stepped o w s) (signals w (stepped o w s) x around is_move))
-signalled-after w o s h i x around is_move =
+signalled-after {w} {o} s h x around is_move =
     let now = stepped o w s in
-    let k = peopled-stepped w o s h i in
+    let k = peopled-stepped w o s h in
     peopled-each_signal (signals w now x around is_move) now
-    (signals-there w now k (λ a. sym (host_of-same now w (people-stepped w o s h).1 a)) x around is_move) k
+    (signals-there w k (λ a. sym (host_of-same now w (people-stepped w o s h.there).1 a)) x around is_move) k
 
 -- the components in a tree are there
 all-components : (w : World) → IsPeopled w → (xs : List NodeName) → AllByRecursion (IsThere w) (filter_map (component_at w) xs)
@@ -175,33 +181,34 @@ peopled-documents [] d w h i = i
 peopled-documents (c ∷ cs) d w h i =
     let v = with_shadow_document d w c in
     peopled-documents cs d v (all-there v w (λ o. o) (people-stepped w c (set_document (shadow_root_of c) d) h.0).0 cs h.1)
-    (peopled-stepped w c (set_document (shadow_root_of c) d) h.0 i)
+    (peopled-stepped w c (set_document (shadow_root_of c) d) (record { there = h.0; people = i }))
 
 -- Steps.
-peopled-removed : (w : World) (o : Owner) (s : Step) (x : NodeName) (parent : Option NodeName) → IsThere w o → IsPeopled w →
+peopled-removed : {w : World} (o : Owner) (s : Step) (x : NodeName) (parent : Option NodeName) → IsPresent w o →
     IsPeopled (with_removal_signals w (stepped o w s) x parent)
-peopled-removed w o s x None h i = peopled-stepped w o s h i
-peopled-removed w o s x (Some parent) h i = signalled-after w o s h i x parent true
+peopled-removed {w} o s x None h = peopled-stepped w o s h
+peopled-removed {w} o s x (Some parent) h = signalled-after s h x parent true
 
 -- a notification, if so
-peopled-notify_if : (b : Bool) (w : World) (o : Owner) → IsThere w o → IsPeopled w → IsPeopled (with_notify_if b o w)
-peopled-notify_if true w o h i = peopled-with_notify w o h i
-peopled-notify_if false w o h i = i
+peopled-notify_if : (b : Bool) (w : World) (o : Owner) → IsPresent w o → IsPeopled (with_notify_if b o w)
+peopled-notify_if true w o h = peopled-with_notify w o h
+peopled-notify_if false w o h = h.people
 
 -- a step in the world
-peopled-world_step : (o : Owner) (w : World) (s : Step) → IsThere w o → IsPeopled w → IsPeopled (world_step o w s)
-peopled-world_step o w (place x parent before) h i = signalled-after w o (place x parent before) h i x parent true
-peopled-world_step o w (take_out x) h i = peopled-removed w o (take_out x) x (parent_of (part_of w o).trees x) h i
-peopled-world_step o w (set_attribute x a v) h i = signalled-after w o (set_attribute x a v) h i x x false
-peopled-world_step o w (set_document x d) h i =
+peopled-world_step : (o : Owner) (w : World) (s : Step) → IsPresent w o → IsPeopled (world_step o w s)
+peopled-world_step o w (place x parent before) h = signalled-after (place x parent before) h x parent true
+peopled-world_step o w (take_out x) h = peopled-removed o (take_out x) x (parent_of (part_of w o).trees x) h
+peopled-world_step o w (set_attribute x a v) h = signalled-after (set_attribute x a v) h x x false
+peopled-world_step o w (set_document x d) h =
     let v = stepped o w (set_document x d) in
     peopled-documents (components_below max_depth w x) d v
-    (all-there v w (λ o. o) (people-stepped w o (set_document x d) h).0 (components_below max_depth w x) (below-there max_depth w i x))
-    (peopled-stepped w o (set_document x d) h i)
-peopled-world_step o w (queue_record c) h i =
+    (all-there v w (λ o. o) (people-stepped w o (set_document x d) h.there).0 (components_below max_depth w x) (below-there max_depth w h.people x))
+    (peopled-stepped w o (set_document x d) h)
+peopled-world_step o w (queue_record c) h =
     let v = stepped o w (queue_record c) in
-    peopled-notify_if (is_taken (part_of w o) c) v o (there-same v w (people-stepped w o (queue_record c) h).0 o ∙ h) (peopled-stepped w o (queue_record c) h i)
-peopled-world_step o w s h i = peopled-stepped w o s h i
+    peopled-notify_if (is_taken (part_of w o) c) v o
+    (record { there = there-same v w (people-stepped w o (queue_record c) h.there).0 o ∙ h.there; people = peopled-stepped w o (queue_record c) h })
+peopled-world_step o w s h = peopled-stepped w o s h
 
 -- who is there stays there
 stays-signals : (ss : List NodeName) (w : World) (a : Owner) → IsThere w a → IsThere (fold with_signal w ss) a
@@ -243,6 +250,7 @@ stays-world_step o w (queue_record c) a h =
 stays-world_step o w s a h = stays-stepped w o s a h
 
 -- many steps
-pub peopled-world_after : (o : Owner) (steps : List Step) (w : World) → IsThere w o → IsPeopled w → IsPeopled (world_after o w steps)
-peopled-world_after o [] w h i = i
-peopled-world_after o (s ∷ steps) w h i = peopled-world_after o steps (world_step o w s) (stays-world_step o w s o h) (peopled-world_step o w s h i)
+pub peopled-world_after : (o : Owner) (steps : List Step) (w : World) → IsPresent w o → IsPeopled (world_after o w steps)
+peopled-world_after o [] w h = h.people
+peopled-world_after o (s ∷ steps) w h =
+    peopled-world_after o steps (world_step o w s) (record { there = stays-world_step o w s o h.there; people = peopled-world_step o w s h })

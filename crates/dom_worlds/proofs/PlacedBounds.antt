@@ -23,7 +23,7 @@ use Rattle.dom_worlds.proofs.NodesRead.{node-taken_out, node-placed, node-map_no
 use Rattle.dom_worlds.proofs.Lists.{all-then}
 use Rattle.dom_worlds.proofs.PartSteps.{some-keeps}
 use Rattle.dom_worlds.proofs.PlanChildren.{documented}
-use Rattle.dom_worlds.proofs.PlanPlaces.{MayGo, may-still, still, taken-step, telling-trees, root-adopting, after-append}
+use Rattle.dom_worlds.proofs.PlanPlaces.{may-place, MayGo, may-still, still, taken-step, telling-trees, root-adopting, after-append}
 use Rattle.dom_worlds.proofs.PlanPlaces.{emptied_of, leads-then, leads-eased, leads-each, placing-each, leads-removing, leads-adopting, leads-placing}
 use Rattle.dom_worlds.proofs.PlanPlaces.{leads-emptied, leads-making_room, placed-may}
 use Rattle.dom_worlds.proofs.ReachedFacts.{root-alone}
@@ -80,9 +80,9 @@ root-stays : (how : Observing) (x : NodeName) (p : Part) → IsPart p → HasRoo
 root-stays how x p i h = ap (λ o. option_map_or (removing_from how x p.trees) o []) (root-parent p x i h)
 
 -- the adoption of a root leaves children and roots
-root-adopted : (d x : NodeName) (p : Part) → IsPart p → HasRoot p.trees x → (P : Trees → Type 0) → P p.trees →
-    P (part_step p (set_document x d)).trees → P (after p (adopting d x p)).trees
-root-adopted d x p i h P a b =
+root-adopted : {p : Part} (d x : NodeName) → IsPart p → HasRoot p.trees x → (P : Trees → Type 0) → P p.trees → P (part_step p (set_document x d)).trees →
+    P (after p (adopting d x p)).trees
+root-adopted {p} d x i h P a b =
     let steps = removing observed x p in
     let none_made = root-stays observed x p i h in
     let q = after p steps in
@@ -96,7 +96,7 @@ module _ (d x y : NodeName) (p : Part) (i : IsPart p) (h : HasRoot p.trees x) wh
   -- children
   kids-root_adopted : kids (after p (adopting d x p)).trees y ≡ kids p.trees y
   kids-root_adopted =
-      root-adopted d x p i h (λ ts. kids ts y ≡ kids p.trees y) refl
+      root-adopted d x i h (λ ts. kids ts y ≡ kids p.trees y) refl
       (kids-map_nodes (λ n. if is_in name_eq n.name (inclusive_descendants p.trees x) then with_document d n else n)
       (λ n. (some-keeps (λ (n : Node). is_in name_eq n.name (inclusive_descendants p.trees x)) (with_document d) (λ n. (refl, refl)) n).0)
       p.trees y)
@@ -104,7 +104,7 @@ module _ (d x y : NodeName) (p : Part) (i : IsPart p) (h : HasRoot p.trees x) wh
   -- other roots
   roots-root_adopted : HasRoot p.trees y → HasRoot (after p (adopting d x p)).trees y
   roots-root_adopted r =
-      root-adopted d x p i h (λ ts. HasRoot ts y) r
+      root-adopted d x i h (λ ts. HasRoot ts y) r
       (root-map_nodes (λ n. if is_in name_eq n.name (inclusive_descendants p.trees x) then with_document d n else n)
       (λ n. (some-keeps (λ (n : Node). is_in name_eq n.name (inclusive_descendants p.trees x)) (with_document d) (λ n. (refl, refl)) n).0)
       p.trees y r)
@@ -121,7 +121,7 @@ module _ (parent : NodeName) (before : Option NodeName) (p : Part) (x : NodeName
       let first = leads-eased (Some parent) p steps (leads-adopting doc x p i m.owner) in
       let n = may-still parent p q x first.changed m in
       let a = kids-root_adopted doc x y p i h in
-      let b = kids-placed q.trees x parent before y first.changed.part.unique n.below n.apart (root-adopting doc x p m.there) in
+      let b = kids-placed before y (may-place first.changed.part n) (root-adopting doc x p m.there) in
       let c = ap (λ (r : Part). kids r.trees y) (after-append p steps (place x parent before ∷ [])) in omega arith
 
   -- leaves other roots
@@ -133,17 +133,16 @@ module _ (parent : NodeName) (before : Option NodeName) (p : Part) (x : NodeName
       (root-placed x parent before (after p steps).trees y e (roots-root_adopted doc x y p i h r))
 
 -- all of them
-kids-roots_placed : (parent : NodeName) (before : Option NodeName) (xs : List NodeName) (p : Part) → IsPart p →
-    AllByRecursion (MayGo parent p) xs → AllByRecursion (HasRoot p.trees) xs → Distinct xs →
-    kids (after p (in_turn (placing parent before) xs p)).trees parent ≡ kids p.trees parent + length xs
-kids-roots_placed parent before [] p i m r d = omega arith
-kids-roots_placed parent before (x ∷ xs) p i m r d =
+kids-roots_placed : (parent : NodeName) (before : Option NodeName) (xs : List NodeName) {p : Part} → IsPart p → AllByRecursion (MayGo parent p) xs →
+    AllByRecursion (HasRoot p.trees) xs → Distinct xs → kids (after p (in_turn (placing parent before) xs p)).trees parent ≡ kids p.trees parent + length xs
+kids-roots_placed parent before [] i m r d = omega arith
+kids-roots_placed parent before (x ∷ xs) {p} i m r d =
     let steps = placing parent before x p in
     let q = after p steps in
     let c = (leads-placing parent before p x i m.0).changed in
     let a = kids-root_placed parent before p x i m.0 r.0 parent in
     let o : one_at parent parent ≡ 1 = cond-true (name_eq parent parent) 1 0 (name_eq-same parent) in
-    let b = kids-roots_placed parent before xs q c.part (all-then (MayGo parent p) (MayGo parent q) (λ y. may-still parent p q y c) xs m.1)
+    let b = kids-roots_placed parent before xs c.part (all-then (MayGo parent p) (MayGo parent q) (λ y. may-still parent p q y c) xs m.1)
     (all-then (λ y. HasRoot p.trees y × (name_eq x y ≡ false)) (HasRoot q.trees)
     (λ y h. let h1 = h.1 in roots-root_placed parent before p x i r.0 y h.1 h.0) xs
     (all-both (HasRoot p.trees) (λ y. name_eq x y ≡ false) xs r.1 d.0)) d.1 in
@@ -167,7 +166,7 @@ module _ (how : Observing) (node parent : NodeName) (before : Option NodeName) (
       let r_trees : r.trees ≡ q.trees = ap (λ (s : Part). s.trees) (after-append p one two) ∙ unmoved before (length moved) q in
       let ab = leads-then spot p one two a (leads-eased spot q two (leads-making_room parent before (length moved) q a.changed.part)) in
       let three = in_turn (placing parent before) moved r in
-      let placed_all = kids-roots_placed parent before moved r ab.changed.part
+      let placed_all = kids-roots_placed parent before moved ab.changed.part
       (all-then (MayGo parent p) (MayGo parent r) (λ y. may-still parent p r y ab.changed) moved (placed-may parent p node i m))
       (subst (λ ts. AllByRecursion (HasRoot ts) moved) (sym r_trees) roots) distinct in
       let s = after p ((one ++ two) ++ three) in
@@ -213,7 +212,7 @@ texts-placing parent before p x i m =
     let first = leads-eased (Some parent) p steps (leads-adopting doc x p i m.owner) in
     let n = may-still parent p q x first.changed m in
     texts-then p steps (place x parent before ∷ []) (λ y. still first.changed y) (texts-adopting doc x p i)
-    (λ y t. ap (λ (n : Node). n.text) (node-placed q.trees x parent before y first.changed.part.unique n.below n.apart t))
+    (λ y t. ap (λ (n : Node). n.text) (node-placed before y (may-place first.changed.part n) t))
 
 -- of all that are placed
 texts-each : (parent : NodeName) (before : Option NodeName) (xs : List NodeName) (p : Part) → IsPart p → AllByRecursion (MayGo parent p) xs →
@@ -235,9 +234,9 @@ texts-removals how (x ∷ xs) p i =
     (texts-removing how x p i) (texts-removals how xs (after p (removing how x p)) first.changed.part)
 
 -- of an insertion
-pub texts-inserting : (how : Observing) (node parent : NodeName) (before : Option NodeName) (p : Part) → IsPart p → MayGo parent p node →
+pub texts-inserting : {node parent : NodeName} {p : Part} (how : Observing) (before : Option NodeName) → IsPart p → MayGo parent p node →
     SameTexts p (after p (inserting how node parent before p))
-texts-inserting how node parent before p i m =
+texts-inserting {node} {parent} {p} how before i m =
     let spot = Some parent in
     let moved = placed_nodes p.trees node in
     let told = telling how (child_list parent moved [] (sibling_before p.trees parent before) before) in

@@ -1,7 +1,7 @@
 -- Plans keep the ends of ranges within their nodes.
-use Rattle.std.proofs.Common.{◌≡◌, ◌≤◌, ℕ, ◌+◌, ◌-◌, Bool, true, false, not, List, [], ◌∷◌, ◌++◌, length, Option, Some, None, sym, ap}
+use Rattle.std.proofs.Common.{◌≡◌, ◌≤◌, ℕ, ◌+◌, Bool, true, false, not, List, [], ◌∷◌, ◌++◌, length, Option, Some, None, sym, ap}
 use Rattle.std.proofs.Common.{◌∙◌, arith, subst}
-use Rattle.std.specs.Prelude.{if◌then◌else◌, min}
+use Rattle.std.specs.Prelude.{if◌then◌else◌}
 use Rattle.std.specs.List.{AllByRecursion}
 use Rattle.std.specs.Option.{option_map_or}
 use Rattle.std.proofs.lemmas.Bool.{cond-true, cond-false}
@@ -18,11 +18,11 @@ use Rattle.dom_model.specs.Changes.{placing, sibling_before, inserting_nodes, in
 use Rattle.dom_model.specs.Changes.{unsetting_attribute}
 use Rattle.dom_model.specs.TextChanges.{replacing_data}
 use Rattle.dom_worlds.specs.Worlds.{IsPart}
-use Rattle.dom_worlds.proofs.Bounds.{nowhere, at_node, HasRoom, room-more, room-place, room-document, room-attribute, room-record, room-made}
+use Rattle.dom_worlds.proofs.Bounds.{IsRoomy, nowhere, at_node, HasRoom, room-more, room-place, room-document, room-attribute, room-record, room-made}
 use Rattle.dom_worlds.proofs.Bounds.{room-take, room-replace}
 use Rattle.dom_worlds.proofs.ChildCounts.{one_at}
 use Rattle.dom_worlds.proofs.Lists.{all-then}
-use Rattle.dom_worlds.proofs.PlanPlaces.{Changed, Leads, MayGo, may-still, still, root-adopting, after-append}
+use Rattle.dom_worlds.proofs.PlanPlaces.{may-place, Changed, Leads, MayGo, may-still, root-adopting, after-append}
 use Rattle.dom_worlds.proofs.PlanPlaces.{emptied_of, leads-then, leads-eased, leads-one, leads-removing, leads-adopting, leads-placing}
 use Rattle.dom_worlds.proofs.PlanPlaces.{leads-emptied, leads-making_room, placed-may}
 use Rattle.dom_worlds.proofs.TableSteps.{HasNode}
@@ -33,9 +33,9 @@ pub room-then : (e : NodeName → ℕ) (p : Part) (xs ys : List Step) → HasRoo
 room-then e p xs ys h = subst (HasRoom e) (sym (after-append p xs ys)) h
 
 -- one plan and then another
-pub room-plan : (spot : Option NodeName) (f g : Plan) (p : Part) → Leads spot p (f p) → HasRoom nowhere (after p (f p)) →
+pub room-plan : {spot : Option NodeName} {p : Part} (f g : Plan) → Leads spot p (f p) → HasRoom nowhere (after p (f p)) →
     ((q : Part) → Changed spot p q → HasRoom nowhere q → HasRoom nowhere (after q (g q))) → HasRoom nowhere (after p ((f and_then g) p))
-room-plan spot f g p a h k = room-then nowhere p (f p) (g (after p (f p))) (k (after p (f p)) a.changed h)
+room-plan {p} f g a h k = room-then nowhere p (f p) (g (after p (f p))) (k (after p (f p)) a.changed h)
 
 -- Records, removals and adoptions.
 room-telling : (e : NodeName → ℕ) (how : Observing) (c : Change NodeName) (p : Part) → HasRoom e p → HasRoom e (after p (telling how c))
@@ -76,35 +76,43 @@ IsOpen p x = has_data (kind_of p.trees x) ≡ false
 pub open-still : {spot : Option NodeName} {p q : Part} → Changed spot p q → (x : NodeName) → HasNode p x → IsOpen p x → IsOpen q x
 open-still c x t k = ap has_data (c.kinds x t) ∙ k
 
+-- What may be placed below a node that may have children.
+pub record MayEnter (parent : NodeName) (p : Part) (x : NodeName) : Type 0 where
+  pub go : MayGo parent p x
+  pub open_parent : IsOpen p parent
+
 -- a node is adopted and placed: it takes its room
-room-placing : (d e : NodeName → ℕ) (parent : NodeName) (before : Option NodeName) (p : Part) (x : NodeName) → IsPart p → MayGo parent p x →
-    IsOpen p parent → ((y : NodeName) → d y ≤ e y + one_at parent y) → HasRoom d p → HasRoom e (after p (placing parent before x p))
-room-placing d e parent before p x i m k more h =
+room-placing : {d : NodeName → ℕ} {parent : NodeName} {p : Part} {x : NodeName} (e : NodeName → ℕ) (before : Option NodeName) → IsRoomy d p →
+    MayEnter parent p x → ((y : NodeName) → d y ≤ e y + one_at parent y) → HasRoom e (after p (placing parent before x p))
+room-placing {d} {parent} {p} {x} e before w m more =
     let doc = document_below p.trees parent in
     let q = after p (adopting doc x p) in
-    let first = leads-eased (Some parent) p (adopting doc x p) (leads-adopting doc x p i m.owner) in
-    let n = may-still parent p q x first.changed m in
+    let first = leads-eased (Some parent) p (adopting doc x p) (leads-adopting doc x p w.part m.go.owner) in
+    let n = may-still parent p q x first.changed m.go in
     room-then e p (adopting doc x p) (place x parent before ∷ [])
-    (room-place d e q x parent before first.changed.part (n.below, n.apart, root-adopting doc x p m.there)
-    (open-still first.changed parent m.below k) more (room-adopting d doc x p i h))
+    (room-place before (record { part = first.changed.part; room = room-adopting d doc x p w.part w.room }) (may-place first.changed.part n)
+    (root-adopting doc x p m.go.there) (open-still first.changed parent m.go.below m.open_parent) more)
 
 -- all that are to be placed
-room-each : (parent : NodeName) (before : Option NodeName) (xs : List NodeName) (p : Part) → IsPart p → AllByRecursion (MayGo parent p) xs →
-    IsOpen p parent → HasRoom (at_node parent (length xs)) p → HasNode p parent → HasRoom nowhere (after p (in_turn (placing parent before) xs p))
-room-each parent before [] p i m k h t =
-    room-more (at_node parent 0) nowhere p (λ y. either_way (λ (n : ℕ). n ≤ 0) (name_eq parent y) 0 0 (omega arith) (omega arith)) h
-room-each parent before (x ∷ xs) p i m k h t =
-    let first = leads-placing parent before p x i m.0 in
+room-each : (parent : NodeName) (before : Option NodeName) (xs : List NodeName) {p : Part} → IsRoomy (at_node parent (length xs)) p →
+    AllByRecursion (MayGo parent p) xs → IsOpen p parent → HasRoom nowhere (after p (in_turn (placing parent before) xs p))
+room-each parent before [] {p} w m k =
+    room-more (at_node parent 0) nowhere p (λ y. either_way (λ (n : ℕ). n ≤ 0) (name_eq parent y) 0 0 (omega arith) (omega arith)) w.room
+room-each parent before (x ∷ xs) {p} w m k =
+    let first = leads-placing parent before p x w.part m.0 in
     let q = after p (placing parent before x p) in
     let c = first.changed in
     let n = length xs in
     room-then nowhere p (placing parent before x p) (in_turn (placing parent before) xs q)
-    (room-each parent before xs q c.part (all-then (MayGo parent p) (MayGo parent q) (λ y. may-still parent p q y c) xs m.1) (open-still c parent t k)
-    (room-placing (at_node parent (length (x ∷ xs))) (at_node parent n) parent before p x i m.0 k
-    (λ y. by_cases (name_eq parent y)
-    (λ e. let a : at_node parent (length (x ∷ xs)) y ≡ length (x ∷ xs) = cond-true (name_eq parent y) (length (x ∷ xs)) 0 e in let b : at_node
-    parent n y ≡ n = cond-true (name_eq parent y) n 0 e in let o : one_at parent y ≡ 1 = cond-true (name_eq parent y) 1 0 e in omega arith)
-    (λ e. let a : at_node parent (length (x ∷ xs)) y ≡ 0 = cond-false (name_eq parent y) (length (x ∷ xs)) 0 e in omega arith)) h) (still c parent t))
+    (room-each parent before xs (record {
+      part = c.part;
+      room = room-placing (at_node parent n) before w (record { go = m.0; open_parent = k })
+          (λ y. by_cases (name_eq parent y)
+          (λ e. let a : at_node parent (length (x ∷ xs)) y ≡ length (x ∷ xs) = cond-true (name_eq parent y) (length (x ∷ xs)) 0 e in let b : at_node
+          parent n y ≡ n = cond-true (name_eq parent y) n 0 e in let o : one_at parent y ≡ 1 = cond-true (name_eq parent y) 1 0 e in omega arith)
+          (λ e. let a : at_node parent (length (x ∷ xs)) y ≡ 0 = cond-false (name_eq parent y) (length (x ∷ xs)) 0 e in omega arith));
+    })
+    (all-then (MayGo parent p) (MayGo parent q) (λ y. may-still parent p q y c) xs m.1) (open-still c parent m.0.below k))
 
 -- Insertions.
 room-emptied : (e : NodeName → ℕ) (node : NodeName) (p : Part) → IsPart p → HasRoom e p → HasRoom e (after p (emptied_of p node p))
@@ -125,17 +133,17 @@ room-emptied e node p i h = from (is_fragment (kind_of p.trees node))
 room-making : (parent : NodeName) (before : Option NodeName) (count : ℕ) (p : Part) → HasRoom nowhere p →
     HasRoom (at_node parent count) (after p (making_room parent before count p))
 room-making parent None count p h = room-more nowhere (at_node parent count) p (λ y. omega arith) h
-room-making parent (Some child) count p h = room-made nowhere (at_node parent count) p parent (index_of p.trees child) count (λ y. omega arith) h
+room-making parent (Some child) count p h = room-made (at_node parent count) parent (index_of p.trees child) count (λ y. omega arith) h
 
 -- an insertion
-pub room-inserting : (how : Observing) (node parent : NodeName) (before : Option NodeName) (p : Part) → IsPart p → MayGo parent p node →
-    IsOpen p parent → HasRoom nowhere p → HasRoom nowhere (after p (inserting how node parent before p))
-room-inserting how node parent before p i m k h =
+pub room-inserting : {node parent : NodeName} {p : Part} (how : Observing) (before : Option NodeName) → IsRoomy nowhere p → MayEnter parent p node →
+    HasRoom nowhere (after p (inserting how node parent before p))
+room-inserting {node} {parent} {p} how before w m =
     let spot = Some parent in
     let moved = placed_nodes p.trees node in
     let told = telling how (child_list parent moved [] (sibling_before p.trees parent before) before) in
     let one = emptied_of p node p in
-    let a = leads-eased spot p one (leads-emptied node p i) in
+    let a = leads-eased spot p one (leads-emptied node p w.part) in
     let q = after p one in
     let two = making_room parent before (length moved) q in
     let b = leads-eased spot q two (leads-making_room parent before (length moved) q a.changed.part) in
@@ -143,26 +151,27 @@ room-inserting how node parent before p i m k h =
     let r = after p (one ++ two) in
     let three = in_turn (placing parent before) moved r in
     let made : HasRoom (at_node parent (length moved)) r =
-    room-then (at_node parent (length moved)) p one two (room-making parent before (length moved) q (room-emptied nowhere node p i h)) in
-    let put = room-each parent before moved r ab.changed.part
-    (all-then (MayGo parent p) (MayGo parent r) (λ y. may-still parent p r y ab.changed) moved (placed-may parent p node i m))
-    (open-still ab.changed parent m.below k) made (still ab.changed parent m.below) in
-    either_way (λ steps. HasRoom nowhere (after p steps)) (is_empty moved) [] (inserting_nodes how node moved parent before p) h
+    room-then (at_node parent (length moved)) p one two (room-making parent before (length moved) q (room-emptied nowhere node p w.part w.room)) in
+    let put = room-each parent before moved (record { part = ab.changed.part; room = made })
+    (all-then (MayGo parent p) (MayGo parent r) (λ y. may-still parent p r y ab.changed) moved (placed-may parent p node w.part m.go))
+    (open-still ab.changed parent m.go.below m.open_parent) in
+    either_way (λ steps. HasRoom nowhere (after p steps)) (is_empty moved) [] (inserting_nodes how node moved parent before p) w.room
     (room-then nowhere p ((one ++ two) ++ three) told
     (room-telling nowhere how (child_list parent moved [] (sibling_before p.trees parent before) before) (after p ((one ++ two) ++ three))
     (room-then nowhere p (one ++ two) three put)))
 
 -- Replacements, attributes and data.
-pub room-replacing : (parent node child : NodeName) (p : Part) → IsPart p → MayGo parent p node → IsOpen p parent → HasRoom nowhere p →
+pub room-replacing : {parent node : NodeName} {p : Part} (child : NodeName) → IsRoomy nowhere p → MayEnter parent p node →
     HasRoom nowhere (after p (replacing parent node child p))
-room-replacing parent node child p i m k h =
+room-replacing {parent} {node} {p} child w m =
     let spot = Some parent in
     let reference = reference_for p.trees node (next_sibling p.trees child) in
     let told = child_list parent (placed_nodes p.trees node) (child ∷ []) (previous_sibling p.trees child) reference in
-    let first = leads-eased spot p (removing suppressed child p) (leads-removing suppressed child p i) in
+    let first = leads-eased spot p (removing suppressed child p) (leads-removing suppressed child p w.part) in
     let q = after p (removing suppressed child p) in
-    let put = room-inserting suppressed node parent reference q first.changed.part (may-still parent p q node first.changed m)
-    (open-still first.changed parent m.below k) (room-removing nowhere suppressed child p i h) in
+    let put = room-inserting suppressed reference (record { part = first.changed.part; room = room-removing nowhere suppressed child p w.part w.room })
+    (record { go = may-still parent p q node first.changed m.go; open_parent = open-still first.changed parent m.go.below m.open_parent })
+    in
     let both = removing suppressed child p ++ inserting suppressed node parent reference q in
     room-then nowhere p both (queue_record told ∷ [])
     (room-record nowhere (after p both) told
@@ -173,8 +182,7 @@ pub room-setting_attribute : (x : NodeName) (a : Word) (v : DomString) (p : Part
     HasRoom nowhere (after p (setting_attribute x a v p))
 room-setting_attribute x a v p i h =
     let told = attributes x a (attribute_value (node_in p.trees x) a) in
-    let q = part_step p (queue_record told) in
-    room-attribute nowhere q x a (Some v) (leads-one p (queue_record told) i tt).changed.part (room-record nowhere p told h)
+    room-attribute x a (Some v) (leads-one p (queue_record told) i tt).changed.part (room-record nowhere p told h)
 
 -- an attribute that goes
 pub room-unsetting_attribute : (x : NodeName) (a : Word) (p : Part) → IsPart p → HasRoom nowhere p → HasRoom nowhere (after p (unsetting_attribute x a p))
@@ -185,15 +193,12 @@ room-unsetting_attribute x a p i h = from (attribute_value (node_in p.trees x) a
     from None = h
     from (Some old) =
         let told = attributes x a (Some old) in
-        let q = part_step p (queue_record told) in
-        room-attribute nowhere q x a None (leads-one p (queue_record told) i tt).changed.part (room-record nowhere p told h)
+        room-attribute x a None (leads-one p (queue_record told) i tt).changed.part (room-record nowhere p told h)
 
 -- data
-pub room-replacing_data : (x : NodeName) (offset count : ℕ) (new : DomString) (p : Part) → IsPart p → has_data (kind_of p.trees x) ≡ true →
-    HasRoom nowhere p → HasRoom nowhere (after p (replacing_data x offset count new p))
-room-replacing_data x offset count new p i k h =
+pub room-replacing_data : {p : Part} (x : NodeName) (offset count : ℕ) (new : DomString) → IsRoomy nowhere p → has_data (kind_of p.trees x) ≡ true →
+    HasRoom nowhere (after p (replacing_data x offset count new p))
+room-replacing_data {p} x offset count new w k =
     let old = (node_in p.trees x).text in
     let told = character_data x (Some old) in
-    let q = part_step p (queue_record told) in
-    room-replace nowhere q x offset (min count (length old - offset)) new k (omega arith) (leads-one p (queue_record told) i tt).changed.part
-    (room-record nowhere p told h)
+    room-replace x offset count new k (record { part = (leads-one p (queue_record told) w.part tt).changed.part; room = room-record nowhere p told w.room })

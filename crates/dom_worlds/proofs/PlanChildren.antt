@@ -22,7 +22,7 @@ use Rattle.dom_worlds.proofs.ChildPairs.{children-childs}
 use Rattle.dom_worlds.proofs.ChildCounts.{root-below}
 use Rattle.dom_worlds.proofs.Lists.{all-then}
 use Rattle.dom_worlds.proofs.PartSteps.{some-keeps}
-use Rattle.dom_worlds.proofs.PlanPlaces.{MayGo, may-still, taken-step, telling-trees, after-append, emptied_of, leads-then, leads-eased}
+use Rattle.dom_worlds.proofs.PlanPlaces.{may-place, MayGo, may-still, taken-step, telling-trees, after-append, emptied_of, leads-then, leads-eased}
 use Rattle.dom_worlds.proofs.PlanPlaces.{leads-removing, leads-adopting, leads-placing, leads-emptied, leads-making_room, placed-may}
 use Rattle.dom_worlds.proofs.Tests.{by_cases, either_way}
 use Rattle.dom_worlds.proofs.Trees.{all-in}
@@ -40,36 +40,40 @@ IsChild x y p = 1 ≤ childs p.trees x y
 abbrev pub IsNot : NodeName → NodeName → Type 0
 IsNot x z = name_eq z x ≡ false
 
+-- A child, in a part that is as it should be.
+pub record IsChildIn (x y : NodeName) (p : Part) : Type 0 where
+  pub part : IsPart p
+  pub child : IsChild x y p
+
 -- It stays a child where others leave.
-pub child-removing : (x y : NodeName) (how : Observing) (z : NodeName) (p : Part) → IsPart p → IsNot x z → IsChild x y p →
-    IsChild x y (after p (removing how z p))
-child-removing x y how z p i d h = from (parent_of p.trees z) refl
+pub child-removing : {x y : NodeName} {p : Part} (how : Observing) (z : NodeName) → IsChildIn x y p → IsNot x z → IsChild x y (after p (removing how z p))
+child-removing {x} {y} {p} how z c d = from (parent_of p.trees z) refl
   where
     from : (o : Option NodeName) → parent_of p.trees z ≡ o → IsChild x y (after p (option_map_or (removing_from how z p.trees) o []))
-    from None e = h
+    from None e = c.child
     from (Some parent) e =
         subst (λ ts. 1 ≤ childs ts x y) (sym
         (telling-trees how (removal_record p.trees parent z) (part_step p (take_out z)) ∙ ap (λ (q : Part). q.trees) (taken-step p z parent e)))
-        (let s = childs-taken_out p.trees z x y i.unique d in omega arith)
+        (let s = childs-taken_out p.trees z x y c.part.unique d in omega arith)
 
 -- steps after steps
 pub child-then : (x y : NodeName) (p : Part) (xs ys : List Step) → IsChild x y (after (after p xs) ys) → IsChild x y (after p (xs ++ ys))
 child-then x y p xs ys h = subst (IsChild x y) (sym (after-append p xs ys)) h
 
 -- many that leave
-pub child-removals : (x y : NodeName) (how : Observing) (zs : List NodeName) (p : Part) → IsPart p → AllByRecursion (IsNot x) zs → IsChild x y p →
+pub child-removals : {x y : NodeName} (how : Observing) (zs : List NodeName) {p : Part} → IsChildIn x y p → AllByRecursion (IsNot x) zs →
     IsChild x y (after p (in_turn (removing how) zs p))
-child-removals x y how [] p i d h = h
-child-removals x y how (z ∷ zs) p i d h =
+child-removals how [] c d = c.child
+child-removals {x} {y} how (z ∷ zs) {p} c d =
     let q = after p (removing how z p) in
     child-then x y p (removing how z p) (in_turn (removing how) zs q)
-    (child-removals x y how zs q (leads-removing how z p i).changed.part d.1 (child-removing x y how z p i d.0 h))
+    (child-removals how zs (record { part = (leads-removing how z p c.part).changed.part; child = child-removing how z c d.0 }) d.1)
 
 -- an adoption
-child-adopting : (x y d z : NodeName) (p : Part) → IsPart p → IsNot x z → IsChild x y p → IsChild x y (after p (adopting d z p))
-child-adopting x y d z p i n h =
+child-adopting : {x y : NodeName} {p : Part} (d z : NodeName) → IsChildIn x y p → IsNot x z → IsChild x y (after p (adopting d z p))
+child-adopting {x} {y} {p} d z c n =
     let q = after p (removing observed z p) in
-    let g = child-removing x y observed z p i n h in
+    let g = child-removing observed z c n in
     child-then x y p (removing observed z p) (changing_document d z q)
     (documented d z q (λ ts. 1 ≤ childs ts x y) g
     (let s = childs-map_nodes (λ n. if is_in name_eq n.name (inclusive_descendants q.trees z) then with_document d n else n)
@@ -77,29 +81,29 @@ child-adopting x y d z p i n h =
     q.trees x y in omega arith))
 
 -- another one that is placed
-child-placing : (x y parent : NodeName) (before : Option NodeName) (p : Part) (z : NodeName) → IsPart p → MayGo parent p z → IsNot x z →
-    IsChild x y p → IsChild x y (after p (placing parent before z p))
-child-placing x y parent before p z i m n h =
+child-placing : {x y parent : NodeName} {p : Part} {z : NodeName} (before : Option NodeName) → IsChildIn x y p → MayGo parent p z → IsNot x z →
+    IsChild x y (after p (placing parent before z p))
+child-placing {x} {y} {parent} {p} {z} before c m n =
     let doc = document_below p.trees parent in
     let steps = adopting doc z p in
     let q = after p steps in
-    let first = leads-eased (Some parent) p steps (leads-adopting doc z p i m.owner) in
+    let first = leads-eased (Some parent) p steps (leads-adopting doc z p c.part m.owner) in
     let k = may-still parent p q z first.changed m in
-    let g = child-adopting x y doc z p i n h in
+    let g = child-adopting doc z c n in
     child-then x y p steps (place z parent before ∷ [])
-    (let s = childs-placed q.trees z parent before x y first.changed.part.unique k.below k.apart n in omega arith)
+    (let s = childs-placed before (may-place first.changed.part k) x y n in omega arith)
 
 -- all others that are placed
-child-each : (x y parent : NodeName) (before : Option NodeName) (zs : List NodeName) (p : Part) → IsPart p → AllByRecursion (MayGo parent p) zs →
-    AllByRecursion (IsNot x) zs → IsChild x y p → IsChild x y (after p (in_turn (placing parent before) zs p))
-child-each x y parent before [] p i m d h = h
-child-each x y parent before (z ∷ zs) p i m d h =
+child-each : {x y : NodeName} (parent : NodeName) (before : Option NodeName) (zs : List NodeName) {p : Part} → IsChildIn x y p →
+    AllByRecursion (MayGo parent p) zs → AllByRecursion (IsNot x) zs → IsChild x y (after p (in_turn (placing parent before) zs p))
+child-each parent before [] c m d = c.child
+child-each {x} {y} parent before (z ∷ zs) {p} k m d =
     let steps = placing parent before z p in
     let q = after p steps in
-    let c = (leads-placing parent before p z i m.0).changed in
+    let c = (leads-placing parent before p z k.part m.0).changed in
     child-then x y p steps (in_turn (placing parent before) zs q)
-    (child-each x y parent before zs q c.part (all-then (MayGo parent p) (MayGo parent q) (λ a. may-still parent p q a c) zs m.1) d.1
-    (child-placing x y parent before p z i m.0 d.0 h))
+    (child-each parent before zs (record { part = c.part; child = child-placing before k m.0 d.0 })
+    (all-then (MayGo parent p) (MayGo parent q) (λ a. may-still parent p q a c) zs m.1) d.1)
 
 -- x is a child of y, and neither is the node that is inserted
 pub record IsOtherChild (x y node : NodeName) (p : Part) : Type 0 where
@@ -121,9 +125,9 @@ others-placed x y node p i other =
     (λ e. e)) (children_of p.trees node) (children-childs p.trees node)) (other.first, tt)
 
 -- an insertion
-pub child-inserting : (x y : NodeName) (how : Observing) (node parent : NodeName) (before : Option NodeName) (p : Part) → IsPart p →
-    MayGo parent p node → IsOtherChild x y node p → IsChild x y (after p (inserting how node parent before p))
-child-inserting x y how node parent before p i m other =
+pub child-inserting : {x y node parent : NodeName} {p : Part} (how : Observing) (before : Option NodeName) → IsPart p → MayGo parent p node →
+    IsOtherChild x y node p → IsChild x y (after p (inserting how node parent before p))
+child-inserting {x} {y} {node} {parent} {p} how before i m other =
     let spot = Some parent in
     let moved = placed_nodes p.trees node in
     let told = telling how (child_list parent moved [] (sibling_before p.trees parent before) before) in
@@ -141,8 +145,12 @@ child-inserting x y how node parent before p i m other =
     either_way (λ steps. IsChild x y (after p steps)) (is_empty moved) [] (inserting_nodes how node moved parent before p) other.child
     (child-then x y p ((one ++ two) ++ three) told
     (subst (λ ts. 1 ≤ childs ts x y) (sym (telling-trees how (child_list parent moved [] (sibling_before p.trees parent before) before) s))
-    (child-then x y p (one ++ two) three (child-each x y parent before moved r ab.changed.part n others
-    (child-then x y p one two (unmoved before (length moved) q (emptied (is_fragment (kind_of p.trees node)) moved others)))))))
+    (child-then x y p (one ++ two) three (child-each parent before moved
+    (record {
+      part = ab.changed.part;
+      child = child-then x y p one two
+          (unmoved before (length moved) q (emptied (is_fragment (kind_of p.trees node)) moved others));
+    }) n others))))
   where
     unmoved : (before : Option NodeName) (count : ℕ) (q : Part) → IsChild x y q → IsChild x y (after q (making_room parent before count q))
     unmoved None count q g = g
@@ -151,7 +159,7 @@ child-inserting x y how node parent before p i m other =
     emptied : (t : Bool) (moved : List NodeName) → AllByRecursion (IsNot x) moved → IsChild x y (after p ((if t then emptying node moved else steps_of []) p))
     emptied false moved others = other.child
     emptied true moved others = child-then x y p (in_turn (removing suppressed) moved p) (queue_record (child_list node [] moved None None) ∷ [])
-        (child-removals x y suppressed moved p i others other.child)
+        (child-removals suppressed moved (record { part = i; child = other.child }) others)
 
 -- data
 pub child-replacing_data : (x y z : NodeName) (offset count : ℕ) (new : DomString) (p : Part) → IsChild x y p →
@@ -182,12 +190,12 @@ child-placing_it x parent before p i m =
     let q = after p steps in
     let first = leads-eased (Some parent) p steps (leads-adopting (document_below p.trees parent) x p i m.owner) in
     let k = may-still parent p q x first.changed m in
-    child-then x parent p steps (place x parent before ∷ []) (child-placed q.trees x parent before first.changed.part.unique k.below k.apart k.there)
+    child-then x parent p steps (place x parent before ∷ []) (child-placed before (may-place first.changed.part k) k.there)
 
 -- by an insertion of a node that is no fragment
-pub child-inserted : (how : Observing) (node parent : NodeName) (before : Option NodeName) (p : Part) → IsPart p → MayGo parent p node →
+pub child-inserted : {node parent : NodeName} {p : Part} (how : Observing) (before : Option NodeName) → IsPart p → MayGo parent p node →
     is_fragment (kind_of p.trees node) ≡ false → IsChild node parent (after p (inserting how node parent before p))
-child-inserted how node parent before p i m k =
+child-inserted {node} {parent} {p} how before i m k =
     from (is_fragment (kind_of p.trees node)) k
   where
     told : List NodeName → List Step

@@ -31,13 +31,13 @@ use Rattle.dom_worlds.proofs.KindLines.{has_node-times}
 use Rattle.dom_worlds.proofs.Plans.{AllWhole}
 use Rattle.dom_worlds.proofs.FitPieces.{fit-then, common_below, whole-pieces}
 use Rattle.dom_worlds.proofs.TableSteps.{HasNode}
-use Rattle.dom_worlds.proofs.TableRecords.{IfSome, last-all, tables-after, all-get}
+use Rattle.dom_worlds.proofs.TableRecords.{IfSome, last-all, all-get}
 use Rattle.dom_worlds.proofs.Insides.{inside, inside-times}
 use Rattle.dom_worlds.proofs.InsideAncestors.{parent-there}
 use Rattle.dom_worlds.proofs.PlanPlaces.{Changed, Leads, MayGo, may-still, still, after-append, made-append, leads-then, leads-eased}
 use Rattle.dom_worlds.proofs.PlanPlaces.{leads-nothing, leads-one, leads-if, leads-removing, leads-inserting}
 use Rattle.dom_worlds.proofs.PlanChildren.{IsChild, child-parent}
-use Rattle.dom_worlds.proofs.PlanRoots.{StartsBy, SparesAll, starts-after, spares-removing, spares-inserting, spares-splitting}
+use Rattle.dom_worlds.proofs.PlanRoots.{IsStart, SparesAll, starts-after, spares-removing, spares-inserting, spares-splitting}
 use Rattle.dom_worlds.proofs.Roots.{root-parent_of}
 use Rattle.dom_worlds.proofs.ChildPairs.{children-childs}
 use Rattle.dom_worlds.proofs.PlanTexts.{leads-plan, leads-replacing_data, new-there, new-may, leads-splitting, leads-removals}
@@ -60,8 +60,8 @@ pub whole-then : (P Q : NodeName → Type 0) → ((x : NodeName) → P x → Q x
 whole-then P Q f pieces h = fit-then P P P Q Q Q f f f pieces h
 
 -- what is placed below a new node that itself went below another one
-pub changed-inner : (into new : NodeName) (p q r : Part) → times_in p.trees new ≡ 0 → Changed (Some into) p q → Changed (Some new) q r → Changed (Some into) p r
-changed-inner into new p q r absent c d =
+pub changed-inner : {into new : NodeName} {p q r : Part} → times_in p.trees new ≡ 0 → Changed (Some into) p q → Changed (Some new) q r → Changed (Some into) p r
+changed-inner {new} {p} absent c d =
     record {
       owner = d.owner ∙ c.owner;
       part = d.part;
@@ -81,50 +81,75 @@ leads-making_below into n p e i t =
     (leads-inserting observed n.name into None (part_step p (make n)) first.changed.part
     (subst (MayGo into (part_step p (make n))) (sym e) (new-may p n into i t)))
 
+-- A node that may take pieces of old nodes, which are those with numbers below the count: it is there, and is no old one.
+pub record CanTake (count : ℕ) (pieces : Pieces) (into : NodeName) (p : Part) : Type 0 where
+  pub part : IsPart p
+  pub counted : count ≤ p.node_count
+  pub new : count ≤ into.number
+  pub there : HasNode p into
+  pub old : AllWhole (OldIn count p) pieces
+
+-- it may take others of them after steps that put nodes below it
+pub take-still : {count : ℕ} {pieces : Pieces} {into : NodeName} {p q : Part} (rest : Pieces) → CanTake count pieces into p → AllWhole (OldIn count p) rest →
+    Changed (Some into) p q → CanTake count rest into q
+take-still {count} {into} {p} {q} rest t old c =
+    record {
+      part = c.part;
+      counted = let a = c.count in let k = t.counted in omega arith;
+      new = t.new;
+      there = still c into t.there;
+      old = whole-then (OldIn count p) (OldIn count q) (old-still count into p q t.new c) rest old;
+    }
+
+-- a node that is made below it may take the old ones too
+pub take-below : {count : ℕ} {pieces : Pieces} {into : NodeName} {p q : Part} (inner : Pieces) → CanTake count pieces into p → AllWhole (OldIn count p) inner →
+    Changed (Some into) p q → HasNode q (next_name p) → CanTake count inner (next_name p) q
+take-below inner t old c made =
+    let s = take-still inner t old c in record { part = s.part; counted = s.counted; new = t.counted; there = made; old = s.old }
+
 -- pieces that are taken into a newer node
-pub leads-taking : (count : ℕ) (pieces : Pieces) (into : NodeName) (p : Part) → IsPart p → count ≤ p.node_count → HasNode p into →
-    count ≤ into.number → AllWhole (OldIn count p) pieces → Leads (Some into) p (taking into pieces p)
-leads-taking count nothing into p i k t h o = leads-nothing (Some into) p i
-leads-taking count (whole x rest) into p i k t h o =
-    leads-plan (Some into) (inserting observed x into None) (taking into rest) p (leads-inserting observed x into None p i (old-may count p x into i o.0 t h))
-    (λ q c. leads-taking count rest into q c.part (let a = c.count in omega arith) (still c into t) h
-    (whole-then (OldIn count p) (OldIn count q) (old-still count into p q h c) rest o.1))
-leads-taking count (cut x from to rest) into p i k t h o =
+pub leads-taking : {count : ℕ} (pieces : Pieces) {into : NodeName} {p : Part} → CanTake count pieces into p → Leads (Some into) p (taking into pieces p)
+leads-taking nothing {into} {p} t = leads-nothing (Some into) p t.part
+leads-taking {count} (whole x rest) {into} {p} t =
+    let o = t.old in
+    leads-plan (Some into) (inserting observed x into None) (taking into rest) p
+    (leads-inserting observed x into None p t.part (old-may count p x into t.part o.0 t.there t.new))
+    (λ q c. leads-taking rest (take-still rest t o.1 c))
+leads-taking (cut x from to rest) {into} {p} t =
+    let o = t.old in
     let n = clone_part (next_name p) from to (node_in p.trees x) in
     leads-plan (Some into) (making_below into n and_then replacing_data x from (to - from) []) (taking into rest) p
-    (leads-plan (Some into) (making_below into n) (replacing_data x from (to - from) []) p (leads-making_below into n p refl i t)
+    (leads-plan (Some into) (making_below into n) (replacing_data x from (to - from) []) p (leads-making_below into n p refl t.part t.there)
     (λ q c. leads-eased (Some into) q (replacing_data x from (to - from) [] q) (leads-replacing_data x from (to - from) [] q c.part)))
-    (λ q c. leads-taking count rest into q c.part (let a = c.count in omega arith) (still c into t) h
-    (whole-then (OldIn count p) (OldIn count q) (old-still count into p q h c) rest o.1))
-leads-taking count (clone x inner rest) into p i k t h o =
+    (λ q c. leads-taking rest (take-still rest t o.1 c))
+leads-taking (clone x inner rest) {into} {p} t =
+    let o = t.old in
+    let i = t.part in
     let new = next_name p in
     let n = with_name new (node_in p.trees x) in
     let one = making_below into n p in
-    let a = leads-making_below into n p refl i t in
+    let a = leads-making_below into n p refl i t.there in
     let q = after p one in
+    let b = leads-taking inner (take-below inner t o.1 a.changed new-made) in
+    let both = leads-both (next-absent p i) a b in
     let two = taking new inner q in
-    let new_there : HasNode q new = new-made in
-    let b = leads-taking count inner new q a.changed.part (let g = a.changed.count in omega arith) new_there k
-    (whole-then (OldIn count p) (OldIn count q) (old-still count into p q h a.changed) inner o.1) in
-    let both = leads-both into new p one two (next-absent p i) a b in
     let r = after p (one ++ two) in
-    leads-then (Some into) p (one ++ two) (taking into rest r) both
-    (leads-taking count rest into r both.changed.part (let g = both.changed.count in omega arith) (still both.changed into t) h
-    (whole-then (OldIn count p) (OldIn count r) (old-still count into p r h both.changed) rest o.2))
+    leads-then (Some into) p (one ++ two) (taking into rest r) both (leads-taking rest (take-still rest t o.2 both.changed))
   where
     new-made : HasNode (after p (making_below into (with_name (next_name p) (node_in p.trees x)) p)) (next_name p)
     new-made =
         let n = with_name (next_name p) (node_in p.trees x) in
-        let first = leads-one p (make n) i tt in
-        still (leads-inserting observed n.name into None (part_step p (make n)) first.changed.part (new-may p n into i t)).changed (next_name p) (new-there p n)
+        let first = leads-one p (make n) t.part tt in
+        still (leads-inserting observed n.name into None (part_step p (make n)) first.changed.part (new-may p n into t.part t.there)).changed (next_name p)
+        (new-there p n)
 
-    leads-both : (into new : NodeName) (p : Part) (one two : List Step) → times_in p.trees new ≡ 0 → Leads (Some into) p one →
+    leads-both : {into new : NodeName} {p : Part} {one two : List Step} → times_in p.trees new ≡ 0 → Leads (Some into) p one →
         Leads (Some new) (after p one) two → Leads (Some into) p (one ++ two)
-    leads-both into new p one two absent a b =
+    leads-both {into} {new} {p} {one} {two} absent a b =
         record {
           made = made-append p one two a.made b.made;
           changed = subst (Changed (Some into) p) (sym (after-append p one two))
-              (changed-inner into new p (after p one) (after (after p one) two) absent a.changed b.changed);
+              (changed-inner absent a.changed b.changed);
         }
 
 -- nodes that are there are old
@@ -179,11 +204,18 @@ leads-extracting k range p i t =
     let last = set_range k (both_at (new_place p.trees range)) in
     let first = leads-one p (make fragment) i tt in
     let q = part_step p (make fragment) in
+    let le : p.node_count ≤ into.number = omega arith in
     leads-plan spot (doing (make fragment) and_then taking into (pieces_of p.trees range)) (doing last) p
     (leads-then spot p (make fragment ∷ []) (taking into (pieces_of p.trees range) q) (leads-eased spot p (make fragment ∷ []) first)
-    (leads-taking p.node_count (pieces_of p.trees range) into q first.changed.part first.changed.count (new-there p fragment) (omega arith)
-    (whole-then (HasNode p) (OldIn p.node_count q) (λ x h. old-eased p q first.changed x (old-there p i x h)) (pieces_of p.trees range)
-    (pieces-there p range t))))
+    (leads-taking (pieces_of p.trees range)
+    (record {
+      part = first.changed.part;
+      counted = first.changed.count;
+      new = le;
+      there = new-there p fragment;
+      old = whole-then (HasNode p) (OldIn p.node_count q) (λ x h. old-eased p q first.changed x (old-there p i x h)) (pieces_of p.trees range)
+          (pieces-there p range t);
+    })))
     (λ r c. let there = still c (new_place p.trees range).node (place-there p range t) in leads-eased spot r (last ∷ [])
     (leads-one r last c.part (there, there, refl)))
   where
@@ -217,7 +249,7 @@ leads-contents ts range p i = from (is_in_one_data ts range)
 pub leads-deleting : (k : ℕ) (range : Range NodeName) (p : Part) → IsPart p → HasNode p range.start.node → Leads None p (deleting k range p)
 leads-deleting k range p i t =
     let last = set_range k (both_at (new_place p.trees range)) in
-    leads-if None p (is_collapsed name_eq range) [] ((deleting_contents p.trees range and_then doing last) p) (leads-nothing None p i)
+    leads-if (is_collapsed name_eq range) (leads-nothing None p i)
     (leads-plan None (deleting_contents p.trees range) (doing last) p (leads-contents p.trees range p i)
     (λ q c. let there = still c (new_place p.trees range).node (place-there p range t) in leads-one q last c.part (there, there, refl)))
 
@@ -237,41 +269,40 @@ range-ends p k h range e = each p.ranges k h.ranges e
     each (r ∷ rs) (suc k) g e = each rs k g.1 e
 
 -- a collapsed range that gets its end
-leads-ending_at : (k : ℕ) (b : Boundary NodeName) (p : Part) → IsPart p → HasTables p → HasNode p b.node → StartsBy k b.node p → Leads None p (ending_at k b p)
-leads-ending_at k b p i h t s = from (range_at p k) refl s
+leads-ending_at : {p : Part} (k : ℕ) (b : Boundary NodeName) → IsStart k b.node p → Leads None p (ending_at k b p)
+leads-ending_at {p} k b s = from (range_at p k) refl s.starts
   where
     from : (a : Option (Range NodeName)) → range_at p k ≡ a →
         IfSome (λ (r : Range NodeName). root_of p.trees r.start.node ≡ root_of p.trees b.node) a →
         Leads None p (option_map_or (λ (q : Range NodeName). if is_collapsed name_eq q then set_range k (from_to q.start b) ∷ [] else []) a [])
-    from None e g = leads-nothing None p i
-    from (Some q) e g = leads-if None p (is_collapsed name_eq q) (set_range k (from_to q.start b) ∷ []) []
-        (leads-one p (set_range k (from_to q.start b)) i ((range-ends p k h q e).0, t, g)) (leads-nothing None p i)
+    from None e g = leads-nothing None p s.part
+    from (Some q) e g = leads-if (is_collapsed name_eq q)
+        (leads-one p (set_range k (from_to q.start b)) s.part ((range-ends p k s.tables q e).0, s.there, g)) (leads-nothing None p s.part)
 
 -- a node before the reference
-leads-inserting_before : (k : ℕ) (node parent : NodeName) (reference : Option NodeName) (p : Part) → IsPart p → HasTables p →
-    StartsBy k parent p → MayGo parent p node → Leads (Some parent) p (inserting_before k node parent reference p)
-leads-inserting_before k node parent reference p i h s m =
+leads-inserting_before : {node parent : NodeName} {p : Part} (k : ℕ) (reference : Option NodeName) → IsStart k parent p → MayGo parent p node →
+    Leads (Some parent) p (inserting_before k node parent reference p)
+leads-inserting_before {node} {parent} {p} k reference s m =
+    let i = s.part in
     let ts = p.trees in
     let end = at parent (option_map_or (index_of ts) reference (length_of ts parent) + (if is_fragment (kind_of ts node) then length_of ts node else 1)) in
     let first = leads-inserting observed node parent (reference_for ts node reference) p i m in
     let q = after p (pre_inserting node parent reference p) in
     leads-then (Some parent) p (pre_inserting node parent reference p) (ending_at k end q) first
     (leads-eased (Some parent) q (ending_at k end q)
-    (leads-ending_at k end q first.changed.part (tables-after p (pre_inserting node parent reference p) i first.made h)
-    (still first.changed parent m.below)
-    (starts-after k parent p (pre_inserting node parent reference p) i first.made
-    (spares-inserting observed node parent (reference_for ts node reference) p i m) m.below h s)))
+    (leads-ending_at k end
+    (starts-after (pre_inserting node parent reference p) first.made (spares-inserting observed (reference_for ts node reference) i m) s)))
 
 -- a node that left its parent first
-leads-inserting_at : (k : ℕ) (node parent : NodeName) (child : Option NodeName) (p : Part) → IsPart p → HasTables p → StartsBy k parent p →
-    MayGo parent p node → Leads (Some parent) p (inserting_at k node parent child p)
-leads-inserting_at k node parent child p i h s m =
+leads-inserting_at : {node parent : NodeName} {p : Part} (k : ℕ) (child : Option NodeName) → IsStart k parent p → MayGo parent p node →
+    Leads (Some parent) p (inserting_at k node parent child p)
+leads-inserting_at {node} {parent} {p} k child s m =
     let spot = Some parent in
-    let first = leads-eased spot p (removing observed node p) (leads-removing observed node p i) in
+    let first = leads-eased spot p (removing observed node p) (leads-removing observed node p s.part) in
     let q = after p (removing observed node p) in
     leads-then spot p (removing observed node p) (inserting_before k node parent (reference_for p.trees node child) q) first
-    (leads-inserting_before k node parent (reference_for p.trees node child) q first.changed.part (tables-after p (removing observed node p) i first.made h)
-    (starts-after k parent p (removing observed node p) i first.made (spares-removing parent observed node p m.apart) m.below h s)
+    (leads-inserting_before k (reference_for p.trees node child)
+    (starts-after (removing observed node p) first.made (spares-removing parent observed node p m.apart) s)
     (may-still parent p q node first.changed m))
 
 -- the parent of an insertion into a range has the root of its start
@@ -305,10 +336,13 @@ pub leads-inserting_into_range : (k : ℕ) (range : Range NodeName) (node : Node
     range_at p k ≡ Some range → MayGo (insertion_parent p.trees range) p node →
     Leads (Some (insertion_parent p.trees range)) p (inserting_into_range k range node p)
 leads-inserting_into_range k range node p i h at_k m =
-    let starts : StartsBy k (insertion_parent p.trees range) p =
-    subst (IfSome (λ (r : Range NodeName). root_of p.trees r.start.node ≡ root_of p.trees (insertion_parent p.trees range))) (sym at_k)
-    (sym (parent-root p range i)) in
-    let there = (range-ends p k h range at_k).0 in
+    let starts : IsStart k (insertion_parent p.trees range) p = record {
+      part = i;
+      tables = h;
+      there = m.below;
+      starts = subst (IfSome (λ (r : Range NodeName). root_of p.trees r.start.node ≡ root_of p.trees (insertion_parent p.trees range))) (sym at_k)
+          (sym (parent-root p range i));
+    } in
     let start = range.start.node in
     let parent = insertion_parent p.trees range in
     let spot = Some parent in
@@ -325,13 +359,12 @@ leads-inserting_into_range k range node p i h at_k m =
     (some-spot (parent_of p.trees start) start p (splitting start range.start.offset p) (leads-splitting start range.start.offset p i)) in
     let q = after p (splitting start range.start.offset p) in
     leads-then spot p (splitting start range.start.offset p) (inserting_at k node parent new q) first
-    (leads-inserting_at k node parent new q first.changed.part (tables-after p (splitting start range.start.offset p) i first.made h)
-    (starts-after k parent p (splitting start range.start.offset p) i first.made
-    (subst (λ x. SparesAll x p (splitting start range.start.offset p)) (sym same) (spares-splitting start range.start.offset p i there))
-    m.below h starts)
+    (leads-inserting_at k new
+    (starts-after (splitting start range.start.offset p) first.made
+    (subst (λ x. SparesAll x p (splitting start range.start.offset p)) (sym same) (spares-splitting start range.start.offset p i)) starts)
     (may-still parent p q node first.changed m))))
     (λ e. subst (Leads spot p) (sym (cond-false (is_text (kind_of p.trees start)) split plain e))
-    (leads-inserting_at k node parent (start_reference p.trees range) p i h starts m))
+    (leads-inserting_at k (start_reference p.trees range) starts m))
   where
     some-spot : (o : Option NodeName) (x : NodeName) (p : Part) (steps : List Step) → Leads o p steps → Leads (Some (unwrap_or o x)) p steps
     some-spot None x p steps a = leads-eased (Some x) p steps a

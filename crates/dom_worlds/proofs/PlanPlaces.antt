@@ -12,7 +12,7 @@ use Rattle.dom_model.specs.Part.{Part, next_name}
 use Rattle.dom_model.specs.Steps.{Step, make, make_room, place, take_out, set_document, set_attribute, replace_data, queue_record, part_step, leave, after}
 use Rattle.dom_model.specs.Changes.{Plan, in_turn, steps_of, Observing, observed, suppressed, telling, removal_record, removing, removing_from}
 use Rattle.dom_model.specs.Changes.{has_document, changing_document, adopting, document_below, placed_nodes, emptying, making_room, placing}
-use Rattle.dom_model.specs.Changes.{sibling_before, inserting_nodes, inserting}
+use Rattle.dom_model.specs.Changes.{sibling_before, inserting}
 use Rattle.dom_model.proofs.StepLaws.{owner-part_step}
 use Rattle.dom_model.proofs.OwnerLaws.{name_eq-true}
 use Rattle.dom_worlds.specs.Worlds.{IsPart}
@@ -23,8 +23,8 @@ use Rattle.dom_worlds.proofs.TreeChangeLaws.{HasRoot, root-put_root_new, root-su
 use Rattle.dom_worlds.proofs.Trees.{times-subtree}
 use Rattle.dom_worlds.proofs.PartSteps.{KeepsNames, some-keeps, attribute-keeps, part-step, next-absent}
 use Rattle.dom_worlds.proofs.NodeKinds.{count-grows}
-use Rattle.dom_worlds.proofs.TableSteps.{HasNode, Fits, MadeIn, stays-step}
-use Rattle.dom_worlds.proofs.Insides.{inside, inside-taken_out, inside-placed, inside-with_node, inside-map_nodes, times-inside}
+use Rattle.dom_worlds.proofs.TableSteps.{fits-place, HasNode, Fits, MadeIn, stays-step}
+use Rattle.dom_worlds.proofs.Insides.{CanPlace, inside, inside-taken_out, inside-placed, inside-with_node, inside-map_nodes, times-inside}
 use Rattle.dom_worlds.proofs.InsideAncestors.{inside-nested}
 use Rattle.dom_worlds.proofs.InsideAncestors.{children-inside, no_parent-root}
 
@@ -44,9 +44,9 @@ pub record Changed (spot : Option NodeName) (p q : Part) : Type 0 where
   pub kinds : (y : NodeName) → HasNode p y → kind_of q.trees y ≡ kind_of p.trees y
 
 -- what is apart from the place stays so
-stays-apart : (spot : Option NodeName) (p q : Part) → Changed spot p q → (a : NodeName) → HasNode p a → ApartFrom spot p a → ApartFrom spot q a
-stays-apart None p q c a t h = tt
-stays-apart (Some x) p q c a t h = c.apart a x t h h
+stays-apart : {spot : Option NodeName} {p q : Part} → Changed spot p q → (a : NodeName) → HasNode p a → ApartFrom spot p a → ApartFrom spot q a
+stays-apart {spot = None} c a t h = tt
+stays-apart {spot = Some x} c a t h = c.apart a x t h h
 
 -- a node that is there stays there
 pub still : {spot : Option NodeName} {p q : Part} → Changed spot p q → (a : NodeName) → HasNode p a → HasNode q a
@@ -64,7 +64,7 @@ changed-then spot p q r c d =
       part = d.part;
       count = let a = c.count in let b = d.count in omega arith;
       there = λ y. let a = c.there y in let b = d.there y in omega arith;
-      apart = λ a z t h k. d.apart a z (still c a t) (stays-apart spot p q c a t h) (c.apart a z t h k);
+      apart = λ a z t h k. d.apart a z (still c a t) (stays-apart c a t h) (c.apart a z t h k);
       kinds = λ y t. d.kinds y (still c y t) ∙ c.kinds y t;
     }
 
@@ -82,28 +82,28 @@ mapped-apart : (f : Node → Node) → KeepsNames f → (ts : Trees) (a z : Node
 mapped-apart f h ts a z e = inside-map_nodes f (λ n. (h n).0) ts a z ∙ e
 
 -- a step
-apart-step : (p : Part) (s : Step) → IsPart p → (a z : NodeName) → HasNode p a → ApartFrom (spot_of s) p a → inside p.trees a z ≡ 0 →
+apart-step : {p : Part} (s : Step) → IsPart p → (a z : NodeName) → HasNode p a → ApartFrom (spot_of s) p a → inside p.trees a z ≡ 0 →
     inside (part_step p s).trees a z ≡ 0
-apart-step p (make n) i a z t h e =
+apart-step {p} (make n) i a z t h e =
     by_cases (name_eq (next_name p) a)
     (λ k. absurd (let b = next-absent p i in let same = ap (times_in p.trees) (name_eq-true (next_name p) a k) in omega arith))
     (λ k. inside-with_node (with_name (next_name p) n) p.trees a z k ∙ e)
-apart-step p (place x parent before) i a z t h e = let b = inside-placed p.trees x parent before a z i.unique h in omega arith
-apart-step p (take_out x) i a z t h e = from (parent_of p.trees x)
+apart-step {p} (place x parent before) i a z t h e = let b = inside-placed p.trees x parent before a z i.unique h in omega arith
+apart-step {p} (take_out x) i a z t h e = from (parent_of p.trees x)
   where
     from : (o : Option NodeName) → inside (option_map_or (leave p x) o p).trees a z ≡ 0
     from None = e
     from (Some parent) = let b = inside-taken_out p.trees x a z in omega arith
-apart-step p (set_document x d) i a z t h e =
+apart-step {p} (set_document x d) i a z t h e =
     mapped-apart (λ n. if is_in name_eq n.name (inclusive_descendants p.trees x) then with_document d n else n)
     (some-keeps (λ (n : Node). is_in name_eq n.name (inclusive_descendants p.trees x)) (with_document d) (λ n. (refl, refl))) p.trees a z e
-apart-step p (set_attribute x b v) i a z t h e =
+apart-step {p} (set_attribute x b v) i a z t h e =
     mapped-apart (λ n. if name_eq n.name x then with_attribute b v n else n)
     (some-keeps (λ (n : Node). name_eq n.name x) (with_attribute b v) (attribute-keeps b v)) p.trees a z e
-apart-step p (replace_data x offset count new) i a z t h e =
+apart-step {p} (replace_data x offset count new) i a z t h e =
     mapped-apart (λ n. if name_eq n.name x then with_data_replaced offset count new n else n)
     (some-keeps (λ (n : Node). name_eq n.name x) (with_data_replaced offset count new) (λ n. (refl, refl))) p.trees a z e
-apart-step p s i a z t h e = e
+apart-step s i a z t h e = e
 
 -- kinds stay
 mapped-kind : (f : Node → Node) → KeepsNames f → (ts : Trees) (y : NodeName) → 1 ≤ times_in ts y → kind_of (map_nodes f ts) y ≡ kind_of ts y
@@ -115,7 +115,7 @@ kind-step p (make n) i h y t =
     by_cases (name_eq (next_name p) y)
     (λ k. absurd (let b = next-absent p i in let same = ap (times_in p.trees) (name_eq-true (next_name p) y k) in omega arith))
     (λ k. ap (λ (n : Node). n.kind) (node-with_node (with_name (next_name p) n) p.trees y i.unique t k))
-kind-step p (place x parent before) i h y t = ap (λ (n : Node). n.kind) (node-placed p.trees x parent before y i.unique h.0 h.1 t)
+kind-step p (place x parent before) i h y t = ap (λ (n : Node). n.kind) (node-placed before y (fits-place before i h) t)
 kind-step p (take_out x) i h y t = from (parent_of p.trees x)
   where
     from : (o : Option NodeName) → kind_of (option_map_or (leave p x) o p).trees y ≡ kind_of p.trees y
@@ -140,7 +140,7 @@ changed-step p s i f =
       part = part-step p s i;
       count = count-grows p s;
       there = stays-step p s i f;
-      apart = apart-step p s i;
+      apart = apart-step s i;
       kinds = kind-step p s i f;
     }
 
@@ -195,9 +195,9 @@ leads-each {spot = spot} {P = P} {f = f} each (x ∷ xs) p i g =
     (leads-each each xs q first.changed.part (all-then (P p) (P q) (λ y. each.stays p q y first.changed) xs g.1))
 
 -- one of two lists of steps
-pub leads-if : (spot : Option NodeName) (p : Part) (b : Bool) (xs ys : List Step) → Leads spot p xs → Leads spot p ys → Leads spot p (if b then xs else ys)
-leads-if spot p true xs ys a c = a
-leads-if spot p false xs ys a c = c
+pub leads-if : {spot : Option NodeName} {p : Part} {xs ys : List Step} (b : Bool) → Leads spot p xs → Leads spot p ys → Leads spot p (if b then xs else ys)
+leads-if true a c = a
+leads-if false a c = c
 
 -- Removals and adoptions.
 pub leads-telling : (how : Observing) (c : Change NodeName) (p : Part) → IsPart p → Leads None p (telling how c)
@@ -221,7 +221,7 @@ leads-adopting d x p i e =
     let first = leads-removing observed x p i in
     let q = after p (removing observed x p) in
     leads-then None p (removing observed x p) (changing_document d x q) first
-    (leads-if None q (not (has_document q.trees d x)) (set_document x d ∷ []) []
+    (leads-if (not (has_document q.trees d x))
     (leads-one q (set_document x d) first.changed.part (e ∙ sym first.changed.owner)) (leads-nothing None q first.changed.part))
 
 -- What may be placed below a node.
@@ -230,6 +230,10 @@ pub record MayGo (parent : NodeName) (p : Part) (x : NodeName) : Type 0 where
   pub owner : x.owner ≡ p.owner
   pub below : HasNode p parent
   pub apart : inside p.trees x parent ≡ 0
+
+-- what is asked of the trees
+pub may-place : {parent : NodeName} {p : Part} {x : NodeName} → IsPart p → MayGo parent p x → CanPlace p.trees x parent
+may-place i m = record { unique = i.unique; below = record { there = m.below; apart = m.apart } }
 
 -- it still may after other changes
 pub may-still : (parent : NodeName) (p q : Part) (x : NodeName) → Changed (Some parent) p q → MayGo parent p x → MayGo parent q x
@@ -349,7 +353,7 @@ leads-inserting how node parent before p i m =
     let d = leads-eased spot (after p ((one ++ two) ++ three)) told
     (leads-telling how (child_list parent moved [] (sibling_before p.trees parent before) before) (after p ((one ++ two) ++ three))
     abc.changed.part) in
-    leads-if spot p (is_empty moved) [] (inserting_nodes how node moved parent before p) (leads-nothing spot p i)
+    leads-if (is_empty moved) (leads-nothing spot p i)
     (leads-then spot p ((one ++ two) ++ three) told abc d)
 
 -- insertions of nodes behind the children of one

@@ -20,7 +20,7 @@ use Rattle.dom_model.specs.Changes.{inserting_nodes, inserting}
 use Rattle.dom_model.specs.TextChanges.{replacing_data, new_text_node, placing_tail, splitting}
 use Rattle.dom_worlds.specs.Worlds.{IsPart}
 use Rattle.dom_worlds.specs.Tables.{IsNodeIn, EndsIn, HasTables}
-use Rattle.dom_worlds.proofs.Insides.{inside, times-taken_out_all}
+use Rattle.dom_worlds.proofs.Insides.{inside}
 use Rattle.dom_worlds.proofs.InsideAncestors.{times-has_node}
 use Rattle.dom_worlds.proofs.KindLines.{has_node-times}
 use Rattle.dom_worlds.proofs.Lists.{all-then}
@@ -33,7 +33,6 @@ use Rattle.dom_worlds.proofs.TableSteps.{HasNode, Fits, MadeIn, MovesIn, ancesto
 use Rattle.dom_worlds.proofs.TableSteps.{moves-split, moves-join}
 use Rattle.dom_worlds.proofs.TableRecords.{IfSome, tables-step}
 use Rattle.dom_worlds.proofs.Tests.{either_way}
-use Rattle.dom_worlds.proofs.Trees.{IsUnique}
 
 -- The start of a live range, if there is one, has the root of a node.
 abbrev pub StartsBy : ℕ → NodeName → Part → Type 0
@@ -68,24 +67,30 @@ ends-at p k h = each p.ranges k h.ranges
     each (Some r ∷ rs) zero g = g.0
     each (r ∷ rs) (suc k) g = each rs k g.1
 
+-- What is asked of the node whose tree a range's start stands in, if there is such a range.
+pub record IsStart (k : ℕ) (y : NodeName) (p : Part) : Type 0 where
+  pub part : IsPart p
+  pub tables : HasTables p
+  pub there : HasNode p y
+  pub starts : StartsBy k y p
+
 -- Other trees.
-starts-trees : (k : ℕ) (y : NodeName) (p : Part) (us : Trees) (count : ℕ) → KeepsRoots p.trees us → HasNode p y → HasTables p → StartsBy k y p →
+starts-trees : {k : ℕ} {y : NodeName} {p : Part} (us : Trees) (count : ℕ) → KeepsRoots p.trees us → IsStart k y p →
     StartsBy k y (record p { trees = us; node_count = count })
-starts-trees k y p us count keeps t h s = from (range_at p k) (ends-at p k h) s
+starts-trees {k} {y} {p} us count keeps a = from (range_at p k) (ends-at p k a.tables) a.starts
   where
     from : (o : Option (Range NodeName)) → EndsIn p.trees o →
         IfSome (λ (r : Range NodeName). root_of p.trees r.start.node ≡ root_of p.trees y) o →
         IfSome (λ (r : Range NodeName). root_of us r.start.node ≡ root_of us y) o
     from None e g = tt
-    from (Some r) e g = keeps r.start.node y (has_node-times p.trees r.start.node e.start) t g
+    from (Some r) e g = keeps r.start.node y (has_node-times p.trees r.start.node e.start) a.there g
 
 -- moved boundaries, with their roots
-starts-moved : (k : ℕ) (y : NodeName) (p : Part) (us : Trees) (f : Boundary NodeName → Boundary NodeName) →
-    ((b : Boundary NodeName) → IsNodeIn p.trees b.node → root_of p.trees b.node ≡ root_of p.trees y → root_of us (f b).node ≡ root_of us y) →
-    HasTables p → StartsBy k y p → IfSome (λ (r : Range NodeName). root_of us r.start.node ≡ root_of us y)
-    (option_flatten (slice_get (map (option_map (map_ends f)) p.ranges) k))
-starts-moved k y p us f m h s = subst (IfSome (λ (r : Range NodeName). root_of us r.start.node ≡ root_of us y))
-    (sym (at-moved (map_ends f) p.ranges k)) (from (range_at p k) (ends-at p k h) s)
+starts-moved : {k : ℕ} {y : NodeName} {p : Part} (us : Trees) (f : Boundary NodeName → Boundary NodeName) →
+    ((b : Boundary NodeName) → IsNodeIn p.trees b.node → root_of p.trees b.node ≡ root_of p.trees y → root_of us (f b).node ≡ root_of us y) → IsStart k y p →
+    IfSome (λ (r : Range NodeName). root_of us r.start.node ≡ root_of us y) (option_flatten (slice_get (map (option_map (map_ends f)) p.ranges) k))
+starts-moved {k} {y} {p} us f m a = subst (IfSome (λ (r : Range NodeName). root_of us r.start.node ≡ root_of us y))
+    (sym (at-moved (map_ends f) p.ranges k)) (from (range_at p k) (ends-at p k a.tables) a.starts)
   where
     from : (o : Option (Range NodeName)) → EndsIn p.trees o →
         IfSome (λ (r : Range NodeName). root_of p.trees r.start.node ≡ root_of p.trees y) o →
@@ -94,68 +99,73 @@ starts-moved k y p us f m h s = subst (IfSome (λ (r : Range NodeName). root_of 
     from (Some r) e g = m r.start e.start g
 
 -- in the same trees
-starts-ends : (k : ℕ) (y : NodeName) (p : Part) (f : Boundary NodeName → Boundary NodeName) → MovesIn p.trees f → HasTables p → StartsBy k y p →
-    StartsBy k y (with_ends f p)
-starts-ends k y p f m h s = starts-moved k y p p.trees f (λ b t e. (m b t).1 ∙ e) h s
+starts-ends : {k : ℕ} {y : NodeName} {p : Part} (f : Boundary NodeName → Boundary NodeName) → MovesIn p.trees f → IsStart k y p → StartsBy k y (with_ends f p)
+starts-ends {p} f m a = starts-moved p.trees f (λ b t e. (m b t).1 ∙ e) a
 
 -- where a node leaves
-starts-left : (k : ℕ) (y : NodeName) (p : Part) (x parent : NodeName) → IsPart p → parent_of p.trees x ≡ Some parent → inside p.trees x y ≡ 0 →
-    HasNode p y → HasTables p → StartsBy k y p → StartsBy k y (leave p x parent)
-starts-left k y p x parent i e a t h s =
+starts-left : {k : ℕ} {y : NodeName} {p : Part} {parent : NodeName} (x : NodeName) → parent_of p.trees x ≡ Some parent → inside p.trees x y ≡ 0 →
+    IsStart k y p → StartsBy k y (leave p x parent)
+starts-left {y} {p} {parent} x e out a =
     let ts = p.trees in
-    let v : IsUnique (taken_out x ts) = λ z. let o = i.unique z in let g = times-taken_out_all ts x z i.unique in omega arith in
-    starts-moved k y p (taken_out x ts) (after_removal name_eq (is_inclusive_ancestor ts x) parent (index_of ts x))
-    (λ b n r. let m = moves-removal ts x parent i.unique e b n in
+    let u = a.part.unique in
+    starts-moved (taken_out x ts) (after_removal name_eq (is_inclusive_ancestor ts x) parent (index_of ts x))
+    (λ b n r. let m = moves-removal ts x u e b n in
     let c = (after_removal name_eq (is_inclusive_ancestor ts x) parent (index_of ts x) b).node in
-    roots-left ts x i.unique v c y (has_node-times ts c m.0.0) t m.1 a (m.0.1 ∙ r)) h s
+    roots-left u (record { there = has_node-times ts c m.0.0; apart = m.1 }) (record { there = a.there; apart = out }) (m.0.1 ∙ r)) a
 
 -- A step.
-starts-step : (k : ℕ) (y : NodeName) (p : Part) (s : Step) → IsPart p → Fits p s → Spares y p s → HasNode p y → HasTables p → StartsBy k y p →
-    StartsBy k y (part_step p s)
-starts-step k y p (make n) i f a t h g =
-    starts-trees k y p (part_step p (make n)).trees (suc p.node_count)
-    (roots-stay p.trees (part_step p (make n)).trees (part-step p (make n) i).unique (ancestors-step p (make n) i f tt)) t h g
-starts-step k y p (make_room parent index count) i f a t h g =
-    starts-ends k y p (after_insert name_eq parent index count) (moves-insert p.trees parent index count) h g
-starts-step k y p (place x parent before) i f a t h g =
+starts-step : {k : ℕ} {y : NodeName} {p : Part} (s : Step) → Fits p s → Spares y p s → IsStart k y p → StartsBy k y (part_step p s)
+starts-step {p} (make n) f o a =
+    starts-trees (part_step p (make n)).trees (suc p.node_count)
+    (roots-stay p.trees (part_step p (make n)).trees (part-step p (make n) a.part).unique (ancestors-step p (make n) a.part f tt)) a
+starts-step {p} (make_room parent index count) f o a =
+    starts-ends (after_insert name_eq parent index count) (moves-insert p.trees parent index count) a
+starts-step {p} (place x parent before) f o a =
     let us = (part_step p (place x parent before)).trees in
-    starts-trees k y p us p.node_count (roots-stay p.trees us (part-step p (place x parent before) i).unique
-    (ancestors-step p (place x parent before) i f tt)) t h g
-starts-step k y p (take_out x) i f a t h g = from (parent_of p.trees x) refl
+    starts-trees us p.node_count (roots-stay p.trees us (part-step p (place x parent before) a.part).unique
+    (ancestors-step p (place x parent before) a.part f tt)) a
+starts-step {k} {y} {p} (take_out x) f out a = from (parent_of p.trees x) refl
   where
     from : (o : Option NodeName) → parent_of p.trees x ≡ o → StartsBy k y (option_map_or (leave p x) o p)
-    from None e = g
-    from (Some parent) e = starts-left k y p x parent i e a t h g
-starts-step k y p (set_document x d) i f a t h g =
+    from None e = a.starts
+    from (Some parent) e = starts-left x e out a
+starts-step {p} (set_document x d) f o a =
     let us = (part_step p (set_document x d)).trees in
-    starts-trees k y p us p.node_count (roots-stay p.trees us (part-step p (set_document x d) i).unique (ancestors-step p (set_document x d) i f tt)) t h g
-starts-step k y p (set_attribute x b v) i f a t h g =
+    starts-trees us p.node_count
+    (roots-stay p.trees us (part-step p (set_document x d) a.part).unique (ancestors-step p (set_document x d) a.part f tt)) a
+starts-step {p} (set_attribute x b v) f o a =
     let us = (part_step p (set_attribute x b v)).trees in
-    starts-trees k y p us p.node_count (roots-stay p.trees us (part-step p (set_attribute x b v) i).unique
-    (ancestors-step p (set_attribute x b v) i f tt)) t h g
-starts-step k y p (replace_data x offset count new) i f a t h g =
+    starts-trees us p.node_count (roots-stay p.trees us (part-step p (set_attribute x b v) a.part).unique
+    (ancestors-step p (set_attribute x b v) a.part f tt)) a
+starts-step {y} {p} (replace_data x offset count new) f z a =
+    let i = a.part in
     let us = (part_step p (replace_data x offset count new)).trees in
     let keeps = roots-stay p.trees us (part-step p (replace_data x offset count new) i).unique (ancestors-step p (replace_data x offset count new) i f tt) in
-    starts-moved k y p us (after_replace_data name_eq x offset count (length new))
+    starts-moved us (after_replace_data name_eq x offset count (length new))
     (λ b n r. let more = times-has_node us b.node
     (let o = stays-step p (replace_data x offset count new) i f b.node in let q = has_node-times p.trees b.node n in omega arith) in
-    (moves-data us x offset count (length new) b more).1 ∙ keeps b.node y (has_node-times p.trees b.node n) t r) h g
-starts-step k y p (split_at x offset new parent index) i f a t h g =
-    starts-ends k y p (after_split name_eq x offset new parent index)
-    (moves-split p.trees x offset new parent index (times-has_node p.trees new f.0) f.1) h g
-starts-step k y p (join_at first size next parent index) i f a t h g =
-    starts-ends k y p (after_join name_eq first size next parent index)
-    (moves-join p.trees first size next parent index (times-has_node p.trees first f.0) f.1 f.2) h g
-starts-step k y p (set_range j r) i f a t h g = absurd a
-starts-step k y p (queue_record c) i f a t h g = g
+    (moves-data us x offset count (length new) b more).1 ∙ keeps b.node y (has_node-times p.trees b.node n) a.there r) a
+starts-step {p} (split_at x offset new parent index) f o a =
+    starts-ends (after_split name_eq x offset new parent index)
+    (moves-split p.trees x offset new parent index (times-has_node p.trees new f.0) f.1) a
+starts-step {p} (join_at first size next parent index) f o a =
+    starts-ends (after_join name_eq first size next parent index)
+    (moves-join p.trees first size next parent index (times-has_node p.trees first f.0) f.1 f.2) a
+starts-step (set_range j r) f o a = absurd o
+starts-step (queue_record c) f o a = a.starts
 
 -- many steps
-pub starts-after : (k : ℕ) (y : NodeName) (p : Part) (steps : List Step) → IsPart p → MadeIn p steps → SparesAll y p steps → HasNode p y →
-    HasTables p → StartsBy k y p → StartsBy k y (after p steps)
-starts-after k y p [] i m a t h g = g
-starts-after k y p (s ∷ steps) i m a t h g =
-    starts-after k y (part_step p s) steps (part-step p s i) m.1 a.1 (let o = stays-step p s i m.0 y in omega arith) (tables-step p s i m.0 h)
-    (starts-step k y p s i m.0 a.0 t h g)
+pub starts-after : {k : ℕ} {y : NodeName} (steps : List Step) {p : Part} → MadeIn p steps → SparesAll y p steps → IsStart k y p → IsStart k y (after p steps)
+starts-after [] m o a = a
+starts-after {y} (s ∷ steps) {p} m o a =
+    let t = a.there in
+    starts-after steps m.1 o.1
+    (record {
+      part = part-step p s a.part;
+      tables = tables-step p s a.part m.0 a.tables;
+      there = let more = stays-step p s a.part m.0 y in omega arith;
+      starts = starts-step s m.0 o.0 a;
+    })
 
 -- Plans that spare a node.
 pub spares-append : (y : NodeName) (p : Part) (xs ys : List Step) → SparesAll y p xs → SparesAll y (after p xs) ys → SparesAll y p (xs ++ ys)
@@ -203,9 +213,9 @@ spares-removals parent how (x ∷ xs) p i m =
     (spares-removals parent how xs q c.part (all-then (MayGo parent p) (MayGo parent q) (λ y. may-still parent p q y c) xs m.1))
 
 -- an insertion
-pub spares-inserting : (how : Observing) (node parent : NodeName) (before : Option NodeName) (p : Part) → IsPart p → MayGo parent p node →
+pub spares-inserting : {node parent : NodeName} {p : Part} (how : Observing) (before : Option NodeName) → IsPart p → MayGo parent p node →
     SparesAll parent p (inserting how node parent before p)
-spares-inserting how node parent before p i m =
+spares-inserting {node} {parent} {p} how before i m =
     let spot = Some parent in
     let moved = placed_nodes p.trees node in
     let told = telling how (child_list parent moved [] (sibling_before p.trees parent before) before) in
@@ -239,8 +249,8 @@ spares-inserting how node parent before p i m =
         (spares-removals parent suppressed moved p i m) (tt, tt)
 
 -- a split of a Text below the node
-pub spares-splitting : (x : NodeName) (offset : ℕ) (p : Part) → IsPart p → HasNode p x → SparesAll (unwrap_or (parent_of p.trees x) x) p (splitting x offset p)
-spares-splitting x offset p i t = from (parent_of p.trees x) refl
+pub spares-splitting : (x : NodeName) (offset : ℕ) (p : Part) → IsPart p → SparesAll (unwrap_or (parent_of p.trees x) x) p (splitting x offset p)
+spares-splitting x offset p i = from (parent_of p.trees x) refl
   where
     tail : Node
     tail = new_text_node (next_name p) (node_in p.trees x).document (drop offset (node_in p.trees x).text)
@@ -257,4 +267,4 @@ spares-splitting x offset p i t = from (parent_of p.trees x) refl
         let put = inserting observed (next_name p) parent (next_sibling q.trees x) q in
         let one = make tail ∷ placing_tail x offset (next_name p) (Some parent) q in
         spares-append parent p one (replacing_data x offset (length (node_in p.trees x).text - offset) [] (after p one))
-        (tt, spares-append parent q put _ (spares-inserting observed (next_name p) parent (next_sibling q.trees x) q j may) (tt, tt)) (tt, (tt, tt))
+        (tt, spares-append parent q put _ (spares-inserting observed (next_sibling q.trees x) j may) (tt, tt)) (tt, (tt, tt))

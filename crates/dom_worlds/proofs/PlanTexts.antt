@@ -112,20 +112,20 @@ pub record MayFollow (x parent : NodeName) (q : Part) (new : NodeName) : Type 0 
   pub others : IsOtherChild x parent new q
 
 -- it does
-follows : (x parent : NodeName) (before : Option NodeName) (q : Part) (new : NodeName) → IsPart q → MayFollow x parent q new → let r =
-    after q (inserting observed new parent before q) in root_of r.trees new ≡ root_of r.trees x
-follows x parent before q new i f =
+follows : {x parent : NodeName} {q : Part} {new : NodeName} (before : Option NodeName) → IsPart q → MayFollow x parent q new →
+    let r = after q (inserting observed new parent before q) in root_of r.trees new ≡ root_of r.trees x
+follows {x} {parent} {q} {new} before i f =
     let put = leads-inserting observed new parent before q i f.may in
     let r = after q (inserting observed new parent before q) in
     let u = put.changed.part.unique in
-    let a = child-parent r new parent put.changed.part (child-inserted observed new parent before q i f.may f.plain) in
-    let b = child-parent r x parent put.changed.part (child-inserting x parent observed new parent before q i f.may f.others) in
+    let a = child-parent r new parent put.changed.part (child-inserted observed before i f.may f.plain) in
+    let b = child-parent r x parent put.changed.part (child-inserting observed before i f.may f.others) in
     sym (root-parent_of r.trees u new parent a) ∙ root-parent_of r.trees u x parent b
 
 -- a new Text does, where the other one has a parent
-pub may-follow : (p : Part) (n : Node) (x parent : NodeName) → IsPart p → is_fragment n.kind ≡ false → parent_of p.trees x ≡ Some parent →
+pub may-follow : {p : Part} {parent : NodeName} (n : Node) (x : NodeName) → IsPart p → is_fragment n.kind ≡ false → parent_of p.trees x ≡ Some parent →
     MayFollow x parent (part_step p (make n)) (next_name p)
-may-follow p n x parent i k e =
+may-follow {p} {parent} n x i k e =
     let t = parent-there p.trees x parent e in
     let made = node-new (with_name (next_name p) n) p.trees (next-absent p i) in
     record {
@@ -139,10 +139,10 @@ may-follow p n x parent i k e =
     }
 
 -- the tail
-pub leads-tail : (x : NodeName) (offset : ℕ) (new : NodeName) (o : Option NodeName) (q : Part) → IsPart q → HasNode q new →
+pub leads-tail : {x new : NodeName} {q : Part} (offset : ℕ) (o : Option NodeName) → IsPart q → HasNode q new →
     ((parent : NodeName) → o ≡ Some parent → MayFollow x parent q new) → Leads o q (placing_tail x offset new o q)
-leads-tail x offset new None q i t m = leads-nothing None q i
-leads-tail x offset new (Some parent) q i t m =
+leads-tail {q} offset None i t m = leads-nothing None q i
+leads-tail {x} {new} {q} offset (Some parent) i t m =
     let spot = Some parent in
     let last = split_at x offset new parent (index_of q.trees x) in
     let before = next_sibling q.trees x in
@@ -151,7 +151,7 @@ leads-tail x offset new (Some parent) q i t m =
     let put = leads-inserting observed new parent before q i f.may in
     let r = after q steps in
     leads-then spot q steps (last ∷ []) put
-    (leads-eased spot r (last ∷ []) (leads-one r last put.changed.part (still put.changed new t, follows x parent before q new i f)))
+    (leads-eased spot r (last ∷ []) (leads-one r last put.changed.part (still put.changed new t, follows before i f)))
 
 -- a split
 pub leads-splitting : (x : NodeName) (offset : ℕ) (p : Part) → IsPart p → Leads (parent_of p.trees x) p (splitting x offset p)
@@ -163,7 +163,7 @@ leads-splitting x offset p i =
     let first = leads-one p (make tail) i tt in
     leads-plan spot (doing (make tail) and_then placing_tail x offset new spot) (replacing_data x offset (length old.text - offset) []) p
     (leads-then spot p (make tail ∷ []) (placing_tail x offset new spot (part_step p (make tail))) (leads-eased spot p (make tail ∷ []) first)
-    (leads-tail x offset new spot (part_step p (make tail)) first.changed.part (new-there p tail) (λ parent e. may-follow p tail x parent i refl e)))
+    (leads-tail offset spot first.changed.part (new-there p tail) (λ parent e. may-follow tail x i refl e)))
     (λ q c. leads-eased spot q (replacing_data x offset (length old.text - offset) [] q) (leads-replacing_data x offset (length old.text - offset) [] q c.part))
 
 -- Joined Texts: a Text and some others in the tree of a parent.
@@ -171,19 +171,19 @@ abbrev pub AreBeside : NodeName → NodeName → List NodeName → Trees → Typ
 AreBeside x parent ys us = (root_of us x ≡ root_of us parent) × AllByRecursion (λ y. root_of us x ≡ root_of us y) ys
 
 -- their joins
-pub leads-joins : (ts : Trees) (x parent : NodeName) (size : ℕ) (ys : List NodeName) (p : Part) → IsPart p → HasNode p x →
-    AreBeside x parent ys p.trees → Leads None p (joins ts x parent size ys)
-leads-joins ts x parent size [] p i t b = leads-nothing None p i
-leads-joins ts x parent size (y ∷ ys) p i t b =
+pub leads-joins : (ts : Trees) (x parent : NodeName) (size : ℕ) (ys : List NodeName) {p : Part} → IsPart p → HasNode p x → AreBeside x parent ys p.trees →
+    Leads None p (joins ts x parent size ys)
+leads-joins ts x parent size [] {p} i t b = leads-nothing None p i
+leads-joins ts x parent size (y ∷ ys) {p} i t b =
     let s = join_at x size y parent (index_of ts y) in
     let first = leads-one p s i (t, b.1.0, b.0) in
     leads-then None p (s ∷ []) (joins ts x parent (size + length_of ts y) ys) first
-    (leads-joins ts x parent (size + length_of ts y) ys (part_step p s) first.changed.part (still first.changed x t) (b.0, b.1.1))
+    (leads-joins ts x parent (size + length_of ts y) ys first.changed.part (still first.changed x t) (b.0, b.1.1))
 
 -- those after a Text are beside it, whatever data it got
-pub texts-beside : (x parent : NodeName) (size : ℕ) (all : DomString) (p : Part) → IsPart p → parent_of p.trees x ≡ Some parent →
+pub texts-beside : {parent : NodeName} {p : Part} (x : NodeName) (size : ℕ) (all : DomString) → IsPart p → parent_of p.trees x ≡ Some parent →
     AreBeside x parent (texts_after p.trees x) (after p (replacing_data x size 0 all p)).trees
-texts-beside x parent size all p i e =
+texts-beside {parent} {p} x size all i e =
     let ts = p.trees in
     let q = after p (replacing_data x size 0 all p) in
     let j = (leads-replacing_data x size 0 all p i).changed.part in
@@ -211,22 +211,20 @@ leads-joining x parent p i t e =
     leads-plan None (replacing_data x size 0 all and_then steps_of (joins p.trees x parent size nexts)) (in_turn (removing observed) nexts) p
     (let first = leads-replacing_data x size 0 all p i in
     leads-then None p (replacing_data x size 0 all p) (joins p.trees x parent size nexts) first
-    (leads-joins p.trees x parent size nexts (after p (replacing_data x size 0 all p)) first.changed.part (still first.changed x t)
-    (texts-beside x parent size all p i e)))
+    (leads-joins p.trees x parent size nexts first.changed.part (still first.changed x t)
+    (texts-beside x size all i e)))
     (λ q c. leads-removals observed nexts q c.part)
 
 -- a Text that is normalized
 pub leads-normalizing_text : (p : Part) (x : NodeName) → IsPart p → HasNode p x → Leads None p (normalizing_text x p)
 leads-normalizing_text p x i t =
-    leads-if None p (length_of p.trees x == 0) (removing observed x p)
-    (option_map_or (λ parent. if is_empty (texts_after p.trees x) then [] else joining x parent (texts_after p.trees x) p)
-    (parent_of p.trees x) [])
+    leads-if (length_of p.trees x == 0)
     (leads-removing observed x p i) (from (parent_of p.trees x) refl)
   where
     from : (a : Option NodeName) → parent_of p.trees x ≡ a →
         Leads None p (option_map_or (λ parent. if is_empty (texts_after p.trees x) then [] else joining x parent (texts_after p.trees x) p) a [])
     from None e = leads-nothing None p i
-    from (Some parent) e = leads-if None p (is_empty (texts_after p.trees x)) [] (joining x parent (texts_after p.trees x) p)
+    from (Some parent) e = leads-if (is_empty (texts_after p.trees x))
         (leads-nothing None p i) (leads-joining x parent p i t e)
 
 -- the nodes of a tree are there
@@ -248,12 +246,30 @@ leads-normalizing x p i =
     (all-filter (HasNode p) (λ y. is_text (kind_of p.trees y)) (descendants p.trees x)
     (all-dropped (HasNode p) (inclusive_descendants p.trees x) (descend-there p.trees x)))
 
--- Text content.
-leads-replaced : (x : NodeName) (p : Part) (made told : List Step) (old added : List NodeName) → Leads (Some x) p made →
-    AllByRecursion (MayGo x (after p made)) added → ((q : Part) → IsPart q → Leads None q told) →
+-- Text content. A node whose contents go, with steps that make the nodes which come in their place.
+pub record IsReplaced (x : NodeName) (made : List Step) (added : List NodeName) (p : Part) : Type 0 where
+  pub there : HasNode p x
+  pub leads : Leads (Some x) p made
+  pub may : AllByRecursion (MayGo x (after p made)) added
+
+-- a new node, or none
+pub replaced-by : (x : NodeName) (node : NodeName → Node) (p : Part) → IsPart p → HasNode p x → (b : Bool) →
+    let added : List NodeName = if b then [] else next_name p ∷ [] in IsReplaced x (map (λ y. make (node y)) added) added p
+replaced-by x node p i t true = record { there = t; leads = leads-nothing (Some x) p i; may = tt }
+replaced-by x node p i t false =
+    record {
+      there = t;
+      leads = leads-eased (Some x) p (make (node (next_name p)) ∷ []) (leads-one p (make (node (next_name p))) i tt);
+      may = (new-may p (node (next_name p)) x i t, tt);
+    }
+
+-- what was below it goes, and they come
+leads-replaced : {x : NodeName} {made : List Step} {added : List NodeName} {p : Part} (told : List Step) (old : List NodeName) → IsReplaced x made added p →
+    ((q : Part) → IsPart q → Leads None q told) →
     Leads (Some x) p ((steps_of made and_then in_turn (removing suppressed) old and_then in_turn (λ y. inserting suppressed y x None) added
     and_then steps_of told) p)
-leads-replaced x p made told old added a m t =
+leads-replaced {x} {made} {added} {p} told old m t =
+    let a = m.leads in
     let spot = Some x in
     let q = after p made in
     leads-plan spot (steps_of made and_then in_turn (removing suppressed) old and_then in_turn (λ y. inserting suppressed y x None) added) (steps_of told) p
@@ -265,12 +281,12 @@ leads-replaced x p made told old added a m t =
     let r = after p (made ++ in_turn (removing suppressed) old q) in
     let same : r ≡ after q (in_turn (removing suppressed) old q) = after-append p made (in_turn (removing suppressed) old q) in
     let c : Changed spot q r = subst (Changed spot q) (sym same) (leads-eased spot q (in_turn (removing suppressed) old q) b).changed in
-    leads-each (inserting-each x) added r c.part (all-then (MayGo x q) (MayGo x r) (λ y. may-still x q r y c) added m)))
+    leads-each (inserting-each x) added r c.part (all-then (MayGo x q) (MayGo x r) (λ y. may-still x q r y c) added m.may)))
     (λ q c. leads-eased spot q told (t q c.part))
 
 -- a record, if so
 pub leads-only_if : (b : Bool) (s : Step) (q : Part) → Leads None q (s ∷ []) → IsPart q → Leads None q (only_if b s)
-leads-only_if b s q a i = leads-if None q b (s ∷ []) [] a (leads-nothing None q i)
+leads-only_if b s q a i = leads-if b a (leads-nothing None q i)
 
 -- children that give way to a Text
 leads-replacing_children : (x : NodeName) (new : DomString) (p : Part) → IsPart p → HasNode p x → Leads (Some x) p (replacing_children x new p)
@@ -279,23 +295,13 @@ leads-replacing_children x new p i t =
     let added : List NodeName = if is_empty new then [] else next_name p ∷ [] in
     let node = λ (y : NodeName). new_text_node y (Some (document_below p.trees x)) new in
     let told = only_if (not (is_empty old && is_empty new)) (queue_record (child_list x added old None None)) in
-    let m = from node (is_empty new) in
-    leads-replaced x p (map (λ y. make (node y)) added) told old added m.0 m.1
+    leads-replaced told old (replaced-by x node p i t (is_empty new))
     (λ q j. leads-only_if (not (is_empty old && is_empty new)) (queue_record (child_list x added old None None)) q
     (leads-one q (queue_record (child_list x added old None None)) j tt) j)
-  where
-    from : (node : NodeName → Node) (b : Bool) → let added : List NodeName =
-        if b then [] else next_name p ∷ [] in Leads (Some x) p (map (λ y. make (node y)) added) ×
-        AllByRecursion (MayGo x (after p (map (λ y. make (node y)) added))) added
-    from node true = (leads-nothing (Some x) p i, tt)
-    from node false = (
-      leads-eased (Some x) p (make (node (next_name p)) ∷ []) (leads-one p (make (node (next_name p))) i tt),
-      (new-may p (node (next_name p)) x i t, tt),
-    )
 
 -- text content
 pub leads-setting_text : (x : NodeName) (new : DomString) (p : Part) → IsPart p → HasNode p x → Leads (Some x) p (setting_text x new p)
 leads-setting_text x new p i t =
-    leads-if (Some x) p (has_data (kind_of p.trees x)) (replacing_all_data x new p) (if is_document (kind_of p.trees x) then [] else replacing_children x new p)
+    leads-if (has_data (kind_of p.trees x))
     (leads-eased (Some x) p (replacing_all_data x new p) (leads-replacing_data x 0 (length_of p.trees x) new p i))
-    (leads-if (Some x) p (is_document (kind_of p.trees x)) [] (replacing_children x new p) (leads-nothing (Some x) p i) (leads-replacing_children x new p i t))
+    (leads-if (is_document (kind_of p.trees x)) (leads-nothing (Some x) p i) (leads-replacing_children x new p i t))

@@ -14,7 +14,7 @@ use Rattle.dom_model.specs.Ranges.{Range, at}
 use Rattle.dom_model.specs.Extract.{new_place, behind_node}
 use Rattle.dom_model.proofs.OwnerLaws.{name_eq-true}
 use Rattle.dom_worlds.specs.Worlds.{times_among, IsPart}
-use Rattle.dom_worlds.proofs.Bounds.{nowhere, HasRoom}
+use Rattle.dom_worlds.proofs.Bounds.{IsRoomy, nowhere, HasRoom}
 use Rattle.dom_worlds.proofs.ChildPairs.{children-childs, held-length}
 use Rattle.dom_worlds.proofs.Contained.{IsSpared, spared-first, spared-up_to, below-rest}
 use Rattle.dom_worlds.proofs.Descents.{ancestor-inside}
@@ -43,9 +43,9 @@ pub record IsRoomAt (p : Part) (r : Range NodeName) (b : Boundary NodeName) : Ty
   pub spared : IsSpared p.trees r b.node held
 
 -- where they stay, it is within the node
-pub room-at : (p q : Part) (r : Range NodeName) (b : Boundary NodeName) (k : IsRoomAt p r b) → IsPart q → IsOpen q b.node →
-    AreChildren k.held b.node q → b.offset ≤ length_of q.trees b.node
-room-at p q r b k i o c =
+pub room-at : {p q : Part} {r : Range NodeName} {b : Boundary NodeName} (k : IsRoomAt p r b) → IsPart q → IsOpen q b.node → AreChildren k.held b.node q →
+    b.offset ≤ length_of q.trees b.node
+room-at {q} {b} k i o c =
     let a = held-length q.trees k.held b.node k.once c.0 in let l = length-kids q.trees b.node i.unique o in let m = k.count in omega arith
 
 -- the first of some
@@ -88,28 +88,28 @@ room-start p r i t o le =
     }
 
 -- Just behind a node above the start.
-room-behind : (p : Part) (r : Range NodeName) (a y : NodeName) → IsPart p → HasRoom nowhere p → HasNode p a → parent_of p.trees a ≡ Some y →
+room-behind : {p : Part} {y : NodeName} (r : Range NodeName) (a : NodeName) → IsRoomy nowhere p → HasNode p a → parent_of p.trees a ≡ Some y →
     is_inclusive_ancestor p.trees a r.start.node ≡ true → IsRoomAt p r (at y (suc (index_of p.trees a)))
-room-behind p r a y i h t e above =
+room-behind {p} {y} r a w t e above =
     let ts = p.trees in
     let all = children_of ts y in
-    let listed : is_in name_eq a all ≡ true = root-below ts a y i.unique e in
+    let listed : is_in name_eq a all ≡ true = root-below ts a y w.part.unique e in
     let before = items_before name_eq a all in
-    let below = index-below ts a y i.unique e in
+    let below = index-below ts a y w.part.unique e in
     let each = children-childs ts y in
     record {
       held = before ++ a ∷ [];
       count = let s : index_of ts a ≡ length before =
           ap (λ (o : Option NodeName). length (items_before name_eq a (option_map_or (children_of ts) o (a ∷ [])))) e in let l =
           length-append before (a ∷ []) in omega arith;
-      once = λ z. let b = among-up_to a all z listed in let c = children-among ts y z in let u = i.unique z in omega arith;
+      once = λ z. let b = among-up_to a all z listed in let c = children-among ts y z in let u = w.part.unique z in omega arith;
       children = (
         all-append (λ x. IsChild x y p) before (a ∷ []) (before-all (λ x. IsChild x y p) a all each)
             (all-in (λ x. IsChild x y p) a all each listed, tt),
         parent-there ts a y e,
       );
-      opened = kids-open p y h (omega arith);
-      spared = spared-up_to ts r a y i.unique e t above;
+      opened = kids-open p y w.room (omega arith);
+      spared = spared-up_to ts r a w.part.unique e above;
     }
 
 -- A node of the list of ancestors is an ancestor.
@@ -157,15 +157,15 @@ module _ (p : Part) (r : Range NodeName) (i : IsPart p) (h : HasRoom nowhere p) 
       chosen (last_of above) (last-all G above kept) own
     where
       placed : (a : NodeName) → HasNode p a → root_of p.trees a ≡ root_of p.trees r.start.node → is_inclusive_ancestor p.trees a r.start.node ≡ true →
-          not (is_inclusive_ancestor p.trees a r.end.node) ≡ true → (o : Option NodeName) → parent_of p.trees a ≡ o →
+          not (is_inclusive_ancestor p.trees a r.end.node) ≡ true → {o : Option NodeName} → parent_of p.trees a ≡ o →
           IsRoomAt p r (at (unwrap_or o a) (suc (index_of p.trees a)))
-      placed a ta same up out None e =
+      placed a ta same up out {o = None} e =
           let ts = p.trees in
           let root = root-itself ts a i.unique ta e in
           let end_root : root_of ts r.end.node ≡ a = sym (name_eq-true (root_of ts r.start.node) (root_of ts r.end.node) one) ∙ sym same ∙ root in
           absurd (true≢false (sym (ap (λ x. is_inclusive_ancestor ts x r.end.node) (sym end_root) ∙ root-above ts r.end.node te) ∙
           not-true (is_inclusive_ancestor ts a r.end.node) out))
-      placed a ta same up out (Some y) e = room-behind p r a y i h ta e up
+      placed a ta same up out {o = Some y} e = room-behind r a (record { part = i; room = h }) ta e up
 
       chosen : (o : Option NodeName) → IfSome
           (λ a. ((HasNode p a × (root_of p.trees a ≡ root_of p.trees r.start.node)) × (is_inclusive_ancestor p.trees a r.start.node ≡ true)) ×
@@ -173,8 +173,8 @@ module _ (p : Part) (r : Range NodeName) (i : IsPart p) (h : HasRoom nowhere p) 
           (((HasNode p r.start.node × (root_of p.trees r.start.node ≡ root_of p.trees r.start.node)) ×
           (is_inclusive_ancestor p.trees r.start.node r.start.node ≡ true)) ×
           (not (is_inclusive_ancestor p.trees r.start.node r.end.node) ≡ true)) → IsRoomAt p r (behind_node p.trees (unwrap_or o r.start.node))
-      chosen None k own = placed r.start.node own.0.0.0 own.0.0.1 own.0.1 own.1 (parent_of p.trees r.start.node) refl
-      chosen (Some a) k own = placed a k.0.0.0 k.0.0.1 k.0.1 k.1 (parent_of p.trees a) refl
+      chosen None k own = placed r.start.node own.0.0.0 own.0.0.1 own.0.1 own.1 refl
+      chosen (Some a) k own = placed a k.0.0.0 k.0.0.1 k.0.1 k.1 refl
 
   -- The new place has room, unless it is in a Text or a Comment.
   pub room-place_new : r.start.offset ≤ length_of p.trees r.start.node → (is_inclusive_ancestor p.trees r.start.node r.end.node ≡ true →

@@ -25,13 +25,13 @@ use Rattle.dom_model.specs.RangeOps.{inserting_into_range}
 use Rattle.dom_model.proofs.OwnerLaws.{name_eq-same, name_eq-true, name_eq-turned}
 use Rattle.dom_worlds.specs.Worlds.{times_among, IsPart}
 use Rattle.dom_worlds.proofs.BoundLines.{under-at}
-use Rattle.dom_worlds.proofs.Bounds.{RangeUnder, reach, nowhere, HasRoom, room-set}
+use Rattle.dom_worlds.proofs.Bounds.{IsRoomy, RangeUnder, reach, nowhere, HasRoom, room-set}
 use Rattle.dom_worlds.proofs.ChildPairs.{children-childs}
 use Rattle.dom_worlds.proofs.Insides.{inside, inside-itself}
 use Rattle.dom_worlds.proofs.ChildCounts.{kids, one_at, kids-taken_out, index-below}
 use Rattle.dom_worlds.proofs.Lists.{all-then}
 use Rattle.dom_worlds.proofs.NodesRead.{length-kids}
-use Rattle.dom_worlds.proofs.PlanBounds.{IsOpen, open-still, room-then, room-removing, room-inserting}
+use Rattle.dom_worlds.proofs.PlanBounds.{MayEnter, IsOpen, open-still, room-then, room-removing, room-inserting}
 use Rattle.dom_worlds.proofs.PlacedBounds.{Distinct, kids-inserted, kids-plain}
 use Rattle.dom_worlds.proofs.PlanChildren.{IsChild, child-then, child-removing, child-replacing_data, child-inserted, child-parent}
 use Rattle.dom_worlds.proofs.PlanPlaces.{Changed, MayGo, may-still, still, taken-step, telling-trees, root-removing, after-append, emptied_of}
@@ -89,32 +89,32 @@ removed-roots how (x ∷ xs) p i t =
     (root-removals how xs x q (root-removing how x p t.0), removed-roots how xs q c.part (all-then (HasNode p) (HasNode q) (λ y. still c y) xs t.1))
 
 -- another parent keeps its children
-kids-removing : (how : Observing) (x parent y : NodeName) (p : Part) → IsPart p → parent_of p.trees x ≡ Some parent → name_eq parent y ≡ false →
+kids-removing : {parent : NodeName} {p : Part} (how : Observing) (x y : NodeName) → IsPart p → parent_of p.trees x ≡ Some parent → name_eq parent y ≡ false →
     kids (after p (removing how x p)).trees y ≡ kids p.trees y
-kids-removing how x parent y p i e d =
+kids-removing {parent} {p} how x y i e d =
     let s = ap (λ ts. kids ts y) (trees-removing how x parent p e) in
     let k = kids-taken_out p.trees x parent y i.unique e in
     let o : one_at parent y ≡ 0 = cond-false (name_eq parent y) 1 0 d in omega arith
 
 -- where all children of one leave it
-kids-removals : (how : Observing) (xs : List NodeName) (parent y : NodeName) (p : Part) → IsPart p → AllByRecursion (λ x. IsChild x parent p) xs →
-    Distinct xs → name_eq parent y ≡ false → kids (after p (in_turn (removing how) xs p)).trees y ≡ kids p.trees y
-kids-removals how [] parent y p i c d n = refl
-kids-removals how (x ∷ xs) parent y p i c d n =
+kids-removals : (how : Observing) (xs : List NodeName) (parent y : NodeName) {p : Part} → IsPart p → AllByRecursion (λ x. IsChild x parent p) xs → Distinct xs →
+    name_eq parent y ≡ false → kids (after p (in_turn (removing how) xs p)).trees y ≡ kids p.trees y
+kids-removals how [] parent y i c d n = refl
+kids-removals how (x ∷ xs) parent y {p} i c d n =
     let q = after p (removing how x p) in
     let j = (leads-removing how x p i).changed.part in
     let rest = all-then (λ z. IsChild z parent p × (name_eq x z ≡ false)) (λ z. IsChild z parent q)
-    (λ z h. let h0 = h.0 in child-removing z parent how x p i h.1 h.0) xs
+    (λ z h. let h0 = h.0 in child-removing how x (record { part = i; child = h.0 }) h.1) xs
     (all-both (λ z. IsChild z parent p) (λ z. name_eq x z ≡ false) xs c.1 d.0) in
-    let a = kids-removing how x parent y p i (child-parent p x parent i c.0) n in
-    let b = kids-removals how xs parent y q j rest d.1 n in
+    let a = kids-removing how x y i (child-parent p x parent i c.0) n in
+    let b = kids-removals how xs parent y j rest d.1 n in
     let s = ap (λ (r : Part). kids r.trees y) (after-append p (removing how x p) (in_turn (removing how) xs q)) in omega arith
 
 -- An insertion of a fragment: the parent has its children more.
-kids-fragment : (how : Observing) (node parent : NodeName) (before : Option NodeName) (p : Part) → IsPart p → MayGo parent p node →
+kids-fragment : {node parent : NodeName} {p : Part} (how : Observing) (before : Option NodeName) → IsPart p → MayGo parent p node →
     is_fragment (kind_of p.trees node) ≡ true →
     kids (after p (inserting how node parent before p)).trees parent ≡ kids p.trees parent + length (children_of p.trees node)
-kids-fragment how node parent before p i m k =
+kids-fragment {node} {parent} {p} how before i m k =
     let ts = p.trees in
     let moved = placed_nodes ts node in
     let is : moved ≡ children_of ts node = cond-true (is_fragment (kind_of ts node)) (children_of ts node) (node ∷ []) k in
@@ -131,7 +131,7 @@ kids-fragment how node parent before p i m k =
     let apart : name_eq node parent ≡ false = by_cases (name_eq node parent)
     (λ e. absurd (let a = m.apart in let b = inside-itself ts node m.there in let s = ap (inside ts node) (name_eq-true node parent e) in omega
     arith)) (λ e. e) in
-    let same = kids-removals suppressed moved node parent p i children distinct apart in
+    let same = kids-removals suppressed moved node parent i children distinct apart in
     let g = kids-inserted how node parent before p i m (subst (λ us. AllByRecursion (HasRoot us) moved) (sym q_trees) roots) distinct
     (ap (λ us. kids us parent) q_trees ∙ same) in
     let size = ap (λ (xs : List NodeName). length xs) is in omega arith
@@ -146,13 +146,13 @@ fragment-open Text h = absurd (true≢false (sym h))
 fragment-open Comment h = absurd (true≢false (sym h))
 
 -- so many children more: those of a fragment, or one
-kids-more : (node parent : NodeName) (before : Option NodeName) (p : Part) → IsPart p → MayGo parent p node → HasRoot p.trees node →
+kids-more : {node parent : NodeName} {p : Part} (before : Option NodeName) → IsPart p → MayGo parent p node → HasRoot p.trees node →
     kids (after p (inserting observed node parent before p)).trees parent ≡ kids p.trees
     parent + (if is_fragment (kind_of p.trees node) then length_of p.trees node else 1)
-kids-more node parent before p i m h =
+kids-more {node} {parent} {p} before i m h =
     let ts = p.trees in
     by_cases (is_fragment (kind_of ts node))
-    (λ k. let a = kids-fragment observed node parent before p i m k in
+    (λ k. let a = kids-fragment observed before i m k in
     let b = cond-true (is_fragment (kind_of ts node)) (length_of ts node) 1 k in
     let c : length_of ts node ≡ length (children_of ts node) =
     cond-false (has_data (kind_of ts node)) (length (node_in ts node).text) (length (children_of ts node))
@@ -169,30 +169,29 @@ room-ending_at k b p le h = from (range_at p k) (under-at p k h)
         (λ (r : Range NodeName). if is_collapsed name_eq r then set_range k (from_to r.start b) ∷ [] else []) o []))
     from None u = h
     from (Some r) u = either_way (λ steps. HasRoom nowhere (after p steps)) (is_collapsed name_eq r) (set_range k (from_to r.start b) ∷ []) []
-        (room-set nowhere p k (from_to r.start b) u.0 (omega arith) h) h
+        (room-set k (from_to r.start b) u.0 (omega arith) h) h
 
 -- A node before a reference: a child of the parent, if there is one.
-room-inserting_before : (k : ℕ) (node parent : NodeName) (reference : Option NodeName) (p : Part) → IsPart p → MayGo parent p node →
-    IsOpen p parent → HasRoot p.trees node → IfSome (λ c. IsChild c parent p) reference → HasRoom nowhere p →
-    HasRoom nowhere (after p (inserting_before k node parent reference p))
-room-inserting_before k node parent reference p i m o root c h =
+room-inserting_before : {node parent : NodeName} {p : Part} (k : ℕ) (reference : Option NodeName) → IsRoomy nowhere p → MayEnter parent p node →
+    HasRoot p.trees node → IfSome (λ c. IsChild c parent p) reference → HasRoom nowhere (after p (inserting_before k node parent reference p))
+room-inserting_before {node} {parent} {p} k reference w m root c =
     let ts = p.trees in
     let place = option_map_or (index_of ts) reference (length_of ts parent) in
     let size = if is_fragment (kind_of ts node) then length_of ts node else 1 in
     let before = reference_for ts node reference in
     let steps = inserting observed node parent before p in
-    let l = leads-inserting observed node parent before p i m in
+    let l = leads-inserting observed node parent before p w.part m.go in
     let q = after p steps in
-    let more = kids-more node parent before p i m root in
-    let was = length-kids ts parent i.unique o in
-    let now = length-kids q.trees parent l.changed.part.unique (open-still l.changed parent m.below o) in
+    let more = kids-more before w.part m.go root in
+    let was = length-kids ts parent w.part.unique m.open_parent in
+    let now = length-kids q.trees parent l.changed.part.unique (open-still l.changed parent m.go.below m.open_parent) in
     let low = placed reference c in
     room-then nowhere p steps (ending_at k (at parent (place + size)) q)
-    (room-ending_at k (at parent (place + size)) q (omega arith) (room-inserting observed node parent before p i m o h))
+    (room-ending_at k (at parent (place + size)) q (omega arith) (room-inserting observed before w m))
   where
     placed : (o : Option NodeName) → IfSome (λ c. IsChild c parent p) o → option_map_or (index_of p.trees) o (length_of p.trees parent) ≤ kids p.trees parent
-    placed None c = let was = length-kids p.trees parent i.unique o in omega arith
-    placed (Some x) c = let a = index-below p.trees x parent i.unique (child-parent p x parent i c) in omega arith
+    placed None c = let was = length-kids p.trees parent w.part.unique m.open_parent in omega arith
+    placed (Some x) c = let a = index-below p.trees x parent w.part.unique (child-parent p x parent w.part c) in omega arith
 
 -- where the node leaves its parent first, the reference is still a child
 reference-stays : (node parent : NodeName) (p : Part) → IsPart p → (o : Option NodeName) → IfSome (λ c. IsChild c parent p) o →
@@ -210,22 +209,23 @@ reference-stays node parent p i (Some c) h =
     let all = all-both (λ z. IsChild z parent p) (λ z. name_eq node z ≡ false) behind
     (after-all (λ z. IsChild z parent p) node (children_of ts parent) (children-childs ts parent))
     (among-behind node (children_of ts parent) (omega arith)) in
-    let still_all = all-then (λ z. IsChild z parent p × (name_eq node z ≡ false)) C (λ z g. child-removing z parent observed node p i g.1 g.0) behind all in
+    let still_all = all-then (λ z. IsChild z parent p × (name_eq node z ≡ false)) C
+    (λ z g. child-removing observed node (record { part = i; child = g.0 }) g.1) behind all in
     subst (λ (s : Option NodeName). IfSome C (first_of (items_after name_eq node (option_map_or (children_of ts) s (node ∷ []))))) (sym up)
     (first-all C behind still_all))
-    (λ e. child-removing c parent observed node p i (name_eq-turned node c ∙ e) h)
+    (λ e. child-removing observed node (record { part = i; child = h }) (name_eq-turned node c ∙ e))
 
 -- a node that left its parent first
-room-inserting_at : (k : ℕ) (node parent : NodeName) (child : Option NodeName) (p : Part) → IsPart p → MayGo parent p node → IsOpen p parent →
-    IfSome (λ c. IsChild c parent p) child → HasRoom nowhere p → HasRoom nowhere (after p (inserting_at k node parent child p))
-room-inserting_at k node parent child p i m o c h =
+room-inserting_at : {node parent : NodeName} {p : Part} (k : ℕ) (child : Option NodeName) → IsRoomy nowhere p → MayEnter parent p node →
+    IfSome (λ c. IsChild c parent p) child → HasRoom nowhere (after p (inserting_at k node parent child p))
+room-inserting_at {node} {parent} {p} k child w m c =
     let steps = removing observed node p in
     let q = after p steps in
-    let l = leads-eased (Some parent) p steps (leads-removing observed node p i) in
+    let l = leads-eased (Some parent) p steps (leads-removing observed node p w.part) in
     room-then nowhere p steps (inserting_before k node parent (reference_for p.trees node child) q)
-    (room-inserting_before k node parent (reference_for p.trees node child) q l.changed.part (may-still parent p q node l.changed m)
-    (open-still l.changed parent m.below o) (root-removing observed node p m.there) (reference-stays node parent p i child c)
-    (room-removing nowhere observed node p i h))
+    (room-inserting_before k (reference_for p.trees node child) (record { part = l.changed.part; room = room-removing nowhere observed node p w.part w.room })
+    (record { go = may-still parent p q node l.changed m.go; open_parent = open-still l.changed parent m.go.below m.open_parent })
+    (root-removing observed node p m.go.there) (reference-stays node parent p w.part child c))
 
 -- The tail of a split Text is a child of its parent.
 pub tail-child : (x : NodeName) (offset : ℕ) (p : Part) (y : NodeName) → IsPart p → parent_of p.trees x ≡ Some y →
@@ -234,9 +234,9 @@ tail-child x offset p y i e =
     let one = make tail ∷ placing_tail x offset (next_name p) (Some y) q in
     let count = length (node_in p.trees x).text - offset in
     let put = inserting observed (next_name p) y (next_sibling q.trees x) q in
-    let f = may-follow p tail x y i refl e in
+    let f = may-follow tail x i refl e in
     let j = (leads-one p (make tail) i tt).changed.part in
-    let child = child-inserted observed (next_name p) y (next_sibling q.trees x) q j f.may f.plain in
+    let child = child-inserted observed (next_sibling q.trees x) j f.may f.plain in
     subst (λ o. IsChild (next_name p) y (after p
     ((make tail ∷ placing_tail x offset (next_name p) o q) ++
     replacing_data x offset count [] (after p (make tail ∷ placing_tail x offset (next_name p) o q))))) (sym e)
@@ -269,15 +269,14 @@ text-parent ts r node h e = first-there (ancestors ts r.start.node)
     from false true false d h e = refl
 
 -- An insertion into a range.
-pub room-inserting_into_range : (k : ℕ) (r : Range NodeName) (node : NodeName) (p : Part) → IsPart p → HasNode p r.start.node →
-    MayGo (insertion_parent p.trees r) p node → IsOpen p (insertion_parent p.trees r) → cannot_take_node p.trees r node ≡ false → HasRoom nowhere p →
-    HasRoom nowhere (after p (inserting_into_range k r node p))
-room-inserting_into_range k r node p i t m o valid h =
+pub room-inserting_into_range : {node : NodeName} {p : Part} (k : ℕ) (r : Range NodeName) → IsRoomy nowhere p → HasNode p r.start.node →
+    MayEnter (insertion_parent p.trees r) p node → cannot_take_node p.trees r node ≡ false → HasRoom nowhere (after p (inserting_into_range k r node p))
+room-inserting_into_range {node} {p} k r w t m valid =
     which_way (λ steps. HasRoom nowhere (after p steps)) (is_text (kind_of ts start))
     ((splitting start r.start.offset and_then inserting_at k node (insertion_parent ts r) (Some (next_name p))) p)
     (inserting_at k node (insertion_parent ts r) (start_reference ts r) p)
     (λ e. in_text e (text-parent ts r node valid e))
-    (λ e. room-inserting_at k node (insertion_parent ts r) (start_reference ts r) p i m o (below (start_reference ts r) (listed e)) h)
+    (λ e. room-inserting_at k (start_reference ts r) w m (below (start_reference ts r) (listed e)))
   where
     ts : Trees
     ts = p.trees
@@ -294,7 +293,7 @@ room-inserting_into_range k r node p i t m o valid h =
     below : (o : Option NodeName) → IfSome (λ c. IsChild c r.start.node p) o →
         IfSome (λ c. IsChild c (unwrap_or (option_and_then (parent_of p.trees) o) r.start.node) p) o
     below None c = tt
-    below (Some x) c = subst (λ (a : Option NodeName). IsChild x (unwrap_or a r.start.node) p) (sym (child-parent p x r.start.node i c)) c
+    below (Some x) c = subst (λ (a : Option NodeName). IsChild x (unwrap_or a r.start.node) p) (sym (child-parent p x r.start.node w.part c)) c
 
     in_text : is_text (kind_of p.trees r.start.node) ≡ true → (y : NodeName) × (parent_of p.trees r.start.node ≡ Some y) →
         HasRoom nowhere (after p ((splitting r.start.node r.start.offset and_then inserting_at k node (insertion_parent p.trees r)
@@ -308,11 +307,11 @@ room-inserting_into_range k r node p i t m o valid h =
         ap (λ (a : Option NodeName). unwrap_or (option_and_then (parent_of p.trees) a) x)
         (cond-true (is_text (kind_of p.trees x)) (Some x) (slice_get (children_of p.trees x) r.start.offset) e) ∙
         ap (λ (a : Option NodeName). unwrap_or a x) above.1 in
-        let c : Changed (Some y) p q = subst (λ a. Changed a p q) above.1 (leads-splitting x r.start.offset p i).changed in
-        let may = subst (λ z. MayGo z p node) same m in
-        let opened = subst (IsOpen p) same o in
+        let c : Changed (Some y) p q = subst (λ a. Changed a p q) above.1 (leads-splitting x r.start.offset p w.part).changed in
+        let may = subst (λ z. MayGo z p node) same m.go in
+        let opened = subst (IsOpen p) same m.open_parent in
         subst (λ z. HasRoom nowhere (after p ((splitting x r.start.offset and_then inserting_at k node z (Some (next_name p))) p))) (sym same)
         (room-then nowhere p steps (inserting_at k node y (Some (next_name p)) q)
-        (room-inserting_at k node y (Some (next_name p)) q c.part (may-still y p q node c may) (open-still c y may.below opened)
-        (tail-child x r.start.offset p y i above.1)
-        (room-splitting x r.start.offset p i t (text-data (kind_of p.trees x) e) h)))
+        (room-inserting_at k (Some (next_name p)) (record { part = c.part; room = room-splitting x r.start.offset w t (text-data (kind_of p.trees x) e) })
+        (record { go = may-still y p q node c may; open_parent = open-still c y may.below opened })
+        (tail-child x r.start.offset p y w.part above.1)))

@@ -19,7 +19,7 @@ use Rattle.dom_model.specs.Extract.{new_place, both_at}
 use Rattle.dom_model.specs.RangeOps.{cutting_data, outermost_contained, deleting_contents, deleting}
 use Rattle.dom_model.proofs.OwnerLaws.{name_eq-same, name_eq-true}
 use Rattle.dom_worlds.specs.Worlds.{IsPart}
-use Rattle.dom_worlds.proofs.Bounds.{nowhere, HasRoom, room-set}
+use Rattle.dom_worlds.proofs.Bounds.{IsRoomy, nowhere, HasRoom, room-set}
 use Rattle.dom_worlds.proofs.Bounds as bounds
 use Rattle.dom_worlds.proofs.ChildCounts.{kids}
 use Rattle.dom_worlds.proofs.Roots.{self-above}
@@ -78,19 +78,19 @@ record IsCut (xs : List NodeName) (y : NodeName) (steps : List Step) (q : Part) 
   pub changed : Changed None q (after q steps)
 
 -- the same, as it is made
-cut-end : (xs : List NodeName) (y : NodeName) (ts : Trees) (r : Range NodeName) (x : NodeName) (q : Part) → IsPart q → HasRoom nowhere q →
-    AreChildren xs y q → (has_data (kind_of ts x) ≡ true → has_data (kind_of q.trees x) ≡ true) → IsCut xs y (cutting_data ts r x q) q
-cut-end xs y ts r x q i h c k = from (has_data (kind_of ts x)) k
+cut-end : {xs : List NodeName} {y : NodeName} {q : Part} (ts : Trees) (r : Range NodeName) (x : NodeName) → IsRoomy nowhere q → AreChildren xs y q →
+    (has_data (kind_of ts x) ≡ true → has_data (kind_of q.trees x) ≡ true) → IsCut xs y (cutting_data ts r x q) q
+cut-end {xs} {y} {q} ts r x w c k = from (has_data (kind_of ts x)) k
   where
     from : (b : Bool) → (b ≡ true → has_data (kind_of q.trees x) ≡ true) →
         IsCut xs y ((if b then replacing_data x (cut_start r x) (cut_end ts r x - cut_start r x) [] else steps_of []) q) q
-    from false k = record { part = i; room = h; children = c; changed = (leads-nothing None q i).changed }
+    from false k = record { part = w.part; room = w.room; children = c; changed = (leads-nothing None q w.part).changed }
     from true k =
         let n = cut_end ts r x - cut_start r x in
-        let l = leads-replacing_data x (cut_start r x) n [] q i in
+        let l = leads-replacing_data x (cut_start r x) n [] q w.part in
         record {
           part = l.changed.part;
-          room = room-replacing_data x (cut_start r x) n [] q i (k refl) h;
+          room = room-replacing_data x (cut_start r x) n [] w (k refl);
           children = (
             all-then (λ z. IsChild z y q) (λ z. IsChild z y (after q (replacing_data x (cut_start r x) n [] q)))
                 (λ z g. child-replacing_data z y x (cut_start r x) n [] q g) xs c.0,
@@ -100,9 +100,9 @@ cut-end xs y ts r x q i h c k = from (has_data (kind_of ts x)) k
         }
 
 -- children stay where contained nodes leave
-children-left : (xs : List NodeName) (y : NodeName) (zs : List NodeName) (q : Part) → IsPart q →
-    AllByRecursion (λ z. AllByRecursion (λ x. IsNot x z) xs) zs → AreChildren xs y q → AreChildren xs y (after q (in_turn (removing observed) zs q))
-children-left xs y zs q i d c = (each xs d c.0, still (leads-removals observed zs q i).changed y c.1)
+children-left : {q : Part} (xs : List NodeName) (y : NodeName) (zs : List NodeName) → IsPart q → AllByRecursion (λ z. AllByRecursion (λ x. IsNot x z) xs) zs →
+    AreChildren xs y q → AreChildren xs y (after q (in_turn (removing observed) zs q))
+children-left {q} xs y zs i d c = (each xs d c.0, still (leads-removals observed zs q i).changed y c.1)
   where
     heads : (x : NodeName) (xs zs : List NodeName) → AllByRecursion (λ z. AllByRecursion (λ a. IsNot a z) (x ∷ xs)) zs →
         AllByRecursion (IsNot x) zs × AllByRecursion (λ z. AllByRecursion (λ a. IsNot a z) xs) zs
@@ -112,7 +112,7 @@ children-left xs y zs q i d c = (each xs d c.0, still (leads-removals observed z
     each : (xs : List NodeName) → AllByRecursion (λ z. AllByRecursion (λ x. IsNot x z) xs) zs → AllByRecursion (λ x. IsChild x y q) xs →
         AllByRecursion (λ x. IsChild x y (after q (in_turn (removing observed) zs q))) xs
     each [] d h = tt
-    each (x ∷ xs) d h = let m = heads x xs zs d in (child-removals x y observed zs q i m.0 h.0, each xs m.1 h.1)
+    each (x ∷ xs) d h = let m = heads x xs zs d in (child-removals observed zs (record { part = i; child = h.0 }) m.0, each xs m.1 h.1)
 
 -- what begins behind the start is none of the nodes before which the start does not come
 pub early-not : (ts : Trees) (r : Range NodeName) (z : NodeName) → is_before ts r.start (at z 0) ≡ true → (xs : List NodeName) →
@@ -125,7 +125,7 @@ early-not ts r z h xs s =
 -- The last step: the range gets its new place.
 pub room-last : (p q : Part) (k : ℕ) (b : Boundary NodeName) → b.offset ≤ length_of q.trees b.node → HasRoom nowhere q →
     HasRoom nowhere (part_step q (set_range k (both_at b)))
-room-last p q k b le h = room-set nowhere q k (both_at b) (omega arith) (omega arith) h
+room-last p q k b le h = room-set k (both_at b) (omega arith) (omega arith) h
 
 -- a deletion
 pub room-deleting : (k : ℕ) (r : Range NodeName) (p : Part) → IsPart p → IsProper p r → HasRoom nowhere p → HasRoom nowhere (after p (deleting k r p))
@@ -164,7 +164,7 @@ room-deleting k r p i g h =
         (ap (is_inclusive_ancestor ts x) (sym (name_eq-true x r.end.node both.0)) ∙ self-above ts x g.start) in
         let left = data-left p x (cut_start r x) count both.1 (let w = g.within in omega arith) in
         subst (λ steps. HasRoom nowhere (after p steps) × ((new_place ts r).offset ≤ length_of (after p steps).trees (new_place ts r).node)) (sym plan) (
-          room-replacing_data x (cut_start r x) count [] p i both.1 h,
+          room-replacing_data x (cut_start r x) count [] (record { part = i; room = h }) both.1,
           subst (λ (c : Boundary NodeName). c.offset ≤ length_of (after p (replacing_data x (cut_start r x) count [] p)).trees c.node) (sym place)
               (omega arith),
         )
@@ -178,7 +178,7 @@ room-deleting k r p i g h =
         let xs = room.held in
         let y = b.node in
         let one = cutting_data ts r r.start.node p in
-        let a = cut-end xs y ts r r.start.node p i h room.children (λ d. d) in
+        let a = cut-end ts r r.start.node (record { part = i; room = h }) room.children (λ d. d) in
         let q = after p one in
         let gone = outermost_contained ts r in
         let two = in_turn (removing observed) gone q in
@@ -187,14 +187,14 @@ room-deleting k r p i g h =
         let missing = all-then (λ z. is_contained ts r z ≡ true) (λ z. AllByRecursion (λ x. IsNot x z) xs)
         (λ z c. early-not ts r z (and_parts (is_before ts r.start (at z 0)) _ c).0 xs room.spared.children) gone
         (all-passed (λ z. is_contained ts r z ≡ true) _ (λ z c. (and_parts (is_contained ts r z) _ c).0) (names_of (nodes ts))) in
-        let cs = children-left xs y gone q a.part missing a.children in
+        let cs = children-left xs y gone a.part missing a.children in
         let rs = room-removals nowhere observed gone q a.part a.room in
         let sr = after p (one ++ two) in
         let same : sr ≡ s = after-append p one two in
         let kinds : has_data (kind_of ts r.end.node) ≡ true → has_data (kind_of sr.trees r.end.node) ≡ true =
         λ d. ap (λ (v : Part). has_data (kind_of v.trees r.end.node)) same ∙
         ap has_data (lq.changed.kinds r.end.node (still a.changed r.end.node g.end) ∙ a.changed.kinds r.end.node g.end) ∙ d in
-        let c = cut-end xs y ts r r.end.node sr (subst IsPart (sym same) lq.changed.part) (subst (HasRoom nowhere) (sym same) rs)
+        let c = cut-end ts r r.end.node (record { part = subst IsPart (sym same) lq.changed.part; room = subst (HasRoom nowhere) (sym same) rs })
         (subst (AreChildren xs y) (sym same) cs) kinds in
         let three = cutting_data ts r r.end.node sr in
         let opened : IsOpen (after sr three) y =
@@ -206,4 +206,4 @@ room-deleting k r p i g h =
         let end = after-append p (one ++ two) three in
         subst (λ steps. HasRoom nowhere (after p steps) × (b.offset ≤ length_of (after p steps).trees b.node)) (sym plan)
         (subst (λ (v : Part). HasRoom nowhere v × (b.offset ≤ length_of v.trees b.node)) (sym end)
-        (c.room, room-at p (after sr three) r b room c.part opened c.children))
+        (c.room, room-at room c.part opened c.children))

@@ -122,9 +122,9 @@ tells-append p [] ys h g = g
 tells-append p (x ∷ xs) ys h g = (h.0, tells-append (part_step p x) xs ys h.1 g)
 
 -- one plan and then another
-pub tells-plan : (spot : Option NodeName) (f g : Plan) (p : Part) → Leads spot p (f p) → TellsIn p (f p) →
-    ((q : Part) → Changed spot p q → TellsIn q (g q)) → TellsIn p ((f and_then g) p)
-tells-plan spot f g p l a b = tells-append p (f p) (g (after p (f p))) a (b (after p (f p)) l.changed)
+pub tells-plan : {spot : Option NodeName} {p : Part} (f g : Plan) → Leads spot p (f p) → TellsIn p (f p) → ((q : Part) → Changed spot p q → TellsIn q (g q)) →
+    TellsIn p ((f and_then g) p)
+tells-plan {p} f g l a b = tells-append p (f p) (g (after p (f p))) a (b (after p (f p)) l.changed)
 
 -- plans for items that lead on, each of which tells
 module _ {A : Type 0} {spot : Option NodeName} {P : Part → A → Type 0} {f : A → Plan} (each : LeadsEach spot P f)
@@ -152,13 +152,20 @@ node_if : (p : Part) (o : Option NodeName) → IfSome (HasNode p) o → IsNodeIf
 node_if p None h = tt
 node_if p (Some x) h = times-has_node p.trees x h
 
--- a record of children
-pub children-recorded : (p : Part) (x : NodeName) (added removed : List NodeName) (before behind : Option NodeName) → HasNode p x →
-    AllByRecursion (HasNode p) added → AllByRecursion (HasNode p) removed → IfSome (HasNode p) before → IfSome (HasNode p) behind →
-    IsRecordIn p.trees (child_list x added removed before behind)
-children-recorded p x added removed before behind t a r b c =
-    let each = λ (xs : List NodeName) (h : AllByRecursion (HasNode p) xs). all-then (HasNode p) (IsNodeIn p.trees) (times-has_node p.trees) xs h in
-    (times-has_node p.trees x t, each added a, each removed r, node_if p before b, node_if p behind c)
+-- What a record names is there, by the counts.
+abbrev pub AreThere : Part → Change NodeName → Type 0
+AreThere p (child_list x added removed before behind) = HasNode p x × AllByRecursion (HasNode p) added × AllByRecursion (HasNode p) removed ×
+    IfSome (HasNode p) before × IfSome (HasNode p) behind
+AreThere p (attributes x a old) = HasNode p x
+AreThere p (character_data x old) = HasNode p x
+
+-- it is a record in the trees then
+pub recorded : (p : Part) (c : Change NodeName) → AreThere p c → IsRecordIn p.trees c
+recorded p (child_list x added removed before behind) h =
+    let each = λ (xs : List NodeName) (a : AllByRecursion (HasNode p) xs). all-then (HasNode p) (IsNodeIn p.trees) (times-has_node p.trees) xs a in
+    (times-has_node p.trees x h.0, each added h.1, each removed h.2, node_if p before h.3, node_if p behind h.4)
+recorded p (attributes x a old) h = times-has_node p.trees x h
+recorded p (character_data x old) h = times-has_node p.trees x h
 
 -- Children and siblings are there.
 pub children-there : (p : Part) (y : NodeName) → AllByRecursion (HasNode p) (children_of p.trees y)
@@ -211,8 +218,13 @@ tells-removing how x p i = from (parent_of p.trees x) refl
         let behind = next_sibling p.trees x in (
           tt,
           tells-telling how (removal_record p.trees parent x) q
-              (children-recorded q parent [] (x ∷ []) before behind (still c parent (parent-there p.trees x parent e)) tt (still c x t, tt)
-              (still-if c before (previous-there p x t)) (still-if c behind (next-there p x t))),
+              (recorded q (child_list parent [] (x ∷ []) before behind) (
+                still c parent (parent-there p.trees x parent e),
+                tt,
+                (still c x t, tt),
+                still-if c before (previous-there p x t),
+                still-if c behind (next-there p x t),
+              )),
         )
 
 -- an adoption
@@ -247,12 +259,12 @@ tells-emptied node p i t = from (is_fragment (kind_of p.trees node)) (placed_nod
         let gone = in_turn (removing suppressed) moved p in
         let c = (leads-removals suppressed moved p i).changed in
         tells-append p gone (queue_record (child_list node [] moved None None) ∷ []) (tells-removals suppressed moved p i)
-        (children-recorded (after p gone) node [] moved None None (still c node t) tt (still-all c moved h) tt tt, tt)
+        (recorded (after p gone) (child_list node [] moved None None) (still c node t, tt, still-all c moved h, tt, tt), tt)
 
 -- An insertion, before a node that is there.
-pub tells-inserting : (how : Observing) (node parent : NodeName) (before : Option NodeName) (p : Part) → IsPart p → MayGo parent p node →
+pub tells-inserting : {node parent : NodeName} {p : Part} (how : Observing) (before : Option NodeName) → IsPart p → MayGo parent p node →
     IfSome (HasNode p) before → TellsIn p (inserting how node parent before p)
-tells-inserting how node parent before p i m b =
+tells-inserting {node} {parent} {p} how before i m b =
     let spot = Some parent in
     let moved = placed_nodes p.trees node in
     let front = sibling_before p.trees parent before in
@@ -273,32 +285,42 @@ tells-inserting how node parent before p i m b =
     (tells-append p ((one ++ two) ++ three) (telling how change)
     (tells-append p (one ++ two) three (tells-append p one two (tells-emptied node p i m.there) (roomy before (length moved) q))
     (tells-each (placing-each parent before) (tells-placing parent before) moved r ab.changed.part may))
-    (tells-telling how change s (children-recorded s parent moved [] front before (still c parent m.below)
-    (still-all c moved (placed-there p node m.there)) tt (still-if c front (front-there p parent before b)) (still-if c before b))))
+    (tells-telling how change s (recorded s change (
+      still c parent m.below,
+      still-all c moved (placed-there p node m.there),
+      tt,
+      still-if c front (front-there p parent before b),
+      still-if c before b,
+    ))))
   where
     roomy : (before : Option NodeName) (count : ℕ) (q : Part) → TellsIn q (making_room parent before count q)
     roomy None count q = tt
     roomy (Some child) count q = (tt, tt)
 
 -- a replacement
-pub tells-replacing : (parent node child : NodeName) (p : Part) → IsPart p → MayGo parent p node → HasNode p child → TellsIn p (replacing parent node child p)
-tells-replacing parent node child p i m t =
+pub tells-replacing : {parent node : NodeName} {p : Part} (child : NodeName) → IsPart p → MayGo parent p node → HasNode p child →
+    TellsIn p (replacing parent node child p)
+tells-replacing {parent} {node} {p} child i m t =
     let spot = Some parent in
     let reference = reference_for p.trees node (next_sibling p.trees child) in
     let there = reference-there p node (next_sibling p.trees child) m.there (next-there p child t) in
     let front = previous_sibling p.trees child in
     let moved = placed_nodes p.trees node in
     let gone = leads-eased spot p (removing suppressed child p) (leads-removing suppressed child p i) in
-    tells-plan spot (removing suppressed child and_then inserting suppressed node parent reference)
-    (doing (queue_record (child_list parent moved (child ∷ []) front reference))) p
+    tells-plan (removing suppressed child and_then inserting suppressed node parent reference)
+    (doing (queue_record (child_list parent moved (child ∷ []) front reference)))
     (leads-plan spot (removing suppressed child) (inserting suppressed node parent reference) p gone
     (λ q c. leads-inserting suppressed node parent reference q c.part (may-still parent p q node c m)))
-    (tells-plan spot (removing suppressed child) (inserting suppressed node parent reference) p gone (tells-removing suppressed child p i)
-    (λ q c. tells-inserting suppressed node parent reference q c.part (may-still parent p q node c m) (still-if c reference there)))
+    (tells-plan (removing suppressed child) (inserting suppressed node parent reference) gone (tells-removing suppressed child p i)
+    (λ q c. tells-inserting suppressed reference c.part (may-still parent p q node c m) (still-if c reference there)))
     (λ q c. (
-      children-recorded q parent moved (child ∷ []) front reference (still c parent m.below)
-          (still-all c moved (placed-there p node m.there)) (still c child t, tt) (still-if c front (previous-there p child t))
-          (still-if c reference there),
+      recorded q (child_list parent moved (child ∷ []) front reference) (
+        still c parent m.below,
+        still-all c moved (placed-there p node m.there),
+        (still c child t, tt),
+        still-if c front (previous-there p child t),
+        still-if c reference there,
+      ),
       tt,
     ))
 

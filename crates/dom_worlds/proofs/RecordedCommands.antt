@@ -6,7 +6,7 @@ use Rattle.std.specs.Option.{option_map_or}
 use Rattle.dom_base.specs.declared.NodeName.{NodeName}
 use Rattle.dom_model.specs.Changes.{observed, reference_for}
 use Rattle.dom_model.specs.Command.{Command}
-use Rattle.dom_model.specs.CommandNames.{named, has_range}
+use Rattle.dom_model.specs.CommandNames.{named}
 use Rattle.dom_model.specs.CommandRefusals.{part_refusal, of_range}
 use Rattle.dom_model.specs.Effects.{Effect, tables, changes, effect, answers, moves_iterator, sets_walker, node_or_null}
 use Rattle.dom_model.specs.Extract.{extracting}
@@ -63,22 +63,22 @@ records-effect p i t h Command.new_fragment r = (tt, tt)
 records-effect p i t h Command.new_document r = (tt, tt)
 records-effect p i t h (Command.append a x) r =
     let k = part-accepted p (Command.append a x) r in
-    tells-inserting observed (named p x) (named p a) None p i
-    (named-may p x (named p a) i (exists-second p a x true true k.exist)
+    tells-inserting observed None i
+    (named-may x (named p a) i (exists-second p a x true true k.exist)
     (exists-first p a (has_node p.trees (named p x) && true) true k.exist) (insertion-apart p.trees (named p a) (named p x) None k.own)) tt
 records-effect p i t h (Command.insert a x c) r =
     let k = part-accepted p (Command.insert a x c) r in
     let rest = has_node p.trees (named p c) && true in
     let there = exists-second p a x rest true k.exist in
-    tells-inserting observed (named p x) (named p a) (reference_for p.trees (named p x) (Some (named p c))) p i
-    (named-may p x (named p a) i there (exists-first p a (has_node p.trees (named p x) && rest) true k.exist)
+    tells-inserting observed (reference_for p.trees (named p x) (Some (named p c))) i
+    (named-may x (named p a) i there (exists-first p a (has_node p.trees (named p x) && rest) true k.exist)
     (insertion-apart p.trees (named p a) (named p x) (Some (named p c)) k.own))
     (reference-there p (named p x) (Some (named p c)) there (exists-third p a x c k.exist))
 records-effect p i t h (Command.replace a x c) r =
     let k = part-accepted p (Command.replace a x c) r in
     let rest = has_node p.trees (named p c) && true in
-    tells-replacing (named p a) (named p x) (named p c) p i
-    (named-may p x (named p a) i (exists-second p a x rest true k.exist)
+    tells-replacing (named p c) i
+    (named-may x (named p a) i (exists-second p a x rest true k.exist)
     (exists-first p a (has_node p.trees (named p x) && rest) true k.exist)
     (replacement-apart p.trees (named p a) (named p x) (named p c) k.own)) (exists-third p a x c k.exist)
 records-effect p i t h (Command.remove x) r = tells-removing observed (named p x) p i
@@ -108,8 +108,8 @@ records-effect p i t h (Command.delete k) r =
 records-effect p i t h (Command.insert_node k x) r =
     let a = part-accepted p (Command.insert_node k x) r in
     range-records p k (λ range. inserting_into_range k range (named p x) p)
-    (λ range e. tells-inserting_into_range k range (named p x) p i (range-ends p k t range e).0
-    (insert_node-may p k x i t (exists-first p x true (has_range p k) a.exist) a.own range e))
+    (λ range e. tells-inserting_into_range k range i (range-ends p k t range e).0
+    (insert_node-may i t a e))
 records-effect p i t h (Command.iterator_next k) r =
     some-records p (slice_get p.iterators k) (λ i. moves_iterator p k false i (iterator_next_node p.trees i)) (answers p nothing) (λ i. h) h
 records-effect p i t h (Command.iterator_previous k) r =

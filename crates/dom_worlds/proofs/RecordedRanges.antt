@@ -19,12 +19,12 @@ use Rattle.dom_model.specs.Tree.{Trees, Node, node_in, kind_of, is_text, is_frag
 use Rattle.dom_model.specs.TreeChanges.{with_name}
 use Rattle.dom_worlds.specs.Worlds.{IsPart}
 use Rattle.dom_worlds.proofs.PartSteps.{next-absent}
-use Rattle.dom_worlds.proofs.PlanContents.{OldIn, old-may, old-still, old-there, whole-then, changed-inner, leads-making_below, leads-taking}
+use Rattle.dom_worlds.proofs.PlanContents.{CanTake, take-still, take-below, OldIn, old-may, old-there, whole-then, changed-inner, leads-making_below}
+use Rattle.dom_worlds.proofs.PlanContents.{leads-taking}
 use Rattle.dom_worlds.proofs.PlanContents.{leads-cutting, pieces-there}
 use Rattle.dom_worlds.proofs.PlanPlaces.{Changed, MayGo, may-still, still, after-append, leads-eased, leads-one, leads-removing, leads-inserting}
 use Rattle.dom_worlds.proofs.PlanPlaces.{changed-eased}
 use Rattle.dom_worlds.proofs.PlanTexts.{leads-plan, leads-replacing_data, leads-removals, leads-splitting, new-there, new-may}
-use Rattle.dom_worlds.proofs.Plans.{AllWhole}
 use Rattle.dom_worlds.proofs.Recorded.{TellsIn, tells-append, tells-plan, still-if, children-there, reference-there, tells-removing}
 use Rattle.dom_worlds.proofs.Recorded.{tells-removals, tells-inserting, tells-replacing_data}
 use Rattle.dom_worlds.proofs.RecordedTexts.{tells-splitting}
@@ -37,49 +37,48 @@ tells-making_below : (into : NodeName) (n : Node) (p : Part) → n.name ≡ next
 tells-making_below into n p e i t =
     let q = part_step p (make n) in
     let c = (leads-one p (make n) i tt).changed in
-    (tt, tells-inserting observed n.name into None q c.part (subst (MayGo into q) (sym e) (new-may p n into i t)) tt)
+    (tt, tells-inserting observed None c.part (subst (MayGo into q) (sym e) (new-may p n into i t)) tt)
 
 -- pieces that are taken into a newer node
-tells-taking : (count : ℕ) (pieces : Pieces) (into : NodeName) (p : Part) → IsPart p → count ≤ p.node_count → HasNode p into → count ≤ into.number →
-    AllWhole (OldIn count p) pieces → TellsIn p (taking into pieces p)
-tells-taking count nothing into p i k t h o = tt
-tells-taking count (whole x rest) into p i k t h o =
-    let may = old-may count p x into i o.0 t h in
-    tells-plan (Some into) (inserting observed x into None) (taking into rest) p (leads-inserting observed x into None p i may)
-    (tells-inserting observed x into None p i may tt)
-    (λ q c. tells-taking count rest into q c.part (let a = c.count in omega arith) (still c into t) h
-    (whole-then (OldIn count p) (OldIn count q) (old-still count into p q h c) rest o.1))
-tells-taking count (cut x from to rest) into p i k t h o =
+tells-taking : {count : ℕ} (pieces : Pieces) {into : NodeName} {p : Part} → CanTake count pieces into p → TellsIn p (taking into pieces p)
+tells-taking nothing t = tt
+tells-taking {count} (whole x rest) {into} {p} t =
+    let i = t.part in
+    let o = t.old in
+    let may = old-may count p x into i o.0 t.there t.new in
+    tells-plan (inserting observed x into None) (taking into rest) (leads-inserting observed x into None p i may)
+    (tells-inserting observed None i may tt) (λ q c. tells-taking rest (take-still rest t o.1 c))
+tells-taking (cut x from to rest) {into} {p} t =
+    let i = t.part in
+    let o = t.old in
     let n = clone_part (next_name p) from to (node_in p.trees x) in
-    let below = leads-making_below into n p refl i t in
-    tells-plan (Some into) (making_below into n and_then replacing_data x from (to - from) []) (taking into rest) p
+    let below = leads-making_below into n p refl i t.there in
+    tells-plan (making_below into n and_then replacing_data x from (to - from) []) (taking into rest)
     (leads-plan (Some into) (making_below into n) (replacing_data x from (to - from) []) p below
     (λ q c. leads-eased (Some into) q (replacing_data x from (to - from) [] q) (leads-replacing_data x from (to - from) [] q c.part)))
-    (tells-plan (Some into) (making_below into n) (replacing_data x from (to - from) []) p below (tells-making_below into n p refl i t)
+    (tells-plan (making_below into n) (replacing_data x from (to - from) []) below (tells-making_below into n p refl i t.there)
     (λ q c. tells-replacing_data x from (to - from) [] q (still c x o.0.there)))
-    (λ q c. tells-taking count rest into q c.part (let a = c.count in omega arith) (still c into t) h
-    (whole-then (OldIn count p) (OldIn count q) (old-still count into p q h c) rest o.1))
-tells-taking count (clone x inner rest) into p i k t h o =
+    (λ q c. tells-taking rest (take-still rest t o.1 c))
+tells-taking (clone x inner rest) {into} {p} t =
+    let i = t.part in
+    let o = t.old in
     let new = next_name p in
     let n = with_name new (node_in p.trees x) in
     let one = making_below into n p in
-    let l = leads-making_below into n p refl i t in
+    let l = leads-making_below into n p refl i t.there in
     let q = after p one in
     let two = taking new inner q in
     let first = leads-one p (make n) i tt in
     let there : HasNode q new = still (leads-inserting observed n.name into None (part_step p (make n)) first.changed.part
-    (new-may p n into i t)).changed new (new-there p n) in
-    let old = whole-then (OldIn count p) (OldIn count q) (old-still count into p q h l.changed) inner o.1 in
-    let le : count ≤ q.node_count = let g = l.changed.count in omega arith in
-    let lq = leads-taking count inner new q l.changed.part le there k old in
+    (new-may p n into i t.there)).changed new (new-there p n) in
+    let below = take-below inner t o.1 l.changed there in
+    let lq = leads-taking inner below in
     let both : Changed (Some into) p (after p (one ++ two)) =
     subst (Changed (Some into) p) (sym (after-append p one two))
-    (changed-inner into new p q (after q two) (next-absent p i) l.changed lq.changed) in
+    (changed-inner (next-absent p i) l.changed lq.changed) in
     let r = after p (one ++ two) in
     tells-append p (one ++ two) (taking into rest r)
-    (tells-append p one two (tells-making_below into n p refl i t) (tells-taking count inner new q l.changed.part le there k old))
-    (tells-taking count rest into r both.part (let g = both.count in omega arith) (still both into t) h
-    (whole-then (OldIn count p) (OldIn count r) (old-still count into p r h both) rest o.2))
+    (tells-append p one two (tells-making_below into n p refl i t.there) (tells-taking inner below)) (tells-taking rest (take-still rest t o.2 both))
 
 -- an extraction
 pub tells-extracting : (k : ℕ) (range : Range NodeName) (p : Part) → IsPart p → HasNode p range.start.node → TellsIn p (extracting k range p)
@@ -92,8 +91,9 @@ tells-extracting k range p i t =
     let old = whole-then (HasNode p) (OldIn p.node_count q)
     (λ x h. let o = old-there p i x h in record { there = still c x o.there; alone = λ z g. c.apart x z o.there tt (o.alone z g) }) pieces
     (pieces-there p range t) in
+    let le : p.node_count ≤ into.number = omega arith in
     tells-append p (make fragment ∷ taking into pieces q) (set_range k (both_at (new_place p.trees range)) ∷ [])
-    (tt, tells-taking p.node_count pieces into q c.part c.count (new-there p fragment) (omega arith) old) (tt, tt)
+    (tt, tells-taking pieces (record { part = c.part; counted = c.count; new = le; there = new-there p fragment; old = old })) (tt, tt)
 
 -- Deletions. The data at an end.
 tells-cutting : (ts : Trees) (range : Range NodeName) (x : NodeName) (p : Part) → HasNode p x → TellsIn p (cutting_data ts range x p)
@@ -116,9 +116,9 @@ tells-contents ts range p i t u = from (is_in_one_data ts range)
         let one = cutting_data ts range range.start.node in
         let two = in_turn (removing observed) (outermost_contained ts range) in
         let l = leads-cutting ts range range.start.node p i in
-        tells-plan None (one and_then two) (cutting_data ts range range.end.node) p
+        tells-plan (one and_then two) (cutting_data ts range range.end.node)
         (leads-plan None one two p l (λ q c. leads-removals observed (outermost_contained ts range) q c.part))
-        (tells-plan None one two p l (tells-cutting ts range range.start.node p t)
+        (tells-plan one two l (tells-cutting ts range range.start.node p t)
         (λ q c. tells-removals observed (outermost_contained ts range) q c.part))
         (λ q c. tells-cutting ts range range.end.node q (still c range.end.node u))
 
@@ -140,32 +140,32 @@ tells-ending_at k b p = from (range_at p k)
     from (Some q) = either_way (TellsIn p) (is_collapsed name_eq q) (set_range k (from_to q.start b) ∷ []) [] (tt, tt) tt
 
 -- a node before a reference
-tells-inserting_before : (k : ℕ) (node parent : NodeName) (reference : Option NodeName) (p : Part) → IsPart p → MayGo parent p node →
+tells-inserting_before : {node parent : NodeName} {p : Part} (k : ℕ) (reference : Option NodeName) → IsPart p → MayGo parent p node →
     IfSome (HasNode p) reference → TellsIn p (inserting_before k node parent reference p)
-tells-inserting_before k node parent reference p i m r =
+tells-inserting_before {node} {parent} {p} k reference i m r =
     let ts = p.trees in
     let end = at parent (option_map_or (index_of ts) reference (length_of ts parent) + (if is_fragment (kind_of ts node) then length_of ts node else 1)) in
     let steps = pre_inserting node parent reference p in
     tells-append p steps (ending_at k end (after p steps))
-    (tells-inserting observed node parent (reference_for ts node reference) p i m (reference-there p node reference m.there r))
+    (tells-inserting observed (reference_for ts node reference) i m (reference-there p node reference m.there r))
     (tells-ending_at k end (after p steps))
 
 -- that left its parent first
-tells-inserting_at : (k : ℕ) (node parent : NodeName) (child : Option NodeName) (p : Part) → IsPart p → MayGo parent p node →
-    IfSome (HasNode p) child → TellsIn p (inserting_at k node parent child p)
-tells-inserting_at k node parent child p i m r =
+tells-inserting_at : {node parent : NodeName} {p : Part} (k : ℕ) (child : Option NodeName) → IsPart p → MayGo parent p node → IfSome (HasNode p) child →
+    TellsIn p (inserting_at k node parent child p)
+tells-inserting_at {node} {parent} {p} k child i m r =
     let steps = removing observed node p in
     let q = after p steps in
     let l = leads-eased (Some parent) p steps (leads-removing observed node p i) in
     let reference = reference_for p.trees node child in
     tells-append p steps (inserting_before k node parent reference q) (tells-removing observed node p i)
-    (tells-inserting_before k node parent reference q l.changed.part (may-still parent p q node l.changed m)
+    (tells-inserting_before k reference l.changed.part (may-still parent p q node l.changed m)
     (still-if l.changed reference (reference-there p node child m.there r)))
 
 -- an insertion into a range
-pub tells-inserting_into_range : (k : ℕ) (range : Range NodeName) (node : NodeName) (p : Part) → IsPart p → HasNode p range.start.node →
+pub tells-inserting_into_range : {node : NodeName} {p : Part} (k : ℕ) (range : Range NodeName) → IsPart p → HasNode p range.start.node →
     MayGo (insertion_parent p.trees range) p node → TellsIn p (inserting_into_range k range node p)
-tells-inserting_into_range k range node p i t m =
+tells-inserting_into_range {node} {p} k range i t m =
     let start = range.start.node in
     let parent = insertion_parent p.trees range in
     let steps = splitting start range.start.offset p in
@@ -181,8 +181,8 @@ tells-inserting_into_range k range node p i t m =
     let c : Changed (Some parent) p q = subst (λ x. Changed (Some x) p q) (sym same)
     (some-spot (parent_of p.trees start) start (leads-splitting start range.start.offset p i).changed) in
     tells-append p steps (inserting_at k node parent (Some (next_name p)) q) told.0
-    (tells-inserting_at k node parent (Some (next_name p)) q c.part (may-still parent p q node c m) told.1))
-    (λ e. tells-inserting_at k node parent (start_reference p.trees range) p i m
+    (tells-inserting_at k (Some (next_name p)) c.part (may-still parent p q node c m) told.1))
+    (λ e. tells-inserting_at k (start_reference p.trees range) i m
     (either_way (IfSome (HasNode p)) (is_text (kind_of p.trees start)) (Some start) at_offset t
     (all-get (HasNode p) (children_of p.trees start) range.start.offset (children-there p start))))
   where

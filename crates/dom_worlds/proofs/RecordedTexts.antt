@@ -18,9 +18,9 @@ use Rattle.dom_worlds.specs.Worlds.{IsPart}
 use Rattle.dom_worlds.proofs.Lists.{all-dropped, all-then, all-filter}
 use Rattle.dom_worlds.proofs.PlanPlaces.{Changed, Leads, MayGo, may-still, still, leads-then, leads-eased, leads-nothing, leads-one, leads-each, inserting-each}
 use Rattle.dom_worlds.proofs.PlanPlaces.{leads-inserting}
-use Rattle.dom_worlds.proofs.PlanTexts.{leads-removals, leads-replacing_data, leads-tail, leads-joins, normalizing-each, may-follow}
-use Rattle.dom_worlds.proofs.PlanTexts.{new-there, new-may, texts-beside, descend-there}
-use Rattle.dom_worlds.proofs.Recorded.{TellsIn, tells-append, tells-plan, tells-each, children-recorded, still-all, children-there, next-there}
+use Rattle.dom_worlds.proofs.PlanTexts.{IsReplaced, replaced-by, leads-removals, leads-replacing_data, leads-tail, leads-joins, normalizing-each, may-follow}
+use Rattle.dom_worlds.proofs.PlanTexts.{new-there, texts-beside, descend-there}
+use Rattle.dom_worlds.proofs.Recorded.{TellsIn, tells-append, tells-plan, tells-each, recorded, still-all, children-there, next-there}
 use Rattle.dom_worlds.proofs.Recorded.{tells-removing, tells-removals, tells-inserting, tells-replacing_data}
 use Rattle.dom_worlds.proofs.TableSteps.{HasNode}
 use Rattle.dom_worlds.proofs.Tests.{either_way}
@@ -51,16 +51,16 @@ tells-splitting x offset p i t = from (parent_of p.trees x) refl
         let q = part_step p (make tail) in
         let c = (leads-one p (make tail) i tt).changed in
         let new = next_name p in
-        let follow = may-follow p tail x parent i refl e in
+        let follow = may-follow tail x i refl e in
         let put = inserting observed new parent (next_sibling q.trees x) q in
         let one = make tail ∷ placing_tail x offset new (Some parent) q in
-        let l = leads-tail x offset new (Some parent) q c.part (new-there p tail) (λ y g. may-follow p tail x y i refl (e ∙ g)) in
+        let l = leads-tail offset (Some parent) c.part (new-there p tail) (λ y g. may-follow tail x i refl (e ∙ g)) in
         let r = after p one in
         let rest = replacing_data x offset (length (node_in p.trees x).text - offset) [] r in (
           tells-append p one rest (
             tt,
             tells-append q put _
-                (tells-inserting observed new parent (next_sibling q.trees x) q c.part follow.may (next-there q x (still c x t))) (tt, tt),
+                (tells-inserting observed (next_sibling q.trees x) c.part follow.may (next-there q x (still c x t))) (tt, tt),
           )
               (tells-replacing_data x offset (length (node_in p.trees x).text - offset) [] r (still l.changed x (still c x t))),
           subst (λ (s : Part). HasNode s new) (sym (Rattle.dom_worlds.proofs.PlanPlaces.after-append p one rest))
@@ -83,9 +83,9 @@ tells-joining x parent p i t e =
     let first = leads-replacing_data x size 0 all p i in
     let q = after p one in
     let two = joins p.trees x parent size nexts in
-    tells-plan None (replacing_data x size 0 all and_then steps_of two) (in_turn (removing observed) nexts) p
-    (leads-then None p one two first (leads-joins p.trees x parent size nexts q first.changed.part (still first.changed x t)
-    (texts-beside x parent size all p i e)))
+    tells-plan (replacing_data x size 0 all and_then steps_of two) (in_turn (removing observed) nexts)
+    (leads-then None p one two first (leads-joins p.trees x parent size nexts first.changed.part (still first.changed x t)
+    (texts-beside x size all i e)))
     (tells-append p one two (tells-replacing_data x size 0 all p t) (tells-joins p.trees x parent size nexts q)) (λ r c. tells-removals observed nexts r c.part)
 
 -- a Text that is normalized
@@ -111,11 +111,12 @@ tells-normalizing x p i =
     (all-dropped (HasNode p) (inclusive_descendants p.trees x) (descend-there p.trees x)))
 
 -- Text content.
-tells-replaced : (x : NodeName) (p : Part) (made : List Step) (old added : List NodeName) (b : Bool) → Leads (Some x) p made → TellsIn p made →
-    AllByRecursion (MayGo x (after p made)) added → HasNode p x → AllByRecursion (HasNode p) old →
+tells-replaced : {x : NodeName} {made : List Step} {added : List NodeName} {p : Part} (old : List NodeName) (b : Bool) → IsReplaced x made added p →
+    TellsIn p made → AllByRecursion (HasNode p) old →
     TellsIn p ((steps_of made and_then in_turn (removing suppressed) old and_then in_turn (λ y. inserting suppressed y x None) added and_then
     steps_of (only_if b (queue_record (child_list x added old None None)))) p)
-tells-replaced x p made old added b a tm m t o =
+tells-replaced {x} {made} {added} {p} old b m tm o =
+    let a = m.leads in
     let spot = Some x in
     let q = after p made in
     let gone = in_turn (removing suppressed) old q in
@@ -123,7 +124,7 @@ tells-replaced x p made old added b a tm m t o =
     let r = after p (made ++ gone) in
     let c : Changed spot q r = subst (Changed spot q) (sym (Rattle.dom_worlds.proofs.PlanPlaces.after-append p made gone))
     (leads-eased spot q gone (leads-removals suppressed old q a.changed.part)).changed in
-    let may = all-then (MayGo x q) (MayGo x r) (λ y. may-still x q r y c) added m in
+    let may = all-then (MayGo x q) (MayGo x r) (λ y. may-still x q r y c) added m.may in
     let put : NodeName → Plan = λ y. inserting suppressed y x None in
     let d = leads-each (inserting-each x) added r c.part may in
     let three = in_turn put added r in
@@ -134,10 +135,15 @@ tells-replaced x p made old added b a tm m t o =
     let told = queue_record (child_list x added old None None) in
     tells-append p ((made ++ gone) ++ three) (only_if b told)
     (tells-append p (made ++ gone) three (tells-append p made gone tm (tells-removals suppressed old q a.changed.part))
-    (tells-each (inserting-each x) (λ v y j n. tells-inserting suppressed y x None v j n tt) added r c.part may))
+    (tells-each (inserting-each x) (λ v y j n. tells-inserting suppressed None j n tt) added r c.part may))
     (either_way (TellsIn s) b (told ∷ []) [] (
-      children-recorded s x added old None None (still all.changed x t)
-          (still-all e added (all-then (MayGo x r) (HasNode r) (λ y n. n.there) added may)) (still-all all.changed old o) tt tt,
+      recorded s (child_list x added old None None) (
+        still all.changed x m.there,
+        still-all e added (all-then (MayGo x r) (HasNode r) (λ y n. n.there) added may),
+        still-all all.changed old o,
+        tt,
+        tt,
+      ),
       tt,
     ) tt)
 
@@ -145,20 +151,12 @@ tells-replaced x p made old added b a tm m t o =
 tells-replacing_children : (x : NodeName) (new : DomString) (p : Part) → IsPart p → HasNode p x → TellsIn p (replacing_children x new p)
 tells-replacing_children x new p i t =
     let old = children_of p.trees x in
-    let added : List NodeName = if is_empty new then [] else next_name p ∷ [] in
     let node = λ (y : NodeName). new_text_node y (Some (document_below p.trees x)) new in
-    let m = from node (is_empty new) in
-    tells-replaced x p (map (λ y. make (node y)) added) old added (not (is_empty old && is_empty new)) m.0 m.1 m.2 t (children-there p x)
+    tells-replaced old (not (is_empty old && is_empty new)) (replaced-by x node p i t (is_empty new)) (made_told node (is_empty new)) (children-there p x)
   where
-    from : (node : NodeName → Node) (b : Bool) → let added : List NodeName =
-        if b then [] else next_name p ∷ [] in Leads (Some x) p (map (λ y. make (node y)) added) × TellsIn p (map (λ y. make (node y)) added) ×
-        AllByRecursion (MayGo x (after p (map (λ y. make (node y)) added))) added
-    from node true = (leads-nothing (Some x) p i, tt, tt)
-    from node false = (
-      leads-eased (Some x) p (make (node (next_name p)) ∷ []) (leads-one p (make (node (next_name p))) i tt),
-      (tt, tt),
-      (new-may p (node (next_name p)) x i t, tt),
-    )
+    made_told : (node : NodeName → Node) (b : Bool) → TellsIn p (map (λ y. make (node y)) (if b then [] else next_name p ∷ []))
+    made_told node true = tt
+    made_told node false = (tt, tt)
 
 -- text content
 pub tells-setting_text : (x : NodeName) (new : DomString) (p : Part) → IsPart p → HasNode p x → TellsIn p (setting_text x new p)

@@ -9,7 +9,7 @@ use Rattle.dom_model.specs.Tree.{Trees, none, tree, inclusive_ancestors, is_incl
 use Rattle.dom_model.specs.TreeChanges.{taken_out, without}
 use Rattle.dom_model.proofs.OwnerLaws.{name_eq-same, name_eq-true}
 use Rattle.dom_worlds.proofs.Descents.{ancestor-inside, inside-ancestor, inside-left}
-use Rattle.dom_worlds.proofs.Insides.{inside, inside-absent, inside-elsewhere, inside-times, inside-put_root}
+use Rattle.dom_worlds.proofs.Insides.{IsOutside, unique-taken_out, inside, inside-absent, inside-elsewhere, inside-times, inside-put_root}
 use Rattle.dom_worlds.proofs.InsideAncestors.{parent-there}
 use Rattle.dom_worlds.proofs.Tests.{by_cases, or-first, or-second, or-later}
 use Rattle.dom_worlds.proofs.Trees.{IsUnique, all-in, last_from, last-is, last-in, by_times, times-here, times-elsewhere, times-more}
@@ -73,9 +73,9 @@ parent-above ts x y u h = ap (is_in name_eq y) (ancestors-step ts x y u h) ∙ o
     (self-above ts y (parent-there ts x y h))
 
 -- an ancestor of a child is an inclusive ancestor of its parent
-pub above-parent : (ts : Trees) (a x y : NodeName) → IsUnique ts → parent_of ts x ≡ Some y → is_inclusive_ancestor ts a x ≡ true →
+pub above-parent : {y : NodeName} (ts : Trees) (a x : NodeName) → IsUnique ts → parent_of ts x ≡ Some y → is_inclusive_ancestor ts a x ≡ true →
     name_eq a x ≡ false → is_inclusive_ancestor ts a y ≡ true
-above-parent ts a x y u h k d = or-later (name_eq a x) (is_inclusive_ancestor ts a y) d (sym (ap (is_in name_eq a) (ancestors-step ts x y u h)) ∙ k)
+above-parent {y} ts a x u h k d = or-later (name_eq a x) (is_inclusive_ancestor ts a y) d (sym (ap (is_in name_eq a) (ancestors-step ts x y u h)) ∙ k)
 
 -- a parent does not stand in its child's tree
 pub parent-apart : (ts : Trees) (x y : NodeName) → IsUnique ts → parent_of ts x ≡ Some y → inside ts x y ≡ 0
@@ -136,29 +136,39 @@ roots-same ts a b e = ap (name_eq (root_of ts a)) (sym e) ∙ name_eq-same (root
 abbrev pub KeepsRoots : Trees → Trees → Type 0
 KeepsRoots ts us = (a b : NodeName) → 1 ≤ times_in ts a → 1 ≤ times_in ts b → root_of ts a ≡ root_of ts b → root_of us a ≡ root_of us b
 
+-- A node that is there, and whose inclusive ancestors stay such.
+record KeepsAncestors (ts us : Trees) (a : NodeName) : Type 0 where
+  there : 1 ≤ times_in ts a
+  ancestors : (x : NodeName) → is_inclusive_ancestor ts x a ≡ true → is_inclusive_ancestor us x a ≡ true
+
 -- by the root above both
-root-kept : (ts us : Trees) → IsUnique us → (a b : NodeName) → 1 ≤ times_in ts a → 1 ≤ times_in ts b →
-    ((x : NodeName) → is_inclusive_ancestor ts x a ≡ true → is_inclusive_ancestor us x a ≡ true) →
-    ((x : NodeName) → is_inclusive_ancestor ts x b ≡ true → is_inclusive_ancestor us x b ≡ true) →
-    root_of ts a ≡ root_of ts b → root_of us a ≡ root_of us b
-root-kept ts us u a b s t f g e =
+root-kept : {ts us : Trees} {a b : NodeName} → IsUnique us → KeepsAncestors ts us a → KeepsAncestors ts us b → root_of ts a ≡ root_of ts b →
+    root_of us a ≡ root_of us b
+root-kept {ts} {us} {a} {b} u f g e =
     let x = root_of ts a in
-    let first = root-one us u x a (f x (root-above ts a s)) in
-    let second = root-one us u x b (g x (subst (λ y. is_inclusive_ancestor ts y b ≡ true) (sym e) (root-above ts b t))) in
+    let first = root-one us u x a (f.ancestors x (root-above ts a f.there)) in
+    let second = root-one us u x b (g.ancestors x (subst (λ y. is_inclusive_ancestor ts y b ≡ true) (sym e) (root-above ts b g.there))) in
     sym first ∙ second
 
 -- where ancestors stay
 pub roots-stay : (ts us : Trees) → IsUnique us → ((a z : NodeName) → is_inclusive_ancestor ts a z ≡ true → is_inclusive_ancestor us a z ≡ true) →
     KeepsRoots ts us
-roots-stay ts us u k a b s t e = root-kept ts us u a b s t (λ x. k x a) (λ x. k x b) e
+roots-stay ts us u k a b s t e =
+    root-kept u (record { there = s; ancestors = λ x. k x a }) (record { there = t; ancestors = λ x. k x b }) e
 
 -- where a node leaves: of two nodes that do not stand in its tree
-pub roots-left : (ts : Trees) (x : NodeName) → IsUnique ts → IsUnique (taken_out x ts) → (a b : NodeName) → 1 ≤ times_in ts a →
-    1 ≤ times_in ts b → inside ts x a ≡ 0 → inside ts x b ≡ 0 → root_of ts a ≡ root_of ts b → root_of (taken_out x ts) a ≡ root_of (taken_out x ts) b
-roots-left ts x u v a b s t p q e = root-kept ts (taken_out x ts) v a b s t (left a p) (left b q) e
+pub roots-left : {ts : Trees} {x a b : NodeName} → IsUnique ts → IsOutside ts x a → IsOutside ts x b → root_of ts a ≡ root_of ts b →
+    root_of (taken_out x ts) a ≡ root_of (taken_out x ts) b
+roots-left {ts} {x} {a} {b} u f g e = root-kept v (kept a f) (kept b g) e
   where
+    v : IsUnique (taken_out x ts)
+    v = unique-taken_out ts x u
+
     left : (z : NodeName) → inside ts x z ≡ 0 → (y : NodeName) → is_inclusive_ancestor ts y z ≡ true → is_inclusive_ancestor (taken_out x ts) y z ≡ true
     left z h y k =
         inside-ancestor (taken_out x ts) y z v
         (let g = ancestor-inside ts y z k in let l = inside-left ts x y z u h in let p = inside-put_root x (subtree ts x) (without x ts) y
         z in omega arith)
+
+    kept : (z : NodeName) → IsOutside ts x z → KeepsAncestors ts (taken_out x ts) z
+    kept z f = record { there = f.there; ancestors = left z f.apart }

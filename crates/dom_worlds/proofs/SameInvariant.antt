@@ -54,10 +54,9 @@ host_of-same v w a o = from (made_by o)
     from (Some m) = ap (λ hs. slice_get hs m.1) (a m.0)
 
 -- such a world is one too
-pub world-alike : (v w : World) → AreAlike v w → (is_there w Page ≡ true → is_there v Page ≡ true) →
-    AllByRecursion (IsForeignTo Page) v.signalled → (is_page_turn v.turn ≡ false → filter is_page_task v.tasks ≡ []) →
-    IsWorld w → IsWorld v
-world-alike v w a there signals tasks i =
+pub world-alike : {w : World} (v : World) → AreAlike v w → (is_there w Page ≡ true → is_there v Page ≡ true) → AllByRecursion (IsForeignTo Page) v.signalled →
+    (is_page_turn v.turn ≡ false → filter is_page_task v.tasks ≡ []) → IsWorld w → IsWorld v
+world-alike {w} v a there signals tasks i =
     record {
       page = there i.page;
       parts = λ o. part-alike (part_of v o) (part_of w o) (owner-part_of v o ∙ sym (owner-part_of w o)) (a o) (i.parts o);

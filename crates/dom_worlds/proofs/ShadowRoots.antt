@@ -106,9 +106,9 @@ not_taken true r h = cc
 not_taken false r h = h
 
 -- the node of an accepted `insert-node`
-insert_node-other : (r : NodeName) (p : Part) → IsOwn r p → (k : ℕ) (x : NodeWord) → own_refusal p (Command.insert_node k x) ≡ None →
-    (range : Range NodeName) → range_at p k ≡ Some range → IsOther r (named p x)
-insert_node-other r p o k x h range e =
+insert_node-other : {r : NodeName} {p : Part} → IsOwn r p → (k : ℕ) (x : NodeWord) → own_refusal p (Command.insert_node k x) ≡ None → (range : Range NodeName) →
+    range_at p k ≡ Some range → IsOther r (named p x)
+insert_node-other {r} {p} o k x h range e =
     let tests = λ (q : Range NodeName). option_or (insert_node_refusal p.trees q (named p x)) (limit_on p.node_count (made_by_insert_node p q)) in
     let here : tests range ≡ None = sym (ap (λ a. option_map_or tests a None) e) ∙ h in
     let first = or-none (insert_node_refusal p.trees range (named p x)) (limit_on p.node_count (made_by_insert_node p range)) here in
@@ -178,7 +178,7 @@ may-do r p o (Command.new_element a) h = tt
 may-do r p o (Command.append a b) h = inserted-other r p o (named p b) (insertion-tested p.trees (named p a) (named p b) None h)
 may-do r p o (Command.insert a b c) h = inserted-other r p o (named p b) (insertion-tested p.trees (named p a) (named p b) (Some (named p c)) h)
 may-do r p o (Command.replace a b c) h = inserted-other r p o (named p b) (replacement-tested p.trees (named p a) (named p b) (named p c) h)
-may-do r p o (Command.insert_node a b) h = insert_node-other r p o a b h
+may-do r p o (Command.insert_node a b) h = insert_node-other o a b h
 may-do r p o (Command.set_attribute a b c) h = ((λ old. tt), tt)
 may-do r p o (Command.unset_attribute a b) h = ((λ old. tt), tt)
 may-do r p o c h = tt

@@ -15,7 +15,7 @@ use Rattle.dom_model.specs.Command.{Command, Line, no_owner, no_command, command
 use Rattle.dom_model.specs.Part.{Part}
 use Rattle.dom_model.specs.Runs.{unless_refused}
 use Rattle.dom_model.specs.CommandNames.{named}
-use Rattle.dom_model.specs.CommandRefusals.{is_command_of, part_refusal}
+use Rattle.dom_model.specs.CommandRefusals.{part_refusal}
 use Rattle.dom_model.specs.Effects.{Effect, tables, changes, effect}
 use Rattle.dom_model.specs.World.{World, micro_task, part_of, with_part, host_of, shadow_root_of}
 use Rattle.dom_model.specs.Turns.{ending_other_turn, opening_turn, is_page_turn}
@@ -37,6 +37,11 @@ use Rattle.dom_worlds.proofs.LineBegins.{IsPageTime, page_time, part_of-opening,
 use Rattle.dom_worlds.proofs.Owners.{owner-named}
 use Rattle.dom_worlds.proofs.FirstWorld.{quiet-attaching}
 
+-- A world as it should be, in which an owner may act: the page in its turn alone.
+record IsTurnOf (o : Owner) (only_log : Bool) (w : World) : Type 0 where
+  invariant : Invariant only_log w
+  turn : InTurn w o
+
 -- Effects.
 logs-with_part : (w : World) (p : Part) (o : Owner) → p.owner ≡ o → (o ≢ Page → AllByRecursion OnlyLogs p.listeners) → ComponentsOnlyLog w →
     ComponentsOnlyLog (with_part w p)
@@ -48,43 +53,44 @@ logs-with_part w p o e h logs x f =
 
 module _ {only_log : Bool} where
   -- an effect keeps what holds
-  quiet-effect : (w : World) (o : Owner) (e : Effect) → Invariant only_log w → InTurn w o → KeepsBase (part_of w o) e →
+  quiet-effect : {w : World} {o : Owner} (e : Effect) → IsTurnOf o only_log w → KeepsBase (part_of w o) e →
       (only_log ≡ true → o ≢ Page → KeepsLogs (part_of w o) e) → (IsTrue (is_some (host_of w o)) → SafeEffect (shadow_root_of o) e) →
       Invariant only_log (effect_in w o e).0
-  quiet-effect w o (tables p lines v) q t base logs safe =
+  quiet-effect {w} {o} (tables p lines v) t base logs safe =
       let mine = base.0 ∙ owner-part_of w o in
       record {
-        world = world-with_part w p o mine (part-alike p (part_of w o) base.0 base.1 (q.world.parts o)) base.1.attached
-            (λ h. subst (λ ts. IsRoot ts (shadow_root_of o)) (sym base.1.trees) (q.world.shadow_roots o h)) q.world;
-        logs = λ y. logs-with_part w p o mine (λ f. logs y f (q.logs y o f)) (q.logs y);
+        world = world-with_part w p o mine (part-alike p (part_of w o) base.0 base.1 (t.invariant.world.parts o)) base.1.attached
+            (λ h. subst (λ ts. IsRoot ts (shadow_root_of o)) (sym base.1.trees) (t.invariant.world.shadow_roots o h)) t.invariant.world;
+        logs = λ y. logs-with_part w p o mine (λ f. logs y f (t.invariant.logs y o f)) (t.invariant.logs y);
       }
-  quiet-effect w o (changes steps v) q t base logs safe = quiet-world_after o steps w t safe q
+  quiet-effect {w} {o} (changes steps v) t base logs safe = quiet-world_after o steps w t.turn safe t.invariant
 
 module _ {only_log : Bool} where
   -- An accepted command, in its owner's turn.
-  quiet-micro : (w : World) (o : Owner) (label : Word) → Invariant only_log w → InTurn w o →
-      Invariant only_log (record w { tasks = w.tasks ++ micro_task o label ∷ [] })
-  quiet-micro w o label q t =
+  quiet-micro : (w : World) (o : Owner) (label : Word) → IsTurnOf o only_log w → Invariant only_log (record w { tasks = w.tasks ++ micro_task o label ∷ [] })
+  quiet-micro w o label t =
       record {
-        world = world-alike (record w { tasks = w.tasks ++ micro_task o label ∷ [] }) w
-            (λ x. record { trees = refl; count = refl; attached = refl }) (λ h. h) q.world.signalled (tasks o t) q.world;
-        logs = q.logs;
+        world = world-alike (record w { tasks = w.tasks ++ micro_task o label ∷ [] })
+            (λ x. record { trees = refl; count = refl; attached = refl }) (λ h. h) t.invariant.world.signalled
+            (tasks o t.turn t.invariant.world.tasks) t.invariant.world;
+        logs = t.invariant.logs;
       }
     where
-      tasks : (o : Owner) → InTurn w o → is_page_turn w.turn ≡ false → filter is_page_task (w.tasks ++ micro_task o label ∷ []) ≡ []
-      tasks Page t h = absurd (true≢false (sym (t refl) ∙ h))
-      tasks (Component k) t h = filter-append is_page_task w.tasks (micro_task (Component k) label ∷ []) ∙
-          append-nil (filter is_page_task w.tasks) ∙ q.world.tasks h
+      tasks : (o : Owner) → InTurn w o → (is_page_turn w.turn ≡ false → filter is_page_task w.tasks ≡ []) → is_page_turn w.turn ≡ false →
+          filter is_page_task (w.tasks ++ micro_task o label ∷ []) ≡ []
+      tasks Page t before h = absurd (true≢false (sym (t refl) ∙ h))
+      tasks (Component k) t before h = filter-append is_page_task w.tasks (micro_task (Component k) label ∷ []) ∙
+          append-nil (filter is_page_task w.tasks) ∙ before h
 
 module _ {only_log : Bool} where
   -- the effect of any command
-  any_effect : (w : World) (o : Owner) (c : Command) → Invariant only_log w → InTurn w o → part_refusal (part_of w o) c ≡ None →
-      (only_log ≡ true → o ≢ Page → AddsLogs c) → Invariant only_log (effect_in w o (effect (part_of w o) c)).0
-  any_effect w o c q t r l =
+  any_effect : {w : World} (o : Owner) (c : Command) → IsTurnOf o only_log w → part_refusal (part_of w o) c ≡ None → (only_log ≡ true → o ≢ Page → AddsLogs c) →
+      Invariant only_log (effect_in w o (effect (part_of w o) c)).0
+  any_effect {w} o c t r l =
       let p = part_of w o in
       let own = (part-accepted p c r).own in
-      quiet-effect w o (effect p c) q t (base-effect p c) (λ y f. logs-effect p c (l y f))
-      (λ h. safe-effect (shadow_root_of o) p (own-part w q.world o h) c own)
+      quiet-effect (effect p c) t (base-effect p c) (λ y f. logs-effect p c (l y f))
+      (λ h. safe-effect (shadow_root_of o) p (own-part w t.invariant.world o h) c own)
 
 module _ {only_log : Bool} where
   -- attaching, by whoever may
@@ -94,15 +100,15 @@ module _ {only_log : Bool} where
 
 module _ {only_log : Bool} where
   -- every accepted command
-  quiet-perform : (w : World) (o : Owner) (c : Command) → Invariant only_log w → InTurn w o → is_command_of o c ≡ true →
-      part_refusal (part_of w o) c ≡ None → (only_log ≡ true → o ≢ Page → AddsLogs c) → Invariant only_log (perform w o c).0
-  quiet-perform w o (Command.attach a) q t h r l = quiet-attach_of w o a r q
-  quiet-perform w o (Command.connected a) q t h r l = q
-  quiet-perform w o (Command.assigned a) q t h r l = q
-  quiet-perform w o (Command.dispatch a b c) q t h r l = quiet-dispatch w (named (part_of w o) a) (option_map (named (part_of w o)) c) b q
-  quiet-perform w o (Command.micro a) q t h r l = quiet-micro w o a q t
-  quiet-perform w o Command.end_turn q t h r l = quiet-ending_turn w q
-  quiet-perform w o c q t h r l = any_effect w o c q t r l
+  quiet-perform : (w : World) (o : Owner) (c : Command) → IsTurnOf o only_log w → part_refusal (part_of w o) c ≡ None →
+      (only_log ≡ true → o ≢ Page → AddsLogs c) → Invariant only_log (perform w o c).0
+  quiet-perform w o (Command.attach a) t r l = quiet-attach_of w o a r t.invariant
+  quiet-perform w o (Command.connected a) t r l = t.invariant
+  quiet-perform w o (Command.assigned a) t r l = t.invariant
+  quiet-perform w o (Command.dispatch a b c) t r l = quiet-dispatch w (named (part_of w o) a) (option_map (named (part_of w o)) c) b t.invariant
+  quiet-perform w o (Command.micro a) t r l = quiet-micro w o a t
+  quiet-perform w o Command.end_turn t r l = quiet-ending_turn w t.invariant
+  quiet-perform w o c t r l = any_effect o c t r l
 
 -- The turn that a command opens.
 in_turn-opening : (w : World) (o : Owner) → (o ≡ Page → IsPageTime w) → InTurn (opening_turn w o) o
@@ -110,17 +116,17 @@ in_turn-opening w o h e = subst (λ x. is_page_turn (opening_turn w x).turn ≡ 
 
 module _ {only_log : Bool} where
   -- with the turn that it opens
-  opened : (w : World) (o : Owner) (c : Command) → Invariant only_log w → (o ≡ Page → IsPageTime w) → is_command_of o c ≡ true →
-      part_refusal (part_of w o) c ≡ None → (only_log ≡ true → o ≢ Page → AddsLogs c) → Invariant only_log (perform (opening_turn w o) o c).0
-  opened w o c q t h r l = quiet-perform (opening_turn w o) o c (quiet-opening w q o t) (in_turn-opening w o t) h
+  opened : {w : World} (o : Owner) (c : Command) → Invariant only_log w → (o ≡ Page → IsPageTime w) → part_refusal (part_of w o) c ≡ None →
+      (only_log ≡ true → o ≢ Page → AddsLogs c) → Invariant only_log (perform (opening_turn w o) o c).0
+  opened {w} o c q t r l = quiet-perform (opening_turn w o) o c (record { invariant = quiet-opening w q o; turn = in_turn-opening w o t })
       (ap (λ p. part_refusal p c) (part_of-opening w o o) ∙ r) l
 
 module _ {only_log : Bool} where
   -- `.` apart, which opens none
-  quiet-accepted : (w : World) (o : Owner) (c : Command) → Invariant only_log w → (o ≡ Page → IsPageTime w) → is_command_of o c ≡ true →
-      part_refusal (part_of w o) c ≡ None → (only_log ≡ true → o ≢ Page → AddsLogs c) → Invariant only_log (accepted w o c).0
-  quiet-accepted w o Command.end_turn q t h r l = quiet-ending_turn w q
-  quiet-accepted w o c q t h r l = opened w o c q t h r l
+  quiet-accepted : {w : World} (o : Owner) (c : Command) → Invariant only_log w → (o ≡ Page → IsPageTime w) → part_refusal (part_of w o) c ≡ None →
+      (only_log ≡ true → o ≢ Page → AddsLogs c) → Invariant only_log (accepted w o c).0
+  quiet-accepted {w} o Command.end_turn q t r l = quiet-ending_turn w q
+  quiet-accepted {w} o c q t r l = opened o c q t r l
 
 -- A `listen` that may not stop only logs.
 only-log : (a : Action) → is_log a ≡ true → a ≡ Log
@@ -155,7 +161,7 @@ module _ {only_log : Bool} where
       from None e =
           let a = accepted-facts w o c e in
           subst (λ a. Invariant only_log (unless_refused o a w (accepted w o c)).0) (sym e)
-          (quiet-accepted w o c q t a.grammar a.part (λ y. adds-logs w o c (m y) e))
+          (quiet-accepted o c q t a.part (λ y. adds-logs w o c (m y) e))
 
 module _ {only_log : Bool} where
   -- a line keeps what holds

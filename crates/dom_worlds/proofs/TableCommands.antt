@@ -53,9 +53,9 @@ replacement-apart ts parent node child h =
     tested-apart ts parent node (not (has_parent ts parent child)) (filter (λ (n : Node). not (name_eq n.name child)) (child_nodes ts parent)) h
 
 -- so it may go there
-pub named-may : (p : Part) (x : NodeWord) (parent : NodeName) → IsPart p → HasNode p (named p x) → HasNode p parent →
+pub named-may : {p : Part} (x : NodeWord) (parent : NodeName) → IsPart p → HasNode p (named p x) → HasNode p parent →
     is_inclusive_ancestor p.trees (named p x) parent ≡ false → MayGo parent p (named p x)
-named-may p x parent i t b h = record { there = t; owner = owner-named p x; below = b; apart = inside-no_ancestor p.trees (named p x) parent i.unique h }
+named-may {p} x parent i t b h = record { there = t; owner = owner-named p x; below = b; apart = inside-no_ancestor p.trees (named p x) parent i.unique h }
 
 -- Nodes that a command names are there.
 pub exists-first : (p : Part) (x : NodeWord) (rest thing : Bool) → ((has_node p.trees (named p x) && rest) && thing) ≡ true → HasNode p (named p x)

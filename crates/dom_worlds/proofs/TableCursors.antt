@@ -42,9 +42,9 @@ iterator-previous ts i u h =
     (all-append P items (i.reference ∷ []) front ((h.reference, h.within), tt))))
 
 -- an iterator that moves
-pub tables-iterator : (p : Part) (k : ℕ) (before : Bool) (i : Iterator) (o : Option NodeName) → HasTables p → IsIteratorIn p.trees i →
+pub tables-iterator : {p : Part} {i : Iterator} (k : ℕ) (before : Bool) (o : Option NodeName) → HasTables p → IsIteratorIn p.trees i →
     IfSome (StandsIn p.trees i.root) o → Holds p (moves_iterator p k before i o)
-tables-iterator p k before i o h g m =
+tables-iterator {p} {i} k before o h g m =
     record {
       hosts = h.hosts;
       ranges = h.ranges;
@@ -100,10 +100,10 @@ pub walker-moved : (ts : Trees) (w : Walker) (m : Move) → IfSome (IsNodeIn ts)
 walker-moved ts w m = either_way (IfSome (IsNodeIn ts)) (is_inclusive_ancestor ts w.root w.current) (walker_step ts w m) None (walker-stepped ts w m) tt
 
 -- a walker that is set
-pub tables-walker : (p : Part) (k : ℕ) (w : Walker) (o : Option NodeName) (v : Value) → HasTables p → IsWalkerIn p.trees w →
-    IfSome (IsNodeIn p.trees) o → Holds p (sets_walker p k w o v)
-tables-walker p k w None v h g m = h
-tables-walker p k w (Some x) v h g m =
+pub tables-walker : {p : Part} {w : Walker} (k : ℕ) (o : Option NodeName) (v : Value) → HasTables p → IsWalkerIn p.trees w → IfSome (IsNodeIn p.trees) o →
+    Holds p (sets_walker p k w o v)
+tables-walker k None v h g m = h
+tables-walker {p} k (Some x) v h g m =
     record {
       hosts = h.hosts;
       ranges = h.ranges;

@@ -1,5 +1,5 @@
 -- Every line keeps the tables of all parts.
-use Rattle.std.proofs.Common.{◌≡◌, Bool, true, false, not, List, [], ◌∷◌, ◌++◌, map, filter, fold, length, Option, Some, None, option_map, refl, sym}
+use Rattle.std.proofs.Common.{◌≡◌, Bool, false, not, List, [], ◌∷◌, ◌++◌, map, filter, fold, length, Option, Some, None, option_map, refl, sym}
 use Rattle.std.proofs.Common.{ap, ◌∙◌, arith, true≢false, subst}
 use Rattle.std.specs.Prelude.{is_some}
 use Rattle.std.specs.List.{AllByRecursion}
@@ -12,7 +12,7 @@ use Rattle.dom_base.specs.declared.Owner.TheVariants.{Page, Component}
 use Rattle.dom_base.specs.declared.Refusal.{Refusal}
 use Rattle.dom_model.specs.Command.{Command, Line, no_owner, no_command, command, NodeWord, EventWords}
 use Rattle.dom_model.specs.CommandNames.{named}
-use Rattle.dom_model.specs.CommandRefusals.{is_command_of, part_refusal}
+use Rattle.dom_model.specs.CommandRefusals.{part_refusal}
 use Rattle.dom_model.specs.Dispatch.{dispatch_in, world_visit, visits_of}
 use Rattle.dom_model.specs.DocumentMachine.{first_world, part_with_root, refusal, effect_in, attaching, perform, accepted, run_command, step, run_lines, finish}
 use Rattle.dom_model.specs.Effects.{Effect, tables, changes, effect}
@@ -39,8 +39,8 @@ use Rattle.dom_worlds.proofs.InsideAncestors.{times-has_node}
 use Rattle.dom_worlds.proofs.KindLines.{attach-free}
 use Rattle.dom_worlds.proofs.LineBegins.{part_of-opening}
 use Rattle.dom_worlds.proofs.Lists.{all-append, all-filter}
-use Rattle.dom_worlds.proofs.OwnerCommands.{peopled-opening}
-use Rattle.dom_worlds.proofs.OwnerSteps.{IsPeopled, people}
+use Rattle.dom_worlds.proofs.OwnerCommands.{present-opening}
+use Rattle.dom_worlds.proofs.OwnerSteps.{IsPresent, people}
 use Rattle.dom_worlds.proofs.Owners.{absent-part, next-absent, there-hosted}
 use Rattle.dom_worlds.proofs.Reached.{first-is_reached, step-keeps_reached, ending-keeps_reached, finish-keeps_reached}
 use Rattle.dom_worlds.proofs.ReachedFacts.{shadow_roots-are_roots}
@@ -166,10 +166,15 @@ absent-grows w o p h = subst (λ (q : Part). Grows q.trees p.trees) (sym (absent
 tables-root : (o : Owner) (d : Option NodeName) → HasTables (part_with_root o Shadow d)
 tables-root o d = record { hosts = tt; ranges = tt; iterators = tt; walkers = tt; registrations = tt; pending = tt; listeners = tt }
 
+-- What is asked beside the tables, where a command runs.
+record Facts (w : World) (o : Owner) : Type 0 where
+  ground : Ground w
+  owners : HasOwners w
+  first : IsNodeIn (part_of w o).trees (first_node (part_of w o))
+
 -- attaching keeps the tables
-frame-attaching : (w : World) (o : Owner) (x : NodeName) → MayAttach o → Ground w → HasOwners w → IsNodeIn (part_of w o).trees x → Frame w →
-    Frame (attaching w o x).0
-frame-attaching w o x may g i t f =
+frame-attaching : {w : World} {o : Owner} (x : NodeName) → MayAttach o → Facts w o → IsNodeIn (part_of w o).trees x → Frame w → Frame (attaching w o x).0
+frame-attaching {w} {o} x may k t f =
     let p = part_of w o in
     let h = f.tables o in
     let n = length p.attached in
@@ -186,43 +191,36 @@ frame-attaching w o x may g i t f =
     } in
     let marked = with_part w more in
     let mine : more.owner ≡ o = owner-part_of w o in
-    let k = frame-with_part w more o mine hosted (f.records o) (λ y k. k) f in
+    let m = frame-with_part w more o mine hosted (f.records o) (λ y k. k) f in
     let d = (node_in p.trees x).document in
     let root = part_with_root c Shadow d in
     let other : part_of marked c ≡ part_of w c = part_of-with_part-other w more c (λ e. component_made-other o n (sym e ∙ mine)) in
     frame-with_part marked root c refl (tables-root c d) tt (subst (λ (q : Part). Grows q.trees root.trees) (sym other)
-    (absent-grows w c root (next-absent w g.makers i o may))) k
+    (absent-grows w c root (next-absent w k.ground.makers k.owners o may))) m
 
 -- who attaches is known from acceptance
-frame-attach_of : (w : World) (o : Owner) (x : NodeWord) → part_refusal (part_of w o) (Command.attach x) ≡ None →
-    Ground w → HasOwners w → Frame w → Frame (perform w o (Command.attach x)).0
-frame-attach_of w o x r k i f =
-    frame-attaching w o (named (part_of w o) x) (attach-may w o x r) k i
+frame-attach_of : {w : World} {o : Owner} (x : NodeWord) → part_refusal (part_of w o) (Command.attach x) ≡ None → Facts w o → Frame w →
+    Frame (perform w o (Command.attach x)).0
+frame-attach_of {w} {o} x r k f =
+    frame-attaching (named (part_of w o) x) (attach-may w o x r) k
     (times-has_node (part_of w o).trees (named (part_of w o) x) (attach-free (part_of w o) x r).there) f
 
 -- An accepted command.
-frame-effect : (w : World) (o : Owner) (e : Effect) → Ground w → KeepsBase (part_of w o) e → Holds (part_of w o) e → Records (part_of w o) e →
-    Frame w → Frame (effect_in w o e).0
-frame-effect w o (tables p lines v) g base h r f =
-    frame-with_part w p o (base.0 ∙ owner-part_of w o) h r (λ y k. subst (λ ts. IsNodeIn ts y) (sym base.1.trees) k) f
-frame-effect w o (changes steps v) g base h r f = frame-world_after o steps w g h r f
-
--- what is asked beside
-record Facts (w : World) (o : Owner) : Type 0 where
-  ground : Ground w
-  owners : HasOwners w
-  first : IsNodeIn (part_of w o).trees (first_node (part_of w o))
+frame-effect : {w : World} {o : Owner} (e : Effect) → Facts w o → KeepsBase (part_of w o) e → Holds (part_of w o) e → Records (part_of w o) e → Frame w →
+    Frame (effect_in w o e).0
+frame-effect {w} {o} (tables p lines v) k base h r f =
+    frame-with_part w p o (base.0 ∙ owner-part_of w o) h r (λ y n. subst (λ ts. IsNodeIn ts y) (sym base.1.trees) n) f
+frame-effect {o} (changes steps v) k base h r f = frame-world_after o steps k.ground h r f
 
 -- any command
-frame-perform : (w : World) (o : Owner) (c : Command) → Facts w o → is_command_of o c ≡ true → part_refusal (part_of w o) c ≡ None → Frame w →
-    Frame (perform w o c).0
-frame-perform w o (Command.attach x) k g r f = frame-attach_of w o x r k.ground k.owners f
-frame-perform w o (Command.connected x) k g r f = f
-frame-perform w o (Command.assigned x) k g r f = f
-frame-perform w o (Command.dispatch x e related) k g r f = frame-dispatch w (named (part_of w o) x) (option_map (named (part_of w o)) related) e f
-frame-perform w o (Command.micro label) k g r f = record { tables = f.tables; records = f.records; first = f.first; signalled = f.signalled }
-frame-perform w o Command.end_turn k g r f = frame-ending_turn w f
-frame-perform w o c k g r f = frame-effect w o (effect (part_of w o) c) k.ground (base-effect (part_of w o) c)
+frame-perform : {w : World} {o : Owner} (c : Command) → Facts w o → part_refusal (part_of w o) c ≡ None → Frame w → Frame (perform w o c).0
+frame-perform {w} {o} (Command.attach x) k r f = frame-attach_of x r k f
+frame-perform (Command.connected x) k r f = f
+frame-perform (Command.assigned x) k r f = f
+frame-perform {w} {o} (Command.dispatch x e related) k r f = frame-dispatch w (named (part_of w o) x) (option_map (named (part_of w o)) related) e f
+frame-perform (Command.micro label) k r f = record { tables = f.tables; records = f.records; first = f.first; signalled = f.signalled }
+frame-perform {w} Command.end_turn k r f = frame-ending_turn w f
+frame-perform {w} {o} c k r f = frame-effect (effect (part_of w o) c) k (base-effect (part_of w o) c)
     (holds-effect (part_of w o) (k.ground.parts o) (f.tables o) k.first c r)
     (records-effect (part_of w o) (k.ground.parts o) (f.tables o) (f.records o) c r) f
 
@@ -236,11 +234,10 @@ facts-opening w o k i =
     }
 
 -- `.` apart
-frame-accepted : (w : World) (o : Owner) (c : Command) → IsThere w o → IsPeopled w → Facts w o → is_command_of o c ≡ true →
-    part_refusal (part_of w o) c ≡ None → Frame w → Frame (accepted w o c).0
-frame-accepted w o Command.end_turn t i k g r f = frame-ending_turn w f
-frame-accepted w o c t i k g r f =
-    frame-perform (opening_turn w o) o c (facts-opening w o k (peopled-opening w o t i).owners) g (ap (λ p. part_refusal p c) (part_of-opening w o o) ∙ r)
+frame-accepted : {w : World} {o : Owner} (c : Command) → IsPresent w o → Facts w o → part_refusal (part_of w o) c ≡ None → Frame w → Frame (accepted w o c).0
+frame-accepted {w} Command.end_turn h k r f = frame-ending_turn w f
+frame-accepted {w} {o} c h k r f =
+    frame-perform c (facts-opening w o k (present-opening h).people.owners) (ap (λ p. part_refusal p c) (part_of-opening w o o) ∙ r)
     (either_way Frame (is_some w.turn) w (record w { turn = Some o }) f
     (record { tables = f.tables; records = f.records; first = f.first; signalled = f.signalled }))
 
@@ -262,7 +259,7 @@ frame-command w o c r f = from (refusal w o c) refl
     from None e =
         let a = accepted-facts w o c e in
         let k : Facts w o = record { ground = ground-of w r.world; owners = r.owners; first = first-there w r f.first o a.there } in
-        subst (λ a. Frame (unless_refused o a w (accepted w o c)).0) (sym e) (frame-accepted w o c a.there (people w r) k a.grammar a.part f)
+        subst (λ a. Frame (unless_refused o a w (accepted w o c)).0) (sym e) (frame-accepted c (record { there = a.there; people = people w r }) k a.part f)
 
 -- a line
 frame-line : {only_log : Bool} (w : World) (l : Line) → IsReached only_log w → Frame w → Frame (step w l).0

@@ -30,7 +30,7 @@ use Rattle.dom_worlds.proofs.TreeChangeLaws.{root-subtree}
 use Rattle.dom_worlds.proofs.PartSteps.{part-step}
 use Rattle.dom_worlds.proofs.KindLines.{has_node-times}
 use Rattle.dom_worlds.proofs.Descents.{ancestor-inside, inside-ancestor, inside-subtree, inside-left, inside-comparable, before-apart, descend-begins}
-use Rattle.dom_worlds.proofs.Insides.{inside, inside-itself, inside-absent, inside-put_root, times-inside}
+use Rattle.dom_worlds.proofs.Insides.{IsOutside, unique-taken_out, inside, inside-itself, inside-absent, inside-put_root, times-inside}
 use Rattle.dom_worlds.proofs.InsideAncestors.{inside-nested, inside-no_ancestor}
 use Rattle.dom_worlds.proofs.Insides.{times-taken_out_all}
 use Rattle.dom_worlds.proofs.InsideAncestors.{child-there, times-has_node}
@@ -88,7 +88,6 @@ tables-told : (p : Part) (c : Change NodeName) → HasTables p → HasTables (to
 tables-told p c h =
     let who = interested_in p c in
     let same = queues-set (λ queues k. queue_of queues k ++ record_in p c k ∷ []) who p.record_queues in
-    let more = length (told p c).record_queues in
     record {
       hosts = h.hosts;
       ranges = h.ranges;
@@ -169,11 +168,19 @@ all-stand ts x u =
           (let s = times-inside ts x n.name in omega arith),
     )) (nodes (subtree ts x)) (nodes-there (subtree ts x)))
 
--- Where a node leaves: what stood in a tree and not in its own still stands there.
-left-stands : (ts : Trees) (x a y : NodeName) → IsUnique ts → IsUnique (taken_out x ts) → IsNodeIn (taken_out x ts) y → inside ts x y ≡ 0 →
-    1 ≤ inside ts a y → StandsIn (taken_out x ts) a y
-left-stands ts x a y u v n h g =
-    (n, inside-ancestor (taken_out x ts) a y v (let l = inside-left ts x a y u h in let p = inside-put_root x (subtree ts x) (without x ts) a y in omega arith))
+-- Where a node leaves, no node is lost.
+grows-taken_out : (ts : Trees) (x : NodeName) → IsUnique ts → Grows ts (taken_out x ts)
+grows-taken_out ts x u = grows-times ts (taken_out x ts) (λ y. let a = times-taken_out_all ts x y u in omega arith)
+
+-- What stood in a tree and not in its own still stands there.
+left-stands : {ts : Trees} {x y : NodeName} (a : NodeName) → IsUnique ts → IsOutside ts x y → 1 ≤ inside ts a y → StandsIn (taken_out x ts) a y
+left-stands {ts} {x} {y} a u o g =
+    let h = o.apart in
+    let t = o.there in (
+      times-has_node (taken_out x ts) y (let same = times-taken_out_all ts x y u in omega arith),
+      inside-ancestor (taken_out x ts) a y (unique-taken_out ts x u)
+          (let l = inside-left ts x a y u h in let p = inside-put_root x (subtree ts x) (without x ts) a y in omega arith),
+    )
 
 -- the items that pass a test, with it
 pub all-kept : {X : Type 0} (P : X → Type 0) (test : X → Bool) (xs : List X) → AllByRecursion P xs →
@@ -191,9 +198,9 @@ moved-last Q i y [] h g = h
 moved-last Q i y (x ∷ xs) h g = moved-last Q i x xs g.0 g.1
 
 -- at the last of nodes of which one is there
-moved-front : (Q : Iterator → Type 0) (i : Iterator) (xs : List NodeName) (y : NodeName) (ys : List NodeName) → xs ≡ y ∷ ys →
+moved-front : {xs : List NodeName} {y : NodeName} {ys : List NodeName} (Q : Iterator → Type 0) (i : Iterator) → xs ≡ y ∷ ys →
     AllByRecursion (λ x. Q (record i { reference = x; before = false })) xs → Q (moved_to i false (last_of xs))
-moved-front Q i xs y ys e h =
+moved-front {y} {ys} Q i e h =
     let both = subst (AllByRecursion (λ x. Q (record i { reference = x; before = false }))) e h in
     subst (λ zs. Q (moved_to i false (last_of zs))) (sym e) (moved-last Q i y ys both.0 both.1)
 
@@ -219,10 +226,11 @@ above-above ts a y z u h k =
     let all = times-inside ts a z in inside-ancestor ts a z u (omega arith)
 
 -- an iterator before the removal of a node, as it is after it
-iterator-left : (ts : Trees) (x : NodeName) (i : Iterator) → IsUnique ts → IsUnique (taken_out x ts) → Grows ts (taken_out x ts) →
-    IsIteratorIn ts i → IsIteratorIn (taken_out x ts) (adjusted_iterator ts x i)
-iterator-left ts x i u v g h =
+iterator-left : {ts : Trees} {i : Iterator} (x : NodeName) → IsUnique ts → IsIteratorIn ts i → IsIteratorIn (taken_out x ts) (adjusted_iterator ts x i)
+iterator-left {ts} {i} x u h =
     let us = taken_out x ts in
+    let v = unique-taken_out ts x u in
+    let g = grows-taken_out ts x u in
     let root = i.root in
     let P = IsIteratorIn us in
     let here = λ (y : NodeName). is_inclusive_ancestor ts x y in
@@ -256,18 +264,20 @@ iterator-left ts x i u v g h =
     all-then (λ y. (1 ≤ times_in (subtree ts root) y) × (inside (subtree ts root) x y ≡ 0)) there
     (λ y m. let m0 = m.0 in let m1 = m.1 in
     let n : IsNodeIn ts y = times-has_node ts y (let s = times-subtree ts root y in omega arith) in
-    left-stands ts x root y u v (g y n) (let s = inside-subtree ts root x y u below in omega arith) (let s = times-inside ts root y in omega arith))
+    left-stands root u (record { there = has_node-times ts y n; apart = let s = inside-subtree ts root x y u below in omega arith })
+    (let s = times-inside ts root y in omega arith))
     front (before-apart (subtree ts root) x (λ y. let s = times-subtree ts root y in let o = u y in omega arith)) in
     let behind = first_of (filter (λ y. not (here y)) (items_after name_eq x all)) in
     let behind-there : IfSome there behind =
     first-all there (filter (λ y. not (here y)) (items_after name_eq x all))
     (all-then (λ y. StandsIn ts root y × (not (here y) ≡ true)) there
-    (λ y m. let m0 : StandsIn ts root y = m.0 in left-stands ts x root y u v (g y m0.0) (inside-no_ancestor ts x y u (not-true (here y) m.1))
+    (λ y m. let m0 : StandsIn ts root y = m.0 in
+    left-stands root u (record { there = has_node-times ts y m0.0; apart = inside-no_ancestor ts x y u (not-true (here y) m.1) })
     (ancestor-inside ts root y m0.1))
     (filter (λ y. not (here y)) (items_after name_eq x all))
     (all-kept (StandsIn ts root) (λ y. not (here y)) (items_after name_eq x all) (after-all (StandsIn ts root) x all (all-stand ts root u)))) in
     let back : P (moved_to i false (last_of front)) =
-    moved-front P i front root (items_before name_eq x at.0) begins
+    moved-front P i begins
     (all-then there (λ y. P (record i { reference = y; before = false })) (λ y m. record { root = g root h.root; reference = m.0; within = m.1 })
     front front-all) in
     let no_test : (here root || not (here i.reference)) ≡ false = or-neither (here root) (not (here i.reference)) e (ap not k) in
@@ -276,46 +286,46 @@ iterator-left ts x i u v g h =
     (either_way P i.before (moved_to (moved_to i false (last_of front)) true behind) (moved_to i false (last_of front))
     (iterator-moved us (moved_to i false (last_of front)) true behind back (moved-root us i (last_of front) behind behind-there)) back))
     (λ k. subst P (sym (adjusted-not ts x i (or-second (here root) (not (here i.reference)) (ap not k))))
-    (let stands = left-stands ts x root i.reference u v (g i.reference h.reference) (inside-no_ancestor ts x i.reference u k) held in
+    (let stands = left-stands root u
+    (record { there = has_node-times ts i.reference h.reference; apart = inside-no_ancestor ts x i.reference u k }) held in
     record { root = g root h.root; reference = stands.0; within = stands.1 })))
 
 -- The ends of a range where a node leaves: they keep one root.
-ends-left : (ts : Trees) (x parent : NodeName) → IsUnique ts → IsUnique (taken_out x ts) → parent_of ts x ≡ Some parent →
-    Grows ts (taken_out x ts) → (r : Option (Range NodeName)) → EndsIn ts r →
+ends-left : {parent : NodeName} (ts : Trees) (x : NodeName) → IsUnique ts → parent_of ts x ≡ Some parent → (r : Option (Range NodeName)) → EndsIn ts r →
     EndsIn (taken_out x ts) (option_map (map_ends (after_removal name_eq (is_inclusive_ancestor ts x) parent (index_of ts x))) r)
-ends-left ts x parent u v e g None h = tt
-ends-left ts x parent u v e g (Some r) h =
+ends-left ts x u e None h = tt
+ends-left {parent} ts x u e (Some r) h =
+    let g = grows-taken_out ts x u in
     let move = after_removal name_eq (is_inclusive_ancestor ts x) parent (index_of ts x) in
-    let a = moves-removal ts x parent u e r.start h.start in
-    let b = moves-removal ts x parent u e r.end h.end in
+    let a = moves-removal ts x u e r.start h.start in
+    let b = moves-removal ts x u e r.end h.end in
     let y = (move r.start).node in
     let z = (move r.end).node in
     record {
       start = g y a.0.0;
       end = g z b.0.0;
       one_root = roots-same (taken_out x ts) y z
-          (roots-left ts x u v y z (has_node-times ts y a.0.0) (has_node-times ts z b.0.0) a.1 b.1
+          (roots-left u (record { there = has_node-times ts y a.0.0; apart = a.1 }) (record { there = has_node-times ts z b.0.0; apart = b.1 })
           (a.0.1 ∙ roots-equal ts r.start.node r.end.node h.one_root ∙ sym b.0.1));
     }
 
 -- A node leaves its parent.
-tables-left : (p : Part) (x parent : NodeName) → IsPart p → parent_of p.trees x ≡ Some parent → Grows p.trees (taken_out x p.trees) →
-    HasTables p → HasTables (leave p x parent)
-tables-left p x parent i e g h =
+tables-left : {p : Part} {parent : NodeName} (x : NodeName) → IsPart p → parent_of p.trees x ≡ Some parent → HasTables p → HasTables (leave p x parent)
+tables-left {p} {parent} x i e h =
     let ts = p.trees in
     let us = taken_out x ts in
     let k = length p.record_queues in
     let move = after_removal name_eq (is_inclusive_ancestor ts x) parent (index_of ts x) in
-    let v : IsUnique us = λ y. let o = i.unique y in let t = times-taken_out_all ts x y i.unique in omega arith in
+    let g = grows-taken_out ts x i.unique in
     let registered = all-append (IsRegistrationIn ts k) p.registrations (transients_for name_eq x (inclusive_ancestors ts parent) p.registrations)
     h.registrations
     (all-transients ts k x (inclusive_ancestors ts parent) p.registrations (times-has_node ts x (child-there ts x parent e)) h.registrations) in
     record {
       hosts = all-then (IsNodeIn ts) (IsNodeIn us) g p.attached h.hosts;
       ranges = all-map (EndsIn us) (option_map (map_ends move)) p.ranges
-          (all-then (EndsIn ts) (λ r. EndsIn us (option_map (map_ends move) r)) (ends-left ts x parent i.unique v e g) p.ranges h.ranges);
+          (all-then (EndsIn ts) (λ r. EndsIn us (option_map (map_ends move) r)) (ends-left ts x i.unique e) p.ranges h.ranges);
       iterators = all-map (IsIteratorIn us) (adjusted_iterator ts x) p.iterators
-          (all-then (IsIteratorIn ts) (λ j. IsIteratorIn us (adjusted_iterator ts x j)) (λ j. iterator-left ts x j i.unique v g) p.iterators
+          (all-then (IsIteratorIn ts) (λ j. IsIteratorIn us (adjusted_iterator ts x j)) (λ j. iterator-left x i.unique) p.iterators
           h.iterators);
       walkers = all-then (IsWalkerIn ts) (IsWalkerIn us) (walker-grows ts us g) p.walkers h.walkers;
       registrations = all-then (IsRegistrationIn ts k) (IsRegistrationIn us k) (registration-grows ts us g k)
@@ -326,28 +336,27 @@ tables-left p x parent i e g h =
 
 -- Every step that fits keeps the tables.
 pub tables-step : (p : Part) (s : Step) → IsPart p → Fits p s → HasTables p → HasTables (part_step p s)
-tables-step p (make n) i f h = tables-trees p (part_step p (make n)).trees (suc p.node_count) (part-step p (make n) i).unique
+tables-step p (make n) i f h = tables-trees (part_step p (make n)).trees (suc p.node_count) (part-step p (make n) i).unique
     (grows-step p (make n) i f) (ancestors-step p (make n) i f tt) h
 tables-step p (make_room parent index count) i f h = tables-ends p (after_insert name_eq parent index count) (moves-insert p.trees parent index count) h
 tables-step p (place x parent before) i f h =
-    tables-trees p (part_step p (place x parent before)).trees p.node_count (part-step p (place x parent before) i).unique
+    tables-trees (part_step p (place x parent before)).trees p.node_count (part-step p (place x parent before) i).unique
     (grows-step p (place x parent before) i f) (ancestors-step p (place x parent before) i f tt) h
 tables-step p (take_out x) i f h = from (parent_of p.trees x) refl
   where
     from : (o : Option NodeName) → parent_of p.trees x ≡ o → HasTables (option_map_or (leave p x) o p)
     from None e = h
-    from (Some parent) e = tables-left p x parent i e
-        (grows-times p.trees (taken_out x p.trees) (λ y. let a = times-taken_out_all p.trees x y i.unique in omega arith)) h
+    from (Some parent) e = tables-left x i e h
 tables-step p (set_document x d) i f h =
-    tables-trees p (part_step p (set_document x d)).trees p.node_count (part-step p (set_document x d) i).unique
+    tables-trees (part_step p (set_document x d)).trees p.node_count (part-step p (set_document x d) i).unique
     (grows-step p (set_document x d) i f) (ancestors-step p (set_document x d) i f tt) h
 tables-step p (set_attribute x a v) i f h =
-    tables-trees p (part_step p (set_attribute x a v)).trees p.node_count (part-step p (set_attribute x a v) i).unique
+    tables-trees (part_step p (set_attribute x a v)).trees p.node_count (part-step p (set_attribute x a v) i).unique
     (grows-step p (set_attribute x a v) i f) (ancestors-step p (set_attribute x a v) i f tt) h
 tables-step p (replace_data x offset count new) i f h =
     let us = (part_step p (replace_data x offset count new)).trees in
     tables-ends (record p { trees = us }) (after_replace_data name_eq x offset count (length new)) (moves-data us x offset count (length new))
-    (tables-trees p us p.node_count (part-step p (replace_data x offset count new) i).unique
+    (tables-trees us p.node_count (part-step p (replace_data x offset count new) i).unique
     (grows-step p (replace_data x offset count new) i f) (ancestors-step p (replace_data x offset count new) i f tt) h)
 tables-step p (split_at x offset new parent index) i f h =
     tables-ends p (after_split name_eq x offset new parent index)

@@ -29,7 +29,7 @@ use Rattle.dom_model.specs.Tree.{parent_of, length_of}
 use Rattle.dom_model.specs.Validity.{insertion_refusal}
 use Rattle.dom_worlds.specs.Worlds.{IsPart}
 use Rattle.dom_worlds.specs.Tables.{IsNodeIn, EndsIn, IsIteratorIn, IsWalkerIn, IsRegistrationIn, IsListenerIn, HasTables}
-use Rattle.dom_worlds.proofs.Acceptance.{or-none, part-accepted}
+use Rattle.dom_worlds.proofs.Acceptance.{IsPartAccepted, or-none, part-accepted}
 use Rattle.dom_worlds.proofs.Descents.{inside-ancestor}
 use Rattle.dom_worlds.proofs.Insides.{inside-itself}
 use Rattle.dom_worlds.proofs.InsideAncestors.{times-has_node, parent-there}
@@ -84,10 +84,10 @@ all-registered_with P k x o rs f g h =
     (all-append P rs (one ∷ []) h (g, tt))
 
 -- with other queues and registrations
-tables-observers : (p : Part) (queues : _) (rs : List (Registration NodeName)) (ks : List ℕ) → HasTables p →
+tables-observers : {p : Part} (queues : _) (rs : List (Registration NodeName)) (ks : List ℕ) → HasTables p →
     AllByRecursion (IsRegistrationIn p.trees (length queues)) rs → AllByRecursion (λ k. k < length queues) ks →
     HasTables (record p { record_queues = queues; registrations = rs; pending = ks })
-tables-observers p queues rs ks h g m = record {
+tables-observers queues rs ks h g m = record {
   hosts = h.hosts;
   ranges = h.ranges;
   iterators = h.iterators;
@@ -142,14 +142,14 @@ insert_node-valid p k x r range e =
     (or-none (insert_node_refusal p.trees range (named p x)) (limit_on p.node_count (made_by_insert_node p range)) here).0
 
 -- so its node may go there
-pub insert_node-may : (p : Part) (k : ℕ) (x : NodeWord) → IsPart p → HasTables p → HasNode p (named p x) →
-    own_refusal p (Command.insert_node k x) ≡ None → (range : Range NodeName) → range_at p k ≡ Some range →
-    MayGo (insertion_parent p.trees range) p (named p x)
-insert_node-may p k x i h t r range e =
+pub insert_node-may : {p : Part} {k : ℕ} {x : NodeWord} {range : Range NodeName} → IsPart p → HasTables p → IsPartAccepted p (Command.insert_node k x) →
+    range_at p k ≡ Some range → MayGo (insertion_parent p.trees range) p (named p x)
+insert_node-may {p} {k} {x} {range} i h a e =
+    let t = exists-first p x true (has_range p k) a.exist in
     let valid = not_taken (cannot_take_node p.trees range (named p x))
     (insertion_refusal p.trees (insertion_parent p.trees range) (named p x) (start_reference p.trees range))
-    (insert_node-valid p k x r range e) in
-    named-may p x (insertion_parent p.trees range) i t (parent-of_range p range (range-ends p k h range e).0)
+    (insert_node-valid p k x a.own range e) in
+    named-may x (insertion_parent p.trees range) i t (parent-of_range p range (range-ends p k h range e).0)
     (insertion-apart p.trees (insertion_parent p.trees range) (named p x) (start_reference p.trees range) valid)
 
 -- any thing or none
@@ -167,18 +167,18 @@ holds-effect p i h f Command.new_document r = (tt, tt)
 holds-effect p i h f (Command.append a x) r =
     let k = part-accepted p (Command.append a x) r in
     (leads-inserting observed (named p x) (named p a) None p i
-    (named-may p x (named p a) i (exists-second p a x true true k.exist)
+    (named-may x (named p a) i (exists-second p a x true true k.exist)
     (exists-first p a (has_node p.trees (named p x) && true) true k.exist) (insertion-apart p.trees (named p a) (named p x) None k.own))).made
 holds-effect p i h f (Command.insert a x c) r =
     let k = part-accepted p (Command.insert a x c) r in
     (leads-inserting observed (named p x) (named p a) _ p i
-    (named-may p x (named p a) i (exists-second p a x (has_node p.trees (named p c) && true) true k.exist)
+    (named-may x (named p a) i (exists-second p a x (has_node p.trees (named p c) && true) true k.exist)
     (exists-first p a (has_node p.trees (named p x) && (has_node p.trees (named p c) && true)) true k.exist)
     (insertion-apart p.trees (named p a) (named p x) (Some (named p c)) k.own))).made
 holds-effect p i h f (Command.replace a x c) r =
     let k = part-accepted p (Command.replace a x c) r in
     (leads-replacing (named p a) (named p x) (named p c) p i
-    (named-may p x (named p a) i (exists-second p a x (has_node p.trees (named p c) && true) true k.exist)
+    (named-may x (named p a) i (exists-second p a x (has_node p.trees (named p c) && true) true k.exist)
     (exists-first p a (has_node p.trees (named p x) && (has_node p.trees (named p c) && true)) true k.exist)
     (replacement-apart p.trees (named p a) (named p x) (named p c) k.own))).made
 holds-effect p i h f (Command.remove x) r = (leads-removing observed (named p x) p i).made
@@ -230,7 +230,7 @@ holds-effect p i h f (Command.insert_node k x) r =
     let a = part-accepted p (Command.insert_node k x) r in
     range-made p k (λ range. inserting_into_range k range (named p x) p)
     (λ range e. (leads-inserting_into_range k range (named p x) p i h e
-    (insert_node-may p k x i h (exists-first p x true (has_range p k) a.exist) a.own range e)).made)
+    (insert_node-may i h a e)).made)
 holds-effect p i h f (Command.iterator_new x w) r =
     let a = part-accepted p (Command.iterator_new x w) r in
     let t = times-has_node p.trees (named p x) (exists-first p x true true a.exist) in
@@ -266,18 +266,18 @@ holds-effect p i h f (Command.walker_new x w) r =
 holds-effect p i h f (Command.iterator_next k) r =
     some-holds (IsIteratorIn p.trees) p (slice_get p.iterators k) (λ i. moves_iterator p k false i (iterator_next_node p.trees i))
     (answers p nothing) (all-get (IsIteratorIn p.trees) p.iterators k h.iterators)
-    (λ j g. tables-iterator p k false j (iterator_next_node p.trees j) h g (iterator-next p.trees j i.unique g)) h
+    (λ j g. tables-iterator k false (iterator_next_node p.trees j) h g (iterator-next p.trees j i.unique g)) h
 holds-effect p i h f (Command.iterator_previous k) r =
     some-holds (IsIteratorIn p.trees) p (slice_get p.iterators k) (λ i. moves_iterator p k true i (iterator_previous_node p.trees i))
     (answers p nothing) (all-get (IsIteratorIn p.trees) p.iterators k h.iterators)
-    (λ j g. tables-iterator p k true j (iterator_previous_node p.trees j) h g (iterator-previous p.trees j i.unique g)) h
+    (λ j g. tables-iterator k true (iterator_previous_node p.trees j) h g (iterator-previous p.trees j i.unique g)) h
 holds-effect p i h f (Command.iterator_at k) r =
     some-holds (IsIteratorIn p.trees) p (slice_get p.iterators k) (λ (i : Iterator). answers p (reference i.reference i.before))
     (answers p nothing) (all-get (IsIteratorIn p.trees) p.iterators k h.iterators) (λ j g. h) h
 holds-effect p i h f (Command.walk k m) r =
     some-holds (IsWalkerIn p.trees) p (slice_get p.walkers k)
     (λ w. sets_walker p k w (walker_move p.trees w m) (node_or_null (walker_move p.trees w m))) (answers p nothing)
-    (all-get (IsWalkerIn p.trees) p.walkers k h.walkers) (λ w g. tables-walker p k w (walker_move p.trees w m) _ h g (walker-moved p.trees w m)) h
+    (all-get (IsWalkerIn p.trees) p.walkers k h.walkers) (λ w g. tables-walker k (walker_move p.trees w m) _ h g (walker-moved p.trees w m)) h
 holds-effect p i h f (Command.walker_at k) r =
     some-holds (IsWalkerIn p.trees) p (slice_get p.walkers k) (λ (w : Walker). answers p (a_node w.current)) (answers p nothing)
     (all-get (IsWalkerIn p.trees) p.walkers k h.walkers) (λ j g. h) h
@@ -285,7 +285,7 @@ holds-effect p i h f (Command.walker_set k x) r =
     let a = part-accepted p (Command.walker_set k x) r in
     let t = times-has_node p.trees (named p x) (exists-first p x true (is_some (slice_get p.walkers k)) a.exist) in
     some-holds (IsWalkerIn p.trees) p (slice_get p.walkers k) (λ w. sets_walker p k w (Some (named p x)) nothing) (answers p nothing)
-    (all-get (IsWalkerIn p.trees) p.walkers k h.walkers) (λ w g. tables-walker p k w (Some (named p x)) nothing h g t) h
+    (all-get (IsWalkerIn p.trees) p.walkers k h.walkers) (λ w g. tables-walker k (Some (named p x)) nothing h g t) h
 holds-effect p i h f (Command.listen x w) r =
     let a = part-accepted p (Command.listen x w) r in
     tables-listeners p _ h (all-heard (IsListenerIn p.trees) (named p x) w p.listeners
@@ -294,7 +294,7 @@ holds-effect p i h f (Command.unlisten x e l c) r =
     tables-listeners p _ h (all-filter (IsListenerIn p.trees) (λ m. not (is_listener name_eq (named p x) e l c m)) p.listeners h.listeners)
 holds-effect p i h f Command.observer r =
     let more : length p.record_queues ≤ length (p.record_queues ++ [] ∷ []) = let e = length-append p.record_queues ([] ∷ []) in omega arith in
-    tables-observers p (p.record_queues ++ [] ∷ []) p.registrations p.pending h
+    tables-observers (p.record_queues ++ [] ∷ []) p.registrations p.pending h
     (more-registered p.trees (length p.record_queues) (length (p.record_queues ++ [] ∷ [])) more p.registrations h.registrations)
     (more-pending (length p.record_queues) (length (p.record_queues ++ [] ∷ [])) more p.pending h.pending)
 holds-effect p i h f (Command.observe k x w) r =
@@ -302,21 +302,21 @@ holds-effect p i h f (Command.observe k x w) r =
     let t = times-has_node p.trees (named p x) (exists-first p x true (is_some (slice_get p.record_queues k)) a.exist) in
     let below = get-below p.record_queues k (and_parts (has_node p.trees (named p x) && true) (is_some (slice_get p.record_queues k)) a.exist).1 in
     let P = IsRegistrationIn p.trees (length p.record_queues) in
-    tables-observers p p.record_queues (with_registration name_eq k (named p x) (options_of w) p.registrations) p.pending h
+    tables-observers p.record_queues (with_registration name_eq k (named p x) (options_of w) p.registrations) p.pending h
     (all-registered_with P k (named p x) (options_of w) p.registrations
     (λ r m. record { node = m.node; observer = m.observer; source = m.source }) (record { node = t; observer = below; source = tt })
     h.registrations) h.pending
 holds-effect p i h f (Command.disconnect k) r =
     let same : length p.record_queues ≤ length (slice_set p.record_queues k []) = let e = length-set p.record_queues k [] in omega arith in
     let left = filter (λ (r : Registration NodeName). not (r.observer == k)) p.registrations in
-    tables-observers p (slice_set p.record_queues k []) left p.pending h
+    tables-observers (slice_set p.record_queues k []) left p.pending h
     (more-registered p.trees (length p.record_queues) (length (slice_set p.record_queues k [])) same left
     (all-filter (IsRegistrationIn p.trees (length p.record_queues)) (λ (r : Registration NodeName). not (r.observer == k)) p.registrations
     h.registrations))
     (more-pending (length p.record_queues) (length (slice_set p.record_queues k [])) same p.pending h.pending)
 holds-effect p i h f (Command.take k) r =
     let same : length p.record_queues ≤ length (slice_set p.record_queues k []) = let e = length-set p.record_queues k [] in omega arith in
-    tables-observers p (slice_set p.record_queues k []) p.registrations p.pending h
+    tables-observers (slice_set p.record_queues k []) p.registrations p.pending h
     (more-registered p.trees (length p.record_queues) (length (slice_set p.record_queues k [])) same p.registrations h.registrations)
     (more-pending (length p.record_queues) (length (slice_set p.record_queues k [])) same p.pending h.pending)
 holds-effect p i h f c r = h

@@ -27,7 +27,7 @@ use Rattle.dom_worlds.proofs.TreeChangeLaws.{times-with_node, times-map_nodes, H
 use Rattle.dom_worlds.proofs.PartSteps.{KeepsNames, some-keeps, attribute-keeps, part-step}
 use Rattle.dom_worlds.proofs.KindLines.{has_node-times}
 use Rattle.dom_worlds.proofs.Descents.{ancestor-inside, inside-ancestor, inside-placed_all, inside-with_node_all}
-use Rattle.dom_worlds.proofs.Insides.{inside, inside-map_nodes, times-taken_out_all, times-placed_all}
+use Rattle.dom_worlds.proofs.Insides.{CanPlace, inside, inside-map_nodes, times-taken_out_all, times-placed_all}
 use Rattle.dom_worlds.proofs.InsideAncestors.{inside-no_ancestor, parent-there, times-has_node}
 
 -- A node is there, by its count.
@@ -54,10 +54,14 @@ MadeIn p (s ∷ steps) = Fits p s × MadeIn (part_step p s) steps
 mapped-stays : (f : Node → Node) → KeepsNames f → (ts : Trees) (y : NodeName) → times_in ts y ≤ times_in (map_nodes f ts) y
 mapped-stays f h ts y = let same = times-map_nodes f (λ n. (h n).0) ts y in omega arith
 
+-- what fits may be placed
+pub fits-place : {p : Part} {x parent : NodeName} (before : Option NodeName) → IsPart p → Fits p (place x parent before) → CanPlace p.trees x parent
+fits-place before i f = record { unique = i.unique; below = record { there = f.0; apart = f.1 } }
+
 -- no node is lost
 pub stays-step : (p : Part) (s : Step) → IsPart p → Fits p s → (y : NodeName) → times_in p.trees y ≤ times_in (part_step p s).trees y
 stays-step p (make n) i h y = let a = times-with_node (with_name (next_name p) n) p.trees y in omega arith
-stays-step p (place x parent before) i h y = let a = times-placed_all p.trees x parent before y i.unique h.0 h.1 in omega arith
+stays-step p (place x parent before) i h y = let a = times-placed_all before y (fits-place before i h) in omega arith
 stays-step p (take_out x) i h y = from (parent_of p.trees x)
   where
     from : (o : Option NodeName) → times_in p.trees y ≤ times_in (option_map_or (leave p x) o p).trees y
@@ -104,24 +108,24 @@ mapped-inside : (f : Node → Node) → KeepsNames f → (ts : Trees) (a z : Nod
 mapped-inside f h ts a z = let same = inside-map_nodes f (λ n. (h n).0) ts a z in omega arith
 
 -- under such a step
-inside-step : (p : Part) (s : Step) → IsPart p → Fits p s → TakesNone s → (a z : NodeName) → inside p.trees a z ≤ inside (part_step p s).trees a z
-inside-step p (make n) i h t a z = inside-with_node_all (with_name (next_name p) n) p.trees a z
-inside-step p (place x parent before) i h t a z = inside-placed_all p.trees x parent before a z i.unique h.0 h.1 h.2
-inside-step p (take_out x) i h t a z = absurd t
-inside-step p (set_document x d) i h t a z =
+inside-step : {p : Part} (s : Step) → IsPart p → Fits p s → TakesNone s → (a z : NodeName) → inside p.trees a z ≤ inside (part_step p s).trees a z
+inside-step {p} (make n) i h t a z = inside-with_node_all (with_name (next_name p) n) p.trees a z
+inside-step {p} (place x parent before) i h t a z = inside-placed_all before a z (fits-place before i h) h.2
+inside-step (take_out x) i h t a z = absurd t
+inside-step {p} (set_document x d) i h t a z =
     mapped-inside (λ n. if is_in name_eq n.name (inclusive_descendants p.trees x) then with_document d n else n)
     (some-keeps (λ (n : Node). is_in name_eq n.name (inclusive_descendants p.trees x)) (with_document d) (λ n. (refl, refl))) p.trees a z
-inside-step p (set_attribute x b v) i h t a z =
+inside-step {p} (set_attribute x b v) i h t a z =
     mapped-inside (λ n. if name_eq n.name x then with_attribute b v n else n)
     (some-keeps (λ (n : Node). name_eq n.name x) (with_attribute b v) (attribute-keeps b v)) p.trees a z
-inside-step p (replace_data x offset count new) i h t a z =
+inside-step {p} (replace_data x offset count new) i h t a z =
     mapped-inside (λ n. if name_eq n.name x then with_data_replaced offset count new n else n)
     (some-keeps (λ (n : Node). name_eq n.name x) (with_data_replaced offset count new) (λ n. (refl, refl))) p.trees a z
-inside-step p s i h t a z = omega arith
+inside-step s i h t a z = omega arith
 
 -- ancestors stay
 pub ancestors-step : (p : Part) (s : Step) → IsPart p → Fits p s → TakesNone s → Stays p.trees (part_step p s).trees
-ancestors-step p s i h t = stays-inside p.trees (part_step p s).trees (part-step p s i).unique (inside-step p s i h t)
+ancestors-step p s i h t = stays-inside p.trees (part_step p s).trees (part-step p s i).unique (inside-step s i h t)
 
 -- What tables name stays.
 module _ (ts us : Trees) (g : Grows ts us) where
@@ -156,9 +160,9 @@ module _ (ts us : Trees) (g : Grows ts us) where
   registration-grows k r h = record { node = g r.node h.node; observer = h.observer; source = source-grows r.source h.source }
 
 -- A part with other trees, and another count.
-pub tables-trees : (p : Part) (us : Trees) (count : ℕ) → IsUnique us → Grows p.trees us → Stays p.trees us → HasTables p →
+pub tables-trees : {p : Part} (us : Trees) (count : ℕ) → IsUnique us → Grows p.trees us → Stays p.trees us → HasTables p →
     HasTables (record p { trees = us; node_count = count })
-tables-trees p us count u g k h =
+tables-trees {p} us count u g k h =
     let ts = p.trees in
     record {
       hosts = all-then (IsNodeIn ts) (IsNodeIn us) g p.attached h.hosts;
@@ -222,9 +226,9 @@ moves-insert ts parent index count b h = from (name_eq b.node parent) refl
     from false e = (h, refl)
 
 -- at a removal: to where nothing leaves
-pub moves-removal : (ts : Trees) (x parent : NodeName) → IsUnique ts → parent_of ts x ≡ Some parent → (b : Boundary NodeName) → IsNodeIn ts b.node →
-    let c = after_removal name_eq (is_inclusive_ancestor ts x) parent (index_of ts x) b in IsUnder ts b.node c × (inside ts x c.node ≡ 0)
-moves-removal ts x parent u e b h =
+pub moves-removal : {parent : NodeName} (ts : Trees) (x : NodeName) → IsUnique ts → parent_of ts x ≡ Some parent → (b : Boundary NodeName) →
+    IsNodeIn ts b.node → let c = after_removal name_eq (is_inclusive_ancestor ts x) parent (index_of ts x) b in IsUnder ts b.node c × (inside ts x c.node ≡ 0)
+moves-removal {parent} ts x u e b h =
     which_way P (is_inclusive_ancestor ts x b.node) (at parent (index_of ts x))
     (if name_eq b.node parent && nat_lt (index_of ts x) b.offset then at parent (b.offset - 1) else b)
     (λ t. ((times-has_node ts parent (parent-there ts x parent e), root-parent_of ts u x parent e ∙ root-one ts u x b.node t), parent-apart ts x parent u e))

@@ -67,9 +67,9 @@ pub grow-with_part : (w : World) (p : Part) (o : Owner) → p.owner ≡ o → Gr
 grow-with_part w p o e g = each-part (λ x q. Grows (part_of w x).trees q.trees) w p o e g (λ x y h. h)
 
 -- a world in which all parts have grown
-pub frame-grown : (w v : World) → AllGrow w v → ((o : Owner) → HasTables (part_of v o)) → ((o : Owner) → HasRecords (part_of v o)) →
+pub frame-grown : {w : World} (v : World) → AllGrow w v → ((o : Owner) → HasTables (part_of v o)) → ((o : Owner) → HasRecords (part_of v o)) →
     AllByRecursion (IsNodeAt w) v.signalled → Frame w → Frame v
-frame-grown w v g t r s f = record {
+frame-grown {w} v g t r s f = record {
   tables = t;
   records = r;
   first = g Page (node_of Page 0) f.first;
@@ -81,7 +81,7 @@ module _ (w : World) (p : Part) (o : Owner) (e : p.owner ≡ o) where
   -- another part
   pub frame-with_part : HasTables p → HasRecords p → Grows (part_of w o).trees p.trees → Frame w → Frame (with_part w p)
   frame-with_part h r g f =
-      frame-grown w (with_part w p) (grow-with_part w p o e g) (each-part (λ x q. HasTables q) w p o e h f.tables)
+      frame-grown (with_part w p) (grow-with_part w p o e g) (each-part (λ x q. HasTables q) w p o e h f.tables)
       (each-part (λ x q. HasRecords q) w p o e r f.records) f.signalled f
 
   -- with its hosts
@@ -175,9 +175,9 @@ bare-at w s is_move h =
     element-there (trees_with w s) s (and_parts (is_element (node_at w s).kind) _ slot.0).0
 
 -- all that is signalled
-signals-at : (was now : World) → Ground was → Ground now → AllGrow was now → (x around : NodeName) (is_move : Bool) →
+signals-at : {was now : World} → Ground was → Ground now → AllGrow was now → (x around : NodeName) (is_move : Bool) →
     AllByRecursion (IsNodeAt now) (signals was now x around is_move)
-signals-at was now g h grow x around is_move =
+signals-at {was} {now} g h grow x around is_move =
     let P = IsNodeAt now in
     let bare : List NodeName = if is_move && is_bare_slot now around then around ∷ [] else [] in
     let own = filter (is_changed was now) (own_slots was now x) in
@@ -221,7 +221,7 @@ module _ (o : Owner) (w : World) (s : Step) (h : Suits (part_of w o) s) (g : Gro
   frame-signals x around is_move =
       let now = stepped o w s in
       frame-each_signal (signals w now x around is_move) now
-      (signals-at w now g (ground-stepped o w s g) (grow-stepped o w s h.0 g) x around is_move) (frame-stepped o w s h g f)
+      (signals-at g (ground-stepped o w s g) (grow-stepped o w s h.0 g) x around is_move) (frame-stepped o w s h g f)
 
   -- of a removal
   frame-removal : (x : NodeName) → (parent : Option NodeName) → Frame (with_removal_signals w (stepped o w s) x parent)
@@ -331,10 +331,10 @@ pub part-own_step : (o : Owner) (w : World) (s : Step) → Ground w → Fits (pa
 part-own_step o w s g h = part_of-own_step o w s (step-apart o w s g h)
 
 -- many steps, each of which fits where it is made
-pub frame-world_after : (o : Owner) (steps : List Step) (w : World) → Ground w → MadeIn (part_of w o) steps → TellsIn (part_of w o) steps →
-    Frame w → Frame (world_after o w steps)
-frame-world_after o [] w g h t f = f
-frame-world_after o (s ∷ steps) w g h t f =
+pub frame-world_after : (o : Owner) (steps : List Step) {w : World} → Ground w → MadeIn (part_of w o) steps → TellsIn (part_of w o) steps → Frame w →
+    Frame (world_after o w steps)
+frame-world_after o [] g h t f = f
+frame-world_after o (s ∷ steps) {w} g h t f =
     let own = sym (part-own_step o w s g h.0) in
-    frame-world_after o steps (world_step o w s) (ground-world_step o w s g) (subst (λ p. MadeIn p steps) own h.1)
+    frame-world_after o steps (ground-world_step o w s g) (subst (λ p. MadeIn p steps) own h.1)
     (subst (λ p. TellsIn p steps) own t.1) (frame-world_step o w s (h.0, t.0) g f)

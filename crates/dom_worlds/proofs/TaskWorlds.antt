@@ -36,7 +36,7 @@ at_end-stands w s =
     let f = frame-of w r s.whole in
     let ended : IsReached false v =
     reached-alike v w (λ o. record { trees = refl; count = refl; attached = refl }) (quiet-at_end w (sound w r))
-    (same-people v w (refl, λ x. refl) tt tt r.owners.signalled (people w r)) r in
+    (same-people v (refl, λ x. refl) tt tt r.owners.signalled (people w r)) r in
     record { reached = ended; whole = whole-of v ended (record { tables = f.tables; records = f.records; first = f.first; signalled = f.signalled }) }
 
 -- an owner's signals are taken, and its observers notified
@@ -46,7 +46,7 @@ told-stands w o there s =
     let p = notified (part_of w o) in
     let v = with_part base p in
     let r = s.reached in
-    let calm = same-people base w (refl, λ x. refl) r.owners.turn r.owners.tasks
+    let calm = same-people base (refl, λ x. refl) r.owners.turn r.owners.tasks
     (all-filter (λ x. IsThere w x.owner) (λ x. not (is_owned_by o x)) w.signalled r.owners.signalled) (people w r) in
     let told : IsReached false v =
     reached-alike v w (alike-with_part base p o (owner-part_of w o) (record { trees = refl; count = refl; attached = refl }))

@@ -15,13 +15,13 @@ use Rattle.dom_model.specs.Tree.{inclusive_ancestors, on_top, names_of, roots}
 use Rattle.dom_model.specs.TreeChanges.{followed_by, with_name, with_node, with_data_replaced}
 use Rattle.dom_model.specs.Output.{child_list, character_data}
 use Rattle.dom_model.specs.Part.{Part, next_name}
-use Rattle.dom_model.specs.Steps.{Step, make, split_at, join_at, replace_data, queue_record, part_step, after}
+use Rattle.dom_model.specs.Steps.{Step, make, split_at, replace_data, queue_record, part_step, after}
 use Rattle.dom_model.specs.Changes.{Plan, ◌and_then◌, in_turn, doing, steps_of, only_if, observed, suppressed, removing, document_below, inserting}
 use Rattle.dom_model.specs.TextChanges.{replacing_data, new_text_node, replacing_all_data, placing_tail, splitting, texts_after, joins, joining}
 use Rattle.dom_model.specs.TextChanges.{normalizing_text, normalizing, replacing_children, setting_text}
 use Rattle.dom_model.proofs.OwnerLaws.{name_eq-same, name_eq-turned}
 use Rattle.dom_worlds.specs.Worlds.{times_among, IsPart}
-use Rattle.dom_worlds.proofs.Bounds.{nowhere, HasRoom, room-make, room-record, room-split, room-join, length-replaced, length-like}
+use Rattle.dom_worlds.proofs.Bounds.{IsRoomy, nowhere, HasRoom, room-make, room-record, room-split, room-join, length-replaced, length-like}
 use Rattle.dom_worlds.proofs.ChildCounts.{kids, index-below}
 use Rattle.dom_worlds.proofs.NodesRead.{node-with_node, node-new, node-map_nodes, length-data, length-kids}
 use Rattle.dom_worlds.proofs.Lists.{all-dropped, all-then, all-from, all-filter, all-take_while, all-passed}
@@ -30,9 +30,10 @@ use Rattle.dom_worlds.proofs.PartSteps.{some-keeps, next-absent}
 use Rattle.dom_worlds.proofs.PlanBounds.{room-then, room-plan, room-removing, room-removals, room-inserting, room-replacing_data, IsOpen}
 use Rattle.dom_worlds.proofs.PlanBounds.{open-still}
 use Rattle.dom_worlds.proofs.PlacedBounds.{texts-inserting, kids-plain}
-use Rattle.dom_worlds.proofs.PlanPlaces.{LeadsEach, Changed, Leads, MayGo, may-still, still, after-append, leads-then, leads-eased, leads-nothing, leads-one}
+use Rattle.dom_worlds.proofs.PlanPlaces.{LeadsEach, Changed, MayGo, may-still, still, after-append, leads-then, leads-eased, leads-one}
 use Rattle.dom_worlds.proofs.PlanPlaces.{leads-inserting}
-use Rattle.dom_worlds.proofs.PlanTexts.{MayFollow, may-follow, texts-beside, next-not, new-there, new-may, descend-there, leads-removals}
+use Rattle.dom_worlds.proofs.PlanTexts.{IsReplaced, replaced-by, MayFollow, may-follow, texts-beside, next-not, new-there, descend-there}
+use Rattle.dom_worlds.proofs.PlanTexts.{leads-removals}
 use Rattle.dom_worlds.proofs.PlanTexts.{leads-tail, leads-joins, leads-replacing_data, leads-normalizing_text}
 use Rattle.dom_worlds.proofs.TableSteps.{HasNode}
 use Rattle.dom_worlds.proofs.TableRecords.{all-kept}
@@ -91,11 +92,10 @@ record IsTail (p : Part) (x : NodeName) (offset : ℕ) (q : Part) (new : NodeNam
   root : HasRoot q.trees new
 
 -- the steps that place it
-room-tail : (p : Part) (x : NodeName) (offset : ℕ) (q : Part) (new : NodeName) (o : Option NodeName) → parent_of q.trees x ≡ o →
-    IsTail p x offset q new → ((parent : NodeName) → o ≡ Some parent → MayFollow x parent q new) →
-    HasRoom nowhere (after q (placing_tail x offset new o q))
-room-tail p x offset q new None e t m = t.room
-room-tail p x offset q new (Some parent) e t m =
+room-tail : {p : Part} {x : NodeName} {offset : ℕ} {q : Part} {new : NodeName} {o : Option NodeName} → parent_of q.trees x ≡ o → IsTail p x offset q new →
+    ((parent : NodeName) → o ≡ Some parent → MayFollow x parent q new) → HasRoom nowhere (after q (placing_tail x offset new o q))
+room-tail {o = None} e t m = t.room
+room-tail {x} {offset} {q} {new} {o = Some parent} e t m =
     let index = index_of q.trees x in
     let before = next_sibling q.trees x in
     let steps = inserting observed new parent before q in
@@ -106,15 +106,16 @@ room-tail p x offset q new (Some parent) e t m =
     let c = (leads-inserting observed new parent before q t.part may).changed in
     let more = kids-plain observed new parent before q t.part may t.root t.plain in
     room-then nowhere q steps (split_at x offset new parent index ∷ [])
-    (room-split r x offset new parent index (sizes r steps c may)
-    (let size = lengths r c may opened in omega arith) (room-inserting observed new parent before q t.part may opened t.room))
+    (room-split x offset new parent index (sizes r steps c may)
+    (let size = lengths r c may opened in omega arith)
+    (room-inserting observed before (record { part = t.part; room = t.room }) (record { go = may; open_parent = opened })))
   where
     sizes : (r : Part) (steps : List Step) → Changed (Some parent) q (after q (inserting observed new parent (next_sibling q.trees x) q)) →
         MayGo parent q new → length_of (after q (inserting observed new parent (next_sibling q.trees x) q)).trees x ≤ offset + length_of
         (after q (inserting observed new parent (next_sibling q.trees x) q)).trees new
     sizes r steps c may =
         let s = after q (inserting observed new parent (next_sibling q.trees x) q) in
-        let texts = texts-inserting observed new parent (next_sibling q.trees x) q t.part may in
+        let texts = texts-inserting observed (next_sibling q.trees x) t.part may in
         let a = length-data s.trees x (ap has_data (c.kinds x t.there) ∙ t.text) in
         let b = length-data s.trees new (ap has_data (c.kinds new t.new_there) ∙ t.new_text) in
         let d = ap (λ (s : DomString). length s) (texts x t.there) in
@@ -128,20 +129,20 @@ room-tail p x offset q new (Some parent) e t m =
         (open-still c parent may.below opened)
 
 -- a split
-pub room-splitting : (x : NodeName) (offset : ℕ) (p : Part) → IsPart p → HasNode p x → has_data (kind_of p.trees x) ≡ true → HasRoom nowhere p →
+pub room-splitting : {p : Part} (x : NodeName) (offset : ℕ) → IsRoomy nowhere p → HasNode p x → has_data (kind_of p.trees x) ≡ true →
     HasRoom nowhere (after p (splitting x offset p))
-room-splitting x offset p i t k h =
+room-splitting {p} x offset w t k =
     let old = node_in p.trees x in
     let new = next_name p in
     let tail = new_text_node new old.document (drop offset old.text) in
     let spot = parent_of p.trees x in
-    let first = leads-one p (make tail) i tt in
+    let first = leads-one p (make tail) w.part tt in
     let q = part_step p (make tail) in
-    let other = next-not p i x t in
-    let same : node_in q.trees x ≡ old = node-with_node (with_name new tail) p.trees x i.unique t other in
-    let made : node_in q.trees new ≡ with_name new tail = node-new (with_name new tail) p.trees (next-absent p i) in
+    let other = next-not p w.part x t in
+    let same : node_in q.trees x ≡ old = node-with_node (with_name new tail) p.trees x w.part.unique t other in
+    let made : node_in q.trees new ≡ with_name new tail = node-new (with_name new tail) p.trees (next-absent p w.part) in
     let is : IsTail p x offset q new = record {
-      room = room-make nowhere p tail i h;
+      room = room-make nowhere p tail w.part w.room;
       part = first.changed.part;
       there = still first.changed x t;
       text = ap (λ (n : Node). has_data n.kind) same ∙ k;
@@ -152,12 +153,12 @@ room-splitting x offset p i t k h =
           length-drop offset old.text in omega arith;
       root = root-put_root_new new (tree (with_name new tail) none none) p.trees new (root-first (with_name new tail) none none new (name_eq-same new));
     } in
-    let may = λ (parent : NodeName) (e : spot ≡ Some parent). may-follow p tail x parent i refl e in
-    room-plan spot (doing (make tail) and_then placing_tail x offset new spot) (replacing_data x offset (length old.text - offset) []) p
+    let may = λ (parent : NodeName) (e : spot ≡ Some parent). may-follow tail x w.part refl e in
+    room-plan (doing (make tail) and_then placing_tail x offset new spot) (replacing_data x offset (length old.text - offset) [])
     (leads-then spot p (make tail ∷ []) (placing_tail x offset new spot q) (leads-eased spot p (make tail ∷ []) first)
-    (leads-tail x offset new spot q first.changed.part (new-there p tail) may))
-    (room-tail p x offset q new spot (parent-with_node (with_name new tail) p.trees x other) is may)
-    (λ r c g. room-replacing_data x offset (length old.text - offset) [] r c.part (ap has_data (c.kinds x t) ∙ k) g)
+    (leads-tail offset spot first.changed.part (new-there p tail) may))
+    (room-tail (parent-with_node (with_name new tail) p.trees x other) is may)
+    (λ r c g. room-replacing_data x offset (length old.text - offset) [] (record { part = c.part; room = g }) (ap has_data (c.kinds x t) ∙ k))
 
 -- Units of a node that are replaced.
 module _ (p : Part) (x : NodeName) (offset count : ℕ) (new : DomString) where
@@ -191,12 +192,12 @@ total-texts ts (y ∷ ys) h =
     total-texts ts ys h.1 in omega arith
 
 -- joins into a Text that is long enough
-room-joins : (ts : Trees) (x parent : NodeName) (size : ℕ) (ys : List NodeName) (q : Part) → size + total ts ys ≤ length_of q.trees x →
+room-joins : (ts : Trees) (x parent : NodeName) (size : ℕ) (ys : List NodeName) {q : Part} → size + total ts ys ≤ length_of q.trees x →
     AllByRecursion (λ y. length_of q.trees y ≡ length_of ts y) ys → HasRoom nowhere q → HasRoom nowhere (after q (joins ts x parent size ys))
-room-joins ts x parent size [] q a b h = h
-room-joins ts x parent size (y ∷ ys) q a b h =
-    room-joins ts x parent (size + length_of ts y) ys (part_step q (join_at x size y parent (index_of ts y))) (omega arith) b.1
-    (room-join q x size y parent (index_of ts y) (let b0 = b.0 in omega arith) h)
+room-joins ts x parent size [] a b h = h
+room-joins ts x parent size (y ∷ ys) {q} a b h =
+    room-joins ts x parent (size + length_of ts y) ys (omega arith) b.1
+    (room-join x size y parent (index_of ts y) (let b0 = b.0 in omega arith) h)
 
 -- a name that is not among some differs from each
 pub none-among : (x : NodeName) (xs : List NodeName) → times_among xs x ≡ 0 → AllByRecursion (λ y. name_eq x y ≡ false) xs
@@ -284,14 +285,13 @@ module _ (x parent : NodeName) (p : Part) (i : IsPart p) (t : HasNode p x) (k : 
       let nexts = texts_after ts x in
       let size = length_of ts x in
       let all = flat_map (λ y. (node_in ts y).text) nexts in
-      let q = after p (replacing_data x size 0 all p) in
       let fits = joining-fits in
-      room-plan None (replacing_data x size 0 all and_then steps_of (joins ts x parent size nexts)) (in_turn (removing observed) nexts) p
+      room-plan (replacing_data x size 0 all and_then steps_of (joins ts x parent size nexts)) (in_turn (removing observed) nexts)
       (leads-then None p (replacing_data x size 0 all p) (joins ts x parent size nexts) (leads-replacing_data x size 0 all p i)
-      (leads-joins ts x parent size nexts q (leads-replacing_data x size 0 all p i).changed.part
-      (still (leads-replacing_data x size 0 all p i).changed x t) (texts-beside x parent size all p i e)))
+      (leads-joins ts x parent size nexts (leads-replacing_data x size 0 all p i).changed.part
+      (still (leads-replacing_data x size 0 all p i).changed x t) (texts-beside x size all i e)))
       (room-then nowhere p (replacing_data x size 0 all p) (joins ts x parent size nexts)
-      (room-joins ts x parent size nexts q fits.0 fits.1 (room-replacing_data x size 0 all p i k h)))
+      (room-joins ts x parent size nexts fits.0 fits.1 (room-replacing_data x size 0 all (record { part = i; room = h }) k)))
       (λ r c g. room-removals nowhere observed nexts r c.part g)
 
 -- Plans for items that lead on, each of which keeps room.
@@ -336,10 +336,12 @@ room-normalizing x p i h =
     (all-kept (HasNode p) is (descendants p.trees x) (all-dropped (HasNode p) (inclusive_descendants p.trees x) (descend-there p.trees x))) h
 
 -- Text content.
-room-replaced : (x : NodeName) (p : Part) (made : List Step) (old added : List NodeName) → Leads (Some x) p made →
-    AllByRecursion (MayGo x (after p made)) added → HasNode p x → IsOpen p x → HasRoom nowhere (after p made) →
+room-replaced : {x : NodeName} {made : List Step} {added : List NodeName} {p : Part} (old : List NodeName) → IsReplaced x made added p → IsOpen p x →
+    HasRoom nowhere (after p made) →
     HasRoom nowhere (after p ((steps_of made and_then in_turn (removing suppressed) old and_then in_turn (λ y. inserting suppressed y x None) added) p))
-room-replaced x p made old added a m t k h =
+room-replaced {x} {made} {added} {p} old m k h =
+    let a = m.leads in
+    let t = m.there in
     let spot = Some x in
     let q = after p made in
     let gone = in_turn (removing suppressed) old q in
@@ -355,9 +357,10 @@ room-replaced x p made old added a m t k h =
       stays = λ q r y c n. (may-still x q r y c n.0, still c x n.1, open-still c x n.1 n.2);
     } in
     let open_r = open-still c x there (open-still a.changed x t k) in
-    let may = all-then (MayGo x q) (MayGoIn r) (λ y n. (may-still x q r y c n, still c x there, open_r)) added m in
+    let may = all-then (MayGo x q) (MayGoIn r) (λ y n. (may-still x q r y c n, still c x there, open_r)) added m.may in
     room-then nowhere p (made ++ gone) (in_turn (λ y. inserting suppressed y x None) added r)
-    (room-turns each (λ q y j n g. room-inserting suppressed y x None q j n.0 n.2 g) added r c.part may room_r)
+    (room-turns each (λ q y j n g. room-inserting suppressed None (record { part = j; room = g })
+    (record { go = n.0; open_parent = n.2 })) added r c.part may room_r)
 
 -- A node that gets a text.
 module _ (x : NodeName) (new : DomString) (p : Part) (i : IsPart p) (t : HasNode p x) where
@@ -369,29 +372,22 @@ module _ (x : NodeName) (new : DomString) (p : Part) (i : IsPart p) (t : HasNode
       let node = λ (y : NodeName). new_text_node y (Some (document_below p.trees x)) new in
       let record_of = child_list x added old None None in
       let told = only_if (not (is_empty old && is_empty new)) (queue_record record_of) in
-      let m = from node (is_empty new) in
       let made = map (λ y. make (node y)) added in
       let put = (steps_of made and_then in_turn (removing suppressed) old and_then in_turn (λ y. inserting suppressed y x None) added) p in
-      let g = room-replaced x p made old added m.0 m.1 t k m.2 in
+      let g = room-replaced old (replaced-by x node p i t (is_empty new)) k (made_room node (is_empty new)) in
       room-then nowhere p put told
       (either_way (λ steps. HasRoom nowhere (after (after p put) steps)) (not (is_empty old && is_empty new)) (queue_record record_of ∷ []) []
       (room-record nowhere (after p put) record_of g) g)
     where
-      from : (node : NodeName → Node) (b : Bool) → let added : List NodeName =
-          if b then [] else next_name p ∷ [] in Leads (Some x) p (map (λ y. make (node y)) added) ×
-          AllByRecursion (MayGo x (after p (map (λ y. make (node y)) added))) added × HasRoom nowhere (after p (map (λ y. make (node y)) added))
-      from node true = (leads-nothing (Some x) p i, tt, h)
-      from node false = (
-        leads-eased (Some x) p (make (node (next_name p)) ∷ []) (leads-one p (make (node (next_name p))) i tt),
-        (new-may p (node (next_name p)) x i t, tt),
-        room-make nowhere p (node (next_name p)) i h,
-      )
+      made_room : (node : NodeName → Node) (b : Bool) → HasRoom nowhere (after p (map (λ y. make (node y)) (if b then [] else next_name p ∷ [])))
+      made_room node true = h
+      made_room node false = room-make nowhere p (node (next_name p)) i h
 
   -- text content
   pub room-setting_text : HasRoom nowhere p → HasRoom nowhere (after p (setting_text x new p))
   room-setting_text h =
       Rattle.dom_worlds.proofs.Tests.which_way (λ steps. HasRoom nowhere (after p steps)) (has_data (kind_of p.trees x))
       (replacing_all_data x new p) (if is_document (kind_of p.trees x) then [] else replacing_children x new p)
-      (λ e. room-replacing_data x 0 (length_of p.trees x) new p i e h)
+      (λ e. room-replacing_data x 0 (length_of p.trees x) new (record { part = i; room = h }) e)
       (λ e. either_way (λ steps. HasRoom nowhere (after p steps)) (is_document (kind_of p.trees x)) [] (replacing_children x new p) h
       (room-replacing_children e h))

@@ -132,6 +132,10 @@ IsUnique ts = (x : NodeName) → times_in ts x ≤ 1
 pub unique-rest : (n : Node) (c r : Trees) → IsUnique (tree n c r) → IsUnique r
 unique-rest n c r u x = let g = times-parts n c r x in let h = u x in omega arith
 
+-- nor is one below it
+pub unique-below : (n : Node) (c r : Trees) → IsUnique (tree n c r) → IsUnique c
+unique-below n c r u x = let m = times-more n c r x in let h = u x in omega arith
+
 -- what holds of each, taken together
 pub all-both : (P Q : NodeName → Type 0) (xs : List NodeName) → AllByRecursion P xs → AllByRecursion Q xs → AllByRecursion (λ x. P x × Q x) xs
 all-both P Q [] h g = tt

@@ -42,7 +42,7 @@ world-dispatch w x related e i =
     let start : InWorld = (w, begun []) in
     let end = fold (world_visit e) start vs in
     let rest = rest-visits e vs start in
-    world-alike end.0 w (alike-dispatch w x related e) (there-visits e vs start Page)
+    world-alike end.0 (alike-dispatch w x related e) (there-visits e vs start Page)
     (subst (λ (v : World). AllByRecursion (IsForeignTo Page) v.signalled) (sym rest) i.signalled)
     (subst (λ (v : World). is_page_turn v.turn ≡ false → filter is_page_task v.tasks ≡ []) (sym rest) i.tasks) i
 
@@ -77,7 +77,7 @@ module _ {only_log : Bool} where
       let base = without_signals w o in
       let p = notified (part_of w o) in
       record {
-        world = world-alike (told_in w o) w (alike-told w o) (there-with_part base p Page)
+        world = world-alike (told_in w o) (alike-told w o) (there-with_part base p Page)
             (all-filter (IsForeignTo Page) (λ s. not (is_owned_by o s)) w.signalled q.world.signalled) q.world.tasks q.world;
         logs = λ y. logs-same (told_in w o) w (listeners-with_part base p o (owner-part_of w o) refl) (q.logs y);
       }
@@ -103,7 +103,7 @@ module _ {only_log : Bool} where
   pub quiet-at_end : (w : World) → Invariant only_log w → Invariant only_log (at_end w)
   quiet-at_end w q =
       record {
-        world = world-alike (at_end w) w (λ o. record { trees = refl; count = refl; attached = refl }) (λ h. h) q.world.signalled
+        world = world-alike (at_end w) (λ o. record { trees = refl; count = refl; attached = refl }) (λ h. h) q.world.signalled
             (λ h. refl) q.world;
         logs = q.logs;
       }

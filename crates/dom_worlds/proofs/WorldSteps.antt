@@ -93,7 +93,7 @@ module _ {only_log : Bool} where
   quiet-with_signal : (w : World) (s : NodeName) → IsForeignTo Page s → Invariant only_log w → Invariant only_log (with_signal w s)
   quiet-with_signal w s f q =
       record {
-        world = world-alike (with_signal w s) w (λ o. record { trees = refl; count = refl; attached = refl }) (λ h. h)
+        world = world-alike (with_signal w s) (λ o. record { trees = refl; count = refl; attached = refl }) (λ h. h)
             (by_cases (is_in name_eq s w.signalled)
             (λ e. subst (AllByRecursion (IsForeignTo Page))
             (sym (cond-true (is_in name_eq s w.signalled) w.signalled (w.signalled ++ s ∷ []) e)) q.world.signalled)
@@ -132,7 +132,7 @@ module _ {only_log : Bool} where
   quiet-notify false o w t q = q
   quiet-notify true o w t q =
       record {
-        world = world-alike (with_notify w o) w (λ x. record { trees = refl; count = refl; attached = refl }) (λ h. h) q.world.signalled
+        world = world-alike (with_notify w o) (λ x. record { trees = refl; count = refl; attached = refl }) (λ h. h) q.world.signalled
             (tasks o t) q.world;
         logs = q.logs;
       }

@@ -37,7 +37,7 @@ loop-at-preserved c =
     record {
       node = c.element_before-at-in-Some.ensures.node;
       above = λ j e. step.1 j e ∙ c.loop-at.invariant.above c.in-Some.before c.in-Some.is;
-      left = earlier_passed f (complex_matches f.trees (complex_from c.args.first.now c.args.links.now)) c.in-Some.before c.loop-at.at
+      left = earlier_passed f (complex_matches f.trees (complex_from c.args.first.now c.args.links.now))
           c.element_before-at-in-Some.result c.in-Some.is c.in_default-chain_end.ensures.ends step.0 ∙ c.loop-at.invariant.left;
     }
 
@@ -45,9 +45,7 @@ pub returns-in-Some-chain_end-clause-ends : goal.returns-in-Some-chain_end-claus
 returns-in-Some-chain_end-clause-ends c =
     let f = c.args.forest.now in
     let whole = complex_from c.args.first.now c.args.links.now in
-    let end = c.in-Some-chain_end.end in
-    chain-before f.trees whole (complex_from c.args.first.now end.links.now) (name_at f.names c.args.key) (name_at f.names c.in-Some.before)
-    (name_at f.names end.key)
+    chain-before (name_at f.names c.args.key)
     (c.loop-at.invariant.above c.in-Some.before c.in-Some.is)
     (sym (ap (λ o. list_any (complex_matches f.trees whole) (elements_upto f.trees (option_map (name_at f.names) o))) c.in-Some.is) ∙ c.loop-at.invariant.left)
     c.in-Some-chain_end.ensures.ends

@@ -52,7 +52,7 @@ loop-last-preserved c =
           record {
             node = w.parent-next.ensures.node c.in_ok-at.at to;
             shorter = omega (arith, fewer);
-            leads = leads-on f.trees all whole left (name_at f.names c.args.key) x z c.loop-last.invariant.leads
+            leads = leads-on c.loop-last.invariant.leads
                 (to_parent f.trees whole left k x once has hit z (is ∙ ap (λ h. joined left (combinator_view h) k) w.in-Child.is)
                 (sym w.parent-next.ensures.value ∙ ap (option_map (name_at f.names)) to));
           }
@@ -61,7 +61,7 @@ loop-last-preserved c =
           record {
             node = w.element_before-next.ensures.node c.in_ok-at.at to;
             shorter = omega (arith, fewer);
-            leads = leads-on f.trees all whole left (name_at f.names c.args.key) x z c.loop-last.invariant.leads
+            leads = leads-on c.loop-last.invariant.leads
                 (to_nearest f.trees whole left k x once has hit z (is ∙ ap (λ h. joined left (combinator_view h) k) w.in-Next.is)
                 (sym w.element_before-next.ensures.value ∙ ap (option_map (name_at f.names)) to));
           }
@@ -72,13 +72,12 @@ returns-in-Descendant-clause-ends c =
     let f = c.args.forest.now in
     let x = name_at f.names c.loop-last.at in
     let last = c.in-Some.last.now in
-    let whole = complex_from c.args.first.now c.loop-last.rest.now in
     let k = compound_view last.compound.items in
     let is = last-joined c.args.first.now c.loop-last.rest.now c.in-Some.left.now last c.in-Some.ensures.cases.0 in
     let hit : compound_matches f.trees k x ≡ true =
     ap (λ ps. compound_matches f.trees (compound_view ps) x) (sym c.as_slice.ensures.value) ∙
     (sym c.compound_matches.ensures ∙ c.if-not-compound_matches.false) in
-    chain-ends f.trees (complex_from c.args.first.now c.args.links.now) whole (name_at f.names c.args.key) x
+    chain-ends
     (Once-forest f c.nodes_stand_once.ensures.once c.nodes_stand_once.ensures.only)
     (Has-forest f c.nodes_stand_once.ensures.once c.loop-last.at c.loop-last.invariant.node)
     c.loop-last.invariant.leads
@@ -132,7 +131,7 @@ pub returns-clause-ends : goal.returns-clause-ends
 returns-clause-ends c =
     let f = c.args.forest.now in
     let x = name_at f.names c.loop-last.at in
-    chain-ends f.trees (complex_from c.args.first.now c.args.links.now) (complex_from c.args.first.now c.loop-last.rest.now) (name_at f.names c.args.key) x
+    chain-ends
     (Once-forest f c.nodes_stand_once.ensures.once c.nodes_stand_once.ensures.only)
     (Has-forest f c.nodes_stand_once.ensures.once c.loop-last.at c.loop-last.invariant.node)
     c.loop-last.invariant.leads

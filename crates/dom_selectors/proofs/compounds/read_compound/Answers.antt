@@ -1,6 +1,5 @@
 -- Some parts were read.
 use Rattle.std.proofs.Common.{arith}
-use Rattle.std.specs.Prelude.{map}
 use Rattle.dom_selectors.specs.Views.{part_view}
 use Rattle.dom_selectors.proofs.FoundCompounds.{parts_found}
 use Rattle.dom_selectors.proofs.compounds.read_compound.Goals as goal
@@ -9,5 +8,5 @@ pub returns : goal.returns
 returns c =
     let empty = c.is_empty.ensures in
     let other = c.if-is_empty.false in
-    parts_found part_view c.args.units.now c.in_ok-typed.rest.now c.in_ok-parts.rest.now (map part_view c.in_ok-typed.typed.items) c.in_ok-parts.parts.items
+    parts_found part_view c.args.units.now c.in_ok-parts.parts.items
     c.in_ok-typed.ensures c.in_ok-parts.ensures (λ h. grind (arith, h, empty, other))

@@ -22,7 +22,7 @@ loop-links-preserved c =
     let g = c.in-Some.is in
     let e : read_link c.loop-links.rest.now ≡ Some (link_view c.in-Some.link, c.in-Some.behind.now) = grind arith in
     ap (λ xs. behind_list (map link_view xs) (read_all read_link c.in-Some.behind.now)) c.in_ok-push.ensures.items
-    ∙ one_more read_link link-ends link_view c.loop-links.links.items c.in-Some.link c.loop-links.rest.now c.in-Some.behind.now e
+    ∙ one_more link-ends link_view c.loop-links.links.items c.in-Some.link c.loop-links.rest.now e
     ∙ c.loop-links.invariant
 
 pub returns : goal.returns

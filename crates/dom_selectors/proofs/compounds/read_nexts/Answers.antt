@@ -21,5 +21,5 @@ loop-complexes-preserved c =
     let g = c.in-Some.is in
     let e : read_next c.loop-complexes.rest.now ≡ Some (complex_view c.in-Some.complex, c.in-Some.behind.now) = grind arith in
     ap (λ xs. behind_list (map complex_view xs) (read_all read_next c.in-Some.behind.now)) c.in_ok-push-2.ensures.items
-    ∙ one_more read_next next-ends complex_view c.loop-complexes.complexes.items c.in-Some.complex c.loop-complexes.rest.now c.in-Some.behind.now e
+    ∙ one_more next-ends complex_view c.loop-complexes.complexes.items c.in-Some.complex c.loop-complexes.rest.now e
     ∙ c.loop-complexes.invariant

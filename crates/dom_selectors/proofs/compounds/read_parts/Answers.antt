@@ -21,5 +21,5 @@ loop-parts-preserved c =
     let g = c.in-Some.is in
     let e : read_part c.loop-parts.rest.now ≡ Some (part_view c.in-Some.part, c.in-Some.behind.now) = grind arith in
     ap (λ xs. behind_list (map part_view xs) (read_all read_part c.in-Some.behind.now)) c.in_ok-push.ensures.items
-    ∙ one_more read_part part-ends part_view c.loop-parts.parts.items c.in-Some.part c.loop-parts.rest.now c.in-Some.behind.now e
+    ∙ one_more part-ends part_view c.loop-parts.parts.items c.in-Some.part c.loop-parts.rest.now e
     ∙ c.loop-parts.invariant

@@ -1,6 +1,5 @@
 -- Some simple selectors were read.
 use Rattle.std.proofs.Common.{arith}
-use Rattle.std.specs.Prelude.{map}
 use Rattle.dom_selectors.specs.Views.{simple_view}
 use Rattle.dom_selectors.proofs.FoundCompounds.{simples_found}
 use Rattle.dom_selectors.proofs.compounds.read_simple_compound.Goals as goal
@@ -9,6 +8,6 @@ pub returns : goal.returns
 returns c =
     let empty = c.is_empty.ensures in
     let other = c.if-is_empty.false in
-    simples_found simple_view c.args.units.now c.in_ok-typed.rest.now c.in_ok-simples.rest.now (map simple_view c.in_ok-typed.typed.items)
+    simples_found simple_view c.args.units.now
     c.in_ok-simples.simples.items
     c.in_ok-typed.ensures c.in_ok-simples.ensures (λ h. grind (arith, h, empty, other))

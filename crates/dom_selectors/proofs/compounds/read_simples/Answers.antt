@@ -21,5 +21,5 @@ loop-simples-preserved c =
     let g = c.in-Some.is in
     let e : read_simple c.loop-simples.rest.now ≡ Some (simple_view c.in-Some.simple, c.in-Some.behind.now) = grind arith in
     ap (λ xs. behind_list (map simple_view xs) (read_all read_simple c.in-Some.behind.now)) c.in_ok-push.ensures.items
-    ∙ one_more read_simple simple-ends simple_view c.loop-simples.simples.items c.in-Some.simple c.loop-simples.rest.now c.in-Some.behind.now e
+    ∙ one_more simple-ends simple_view c.loop-simples.simples.items c.in-Some.simple c.loop-simples.rest.now e
     ∙ c.loop-simples.invariant

@@ -6,7 +6,7 @@ use Rattle.dom_selectors.specs.declared.selector.CompoundPart.{CompoundPart}
 use Rattle.dom_selectors.specs.declared.selector.Link.{Link}
 use Rattle.dom_selectors.specs.declared.selector.Complex.{Complex}
 use Rattle.dom_selectors.specs.Search.{IsDescendant, StopsAt}
-use Rattle.dom_selectors.specs.Views.{compound_view, combinator_view, complex_from, complex_view}
+use Rattle.dom_selectors.specs.Views.{complex_from, complex_view}
 use Rattle.dom_selectors.proofs.JoinedLaws.{last-joined, no-links}
 use Rattle.dom_selectors.proofs.Searches.{goes-above, none-above}
 use Rattle.dom_selectors.proofs.joined.complex_matches.Goals as goal
@@ -30,19 +30,16 @@ loop-left-init c =
 
 pub loop-left-preserved : goal.loop-left-preserved
 loop-left-preserved c =
-    let f = c.args.forest.now in
     let first = c.as_slice-first.result.now in
     let end = c.loop-left.end in
     let last = c.in-Some-split_last.field-0-0.now in
-    let next = c.in-Some-segment_above.next in
     let is = last-joined first end.links.now c.in-Some-split_last.left.now last c.in-Some-split_last.ensures.cases.0 in
     record {
       node = c.in-Some-segment_above.ensures.node;
       same =
           c.loop-left.invariant.same
-          ∙ goes-above f.trees (complex_from first end.links.now) (complex_from first c.in-Some-split_last.left.now)
-          (complex_from first next.links.now) (combinator_view last.combinator) (compound_view last.compound.items) (name_at f.names end.key)
-          (name_at f.names next.key) is c.loop-left.invariant.stops c.in-Some-segment_above.ensures.ends;
+          ∙ goes-above
+          is c.loop-left.invariant.stops c.in-Some-segment_above.ensures.ends;
       stops = c.in-Some-segment_above.ensures.ends.stops;
     }
 
@@ -54,8 +51,8 @@ returns-in_default-segment_above c =
     let last = c.in-Some-split_last.field-0-0.now in
     let is = last-joined first end.links.now c.in-Some-split_last.left.now last c.in-Some-split_last.ensures.cases.0 in
     sym (c.loop-left.invariant.same
-    ∙ none-above f.trees (complex_from first end.links.now) (complex_from first c.in-Some-split_last.left.now) (combinator_view last.combinator)
-    (compound_view last.compound.items) (name_at f.names end.key) is c.loop-left.invariant.stops c.in_default-segment_above.ensures.ends)
+    ∙ none-above f.trees
+    (name_at f.names end.key) is c.loop-left.invariant.stops c.in_default-segment_above.ensures.ends)
 
 pub returns : goal.returns
 returns c =

@@ -36,7 +36,7 @@ loop-at-preserved c =
     c.parent-at-in-Some.ensures.value in
     record {
       node = c.parent-at-in-Some.ensures.node;
-      left = above_miss f (complex_matches f.trees (complex_from c.args.first.now c.args.links.now)) c.in-Some.above c.loop-at.at
+      left = above_miss f (complex_matches f.trees (complex_from c.args.first.now c.args.links.now))
           c.parent-at-in-Some.result c.in-Some.is c.in_default-segment_end.ensures.ends step ∙ c.loop-at.invariant.left;
     }
 
@@ -44,9 +44,7 @@ pub returns-in-Some-segment_end-clause-ends : goal.returns-in-Some-segment_end-c
 returns-in-Some-segment_end-clause-ends c =
     let f = c.args.forest.now in
     let whole = complex_from c.args.first.now c.args.links.now in
-    let end = c.in-Some-segment_end.end in
-    segment-above f.trees whole (complex_from c.args.first.now end.links.now) (name_at f.names c.args.key) (name_at f.names c.in-Some.above)
-    (name_at f.names end.key)
+    segment-above (name_at f.names c.args.key)
     (Once-forest f c.nodes_stand_once.ensures.once c.nodes_stand_once.ensures.only)
     (Has-forest f c.nodes_stand_once.ensures.once c.in-Some.above (c.loop-at.invariant.node c.in-Some.above c.in-Some.is))
     (sym (ap (λ o. list_any (complex_matches f.trees whole) (from_above f.trees (option_map (name_at f.names) o))) c.in-Some.is) ∙ c.loop-at.invariant.left)

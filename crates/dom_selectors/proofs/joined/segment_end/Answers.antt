@@ -55,20 +55,18 @@ returns-then-not-matches-clause-ends c =
     let f = c.args.forest.now in
     let end = c.loop-last.end in
     let last = c.in-Some-split_last.last.now in
-    let whole = complex_from c.args.first.now end.links.now in
     let z = name_at f.names end.key in
     let other : last.combinator ≡ Later → ⊥ = elim c.match-matches.branch [
       | in-Later w ↦ λ e. true≢false (sym w.matches-is ∙ c.if-not-matches.true)
       | in_default-matches w ↦ w.in_default-matches.not-Later
     ] in
     let is = last-joined c.args.first.now end.links.now c.in-Some-split_last.left.now last c.in-Some-split_last.ensures.cases.0 in
-    segment-ends f.trees (complex_from c.args.first.now c.args.links.now) whole (name_at f.names c.args.key) z c.loop-last.invariant.comes
-    (stops-white f.trees whole (complex_from c.args.first.now c.in-Some-split_last.left.now) (combinator_view last.combinator)
-    (compound_view last.compound.items) z is (no_later last.combinator other) c.loop-last.invariant.comes.stops)
+    segment-ends c.loop-last.invariant.comes
+    (stops-white f.trees
+    z is (no_later last.combinator other) c.loop-last.invariant.comes.stops)
 
 pub returns-in_default-chain_before-clause-ends : goal.returns-in_default-chain_before-clause-ends
 returns-in_default-chain_before-clause-ends c =
-    let f = c.args.forest.now in
     let end = c.loop-last.end in
     let last = c.in-Some-split_last.last.now in
     let left = complex_from c.args.first.now c.in-Some-split_last.left.now in
@@ -84,8 +82,7 @@ pub returns-clause-ends : goal.returns-clause-ends
 returns-clause-ends c =
     let f = c.args.forest.now in
     let end = c.loop-last.end in
-    let whole = complex_from c.args.first.now end.links.now in
     let z = name_at f.names end.key in
     let is = no-links c.args.first.now end.links.now c.in_default-split_last.ensures.cases in
-    segment-ends f.trees (complex_from c.args.first.now c.args.links.now) whole (name_at f.names c.args.key) z c.loop-last.invariant.comes
+    segment-ends c.loop-last.invariant.comes
     (subst (λ d. StopsAt IsDescendant f.trees d z) (sym is) (subst (λ d. StopsAt IsSearched f.trees d z) is c.loop-last.invariant.comes.stops))

@@ -11,7 +11,7 @@ returns c = λ i node at_node placed left.
       root = placed.root;
       reference = record {
         node = placed.reference.node;
-        within = stays f.trees (name_at f.names node) (name_at f.names i.root) (name_at f.names i.reference)
+        within = stays (name_at f.names node)
             (Has-forest f c.nodes_stand_once.ensures.once node at_node)
             (IsWithin-key f c.nodes_stand_once.ensures.once c.nodes_stand_once.ensures.only i.root i.reference placed.reference) left;
       };

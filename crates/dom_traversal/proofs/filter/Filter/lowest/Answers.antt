@@ -2,31 +2,39 @@ use Rattle.std.proofs.Common.{◌≡◌, true, ◌∷◌, refl, sym, ap, ◌∙�
 use Rattle.std.proofs.lemmas.Bool.{and_from}
 use Rattle.dom_base.specs.declared.NodeName.{NodeName}
 use Rattle.dom_model.specs.Tree.{is_inclusive_ancestor}
+use Rattle.std.specs.Option.{option_map}
 use Rattle.dom_tree.specs.Forest.{name_at}
 use Rattle.dom_traversal.specs.Filters.{filter_of}
 use Rattle.dom_traversal.specs.Walkers.{is_entered}
 use Rattle.dom_traversal.proofs.Counts.{above-within, IsWithin-forest, Has-forest}
-use Rattle.dom_traversal.proofs.Backward.{alone-key, descends-key, descends}
+use Rattle.dom_traversal.proofs.Backward.{alone, descends}
+use Rattle.dom_traversal.proofs.Climbing.{none_left}
+use Rattle.dom_traversal.proofs.Searching.{IsWithin-itself}
 use Rattle.dom_traversal.proofs.filter.Filter.lowest.Goals as goal
 
 pub returns-in_default-clause-ends : goal.returns-in_default-clause-ends
 returns-in_default-clause-ends c = λ _.
-    alone-key c.args.forest.now c.nodes_stand_once.ensures.once c.nodes_stand_once.ensures.only c.loop-at.at c.last.result
-    c.loop-at.invariant.node c.last.ensures.value c.in_default.not-Some
+    let f = c.args.forest.now in
+    let x = name_at f.names c.loop-at.at in
+    let own = IsWithin-itself f c.nodes_stand_once.ensures.once c.nodes_stand_once.ensures.only c.loop-at.at c.loop-at.invariant.node in
+    alone f.trees x x own (sym c.last.ensures.value ∙ ap (option_map (name_at f.names)) (none_left c.last.result c.in_default.not-Some))
 
 pub loop-at-smaller : goal.loop-at-smaller
-loop-at-smaller c = (descends-key c.args.forest.now c.nodes_stand_once.ensures.once c.nodes_stand_once.ensures.only c.loop-at.at c.in-Some.last
-    c.loop-at.invariant.node c.in-Some.ensures.value).smaller
+loop-at-smaller c =
+    let f = c.args.forest.now in
+    let x = name_at f.names c.loop-at.at in
+    let own = IsWithin-itself f c.nodes_stand_once.ensures.once c.nodes_stand_once.ensures.only c.loop-at.at c.loop-at.invariant.node in
+    (descends f.trees x x (name_at f.names c.in-Some.last) own (sym c.in-Some.ensures.value)).smaller
 
 pub loop-at-preserved : goal.loop-at-preserved
 loop-at-preserved c =
     let f = c.args.forest.now in
     let x = name_at f.names c.loop-at.at in
     let last = name_at f.names c.in-Some.last in
-    let down = descends-key f c.nodes_stand_once.ensures.once c.nodes_stand_once.ensures.only c.loop-at.at c.in-Some.last c.loop-at.invariant.node
-    c.in-Some.ensures.value in
+    let own = IsWithin-itself f c.nodes_stand_once.ensures.once c.nodes_stand_once.ensures.only c.loop-at.at c.loop-at.invariant.node in
+    let down = descends f.trees x x last own (sym c.in-Some.ensures.value) in
     let in_top = λ (top : NodeName) (above : is_inclusive_ancestor f.trees top (name_at f.names c.args.key) ≡ true). descends f.trees top x last
-    (IsWithin-forest f c.nodes_stand_once.ensures.once c.nodes_stand_once.ensures.only top x
+    (IsWithin-forest f c.nodes_stand_once.ensures.once c.nodes_stand_once.ensures.only
     (Has-forest f c.nodes_stand_once.ensures.once c.loop-at.at c.loop-at.invariant.node) (c.loop-at.invariant.within top above))
     (sym c.in-Some.ensures.value) in
     record {

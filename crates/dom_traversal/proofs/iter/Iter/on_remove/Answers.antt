@@ -66,7 +66,7 @@ returns-in-Some-preceding-clause-kept c =
     let below = below_root f c.nodes_stand_once.ensures.once c.nodes_stand_once.ensures.only c.self.inside.root c.self.inside.reference
     c.args.node placed.reference c.requires.node_is_node (sym c.if-is_inclusive_ancestor.ensures)
     (sym c.if-not-is_inclusive_ancestor.ensures) in
-    let step = preceding_step f c.nodes_stand_once.ensures.once c.nodes_stand_once.ensures.only c.self.inside.root c.args.node
+    let step = preceding_step c.nodes_stand_once.ensures.once c.nodes_stand_once.ensures.only
     (Some c.in-Some-preceding.previous) below c.in-Some-preceding.ensures.value c.in-Some-preceding.ensures.node in
     record { root = placed.root; reference = step.1 c.in-Some-preceding.previous refl }
 

@@ -4,9 +4,8 @@ use Rattle.std.proofs.lemmas.Bool.{eqb-true}
 use Rattle.dom_tree.specs.Forest.{name_at}
 use Rattle.dom_traversal.specs.Filters.{filter_of}
 use Rattle.dom_traversal.specs.Walkers.{KeyedWalker, IsWalkerOf, ComesBack}
-use Rattle.dom_traversal.specs.Within.{StandsIn}
-use Rattle.dom_traversal.proofs.Climbing.{other_key, none_left}
-use Rattle.dom_traversal.proofs.Backward.{StepsBack, steps_root, steps_parent, steps_sibling, sibling-stands}
+use Rattle.dom_traversal.proofs.Climbing.{IsInner, other_key, none_left}
+use Rattle.dom_traversal.proofs.Backward.{IsLowest, StepsBack, steps_root, steps_parent, steps_sibling, sibling-stands}
 use Rattle.dom_traversal.proofs.walker.Walker.back.Goals as goal
 
 pub returns-then-eq-clause-value : goal.returns-then-eq-clause-value
@@ -59,14 +58,17 @@ returns-clause-value c =
     let placed = subst (IsWalkerOf f) (sym c.self.view_is) c.requires.walker in
     let comes = subst (λ (v : KeyedWalker). ComesBack f v c.args.key) (sym c.self.view_is) c.requires.comes in
     let other = other_key f c.nodes_stand_once.ensures.distinct c.args.key c.self.inside.root comes.stands.node placed.root (sym c.if-eq.ensures) in
-    let sibling = sibling-stands f c.nodes_stand_once.ensures.once c.nodes_stand_once.ensures.only c.self.inside.root c.args.key c.in-Some.sibling
-    comes.stands other (c.in-Some.ensures.node c.in-Some.sibling refl) c.in-Some.ensures.value in
-    let low_stands : StandsIn f c.self.inside.root c.lowest.result =
-    record { node = c.lowest.ensures.node; within = c.lowest.ensures.within (name_at f.names c.self.inside.root) sibling.within } in
+    let inner : IsInner f c.self.inside.root c.args.key =
+    record { once = c.nodes_stand_once.ensures.once; only = c.nodes_stand_once.ensures.only; stands = comes.stands; other = other } in
+    let sibling = sibling-stands c.in-Some.sibling inner (c.in-Some.ensures.node c.in-Some.sibling refl) c.in-Some.ensures.value in
+    let low : IsLowest f w c.in-Some.sibling c.lowest.result = record {
+      stands = record { node = c.lowest.ensures.node; within = c.lowest.ensures.within (name_at f.names c.self.inside.root) sibling.within };
+      tree = c.lowest.ensures.tree (name_at f.names c.self.inside.root) sibling.within;
+      ends = c.lowest.ensures.ends;
+      path = c.lowest.ensures.path;
+    } in
     (subst (λ (v : KeyedWalker). StepsBack f v c.args.key (Some c.lowest.result)) c.self.view_is
-    (steps_sibling f c.nodes_stand_once.ensures.once c.nodes_stand_once.ensures.only w c.args.key comes other c.in-Some.sibling c.lowest.result
-    c.in-Some.ensures.value placed.current low_stands (c.lowest.ensures.tree (name_at f.names c.self.inside.root) sibling.within)
-    c.lowest.ensures.ends c.lowest.ensures.path)).value
+    (steps_sibling f c.nodes_stand_once.ensures.once c.nodes_stand_once.ensures.only w c.args.key comes other c.in-Some.ensures.value placed.current low)).value
 
 pub returns-clause-comes : goal.returns-clause-comes
 returns-clause-comes c =
@@ -75,14 +77,17 @@ returns-clause-comes c =
     let placed = subst (IsWalkerOf f) (sym c.self.view_is) c.requires.walker in
     let comes = subst (λ (v : KeyedWalker). ComesBack f v c.args.key) (sym c.self.view_is) c.requires.comes in
     let other = other_key f c.nodes_stand_once.ensures.distinct c.args.key c.self.inside.root comes.stands.node placed.root (sym c.if-eq.ensures) in
-    let sibling = sibling-stands f c.nodes_stand_once.ensures.once c.nodes_stand_once.ensures.only c.self.inside.root c.args.key c.in-Some.sibling
-    comes.stands other (c.in-Some.ensures.node c.in-Some.sibling refl) c.in-Some.ensures.value in
-    let low_stands : StandsIn f c.self.inside.root c.lowest.result =
-    record { node = c.lowest.ensures.node; within = c.lowest.ensures.within (name_at f.names c.self.inside.root) sibling.within } in
+    let inner : IsInner f c.self.inside.root c.args.key =
+    record { once = c.nodes_stand_once.ensures.once; only = c.nodes_stand_once.ensures.only; stands = comes.stands; other = other } in
+    let sibling = sibling-stands c.in-Some.sibling inner (c.in-Some.ensures.node c.in-Some.sibling refl) c.in-Some.ensures.value in
+    let low : IsLowest f w c.in-Some.sibling c.lowest.result = record {
+      stands = record { node = c.lowest.ensures.node; within = c.lowest.ensures.within (name_at f.names c.self.inside.root) sibling.within };
+      tree = c.lowest.ensures.tree (name_at f.names c.self.inside.root) sibling.within;
+      ends = c.lowest.ensures.ends;
+      path = c.lowest.ensures.path;
+    } in
     (subst (λ (v : KeyedWalker). StepsBack f v c.args.key (Some c.lowest.result)) c.self.view_is
-    (steps_sibling f c.nodes_stand_once.ensures.once c.nodes_stand_once.ensures.only w c.args.key comes other c.in-Some.sibling c.lowest.result
-    c.in-Some.ensures.value placed.current low_stands (c.lowest.ensures.tree (name_at f.names c.self.inside.root) sibling.within)
-    c.lowest.ensures.ends c.lowest.ensures.path)).comes
+    (steps_sibling f c.nodes_stand_once.ensures.once c.nodes_stand_once.ensures.only w c.args.key comes other c.in-Some.ensures.value placed.current low)).comes
 
 pub returns-clause-shorter : goal.returns-clause-shorter
 returns-clause-shorter c =
@@ -91,11 +96,15 @@ returns-clause-shorter c =
     let placed = subst (IsWalkerOf f) (sym c.self.view_is) c.requires.walker in
     let comes = subst (λ (v : KeyedWalker). ComesBack f v c.args.key) (sym c.self.view_is) c.requires.comes in
     let other = other_key f c.nodes_stand_once.ensures.distinct c.args.key c.self.inside.root comes.stands.node placed.root (sym c.if-eq.ensures) in
-    let sibling = sibling-stands f c.nodes_stand_once.ensures.once c.nodes_stand_once.ensures.only c.self.inside.root c.args.key c.in-Some.sibling
-    comes.stands other (c.in-Some.ensures.node c.in-Some.sibling refl) c.in-Some.ensures.value in
-    let low_stands : StandsIn f c.self.inside.root c.lowest.result =
-    record { node = c.lowest.ensures.node; within = c.lowest.ensures.within (name_at f.names c.self.inside.root) sibling.within } in
+    let inner : IsInner f c.self.inside.root c.args.key =
+    record { once = c.nodes_stand_once.ensures.once; only = c.nodes_stand_once.ensures.only; stands = comes.stands; other = other } in
+    let sibling = sibling-stands c.in-Some.sibling inner (c.in-Some.ensures.node c.in-Some.sibling refl) c.in-Some.ensures.value in
+    let low : IsLowest f w c.in-Some.sibling c.lowest.result = record {
+      stands = record { node = c.lowest.ensures.node; within = c.lowest.ensures.within (name_at f.names c.self.inside.root) sibling.within };
+      tree = c.lowest.ensures.tree (name_at f.names c.self.inside.root) sibling.within;
+      ends = c.lowest.ensures.ends;
+      path = c.lowest.ensures.path;
+    } in
     (subst (λ (v : KeyedWalker). StepsBack f v c.args.key (Some c.lowest.result)) c.self.view_is
-    (steps_sibling f c.nodes_stand_once.ensures.once c.nodes_stand_once.ensures.only w c.args.key comes other c.in-Some.sibling c.lowest.result
-    c.in-Some.ensures.value placed.current low_stands (c.lowest.ensures.tree (name_at f.names c.self.inside.root) sibling.within)
-    c.lowest.ensures.ends c.lowest.ensures.path)).shorter
+    (steps_sibling f c.nodes_stand_once.ensures.once c.nodes_stand_once.ensures.only w c.args.key comes other
+    c.in-Some.ensures.value placed.current low)).shorter

@@ -8,10 +8,9 @@ use Rattle.dom_traversal.proofs.walker.Walker.first_reached.Goals as goal
 pub loop-at-init : goal.loop-at-init
 loop-at-init c =
     let f = c.args.forest.now in
-    let w : KeyedWalker = record { root = c.self.inside.root; current = c.self.inside.current; filter = filter_of c.self.inside.filter } in
     let placed = subst (IsWalkerOf f) (sym c.self.view_is) c.requires.walker in
     let begins = subst (λ (v : KeyedWalker). ForSome c.args.from (BeginsForward f v c.args.top)) (sym c.self.view_is) c.requires.begins in
-    Reaches-begin f c.nodes_stand_once.ensures.once c.nodes_stand_once.ensures.only w c.args.top placed.current c.args.from begins
+    Reaches-begin c.nodes_stand_once.ensures.once c.nodes_stand_once.ensures.only placed.current begins
 
 pub loop-at-smaller-in-Some-Skip : goal.loop-at-smaller-in-Some-Skip
 loop-at-smaller-in-Some-Skip c =

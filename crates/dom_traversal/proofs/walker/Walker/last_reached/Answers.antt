@@ -12,9 +12,8 @@ use Rattle.dom_traversal.proofs.walker.Walker.last_reached.Goals as goal
 pub loop-at-init : goal.loop-at-init
 loop-at-init c =
     let f = c.args.forest.now in
-    let w : KeyedWalker = record { root = c.self.inside.root; current = c.self.inside.current; filter = filter_of c.self.inside.filter } in
     let begins = subst (λ (v : KeyedWalker). ForSome c.args.from (BeginsBackward f v c.args.top)) (sym c.self.view_is) c.requires.begins in
-    ReachesBack-begin f c.nodes_stand_once.ensures.once c.nodes_stand_once.ensures.only w c.args.top c.args.from begins
+    ReachesBack-begin c.nodes_stand_once.ensures.once c.nodes_stand_once.ensures.only begins
 
 pub returns-then-accepts-clause-value : goal.returns-then-accepts-clause-value
 returns-then-accepts-clause-value c =

@@ -57,7 +57,7 @@ loop-at-preserved-in-Some-Skip c =
     let h = subst (ComesNext f.trees w) (ap (option_map (name_at f.names)) c.in-Some.is) c.loop-at.invariant.comes in
     record {
       node = c.following-at-in-Some-Skip.ensures.node;
-      comes = ComesNext-skip f.trees w (name_at f.names c.in-Some.key) (option_map (name_at f.names) c.following-at-in-Some-Skip.result) h
+      comes = ComesNext-skip w h
           (ap Some (sym c.in-Some-Skip.field-0-is) ∙ c.in-Some-Skip.ensures) c.following-at-in-Some-Skip.ensures.value;
     }
 
@@ -82,6 +82,6 @@ loop-at-preserved c =
     let h = subst (ComesNext f.trees w) (ap (option_map (name_at f.names)) c.in-Some.is) c.loop-at.invariant.comes in
     record {
       node = λ k e. (c.beyond-at.ensures.stands k e).node;
-      comes = ComesNext-reject f.trees w (name_at f.names c.in-Some.key) (option_map (name_at f.names) c.beyond-at.result) at h
+      comes = ComesNext-reject w at h
           (ap Some (sym c.in-Some-Reject.field-0-is) ∙ c.in-Some-Reject.ensures) c.beyond-at.ensures.value;
     }

@@ -8,7 +8,8 @@ use Rattle.dom_tree.specs.Forest.{name_at}
 use Rattle.dom_traversal.specs.Filters.{filter_of}
 use Rattle.dom_traversal.specs.Walkers.{KeyedWalker, walker_view, is_candidate, stop_of, IsWalkerOf, BeginsBackward}
 use Rattle.dom_traversal.specs.Within.{up_to_tree}
-use Rattle.dom_traversal.proofs.Aside.{IsBelow-key, StandsBelow-walker, stop-some}
+use Rattle.dom_traversal.proofs.Aside.{IsBelow-key, inner-below, stop-some}
+use Rattle.dom_traversal.proofs.Climbing.{IsInner, other_key}
 use Rattle.dom_traversal.proofs.BeginningBack.{Begins-previous, PreviousSibling-found}
 use Rattle.dom_traversal.proofs.walker.Walker.previous_sibling_node.Goals as goal
 
@@ -16,17 +17,26 @@ pub aback-from-requires-clause-below : goal.aback-from-requires-clause-below
 aback-from-requires-clause-below c =
     let f = c.args.forest.now in
     let placed = subst (IsWalkerOf f) (sym c.self.view_is) c.requires in
-    StandsBelow-walker f c.nodes_stand_once.ensures.once c.nodes_stand_once.ensures.only c.nodes_stand_once.ensures.distinct c.self.inside.root
-    c.self.inside.current placed.root placed.current (sym c.if-eq.ensures) (sym c.if-not-is_inclusive_ancestor.ensures)
+    let inner : IsInner f c.self.inside.root c.self.inside.current = record {
+      once = c.nodes_stand_once.ensures.once;
+      only = c.nodes_stand_once.ensures.only;
+      stands = record { node = placed.current; within = sym c.if-not-is_inclusive_ancestor.ensures };
+      other = other_key f c.nodes_stand_once.ensures.distinct c.self.inside.current c.self.inside.root placed.current placed.root (sym c.if-eq.ensures);
+    } in
+    inner-below inner
 
 pub last_reached-requires-clause-begins : goal.last_reached-requires-clause-begins
 last_reached-requires-clause-begins c =
     let f = c.args.forest.now in
     let w : KeyedWalker = record { root = c.self.inside.root; current = c.self.inside.current; filter = filter_of c.self.inside.filter } in
     let placed = subst (IsWalkerOf f) (sym c.self.view_is) c.requires in
-    let below = StandsBelow-walker f c.nodes_stand_once.ensures.once c.nodes_stand_once.ensures.only c.nodes_stand_once.ensures.distinct
-    c.self.inside.root c.self.inside.current placed.root placed.current (sym c.if-eq.ensures) (sym c.if-not-is_inclusive_ancestor.ensures) in
-    let b = IsBelow-key f c.nodes_stand_once.ensures.once c.nodes_stand_once.ensures.only c.self.inside.root c.self.inside.current below in
+    let inner : IsInner f c.self.inside.root c.self.inside.current = record {
+      once = c.nodes_stand_once.ensures.once;
+      only = c.nodes_stand_once.ensures.only;
+      stands = record { node = placed.current; within = sym c.if-not-is_inclusive_ancestor.ensures };
+      other = other_key f c.nodes_stand_once.ensures.distinct c.self.inside.current c.self.inside.root placed.current placed.root (sym c.if-eq.ensures);
+    } in
+    let b = IsBelow-key f inner.once inner.only c.self.inside.root c.self.inside.current (inner-below inner) in
     subst (λ (v : KeyedWalker). ForSome c.aback-from.result (BeginsBackward f v c.self.inside.root)) c.self.view_is
     (Begins-previous f w b c.aback-from.result c.aback-from.ensures.value c.aback-from.ensures.below c.aback-from.ensures.stop
     c.aback-from.ensures.path)
@@ -36,9 +46,13 @@ returns-clause-value c =
     let f = c.args.forest.now in
     let w : KeyedWalker = record { root = c.self.inside.root; current = c.self.inside.current; filter = filter_of c.self.inside.filter } in
     let placed = subst (IsWalkerOf f) (sym c.self.view_is) c.requires in
-    let below = StandsBelow-walker f c.nodes_stand_once.ensures.once c.nodes_stand_once.ensures.only c.nodes_stand_once.ensures.distinct
-    c.self.inside.root c.self.inside.current placed.root placed.current (sym c.if-eq.ensures) (sym c.if-not-is_inclusive_ancestor.ensures) in
-    let b = IsBelow-key f c.nodes_stand_once.ensures.once c.nodes_stand_once.ensures.only c.self.inside.root c.self.inside.current below in
+    let inner : IsInner f c.self.inside.root c.self.inside.current = record {
+      once = c.nodes_stand_once.ensures.once;
+      only = c.nodes_stand_once.ensures.only;
+      stands = record { node = placed.current; within = sym c.if-not-is_inclusive_ancestor.ensures };
+      other = other_key f c.nodes_stand_once.ensures.distinct c.self.inside.current c.self.inside.root placed.current placed.root (sym c.if-eq.ensures);
+    } in
+    let b = IsBelow-key f inner.once inner.only c.self.inside.root c.self.inside.current (inner-below inner) in
     let from = option_map (name_at f.names) c.aback-from.result in
     let found = subst (λ (v : KeyedWalker). option_map (name_at f.names) c.last_reached.result ≡ last_of
     (filter (is_candidate f.trees (walker_view f.names v) (stop_of f.trees v.filter (name_at f.names c.self.inside.root) from))
