@@ -13,6 +13,7 @@ mod Walks
 mod Children
 mod Placing
 pub mod Attributes
+mod FewAttributes
 mod Boxed
 pub mod Once
 mod Within

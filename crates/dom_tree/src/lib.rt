@@ -9,6 +9,7 @@
 mod attribute_list;
 mod data;
 mod forest;
+mod hashed_attributes;
 mod owners;
 mod shared;
 mod stored;

@@ -4,7 +4,7 @@ use Rattle.dom_model.specs.TreeChanges.{attributes_with}
 use Rattle.dom_tree.specs.Forest.{attributes_from}
 use Rattle.dom_tree.proofs.Attributes.{attributes_in, insert-attributes}
 use Rattle.dom_tree.proofs.Boxed.{boxed_shows}
-use Rattle.dom_tree.proofs.attribute_list.AttributeList.set.Goals as goal
+use Rattle.dom_tree.proofs.hashed_attributes.HashedAttributes.set.Goals as goal
 
 pub returns-in-Some-clause-ok : goal.returns-in-Some-clause-ok
 returns-in-Some-clause-ok c =

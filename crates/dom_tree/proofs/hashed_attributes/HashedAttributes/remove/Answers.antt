@@ -6,7 +6,7 @@ use Rattle.dom_tree.specs.Attributes.{value_among}
 use Rattle.dom_tree.specs.Forest.{attributes_from}
 use Rattle.dom_tree.proofs.Attributes.{attributes_in, lookup-attributes, remove-attributes}
 use Rattle.dom_tree.proofs.Boxed.{boxed_shows}
-use Rattle.dom_tree.proofs.attribute_list.AttributeList.remove.Goals as goal
+use Rattle.dom_tree.proofs.hashed_attributes.HashedAttributes.remove.Goals as goal
 
 -- the map's attributes are the list's
 shows : (c : goal.After-self-2-1) → attributes_from c.deref_mut.result.now.entries ≡ c.args.self.now

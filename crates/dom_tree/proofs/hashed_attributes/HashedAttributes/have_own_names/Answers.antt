@@ -4,7 +4,7 @@ use Rattle.dom_tree.specs.Attributes.{HaveOwnNames}
 use Rattle.dom_tree.specs.Forest.{attributes_from}
 use Rattle.dom_tree.proofs.OwnNames.{own_names}
 use Rattle.dom_tree.proofs.Boxed.{boxed_shows}
-use Rattle.dom_tree.proofs.attribute_list.AttributeList.have_own_names.Goals as goal
+use Rattle.dom_tree.proofs.hashed_attributes.HashedAttributes.have_own_names.Goals as goal
 
 pub returns-in-Some : goal.returns-in-Some
 returns-in-Some c = subst HaveOwnNames

@@ -5,7 +5,7 @@ use Rattle.dom_tree.specs.Attributes.{value_among}
 use Rattle.dom_tree.specs.Forest.{attributes_from}
 use Rattle.dom_tree.proofs.Attributes.{lookup-attributes}
 use Rattle.dom_tree.proofs.Boxed.{boxed_shows}
-use Rattle.dom_tree.proofs.attribute_list.AttributeList.get.Goals as goal
+use Rattle.dom_tree.proofs.hashed_attributes.HashedAttributes.get.Goals as goal
 
 pub returns-in_err-value : goal.returns-in_err-value
 returns-in_err-value c =
