@@ -1,3 +1,4 @@
 -- Lemmas of signalled slots.
 mod Counting
 mod Keeping
+mod Places

@@ -1,14 +1,19 @@
 //! The signalled slots of each owner, by their numbers.
-ghost use Rattle.std.specs.Prelude.{◌≡◌, ◌<◌, ◌++◌, ◌∷◌, [], true, false, is_some, nat_eq, length, if◌then◌else◌, OnOk, OnErr};
+ghost use Rattle.std.specs.Prelude.{◌≡◌, ◌<◌, ◌++◌, ◌∷◌, ℕ, [], true, false, is_some, nat_eq, length, if◌then◌else◌, OnOk, OnErr};
 ghost use Rattle.std.specs.HashMap.{get};
+ghost use Rattle.std.specs.Option.{option_map_or};
 ghost use Rattle.dom_base.specs.declared.Owner.{Owner as Owners};
 ghost use Rattle.dom_model.specs.Names.{is_in, owner_eq};
-ghost use Rattle.dom_microtasks.specs.ByOwner.{since_of, numbers_of};
+ghost use Rattle.dom_microtasks.specs.ByOwner.{since_of, numbers_of, since_at, numbers_at, since_in, numbers_in, IsThere};
 
+use crate::owner_numbers::place_of;
 use dom_base::{NodeName, Owner};
 use indexmap::IndexSet;
 use std::alloc::{AllocError, Global};
 use std::collections::HashMap;
+
+/// How many slots of an owner are compared with another one in turn. Among more it is found by a hash.
+const FEW: usize = 8;
 
 /// An owner's signalled slots, by their numbers in the order of their signals, and how many slots had been signalled when
 /// they were last taken.
@@ -18,10 +23,35 @@ pub(crate) struct OwnSlots {
     numbers: IndexSet<u32>,
 }
 
-/// The signalled slots of each owner that has had one.
+impl OwnSlots {
+    /// No slots.
+    fn new(alloc: Global) -> Self
+        ensures numbers { result.numbers.keys ≡ [] }
+        ensures since { result.since ≡ 0 }
+    {
+        OwnSlots {
+            since: 0,
+            numbers: IndexSet::new(alloc),
+        }
+    }
+
+    /// Whether a slot is among them.
+    fn has(&self, number: u32) -> bool
+        ensures { result ≡ is_in nat_eq number self.now.numbers.keys }
+    {
+        if self.numbers.len() <= FEW {
+            return self.numbers.as_slice().contains(&number);
+        }
+        self.numbers.contains(&number)
+    }
+}
+
+/// The signalled slots of each owner that has had one. Those of the page's components, which are counted one by one, stand in a
+/// list, and are found without a hash.
 #[derive(Drop)]
 pub(crate) struct ByOwner {
-    owners: HashMap<Owner, OwnSlots>,
+    components: Vec<OwnSlots>,
+    others: HashMap<Owner, OwnSlots>,
     alloc: Global,
 }
 
@@ -32,8 +62,19 @@ impl ByOwner {
         ensures since { (o : Owners) → since_of result o ≡ 0 }
     {
         ByOwner {
-            owners: HashMap::new(alloc),
+            components: Vec::new(alloc),
+            others: HashMap::new(alloc),
             alloc,
+        }
+    }
+
+    /// What is kept of an owner, if it has had a slot.
+    fn slots(&self, owner: Owner) -> Option<&OwnSlots>
+        ensures { option_map_or (λ own. own.now.numbers.keys) result [] ≡ numbers_of self.now owner }
+    {
+        match place_of(owner) {
+            Some(place) => self.components.get(place),
+            None => self.others.get(&owner),
         }
     }
 
@@ -41,7 +82,7 @@ impl ByOwner {
     pub(crate) fn numbers(&self, owner: Owner) -> &[u32]
         ensures { result.now ≡ numbers_of self.now owner }
     {
-        match self.owners.get(&owner) {
+        match self.slots(owner) {
             Some(own) => own.numbers.as_slice(),
             None => &[],
         }
@@ -51,10 +92,18 @@ impl ByOwner {
     pub(crate) fn has(&self, slot: NodeName) -> bool
         ensures { result ≡ is_in nat_eq slot.number (numbers_of self.now slot.owner) }
     {
-        match self.owners.get(&slot.owner) {
-            Some(own) => own.numbers.contains(&slot.number),
+        match self.slots(slot.owner) {
+            Some(own) => own.has(slot.number),
             None => false,
         }
+    }
+
+    /// Whether it is time for a new table: so many slots count, which are none, and so many were signalled, which are as many as
+    /// the places of the list.
+    pub(crate) fn is_over(&self, counting: usize, signalled: usize) -> bool
+        ensures { result ≡ true → counting ≡ 0 }
+    {
+        counting == 0 && self.components.len() <= signalled
     }
 
     /// Puts a slot that is not among them behind the others of its owner.
@@ -66,26 +115,25 @@ impl ByOwner {
         ensures err { OnErr result ((o : Owners) → numbers_of self.new o ≡ numbers_of self.old o) }
     {
         self.prepare(slot.owner)?;
-        if let Some(own) = self.owners.get_mut(&slot.owner) {
-            own.numbers.insert(slot.number)?;
+        match place_of(slot.owner) {
+            Some(place) => push_at(&mut self.components, place, slot.number),
+            None => push_other(&mut self.others, slot.owner, slot.number),
         }
-        Ok(())
     }
 
     /// Makes an owner's entry where there is none.
     fn prepare(&mut self, owner: Owner) -> Result<(), AllocError>
         ensures numbers { (o : Owners) → numbers_of self.new o ≡ numbers_of self.old o }
         ensures since { (o : Owners) → since_of self.new o ≡ since_of self.old o }
-        ensures there { OnOk result (is_some (get owner_eq self.new.owners owner) ≡ true) }
+        ensures there { OnOk result (IsThere self.new owner) }
     {
-        if self.owners.contains_key(&owner) {
+        if let Some(place) = place_of(owner) {
+            return reach(self.alloc, &mut self.components, place);
+        }
+        if self.others.contains_key(&owner) {
             return Ok(());
         }
-        let own = OwnSlots {
-            since: 0,
-            numbers: IndexSet::new(self.alloc),
-        };
-        drop(self.owners.insert(owner, own)?);
+        drop(self.others.insert(owner, OwnSlots::new(self.alloc))?);
         Ok(())
     }
 
@@ -95,9 +143,77 @@ impl ByOwner {
         ensures numbers { (o : Owners) → numbers_of self.new o ≡ (if owner_eq owner o then [] else numbers_of self.old o) }
         ensures since { (o : Owners) → since_of self.new o ≡ (if owner_eq owner o then since else since_of self.old o) }
     {
-        if let Some(own) = self.owners.get_mut(&owner) {
-            own.since = since;
-            own.numbers.clear();
+        match place_of(owner) {
+            Some(place) => empty_at(&mut self.components, place, since),
+            None => empty_other(&mut self.others, owner, since),
         }
+    }
+}
+
+/// Lets a list have a place, with no slots at each new one.
+fn reach(alloc: Global, components: &mut Vec<OwnSlots>, place: usize) -> Result<(), AllocError>
+    requires { place < 65536 }
+    ensures numbers { (i : ℕ) → numbers_at components.new.items i ≡ numbers_at components.old.items i }
+    ensures since { (i : ℕ) → since_at components.new.items i ≡ since_at components.old.items i }
+    ensures there { OnOk result (place < length components.new.items) }
+{
+    for _ in components.len()..place + 1 {
+        components.push(OwnSlots::new(alloc))?;
+    }
+    Ok(())
+}
+
+/// Puts a slot that is not among those at a place of a list behind them.
+fn push_at(components: &mut Vec<OwnSlots>, place: usize, number: u32) -> Result<(), AllocError>
+    requires there { place < length components.old.items }
+    requires new { is_in nat_eq number (numbers_at components.old.items place) ≡ false }
+    ensures numbers { OnOk result ((i : ℕ) → numbers_at components.new.items i ≡
+        (if nat_eq place i then numbers_at components.old.items i ++ number ∷ [] else numbers_at components.old.items i)) }
+    ensures since { (i : ℕ) → since_at components.new.items i ≡ since_at components.old.items i }
+    ensures err { OnErr result ((i : ℕ) → numbers_at components.new.items i ≡ numbers_at components.old.items i) }
+{
+    components[place].numbers.insert(number)?;
+    Ok(())
+}
+
+/// Takes the slots at a place of a list away.
+fn empty_at(components: &mut Vec<OwnSlots>, place: usize, since: usize)
+    requires { place < length components.old.items }
+    ensures numbers { (i : ℕ) → numbers_at components.new.items i ≡ (if nat_eq place i then [] else numbers_at components.old.items i) }
+    ensures since { (i : ℕ) → since_at components.new.items i ≡ (if nat_eq place i then since else since_at components.old.items i) }
+{
+    let own = &mut components[place];
+    own.since = since;
+    own.numbers.clear();
+}
+
+/// Puts a slot that is not among those of an owner behind them.
+fn push_other(
+    others: &mut HashMap<Owner, OwnSlots>,
+    owner: Owner,
+    number: u32,
+) -> Result<(), AllocError>
+    requires there { is_some (get owner_eq others.old owner) ≡ true }
+    requires new { is_in nat_eq number (numbers_in others.old owner) ≡ false }
+    ensures numbers { OnOk result ((o : Owners) → numbers_in others.new o ≡
+        (if owner_eq owner o then numbers_in others.old o ++ number ∷ [] else numbers_in others.old o)) }
+    ensures since { (o : Owners) → since_in others.new o ≡ since_in others.old o }
+    ensures err { OnErr result ((o : Owners) → numbers_in others.new o ≡ numbers_in others.old o) }
+{
+    if let Some(own) = others.get_mut(&owner) {
+        own.numbers.insert(number)?;
+    }
+    Ok(())
+}
+
+/// Takes the slots of an owner away.
+fn empty_other(others: &mut HashMap<Owner, OwnSlots>, owner: Owner, since: usize)
+    requires { is_some (get owner_eq others.old owner) ≡ true }
+    ensures numbers { (o : Owners) → numbers_in others.new o ≡ (if owner_eq owner o then [] else numbers_in others.old o) }
+    ensures since { (o : Owners) → since_in others.new o ≡ (if owner_eq owner o then since else since_in others.old o) }
+{
+    if let Some(own) = others.get_mut(&owner) {
+        own.since = since;
+        own.numbers.clear();
     }
 }

@@ -1,10 +1,11 @@
 //! A number for each owner.
 ghost use Rattle.std.specs.Prelude.{◌≡◌, ℕ, ◌<◌, nat_eq, slice_index_or, if◌then◌else◌, OnOk, OnErr};
+ghost use Rattle.std.specs.Option.{ForSome};
 ghost use Rattle.dom_base.specs.declared.Owner.{Owner as Owners};
 ghost use Rattle.dom_model.specs.Names.{owner_eq};
-ghost use Rattle.dom_microtasks.specs.OwnerNumbers.{component, place_of, number_at};
+ghost use Rattle.dom_microtasks.specs.OwnerNumbers.{place_of, number_at};
 
-use dom_base::{Owner, OwnerPath};
+use dom_base::Owner;
 use std::alloc::{AllocError, Global};
 use std::collections::HashMap;
 
@@ -68,28 +69,19 @@ impl OwnerNumbers {
 }
 
 /// The place of a component of the page in the list, none of another owner.
-fn place_of(owner: Owner) -> Option<usize>
-    ensures { result ≡ place_of owner }
+pub(crate) fn place_of(owner: Owner) -> Option<usize>
+    ensures value { result ≡ place_of owner }
+    ensures small { ForSome result (λ place. place < 65536) }
 {
     let Owner::Component(path) = owner else {
         return None;
     };
-    let number = path.parts[0];
-    if number < PLACES && owner == component(number) {
-        Some(number as usize)
-    } else {
-        None
+    match path.parts {
+        [number, 0, 0, 0, 0, 0, 0, 0] if path.depth == 1 && number < PLACES => {
+            Some(number as usize)
+        }
+        _ => None,
     }
-}
-
-/// The component with this number alone in its word.
-fn component(number: u32) -> Owner
-    ensures { result ≡ component number }
-{
-    Owner::Component(OwnerPath {
-        depth: 1,
-        parts: [number, 0, 0, 0, 0, 0, 0, 0],
-    })
 }
 
 /// Puts a number into a place of a list, which has zeros behind it.

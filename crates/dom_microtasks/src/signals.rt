@@ -11,7 +11,8 @@ use std::marker::Model;
 /// The signalled slots of all owners, each once, in the order of their signals. A contract sees them as the list of them.
 ///
 /// All that were signalled are logged, and an owner's are taken without a look at others': those of it that stand in the log
-/// up to then do not count any more. Where none is left that counts, the log is empty again.
+/// up to then do not count any more. Where none is left that counts, the log is empty again, if it is as long as the list of
+/// owners that is then made anew: so both cost no more than the signals did.
 #[derive(Drop)]
 pub struct Signals {
     log: Vec<NodeName>,
@@ -80,7 +81,7 @@ impl Signals {
         }
         self.own.empty(owner, self.log.len());
         self.count -= count;
-        if self.count == 0 {
+        if self.own.is_over(self.count, self.log.len()) {
             self.log.clear();
             self.own = ByOwner::new(self.alloc);
         }

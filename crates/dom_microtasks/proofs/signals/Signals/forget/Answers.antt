@@ -14,16 +14,16 @@ pub overflow_sub-self : goal.overflow_sub-self
 overflow_sub-self c =
     let few = own_few c.self.inside c.self.invariant c.args.owner in let is = ap length c.numbers-count.ensures in omega (arith, few, is)
 
-pub invariant_of-self-else-self-eq0 : goal.invariant_of-self-else-self-eq0
-invariant_of-self-else-self-eq0 c =
+pub invariant_of-self-else-is_over : goal.invariant_of-self-else-is_over
+invariant_of-self-else-is_over c =
     let few = own_few c.self.inside c.self.invariant c.args.owner in
     let is = ap length c.numbers-count.ensures in
     let len = c.len.ensures in
     taken_kept c.self.inside c.self.invariant _ c.args.owner c.len.result (omega (arith, len, c.self.inside.log.ok.0)) c.empty.ensures.numbers
     c.empty.ensures.since refl (omega (arith, few, is))
 
-pub returns-then-self-eq0 : goal.returns-then-self-eq0
-returns-then-self-eq0 c =
+pub returns-then-is_over : goal.returns-then-is_over
+returns-then-is_over c =
     let few = own_few c.self.inside c.self.invariant c.args.owner in
     let is = ap length c.numbers-count.ensures in
     let len = c.len.ensures in
@@ -31,11 +31,11 @@ returns-then-self-eq0 c =
     none_seen record { log = c.clear.new.self; own = c.new.result; count = count; alloc = c.self.inside.alloc } c.clear.ensures.items
     ∙ (none_left c.self.inside c.self.invariant
     record { log = c.self.inside.log; own = c.empty.new.self; count = count; alloc = c.self.inside.alloc } c.args.owner c.len.result
-    (omega (arith, len, c.self.inside.log.ok.0)) c.empty.ensures.numbers c.empty.ensures.since refl (omega (arith, few, is)) c.if-self-eq0.true
+    (omega (arith, len, c.self.inside.log.ok.0)) c.empty.ensures.numbers c.empty.ensures.since refl (omega (arith, few, is)) (c.if-is_over.ensures refl)
     ∙ ap (filter (λ s. not (is_owned_by c.args.owner s))) c.self.view_is)
 
-pub returns-else-self-eq0 : goal.returns-else-self-eq0
-returns-else-self-eq0 c =
+pub returns-else-is_over : goal.returns-else-is_over
+returns-else-is_over c =
     let few = own_few c.self.inside c.self.invariant c.args.owner in
     let is = ap length c.numbers-count.ensures in
     let len = c.len.ensures in
