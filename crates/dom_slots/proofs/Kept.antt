@@ -1,31 +1,38 @@
--- The hosts as the maps of a `Slots` hold them.
-use Rattle.std.proofs.Common.{◌≡◌, inl, inr, ℕ, List, [], ◌∷◌, Option, None, Some, map, refl, ◌∙◌}
-use Rattle.std.specs.Prelude.{nat_eq}
+-- The hosts as a `Slots` holds them, and where they are found.
+use Rattle.std.proofs.Common.{◌≡◌, ℕ, Bool, true, false, List, [], ◌∷◌, ◌++◌, Option, None, Some, refl, sym, ◌∙◌, true≢false, arith}
+use Rattle.std.specs.Prelude.{nat_eq, find, if◌then◌else◌}
 use Rattle.std.specs.Option.{option_map}
-use Rattle.std.specs.Map.{lookup}
-use Rattle.std.proofs.lemmas.Bool.{cases_Bool}
-use Rattle.dom_slots.specs.declared.slots.Attached.{Attached}
-use Rattle.dom_slots.specs.Hosts.{host_of_root, root_of_host}
-use Rattle.dom_slots.specs.Fields.{hosts_in}
+use Rattle.std.proofs.lemmas.Bool.{eqb-true, eq-eqb}
+use Rattle.std.proofs.lemmas.Option.{none-some}
+use Rattle.dom_slots.specs.Hosts.{ShadowHost}
 
--- the shadow root of a host is found by the host
-pub lookup-root : (k : ℕ) (es : List (ℕ × Attached)) → option_map (λ a. a.root) (lookup (nat_eq k) es) ≡ root_of_host (hosts_in es) k
-lookup-root k [] = refl
-lookup-root k (e ∷ es) = elim (cases_Bool (nat_eq k e.0)) [ inl h ↦ rw h refl | inr h ↦ rw h (lookup-root k es) ]
+-- one host more, where none was found by its key, is found by it, and the others as before
+module _ (key value : ShadowHost → ℕ) (h : ShadowHost) where
+  abbrev look : ℕ → List ShadowHost → Option ℕ
+  look k hosts = option_map value (find (λ g. nat_eq k (key g)) hosts)
 
--- the entries by root
-abbrev pub by_root : List (ℕ × Attached) → List (ℕ × ℕ)
-by_root es = map (λ (e : ℕ × Attached). (e.1.root, e.0)) es
+  pub found-more : (hosts : List ShadowHost) → look (key h) hosts ≡ None → (k : ℕ) →
+      (if nat_eq (key h) k then Some (value h) else look k hosts) ≡ look k (hosts ++ h ∷ [])
+  found-more [] new k = by (nat_eq (key h) k) (nat_eq k (key h)) (turned (key h) k)
+    where
+      turned : (a b : ℕ) → nat_eq a b ≡ nat_eq b a
+      turned a b = grind arith
 
--- the host of a shadow root is found by the root
-pub lookup-host : (k : ℕ) (es : List (ℕ × Attached)) → lookup (nat_eq k) (by_root es) ≡ host_of_root (hosts_in es) k
-lookup-host k [] = refl
-lookup-host k (e ∷ es) = elim (cases_Bool (nat_eq k e.1.root)) [ inl h ↦ rw h refl | inr h ↦ rw h (lookup-host k es) ]
-
--- a node that has no shadow root is no key
-pub root-absent : (k : ℕ) (es : List (ℕ × Attached)) → root_of_host (hosts_in es) k ≡ None → lookup (nat_eq k) es ≡ None
-root-absent k es e = none (lookup (nat_eq k) es) (lookup-root k es ∙ e)
-  where
-    none : (o : Option Attached) → option_map (λ a. a.root) o ≡ None → o ≡ None
-    none None h = refl
-    none (Some a) h = cc
+      by : (c d : Bool) → c ≡ d → (if c then Some (value h) else None) ≡ option_map value (if d then Some h else None)
+      by true true e = refl
+      by true false e = absurd (true≢false e)
+      by false true e = absurd (true≢false (sym e))
+      by false false e = refl
+  found-more (g ∷ hosts) new k =
+      by (nat_eq k (key g)) (nat_eq (key h) (key g)) (nat_eq (key h) k) refl refl refl new (λ rest. found-more hosts rest k)
+    where
+      by : (d e c : Bool) → nat_eq k (key g) ≡ d → nat_eq (key h) (key g) ≡ e → nat_eq (key h) k ≡ c →
+          option_map value (if e then Some g else find (λ f. nat_eq (key h) (key f)) hosts) ≡ None →
+          (look (key h) hosts ≡ None → (if c then Some (value h) else look k hosts) ≡ look k (hosts ++ h ∷ [])) →
+          (if c then Some (value h) else option_map value (if d then Some g else find (λ f. nat_eq k (key f)) hosts))
+          ≡ option_map value (if d then Some g else find (λ f. nat_eq k (key f)) (hosts ++ h ∷ []))
+      by d true c at other here absent rest = absurd (none-some (value g) (sym absent))
+      by true false true at other here absent rest =
+          absurd (true≢false (sym (eq-eqb (key h) (key g) (eqb-true (key h) k here ∙ eqb-true k (key g) at)) ∙ other))
+      by true false false at other here absent rest = refl
+      by false false c at other here absent rest = rest absent

@@ -1,11 +1,10 @@
--- The places of nodes in lists, and the lists by slots of which one is changed.
-use Rattle.std.proofs.Common.{◌≡◌, ℕ, ◌+◌, ◌<◌, ◌≤◌, Bool, true, false, cond, not, List, [], ◌∷◌, length, Option, Some, None, refl, sym, ap, ◌∙◌}
+-- The places of nodes in lists.
+use Rattle.std.proofs.Common.{◌≡◌, ℕ, ◌+◌, ◌<◌, ◌≤◌, Bool, true, false, cond, not, List, [], ◌∷◌, length, Some, None, refl, sym, ap, ◌∙◌}
 use Rattle.std.proofs.Common.{true≢false, arith, one-add}
-use Rattle.std.specs.Prelude.{nat_eq, nat_lt, if◌then◌else◌, unwrap_or, Vec}
+use Rattle.std.specs.Prelude.{nat_eq, nat_lt, if◌then◌else◌, unwrap_or}
 use Rattle.std.specs.List.{insert, position, position_or_len}
-use Rattle.std.proofs.lemmas.Bool.{eqb-true, lt-ltb}
-use Rattle.node_arena.specs.Nodes.{put_before, insert_before}
-use Rattle.dom_slots.specs.Lists.{items_or}
+use Rattle.std.proofs.lemmas.Bool.{lt-ltb}
+use Rattle.node_arena.specs.Nodes.{put_before}
 
 -- ---- the place of a node
 
@@ -42,18 +41,3 @@ module _ (b : ℕ) where
           insert (x ∷ xs) (cond (not d) (1 + position_or_len is_here xs) 0) c ≡ (if d then c ∷ x ∷ xs else x ∷ put_before xs c b)
       by true rest = refl
       by false rest = rw one-add (ap (λ ys. x ∷ ys) rest)
-
--- the first node of a list
-pub first-inserted : (n : ℕ) (before : Option ℕ) → insert_before [] n before ≡ n ∷ []
-first-inserted n None = refl
-first-inserted n (Some b) = refl
-
--- the lists after that of one slot was changed
-pub list-changed : {A : Type 0} (change : List ℕ → List ℕ) (slot : ℕ) (v : Vec ℕ A) (was now : ℕ → Option (Vec ℕ A)) →
-    ((k : ℕ) → now k ≡ cond (nat_eq slot k) (Some v) (was k)) → v.items ≡ change (items_or (was slot))
-    → (k : ℕ) → items_or (now k) ≡ (if nat_eq slot k then change (items_or (was k)) else items_or (was k))
-list-changed change slot v was now updated is k = ap items_or (updated k) ∙ by (nat_eq slot k) refl
-  where
-    by : (d : Bool) → nat_eq slot k ≡ d → items_or (cond d (Some v) (was k)) ≡ (if d then change (items_or (was k)) else items_or (was k))
-    by true e = is ∙ ap (λ j. change (items_or (was j))) (eqb-true slot k e)
-    by false e = refl

@@ -1,34 +1,38 @@
--- Tables as their maps hold them.
-use Rattle.std.proofs.Common.{◌≡◌, inl, inr, ℕ, Bool, true, false, cond, List, [], ◌∷◌, Option, Some, Result, Ok, Err, refl, sym, ap, ◌∙◌, true≢false}
-use Rattle.std.specs.Prelude.{nat_eq, Vec, if◌then◌else◌, OnOk, is_err}
+-- Tables as their lists hold them.
+use Rattle.std.proofs.Common.{◌≡◌, ℕ, zero, suc, ◌+◌, Bool, true, false, List, [], ◌∷◌, Some, Result, Ok, Err, refl, sym, ap, ◌∙◌, true≢false, arith}
+use Rattle.std.specs.Prelude.{nat_eq, Vec, if◌then◌else◌, unwrap_or, OnOk, is_err}
 use Rattle.std.specs.Map.{lookup}
-use Rattle.std.proofs.lemmas.Bool.{cases_Bool}
+use Rattle.std.proofs.lemmas.Bool.{eq-eqb, ne_eqb}
+use Rattle.dom_slots.specs.KeyMaps.{list_at}
 use Rattle.dom_slots.specs.Tables.{list_of}
-use Rattle.dom_slots.specs.Lists.{table_in, items_or}
+use Rattle.dom_slots.specs.Lists.{table_from, table_in}
 
 -- a list is found by its slot
-pub list-found : {A : Type 0} (k : ℕ) (es : List (ℕ × Vec ℕ A)) → items_or (lookup (nat_eq k) es) ≡ list_of (table_in es) k
-list-found k [] = refl
-list-found k (e ∷ es) = elim (cases_Bool (nat_eq k e.0)) [ inl h ↦ rw h refl | inr h ↦ rw h (list-found k es) ]
+list-from : {A : Type 0} (i k : ℕ) (rows : List (Vec ℕ A)) → list_at rows k ≡ list_of (table_from i rows) (i + k)
+list-from i k [] = refl
+list-from i zero (v ∷ rows) = here (nat_eq (i + 0) i) (eq-eqb (i + 0) i (omega arith))
+  where
+    here : (b : Bool) → b ≡ true → v.items ≡ unwrap_or (if b then Some v.items else lookup (nat_eq (i + 0)) (table_from (suc i) rows)) []
+    here true e = refl
+    here false e = absurd (true≢false (sym e))
+list-from i (suc k) (v ∷ rows) =
+    later (nat_eq (i + suc k) i) (ne_eqb (i + suc k) i (λ e. omega (arith, e)))
+    (list-from (suc i) k rows ∙ ap (list_of (table_from (suc i) rows)) (omega arith))
+  where
+    later : (b : Bool) → b ≡ false → list_at rows k ≡ list_of (table_from (suc i) rows) (i + suc k) →
+        list_at rows k ≡ unwrap_or (if b then Some v.items else lookup (nat_eq (i + suc k)) (table_from (suc i) rows)) []
+    later true e rest = absurd (true≢false e)
+    later false e rest = rest
 
--- a value that is there is its own
-pub items-chosen : {A : Type 0} (b : Bool) (v : Vec ℕ A) (o : Option (Vec ℕ A)) → items_or (cond b (Some v) o) ≡ (if b then v.items else items_or o)
-items-chosen true v o = refl
-items-chosen false v o = refl
+pub list-found : {A : Type 0} (k : ℕ) (rows : List (Vec ℕ A)) → list_at rows k ≡ list_of (table_in rows) k
+list-found k rows = list-from 0 k rows ∙ ap (list_of (table_in rows)) (omega arith)
 
--- the lists after a slot was given one
-pub list-inserted : {A : Type 0} (slot : ℕ) (v : Vec ℕ A) (es now : List (ℕ × Vec ℕ A)) →
-    ((k : ℕ) → lookup (nat_eq k) now ≡ cond (nat_eq slot k) (Some v) (lookup (nat_eq k) es))
-    → (k : ℕ) → list_of (table_in now) k ≡ (if nat_eq slot k then v.items else list_of (table_in es) k)
-list-inserted slot v es now updated k =
-    sym (list-found k now) ∙ (ap items_or (updated k) ∙
-    (items-chosen (nat_eq slot k) v (lookup (nat_eq k) es) ∙ ap (λ xs. if nat_eq slot k then v.items else xs) (list-found k es)))
-
--- the lists by the entries, after that of one slot was changed
-pub changed-found : {A B : Type 0} (change : List ℕ → List ℕ) (slot : ℕ) (es : List (ℕ × Vec ℕ A)) (now : List (ℕ × Vec ℕ B))
-    → ((k : ℕ) → items_or (lookup (nat_eq k) now) ≡ (if nat_eq slot k then change (items_or (lookup (nat_eq k) es)) else items_or (lookup (nat_eq k) es)))
-    → (k : ℕ) → list_of (table_in now) k ≡ (if nat_eq slot k then change (list_of (table_in es) k) else list_of (table_in es) k)
-changed-found change slot es now lists k = sym (list-found k now) ∙ (lists k ∙ ap (λ xs. if nat_eq slot k then change xs else xs) (list-found k es))
+-- the lists as a contract sees them, after that of one slot was changed
+pub changed-found : {A B : Type 0} (change : List ℕ → List ℕ) (slot : ℕ) (rows : List (Vec ℕ A)) (now : List (Vec ℕ B))
+    → ((k : ℕ) → list_at now k ≡ (if nat_eq slot k then change (list_at rows k) else list_at rows k))
+    → (k : ℕ) → list_of (table_in now) k ≡ (if nat_eq slot k then change (list_of (table_in rows) k) else list_of (table_in rows) k)
+changed-found change slot rows now lists k =
+    sym (list-found k now) ∙ (lists k ∙ ap (λ xs. if nat_eq slot k then change xs else xs) (list-found k rows))
 
 -- what holds on success holds where no error is told
 pub when-ok : {X E : Type 0} (r : Result X E) (P : Type 0) → is_err r ≡ false → OnOk r P → P

@@ -1,21 +1,23 @@
 -- How the fields of a `Slots` stand for what a contract sees of it.
-use Rattle.std.specs.Prelude.{◌≡◌, ℕ, List, map}
+use Rattle.std.specs.Prelude.{◌≡◌, ℕ, List, map, Option}
 use Rattle.dom_slots.specs.declared.slots.Attached.{Attached}
 use Rattle.dom_slots.specs.declared.slots.Begun.{Begun}
-use Rattle.dom_slots.specs.Hosts.{ShadowHost}
+use Rattle.dom_slots.specs.Hosts.{ShadowHost, root_of_host, host_of_root}
+use Rattle.dom_slots.specs.KeyMaps.{value_at}
 use Rattle.dom_slots.specs.Kept.{BegunStep}
 
--- a host from its entry
-abbrev pub host_in : ℕ × Attached → ShadowHost
-host_in e = record { host = e.0; root = e.1.root; owner = e.1.owner }
+-- a host as it is kept
+abbrev pub host_in : Attached → ShadowHost
+host_in a = record { host = a.host; root = a.root; owner = a.owner }
 
--- the hosts, from the entries by host
-abbrev pub hosts_in : List (ℕ × Attached) → List ShadowHost
-hosts_in es = map host_in es
+-- the hosts
+abbrev pub hosts_in : List Attached → List ShadowHost
+hosts_in kept = map host_in kept
 
--- the entries by root are those of the hosts
-abbrev pub RootsAgree : List (ℕ × Attached) → List (ℕ × ℕ) → Type 0
-RootsAgree es roots = roots ≡ map (λ (e : ℕ × Attached). (e.1.root, e.0)) es
+-- each host's root is found by the host, and each root's host by the root
+pub record AreFound (hosts : List ShadowHost) (by_host by_root : List (Option ℕ)) : Type 0 where
+  pub attached : (k : ℕ) → value_at by_host k ≡ root_of_host hosts k
+  pub found : (k : ℕ) → value_at by_root k ≡ host_of_root hosts k
 
 -- a step that was begun
 abbrev pub begun_in : Begun → BegunStep

@@ -2,6 +2,7 @@
 pub mod Hosts
 pub mod Shadows
 pub mod Tables
+pub mod KeyMaps
 pub mod Lists
 pub mod Steps
 pub mod Kept

@@ -1,17 +1,17 @@
--- How the maps of a table stand for what a contract sees of it.
-use Rattle.std.specs.Prelude.{◌≡◌, ℕ, List, [], map, nat_eq, Option, Vec, unwrap_or}
-use Rattle.std.specs.Option.{option_map}
+-- How the lists of a table stand for what a contract sees of it.
+use Rattle.std.specs.Prelude.{◌≡◌, ℕ, suc, List, [], ◌∷◌, nat_eq, Vec}
 use Rattle.dom_model.specs.Names.{is_in}
-use Rattle.dom_slots.specs.Tables.{SlotTable, list_of}
+use Rattle.dom_slots.specs.KeyMaps.{list_at}
+use Rattle.dom_slots.specs.Tables.{SlotTable}
 
--- the table of a map's entries
-abbrev pub table_in : {A : Type 0} → List (ℕ × Vec ℕ A) → SlotTable
-table_in es = map (λ e. (e.0, e.1.items)) es
+-- the table of lists that stand by the numbers of their slots, from a number on, and from 0 on
+abbrev pub table_from : {A : Type 0} → ℕ → List (Vec ℕ A) → SlotTable
+table_from i [] = []
+table_from i (v ∷ rows) = (i, v.items) ∷ table_from (suc i) rows
 
--- a node has just those slots by the entries of the other map in whose lists it stands
-abbrev pub SlotsAgree : {A B : Type 0} → List (ℕ × Vec ℕ A) → List (ℕ × Vec ℕ B) → Type 0
-SlotsAgree lists slots = (k s : ℕ) → is_in nat_eq s (list_of (table_in slots) k) ≡ is_in nat_eq k (list_of (table_in lists) s)
+abbrev pub table_in : {A : Type 0} → List (Vec ℕ A) → SlotTable
+table_in rows = table_from 0 rows
 
--- a list that is there, or none
-abbrev pub items_or : {A : Type 0} → Option (Vec ℕ A) → List ℕ
-items_or o = unwrap_or (option_map (λ v. v.items) o) []
+-- a node has just those slots by the other lists in whose lists it stands
+abbrev pub SlotsAgree : {A B : Type 0} → List (Vec ℕ A) → List (Vec ℕ B) → Type 0
+SlotsAgree lists slots = (k s : ℕ) → is_in nat_eq s (list_at slots k) ≡ is_in nat_eq k (list_at lists s)

@@ -4,6 +4,8 @@
 
 mod changes;
 mod find;
+mod key_lists;
+mod key_map;
 mod laws;
 mod slots;
 mod step;

@@ -13,17 +13,18 @@ mod moving;
 mod renewal;
 mod signals;
 
+use crate::key_map::KeyMap;
 use crate::step::Step;
 use crate::table::Table;
 use dom_base::Owner;
-use indexmap::IndexMap;
 use node_arena::Key;
 use std::alloc::{AllocError, Global};
 use std::marker::Model;
 
-/// What is kept of a host: its shadow root, and the component to which that root belongs.
+/// A host with its shadow root, and the component to which that root belongs.
 #[derive(Clone, Copy)]
 struct Attached {
+    host: Key,
     root: Key,
     owner: Owner,
 }
@@ -39,8 +40,9 @@ struct Begun {
 /// The hosts of shadow trees, in the order of attaching, and the nodes assigned to the slots of their trees.
 #[derive(Drop)]
 pub struct Slots {
-    hosts: IndexMap<Key, Attached>,
-    roots: IndexMap<Key, Key>,
+    hosts: Vec<Attached>,
+    by_host: KeyMap,
+    by_root: KeyMap,
     table: Table,
     begun: Option<Begun>,
     alloc: Global,
@@ -51,12 +53,12 @@ impl Model for Slots {
 
     ghost Value = { SlotsNow };
 
-    ghost use Rattle.dom_slots.specs.Fields.{hosts_in, begun_in, RootsAgree};
+    ghost use Rattle.dom_slots.specs.Fields.{hosts_in, begun_in, AreFound};
     ghost use Rattle.std.specs.Option.{option_map};
 
-    ghost view = { λ s. record { hosts = hosts_in s.hosts.entries; table = s.table; begun = option_map begun_in s.begun } };
+    ghost view = { λ s. record { hosts = hosts_in s.hosts.items; table = s.table; begun = option_map begun_in s.begun } };
 
-    ghost invariant = { λ s. RootsAgree s.hosts.entries s.roots.entries };
+    ghost invariant = { λ s. AreFound (hosts_in s.hosts.items) s.by_host.values.items s.by_root.values.items };
 }
 
 impl Slots {
@@ -67,8 +69,9 @@ impl Slots {
         ensures slots { (f : NamedTrees) → AreSlotsOf f result }
     {
         Slots {
-            hosts: IndexMap::new(alloc),
-            roots: IndexMap::new(alloc),
+            hosts: Vec::new(alloc),
+            by_host: KeyMap::new(alloc),
+            by_root: KeyMap::new(alloc),
             table: Table::new(alloc),
             begun: None,
             alloc,
@@ -89,9 +92,12 @@ impl Slots {
             slots_among (subtree f.trees (name_at f.names root)) ≡ [] → AreSlotsOf f self.new) }
         ensures err { OnErr result (self.new ≡ self.old) }
     {
-        self.roots.reserve(1)?;
-        let _ = self.hosts.insert(host, Attached { root, owner })?;
-        let _ = self.roots.insert(root, host)?;
+        self.hosts.reserve(1)?;
+        self.by_host.reach(host)?;
+        self.by_root.reach(root)?;
+        let _ = self.hosts.push(Attached { host, root, owner });
+        self.by_host.set(host, root);
+        self.by_root.set(root, host);
         Ok(())
     }
 
@@ -99,7 +105,7 @@ impl Slots {
     pub fn host_of(&self, root: Key) -> Option<Key>
         ensures { result ≡ host_of_root self.now.hosts root }
     {
-        self.roots.get(&root).copied()
+        self.by_root.get(root)
     }
 
     /// The shadow root of a host, none of another node (DOM Standard, concept: shadow root of an element). It is found
@@ -107,7 +113,6 @@ impl Slots {
     pub fn root_of(&self, host: Key) -> Option<Key>
         ensures { result ≡ root_of_host self.now.hosts host }
     {
-        let attached = self.hosts.get(&host)?;
-        Some(attached.root)
+        self.by_host.get(host)
     }
 }

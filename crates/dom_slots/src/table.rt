@@ -1,14 +1,12 @@
 //! Which nodes are assigned to each slot, and the slots of each node.
-ghost use Rattle.std.specs.Prelude.{◌≡◌, ℕ, ◌≤◌, ◌&&◌, ◌||◌, [], true, false, length, nat_eq, not, if◌then◌else◌, None, OnOk, OnErr};
-ghost use Rattle.std.specs.List.{insert as inserted, position};
+ghost use Rattle.std.specs.Prelude.{◌≡◌, ℕ, ◌&&◌, ◌||◌, [], true, false, nat_eq, not, if◌then◌else◌, None, OnOk};
 ghost use Rattle.std.specs.Option.{ForSome};
-ghost use Rattle.indexmap.specs.IndexMap.{get};
 ghost use Rattle.dom_model.specs.Names.{is_in, list_eq};
 ghost use Rattle.node_arena.specs.Nodes.{insert_before, without};
-ghost use Rattle.dom_slots.specs.Lists.{items_or};
+ghost use Rattle.dom_slots.specs.KeyMaps.{list_at};
 ghost use Rattle.dom_slots.specs.Tables.{list_of};
 
-use indexmap::IndexMap;
+use crate::key_lists::KeyLists;
 use node_arena::Key;
 use std::alloc::{AllocError, Global};
 use std::marker::Model;
@@ -17,8 +15,8 @@ use std::marker::Model;
 /// is still to be renewed. A slot without a list has an empty one, and so has a node; who had one keeps it, empty.
 #[derive(Drop)]
 pub(crate) struct Table {
-    lists: IndexMap<Key, Vec<Key>>,
-    slots: IndexMap<Key, Vec<Key>>,
+    lists: KeyLists,
+    slots: KeyLists,
 }
 
 impl Model for Table {
@@ -28,9 +26,9 @@ impl Model for Table {
 
     ghost use Rattle.dom_slots.specs.Lists.{table_in, SlotsAgree};
 
-    ghost view = { λ t. table_in t.lists.entries };
+    ghost view = { λ t. table_in t.lists.rows.items };
 
-    ghost invariant = { λ t. SlotsAgree t.lists.entries t.slots.entries };
+    ghost invariant = { λ t. SlotsAgree t.lists.rows.items t.slots.rows.items };
 }
 
 impl Table {
@@ -39,8 +37,8 @@ impl Table {
         ensures { result ≡ [] }
     {
         Table {
-            lists: IndexMap::new(alloc),
-            slots: IndexMap::new(alloc),
+            lists: KeyLists::new(alloc),
+            slots: KeyLists::new(alloc),
         }
     }
 
@@ -48,10 +46,7 @@ impl Table {
     pub(crate) fn list(&self, slot: Key) -> &[Key]
         ensures { result.now ≡ list_of self.now slot }
     {
-        match self.lists.get(&slot) {
-            Some(list) => list.as_slice(),
-            None => &[],
-        }
+        self.lists.of(slot)
     }
 
     /// A slot in whose list a node stands, found by one look-up; none where it stands in no list.
@@ -59,10 +54,7 @@ impl Table {
         ensures some { ForSome result (λ slot. is_in nat_eq node (list_of self.now slot) ≡ true) }
         ensures none { result ≡ None → (slot : ℕ) → is_in nat_eq node (list_of self.now slot) ≡ false }
     {
-        match self.slots.get(&node) {
-            Some(slots) => slots.first().copied(),
-            None => None,
-        }
+        self.slots.of(node).first().copied()
     }
 
     /// Whether the list of a slot is another one than these nodes.
@@ -81,15 +73,13 @@ impl Table {
     ) -> Result<(), AllocError>
         ensures { OnOk result ((k : ℕ) → list_of self.new k ≡ (if nat_eq slot k then list.items else list_of self.old k)) }
     {
-        if let Some(old) = self.lists.get(&slot) {
-            forget(&mut self.slots, old, slot);
-        }
+        forget(&mut self.slots, self.lists.of(slot), slot);
         if remember(alloc, &mut self.slots, &list, slot).is_err() {
             self.lists.clear();
             self.slots.clear();
             return Err(AllocError);
         }
-        if self.lists.insert(slot, list).is_err() {
+        if self.lists.set(alloc, slot, list).is_err() {
             self.lists.clear();
             self.slots.clear();
             return Err(AllocError);
@@ -102,8 +92,8 @@ impl Table {
         ensures stood { result ≡ is_in nat_eq node (list_of self.old slot) }
         ensures lists { (k : ℕ) → list_of self.new k ≡ (if nat_eq slot k then without node (list_of self.old k) else list_of self.old k) }
     {
-        let _ = take_from(&mut self.slots, node, slot);
-        take_from(&mut self.lists, slot, node)
+        let _ = self.slots.take_out(node, slot);
+        self.lists.take_out(slot, node)
     }
 
     /// Puts a node into the list of a slot, just before another one of its nodes or last. Where memory is refused the table is
@@ -117,8 +107,8 @@ impl Table {
     ) -> Result<(), AllocError>
         ensures { OnOk result ((k : ℕ) → list_of self.new k ≡ (if nat_eq slot k then insert_before (list_of self.old k) node before else list_of self.old k)) }
     {
-        put_into(alloc, &mut self.lists, slot, node, before)?;
-        if put_into(alloc, &mut self.slots, node, slot, None).is_err() {
+        self.lists.put(alloc, slot, node, before)?;
+        if self.slots.put(alloc, node, slot, None).is_err() {
             self.lists.clear();
             self.slots.clear();
             return Err(AllocError);
@@ -127,92 +117,24 @@ impl Table {
     }
 }
 
-/// Takes a node out of the list of a slot, and tells whether it stood there.
-fn take_from(lists: &mut IndexMap<Key, Vec<Key>>, slot: Key, node: Key) -> bool
-    ensures stood { result ≡ is_in nat_eq node (items_or (get nat_eq lists.old slot)) }
-    ensures lists { (k : ℕ) → items_or (get nat_eq lists.new k) ≡
-        (if nat_eq slot k then without node (items_or (get nat_eq lists.old k)) else items_or (get nat_eq lists.old k)) }
-{
-    match lists.get_mut(&slot) {
-        Some(list) => {
-            let stood = list.contains(&node);
-            list.retain(|other| *other != node);
-            stood
-        }
-        None => false,
-    }
-}
-
-/// Puts a node into the list of a slot, just before another one of its nodes or last. Where memory is refused, each list is
-/// as it was.
-fn put_into(
-    alloc: Global,
-    lists: &mut IndexMap<Key, Vec<Key>>,
-    slot: Key,
-    node: Key,
-    before: Option<Key>,
-) -> Result<(), AllocError>
-    ensures ok { OnOk result ((k : ℕ) → items_or
-        (get nat_eq lists.new k) ≡ (if nat_eq slot k then insert_before (items_or (get nat_eq lists.old k)) node before else items_or
-        (get nat_eq lists.old k))) }
-    ensures err { OnErr result ((k : ℕ) → items_or (get nat_eq lists.new k) ≡ items_or (get nat_eq lists.old k)) }
-{
-    match lists.get_mut(&slot) {
-        Some(list) => {
-            let at = place_of(list, before);
-            list.insert(at, node)?;
-        }
-        None => {
-            let mut list = Vec::new(alloc);
-            list.push(node)?;
-            let _ = lists.insert(slot, list)?;
-        }
-    }
-    Ok(())
-}
-
-/// The place just before a node of a list, or behind all.
-fn place_of(list: &[Key], before: Option<Key>) -> usize
-    ensures within { result ≤ length list.now }
-    ensures place { (node : ℕ) → inserted list.now result node ≡ insert_before list.now node before }
-{
-    let end = list.len();
-    match before {
-        Some(key) => position_of(list, key).unwrap_or(end),
-        None => end,
-    }
-}
-
-/// The place of a node in a list.
-fn position_of(list: &[Key], node: Key) -> Option<usize>
-    ensures { result ≡ position (λ other. nat_eq other node) list.now }
-{
-    list.iter().position(|other| *other == node)
-}
-
 /// Takes this slot from these nodes.
-fn forget(slots: &mut IndexMap<Key, Vec<Key>>, nodes: &[Key], slot: Key)
+fn forget(slots: &mut KeyLists, nodes: &[Key], slot: Key)
     ensures { (k s : ℕ) → is_in nat_eq s
-        (items_or (get nat_eq slots.new k)) ≡
-        (is_in nat_eq s (items_or (get nat_eq slots.old k)) && not (nat_eq slot s && is_in nat_eq k nodes.now)) }
+        (list_at slots.new.rows.items k) ≡
+        (is_in nat_eq s (list_at slots.old.rows.items k) && not (nat_eq slot s && is_in nat_eq k nodes.now)) }
 {
     for node in nodes {
-        let _ = take_from(slots, *node, slot);
+        let _ = slots.take_out(*node, slot);
     }
 }
 
 /// Gives these nodes this slot.
-fn remember(
-    alloc: Global,
-    slots: &mut IndexMap<Key, Vec<Key>>,
-    nodes: &[Key],
-    slot: Key,
-) -> Result<(), AllocError>
+fn remember(alloc: Global, slots: &mut KeyLists, nodes: &[Key], slot: Key) -> Result<(), AllocError>
     ensures { OnOk result ((k s : ℕ) → is_in nat_eq s
-        (items_or (get nat_eq slots.new k)) ≡ (is_in nat_eq s (items_or (get nat_eq slots.old k)) || (nat_eq slot s && is_in nat_eq k nodes.now))) }
+        (list_at slots.new.rows.items k) ≡ (is_in nat_eq s (list_at slots.old.rows.items k) || (nat_eq slot s && is_in nat_eq k nodes.now))) }
 {
     for node in nodes {
-        put_into(alloc, slots, *node, slot, None)?;
+        slots.put(alloc, *node, slot, None)?;
     }
     Ok(())
 }

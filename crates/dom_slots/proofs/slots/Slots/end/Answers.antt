@@ -2,6 +2,8 @@ use Rattle.std.proofs.Common.{◌≡◌, ℕ, Bool, true, Option, Some, Result, 
 use Rattle.std.proofs.Common.{subst, ◌∙◌, arith}
 use Rattle.std.specs.Prelude.{IfOk}
 use Rattle.std.specs.Option.{option_map}
+use Rattle.std.specs.Vec.{vec_len}
+use Rattle.std.proofs.lemmas.Bool.{eqb-true}
 use Rattle.std.proofs.lemmas.Option.{same_Some}
 use Rattle.std.proofs.lemmas.Result.{IfOk-weaker}
 use Rattle.dom_base.specs.declared.NodeName.{NodeName}
@@ -98,7 +100,7 @@ module _ (c : After-moved_signals) where
   stands : StandsOnce c.args.forest.now
   stands = record { once = c.nodes_stand_once.ensures.once; only = c.nodes_stand_once.ensures.only }
 
-  hosts_are : hosts_in c.self.inside.hosts.entries ≡ c.args.self.now.hosts
+  hosts_are : hosts_in c.self.inside.hosts.items ≡ c.args.self.now.hosts
   hosts_are = ap (λ (t : SlotsNow). t.hosts) c.self.view_is
 
   module _ (was : Trees) (b : BegunStep) (h : IsEndOf was c.args.forest.now c.args.self.now b) where
@@ -107,14 +109,14 @@ module _ (c : After-moved_signals) where
         (ap (option_map begun_in) c.take.ensures.value ∙ (ap (λ (t : SlotsNow). t.begun) c.self.view_is ∙ h.begun))
 
     apart : is_apart (shadows f s.hosts) (name_at f.names (step_node b.step)) (option_map (name_at f.names) b.left) ≡ true
-    apart = begun-apart f (hosts_in c.self.inside.hosts.entries) s.hosts (begun_in c.in-Some.begun) b hosts_are same c.if-is_apart.ensures
+    apart = begun-apart f (hosts_in c.self.inside.hosts.items) s.hosts (begun_in c.in-Some.begun) b hosts_are same c.if-is_apart.ensures
 
     renewed : IfOk c.moved_signals.result (Own was f s b h stands c.moved_signals.result c.moved_signals.new.self s.hosts s.table b)
     renewed =
         let result = c.moved_signals.result in
         let new = c.moved_signals.new.self in
         held was f s b h stands result new (Own was f s b h stands result new) (ButFor was f s b h stands result new)
-        (hosts_in c.self.inside.hosts.entries) c.self.inside.table (begun_in c.in-Some.begun) hosts_are
+        (hosts_in c.self.inside.hosts.items) c.self.inside.table (begun_in c.in-Some.begun) hosts_are
         (ap (λ (t : SlotsNow). t.table) c.self.view_is) same
         (c.moved_signals.ensures.renewed (is_changed_at (shadow_trees f.names was s.hosts) (shadows f s.hosts)))
         (apart-but-for was f s b h stands apart c.nodes_stand_once.ensures.distinct)
@@ -132,7 +134,7 @@ returns-in-Some-clause-slots c =
     let b = c.requires.1 in
     let h = c.requires.2 in
     let new = c.moved_signals.new.self in
-    slots_are was (f c) (s c) b h (stands c) c.moved_signals.result new (hosts_in c.self.inside.hosts.entries) (hosts_are c)
+    slots_are was (f c) (s c) b h (stands c) c.moved_signals.result new (hosts_in c.self.inside.hosts.items) (hosts_are c)
     (IfOk-weaker c.moved_signals.result _ (λ keys. IsTableOf (f c) c.args.self.now.hosts new.table)
     (λ keys r. apart-table was (f c) (s c) b h (stands c) (apart c was b h) new.table keys.items r) (renewed c was b h))
     c.moved_signals.ensures.hosts
@@ -149,7 +151,7 @@ module _ (c : After-inside_signals) where
   stands_in : StandsOnce c.args.forest.now
   stands_in = record { once = c.nodes_stand_once.ensures.once; only = c.nodes_stand_once.ensures.only }
 
-  hosts_in_are : hosts_in c.self.inside.hosts.entries ≡ c.args.self.now.hosts
+  hosts_in_are : hosts_in c.self.inside.hosts.items ≡ c.args.self.now.hosts
   hosts_in_are = ap (λ (t : SlotsNow). t.hosts) c.self.view_is
 
   inside_renewed : (was : Trees) (b : BegunStep) (h : IsEndOf was c.args.forest.now c.args.self.now b)
@@ -159,7 +161,7 @@ module _ (c : After-inside_signals) where
       let result = c.inside_signals.result in
       let new = c.inside_signals.new.self in
       held was f_in s_in b h stands_in result new (Inside was f_in s_in b h stands_in result new)
-      (StillButFor was f_in s_in b h stands_in result new) (hosts_in c.self.inside.hosts.entries) c.self.inside.table
+      (StillButFor was f_in s_in b h stands_in result new) (hosts_in c.self.inside.hosts.items) c.self.inside.table
       (begun_in c.in-Some.begun) hosts_in_are
       (ap (λ (t : SlotsNow). t.table) c.self.view_is)
       (begun-same c.take.result c.in-Some.begun b c.in-Some.is
@@ -185,7 +187,7 @@ returns-in-Some-2-clause-slots c =
     let b = c.requires.1 in
     let h = c.requires.2 in
     let new = c.inside_signals.new.self in
-    slots_are was (f_in c) (s_in c) b h (stands_in c) c.inside_signals.result new (hosts_in c.self.inside.hosts.entries) (hosts_in_are c)
+    slots_are was (f_in c) (s_in c) b h (stands_in c) c.inside_signals.result new (hosts_in c.self.inside.hosts.items) (hosts_in_are c)
     (IfOk-weaker c.inside_signals.result _ (λ keys. IsTableOf (f_in c) c.args.self.now.hosts new.table)
     (λ keys r. inside-table was (f_in c) (s_in c) b h (stands_in c) new.table keys.items r) (inside_renewed c was b h))
     c.inside_signals.ensures.hosts
@@ -194,9 +196,11 @@ pub returns-then-is_empty-clause-value : goal.returns-then-is_empty-clause-value
 returns-then-is_empty-clause-value c =
     λ was b h.
     let f = c.args.forest.now in
-    let none : length c.self.inside.hosts.entries ≡ 0 = c.if-is_empty.ensures.0 refl in
+    let none : length c.self.inside.hosts.items ≡ 0 =
+    let none = eqb-true (vec_len c.self.inside.hosts) 0 (sym c.is_empty.ensures ∙ c.if-is_empty.true) in
+    omega (arith, none, c.self.inside.hosts.ok.0) in
     let hosts_are : c.args.self.now.hosts ≡ [] =
-    sym (ap (λ (t : SlotsNow). t.hosts) c.self.view_is) ∙ ap hosts_in (length-zero c.self.inside.hosts.entries none) in
+    sym (ap (λ (t : SlotsNow). t.hosts) c.self.view_is) ∙ ap hosts_in (length-zero c.self.inside.hosts.items none) in
     ap (map (name_at f.names)) c.new.ensures.items
     ∙ (hostless-signals f.names was f.trees b.step b.left ∙
     ap (λ hs. step_signals f.names (shadow_trees f.names was hs) (shadow_trees f.names f.trees hs) b.step b.left) (sym hosts_are))

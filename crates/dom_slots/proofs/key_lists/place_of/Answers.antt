@@ -3,7 +3,7 @@ use Rattle.std.specs.Prelude.{unwrap_or}
 use Rattle.std.specs.List.{insert}
 use Rattle.node_arena.specs.Nodes.{insert_before}
 use Rattle.dom_slots.proofs.Places.{place-or-end, inserted-there}
-use Rattle.dom_slots.proofs.table.place_of.Goals as goal
+use Rattle.dom_slots.proofs.key_lists.place_of.Goals as goal
 
 pub returns-in-Some-clause-place : goal.returns-in-Some-clause-place
 returns-in-Some-clause-place c =
