@@ -128,6 +128,7 @@ fn end(
     for slot in &keys {
         signal(forest, *slot, signalled, queue)?;
     }
+    slots.take_back(keys);
     Ok(())
 }
 

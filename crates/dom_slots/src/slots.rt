@@ -45,6 +45,7 @@ pub struct Slots {
     by_root: KeyMap,
     table: Table,
     begun: Option<Begun>,
+    spare: Vec<Key>,
     alloc: Global,
 }
 
@@ -74,6 +75,7 @@ impl Slots {
             by_root: KeyMap::new(alloc),
             table: Table::new(alloc),
             begun: None,
+            spare: Vec::new(alloc),
             alloc,
         }
     }

@@ -62,7 +62,8 @@ impl Slots {
             IfOk result (λ keys. IsInside forest.now self.old.hosts p self.old.table begun.step begun.left begun.slot self.new.table keys.items) }
     {
         let kept = begun;
-        let mut signals = self.moved_signals(forest, kept)?;
+        let empty = self.empty_list();
+        let mut signals = self.moved_signals(forest, kept, empty)?;
         if let Some(around) = begun.step.around(begun.left) {
             self.add_bare(forest, begun.step, around, &mut signals)?;
         }

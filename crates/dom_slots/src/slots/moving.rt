@@ -22,15 +22,18 @@ use std::alloc::AllocError;
 
 impl Slots {
     /// Renews the lists of the old and of the new slot of a step's node, where all other nodes in the lists of slots stay, and
-    /// gives those of the two whose lists were others. Where the two are one and the node is not moved, no list is looked at.
+    /// gives those of the two whose lists were others, in a list that is empty before. Where the two are one and the node is not
+    /// moved, no list is looked at.
     pub(super) fn moved_signals(
         &mut self,
         forest: &Forest,
         begun: Begun,
+        mut signals: Vec<Key>,
     ) -> Result<Vec<Key>, AllocError>
         requires hosts { HostsAreNodes forest.now.names self.old.hosts }
         requires nodes { StepHasNodes forest.now.names begun.step }
         requires slot { ForSome begun.slot (IsNode forest.now) }
+        requires signals { signals.items ≡ [] }
         ensures hosts { IfOk result (λ keys. self.new.hosts ≡ self.old.hosts) }
         ensures begun { IfOk result (λ keys. self.new.begun ≡ self.old.begun) }
         ensures renewed { (p : Name → Truth) → IsButFor forest.now self.old.hosts self.old.table begun.slot begun.step →
@@ -45,12 +48,18 @@ impl Slots {
             if begun.step.is_move() {
                 return self.own_signals(forest, begun);
             }
-            return Ok(Vec::new(self.alloc));
+            return Ok(signals);
         }
-        let mut signals = Vec::new(self.alloc);
         self.leave(forest, begun.slot, node, &mut signals)?;
         self.join(forest, slot, node, &mut signals)?;
         Ok(signals)
+    }
+
+    /// An empty list, which takes no memory yet.
+    pub(super) fn empty_list(&self) -> Vec<Key>
+        ensures { result.items ≡ [] }
+    {
+        Vec::new(self.alloc)
     }
 
     /// Takes a node out of the list of a slot, if there is one, and adds the slot to the signals where the node stood there.

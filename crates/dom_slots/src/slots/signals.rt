@@ -18,6 +18,7 @@ use crate::step::Step;
 use dom_tree::Forest;
 use node_arena::Key;
 use std::alloc::AllocError;
+use std::mem;
 
 impl Slots {
     /// Keeps a step that is about to be done, with what `end` needs of the forest before it (own rule). A value to which
@@ -70,11 +71,21 @@ impl Slots {
         }
         match self.begun.take() {
             Some(begun) if self.is_apart(forest, begun.step, begun.left) => {
-                self.moved_signals(forest, begun)
+                let mut signals = mem::replace(&mut self.spare, Vec::new(self.alloc));
+                signals.clear();
+                self.moved_signals(forest, begun, signals)
             }
             Some(begun) => self.inside_signals(forest, begun),
             None => Ok(Vec::new(self.alloc)),
         }
+    }
+
+    /// Takes back a list that `end` gave, which need not be given back: a later step puts its slots into it, and so takes no memory
+    /// for them.
+    pub fn take_back(&mut self, signals: Vec<Key>)
+        ensures { self.new ≡ self.old }
+    {
+        self.spare = signals;
     }
 
     /// Renews the lists of the old and of the new slot of a step's node, and gives those of the two whose lists were others.

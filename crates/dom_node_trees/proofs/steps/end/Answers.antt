@@ -1,8 +1,9 @@
-use Rattle.std.proofs.Common.{fold, sym, ap, ◌∙◌}
+use Rattle.std.proofs.Common.{fold, sym, ap, subst, ◌∙◌}
 use Rattle.std.proofs.lemmas.List.{take_all}
 use Rattle.dom_model.specs.Names.{name_eq, append_once}
 use Rattle.dom_tree.specs.Forest.{name_at}
 use Rattle.dom_model.specs.World.{queued_notify}
+use Rattle.dom_node_trees.specs.Signalled.{signal_tables, HasSignalled}
 use Rattle.dom_node_trees.proofs.Signals.{queued_by, signalled_by, fold_next, StepSignals, all_signalled}
 use Rattle.dom_node_trees.proofs.steps.end.Goals as goal
 
@@ -40,6 +41,8 @@ returns c was b end =
       keys_nodes = c.in_ok-keys.ensures.nodes;
       told = c.in_ok-keys.ensures.value was b end;
     } in
-    all_signalled signals c.loop-slot.signalled c.loop-slot.queue
+    subst (λ s. HasSignalled f.names was f.trees b.step b.left (signal_tables c.args.slots.now c.args.signalled.now c.args.queue.now)
+    (signal_tables s c.loop-slot.signalled c.loop-slot.queue)) (sym c.take_back.ensures)
+    (all_signalled signals c.loop-slot.signalled c.loop-slot.queue
     (c.loop-slot.invariant.0 ∙ ap (fold (signalled_by f.names) c.args.signalled.now) all)
-    (c.loop-slot.invariant.1 ∙ ap (fold (queued_by f.names) c.args.queue.now) all)
+    (c.loop-slot.invariant.1 ∙ ap (fold (queued_by f.names) c.args.queue.now) all))

@@ -25,7 +25,7 @@ returns-then-eq-clause-renewed c =
     let same : c.slot_now-slot.result ≡ slot = same-option c.slot_now-slot.result slot (sym c.eq.ensures ∙ c.if-eq.true) in
     let still = sym c.is_move.ensures ∙ c.if-is_move.false in
     subst (λ keys. AreRenewed f s.hosts p s.table (own_slots f s.hosts slot step) (filter p (own_slots f s.hosts slot step)) s.table keys)
-    (sym c.new.ensures.items)
+    (sym c.requires.signals)
     (both-stay f c.nodes_stand_once.ensures.distinct s.hosts step (node-within f.names step c.requires.nodes) slot c.slot_now-slot.result
     c.slot_now-slot.ensures.node own c.requires.slot p s.table
     (but.stays still (ap (option_map (name_at f.names)) (sym same) ∙ own)) start)
@@ -53,7 +53,7 @@ returns-clause-renewed c =
     c.in_ok-leave.ensures.renewed p s.table [] []
     (λ k was. ap (λ n. map name (without n (list_of s.table k))) node_is ∙ leaves-right f distinct s.hosts step node slot new
     c.slot_now-slot.ensures.node own s.table but start.nodes apart c.requires.slot k was)
-    (subst (AreRenewed f s.hosts p s.table [] [] s.table) (sym c.new-signals.ensures.items) start) in
+    (subst (AreRenewed f s.hosts p s.table [] [] s.table) (sym c.requires.signals) start) in
     let right : (k : ℕ) → new ≡ Some k → map name (list_of left k) ≡ names_but (name c.node-node.result) (assigned_at (shadows f hs) (name k)) =
     λ k now.
     joins-right f distinct s.hosts step node slot new c.slot_now-slot.ensures.node own s.table but start.nodes apart c.requires.slot p
