@@ -1,6 +1,6 @@
 -- A command's word is found among those with its first byte.
 use Rattle.std.proofs.Common.{◌≡◌, ℕ, Bool, true, false, List, [], ◌∷◌, Some, None, cond, refl, ap, ◌∙◌, eq-eqb, ◌<◌, length, get_or, arith}
-use Rattle.std.specs.Prelude.{find, filter, map, option_map, bytes_eq}
+use Rattle.std.specs.Prelude.{find, filter, bytes_eq}
 use Rattle.dom_text.specs.Words.{keyword_word, keywords}
 use Rattle.dom_text.specs.Readers.{named}
 use Rattle.dom_text.specs.Decode.{keyword_of}
@@ -16,16 +16,6 @@ find-filter {X = X} p q (x ∷ xs) h = go (q x) refl (p x) refl (find-filter p q
     go true e u f more = rw e (ap (cond (p x) (Some x)) more)
     go false e true f more = absurd (let t = h x f in cc)
     go false e false f more = rw (e, f) more
-
--- what is found among images is the image of what is found
-pub find-map : {X Y : Type 0} (f : X → Y) (p : Y → Bool) (xs : List X) → option_map f (find (λ x. p (f x)) xs) ≡ find p (map f xs)
-find-map f p [] = refl
-find-map {X = X} {Y = Y} f p (x ∷ xs) = go (p (f x)) refl (find-map f p xs)
-  where
-    go : (t : Bool) → p (f x) ≡ t → option_map f (find (λ (z : X). p (f z)) xs) ≡ find p (map f xs) →
-        option_map f (find (λ (z : X). p (f z)) (x ∷ xs)) ≡ find p (map f (x ∷ xs))
-    go true e more = rw e refl
-    go false e more = rw e more
 
 -- the word is found among those with its first byte
 pub named_with : (word : List ℕ) → 0 < length word → named keyword_word (keywords_with (get_or word 0 0)) word ≡ keyword_of word

@@ -119,3 +119,12 @@ begins first (b ∷ bytes) = b == first
 -- the commands' words that begin with the byte, in their order
 abbrev pub keywords_with : ℕ → List Keyword
 keywords_with first = filter (λ k. begins first (keyword_word k)) keywords
+
+-- the commands' words that begin with `re`, in their order
+abbrev pub re_keywords : List Keyword
+re_keywords = keyword.Replace ∷ keyword.Remove ∷ keyword.ReplaceData ∷ []
+
+-- the commands' words that begin with `range-`, in their order
+abbrev pub range_keywords : List Keyword
+range_keywords =
+    keyword.RangeNew ∷ keyword.RangeStart ∷ keyword.RangeEnd ∷ keyword.RangeCollapse ∷ keyword.RangeDrop ∷ keyword.RangeGet ∷ keyword.RangeText ∷ []

@@ -1,6 +1,7 @@
 -- What was read, seen as the model's commands and lines.
-use Rattle.std.specs.Prelude.{◌≡◌, map, Option, Some, None, option_map, string_bytes, Result, Ok, Err}
+use Rattle.std.specs.Prelude.{◌≡◌, ℕ, map, Option, Some, None, option_map, string_bytes, Result, Ok, Err}
 use Rattle.dom_base.specs.declared.Owner.{Owner}
+use Rattle.dom_base.specs.declared.Owner.TheVariants.{Page, Component}
 use Rattle.dom_base.specs.declared.Refusal.{Refusal}
 use Rattle.dom_base.specs.declared.Refusal.TheVariants.{Syntax}
 use Rattle.dom_model.specs.Command as model
@@ -20,6 +21,11 @@ use Rattle.dom_reader.specs.declared.line.Line.{Line}
 abbrev pub word_view : NodeWord → model.NodeWord
 word_view (Own n) = model.own n
 word_view Foreign = model.foreign
+
+-- the letter before the number of an owner's own node
+abbrev pub own_letter : Owner → ℕ
+own_letter Page = 110
+own_letter (Component q) = 109
 
 -- the kinds that are shown
 abbrev pub show_view : Show → model.Show

@@ -9,7 +9,7 @@ ghost use Rattle.dom_text.specs.Readers.{page_node as spec_page_node, inner_node
 ghost use Rattle.dom_text.specs.Readers.{node_word_of as spec_spelled_of};
 ghost use Rattle.dom_text.specs.Decode.{before_space, node_at, owner_at as spec_owner_at};
 ghost use Rattle.dom_words.specs.Gives.{Takes};
-ghost use Rattle.dom_reader.specs.Views.{word_view};
+ghost use Rattle.dom_reader.specs.Views.{own_letter, word_view};
 
 use crate::line::NodeWord;
 use crate::separated::first_part;
@@ -70,6 +70,9 @@ pub fn owner_of(word: &[u8]) -> Option<Owner>
 pub fn owner_at(line: &[u8]) -> Option<(Owner, &[u8])>
     ensures { option_map (λ x. (x.0, x.1.now)) result ≡ spec_owner_at line.now }
 {
+    if let [b'p', b' ', ..] = line {
+        return Some((Owner::Page, &line[1..]));
+    }
     let (word, rest) = word_at(line)?;
     let owner = owner_of(word)?;
     match rest {
@@ -140,10 +143,30 @@ fn node_word_of(owner: Owner, word: &[u8]) -> Option<NodeWord>
     }
 }
 
-/// The next word as a node, as a line of the owner names it.
-pub fn next_node(owner: Owner, words: &mut WordReader) -> Result<NodeWord, NotRead>
+/// The letter before the number of an owner's own node in its lines.
+fn own_letter(owner: Owner) -> u8
+    ensures { result ≡ own_letter owner }
+{
+    match owner {
+        Owner::Page => b'n',
+        Owner::Component(_) => b'm',
+    }
+}
+
+/// The next word as a node, as a line of the owner names it, however it is spelled.
+fn spelled_node(owner: Owner, words: &mut WordReader) -> Result<NodeWord, NotRead>
     ensures { Takes word_view result (node_at owner words.old) words.new }
 {
     let word = words.word()?;
     node_word_of(owner, word).ok_or(NotRead::Syntax)
+}
+
+/// The next word as a node, as a line of the owner names it. Most are the owner's own, and are read in one pass.
+pub fn next_node(owner: Owner, words: &mut WordReader) -> Result<NodeWord, NotRead>
+    ensures { Takes word_view result (node_at owner words.old) words.new }
+{
+    match words.lettered(own_letter(owner)) {
+        Some(number) => Ok(NodeWord::Own(number)),
+        None => spelled_node(owner, words),
+    }
 }

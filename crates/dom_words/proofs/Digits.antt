@@ -1,22 +1,21 @@
 -- Reading digits one after the other.
-use Rattle.std.proofs.Common.{◌≡◌, ℕ, ◌+◌, ◌-◌, ◌*◌, ◌^◌, ◌<◌, ◌≤◌, true, List}
-use Rattle.std.proofs.Common.{length, get_or, drop, Option, Some, refl, sym, ap, ◌∙◌, arith, add-one}
+use Rattle.std.proofs.Common.{◌≡◌, ℕ, ◌+◌, ◌-◌, ◌*◌, ◌^◌, ◌<◌, ◌≤◌, true, false, List}
+use Rattle.std.proofs.Common.{length, get_or, drop, refl, sym, ap, ◌∙◌, arith, add-one, one-add}
 use Rattle.std.proofs.Math.ListN.{drop_of_length-le}
 use Rattle.std.proofs.Math.Nat.{pow-le-pow_right}
 use Rattle.std.proofs.Math.Seq.{drop-cons}
 use Rattle.std.proofs.lemmas.Bool.Decides.{nat_tests}
 use Rattle.std.proofs.lemmas.Grind.{pow_more}
-use Rattle.std.specs.List.{list_all}
+use Rattle.std.specs.List.{prefix_len, take_while}
 use Rattle.std.specs.Char.{digit_value, is_ascii_digit}
 use Rattle.std.specs.Str.Parse.{digits_value_after}
-use Rattle.dom_text.specs.Readers.{only_if}
 
--- the number with these digits behind its own, where they are digits
-abbrev pub read_on : ℕ → List ℕ → Option ℕ
-read_on n digits = only_if (list_all is_ascii_digit digits) (digits_value_after 10 n digits)
+-- the number with the digits in front of the bytes behind its own
+abbrev pub read_on : ℕ → List ℕ → ℕ
+read_on n bytes = digits_value_after 10 n (take_while is_ascii_digit bytes)
 
 -- what a digit byte is worth
-digit_is : (d : ℕ) → is_ascii_digit d ≡ true → (48 ≤ d) × (d ≤ 57) × (digit_value d ≡ d - 48)
+pub digit_is : (d : ℕ) → is_ascii_digit d ≡ true → (48 ≤ d) × (d ≤ 57) × (digit_value d ≡ d - 48)
 digit_is d h = grind (arith, nat_tests)
 
 -- a digit is read first
@@ -24,12 +23,22 @@ pub one_digit : (n i : ℕ) (digits : List ℕ) → i < length digits → is_asc
     read_on (n * 10 + (get_or digits i 0 - 48)) (drop (i + 1) digits) ≡ read_on n (drop i digits)
 one_digit n i digits l h =
     let first : read_on n (drop i digits) ≡ read_on (n * 10 + digit_value (get_or digits i 0)) (drop (i + 1) digits) =
-    rw (drop-cons digits i 0, h, add-one) refl in
+    rw (drop-cons digits i 0, h, one-add, add-one) refl in
     ap (λ (v : ℕ). read_on (n * 10 + v) (drop (i + 1) digits)) (sym (digit_is (get_or digits i 0) h).2) ∙ sym first
 
--- behind the last digit the number is read
-pub no_more : (n i : ℕ) (digits : List ℕ) → length digits ≤ i → read_on n (drop i digits) ≡ Some n
-no_more n i digits l = rw (drop_of_length-le digits l) refl
+-- and counted
+pub one_counted : (i : ℕ) (bytes : List ℕ) → i < length bytes → is_ascii_digit (get_or bytes i 0) ≡ true →
+    prefix_len is_ascii_digit (drop i bytes) ≡ 1 + prefix_len is_ascii_digit (drop (i + 1) bytes)
+one_counted i bytes l h = rw (drop-cons bytes i 0, h, add-one) refl
+
+-- at another byte the number is read
+pub no_digit : (n i : ℕ) (bytes : List ℕ) → i < length bytes → is_ascii_digit (get_or bytes i 0) ≡ false →
+    (read_on n (drop i bytes) ≡ n) × (prefix_len is_ascii_digit (drop i bytes) ≡ 0)
+no_digit n i bytes l h = (rw (drop-cons bytes i 0, h) refl, rw (drop-cons bytes i 0, h) refl)
+
+-- and behind the last byte
+pub no_more : (n i : ℕ) (bytes : List ℕ) → length bytes ≤ i → (read_on n (drop i bytes) ≡ n) × (prefix_len is_ascii_digit (drop i bytes) ≡ 0)
+no_more n i bytes l = (rw (drop_of_length-le bytes l) refl, rw (drop_of_length-le bytes l) refl)
 
 -- a number of up to eight digits, and of one more
 pub few_digits : (i n d : ℕ) → i < 8 → n < 10 ^ (i + 1) → is_ascii_digit d ≡ true →

@@ -1,3 +1,4 @@
 mod Digits
 mod Texts
 mod Loop
+mod Fronts

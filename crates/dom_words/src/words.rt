@@ -1,6 +1,7 @@
 //! A line's words, taken one after the other from the front of its bytes.
 
 ghost use Rattle.std.specs.Prelude.{◌≡◌, ℕ, List, option_map, IfOk, IfErr, IfSome, IsTrue, length, string_bytes, ◌≤◌};
+ghost use Rattle.std.specs.Bool.{OnFalse};
 ghost use Rattle.std.specs.List.{prefix_len, list_all};
 ghost use Rattle.std.specs.Char.{is_ascii_graphic};
 ghost use Rattle.dom_model.specs.Names.{is_empty};
@@ -29,6 +30,16 @@ fn word_len(bytes: &[u8]) -> usize
     ensures within { result ≤ length bytes.now }
 {
     bytes.iter().take_while(|b| b.is_ascii_graphic()).count()
+}
+
+/// Whether a byte of words stands in front.
+pub(crate) fn begins_graphic(bytes: &[u8]) -> bool
+    ensures { OnFalse result (prefix_len is_ascii_graphic bytes.now ≡ 0) }
+{
+    match bytes {
+        [] => false,
+        [first, ..] => first.is_ascii_graphic(),
+    }
 }
 
 /// Whether a word begins so: with any byte but a quote.
@@ -101,6 +112,13 @@ impl<'a> WordReader<'a> {
         ensures { result.now ≡ self.now }
     {
         self.rest
+    }
+
+    /// Leaves these bytes to be read.
+    pub(crate) fn leave(&mut self, rest: &'a [u8])
+        ensures { self.new ≡ rest.now }
+    {
+        self.rest = rest;
     }
 
     /// Whether the line ends here.

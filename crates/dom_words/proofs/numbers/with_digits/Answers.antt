@@ -1,27 +1,23 @@
--- Each byte that is a digit is read behind the number so far.
-use Rattle.std.proofs.Common.{get_or, sym, ◌∙◌, refl, arith}
-use Rattle.dom_words.proofs.Digits.{one_digit, no_more, few_digits}
+-- Where the digits in front are not all of the bytes, a byte is no digit.
+use Rattle.std.proofs.Common.{◌≡◌, ℕ, true, List, subst, refl, arith}
+use Rattle.std.proofs.lemmas.List.{take_all}
+use Rattle.std.proofs.lemmas.List.Folds.{list_all_at}
+use Rattle.std.proofs.lemmas.List.Sums.{prefix_len_stops}
+use Rattle.std.specs.List.{list_all, prefix_len}
+use Rattle.std.specs.Char.{is_ascii_digit}
+use Rattle.dom_words.proofs.Texts.{all_of_run}
 use Rattle.dom_words.proofs.numbers.with_digits.Goals as goal
 
-pub loop-d-init : goal.loop-d-init
-loop-d-init c = (refl, omega arith)
-
-pub overflow_mul-n : goal.overflow_mul-n
-overflow_mul-n c =
-    let d = get_or c.args.digits.now c.loop-d.d-index 0 in
-    omega (arith, few_digits c.loop-d.d-index c.loop-d.n d (omega arith) c.loop-d.invariant.1 (sym c.if-not-is_ascii_digit.ensures.value))
-
-pub overflow_add-n : goal.overflow_add-n
-overflow_add-n c =
-    let d = get_or c.args.digits.now c.loop-d.d-index 0 in
-    omega (arith, few_digits c.loop-d.d-index c.loop-d.n d (omega arith) c.loop-d.invariant.1 (sym c.if-not-is_ascii_digit.ensures.value))
-
-pub loop-d-preserved : goal.loop-d-preserved
-loop-d-preserved c =
-    let digit = sym c.if-not-is_ascii_digit.ensures.value in (
-      one_digit c.loop-d.n c.loop-d.d-index c.args.digits.now c.loop-d-test.true digit ∙ c.loop-d.invariant.0,
-      (few_digits c.loop-d.d-index c.loop-d.n (get_or c.args.digits.now c.loop-d.d-index 0) (omega arith) c.loop-d.invariant.1 digit).3,
-    )
+pub returns-then-count-digits : goal.returns-then-count-digits
+returns-then-count-digits c =
+    let digits = c.args.digits.now in
+    let n = c.with_front-number.result.1 in
+    let other = prefix_len_stops is_ascii_digit digits 0 (omega (arith, c.if-count-digits.true, c.with_front-number.ensures.count)) in
+    rw (list_all_at is_ascii_digit digits _ 0 (omega (arith, c.if-count-digits.true, c.with_front-number.ensures.count)) other) refl
 
 pub returns : goal.returns
-returns c = sym (no_more c.loop-d.n c.loop-d.d-index c.args.digits.now c.loop-d-test.false) ∙ c.loop-d.invariant.0
+returns c =
+    let digits = c.args.digits.now in
+    let whole = take_all (prefix_len is_ascii_digit digits) digits (omega (arith, c.if-count-digits.false, c.with_front-number.ensures.count)) in
+    let all = subst (λ (ds : List ℕ). list_all is_ascii_digit ds ≡ true) whole (all_of_run is_ascii_digit digits) in
+    rw (all, c.with_front-number.ensures.value, whole) refl
