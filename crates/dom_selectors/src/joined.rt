@@ -10,6 +10,7 @@ ghost use Rattle.dom_selectors.specs.Search.{SegmentEnds, SegmentIsAbove};
 ghost use Rattle.dom_selectors.specs.Views.{complex_from, complex_view};
 
 use crate::chain::{Place, chain_before, chain_end};
+use crate::matching::compound_matches;
 use crate::selector::{Combinator, Complex, CompoundPart, Link};
 use dom_tree::Forest;
 use node_arena::Key;
@@ -72,8 +73,8 @@ fn segment_above<'a>(
     None
 }
 
-/// Whether a node matches a complex selector.
-pub(crate) fn complex_matches(forest: &Forest, complex: &Complex, key: Key) -> bool
+/// Whether a node matches a complex selector, by its segments.
+fn segments_match(forest: &Forest, complex: &Complex, key: Key) -> bool
     requires { IsNode forest.now key }
     ensures { result ≡ spec_complex_matches forest.now.trees (complex_view complex.now) (name_of forest.now key) }
 {
@@ -88,4 +89,18 @@ pub(crate) fn complex_matches(forest: &Forest, complex: &Complex, key: Key) -> b
         end = next;
     }
     true
+}
+
+/// Whether a node matches a complex selector. Its last compound is tried first, since most nodes fail there.
+pub(crate) fn complex_matches(forest: &Forest, complex: &Complex, key: Key) -> bool
+    requires { IsNode forest.now key }
+    ensures { result ≡ spec_complex_matches forest.now.trees (complex_view complex.now) (name_of forest.now key) }
+{
+    match complex.links.as_slice().split_last() {
+        None => compound_matches(forest, complex.first.as_slice(), key),
+        Some((last, _)) => {
+            compound_matches(forest, last.compound.as_slice(), key)
+                && segments_match(forest, complex, key)
+        }
+    }
 }

@@ -50,11 +50,21 @@ fn attribute_passes(
     }
 }
 
-/// Whether two names are the same.
+/// Whether two names are the same. Names are short, so their bytes are compared one by one.
 fn is_same_name(name: &str, other: &str) -> bool
     ensures { result ≡ text_eq name.now other.now }
 {
-    name == other
+    let text = name.as_bytes();
+    let others = other.as_bytes();
+    if text.len() != others.len() {
+        return false;
+    }
+    for (i, b) in others.iter().enumerate() {
+        if text[i] != *b {
+            return false;
+        }
+    }
+    true
 }
 
 /// Whether an element matches a simple selector.

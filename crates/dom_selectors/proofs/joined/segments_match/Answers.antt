@@ -9,7 +9,7 @@ use Rattle.dom_selectors.specs.Search.{IsDescendant, StopsAt}
 use Rattle.dom_selectors.specs.Views.{complex_from, complex_view}
 use Rattle.dom_selectors.proofs.JoinedLaws.{last-joined, no-links}
 use Rattle.dom_selectors.proofs.Searches.{goes-above, none-above}
-use Rattle.dom_selectors.proofs.joined.complex_matches.Goals as goal
+use Rattle.dom_selectors.proofs.joined.segments_match.Goals as goal
 
 -- its parts are those of the selector
 seen : (complex : Complex) (first : List CompoundPart) (links : List Link) → first ≡ complex.first.items → links ≡ complex.links.items →

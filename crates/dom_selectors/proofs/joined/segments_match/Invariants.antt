@@ -4,7 +4,7 @@ use Rattle.dom_model.specs.Selectors.{complex_matches}
 use Rattle.dom_tree.specs.Forest.{name_at}
 use Rattle.dom_selectors.specs.Search.{IsDescendant, StopsAt}
 use Rattle.dom_selectors.specs.Views.{complex_view, complex_from}
-use Rattle.dom_selectors.proofs.joined.complex_matches.Given as goal
+use Rattle.dom_selectors.proofs.joined.segments_match.Given as goal
 
 abbrev pub invariant-loop-left : goal.invariant-loop-left
 invariant-loop-left l = record {
