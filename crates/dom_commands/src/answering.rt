@@ -1,5 +1,5 @@
 //! What a line does, and the lines that answer it.
-ghost use Rattle.std.specs.Prelude.{◌≡◌, ◌++◌, true, IfOk, OnOk};
+ghost use Rattle.std.specs.Prelude.{◌≡◌, ◌++◌, true, OnOk};
 ghost use Rattle.dom_model.specs.Command.{command as model_command};
 ghost use Rattle.dom_model.specs.DocumentMachine.{step, run_command};
 ghost use Rattle.dom_text.specs.Text.{output_text};
@@ -16,22 +16,21 @@ use dom_reader::{Command, Line};
 use std::alloc::AllocError;
 
 impl Machine {
-    /// Does what a line says, and gives the lines that answer it. After an error the machine may stand between two steps.
+    /// Does what a line says, and puts the lines that answer it. After an error the machine may stand between two steps.
     pub fn answer(
         &mut self,
         read: Result<Line, (Option<Owner>, Refusal)>,
-    ) -> Result<Vec<u8>, AllocError>
+        out: &mut Vec<u8>,
+    ) -> Result<(), AllocError>
         requires { IsAtRest self.old }
-        ensures text { IfOk result (λ text. text.items ≡ output_text (step self.old.world (line_view read)).1) }
+        ensures text { OnOk result (out.new.items ≡ out.old.items ++ output_text (step self.old.world (line_view read)).1) }
         ensures world { OnOk result (self.new.world ≡ (step self.old.world (line_view read)).0) }
         ensures sound { OnOk result (IsAtRest self.new) }
     {
-        let mut out = Vec::new(self.alloc);
         match read {
-            Ok(line) => self.command(line.owner, line.command, &mut out)?,
-            Err((owner, _)) => self.no_command(owner, &mut out)?,
+            Ok(line) => self.command(line.owner, line.command, out),
+            Err((owner, _)) => self.no_command(owner, out),
         }
-        Ok(out)
     }
 
     /// A line without a command: it is refused as such.

@@ -1,16 +1,17 @@
 -- Lines that are run behind other lines.
-use Rattle.std.proofs.Common.{◌≡◌, ℕ, ◌+◌, ◌<◌, ◌≤◌, List, [], ◌∷◌, ◌++◌, length, take, drop, get_or, map, Option, refl, sym, ap, subst, ◌∙◌}
-use Rattle.std.proofs.Common.{arith, length-append}
+use Rattle.std.proofs.Common.{◌≡◌, ℕ, ◌+◌, ◌<◌, ◌≤◌, List, [], ◌∷◌, ◌++◌, length, take, drop, get_or, map, Option, Result, refl, sym, ap, subst, ◌∙◌}
+use Rattle.std.proofs.Common.{arith, append-nil, length-append}
 use Rattle.std.proofs.lemmas.List.{map-append, take_more, take-append-le, take-append-drop}
-use Rattle.std.proofs.Math.Seq.{take-append-add}
+use Rattle.std.proofs.Math.Seq.{take-append-add, take-length}
 use Rattle.std.specs.Io.KnownBytes.{Appends}
 use Rattle.std.proofs.KnownBytes.{Appends-nil, Appends-trans}
 use Rattle.dom_base.specs.declared.Owner.{Owner}
 use Rattle.dom_model.specs.World.{World}
 use Rattle.dom_streams.specs.declared.fault.RunFault.{RunFault}
-use Rattle.dom_engine.specs.Run.{world_after, shown, WritesSome}
-use Rattle.dom_streams.specs.Writing.{StopsWriting}
-use Rattle.dom_streams.proofs.WriteLaws.{HasWritten, stops_between, stops_as}
+use Rattle.dom_engine.specs.Run.{world_after, ending, shown, WritesSome}
+use Rattle.dom_streams.specs.Views.{viewed}
+use Rattle.dom_streams.specs.Writing.{EndsWriting, StopsWriting}
+use Rattle.dom_streams.proofs.WriteLaws.{HasWritten, ends_behind, ends_as, stops_between, stops_as}
 use Rattle.dom_engine.proofs.RunLaws.{world_after-none, world_after-append, shown-none, shown-append}
 
 -- an owner whose lines are written, and a world, are what they were behind lines that were run
@@ -66,6 +67,25 @@ module _ {view view' : Option Owner} {w w' : World} {done : List (List ℕ)} (at
         omega arith,
         few,
       )
+
+  -- The ending behind these lines is written.
+  pub ending_behind : {A : Type 0} {f₀ f₁ : ℕ} {a b : Option (List ℕ)} (before : HasWritten f₀ f₁ a b (shown view w done)) (r : Result A RunFault) (f₂ : ℕ)
+      (c : Option (List ℕ)) → EndsWriting r f₁ f₂ b c (viewed view' (ending w')) (Appends b c []) →
+      EndsWriting r f₀ f₂ a c (shown view w done ++ viewed view (ending (world_after w done))) (WritesSome a c (shown view w) done)
+  ending_behind {f₀ = f₀} {f₁ = f₁} {a = a} {b = b} before r f₂ c h =
+      ends_as (ap (λ (x : List ℕ). shown view w done ++ x) same_ending) all r f₀ f₂ a c
+      (ends_behind before r f₂ c (viewed view' (ending w')) (Appends b c []) h)
+    where
+      same_ending : viewed view' (ending w') ≡ viewed view (ending (world_after w done))
+      same_ending = rw (at.same, at.world) refl
+
+      all : Appends b c [] → WritesSome a c (shown view w) done
+      all none = record {
+        count = length done;
+        within = omega arith;
+        appends = subst (Appends a c) (append-nil (shown view w done) ∙ sym (ap (shown view w) (take-length done)))
+            (Appends-trans a b c (shown view w done) [] before.appends none);
+      }
 
   -- Lines behind these, of which the text was written, and before more meet a fault.
   module _ {f₀ f₁ : ℕ} {a b : Option (List ℕ)} (before : HasWritten f₀ f₁ a b (shown view w done)) where

@@ -26,12 +26,13 @@ const READ_SIZE: usize = 4096;
 /// How many bytes a run reads at most.
 const INPUT_LIMIT: usize = 1 << 30;
 
-/// A run under way: the unfinished line, the session, and whose lines are written.
+/// A run under way: the unfinished line, the session, whose lines are written, and the buffer for the lines that answer one.
 #[derive(Drop)]
 struct Runner {
     splitter: Splitter,
     session: Session,
     view: View,
+    text: Vec<u8>,
 }
 
 impl Runner {
@@ -43,6 +44,7 @@ impl Runner {
             splitter: Splitter::new(alloc),
             session: Session::new(alloc)?,
             view: View::new(alloc, view)?,
+            text: Vec::new(alloc),
         })
     }
 
@@ -71,8 +73,9 @@ impl Runner {
         ensures splitter { self.new.splitter ≡ self.old.splitter }
         ensures view { self.new.view ≡ self.old.view }
     {
-        let text = self.session.line(line)?;
-        self.view.write(sink, &text)
+        self.text.clear();
+        self.session.put_line(line, &mut self.text)?;
+        self.view.write(sink, &self.text)
     }
 
     /// Runs lines one after another, each one's output being written before the next is run.

@@ -1,5 +1,5 @@
 //! Sessions: lines in, answers out.
-ghost use Rattle.std.specs.Prelude.{◌≡◌, true, false, IfOk, OnOk, OnErr};
+ghost use Rattle.std.specs.Prelude.{◌≡◌, ◌++◌, true, false, IfOk, OnOk, OnErr};
 ghost use Rattle.dom_model.specs.DocumentMachine.{first_world, step, finish};
 ghost use Rattle.dom_text.specs.Text.{output_text};
 ghost use Rattle.dom_commands.specs.Machine.{IsAtRest};
@@ -58,10 +58,22 @@ impl Session {
         ensures world { OnOk result (self.new ≡ record { world = (step self.old.world (decode line.now)).0; has_failed = false }) }
         ensures err { OnErr result (self.new.has_failed ≡ true) }
     {
+        let mut out = Vec::new(self.alloc);
+        self.put_line(line, &mut out)?;
+        Ok(out)
+    }
+
+    /// Takes a line as `line` does, and puts the lines that answer it behind what a buffer holds.
+    pub(crate) fn put_line(&mut self, line: &[u8], out: &mut Vec<u8>) -> Result<(), AllocError>
+        ensures was { OnOk result (self.old.has_failed ≡ false) }
+        ensures text { OnOk result (out.new.items ≡ out.old.items ++ output_text (step self.old.world (decode line.now)).1) }
+        ensures world { OnOk result (self.new ≡ record { world = (step self.old.world (decode line.now)).0; has_failed = false }) }
+        ensures err { OnErr result (self.new.has_failed ≡ true) }
+    {
         if self.has_failed {
             return Err(AllocError);
         }
-        let answer = answer(&mut self.machine, self.alloc, line);
+        let answer = answer(&mut self.machine, self.alloc, line, out);
         self.has_failed = answer.is_err();
         answer
     }
@@ -95,13 +107,18 @@ fn end(machine: &mut Machine, alloc: Global) -> Result<Vec<u8>, AllocError>
     Ok(out)
 }
 
-/// What a line does, and the lines that answer it.
-fn answer(machine: &mut Machine, alloc: Global, line: &[u8]) -> Result<Vec<u8>, AllocError>
+/// What a line does, with the lines that answer it.
+fn answer(
+    machine: &mut Machine,
+    alloc: Global,
+    line: &[u8],
+    out: &mut Vec<u8>,
+) -> Result<(), AllocError>
     requires { IsAtRest machine.old }
-    ensures text { IfOk result (λ text. text.items ≡ output_text (step machine.old.world (decode line.now)).1) }
+    ensures text { OnOk result (out.new.items ≡ out.old.items ++ output_text (step machine.old.world (decode line.now)).1) }
     ensures world { OnOk result (machine.new.world ≡ (step machine.old.world (decode line.now)).0) }
     ensures sound { OnOk result (IsAtRest machine.new) }
 {
     let read = parse_line(alloc, line)?;
-    machine.answer(read)
+    machine.answer(read, out)
 }

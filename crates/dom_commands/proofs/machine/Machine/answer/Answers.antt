@@ -1,19 +1,22 @@
-use Rattle.std.proofs.Common.{sym, subst}
-use Rattle.dom_model.specs.Command.{command as model_command}
+use Rattle.std.proofs.Common.{Result, Ok, Err, ◌≡◌}
+use Rattle.std.specs.Prelude.{OnOk}
+use Rattle.dom_model.specs.Command.{Line, command as model_command}
+use Rattle.dom_model.specs.DocumentMachine.{step}
 use Rattle.dom_reader.specs.Views.{command_view, refused_view}
-use Rattle.dom_commands.specs.Machine.{IsAtRest}
+use Rattle.dom_commands.specs.Machine.{AreAtNodes, IsAtRest, MachineNow}
 use Rattle.dom_commands.proofs.Machines.{line_sound}
-use Rattle.dom_commands.proofs.machine.Machine.answer.Goals.{in-Ok+in_ok-command-in-Ok, in-Err+in_ok-no_command-in-Err}
 use Rattle.dom_commands.proofs.machine.Machine.answer.Goals as goal
 
-pub returns-clause-sound : goal.returns-clause-sound
-returns-clause-sound c =
-    elim c.match-read.branch [
-      | in-Ok+in_ok-command-in-Ok w ↦
-          subst IsAtRest (sym w.self-is) (line_sound c.args.self.now w.command.new.self
-          (model_command w.in-Ok.line.owner (command_view w.in-Ok.line.command)) c.requires w.in_ok-command-in-Ok.ensures.world
-          w.in_ok-command-in-Ok.ensures.listeners)
-      | in-Err+in_ok-no_command-in-Err w ↦
-          subst IsAtRest (sym w.self-is) (line_sound c.args.self.now w.no_command.new.self (refused_view w.in-Err.owner) c.requires
-          w.in_ok-no_command-in-Err.ensures.world w.in_ok-no_command-in-Err.ensures.listeners)
-    ]
+-- after a line that was carried out the machine is at rest
+answered : {T E : Type 0} (r : Result T E) (m n : MachineNow) (l : Line) → IsAtRest m → OnOk r (n.world ≡ (step m.world l).0) → OnOk r (AreAtNodes n) →
+    OnOk r (IsAtRest n)
+answered (Ok x) m n l sound is at = line_sound m n l sound is at
+answered (Err e) m n l sound is at = tt
+
+pub returns-in-Ok-clause-sound : goal.returns-in-Ok-clause-sound
+returns-in-Ok-clause-sound c = answered c.command.result _ _ (model_command c.in-Ok.line.owner (command_view c.in-Ok.line.command)) c.requires
+    c.command.ensures.world c.command.ensures.listeners
+
+pub returns-in-Err-clause-sound : goal.returns-in-Err-clause-sound
+returns-in-Err-clause-sound c = answered c.no_command.result _ _ (refused_view c.in-Err.owner) c.requires c.no_command.ensures.world
+    c.no_command.ensures.listeners
