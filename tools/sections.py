@@ -42,7 +42,7 @@ SECTIONS = [
     }),
     ("2.7", "Interface EventTarget", {
         "event listener": ("Listeners::listen", "rows/listeners"),
-        "event listener list": ("dom_dispatch::one_list_serves_all", "rows/listeners"),
+        "event listener list": ("dom_dispatch::law_one_list_serves_all", "rows/listeners"),
         "add an event listener": ("Listeners::listen", "calls/dispatch-to-a-listener-added-twice"),
         "remove an event listener": ("Listeners::unlisten", "calls/dispatch-once-a-listener-is-taken-away"),
         "get the parent": ("dom_worlds::path_follows_parents", "calls/paths-of-a-slotted-node"),
@@ -149,7 +149,7 @@ SECTIONS = [
         "retarget": ("Path::build", "calls/dispatch-with-a-related-node-within"),
     }),
     ("4.9", "Interface Element", {
-        "attribute list": ("Forest::attributes_have_own_names", "commands/attributes-attributes-are-set-and-go"),
+        "attribute list": ("Forest::law_attributes_have_own_names", "commands/attributes-attributes-are-set-and-go"),
         "get an attribute by name": ("Forest::attr", "commands/attributes-attributes-are-set-and-go"),
         "set an attribute value": ("Forest::set_attr", "commands/attributes-attributes-are-set-and-go"),
         "change an attribute": ("Doc::set_attr", "calls/observers-old-values-go-to-those-who-asked"),

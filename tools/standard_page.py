@@ -16,7 +16,7 @@ Beside each algorithm or concept of the Standard that is here stand
   to read beside the Standard's text. The comments of changes say which of the Standard's numbered steps stand where; the numbers were
   written without its text at hand (November 2026), so go by the words where they differ;
 - a public call whose contract leads to one of these definitions: its `ensures` clauses name it, or name what is defined by it. The prover has
-  accepted the call with this contract. Where it is a law (`dom_worlds`, or a name such as `one_list_serves_all`), the contract is all of it;
+  accepted the call with this contract. Where it is a law (`dom_worlds`, or a name such as `law_one_list_serves_all`), the contract is all of it;
 - a script that shows it. What it is answered stands in the file beside it that ends in `.out`.
 
 Other calls may meet the same definition; `Session::line` does with each line of a script what the definitions of `dom_model` say. docs/PROVED.md

@@ -86,11 +86,11 @@ impl State {
     }
 
     /// Holds of every state: names tell nodes apart, and the owners of all nodes are there.
-    pub fn names_tell_nodes(&self)
+    pub fn law_names_tell_nodes(&self)
         ensures distinct { (j k : ℕ) → HoldsNode self.now j → HoldsNode self.now k → name_in self.now j ≡ name_in self.now k → j ≡ k }
         ensures there { (k : ℕ) → HoldsNode self.now k → is_there self.now.world (name_in self.now k).owner ≡ true }
     {
-        self.doc.forest().nodes_stand_once();
+        self.doc.forest().law_nodes_stand_once();
     }
 
     /// The forest, for reading.
@@ -120,7 +120,7 @@ impl State {
     {
         let number = number_in(node);
         let forest = self.doc.forest();
-        forest.nodes_stand_once();
+        forest.law_nodes_stand_once();
         forest.find(NodeName { owner, number })
     }
 

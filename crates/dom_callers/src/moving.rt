@@ -75,7 +75,7 @@ fn put_before(forest: &mut Forest, ranges: &mut RangeTable, parent: Key, node: K
 {
     law_ends_stay();
     law_keys_stand_for_names();
-    forest.nodes_stand_once();
+    forest.law_nodes_stand_once();
     let index = forest.index(child);
     ranges.on_insert(parent, index, 1);
     forest.link_before(parent, node, Some(child));

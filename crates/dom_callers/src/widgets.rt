@@ -32,7 +32,7 @@ pub fn count_widget_visits(
     ensures { IfOk result (λ count. (nodes : List Name) ×
         IsPath (shadows forest.now slots.now.hosts) 1 (name_of forest.now target) None composed nodes × (count ≡ length nodes)) }
 {
-    forest.nodes_stand_once();
+    forest.law_nodes_stand_once();
     law_hosts_nest();
     let path = Path::build(alloc, forest, slots, target, None, composed)?;
     Ok(path.items().len())
@@ -54,7 +54,7 @@ pub fn press(
     requires widgets { AreWidgets forest.now slots.now.hosts }
     ensures { IfOk result (λ answer. IsAnswered forest.now slots.now.hosts listeners.old button event.related (event_words event) answer) }
 {
-    forest.nodes_stand_once();
+    forest.law_nodes_stand_once();
     law_hosts_nest();
     let outcome = listeners.dispatch(forest, slots, button, event)?;
     Ok(outcome.answer)

@@ -107,7 +107,7 @@ impl Machine {
         ensures handled { IsHandled owner (command_view command) self.old.world self.new.world out.old.items out.new.items result }
         ensures listeners { KeepsListeners self.new result }
     {
-        self.state.names_tell_nodes();
+        self.state.law_names_tell_nodes();
         commands::perform(&mut self.state, owner, command, out)
     }
 }

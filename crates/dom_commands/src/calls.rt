@@ -40,7 +40,7 @@ impl Machine {
         ensures names { OnOk result (self.new.names ≡ self.old.names) }
         ensures listeners { OnOk result (AreAtNodes self.new) }
     {
-        self.state.names_tell_nodes();
+        self.state.law_names_tell_nodes();
         let (forest, slots) = self.state.forest_and_slots();
         let outcome = self.listeners.dispatch(forest, slots, target, event)?;
         put_lines(self.alloc, forest, outcome.lines.as_slice(), out)?;

@@ -38,7 +38,7 @@ impl Machine {
         ensures handled { IsHandled owner (listen (word_view node) (listener_view words)) self.old.world self.new.world out.old.items out.new.items result }
         ensures listeners { KeepsListeners self.new result }
     {
-        self.state.names_tell_nodes();
+        self.state.law_names_tell_nodes();
         self.state.admit(owner, &[Operand::Any(node)])?;
         let node = self.state.key(owner, node);
         self.listeners.listen(node, listener_init(words))?;
@@ -60,7 +60,7 @@ impl Machine {
             out.new.items result }
         ensures listeners { KeepsListeners self.new result }
     {
-        self.state.names_tell_nodes();
+        self.state.law_names_tell_nodes();
         self.state.admit(owner, &[Operand::Any(node)])?;
         let node = self.state.key(owner, node);
         self.listeners.unlisten(node, event, label, capture);
@@ -83,7 +83,7 @@ impl Machine {
             self.new.world out.old.items out.new.items result }
         ensures listeners { KeepsListeners self.new result }
     {
-        self.state.names_tell_nodes();
+        self.state.law_names_tell_nodes();
         admit_event(&self.state, owner, target, related)?;
         let target = self.state.key(owner, target);
         let related = key_of(&self.state, owner, related);
@@ -174,7 +174,7 @@ fn has_other_root(state: &State, owner: Owner, node: NodeWord, other: NodeWord) 
 {
     let (node, other) = (state.key(owner, node), state.key(owner, other));
     let forest = state.doc.forest();
-    forest.nodes_stand_once();
+    forest.law_nodes_stand_once();
     let root = forest.root(node);
     let other_root = forest.root(other);
     root != other_root

@@ -59,7 +59,7 @@ impl Machine {
         ensures world { OnOk result (self.new.world ≡ (notifying self.old.world owner).0) }
         ensures sound { OnOk result (IsAtRest self.new) }
     {
-        self.state.names_tell_nodes();
+        self.state.law_names_tell_nodes();
         let slots = take_signals(&mut self.state, owner)?;
         tell_observers(&mut self.state, owner, out)?;
         self.signal_slots(slots.as_slice(), out)

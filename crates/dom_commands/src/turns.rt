@@ -59,7 +59,7 @@ impl Machine {
         ensures handled { IsHandled owner end_turn self.old.world self.new.world out.old.items out.new.items result }
         ensures listeners { KeepsListeners self.new result }
     {
-        self.state.names_tell_nodes();
+        self.state.law_names_tell_nodes();
         self.state.admit(owner, &[])?;
         self.close_turn(out)?;
         put_reply(out, owner, &Value::Nothing)?;

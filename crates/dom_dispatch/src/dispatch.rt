@@ -42,7 +42,7 @@ impl Listeners {
             IsDispatchedIn forest.now slots.now.hosts self.old self.new target event.related (event_words event) outcome) }
         ensures owners { IfOk result (λ outcome. AllByRecursion (IsOwnLine forest.now.names) outcome.lines.items) }
     {
-        forest.nodes_stand_once();
+        forest.law_nodes_stand_once();
         let alloc = self.alloc;
         let path = Path::build(alloc, forest, slots, target, event.related, event.composed)?;
         let mut so_far = Progress::new(alloc);

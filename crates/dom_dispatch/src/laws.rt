@@ -4,7 +4,7 @@ ghost use Rattle.dom_dispatch.specs.ListenersByName.{ListenedByNames, Unlistened
 
 /// Holds of every forest, since names tell its nodes apart: what is done to listeners by keys, and what a dispatch along the views of
 /// a path by keys does, is what is done by names (DOM Standard, 2.7 and 2.9).
-pub fn keys_stand_for_names()
+pub fn law_keys_stand_for_names()
     ensures listened { ListenedByNames }
     ensures unlistened { UnlistenedByNames }
     ensures dispatched { DispatchedByNames }
@@ -13,7 +13,7 @@ pub fn keys_stand_for_names()
 /// Holds of every world: a dispatch with one list of all owners' listeners, of which each owner has its own nodes', has the lines and
 /// the answer of the dispatch in the world, and leaves each owner the same listeners; so too a dispatch by keys along the views of a
 /// path (DOM Standard, concept: dispatch).
-pub fn one_list_serves_all()
+pub fn law_one_list_serves_all()
     ensures names { DispatchedAmong }
     ensures keys { DispatchedAlong }
 {}

@@ -8,13 +8,13 @@ ghost use Rattle.dom_engine.specs.PageLaws.{PageTextIsThePageMachines, SamePageT
 
 /// What a run writes with the page's view is the page machine's output on the trace of the lines read, where no component
 /// listener stops or cancels.
-pub fn page_text()
+pub fn law_page_text()
     ensures { PageTextIsThePageMachines }
 {}
 
 /// Two scripts with equal traces give the page equal output, where no component listener stops or cancels: lists of lines, by
 /// whatever reading, and the text that runs of two inputs write with the page's view.
-pub fn same_page()
+pub fn law_same_page()
     ensures lines { (read : List ℕ → Line) → SamePage read }
     ensures text { SamePageText }
 {}
@@ -22,7 +22,7 @@ pub fn same_page()
 /// Two scripts that agree for a family of components, in the page's lines, in its members' lines and in the outward events of all others, give each
 /// member equal output, where no component listener stops or cancels, and each component's turn is ended by its own `.`, or at least
 /// no line of another owner ends a member's: lists of lines, by whatever reading, and the text that runs of two inputs write with the member's view.
-pub fn same_family()
+pub fn law_same_family()
     ensures lines { (read : List ℕ → Line) → SameFamily read }
     ensures standing_lines { (read : List ℕ → Line) → SameFamilyWhileTurnsStand read }
     ensures text { SameFamilyRuns }
@@ -33,7 +33,7 @@ pub fn same_family()
 /// page sees the page machine's output on the trace of the lines whose text is written, without the ending; and on every
 /// fault some first bytes of the page machine's output on the trace of any input that begins with the bytes read. Where the
 /// end was reached that input is these bytes.
-pub fn page_prefix()
+pub fn law_page_prefix()
     ensures lines { PageSeesLinesNamed }
     ensures prefix { PageSeesPrefix }
 {}

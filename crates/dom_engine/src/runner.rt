@@ -272,7 +272,7 @@ fn expect_end<R: Source>(source: &mut R, buffer: &mut [u8]) -> Result<(), RunFau
 /// The first fault stops the run. On `Read`, `Memory` and `InputLimit` what is written is the text of lines that are
 /// finished: an unfinished line is not run, and no turn is ended. On `Write` it is some first bytes of such a text, or of the
 /// whole run's. A read or write that was interrupted has failed like any other. What the page sees then is in
-/// `laws::page_prefix`.
+/// `laws::law_page_prefix`.
 ///
 /// What was read, and that the end was reached, is said of a source that tells its bytes (`remaining`); what was written, of a sink
 /// that does (`contents`). Of every source and sink the counts say which fault it was: one read has failed on `Read`, one write

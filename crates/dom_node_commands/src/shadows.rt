@@ -13,7 +13,7 @@ use dom_admission::{Operand, State, names_of};
 use dom_base::{Fault, NodeName, Owner, Refusal};
 use dom_printer::Value;
 use dom_reader::NodeWord;
-use dom_slots::slots_are_of_worlds;
+use dom_slots::law_slots_are_of_worlds;
 use std::alloc::AllocError;
 
 /// `attach E`: a new component, to whose closed shadow root an element of the owner's is the host (DOM Standard, attach a shadow
@@ -85,7 +85,7 @@ fn assigned_to(state: &State, owner: Owner, slot: NodeWord) -> Result<Vec<NodeNa
     requires { has_node (part_of state.now.world owner).trees (named (part_of state.now.world owner) (word_view slot)) ≡ true }
     ensures { IfOk result (λ names. names.items ≡ assigned state.now.world (named (part_of state.now.world owner) (word_view slot))) }
 {
-    slots_are_of_worlds();
+    law_slots_are_of_worlds();
     let slot = state.key(owner, slot);
     let (forest, slots) = state.forest_and_slots();
     let nodes = slots.assigned(forest, slot)?;

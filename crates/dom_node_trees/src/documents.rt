@@ -17,7 +17,7 @@ pub fn set_documents(forest: &mut Forest, top: Key, document: Key)
     ensures names { forest.new.names ≡ forest.old.names }
     ensures trees { forest.new.trees ≡ change_subtree (with_document (name_of forest.old document)) (name_of forest.old top) forest.old.trees }
 {
-    forest.nodes_stand_once();
+    forest.law_nodes_stand_once();
     let mut at = Some(top);
     while let Some(node) = at {
         forest.set_document(node, Some(document));
@@ -75,7 +75,7 @@ fn add_roots(
     if depth == 0 {
         return Ok(());
     }
-    forest.nodes_stand_once();
+    forest.law_nodes_stand_once();
     let mut at = Some(top);
     while let Some(node) = at {
         if let Some(root) = slots.root_of(node) {

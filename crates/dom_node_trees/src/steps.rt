@@ -123,7 +123,7 @@ fn end(
         OnOk result (HasSignalled forest.now.names was forest.now.trees b.step b.left (signal_tables slots.old signalled.old queue.old)
         (signal_tables slots.new signalled.new queue.new)) }
 {
-    forest.nodes_stand_once();
+    forest.law_nodes_stand_once();
     let keys = slots.end(forest)?;
     for slot in &keys {
         signal(forest, *slot, signalled, queue)?;

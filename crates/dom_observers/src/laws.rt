@@ -11,7 +11,7 @@ use node_arena::Key;
 
 /// With every key replaced by its name, where the keys are of nodes and the names tell them apart, each rule over keys is
 /// the same rule over names (own rule).
-pub fn keys_stand_for_names()
+pub fn law_keys_stand_for_names()
     ensures made { MakingLaw }
     ensures observing { ObservingLaw }
     ensures disconnected { DisconnectedLaw }
@@ -25,11 +25,11 @@ pub fn keys_stand_for_names()
 
 /// The keys on the path of a node are those of nodes, and their names are its inclusive ancestors (DOM Standard, concept:
 /// inclusive ancestor).
-pub fn path_keys_are_named(forest: &Forest, key: Key)
+pub fn law_path_keys_are_named(forest: &Forest, key: Key)
     requires { IsNode forest.now key }
     ensures named { map (name_of forest.now) (path_keys forest.now key) ≡ inclusive_ancestors forest.now.trees (name_of forest.now key) }
     ensures nodes { AreAll (IsKey forest.now.names) (path_keys forest.now key) }
 {
     let _key = key;
-    forest.nodes_stand_once();
+    forest.law_nodes_stand_once();
 }

@@ -16,7 +16,7 @@ mod table;
 mod watched;
 
 pub use change::{Change, Record};
-pub use laws::{keys_stand_for_names, path_keys_are_named};
+pub use laws::{law_keys_stand_for_names, law_path_keys_are_named};
 pub use observers::Observers;
 pub use options::Options;
 pub use path::inclusive_ancestors;

@@ -16,7 +16,7 @@ pub fn inclusive_ancestors(alloc: Global, forest: &Forest, key: Key) -> Result<V
     ensures names { IfOk result (λ path. map (name_of forest.now) path.items ≡ all_above forest.now.trees (name_of forest.now key)) }
     ensures nodes { IfOk result (λ path. AllByRecursion (IsNode forest.now) path.items) }
 {
-    forest.nodes_stand_once();
+    forest.law_nodes_stand_once();
     let mut path = Vec::new(alloc);
     let mut at = Some(key);
     while let Some(node) = at {

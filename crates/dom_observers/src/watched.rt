@@ -101,7 +101,7 @@ impl Watched {
         requires { IsNode forest.now key }
         ensures { result ≡ list_any (λ k. is_in nat_eq k self.now.above.keys) (path_keys forest.now key) }
     {
-        forest.nodes_stand_once();
+        forest.law_nodes_stand_once();
         let mut at = Some(key);
         while let Some(node) = at {
             if self.has_above(node) {

@@ -260,7 +260,7 @@ module _ (c : Contents) (hosts : List ShadowHost) (held : AreHostsOf c hosts) wh
           ∙ sym (host_from c.names [] hosts o maker k (e ∙ ap (λ n. Some (maker, n)) (sym (zero-add k))) held.made))
 
   -- The world has just these trees and hosts: so its slots, assigned nodes and signals are those of the hosts
-  -- (`slots_are_of_worlds` of dom_slots).
+  -- (`law_slots_are_of_worlds` of dom_slots).
   pub world_shown : IsShownBy (shadow_trees c.names c.trees hosts) (world_of c)
   world_shown = record {
     trees = trees_hosted;

@@ -142,7 +142,7 @@ module _ (names : List NodeName) (x : NodeName) where
 
 -- ---- a removal
 
--- what `iterators_stay` says of a forest
+-- what `law_iterators_stay` says of a forest
 abbrev pub Stays : NamedTrees → Type 0
 Stays f = (i : KeyedIterator) (node : ℕ) → node < length f.names → IsIteratorOf f i → HasLeft f i node → IsIteratorOf (with_taken_out f node) i
 

@@ -152,7 +152,7 @@ impl Parts {
         ensures err { OnErr result (self.new ≡ self.old) }
     {
         let added = self.forest.add(owner, node);
-        self.forest.nodes_stand_once();
+        self.forest.law_nodes_stand_once();
         added
     }
 

@@ -52,7 +52,7 @@ pub(crate) fn items_of(
         (IsItemOf forest.now slots.now.hosts (name_of forest.now target) (option_map (name_of forest.now) related) trees.new)
         items.items) }
 {
-    forest.nodes_stand_once();
+    forest.law_nodes_stand_once();
     let target = PathNode::of(trees, forest, slots, target)?;
     let related = PathNode::of_any(trees, forest, slots, related)?;
     let event = Event {
@@ -88,7 +88,7 @@ impl Event {
             (IsItemOf forest.now slots.now.hosts (name_of forest.now self.now.target.node) (related_name forest.now.names self.now.related)
             trees.new) items.items) }
     {
-        forest.nodes_stand_once();
+        forest.law_nodes_stand_once();
         let mut items = SmallVec::new(alloc);
         let mut next = Some(self.target);
         while let Some(at) = next {
@@ -139,7 +139,7 @@ impl Event {
             (λ x. x.is_entered ≡ is_assigned_at (shadows forest.now slots.now.hosts) (name_of forest.now x.node)
             (name_of forest.now at.now.node))) }
     {
-        forest.nodes_stand_once();
+        forest.law_nodes_stand_once();
         let top = trees.at(self.target.tree).root;
         let Some(above) = at.above(trees, forest, slots, top, self.composed)? else {
             return Ok(None);

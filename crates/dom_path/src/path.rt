@@ -73,7 +73,7 @@ impl Path {
         ensures nodes { IfOk result (λ p. AllByRecursion (HasNodes forest.now.names) p.items) }
         ensures shown_nodes { IfOk result (λ p. AllByRecursion (ShowsNodes forest.now.names) p.views) }
     {
-        forest.nodes_stand_once();
+        forest.law_nodes_stand_once();
         let mut trees = Trees::new(alloc);
         let items = items_of(alloc, &mut trees, forest, slots, target, related, composed)?;
         Ok(Path {

@@ -117,7 +117,7 @@ impl PathNode {
             (λ x. x.is_entered ≡ is_assigned_at (shadows forest.now slots.now.hosts) (name_of forest.now x.node)
             (name_of forest.now self.now.node))) }
     {
-        forest.nodes_stand_once();
+        forest.law_nodes_stand_once();
         if self.is_shadow_root {
             if composed || self.node != top {
                 return Ok(self.outside(trees, forest, slots));
@@ -137,7 +137,7 @@ impl PathNode {
             (name_of forest.now self.now.node) }
         ensures entered { ForSome result (λ x. x.is_entered ≡ false) }
     {
-        forest.nodes_stand_once();
+        forest.law_nodes_stand_once();
         let host = slots.host_of(self.node)?;
         let tree = trees.at(self.tree).outer;
         Some(PathNode::in_tree(forest, host, tree, false))
@@ -165,7 +165,7 @@ impl PathNode {
             (λ x. x.is_entered ≡ is_assigned_at (shadows forest.now slots.now.hosts) (name_of forest.now x.node)
             (name_of forest.now self.now.node))) }
     {
-        forest.nodes_stand_once();
+        forest.law_nodes_stand_once();
         let Some(parent) = forest.parent(self.node) else {
             return Ok(None);
         };
@@ -187,7 +187,7 @@ impl PathNode {
             (name_of forest.now self.now.node) }
         ensures below { ForSome result (λ x. IsSlotBelow forest.now slots.now.hosts parent x) }
     {
-        forest.nodes_stand_once();
+        forest.law_nodes_stand_once();
         let root = slots.root_of(parent)?;
         let slot = slots.slot_of(forest, self.node)?;
         Some(SlotBelow { root, slot })

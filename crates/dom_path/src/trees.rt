@@ -96,7 +96,7 @@ impl Trees {
         ensures within { IfOk result (λ place. place < length self.new) }
         ensures place { IfOk result (λ place. IsTreeOf forest.now self.new place (name_of forest.now node)) }
     {
-        forest.nodes_stand_once();
+        forest.law_nodes_stand_once();
         let mut around = trees_around(self.alloc, forest, slots, node)?;
         let mut outer = 0;
         while let Some(tree) = around.pop() {
@@ -172,7 +172,7 @@ fn trees_around(
     requires hosts { HostsAreNodes forest.now.names slots.now.hosts }
     ensures { IfOk result (λ trees. GoesOut forest.now slots.now.hosts (Some (name_of forest.now node)) trees.items None) }
 {
-    forest.nodes_stand_once();
+    forest.law_nodes_stand_once();
     let mut trees = SmallVec::new(alloc);
     let mut next = Some(node);
     while let Some(node) = next {

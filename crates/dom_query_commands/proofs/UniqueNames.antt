@@ -26,11 +26,11 @@ reaches_or_absent (tree n c r) x = elim (cases_Bool (name_eq n.name x)) [
   ]
 ]
 
--- a key's name stands once, as `nodes_stand_once` says
+-- a key's name stands once, as `law_nodes_stand_once` says
 abbrev pub StandOnce : List NodeName → Trees → Type 0
 StandOnce names ts = (k : ℕ) → k < length names → count_by (λ n. name_eq n.name (name_at names k)) (nodes ts) ≡ 1
 
--- a name that stands there is that of a key, as `nodes_stand_once` says
+-- a name that stands there is that of a key, as `law_nodes_stand_once` says
 abbrev pub HaveKeys : List NodeName → Trees → Type 0
 HaveKeys names ts = (x : NodeName) → has_node ts x ≡ true → (k : ℕ) × (slice_get names k ≡ Some x)
 

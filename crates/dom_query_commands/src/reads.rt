@@ -176,7 +176,7 @@ fn child_names(alloc: Global, forest: &Forest, node: Key) -> Result<Vec<NodeName
     requires { IsNode forest.now node }
     ensures { IfOk result (λ names. names.items ≡ children_of forest.now.trees (name_of forest.now node)) }
 {
-    forest.nodes_stand_once();
+    forest.law_nodes_stand_once();
     let mut names = Vec::new(alloc);
     let mut at = forest.first(node);
     while let Some(child) = at {

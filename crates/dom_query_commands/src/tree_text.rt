@@ -31,7 +31,7 @@ pub(crate) fn tree_steps<'a>(
     requires { IsNode forest.now top }
     ensures { IfOk result (λ steps. steps_view steps.items ≡ shown_steps (subtree forest.now.trees (name_of forest.now top))) }
 {
-    forest.nodes_stand_once();
+    forest.law_nodes_stand_once();
     let mut steps = Vec::new(alloc);
     let mut place = Some(Place::Opening(top));
     while let Some(at) = place {
@@ -50,7 +50,7 @@ fn after(forest: &Forest, place: Place, top: Key) -> Option<Place>
         (place_view forest.now.names place) }
     ensures node { ForSome result (λ at. IsNode forest.now (key_of at)) }
 {
-    forest.nodes_stand_once();
+    forest.law_nodes_stand_once();
     match place {
         Place::Opening(key) => match forest.first(key) {
             Some(child) => Some(Place::Opening(child)),

@@ -73,7 +73,7 @@ fn attributes(
     ensures { IfOk result (λ copied. map (λ e. attribute_from (string_bytes e.0) e.1.items)
         copied.entries ≡ (node_in forest.now.trees (name_of forest.now key)).attributes) }
 {
-    forest.attributes_have_own_names(key);
+    forest.law_attributes_have_own_names(key);
     let mut copied = IndexMap::new(alloc);
     while let Some((name, value)) = forest.attr_at(key, copied.len()) {
         let name = String::from_str(alloc, name)?;

@@ -29,7 +29,7 @@ pub(crate) fn outermost_contained(
         (range_at_points forest.now.names points.now)) }
     ensures nodes { IfOk result (λ keys. AllByRecursion (IsNode forest.now) keys.items) }
 {
-    forest.nodes_stand_once();
+    forest.law_nodes_stand_once();
     if is_before(forest, points.end, points.start) {
         return Ok(Vec::new(alloc));
     }
@@ -46,7 +46,7 @@ fn path_below(alloc: Global, forest: &Forest, last: Key, first: Key) -> Result<V
         (inclusive_ancestors forest.now.trees (name_of forest.now last))) }
     ensures nodes { IfOk result (λ keys. AllByRecursion (IsNode forest.now) keys.items) }
 {
-    forest.nodes_stand_once();
+    forest.law_nodes_stand_once();
     if forest.is_inclusive_ancestor(last, first) {
         return Ok(Vec::new(alloc));
     }
@@ -85,7 +85,7 @@ fn outermost_between(
         (range_at_points forest.now.names points.now)) }
     ensures nodes { IfOk result (λ keys. AllByRecursion (IsNode forest.now) keys.items) }
 {
-    forest.nodes_stand_once();
+    forest.law_nodes_stand_once();
     let mut path = path;
     let mut found = Vec::new(alloc);
     let top = forest.root(points.start.0);

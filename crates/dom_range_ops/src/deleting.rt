@@ -43,7 +43,7 @@ pub fn delete(alloc: Global, doc: &mut Doc, owner: Owner, number: u32) -> Result
     ensures there { IsReady doc.old → OnOk result (is_some (range_at (part_of doc.new.world owner) number) ≡ true) }
 {
     doc.laws();
-    doc.forest().nodes_stand_once();
+    doc.forest().law_nodes_stand_once();
     let points = doc.range_points(owner, number);
     if is_collapsed(&points) {
         return Ok(());
@@ -94,7 +94,7 @@ pub(crate) fn place_after(doc: &Doc, points: &Points) -> (Key, usize)
     ensures owner { owner_in doc.now result.0 ≡ owner_in doc.now points.now.start.0 }
 {
     let forest = doc.forest();
-    forest.nodes_stand_once();
+    forest.law_nodes_stand_once();
     new_place(forest, points)
 }
 
@@ -104,7 +104,7 @@ fn is_within_one(doc: &Doc, points: &Points) -> bool
     ensures { result ≡ is_in_one_data (trees_in doc.now points.now.start.0) (range_at_points doc.now.names points.now) }
 {
     let forest = doc.forest();
-    forest.nodes_stand_once();
+    forest.law_nodes_stand_once();
     is_in_one_data(forest, points)
 }
 
@@ -117,7 +117,7 @@ fn contained_in(alloc: Global, doc: &Doc, points: &Points) -> Result<Vec<Key>, A
         (λ k. (HoldsNode doc.now k) × (owner_in doc.now k ≡ owner_in doc.now points.now.start.0)) keys.items) }
 {
     let forest = doc.forest();
-    forest.nodes_stand_once();
+    forest.law_nodes_stand_once();
     outermost_contained(alloc, forest, points)
 }
 
@@ -130,7 +130,7 @@ fn part_at(doc: &Doc, points: &Points, key: Key) -> Option<(usize, usize)>
         (name_in doc.now key) }
 {
     let forest = doc.forest();
-    forest.nodes_stand_once();
+    forest.law_nodes_stand_once();
     part_in(forest, points, key)
 }
 
@@ -141,7 +141,7 @@ fn part_in(forest: &Forest, points: &Points, key: Key) -> Option<(usize, usize)>
     ensures { cutting (name_of forest.now key) result ≡ cutting_data forest.now.trees (range_at_points forest.now.names points.now)
         (name_of forest.now key) }
 {
-    forest.nodes_stand_once();
+    forest.law_nodes_stand_once();
     if !has_data(forest, key) {
         return None;
     }

@@ -30,7 +30,7 @@ pub(crate) fn is_in_one_data(forest: &Forest, points: &Points) -> bool
     requires { AreEnds forest.now points.now }
     ensures { result ≡ is_in_one_data forest.now.trees (range_at_points forest.now.names points.now) }
 {
-    forest.nodes_stand_once();
+    forest.law_nodes_stand_once();
     let first = points.start.0;
     let last = points.end.0;
     first == last && has_data(forest, first)
@@ -53,7 +53,7 @@ pub(crate) fn new_place(forest: &Forest, points: &Points) -> (Key, usize)
     ensures value { at (name_of forest.now result.0) result.1 ≡ new_place forest.now.trees (range_at_points forest.now.names points.now) }
     ensures node { IsNode forest.now result.0 }
 {
-    forest.nodes_stand_once();
+    forest.law_nodes_stand_once();
     let first = points.start.0;
     let last = points.end.0;
     if forest.is_inclusive_ancestor(first, last) {
@@ -73,7 +73,7 @@ pub(crate) fn outermost_apart(forest: &Forest, first: Key, last: Key) -> Key
     ensures alone { filter (λ a. not (is_inclusive_ancestor forest.now.trees a (name_of forest.now last)))
         (inclusive_ancestors forest.now.trees (name_of forest.now result)) ≡ name_of forest.now result ∷ [] }
 {
-    forest.nodes_stand_once();
+    forest.law_nodes_stand_once();
     let Some(parent) = forest.parent(first) else {
         return first;
     };
@@ -102,7 +102,7 @@ fn behind_node(forest: &Forest, key: Key) -> (Key, usize)
     ensures value { at (name_of forest.now result.0) result.1 ≡ behind_node forest.now.trees (name_of forest.now key) }
     ensures node { IsNode forest.now result.0 }
 {
-    forest.nodes_stand_once();
+    forest.law_nodes_stand_once();
     let Some(parent) = forest.parent(key) else {
         return (key, 1);
     };

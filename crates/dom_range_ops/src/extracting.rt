@@ -63,7 +63,7 @@ pub fn extract(alloc: Global, doc: &mut Doc, owner: Owner, number: u32) -> Resul
     ensures there { IsReady doc.old → OnOk result (is_some (range_at (part_of doc.new.world owner) number) ≡ true) }
 {
     doc.laws();
-    doc.forest().nodes_stand_once();
+    doc.forest().law_nodes_stand_once();
     let points = doc.range_points(owner, number);
     let pieces = pieces_in(alloc, doc, &points)?;
     if is_past_limit(doc, owner, count_made(&pieces)) {
@@ -89,7 +89,7 @@ fn pieces_in(alloc: Global, doc: &Doc, points: &Points) -> Result<Vec<Piece>, Al
     ensures nodes { IfOk result (λ pieces. AllByRecursion (IsPieceOf doc.now.names) pieces.items) }
 {
     let forest = doc.forest();
-    forest.nodes_stand_once();
+    forest.law_nodes_stand_once();
     pieces_between(alloc, forest, points)
 }
 

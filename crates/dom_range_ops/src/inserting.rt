@@ -89,7 +89,7 @@ fn nth_child(doc: &Doc, node: Key, index: usize) -> Option<Key>
 {
     doc.laws();
     let forest = doc.forest();
-    forest.nodes_stand_once();
+    forest.law_nodes_stand_once();
     child_at(forest, node, index)
 }
 

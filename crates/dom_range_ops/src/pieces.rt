@@ -42,7 +42,7 @@ pub(crate) fn pieces_between(
     ensures { IfOk result (λ pieces. AreItems forest.now.names pieces.items
         (items_of (pieces_of forest.now.trees (range_at_points forest.now.names points.now)))) }
 {
-    forest.nodes_stand_once();
+    forest.law_nodes_stand_once();
     let mut pieces = Vec::new(alloc);
     if is_collapsed(points) {
         return Ok(pieces);
@@ -62,7 +62,7 @@ fn pieces_apart(alloc: Global, forest: &Forest, points: &Points) -> Result<Vec<P
     ensures { IfOk result (λ pieces. AreItems forest.now.names pieces.items
         (items_of (pieces_apart forest.now.trees (range_at_points forest.now.names points.now)))) }
 {
-    forest.nodes_stand_once();
+    forest.law_nodes_stand_once();
     let start_path = inclusive_ancestors(alloc, forest, points.start.0)?;
     let end_path = inclusive_ancestors(alloc, forest, points.end.0)?;
     let (first, last) = parting(&start_path, &end_path);

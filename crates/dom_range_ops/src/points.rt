@@ -21,7 +21,7 @@ pub(crate) fn node_after(forest: &Forest, point: (Key, usize), top: Key) -> Opti
         (nodes_after forest.now.trees (name_of forest.now top) (at (name_of forest.now point.0) point.1)) }
     ensures stands { ForSome result (StandsIn forest.now top) }
 {
-    forest.nodes_stand_once();
+    forest.law_nodes_stand_once();
     let (node, offset) = point;
     let child = child_at(forest, node, offset);
     if child.is_some() {
@@ -36,7 +36,7 @@ pub(crate) fn child_at(forest: &Forest, node: Key, index: usize) -> Option<Key>
     ensures value { option_map (name_of forest.now) result ≡ first_of (drop index (children_of forest.now.trees (name_of forest.now node))) }
     ensures node { ForSome result (IsNode forest.now) }
 {
-    forest.nodes_stand_once();
+    forest.law_nodes_stand_once();
     let mut at = forest.first(node);
     let mut left = index;
     while left > 0 {

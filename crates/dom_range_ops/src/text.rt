@@ -31,7 +31,7 @@ pub fn range_text(alloc: Global, doc: &Doc, owner: Owner, number: u32) -> Result
 {
     let points = doc.range_points(owner, number);
     let forest = doc.forest();
-    forest.nodes_stand_once();
+    forest.law_nodes_stand_once();
     text_between(alloc, forest, &points)
 }
 
@@ -41,7 +41,7 @@ fn text_between(alloc: Global, forest: &Forest, points: &Points) -> Result<DomSt
     ensures { IfOk result (λ text. text.items ≡ text_among forest.now.trees (range_at_points forest.now.names points.now)
         (nodes_around forest.now.trees (range_at_points forest.now.names points.now))) }
 {
-    forest.nodes_stand_once();
+    forest.law_nodes_stand_once();
     let first = points.start.0;
     let last = points.end.0;
     let mut text = Vec::from_slice(alloc, text_part(forest, points, first))?;
@@ -59,7 +59,7 @@ fn push_contained(text: &mut DomStr, forest: &Forest, points: &Points) -> Result
     ensures { OnOk result (text.new.items ≡ text.old.items ++ contained_text forest.now.trees (range_at_points forest.now.names points.now)
         (nodes_around forest.now.trees (range_at_points forest.now.names points.now))) }
 {
-    forest.nodes_stand_once();
+    forest.law_nodes_stand_once();
     if is_before(forest, points.end, points.start) {
         return Ok(());
     }
@@ -75,7 +75,7 @@ fn push_between(text: &mut DomStr, forest: &Forest, points: &Points) -> Result<(
     ensures { OnOk result (text.new.items ≡ text.old.items ++ contained_text forest.now.trees (range_at_points forest.now.names points.now)
         (nodes_around forest.now.trees (range_at_points forest.now.names points.now))) }
 {
-    forest.nodes_stand_once();
+    forest.law_nodes_stand_once();
     let last = points.end.0;
     let top = forest.root(points.start.0);
     let stop = node_after(forest, points.end, top);
@@ -99,7 +99,7 @@ fn text_part<'a>(forest: &'a Forest, points: &Points, key: Key) -> &'a [u16]
     requires ends { AreEnds forest.now points.now }
     ensures { result.now ≡ spec_text_part forest.now.trees (range_at_points forest.now.names points.now) (name_of forest.now key) }
 {
-    forest.nodes_stand_once();
+    forest.law_nodes_stand_once();
     if !is_text(forest, key) {
         return &[];
     }

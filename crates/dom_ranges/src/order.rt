@@ -20,7 +20,7 @@ pub fn is_before(forest: &Forest, first: (Key, usize), second: (Key, usize)) -> 
     requires one_tree { same_root forest.now.trees (name_of forest.now first.0) (name_of forest.now second.0) ≡ true }
     ensures { result ≡ is_before forest.now.trees (at (name_of forest.now first.0) first.1) (at (name_of forest.now second.0) second.1) }
 {
-    forest.nodes_stand_once();
+    forest.law_nodes_stand_once();
     let (first_node, first_offset) = first;
     let (second_node, second_offset) = second;
     let (first_gauge, second_gauge) = climb_together(forest, first_node, second_node);
@@ -51,7 +51,7 @@ pub fn climb_together(forest: &Forest, first: Key, second: Key) -> (Key, Key)
     ensures second_climbed { is_inclusive_ancestor forest.now.trees (name_of forest.now result.1) (name_of forest.now second) ≡ true }
     ensures root { (depth_at forest.now result.0 ≡ 1) ⊎ (depth_at forest.now result.1 ≡ 1) }
 {
-    forest.nodes_stand_once();
+    forest.law_nodes_stand_once();
     let mut first_at = first;
     let mut second_at = second;
     'up: loop {
@@ -77,7 +77,7 @@ pub fn climb(forest: &Forest, key: Key, gauge: Key) -> (Key, Option<Key>)
     ensures above { is_inclusive_ancestor forest.now.trees (name_of forest.now result.0) (name_of forest.now key) ≡ true }
     ensures reached { Reaches forest.now key result.0 result.1 }
 {
-    forest.nodes_stand_once();
+    forest.law_nodes_stand_once();
     let mut top = key;
     let mut child = None;
     let mut left = gauge;
@@ -105,7 +105,7 @@ fn part(forest: &Forest, first: Key, second: Key) -> (Key, Key)
     ensures second_is_node { IsNode forest.now result.1 }
     ensures beside { AreBeside forest.now first second result.0 result.1 }
 {
-    forest.nodes_stand_once();
+    forest.law_nodes_stand_once();
     let mut low = first;
     let mut other = second;
     'up: loop {
@@ -131,7 +131,7 @@ fn comes_first(forest: &Forest, first: Key, second: Key) -> bool
     requires apart { index_of forest.now.trees (name_of forest.now first) ≢ index_of forest.now.trees (name_of forest.now second) }
     ensures { result ≡ nat_lt (index_of forest.now.trees (name_of forest.now first)) (index_of forest.now.trees (name_of forest.now second)) }
 {
-    forest.nodes_stand_once();
+    forest.law_nodes_stand_once();
     let mut low = first;
     let mut other = second;
     'back: loop {
@@ -158,6 +158,6 @@ pub(crate) fn share_root(forest: &Forest, first: Key, second: Key) -> bool
     requires second_is_node { IsNode forest.now second }
     ensures { result ≡ same_root forest.now.trees (name_of forest.now first) (name_of forest.now second) }
 {
-    forest.nodes_stand_once();
+    forest.law_nodes_stand_once();
     forest.root(first) == forest.root(second)
 }

@@ -83,7 +83,7 @@ fn part_inside(forest: &Forest, top: Key, ends: &[RangeEnd]) -> Span
     ensures within { result.behind ≤ length ends.now }
     ensures all { (k : ℕ) (d : RangeEnd) → k < length ends.now → is_in result k ≡ false → is_inside forest.now top (slice_index_or ends.now k d).node ≡ false }
 {
-    forest.nodes_stand_once();
+    forest.law_nodes_stand_once();
     let mut part = Span {
         first: ends.len(),
         behind: 0,

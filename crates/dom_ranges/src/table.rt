@@ -292,7 +292,7 @@ impl RangeTable {
         ensures named { (o : Owners) → named_ranges forest.now.names (ranges_of self.new o) ≡ without_named forest.now
             (name_of forest.now node) (named_ranges forest.now.names (ranges_of self.old o)) }
     {
-        forest.nodes_stand_once();
+        forest.law_nodes_stand_once();
         if let Some(parent) = forest.parent(node) {
             self.remove_child(forest, node, parent);
         }

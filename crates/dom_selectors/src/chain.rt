@@ -35,7 +35,7 @@ pub(crate) fn chain_end<'a>(
     ensures node { IfSome result (λ end. IsNode forest.now end.key) }
     ensures shorter { IfSome result (λ end. length end.links.now ≤ length links.entry.now) }
 {
-    forest.nodes_stand_once();
+    forest.law_nodes_stand_once();
     let mut rest = links;
     let mut at = key;
     while let Some((last, left)) = rest.split_last() {
@@ -79,7 +79,7 @@ pub(crate) fn chain_before<'a>(
     ensures node { IfSome result (λ end. IsNode forest.now end.key) }
     ensures shorter { IfSome result (λ end. length end.links.now ≤ length links.entry.now) }
 {
-    forest.nodes_stand_once();
+    forest.law_nodes_stand_once();
     let mut at = element_before(forest, key);
     while let Some(before) = at {
         if let Some(end) = chain_end(forest, first, links, before) {

@@ -31,7 +31,7 @@ fn segment_end<'a>(
     ensures node { IfSome result (λ end. IsNode forest.now end.key) }
     ensures shorter { IfSome result (λ end. length end.links.now ≤ length links.entry.now) }
 {
-    forest.nodes_stand_once();
+    forest.law_nodes_stand_once();
     let Some(mut end) = chain_end(forest, first, links, key) else {
         return None;
     };
@@ -62,7 +62,7 @@ fn segment_above<'a>(
     ensures node { IfSome result (λ end. IsNode forest.now end.key) }
     ensures shorter { IfSome result (λ end. length end.links.now ≤ length links.entry.now) }
 {
-    forest.nodes_stand_once();
+    forest.law_nodes_stand_once();
     let mut at = forest.parent(key);
     while let Some(above) = at {
         if let Some(end) = segment_end(forest, first, links, above) {

@@ -16,5 +16,5 @@ mod simples;
 mod tokens;
 mod values;
 
-pub use grammar::texts_say_one_selector;
+pub use grammar::law_texts_say_one_selector;
 pub use selector::Selector;

@@ -43,7 +43,7 @@ impl Selector {
             (name_of forest.now top)) }
         ensures nodes { IfOk result (λ keys. All (IsNode forest.now) keys.items) }
     {
-        forest.nodes_stand_once();
+        forest.law_nodes_stand_once();
         let mut found = Vec::new(alloc);
         let mut at = forest.following(top, top);
         while let Some(key) = at {

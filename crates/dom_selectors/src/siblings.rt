@@ -24,7 +24,7 @@ pub(crate) fn element_before(forest: &Forest, key: Key) -> Option<Key>
     ensures value { option_map (name_of forest.now) result ≡ last_of (elements_before forest.now.trees (name_of forest.now key)) }
     ensures node { ForSome result (IsNode forest.now) }
 {
-    forest.nodes_stand_once();
+    forest.law_nodes_stand_once();
     let mut at = forest.prev(key);
     while let Some(before) = at {
         if is_element(forest, before) {
@@ -41,7 +41,7 @@ pub(crate) fn element_behind(forest: &Forest, key: Key) -> Option<Key>
     ensures value { option_map (name_of forest.now) result ≡ first_of (elements_behind forest.now.trees (name_of forest.now key)) }
     ensures node { ForSome result (IsNode forest.now) }
 {
-    forest.nodes_stand_once();
+    forest.law_nodes_stand_once();
     let mut at = forest.next(key);
     while let Some(behind) = at {
         if is_element(forest, behind) {

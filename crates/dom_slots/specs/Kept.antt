@@ -24,13 +24,13 @@ pub record SlotsNow : Type 0 where
   pub table : SlotTable
   pub begun : Option BegunStep
 
--- the nodes of a forest stand in its trees, each once, and no others: what a forest's `nodes_stand_once` says
+-- the nodes of a forest stand in its trees, each once, and no others: what a forest's `law_nodes_stand_once` says
 pub record StandsOnce (f : NamedTrees) : Type 0 where
   pub once : (k : ℕ) → k < length f.names → count_by (λ n. name_eq n.name (name_at f.names k)) (nodes f.trees) ≡ 1
   pub only : (x : NodeName) → has_node f.trees x ≡ true → (k : ℕ) × (slice_get f.names k ≡ Some x)
 
 -- a forest with a node more, which was just added and stands alone in its tree: what a forest's `add` says, and
--- `nodes_stand_once` of the forest with it
+-- `law_nodes_stand_once` of the forest with it
 pub record HasOneMore (f g : NamedTrees) (n : Node) : Type 0 where
   pub names : g.names ≡ f.names ++ n.name ∷ []
   pub trees : g.trees ≡ with_node n f.trees

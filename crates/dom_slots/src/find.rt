@@ -20,7 +20,7 @@ pub(crate) fn slot_named(forest: &Forest, top: Key, name: &[u16]) -> Option<Key>
         (find (has_slot_name name.now) (nodes (subtree forest.now.trees (name_of forest.now top)))) }
     ensures node { ForSome result (IsNode forest.now) }
 {
-    forest.nodes_stand_once();
+    forest.law_nodes_stand_once();
     let mut at = Some(top);
     while let Some(key) = at {
         if has_name(forest, key, name) {
@@ -37,7 +37,7 @@ pub(crate) fn slots_below(alloc: Global, forest: &Forest, top: Key) -> Result<Ve
     ensures value { IfOk result (λ keys. map (name_of forest.now) keys.items ≡ slots_among (subtree forest.now.trees (name_of forest.now top))) }
     ensures nodes { IfOk result (λ keys. All (IsNode forest.now) keys.items) }
 {
-    forest.nodes_stand_once();
+    forest.law_nodes_stand_once();
     let mut keys = Vec::new(alloc);
     let mut at = Some(top);
     while let Some(key) = at {
@@ -114,7 +114,7 @@ pub(crate) fn next_looking_for(forest: &Forest, child: Key, slot: Key) -> Option
         (items_after name_eq (name_of forest.now child) (siblings forest.now.trees (name_of forest.now child)))) }
     ensures node { ForSome result (IsNode forest.now) }
 {
-    forest.nodes_stand_once();
+    forest.law_nodes_stand_once();
     let _sibling = forest.next(child)?;
     next_looking(forest, child, slot_name(forest, slot))
 }
@@ -128,7 +128,7 @@ fn next_looking(forest: &Forest, child: Key, name: &[u16]) -> Option<Key>
         (items_after name_eq (name_of forest.now child) (siblings forest.now.trees (name_of forest.now child)))) }
     ensures node { ForSome result (IsNode forest.now) }
 {
-    forest.nodes_stand_once();
+    forest.law_nodes_stand_once();
     let mut at = forest.next(child);
     while let Some(sibling) = at {
         if looks_for(forest, sibling, name) {

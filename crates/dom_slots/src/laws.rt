@@ -15,7 +15,7 @@ ghost use Rattle.dom_tree.specs.Forest.{NamedTrees, name_at};
 
 /// Holds of every world: where it has just the trees and the hosts that slots are read from, its slots, assigned nodes
 /// and signals are those that are read (DOM Standard, 4.2.2 Shadow tree).
-pub fn slots_are_of_worlds()
+pub fn law_slots_are_of_worlds()
     ensures slot { (s : ShadowTrees) (w : World) → IsShownBy s w → (x : Name) → slot_of w x ≡ slot_at s x }
     ensures assigned { (s : ShadowTrees) (w : World) → IsShownBy s w → (y : Name) → assigned w y ≡ assigned_at s y }
     ensures signals { (s t : ShadowTrees) (was now : World) → IsShownBy s was → IsShownBy t now → (x around : Name) (is_move : Truth) →
@@ -23,7 +23,7 @@ pub fn slots_are_of_worlds()
 {}
 
 /// Holds of every forest: a step that was begun, and then done and nothing else, can be ended (own rule).
-pub fn steps_end()
+pub fn law_steps_end()
     ensures { (old new : NamedTrees) (before after : SlotsNow) (step : Step) (b : BegunStep) → new.names ≡ old.names →
         StepHasNodes old.names step → AreSlotsOf old before → after.hosts ≡ before.hosts → after.table ≡ before.table → after.begun ≡ Some b →
         IsBegun old before.hosts step b → IsStepFrom old.names old.trees new.trees step b.left → IsEndOf old.trees new after b }
@@ -31,7 +31,7 @@ pub fn steps_end()
 
 /// Holds of every forest: a node more, alone in its tree, other node documents and other data leave the slots those of
 /// the forest (own rule).
-pub fn slots_stay()
+pub fn law_slots_stay()
     ensures added { (f g : NamedTrees) (n : Node) (s : SlotsNow) → HasOneMore f g n → AreSlotsOf f s → AreSlotsOf g s }
     ensures document { (f g : NamedTrees) (x : Name) (d : Maybe Name) (s : SlotsNow) → g.names ≡ f.names →
         g.trees ≡ change_node (under_document d) x f.trees → AreSlotsOf f s → AreSlotsOf g s }
@@ -42,7 +42,7 @@ pub fn slots_stay()
 {}
 
 /// Holds of every forest: a node that was just added and is no slot may be attached as a shadow root (own rule).
-pub fn new_nodes_are_free()
+pub fn law_new_nodes_are_free()
     ensures bare { (f g : NamedTrees) (n : Node) → HasOneMore f g n → is_slot_element n ≡ false →
         slots_among (subtree g.trees (name_at g.names (length f.names))) ≡ [] }
     ensures unhosted { (f : NamedTrees) (s : SlotsNow) (k : ℕ) → AreSlotsOf f s → length f.names ≤ k → host_of_root s.hosts k ≡ None }

@@ -11,6 +11,6 @@ mod slots;
 mod step;
 mod table;
 
-pub use laws::{new_nodes_are_free, slots_are_of_worlds, slots_stay, steps_end};
+pub use laws::{law_new_nodes_are_free, law_slots_are_of_worlds, law_slots_stay, law_steps_end};
 pub use slots::Slots;
 pub use step::Step;

@@ -38,7 +38,7 @@ impl Iter {
     /// An iterator just before its root (DOM Standard, createNodeIterator).
     pub fn new(root: Key, filter: Filter) -> Self
         ensures value { result ≡ record { root = root; reference = root; before = true; filter = filter_of filter } }
-        // The last condition is what a forest's `nodes_stand_once` says of its nodes.
+        // The last condition is what a forest's `law_nodes_stand_once` says of its nodes.
         ensures begins { (f : NamedTrees) → root < length f.names → count_by (λ n. name_eq n.name (name_at f.names root)) (nodes f.trees) ≡ 1 →
             IsIteratorOf f result }
     {
@@ -68,7 +68,7 @@ impl Iter {
         // So a loop over the nodes ends.
         ensures fewer { ForSome result (λ _. iterator_left forest.now self.new < iterator_left forest.now self.old) }
     {
-        forest.nodes_stand_once();
+        forest.law_nodes_stand_once();
         let found = self
             .filter
             .first_from(forest, self.ahead(forest), self.root)?;
@@ -104,7 +104,7 @@ impl Iter {
         ensures kept { IsIteratorOf forest.now self.new }
         ensures left { HasLeft forest.now self.new node }
     {
-        forest.nodes_stand_once();
+        forest.law_nodes_stand_once();
         if forest.is_inclusive_ancestor(node, self.root)
             || !forest.is_inclusive_ancestor(node, self.reference)
         {
@@ -129,7 +129,7 @@ impl Iter {
             (option_map (name_of forest.now) result) ≡ nodes_ahead forest.now.trees (iterator_view forest.now.names self.now) }
         ensures stands { ForSome result (StandsIn forest.now self.now.root) }
     {
-        forest.nodes_stand_once();
+        forest.law_nodes_stand_once();
         if self.before {
             return Some(self.reference);
         }
@@ -143,7 +143,7 @@ impl Iter {
             (option_map (name_of forest.now) result) ≡ nodes_passed forest.now.trees (iterator_view forest.now.names self.now) }
         ensures stands { ForSome result (StandsIn forest.now self.now.root) }
     {
-        forest.nodes_stand_once();
+        forest.law_nodes_stand_once();
         if self.before {
             return forest.preceding(self.reference, self.root);
         }
@@ -153,9 +153,9 @@ impl Iter {
 
 /// Holds of every forest: an iterator whose reference has left a node's tree stays one of the forest when that tree is
 /// taken out.
-pub fn iterators_stay(forest: &Forest)
+pub fn law_iterators_stay(forest: &Forest)
     ensures { (i : KeyedIterator) (node : ℕ) → IsNode forest.now node → IsIteratorOf forest.now i → HasLeft forest.now i node →
         IsIteratorOf (with_taken_out forest.now node) i }
 {
-    forest.nodes_stand_once();
+    forest.law_nodes_stand_once();
 }

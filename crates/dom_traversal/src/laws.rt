@@ -29,5 +29,5 @@ pub fn law_rest(forest: &Forest)
         None ≡ walker_move forest.now.trees (walker_view forest.now.names w) moves.Next → walker_rest forest.now w ≡ [] }
     ensures itself { (k : ℕ) → IsNode forest.now k → is_inclusive_ancestor forest.now.trees (name_of forest.now k) (name_of forest.now k) ≡ true }
 {
-    forest.nodes_stand_once();
+    forest.law_nodes_stand_once();
 }

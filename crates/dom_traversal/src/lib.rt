@@ -9,7 +9,7 @@ mod siblings;
 mod walker;
 
 pub use filter::Filter;
-pub use iter::{Iter, iterators_stay};
+pub use iter::{Iter, law_iterators_stay};
 pub use laws::law_rest;
 pub use search::beyond;
 pub use walker::Walker;

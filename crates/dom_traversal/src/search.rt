@@ -26,7 +26,7 @@ impl Filter {
             (from_node forest.now.trees (name_of forest.now top) (option_map (name_of forest.now) from))) }
         ensures stands { ForSome result (StandsIn forest.now top) }
     {
-        forest.nodes_stand_once();
+        forest.law_nodes_stand_once();
         let mut at = from;
         while let Some(key) = at {
             if self.accepts(forest, key) {
@@ -46,7 +46,7 @@ impl Filter {
             (up_to_node forest.now.trees (name_of forest.now top) (option_map (name_of forest.now) to))) }
         ensures stands { ForSome result (StandsIn forest.now top) }
     {
-        forest.nodes_stand_once();
+        forest.law_nodes_stand_once();
         let mut at = to;
         while let Some(key) = at {
             if self.accepts(forest, key) {
@@ -73,7 +73,7 @@ impl Filter {
             (ancestors forest.now.trees (name_of forest.now result) ≡ between ++ ancestors forest.now.trees (name_of forest.now key))
             × (list_all (is_entered forest.now.trees (filter_of self.now) through) between ≡ true) }
     {
-        forest.nodes_stand_once();
+        forest.law_nodes_stand_once();
         let mut at = key;
         while self.is_entered(forest, at, through) {
             let Some(last) = forest.last(at) else {
@@ -106,7 +106,7 @@ pub fn beyond(forest: &Forest, key: Key, top: Key) -> Option<Key>
         (beyond forest.now.trees (name_of forest.now top) (name_of forest.now key)) }
     ensures stands { ForSome result (StandsIn forest.now top) }
 {
-    forest.nodes_stand_once();
+    forest.law_nodes_stand_once();
     let mut at = key;
     while at != top {
         let next = forest.next(at);

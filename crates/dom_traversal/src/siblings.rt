@@ -29,7 +29,7 @@ impl Filter {
             (name_of forest.now k) ≡ stop_above forest.now.trees (filter_of self.now) (name_of forest.now top)
             (name_of forest.now key)) }
     {
-        forest.nodes_stand_once();
+        forest.law_nodes_stand_once();
         let mut at = key;
         'up: loop {
             let next = forest.next(at);
@@ -57,7 +57,7 @@ impl Filter {
             (name_of forest.now k) ≡ stop_above forest.now.trees (filter_of self.now) (name_of forest.now top)
             (name_of forest.now key)) }
     {
-        forest.nodes_stand_once();
+        forest.law_nodes_stand_once();
         let child = forest.first(key);
         if child.is_some() {
             return child;
@@ -80,7 +80,7 @@ impl Filter {
         ensures path { ForSome result (λ k. (above : List Name) ×
             (ancestors forest.now.trees (name_of forest.now key) ≡ above ++ ancestors forest.now.trees (name_of forest.now k))) }
     {
-        forest.nodes_stand_once();
+        forest.law_nodes_stand_once();
         let mut at = key;
         'up: loop {
             let previous = forest.prev(at);
@@ -101,7 +101,7 @@ impl Filter {
         requires top_is_node { IsNode forest.now top }
         ensures { result ≡ is_stop forest.now.trees (filter_of self.now) (name_of forest.now top) (name_of forest.now key) }
     {
-        forest.nodes_stand_once();
+        forest.law_nodes_stand_once();
         self.accepts(forest, key) || key == top
     }
 }

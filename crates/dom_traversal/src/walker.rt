@@ -72,7 +72,7 @@ impl Walker {
         // So a loop over the nodes ends.
         ensures fewer { ForSome result (λ _. walker_left forest.now self.new < walker_left forest.now self.old) }
     {
-        forest.nodes_stand_once();
+        forest.law_nodes_stand_once();
         let found = self.next_node(forest)?;
         self.current = found;
         Some(found)
@@ -84,7 +84,7 @@ impl Walker {
         ensures value { option_map (name_of forest.now) result ≡ walker_move forest.now.trees (walker_view forest.now.names self.now) moves.Next }
         ensures node { ForSome result (IsNode forest.now) }
     {
-        forest.nodes_stand_once();
+        forest.law_nodes_stand_once();
         if !forest.is_inclusive_ancestor(self.root, self.current) {
             return None;
         }
@@ -129,7 +129,7 @@ impl Walker {
         ensures value { option_map (name_of forest.now) result ≡ walker_move forest.now.trees (walker_view forest.now.names self.now) moves.First }
         ensures node { ForSome result (IsNode forest.now) }
     {
-        forest.nodes_stand_once();
+        forest.law_nodes_stand_once();
         if !forest.is_inclusive_ancestor(self.root, self.current) {
             return None;
         }
@@ -142,7 +142,7 @@ impl Walker {
         ensures value { option_map (name_of forest.now) result ≡ walker_move forest.now.trees (walker_view forest.now.names self.now) moves.NextSibling }
         ensures node { ForSome result (IsNode forest.now) }
     {
-        forest.nodes_stand_once();
+        forest.law_nodes_stand_once();
         if self.current == self.root || !forest.is_inclusive_ancestor(self.root, self.current) {
             return None;
         }
@@ -162,7 +162,7 @@ impl Walker {
             (option_map (name_of forest.now) from)) (option_map (name_of forest.now) from))) }
         ensures node { ForSome result (IsNode forest.now) }
     {
-        forest.nodes_stand_once();
+        forest.law_nodes_stand_once();
         let mut at = from;
         while let Some(key) = at {
             at = match self.filter.answer(forest, key) {
@@ -192,7 +192,7 @@ impl Walker {
         ensures value { option_map (name_of forest.now) result ≡ walker_move forest.now.trees (walker_view forest.now.names self.now) moves.Previous }
         ensures node { ForSome result (IsNode forest.now) }
     {
-        forest.nodes_stand_once();
+        forest.law_nodes_stand_once();
         if !forest.is_inclusive_ancestor(self.root, self.current) {
             return None;
         }
@@ -219,7 +219,7 @@ impl Walker {
             (option_map (name_of forest.now) result)) ≤ length
             (ahead_of forest.now.trees (name_of forest.now self.now.root) (name_of forest.now key)) }
     {
-        forest.nodes_stand_once();
+        forest.law_nodes_stand_once();
         if key == self.root {
             return None;
         }
@@ -247,7 +247,7 @@ impl Walker {
         ensures value { option_map (name_of forest.now) result ≡ walker_move forest.now.trees (walker_view forest.now.names self.now) moves.Parent }
         ensures node { ForSome result (IsNode forest.now) }
     {
-        forest.nodes_stand_once();
+        forest.law_nodes_stand_once();
         if !forest.is_inclusive_ancestor(self.root, self.current) {
             return None;
         }
@@ -292,7 +292,7 @@ impl Walker {
         ensures value { option_map (name_of forest.now) result ≡ walker_move forest.now.trees (walker_view forest.now.names self.now) moves.Last }
         ensures node { ForSome result (IsNode forest.now) }
     {
-        forest.nodes_stand_once();
+        forest.law_nodes_stand_once();
         if !forest.is_inclusive_ancestor(self.root, self.current) {
             return None;
         }
@@ -306,7 +306,7 @@ impl Walker {
             moves.PreviousSibling }
         ensures node { ForSome result (IsNode forest.now) }
     {
-        forest.nodes_stand_once();
+        forest.law_nodes_stand_once();
         if self.current == self.root || !forest.is_inclusive_ancestor(self.root, self.current) {
             return None;
         }
@@ -328,7 +328,7 @@ impl Walker {
             (option_map (name_of forest.now) from))) }
         ensures node { ForSome result (IsNode forest.now) }
     {
-        forest.nodes_stand_once();
+        forest.law_nodes_stand_once();
         let mut at = from;
         while let Some(key) = at {
             let low = self.filter.lowest(forest, key, false);

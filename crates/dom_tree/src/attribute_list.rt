@@ -47,7 +47,7 @@ impl Attributes {
         ensures { IfOk result (λ all. all ≡ attributes_from attributes.entries) }
     {
         let others = HashedAttributes::of(alloc, attributes)?;
-        others.have_own_names();
+        others.law_have_own_names();
         Ok(Attributes {
             few: Vec::new(alloc),
             others,
@@ -67,7 +67,7 @@ impl Attributes {
     }
 
     /// Holds of all attributes: no two have one name.
-    fn have_own_names(&self)
+    fn law_have_own_names(&self)
         ensures { HaveOwnNames self.now }
     {
         let _ = &self.few;
@@ -207,11 +207,11 @@ impl AttributeList {
     }
 
     /// Holds of every list: no two attributes have one name.
-    pub(crate) fn have_own_names(&self)
+    pub(crate) fn law_have_own_names(&self)
         ensures { HaveOwnNames self.now }
     {
         if let Some(attributes) = &self.boxed {
-            attributes.have_own_names();
+            attributes.law_have_own_names();
         }
     }
 

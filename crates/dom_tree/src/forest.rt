@@ -116,7 +116,7 @@ impl Forest {
 
     /// Holds of every forest (own rule): names tell the nodes apart, each node stands once in the trees, no others
     /// stand there, what is below a node is what it is above, and the roots stand in the order of their names.
-    pub fn nodes_stand_once(&self)
+    pub fn law_nodes_stand_once(&self)
         ensures distinct { (j k : ℕ) → IsNode self.now j → IsNode self.now k → name_of self.now j ≡ name_of self.now k → j ≡ k }
         ensures once { (k : ℕ) → IsNode self.now k → count_by (λ n. name_eq n.name (name_of self.now k)) (nodes self.now.trees) ≡ 1 }
         ensures only { (x : Name) → has_node self.now.trees x ≡ true → (k : ℕ) × (slice_get self.now.names k ≡ Some x) }

@@ -82,7 +82,7 @@ impl HashedAttributes {
     }
 
     /// Holds of every list: no two attributes have one name.
-    pub(crate) fn have_own_names(&self)
+    pub(crate) fn law_have_own_names(&self)
         ensures { HaveOwnNames self.now }
     {
         if let Some(attributes) = &self.boxed {

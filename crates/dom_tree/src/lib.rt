@@ -17,4 +17,4 @@ mod table;
 
 pub use data::NodeData;
 pub use forest::Forest;
-pub use owners::{changes_add_up, changes_are_own, reads_are_own};
+pub use owners::{law_changes_add_up, law_changes_are_own, law_reads_are_own};

@@ -7,7 +7,7 @@ ghost use Rattle.dom_slots.specs.Kept.{AreSlotsOf};
 
 use dom_base::{Kind, NodeName, Owner, OwnerPath};
 use dom_path::{Item, Path};
-use dom_slots::{Slots, Step, steps_end};
+use dom_slots::{Slots, Step, law_steps_end};
 use dom_tree::{Forest, NodeData};
 use indexmap::IndexMap;
 use node_arena::Key;
@@ -124,7 +124,7 @@ fn is_alone(forest: &Forest, root: Key) -> bool
     requires { IsNode forest.now root }
     ensures { result ≡ true → slots_among (subtree forest.now.trees (name_of forest.now root)) ≡ [] }
 {
-    forest.nodes_stand_once();
+    forest.law_nodes_stand_once();
     let Kind::Shadow = forest.kind(root) else {
         return false;
     };
@@ -147,7 +147,7 @@ fn attach(
     ensures slots { OnOk result (AreSlotsOf forest.now slots.new) }
     ensures free { OnOk result (slots.new.begun ≡ None) }
 {
-    forest.nodes_stand_once();
+    forest.law_nodes_stand_once();
     let owner = name(root).owner;
     let host = key_of(rt, forest, host);
     let root = key_of(rt, forest, root);
@@ -174,7 +174,7 @@ fn append(
     let node = key_of(rt, forest, child);
     assert!(rt; forest.parent(node).is_none());
     assert!(rt; !forest.is_inclusive_ancestor(node, into));
-    steps_end();
+    law_steps_end();
     slots.begin(forest, Step::Place(node, into, None))?;
     forest.link_before(into, node, None);
     let _ = slots.end(forest)?;

@@ -16,7 +16,7 @@ use super::settling::settle;
 use crate::Parts;
 use dom_base::{Fault, Kind, MAX_COMPONENTS, MAX_DEPTH, Owner, Refusal};
 use dom_node_trees::may_be_host;
-use dom_slots::{Slots, new_nodes_are_free};
+use dom_slots::{Slots, law_new_nodes_are_free};
 use dom_tree::{Forest, NodeData};
 use indexmap::IndexMap;
 use node_arena::Key;
@@ -41,7 +41,7 @@ impl Parts {
             Ok(owner) => owner,
             Err(refusal) => return Err(Fault::Refused(refusal)),
         };
-        self.forest.nodes_stand_once();
+        self.forest.law_nodes_stand_once();
         let made = attach_root(self.alloc, &mut self.forest, &mut self.slots, host, owner);
         match made {
             Ok(root) => Ok(root),
@@ -68,7 +68,7 @@ impl Parts {
         ensures component { IfOk result (λ c. c ≡ component_made (owner_in self.now host) (length (part_of self.now.world (owner_in self.now host)).attached)) }
         ensures refusal { err_of result ≡ attaching_refusal (part_of self.now.world (owner_in self.now host)) (name_in self.now host) }
     {
-        self.forest.nodes_stand_once();
+        self.forest.law_nodes_stand_once();
         if self.slots.root_of(host).is_some() || !may_be_host(self.forest.element(host)) {
             return Err(Refusal::NotSupported);
         }
@@ -146,12 +146,12 @@ fn attach_root(
         text: Vec::new(alloc),
         document: forest.document(host),
     };
-    new_nodes_are_free();
+    law_new_nodes_are_free();
     let root = match forest.add(owner, node) {
         Ok(root) => root,
         Err(_) => return Err(AllocError),
     };
-    forest.nodes_stand_once();
+    forest.law_nodes_stand_once();
     slots.attach(host, root, owner)?;
     Ok(root)
 }

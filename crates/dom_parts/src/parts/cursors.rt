@@ -42,7 +42,7 @@ impl Parts {
         ensures other { IfErr result (λ fault. (fault ≡ Fault.Refused Limit) ⊎ (fault ≡ Fault.Memory)) }
         ensures err { OnErr result (self.new ≡ self.old) }
     {
-        self.forest.nodes_stand_once();
+        self.forest.law_nodes_stand_once();
         self.cursors.add_iter(owner, root, filter)
     }
 

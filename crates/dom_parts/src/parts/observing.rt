@@ -58,7 +58,7 @@ impl Parts {
         ensures other { IfErr result (λ fault. (fault ≡ Fault.Refused TypeFault) ⊎ (fault ≡ Fault.Memory)) }
         ensures err { OnErr result (self.new ≡ self.old) }
     {
-        self.forest.nodes_stand_once();
+        self.forest.law_nodes_stand_once();
         self.observers.observe(owner, number, node, options)
     }
 

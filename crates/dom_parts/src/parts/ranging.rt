@@ -60,7 +60,7 @@ impl Parts {
         ensures other { IfErr result (λ refusal. refusal ≡ RefusalOf.IndexSize) }
         ensures err { OnErr result (self.new ≡ self.old) }
     {
-        self.forest.nodes_stand_once();
+        self.forest.law_nodes_stand_once();
         self.ranges
             .set_start(owner, number, &self.forest, node, offset)
     }
@@ -84,7 +84,7 @@ impl Parts {
         ensures other { IfErr result (λ refusal. refusal ≡ RefusalOf.IndexSize) }
         ensures err { OnErr result (self.new ≡ self.old) }
     {
-        self.forest.nodes_stand_once();
+        self.forest.law_nodes_stand_once();
         self.ranges
             .set_end(owner, number, &self.forest, node, offset)
     }

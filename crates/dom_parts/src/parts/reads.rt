@@ -34,7 +34,7 @@ impl Parts {
         ensures parts { (o : OwnerOf) → IsPart (part_of self.now.world o) }
         ensures stand { (k : ℕ) → HoldsNode self.now k → has_node (trees_in self.now k) (name_in self.now k) ≡ true }
     {
-        self.forest.nodes_stand_once();
+        self.forest.law_nodes_stand_once();
     }
 
     /// The owner of a node.
@@ -83,7 +83,7 @@ impl Parts {
         requires { HoldsNode self.now node }
         ensures { result ≡ is_connected self.now.world (name_in self.now node) }
     {
-        self.forest.nodes_stand_once();
+        self.forest.law_nodes_stand_once();
         let depth = self.forest.name(node).owner.depth();
         let root = outermost_root(&self.forest, &self.slots, node, depth);
         is_document(self.forest.kind(root))
@@ -171,7 +171,7 @@ fn outermost_root(forest: &Forest, slots: &Slots, node: Key, depth: u8) -> Key
     ensures value { name_of forest.now result ≡ outermost_root (shadows forest.now slots.now.hosts) depth
         (root_of forest.now.trees (name_of forest.now node)) }
 {
-    forest.nodes_stand_once();
+    forest.law_nodes_stand_once();
     let mut root = forest.root(node);
     let mut left = depth;
     while left > 0 {

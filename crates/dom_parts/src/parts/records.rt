@@ -130,7 +130,7 @@ impl Parts {
         requires { NamesNodes self.old change }
         ensures { OnOk result (self.new ≡ stepped (owner_in self.old (target_of (change_of change))) (queue_record (change_in self.old change)) self.old) }
     {
-        self.forest.nodes_stand_once();
+        self.forest.law_nodes_stand_once();
         let owner = self.forest.name(change.target()).owner;
         match self.observers.queue_record(&self.forest, change) {
             Ok(true) => self.queue.push_notify(owner),

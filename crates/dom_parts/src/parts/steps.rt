@@ -16,7 +16,7 @@ use crate::Parts;
 use dom_base::DomStr;
 use dom_node_trees::{link, remove_attr, set_attr, unlink};
 use dom_observers::Observers;
-use dom_traversal::iterators_stay;
+use dom_traversal::law_iterators_stay;
 use node_arena::Key;
 use std::alloc::{AllocError, Global};
 
@@ -54,8 +54,8 @@ impl Parts {
         requires has_parent { is_some (parent_of (trees_in self.old node) (name_in self.old node)) ≡ true }
         ensures { OnOk result (self.new ≡ stepped (owner_in self.old node) (take_out (name_in self.old node)) self.old) }
     {
-        iterators_stay(&self.forest);
-        self.forest.nodes_stand_once();
+        law_iterators_stay(&self.forest);
+        self.forest.law_nodes_stand_once();
         let Some(parent) = self.forest.parent(node) else {
             unreachable!()
         };
@@ -98,7 +98,7 @@ impl Parts {
         ensures { OnOk result (self.new ≡ stepped (owner_in self.old parent)
             (place (name_in self.old node) (name_in self.old parent) (option_map (name_in self.old) before)) self.old) }
     {
-        self.forest.nodes_stand_once();
+        self.forest.law_nodes_stand_once();
         let done = link(
             &mut self.forest,
             &mut self.slots,
@@ -190,7 +190,7 @@ impl Parts {
         ensures whole { offset ≡ 0 → length (node_in (trees_in self.old node) (name_in self.old node)).text ≤ count → IsOk result }
         ensures err { OnErr result (self.new ≡ self.old) }
     {
-        self.forest.nodes_stand_once();
+        self.forest.law_nodes_stand_once();
         let size = data.len();
         let text = spliced(self.alloc, self.forest.text(node), offset, count, data)?;
         self.ranges.on_replace_data(node, offset, count, size);
@@ -220,7 +220,7 @@ impl Parts {
         ensures { self.new ≡ stepped (owner_in self.old parent)
             (make_room (name_in self.old parent) (index_of (trees_in self.old child) (name_in self.old child)) count) self.old }
     {
-        self.forest.nodes_stand_once();
+        self.forest.law_nodes_stand_once();
         self.ranges
             .on_insert_before(&self.forest, parent, child, count);
     }
@@ -237,7 +237,7 @@ impl Parts {
         ensures { self.new ≡ stepped (owner_in self.old node)
             (split_at (name_in self.old node) offset (name_in self.old new) (name_in self.old parent) index) self.old }
     {
-        self.forest.nodes_stand_once();
+        self.forest.law_nodes_stand_once();
         self.ranges
             .on_split(node, offset, new, Some((parent, index)));
     }
@@ -255,7 +255,7 @@ impl Parts {
             (map (name_in self.old) nexts.now))) self.old }
     {
         self.laws();
-        self.forest.nodes_stand_once();
+        self.forest.law_nodes_stand_once();
         if self.ranges.is_empty() {
             return;
         }
@@ -280,7 +280,7 @@ impl Parts {
             (join_at (name_in self.old first) size (name_in self.old next) (name_in self.old parent)
             (index_of (trees_in self.old first) (name_in self.old next))) self.old }
     {
-        self.forest.nodes_stand_once();
+        self.forest.law_nodes_stand_once();
         // What is joined is within the first Text, whose length is a number of the code's.
         let _whole = self.forest.length(first);
         let joined = size + self.forest.length(next);

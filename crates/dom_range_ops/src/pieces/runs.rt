@@ -25,7 +25,7 @@ pub(super) fn push_siblings(
         (map whole_item (up_to (option_map (name_of forest.now) until)
         (from_sibling forest.now.trees (option_map (name_of forest.now) from))))) }
 {
-    forest.nodes_stand_once();
+    forest.law_nodes_stand_once();
     let mut at = from;
     while let Some(key) = at {
         let stop = until;
@@ -50,7 +50,7 @@ pub(super) fn push_children(
         (map whole_item (if behind then drop point.1 (children_of forest.now.trees (name_of forest.now point.0)) else take point.1
         (children_of forest.now.trees (name_of forest.now point.0))))) }
 {
-    forest.nodes_stand_once();
+    forest.law_nodes_stand_once();
     let (node, offset) = point;
     let first_behind = child_at(forest, node, offset);
     if behind {

@@ -42,7 +42,7 @@ pub(super) fn push_pieces(
     ensures { OnOk result (Adds forest.now.names pieces.old.items pieces.new.items
         (items_of (pieces_apart forest.now.trees (range_at_points forest.now.names points.now)))) }
 {
-    forest.nodes_stand_once();
+    forest.law_nodes_stand_once();
     let start = Side {
         point: points.start,
         behind: true,
@@ -71,7 +71,7 @@ fn push_between(
         (map whole_item (filter (is_contained forest.now.trees (range_at_points forest.now.names points.now))
         (children_of forest.now.trees (common_ancestor forest.now.trees (range_at_points forest.now.names points.now)))))) }
 {
-    forest.nodes_stand_once();
+    forest.law_nodes_stand_once();
     if is_before(forest, points.end, points.start) {
         return Ok(());
     }
@@ -165,7 +165,7 @@ fn push_head(
         (clone_item (name_of forest.now node) ∷ wholes_if before
         (items_before name_eq (name_of forest.now child) (children_of forest.now.trees (name_of forest.now node))))) }
 {
-    forest.nodes_stand_once();
+    forest.law_nodes_stand_once();
     pieces.push(Piece::Clone(node))?;
     if before {
         push_siblings(pieces, forest, forest.first(node), Some(child))?;
@@ -202,7 +202,7 @@ fn push_tail(
         (wholes_if behind (items_after name_eq (name_of forest.now child) (siblings forest.now.trees (name_of forest.now child))) ++
         end_item ∷ [])) }
 {
-    forest.nodes_stand_once();
+    forest.law_nodes_stand_once();
     if behind {
         push_siblings(pieces, forest, forest.next(child), None)?;
     }

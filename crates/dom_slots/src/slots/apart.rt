@@ -22,7 +22,7 @@ impl Slots {
         ensures { result ≡ is_apart (shadows forest.now self.now.hosts) (name_of forest.now (step_node step))
             (option_map (name_of forest.now) left) }
     {
-        forest.nodes_stand_once();
+        forest.law_nodes_stand_once();
         let node = step.node();
         self.host_of(node).is_none()
             && self.is_outside(forest, left)
@@ -35,7 +35,7 @@ impl Slots {
         requires node { ForSome node (IsNode forest.now) }
         ensures { result ≡ is_outside (shadows forest.now self.now.hosts) (option_map (name_of forest.now) node) }
     {
-        forest.nodes_stand_once();
+        forest.law_nodes_stand_once();
         match node {
             Some(key) => self.host_of(forest.root(key)).is_none(),
             None => true,

@@ -39,7 +39,7 @@ impl Slots {
         ensures value { option_map (name_of forest.now) result ≡ slot_at (shadows forest.now self.now.hosts) (name_of forest.now node) }
         ensures node { ForSome result (IsNode forest.now) }
     {
-        forest.nodes_stand_once();
+        forest.law_nodes_stand_once();
         let parent = forest.parent(node)?;
         let root = self.root_of(parent)?;
         if forest.parent(root).is_none() && self.host_of(root) == Some(parent) {
@@ -58,7 +58,7 @@ impl Slots {
             (name_of forest.now slot)) }
         ensures nodes { IfOk result (λ keys. All (IsNode forest.now) keys.items) }
     {
-        forest.nodes_stand_once();
+        forest.law_nodes_stand_once();
         let mut keys = Vec::new(self.alloc);
         keys.extend_from_slice(self.table.list(slot))?;
         Ok(keys)
@@ -71,7 +71,7 @@ impl Slots {
         ensures value { option_map (name_of forest.now) result ≡ slot_at (shadows forest.now self.now.hosts) (name_of forest.now node) }
         ensures node { ForSome result (IsNode forest.now) }
     {
-        forest.nodes_stand_once();
+        forest.law_nodes_stand_once();
         let parent = forest.parent(node)?;
         let root = self.root_of(parent)?;
         let name = slottable_name(forest, node)?;
@@ -86,7 +86,7 @@ impl Slots {
             (name_of forest.now slot)) }
         ensures nodes { IfOk result (λ keys. All (IsNode forest.now) keys.items) }
     {
-        forest.nodes_stand_once();
+        forest.law_nodes_stand_once();
         match self.host_of(forest.root(slot)) {
             Some(host) => self.assigned_under(forest, host, slot),
             None => Ok(Vec::new(self.alloc)),
@@ -102,7 +102,7 @@ impl Slots {
             (name_of forest.now slot) (name_of forest.now host)) }
         ensures nodes { IfOk result (λ keys. All (IsNode forest.now) keys.items) }
     {
-        forest.nodes_stand_once();
+        forest.law_nodes_stand_once();
         let mut keys = Vec::new(self.alloc);
         if !self.is_first(forest, host, slot) {
             return Ok(keys);
@@ -126,7 +126,7 @@ impl Slots {
         requires hosts { HostsAreNodes forest.now.names self.now.hosts }
         ensures { result ≡ is_first_at (shadows forest.now self.now.hosts) (name_of forest.now host) (name_of forest.now slot) }
     {
-        forest.nodes_stand_once();
+        forest.law_nodes_stand_once();
         match self.root_of(host) {
             Some(root) => slot_named(forest, root, slot_name(forest, slot)) == Some(slot),
             None => false,

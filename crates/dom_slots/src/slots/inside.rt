@@ -113,7 +113,7 @@ impl Slots {
             OnOk result (AreRenewed forest.now self.now.hosts p old done
             (told ++ bare_around forest.now self.now.hosts step (name_of forest.now around)) table signals.new.items) }
     {
-        forest.nodes_stand_once();
+        forest.law_nodes_stand_once();
         if step.is_move() && self.is_bare(forest, around)? {
             add_once(signals, around)?;
         }
@@ -126,7 +126,7 @@ impl Slots {
         requires node { IsNode forest.now key }
         ensures { IfOk result (λ bare. bare ≡ is_bare_at (shadows forest.now self.now.hosts) (name_of forest.now key)) }
     {
-        forest.nodes_stand_once();
+        forest.law_nodes_stand_once();
         if !is_slot(forest, key) || self.host_of(forest.root(key)).is_none() {
             return Ok(false);
         }

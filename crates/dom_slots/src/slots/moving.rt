@@ -41,7 +41,7 @@ impl Slots {
             IfOk result (λ keys. AreRenewed forest.now self.old.hosts p self.old.table (own_slots forest.now self.old.hosts begun.slot begun.step)
             (filter p (own_slots forest.now self.old.hosts begun.slot begun.step)) self.new.table keys.items) }
     {
-        forest.nodes_stand_once();
+        forest.law_nodes_stand_once();
         let node = begun.step.node();
         let slot = self.slot_now(forest, node);
         if slot == begun.slot {
@@ -81,7 +81,7 @@ impl Slots {
             OnOk result (AreRenewed forest.now self.old.hosts p old (done ++ option_to_list (option_map (name_of forest.now) slot))
             (told ++ filter p (option_to_list (option_map (name_of forest.now) slot))) self.new.table signals.new.items) }
     {
-        forest.nodes_stand_once();
+        forest.law_nodes_stand_once();
         let Some(key) = slot else {
             return Ok(());
         };
@@ -113,7 +113,7 @@ impl Slots {
             OnOk result (AreRenewed forest.now self.old.hosts p old (done ++ option_to_list (option_map (name_of forest.now) slot))
             (told ++ filter p (option_to_list (option_map (name_of forest.now) slot))) self.new.table signals.new.items) }
     {
-        forest.nodes_stand_once();
+        forest.law_nodes_stand_once();
         let Some(key) = slot else {
             return Ok(());
         };
@@ -134,7 +134,7 @@ impl Slots {
             (host_named forest.now.names self.now.hosts (root_of forest.now.trees (name_of forest.now slot)) ≡ Some h) ×
             (parent_of forest.now.trees (name_of forest.now node) ≡ Some h) }
     {
-        forest.nodes_stand_once();
+        forest.law_nodes_stand_once();
         match self.host_of(forest.root(slot)) {
             Some(host) => forest.parent(node) == Some(host),
             None => false,

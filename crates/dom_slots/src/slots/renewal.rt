@@ -51,7 +51,7 @@ impl Slots {
             OnOk result (AreRenewed forest.now self.old.hosts p old (done ++ name_of forest.now slot ∷ [])
             (told ++ filter p (name_of forest.now slot ∷ [])) self.new.table signals.new.items) }
     {
-        forest.nodes_stand_once();
+        forest.law_nodes_stand_once();
         let list = self.assigned_now(forest, slot)?;
         if self.table.has_other(slot, &list) {
             self.table.insert(self.alloc, slot, list)?;

@@ -31,7 +31,7 @@ impl Slots {
         ensures table { OnOk result (self.new.table ≡ self.old.table) }
         ensures begun { OnOk result ((b : BegunStep) × (self.new.begun ≡ Some b) × IsBegun forest.now self.old.hosts step b) }
     {
-        forest.nodes_stand_once();
+        forest.law_nodes_stand_once();
         let kept = step;
         let left = match step {
             Step::Place(node, _, _) | Step::Removal(node) => forest.parent(node),
@@ -64,7 +64,7 @@ impl Slots {
         ensures free { OnOk result (self.new.begun ≡ None) }
         ensures slots { OnOk result (AreSlotsOf forest.now self.new) }
     {
-        forest.nodes_stand_once();
+        forest.law_nodes_stand_once();
         if self.hosts.is_empty() {
             self.begun = None;
             return Ok(Vec::new(self.alloc));
@@ -103,7 +103,7 @@ impl Slots {
             IfOk result (λ keys. AreRenewed forest.now self.old.hosts p old (own_slots forest.now self.old.hosts begun.slot begun.step)
             (filter p (own_slots forest.now self.old.hosts begun.slot begun.step)) self.new.table keys.items) }
     {
-        forest.nodes_stand_once();
+        forest.law_nodes_stand_once();
         let slot = self.slot_now(forest, begun.step.node());
         let mut signals = Vec::new(self.alloc);
         self.renew(forest, begun.slot.as_slice(), &mut signals)?;

@@ -85,11 +85,11 @@ impl Forest {
     }
 
     /// Holds of every node (DOM Standard, concept: attribute list): no two of its attributes have one name.
-    pub fn attributes_have_own_names(&self, key: Key)
+    pub fn law_attributes_have_own_names(&self, key: Key)
         requires { IsNode self.now key }
         ensures { HaveOwnNames (node_in self.now.trees (name_of self.now key)).attributes }
     {
-        self.arena.payload(key).attributes().have_own_names();
+        self.arena.payload(key).attributes().law_have_own_names();
     }
 
     /// Sets an attribute to a value in code units. One that is there keeps its place, and a new one goes last (DOM

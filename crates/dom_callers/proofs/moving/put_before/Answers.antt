@@ -12,7 +12,7 @@ returns-clause-ranges c =
       there = c.requires.parent_is_node;
       moved = c.on_insert.ensures;
     } in
-    in-shown comes c.law_keys_stand_for_names.ensures.insert c.law_ends_stay.ensures.at_nodes c.nodes_stand_once.ensures.distinct c.args.child
+    in-shown comes c.law_keys_stand_for_names.ensures.insert c.law_ends_stay.ensures.at_nodes c.law_nodes_stand_once.ensures.distinct c.args.child
     c.index-index.ensures c.requires.room
 
 pub returns-clause-room : goal.returns-clause-room

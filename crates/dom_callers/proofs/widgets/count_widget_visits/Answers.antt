@@ -10,7 +10,7 @@ pub returns : goal.returns
 returns c =
     let f = c.args.forest.now in
     let hosts = c.args.slots.now.hosts in
-    let hosted = c.law_hosts_nest.ensures.attached f hosts 1 (widgets-attached f hosts c.nodes_stand_once.ensures.order c.requires.widgets) in
+    let hosted = c.law_hosts_nest.ensures.attached f hosts 1 (widgets-attached f hosts c.law_nodes_stand_once.ensures.order c.requires.widgets) in
     let p = c.in_ok-path.ensures.hosted 1 hosted in (
       p.shown.nodes,
       p.shown.path,

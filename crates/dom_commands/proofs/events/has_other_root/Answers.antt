@@ -29,7 +29,7 @@ returns c =
     ∙ read_at root_of f.names f.trees w o (word_view c.args.other) c.key-other.result other_here c.forest-forest.ensures.trees
     (read_own f.trees c.forest-forest.ensures.owned o (at c.args.other) (owner-named w o (word_view c.args.other))).root in
     rw (← c.state.view_is)
-    (c.ne.ensures ∙ ap not (key-test f.names c.nodes_stand_once.ensures.distinct c.root-root.result c.root-other_root.result
+    (c.ne.ensures ∙ ap not (key-test f.names c.law_nodes_stand_once.ensures.distinct c.root-root.result c.root-other_root.result
     c.root-root.ensures.node c.root-other_root.ensures.node
     ∙ ap (λ (y : NodeName). name_eq y (name_at f.names c.root-other_root.result)) root ∙
     ap (name_eq (root_of (part_of w o).trees (at c.args.node))) other_root))

@@ -20,4 +20,4 @@ returns c =
     ap (λ (names : List NodeName). name_at names c.key-slot.result) c.forest_and_slots.ensures.names ∙ c.key-slot.ensures.name in
     IfOk-weaker c.names_of.result (λ names. names.items ≡ map (name_at f.names) c.deref.result.now) (λ names. names.items ≡ assigned w x)
     (λ names e. e ∙ ap (map (name_at f.names)) c.deref.ensures.value ∙ c.in_ok-nodes.ensures.value ∙ ap (assigned_at trees) is ∙
-    sym (c.slots_are_of_worlds.ensures.assigned trees w c.forest_and_slots.ensures.shown x)) c.names_of.ensures
+    sym (c.law_slots_are_of_worlds.ensures.assigned trees w c.forest_and_slots.ensures.shown x)) c.names_of.ensures

@@ -11,7 +11,7 @@ use Rattle.dom_node_trees.proofs.documents.+add_roots.Goals as goal
 pub loop-at-init : goal.loop-at-init
 loop-at-init t c =
     let f = c.args.forest.now in
-    let once = c.nodes_stand_once.ensures.once c.args.top c.requires.top_is_node in
+    let once = c.law_nodes_stand_once.ensures.once c.args.top c.requires.top_is_node in
     let times = times_count f.trees (name_at f.names c.args.top) in
     lists_first f c.args.slots.now.hosts (roots_within (c.args.depth - 1) f c.args.slots.now.hosts) (map (name_at f.names) c.args.roots.now.items)
     c.args.top c.args.roots.now.items refl c.requires.nodes c.requires.top_is_node (omega arith)
@@ -31,7 +31,7 @@ pub loop-at-smaller : goal.loop-at-smaller
 loop-at-smaller t c =
     let f = c.args.forest.now in
     lists_fewer f c.args.slots.now.hosts (roots_within (c.args.depth - 1) f c.args.slots.now.hosts) (map (name_at f.names) c.args.roots.now.items)
-    c.args.top (once_forest f.names f.trees c.nodes_stand_once.ensures.once c.nodes_stand_once.ensures.only)
+    c.args.top (once_forest f.names f.trees c.law_nodes_stand_once.ensures.once c.law_nodes_stand_once.ensures.only)
     c.loop-at.roots.items c.loop-at.at c.in-Some.node c.in-Some.is c.loop-at.invariant
     c.following-at.result c.following-at.ensures.value
 
@@ -41,13 +41,13 @@ loop-at-preserved t c =
     let hosts = c.args.slots.now.hosts in
     let deeper = roots_within (c.args.depth - 1) f hosts in
     let earlier = map (name_at f.names) c.args.roots.now.items in
-    let once = once_forest f.names f.trees c.nodes_stand_once.ensures.once c.nodes_stand_once.ensures.only in
+    let once = once_forest f.names f.trees c.law_nodes_stand_once.ensures.once c.law_nodes_stand_once.ensures.only in
     elim c.match-root_of.branch [
       | in-Some-root_of+in_ok-push+in_ok-add_roots w ↦
           subst (λ (ks : List ℕ). Lists f hosts deeper earlier c.args.top ks c.following-at.result) (sym (ap (λ v. v.items) w.roots-is))
           (lists_root f hosts deeper earlier c.args.top once c.loop-at.roots.items c.loop-at.at c.in-Some.node c.in-Some.is c.loop-at.invariant
           c.following-at.result c.following-at.ensures.value
-          c.nodes_stand_once.ensures.distinct c.requires.hosts c.following-at.ensures.node w.in-Some-root_of.root
+          c.law_nodes_stand_once.ensures.distinct c.requires.hosts c.following-at.ensures.node w.in-Some-root_of.root
           (sym c.root_of.ensures ∙ w.in-Some-root_of.is) w.add_roots.new.roots.items
           (w.in_ok-add_roots.ensures.names ∙
           ap (λ (ks : List ℕ). map (name_at f.names) ks ++ deeper (name_at f.names w.in-Some-root_of.root)) w.in_ok-push.ensures.items)
@@ -56,5 +56,5 @@ loop-at-preserved t c =
           subst (λ (ks : List ℕ). Lists f hosts deeper earlier c.args.top ks c.following-at.result) (sym (ap (λ v. v.items) w.roots-is))
           (lists_none f hosts deeper earlier c.args.top once c.loop-at.roots.items c.loop-at.at c.in-Some.node c.in-Some.is c.loop-at.invariant
           c.following-at.result c.following-at.ensures.value
-          c.nodes_stand_once.ensures.distinct c.requires.hosts c.following-at.ensures.node (sym c.root_of.ensures ∙ w.in_default-root_of.is))
+          c.law_nodes_stand_once.ensures.distinct c.requires.hosts c.following-at.ensures.node (sym c.root_of.ensures ∙ w.in_default-root_of.is))
     ]

@@ -11,7 +11,7 @@ use Rattle.dom_node_trees.proofs.documents.set_documents.Goals as goal
 pub loop-at-init : goal.loop-at-init
 loop-at-init c =
     let f = c.args.forest.now in
-    let once = c.nodes_stand_once.ensures.once c.args.top c.requires.top_is_node in
+    let once = c.law_nodes_stand_once.ensures.once c.args.top c.requires.top_is_node in
     let times = times_count f.trees (name_at f.names c.args.top) in
     (refl, sets_first f.names (name_at f.names c.args.document) f.trees c.args.top c.requires.top_is_node (omega arith))
 
@@ -27,7 +27,7 @@ following-at-requires-clause-within c =
     ap (λ ns. change_node (under_document (Some (name_at ns c.args.document))) (name_at ns c.in-Some.node) g.trees) c.loop-at.invariant.0 in
     subst (λ (ns : List NodeName). is_inclusive_ancestor c.set_document.new.self.trees (name_at ns c.args.top) (name_at ns c.in-Some.node) ≡ _) (sym names)
     (sets_above f.names d top f.trees g.trees c.set_document.new.self.trees
-    (once_forest f.names f.trees c.nodes_stand_once.ensures.once c.nodes_stand_once.ensures.only) c.in-Some.node at changed)
+    (once_forest f.names f.trees c.law_nodes_stand_once.ensures.once c.law_nodes_stand_once.ensures.only) c.in-Some.node at changed)
 
 pub loop-at-smaller : goal.loop-at-smaller
 loop-at-smaller c =
@@ -38,7 +38,7 @@ loop-at-smaller c =
       near = c.following-at.ensures.node;
     } in
     (sets_on one c.args.forest.now c.loop-at.at
-    (once_forest c.args.forest.now.names c.args.forest.now.trees c.nodes_stand_once.ensures.once c.nodes_stand_once.ensures.only) c.in-Some.is
+    (once_forest c.args.forest.now.names c.args.forest.now.trees c.law_nodes_stand_once.ensures.once c.law_nodes_stand_once.ensures.only) c.in-Some.is
     c.loop-at.invariant.0 c.loop-at.invariant.1).2
 
 pub loop-at-preserved : goal.loop-at-preserved
@@ -50,6 +50,6 @@ loop-at-preserved c =
       near = c.following-at.ensures.node;
     } in
     let on = sets_on one c.args.forest.now c.loop-at.at
-    (once_forest c.args.forest.now.names c.args.forest.now.trees c.nodes_stand_once.ensures.once c.nodes_stand_once.ensures.only) c.in-Some.is
+    (once_forest c.args.forest.now.names c.args.forest.now.trees c.law_nodes_stand_once.ensures.once c.law_nodes_stand_once.ensures.only) c.in-Some.is
     c.loop-at.invariant.0 c.loop-at.invariant.1 in
     (on.0, on.1)

@@ -13,7 +13,7 @@ loop-at-preserved c =
     let f = c.args.forest.now in
     let done = subst (HasClimbed f c.args.key c.loop-at.path.items) c.in-Some.is c.loop-at.invariant in
     subst (λ path. HasClimbed f c.args.key path c.parent-at.result) (sym c.in_ok-push.ensures.items)
-    (climbs-more f c.nodes_stand_once.ensures.once c.nodes_stand_once.ensures.only c.args.key c.in-Some.node c.loop-at.path.items
+    (climbs-more f c.law_nodes_stand_once.ensures.once c.law_nodes_stand_once.ensures.only c.args.key c.in-Some.node c.loop-at.path.items
     c.parent-at.result done (done.next c.in-Some.node refl) c.parent-at.ensures.value c.parent-at.ensures.node)
 
 pub loop-at-smaller : goal.loop-at-smaller
@@ -21,17 +21,17 @@ loop-at-smaller c =
     let f = c.args.forest.now in
     let done = subst (HasClimbed f c.args.key c.loop-at.path.items) c.in-Some.is c.loop-at.invariant in
     subst (λ at. length (above f c.parent-at.result) < length (above f at)) (sym c.in-Some.is)
-    (climbs-fewer f c.nodes_stand_once.ensures.once c.nodes_stand_once.ensures.only c.in-Some.node c.parent-at.result
+    (climbs-fewer f c.law_nodes_stand_once.ensures.once c.law_nodes_stand_once.ensures.only c.in-Some.node c.parent-at.result
     (done.next c.in-Some.node refl) c.parent-at.ensures.value)
 
 pub returns-clause-keys : goal.returns-clause-keys
 returns-clause-keys c =
     let f = c.args.forest.now in
-    climbs-all f c.nodes_stand_once.ensures.distinct c.args.key c.loop-at.path.items
+    climbs-all f c.law_nodes_stand_once.ensures.distinct c.args.key c.loop-at.path.items
     (subst (HasClimbed f c.args.key c.loop-at.path.items) c.in_default.is c.loop-at.invariant)
 
 pub returns-clause-names : goal.returns-clause-names
 returns-clause-names c =
     let f = c.args.forest.now in
-    let e = c.nodes_stand_once.ensures in
+    let e = c.law_nodes_stand_once.ensures in
     ap (map (name_at f.names)) (returns-clause-keys c) ∙ (path_keys-named f e.once e.only c.args.key c.requires).0

@@ -30,7 +30,7 @@ returns-then-is_silent-clause-path c = λ depth hosted.
     let trees = c.of_any.new.trees in
     let at_target = stand-kept f hosts c.of.new.trees trees target c.in_ok-related.ensures.grown c.in_ok-target.ensures.stands in
     let silent : is_empty_at (shadows f hosts) depth (name_at f.names target.node) (related_name f.names related) ≡ true =
-    sym (silent-named f hosts c.nodes_stand_once.ensures.distinct trees c.in_ok-related.ensures.trees depth hosted target related at_target
+    sym (silent-named f hosts c.law_nodes_stand_once.ensures.distinct trees c.in_ok-related.ensures.trees depth hosted target related at_target
     c.in_ok-related.ensures.stands) ∙ sym c.if-is_silent.ensures in
     let t = ap (name_at f.names) c.in_ok-target.ensures.node in
     let r = related-key f.names related c.args.related c.in_ok-related.ensures.node in
@@ -53,7 +53,7 @@ returns-clause-path c =
     IsBuilt f hosts (name_at f.names c.args.target) (option_map (name_at f.names) c.args.related) depth c.args.composed items.items)
     (λ (items : SmallVec Item) way depth hosted.
     let shown : is_empty_at (shadows f hosts) depth (name_at f.names target.node) (related_name f.names related) ≡ false =
-    sym (silent-named f hosts c.nodes_stand_once.ensures.distinct trees c.in_ok-related.ensures.trees depth hosted target related at_target
+    sym (silent-named f hosts c.law_nodes_stand_once.ensures.distinct trees c.in_ok-related.ensures.trees depth hosted target related at_target
     c.in_ok-related.ensures.stands) ∙ sym c.if-is_silent.ensures in
     subst (λ (p : NodeName × Option NodeName). IsBuilt f hosts p.0 p.1 depth c.args.composed items.items) (λ j. (t j, r j))
     (built-way f hosts (name_at f.names target.node) (related_name f.names related) depth c.args.composed items.items shown (way depth hosted)))

@@ -20,7 +20,7 @@ loop-next-preserved c =
           (goes-on f hosts (Some (name_at f.names c.args.node)) c.loop-next.trees.items (name_at f.names node) _ so_far (record {
             nodes = record { root = c.root-root.ensures.node; host = λ k e. host-node f.names hosts c.requires.hosts root k (sym c.host_of-next.ensures ∙ e) };
             root = c.root-root.ensures.value;
-            host = ap (option_map (name_at f.names)) c.host_of-next.ensures ∙ host-named f.names c.nodes_stand_once.ensures.distinct hosts
+            host = ap (option_map (name_at f.names)) c.host_of-next.ensures ∙ host-named f.names c.law_nodes_stand_once.ensures.distinct hosts
                 c.requires.hosts root c.root-root.ensures.node;
           })),
     )

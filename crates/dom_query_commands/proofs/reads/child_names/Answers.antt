@@ -10,7 +10,7 @@ use Rattle.dom_query_commands.proofs.reads.child_names.Goals as goal
 pub loop-at-init : goal.loop-at-init
 loop-at-init c =
     let f = c.args.forest.now in
-    let law = c.nodes_stand_once.ensures in
+    let law = c.law_nodes_stand_once.ensures in
     let from = begins f.names f.trees law.once law.only c.args.node c.requires c.first-at.result c.first-at.ensures.value in
     record {
       node = c.first-at.ensures.node;
@@ -21,7 +21,7 @@ loop-at-init c =
 pub loop-at-smaller : goal.loop-at-smaller
 loop-at-smaller c =
     let f = c.args.forest.now in
-    let law = c.nodes_stand_once.ensures in
+    let law = c.law_nodes_stand_once.ensures in
     let i = c.loop-at.invariant in
     let from = goes_on f.names f.trees law.once law.only (name_at f.names c.args.node) c.in-Some.child (i.node c.in-Some.child c.in-Some.is)
     c.loop-at.at c.next-at.result c.in-Some.is c.next-at.ensures.value i.child in
@@ -30,7 +30,7 @@ loop-at-smaller c =
 pub loop-at-preserved : goal.loop-at-preserved
 loop-at-preserved c =
     let f = c.args.forest.now in
-    let law = c.nodes_stand_once.ensures in
+    let law = c.law_nodes_stand_once.ensures in
     let i = c.loop-at.invariant in
     let from = goes_on f.names f.trees law.once law.only (name_at f.names c.args.node) c.in-Some.child (i.node c.in-Some.child c.in-Some.is)
     c.loop-at.at c.next-at.result c.in-Some.is c.next-at.ensures.value i.child in

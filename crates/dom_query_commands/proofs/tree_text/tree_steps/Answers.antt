@@ -15,7 +15,7 @@ pub loop-place-init : goal.loop-place-init
 loop-place-init c =
     let names = c.args.forest.now.names in
     let ts = c.args.forest.now.trees in
-    let law = c.nodes_stand_once.ensures in
+    let law = c.law_nodes_stand_once.ensures in
     record {
       node = λ place e. subst (λ p. key_of p < length names) (same_Some _ place e) c.requires;
       within = within_self names ts c.args.top law.once law.only c.requires;
@@ -27,7 +27,7 @@ pub loop-place-smaller : goal.loop-place-smaller
 loop-place-smaller c =
     let names = c.args.forest.now.names in
     let ts = c.args.forest.now.trees in
-    let law = c.nodes_stand_once.ensures in
+    let law = c.law_nodes_stand_once.ensures in
     let next = turn names ts (name_at names c.args.top) c.in-Some.at c.loop-place.place c.after-place.result (step_view c.in_ok-step.field-0) law.once law.only
     (c.loop-place.invariant.node c.in-Some.at c.in-Some.is) c.in-Some.is c.loop-place.invariant.within c.after-place.ensures.value c.in_ok-step.ensures in
     omega (arith, ap (length {A = TreeStep}) next.0)
@@ -36,7 +36,7 @@ pub loop-place-preserved : goal.loop-place-preserved
 loop-place-preserved c =
     let names = c.args.forest.now.names in
     let ts = c.args.forest.now.trees in
-    let law = c.nodes_stand_once.ensures in
+    let law = c.law_nodes_stand_once.ensures in
     let next = turn names ts (name_at names c.args.top) c.in-Some.at c.loop-place.place c.after-place.result (step_view c.in_ok-step.field-0) law.once law.only
     (c.loop-place.invariant.node c.in-Some.at c.in-Some.is) c.in-Some.is c.loop-place.invariant.within c.after-place.ensures.value c.in_ok-step.ensures in
     let behind = rest_or ts (name_at names c.args.top) (option_map (place_view names) c.after-place.result) in

@@ -16,7 +16,7 @@ loop-name-smaller c =
     ∙ ap (option_map (λ a. attribute_from a.0.now a.1.now)) c.in-Some.is
     ∙ ap (λ text. Some (attribute_from text c.in-Some.value.now)) (sym c.in_ok-name.ensures.ok)
     ∙ ap (λ units. Some (attribute_from (string_bytes c.in_ok-name.name) units)) (sym c.in_ok-value.ensures.items) in
-    (attributes-put string_bytes (λ v. v.items) string_eq (λ x y. refl) c.loop-name.copied.entries bs c.attributes_have_own_names.ensures
+    (attributes-put string_bytes (λ v. v.items) string_eq (λ x y. refl) c.loop-name.copied.entries bs c.law_attributes_have_own_names.ensures
     c.loop-name.invariant c.in_ok-name.name c.in_ok-value.value there c.insert.new.self.entries c.in_ok-insert.ensures.entries).1
 
 pub loop-name-preserved : goal.loop-name-preserved
@@ -28,7 +28,7 @@ loop-name-preserved c =
     ∙ ap (option_map (λ a. attribute_from a.0.now a.1.now)) c.in-Some.is
     ∙ ap (λ text. Some (attribute_from text c.in-Some.value.now)) (sym c.in_ok-name.ensures.ok)
     ∙ ap (λ units. Some (attribute_from (string_bytes c.in_ok-name.name) units)) (sym c.in_ok-value.ensures.items) in
-    (attributes-put string_bytes (λ v. v.items) string_eq (λ x y. refl) c.loop-name.copied.entries bs c.attributes_have_own_names.ensures
+    (attributes-put string_bytes (λ v. v.items) string_eq (λ x y. refl) c.loop-name.copied.entries bs c.law_attributes_have_own_names.ensures
     c.loop-name.invariant c.in_ok-name.name c.in_ok-value.value there c.insert.new.self.entries c.in_ok-insert.ensures.entries).0
 
 pub loop-name-smaller-in_ok-insert : goal.loop-name-smaller-in_ok-insert
@@ -40,7 +40,7 @@ loop-name-smaller-in_ok-insert c =
     ∙ ap (option_map (λ a. attribute_from a.0.now a.1.now)) c.in-Some.is
     ∙ ap (λ text. Some (attribute_from text c.in-Some.value.now)) (sym c.in_ok-name.ensures.ok)
     ∙ ap (λ units. Some (attribute_from (string_bytes c.in_ok-name.name) units)) (sym c.in_ok-value.ensures.items) in
-    (attributes-put string_bytes (λ v. v.items) string_eq (λ x y. refl) c.loop-name.copied.entries bs c.attributes_have_own_names.ensures
+    (attributes-put string_bytes (λ v. v.items) string_eq (λ x y. refl) c.loop-name.copied.entries bs c.law_attributes_have_own_names.ensures
     c.loop-name.invariant c.in_ok-name.name c.in_ok-value.value there c.insert.new.self.entries c.in_ok-insert.ensures.entries).1
 
 pub loop-name-preserved-in_ok-insert : goal.loop-name-preserved-in_ok-insert
@@ -52,7 +52,7 @@ loop-name-preserved-in_ok-insert c =
     ∙ ap (option_map (λ a. attribute_from a.0.now a.1.now)) c.in-Some.is
     ∙ ap (λ text. Some (attribute_from text c.in-Some.value.now)) (sym c.in_ok-name.ensures.ok)
     ∙ ap (λ units. Some (attribute_from (string_bytes c.in_ok-name.name) units)) (sym c.in_ok-value.ensures.items) in
-    (attributes-put string_bytes (λ v. v.items) string_eq (λ x y. refl) c.loop-name.copied.entries bs c.attributes_have_own_names.ensures
+    (attributes-put string_bytes (λ v. v.items) string_eq (λ x y. refl) c.loop-name.copied.entries bs c.law_attributes_have_own_names.ensures
     c.loop-name.invariant c.in_ok-name.name c.in_ok-value.value there c.insert.new.self.entries c.in_ok-insert.ensures.entries).0
 
 pub returns : goal.returns

@@ -9,18 +9,18 @@ use Rattle.dom_range_ops.proofs.contained.outermost_between.Goals.{in-Some+then-
 
 pub node_after-stop-requires-clause-stands : goal.node_after-stop-requires-clause-stands
 node_after-stop-requires-clause-stands c =
-    let e = c.nodes_stand_once.ensures in
+    let e = c.law_nodes_stand_once.ensures in
     stands-end c.args.forest.now e.once e.only c.args.points.now c.requires.bounded c.root-top.result c.root-top.ensures.value
 
 pub node_after-at-requires-clause-stands : goal.node_after-at-requires-clause-stands
 node_after-at-requires-clause-stands c =
-    let e = c.nodes_stand_once.ensures in
+    let e = c.law_nodes_stand_once.ensures in
     stands-start c.args.forest.now e.once e.only c.args.points.now c.requires.bounded c.root-top.result c.root-top.ensures.value
 
 pub loop-at-init : goal.loop-at-init
 loop-at-init c =
     let f = c.args.forest.now in
-    let e = c.nodes_stand_once.ensures in
+    let e = c.law_nodes_stand_once.ensures in
     subst (λ ks. Finds f (range_at_points f.names c.args.points.now) c.root-top.result c.node_after-at.result ks c.pop-partial.result
     c.pop-partial.new.self.items) (sym c.new-found.ensures.items)
     (finds-first f e.once e.only e.distinct c.args.points.now c.requires.bounded c.requires.leaves c.root-top.result c.root-top.ensures.value
@@ -31,7 +31,7 @@ loop-at-init c =
 pub loop-at-smaller-then-is_node-2 : goal.loop-at-smaller-then-is_node-2
 loop-at-smaller-then-is_node-2 c =
     let f = c.args.forest.now in
-    let e = c.nodes_stand_once.ensures in
+    let e = c.law_nodes_stand_once.ensures in
     (finds-pass f e.once e.only e.distinct c.args.points.now c.requires.bounded c.requires.leaves c.root-top.result c.root-top.ensures.value
     c.loop-at.at c.in-Some.key c.loop-at.found.items c.loop-at.partial c.loop-at.path.items c.in-Some.is c.loop-at.invariant
     c.node_after-stop.result c.node_after-stop.ensures.value c.node_after-stop.ensures.stands
@@ -43,7 +43,7 @@ loop-at-smaller-then-is_node-2 c =
 pub loop-at-preserved-then-is_node-2 : goal.loop-at-preserved-then-is_node-2
 loop-at-preserved-then-is_node-2 c =
     let f = c.args.forest.now in
-    let e = c.nodes_stand_once.ensures in
+    let e = c.law_nodes_stand_once.ensures in
     (finds-pass f e.once e.only e.distinct c.args.points.now c.requires.bounded c.requires.leaves c.root-top.result c.root-top.ensures.value
     c.loop-at.at c.in-Some.key c.loop-at.found.items c.loop-at.partial c.loop-at.path.items c.in-Some.is c.loop-at.invariant
     c.node_after-stop.result c.node_after-stop.ensures.value c.node_after-stop.ensures.stands
@@ -55,7 +55,7 @@ loop-at-preserved-then-is_node-2 c =
 pub loop-at-smaller : goal.loop-at-smaller
 loop-at-smaller c =
     let f = c.args.forest.now in
-    let e = c.nodes_stand_once.ensures in
+    let e = c.law_nodes_stand_once.ensures in
     (finds-find f e.once e.only e.distinct c.args.points.now c.requires.bounded c.requires.leaves c.root-top.result c.root-top.ensures.value
     c.loop-at.at c.in-Some.key c.loop-at.found.items c.loop-at.partial c.loop-at.path.items c.in-Some.is c.loop-at.invariant
     c.node_after-stop.result c.node_after-stop.ensures.value c.node_after-stop.ensures.stands
@@ -66,7 +66,7 @@ loop-at-smaller c =
 pub loop-at-preserved : goal.loop-at-preserved
 loop-at-preserved c =
     let f = c.args.forest.now in
-    let e = c.nodes_stand_once.ensures in
+    let e = c.law_nodes_stand_once.ensures in
     subst (λ ks. Finds f (range_at_points f.names c.args.points.now) c.root-top.result c.beyond-at.result ks c.loop-at.partial
     c.loop-at.path.items) (sym c.in_ok-push.ensures.items)
     (finds-find f e.once e.only e.distinct c.args.points.now c.requires.bounded c.requires.leaves c.root-top.result c.root-top.ensures.value
@@ -79,7 +79,7 @@ loop-at-preserved c =
 pub returns-clause-value : goal.returns-clause-value
 returns-clause-value c =
     let f = c.args.forest.now in
-    let e = c.nodes_stand_once.ensures in
+    let e = c.law_nodes_stand_once.ensures in
     elim c.match-at.branch [
       | in-Some+then-is_node w ↦
           let here = w.is_node.ensures.0 w.if-is_node.true in

@@ -9,7 +9,7 @@ use Rattle.dom_range_ops.proofs.contained.outermost_contained.Goals as goal
 pub returns-then-is_before-clause-value : goal.returns-then-is_before-clause-value
 returns-then-is_before-clause-value c =
     let f = c.args.forest.now in
-    let e = c.nodes_stand_once.ensures in
+    let e = c.law_nodes_stand_once.ensures in
     let r = range_at_points f.names c.args.points.now in
     ap (map (name_at f.names)) c.new.ensures.items
     ∙ sym (none-reversed f.trees r (is-bounded f e.once e.only c.args.points.now c.requires.bounded)

@@ -17,7 +17,7 @@ use Rattle.dom_range_ops.proofs.contained.path_below.Goals as goal
 pub returns-then-is_inclusive_ancestor-clause-value : goal.returns-then-is_inclusive_ancestor-clause-value
 returns-then-is_inclusive_ancestor-clause-value c =
     let f = c.args.forest.now in
-    let e = c.nodes_stand_once.ensures in
+    let e = c.law_nodes_stand_once.ensures in
     let first = name_at f.names c.args.first in
     let last = name_at f.names c.args.last in
     let above = In-from last (inclusive_ancestors f.trees first) (sym c.if-is_inclusive_ancestor.ensures) in
@@ -39,7 +39,7 @@ returns-then-eq-clause-value c =
 pub returns-in_default-clause-value : goal.returns-in_default-clause-value
 returns-in_default-clause-value c =
     let f = c.args.forest.now in
-    let e = c.nodes_stand_once.ensures in
+    let e = c.law_nodes_stand_once.ensures in
     let names = name_at f.names in
     let test = λ (a : NodeName). not (is_inclusive_ancestor f.trees a (names c.args.first)) in
     let path = above-root f.trees (names c.up.at) (Has-forest f e.once c.up.at c.up.invariant.node) (sym c.in_default.ensures.value) in
@@ -50,7 +50,7 @@ returns-in_default-clause-value c =
 pub up-smaller : goal.up-smaller
 up-smaller c =
     let f = c.args.forest.now in
-    let e = c.nodes_stand_once.ensures in
+    let e = c.law_nodes_stand_once.ensures in
     let longer = (above-parent f.trees (name_at f.names c.up.at) (name_at f.names c.in-Some.above) (Once-forest f e.once e.only)
     (Has-forest f e.once c.up.at c.up.invariant.node) (sym c.in-Some.ensures.value)).0 in
     omega (arith, ap (length {A = NodeName}) longer)
@@ -58,7 +58,7 @@ up-smaller c =
 pub up-preserved : goal.up-preserved
 up-preserved c =
     let f = c.args.forest.now in
-    let e = c.nodes_stand_once.ensures in
+    let e = c.law_nodes_stand_once.ensures in
     let names = name_at f.names in
     let once = Once-forest f e.once e.only in
     let at_key = c.up.invariant.node in

@@ -13,7 +13,7 @@ pub place_after-place-requires : goal.place_after-place-requires
 place_after-place-requires c =
     let d = c.args.doc.now in
     let g = c.forest.ensures in
-    let e = c.nodes_stand_once.ensures in
+    let e = c.law_nodes_stand_once.ensures in
     let points = c.range_points-points.result in
     let k = c.range_points-points.ensures in
     let here = of-points c.forest.result.now e.once e.only g.owned d g.names g.trees c.args.owner c.args.number points k.start_is_node
@@ -24,7 +24,7 @@ pub delete_contents-requires : goal.delete_contents-requires
 delete_contents-requires c =
     let d = c.args.doc.now in
     let g = c.forest.ensures in
-    let e = c.nodes_stand_once.ensures in
+    let e = c.law_nodes_stand_once.ensures in
     let points = c.range_points-points.result in
     let k = c.range_points-points.ensures in
     let here = of-points c.forest.result.now e.once e.only g.owned d g.names g.trees c.args.owner c.args.number points k.start_is_node
@@ -35,7 +35,7 @@ pub range_put-requires-clause-there : goal.range_put-requires-clause-there
 range_put-requires-clause-there c =
     let d = c.args.doc.now in
     let g = c.forest.ensures in
-    let e = c.nodes_stand_once.ensures in
+    let e = c.law_nodes_stand_once.ensures in
     let points = c.range_points-points.result in
     let k = c.range_points-points.ensures in
     let here = of-points c.forest.result.now e.once e.only g.owned d g.names g.trees c.args.owner c.args.number points k.start_is_node
@@ -48,7 +48,7 @@ pub range_put-requires-clause-own_start : goal.range_put-requires-clause-own_sta
 range_put-requires-clause-own_start c =
     let d = c.args.doc.now in
     let g = c.forest.ensures in
-    let e = c.nodes_stand_once.ensures in
+    let e = c.law_nodes_stand_once.ensures in
     let points = c.range_points-points.result in
     let k = c.range_points-points.ensures in
     let here = of-points c.forest.result.now e.once e.only g.owned d g.names g.trees c.args.owner c.args.number points k.start_is_node
@@ -60,7 +60,7 @@ pub range_put-requires-clause-own_end : goal.range_put-requires-clause-own_end
 range_put-requires-clause-own_end c =
     let d = c.args.doc.now in
     let g = c.forest.ensures in
-    let e = c.nodes_stand_once.ensures in
+    let e = c.law_nodes_stand_once.ensures in
     let points = c.range_points-points.result in
     let k = c.range_points-points.ensures in
     let here = of-points c.forest.result.now e.once e.only g.owned d g.names g.trees c.args.owner c.args.number points k.start_is_node
@@ -72,7 +72,7 @@ pub returns-clause-world : goal.returns-clause-world
 returns-clause-world c =
     let d = c.args.doc.now in
     let g = c.forest.ensures in
-    let e = c.nodes_stand_once.ensures in
+    let e = c.law_nodes_stand_once.ensures in
     let points = c.range_points-points.result in
     let k = c.range_points-points.ensures in
     let here = of-points c.forest.result.now e.once e.only g.owned d g.names g.trees c.args.owner c.args.number points k.start_is_node

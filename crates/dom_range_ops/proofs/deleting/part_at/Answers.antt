@@ -11,14 +11,14 @@ use Rattle.dom_range_ops.proofs.deleting.part_at.Goals as goal
 pub part_in-requires-clause-ends : goal.part_in-requires-clause-ends
 part_in-requires-clause-ends c =
     let g = c.forest-forest.ensures in
-    let e = c.nodes_stand_once.ensures in
+    let e = c.law_nodes_stand_once.ensures in
     (bounded-in c.forest-forest.result.now e.once e.only g.owned c.args.doc.now g.names g.trees c.args.points.now c.requires.range).ends
 
 pub returns : goal.returns
 returns c =
     let f = c.forest-forest.result.now in
     let g = c.forest-forest.ensures in
-    let e = c.nodes_stand_once.ensures in
+    let e = c.law_nodes_stand_once.ensures in
     let names = g.names in
     ap (λ (ns : List NodeName). cutting (name_at ns c.args.key) c.part_in.result) (sym names)
     ∙ (c.part_in.ensures

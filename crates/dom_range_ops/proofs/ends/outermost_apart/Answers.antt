@@ -11,12 +11,12 @@ use Rattle.dom_range_ops.proofs.ends.outermost_apart.Goals as goal
 
 pub returns-in_default-clause-above : goal.returns-in_default-clause-above
 returns-in_default-clause-above c = above-itself c.args.forest.now.trees (name_at c.args.forest.now.names c.args.first)
-    (c.nodes_stand_once.ensures.once c.args.first c.requires.first_is_node)
+    (c.law_nodes_stand_once.ensures.once c.args.first c.requires.first_is_node)
 
 pub returns-in_default-clause-alone : goal.returns-in_default-clause-alone
 returns-in_default-clause-alone c =
     let f = c.args.forest.now in
-    let e = c.nodes_stand_once.ensures in
+    let e = c.law_nodes_stand_once.ensures in
     alone-is f.trees (Once-forest f e.once e.only) (name_at f.names c.args.last) (name_at f.names c.args.first)
     (Has-forest f e.once c.args.first c.requires.first_is_node) (Has-forest f e.once c.args.last c.requires.last_is_node) c.requires.apart
     (inl (sym c.in_default.ensures.value))
@@ -24,7 +24,7 @@ returns-in_default-clause-alone c =
 pub climb-low-requires-clause-deep : goal.climb-low-requires-clause-deep
 climb-low-requires-clause-deep c =
     let f = c.args.forest.now in
-    let e = c.nodes_stand_once.ensures in
+    let e = c.law_nodes_stand_once.ensures in
     let up = height-up f e.once e.only c.args.first c.in-Some.parent c.requires.first_is_node c.in-Some.ensures.value in
     let deep = depth-height f in
     omega (arith, up, c.climb_together-gauge.ensures.first_above, deep c.args.first, deep c.in-Some.parent)
@@ -32,7 +32,7 @@ climb-low-requires-clause-deep c =
 pub up-init : goal.up-init
 up-init c =
     let f = c.args.forest.now in
-    let e = c.nodes_stand_once.ensures in
+    let e = c.law_nodes_stand_once.ensures in
     let g = c.climb_together-gauge.ensures in
     let low = c.climb-low.ensures in
     let other = c.climb-other.ensures in
@@ -59,7 +59,7 @@ up-init c =
 pub returns-in_default-parent-clause-alone : goal.returns-in_default-parent-clause-alone
 returns-in_default-parent-clause-alone c =
     let f = c.args.forest.now in
-    let e = c.nodes_stand_once.ensures in
+    let e = c.law_nodes_stand_once.ensures in
     alone-is f.trees (Once-forest f e.once e.only) (name_at f.names c.args.last) (name_at f.names c.up.low)
     (Has-forest f e.once c.up.low c.up.invariant.node) (Has-forest f e.once c.args.last c.requires.last_is_node) c.up.invariant.apart
     (inl (sym c.in_default-parent.ensures.value))
@@ -67,7 +67,7 @@ returns-in_default-parent-clause-alone c =
 pub returns-then-eq-clause-alone : goal.returns-then-eq-clause-alone
 returns-then-eq-clause-alone c =
     let f = c.args.forest.now in
-    let e = c.nodes_stand_once.ensures in
+    let e = c.law_nodes_stand_once.ensures in
     let same = eqb-true c.in-Some-parent.above c.up.other (sym c.if-eq.ensures) in
     let above = ap (λ k. is_inclusive_ancestor f.trees (name_at f.names k) (name_at f.names c.args.last)) same ∙ c.up.invariant.beside in
     alone-is f.trees (Once-forest f e.once e.only) (name_at f.names c.args.last) (name_at f.names c.up.low)
@@ -76,14 +76,14 @@ returns-then-eq-clause-alone c =
 
 pub returns-in_default-parent-2-clause-above : goal.returns-in_default-parent-2-clause-above
 returns-in_default-parent-2-clause-above c =
-    let e = c.nodes_stand_once.ensures in
+    let e = c.law_nodes_stand_once.ensures in
     above-up c.args.forest.now e.once e.only c.up.low c.in-Some-parent.above c.args.first c.up.invariant.node c.requires.first_is_node
     c.in-Some-parent.ensures.value c.up.invariant.above
 
 pub returns-in_default-parent-2-clause-alone : goal.returns-in_default-parent-2-clause-alone
 returns-in_default-parent-2-clause-alone c =
     let f = c.args.forest.now in
-    let e = c.nodes_stand_once.ensures in
+    let e = c.law_nodes_stand_once.ensures in
     let node = c.in-Some-parent.ensures.node c.in-Some-parent.above refl in
     let up = height-up f e.once e.only c.up.low c.in-Some-parent.above c.up.invariant.node c.in-Some-parent.ensures.value in
     let root = height-root f e.once e.only c.up.other c.up.invariant.other_is_node c.in_default-parent-2.ensures.value in
@@ -96,14 +96,14 @@ returns-in_default-parent-2-clause-alone c =
 
 pub up-smaller : goal.up-smaller
 up-smaller c =
-    let e = c.nodes_stand_once.ensures in
+    let e = c.law_nodes_stand_once.ensures in
     let up = height-up c.args.forest.now e.once e.only c.up.low c.in-Some-parent.above c.up.invariant.node c.in-Some-parent.ensures.value in
     omega (arith, up)
 
 pub up-preserved : goal.up-preserved
 up-preserved c =
     let f = c.args.forest.now in
-    let e = c.nodes_stand_once.ensures in
+    let e = c.law_nodes_stand_once.ensures in
     let node = c.in-Some-parent.ensures.node c.in-Some-parent.above refl in
     let up = height-up f e.once e.only c.up.low c.in-Some-parent.above c.up.invariant.node c.in-Some-parent.ensures.value in
     let over = height-up f e.once e.only c.up.other c.in-Some-parent-2.beside c.up.invariant.other_is_node c.in-Some-parent-2.ensures.value in

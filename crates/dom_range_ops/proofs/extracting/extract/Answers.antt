@@ -19,7 +19,7 @@ pub pieces_in-requires : goal.pieces_in-requires
 pieces_in-requires c =
     let d = c.args.doc.now in
     let g = c.forest.ensures in
-    let e = c.nodes_stand_once.ensures in
+    let e = c.law_nodes_stand_once.ensures in
     let points = c.range_points-points.result in
     let k = c.range_points-points.ensures in
     let here = of-points c.forest.result.now e.once e.only g.owned d g.names g.trees c.args.owner c.args.number points k.start_is_node
@@ -30,7 +30,7 @@ pub is_past_limit-requires : goal.is_past_limit-requires
 is_past_limit-requires c =
     let d = c.args.doc.now in
     let g = c.forest.ensures in
-    let e = c.nodes_stand_once.ensures in
+    let e = c.law_nodes_stand_once.ensures in
     let points = c.range_points-points.result in
     let k = c.range_points-points.ensures in
     let here = of-points c.forest.result.now e.once e.only g.owned d g.names g.trees c.args.owner c.args.number points k.start_is_node
@@ -41,7 +41,7 @@ pub place_after-place-requires : goal.place_after-place-requires
 place_after-place-requires c =
     let d = c.args.doc.now in
     let g = c.forest.ensures in
-    let e = c.nodes_stand_once.ensures in
+    let e = c.law_nodes_stand_once.ensures in
     let points = c.range_points-points.result in
     let k = c.range_points-points.ensures in
     let here = of-points c.forest.result.now e.once e.only g.owned d g.names g.trees c.args.owner c.args.number points k.start_is_node
@@ -52,7 +52,7 @@ pub extract_pieces-requires-clause-start_owner : goal.extract_pieces-requires-cl
 extract_pieces-requires-clause-start_owner c =
     let d = c.args.doc.now in
     let g = c.forest.ensures in
-    let e = c.nodes_stand_once.ensures in
+    let e = c.law_nodes_stand_once.ensures in
     let points = c.range_points-points.result in
     let k = c.range_points-points.ensures in
     let here = of-points c.forest.result.now e.once e.only g.owned d g.names g.trees c.args.owner c.args.number points k.start_is_node
@@ -63,7 +63,7 @@ pub extract_pieces-requires-clause-place_owner : goal.extract_pieces-requires-cl
 extract_pieces-requires-clause-place_owner c =
     let d = c.args.doc.now in
     let g = c.forest.ensures in
-    let e = c.nodes_stand_once.ensures in
+    let e = c.law_nodes_stand_once.ensures in
     let points = c.range_points-points.result in
     let k = c.range_points-points.ensures in
     let here = of-points c.forest.result.now e.once e.only g.owned d g.names g.trees c.args.owner c.args.number points k.start_is_node
@@ -74,7 +74,7 @@ pub extract_pieces-requires-clause-may_take : goal.extract_pieces-requires-claus
 extract_pieces-requires-clause-may_take c =
     let d = c.args.doc.now in
     let g = c.forest.ensures in
-    let e = c.nodes_stand_once.ensures in
+    let e = c.law_nodes_stand_once.ensures in
     let points = c.range_points-points.result in
     let k = c.range_points-points.ensures in
     let here = of-points c.forest.result.now e.once e.only g.owned d g.names g.trees c.args.owner c.args.number points k.start_is_node
@@ -91,7 +91,7 @@ pub returns-clause-names : goal.returns-clause-names
 returns-clause-names c =
     let d = c.args.doc.now in
     let g = c.forest.ensures in
-    let e = c.nodes_stand_once.ensures in
+    let e = c.law_nodes_stand_once.ensures in
     let points = c.range_points-points.result in
     let k = c.range_points-points.ensures in
     let here = of-points c.forest.result.now e.once e.only g.owned d g.names g.trees c.args.owner c.args.number points k.start_is_node
@@ -107,7 +107,7 @@ pub returns-clause-world : goal.returns-clause-world
 returns-clause-world c =
     let d = c.args.doc.now in
     let g = c.forest.ensures in
-    let e = c.nodes_stand_once.ensures in
+    let e = c.law_nodes_stand_once.ensures in
     let points = c.range_points-points.result in
     let k = c.range_points-points.ensures in
     let here = of-points c.forest.result.now e.once e.only g.owned d g.names g.trees c.args.owner c.args.number points k.start_is_node
@@ -124,7 +124,7 @@ pub returns-then-is_past_limit-clause-refused : goal.returns-then-is_past_limit-
 returns-then-is_past_limit-clause-refused c =
     let d = c.args.doc.now in
     let g = c.forest.ensures in
-    let e = c.nodes_stand_once.ensures in
+    let e = c.law_nodes_stand_once.ensures in
     let points = c.range_points-points.result in
     let k = c.range_points-points.ensures in
     let here = of-points c.forest.result.now e.once e.only g.owned d g.names g.trees c.args.owner c.args.number points k.start_is_node
@@ -139,7 +139,7 @@ pub returns-clause-stopped : goal.returns-clause-stopped
 returns-clause-stopped c =
     let d = c.args.doc.now in
     let g = c.forest.ensures in
-    let e = c.nodes_stand_once.ensures in
+    let e = c.law_nodes_stand_once.ensures in
     let points = c.range_points-points.result in
     let k = c.range_points-points.ensures in
     let here = of-points c.forest.result.now e.once e.only g.owned d g.names g.trees c.args.owner c.args.number points k.start_is_node

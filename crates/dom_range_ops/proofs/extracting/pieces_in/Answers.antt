@@ -14,7 +14,7 @@ use Rattle.dom_range_ops.proofs.extracting.pieces_in.Goals as goal
 pub pieces_between-requires : goal.pieces_between-requires
 pieces_between-requires c =
     let g = c.forest-forest.ensures in
-    let e = c.nodes_stand_once.ensures in
+    let e = c.law_nodes_stand_once.ensures in
     let b = bounded-in c.forest-forest.result.now e.once e.only g.owned c.args.doc.now g.names g.trees c.args.points.now c.requires in
     record {
       ends = b.ends;
@@ -26,7 +26,7 @@ pub returns-clause-value : goal.returns-clause-value
 returns-clause-value c =
     let f = c.forest-forest.result.now in
     let g = c.forest-forest.ensures in
-    let e = c.nodes_stand_once.ensures in
+    let e = c.law_nodes_stand_once.ensures in
     let d = c.args.doc.now in
     let points = c.args.points.now in
     let same = pieces-points f e.once e.only g.owned (owner_in d points.start.0) (trees_in d points.start.0) (g.trees (owner_in d points.start.0))

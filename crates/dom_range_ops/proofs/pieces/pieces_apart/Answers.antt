@@ -9,7 +9,7 @@ use Rattle.dom_range_ops.proofs.pieces.pieces_apart.Goals as goal
 pub push_pieces-requires-clause-paths : goal.push_pieces-requires-clause-paths
 push_pieces-requires-clause-paths c =
     let f = c.args.forest.now in
-    let e = c.nodes_stand_once.ensures in
+    let e = c.law_nodes_stand_once.ensures in
     let points = c.args.points.now in
     let node = λ (ks : List ℕ). AllByRecursion (λ k. k < length f.names) ks in
     let start = c.deref-3.ensures.value in

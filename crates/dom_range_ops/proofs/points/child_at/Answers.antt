@@ -25,7 +25,7 @@ next-at-requires c = c.loop-left.invariant.node c.in_ok-at.field-0 c.in_ok-at.wa
 pub loop-left-preserved : goal.loop-left-preserved
 loop-left-preserved c =
     let f = c.args.forest.now in
-    let e = c.nodes_stand_once.ensures in
+    let e = c.law_nodes_stand_once.ensures in
     let less = c.loop-left-test.true in
     let more : c.loop-left.left ≡ suc (c.loop-left.left - 1) = omega arith in
     record {

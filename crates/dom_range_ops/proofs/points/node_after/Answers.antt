@@ -11,7 +11,7 @@ use Rattle.dom_range_ops.proofs.points.node_after.Goals as goal
 pub returns-then-is_some-clause-value : goal.returns-then-is_some-clause-value
 returns-then-is_some-clause-value c =
     let f = c.args.forest.now in
-    let e = c.nodes_stand_once.ensures in
+    let e = c.law_nodes_stand_once.ensures in
     let w = IsWithin-key f e.once e.only c.args.top c.args.point.0 c.requires.stands in
     let k = was_some c.child_at-child.result (sym c.if-is_some.ensures) in
     let is = ap (option_map (name_at f.names)) k.1 in
@@ -21,7 +21,7 @@ returns-then-is_some-clause-value c =
 pub returns-then-is_some-clause-stands : goal.returns-then-is_some-clause-stands
 returns-then-is_some-clause-stands c k there =
     let f = c.args.forest.now in
-    let e = c.nodes_stand_once.ensures in
+    let e = c.law_nodes_stand_once.ensures in
     let w = IsWithin-key f e.once e.only c.args.top c.args.point.0 c.requires.stands in
     let is = ap (option_map (name_at f.names)) there in
     let inside = (after-child f.trees (name_at f.names c.args.top) (at (name_at f.names c.args.point.0) c.args.point.1) w (name_at f.names k)
@@ -31,7 +31,7 @@ returns-then-is_some-clause-stands c k there =
 pub returns-clause-value : goal.returns-clause-value
 returns-clause-value c =
     let f = c.args.forest.now in
-    let e = c.nodes_stand_once.ensures in
+    let e = c.law_nodes_stand_once.ensures in
     let w = IsWithin-key f e.once e.only c.args.top c.args.point.0 c.requires.stands in
     let none = ap (option_map (name_at f.names)) (was_none c.child_at-child.result (sym c.if-is_some.ensures)) in
     c.beyond.ensures.value ∙ after-tree f.trees (name_at f.names c.args.top) (at (name_at f.names c.args.point.0) c.args.point.1) w

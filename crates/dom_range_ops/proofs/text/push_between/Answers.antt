@@ -22,18 +22,18 @@ use Rattle.dom_range_ops.proofs.text.push_between.Goals.{then-ne+in_ok-extend_fr
 
 pub node_after-stop-requires-clause-stands : goal.node_after-stop-requires-clause-stands
 node_after-stop-requires-clause-stands c =
-    let e = c.nodes_stand_once.ensures in
+    let e = c.law_nodes_stand_once.ensures in
     stands-end c.args.forest.now e.once e.only c.args.points.now c.requires.bounded c.root-top.result c.root-top.ensures.value
 
 pub node_after-at-requires-clause-stands : goal.node_after-at-requires-clause-stands
 node_after-at-requires-clause-stands c =
-    let e = c.nodes_stand_once.ensures in
+    let e = c.law_nodes_stand_once.ensures in
     stands-start c.args.forest.now e.once e.only c.args.points.now c.requires.bounded c.root-top.result c.root-top.ensures.value
 
 pub loop-at-init : goal.loop-at-init
 loop-at-init c =
     let f = c.args.forest.now in
-    let e = c.nodes_stand_once.ensures in
+    let e = c.law_nodes_stand_once.ensures in
     record {
       stands = c.node_after-at.ensures.stands;
       leads = leads-from f e.once e.only c.args.points.now c.requires.bounded c.root-top.result c.root-top.ensures.value c.requires.ordered
@@ -55,7 +55,7 @@ following-at-requires-clause-within c = (c.loop-at.invariant.stands c.in-Some.ke
 pub loop-at-smaller : goal.loop-at-smaller
 loop-at-smaller c =
     let f = c.args.forest.now in
-    let e = c.nodes_stand_once.ensures in
+    let e = c.law_nodes_stand_once.ensures in
     let step = following_step f e.once e.only c.root-top.result c.in-Some.key c.following-at.result
     (c.loop-at.invariant.stands c.in-Some.key c.in-Some.is) c.following-at.ensures.value c.following-at.ensures.node in
     length-behind f c.root-top.result c.in-Some.key c.loop-at.at c.following-at.result c.in-Some.is step.0
@@ -63,7 +63,7 @@ loop-at-smaller c =
 pub loop-at-preserved : goal.loop-at-preserved
 loop-at-preserved c =
     let f = c.args.forest.now in
-    let e = c.nodes_stand_once.ensures in
+    let e = c.law_nodes_stand_once.ensures in
     let points = c.args.points.now in
     let stands = c.loop-at.invariant.stands c.in-Some.key c.in-Some.is in
     let step = following_step f e.once e.only c.root-top.result c.in-Some.key c.following-at.result stands c.following-at.ensures.value
@@ -110,7 +110,7 @@ loop-at-preserved c =
 pub returns-then-is_node : goal.returns-then-is_node
 returns-then-is_node c =
     let f = c.args.forest.now in
-    let e = c.nodes_stand_once.ensures in
+    let e = c.law_nodes_stand_once.ensures in
     let points = c.args.points.now in
     let r = range_at_points f.names points in
     let x = name_at f.names c.in-Some.key in

@@ -8,7 +8,7 @@ use Rattle.dom_range_ops.proofs.text.push_contained.Goals as goal
 pub returns-then-is_before : goal.returns-then-is_before
 returns-then-is_before c =
     let f = c.args.forest.now in
-    let e = c.nodes_stand_once.ensures in
+    let e = c.law_nodes_stand_once.ensures in
     sym (append-nil c.args.text.now.items)
     ∙ ap (λ xs. c.args.text.now.items ++ xs)
     (sym (text-reversed f.trees (range_at_points f.names c.args.points.now) (is-bounded f e.once e.only c.args.points.now c.requires)

@@ -10,7 +10,7 @@ use Rattle.dom_traversal.proofs.Climbing.{was_some}
 pub text_between-requires : goal.text_between-requires
 text_between-requires c =
     let f = c.forest-forest.result.now in
-    let e = c.nodes_stand_once.ensures in
+    let e = c.law_nodes_stand_once.ensures in
     let p = part_of c.args.doc.now.world c.args.owner in
     let points = c.range_points-points.result in
     let names = sym c.forest-forest.ensures.names in
@@ -27,7 +27,7 @@ text_between-requires c =
 pub returns : goal.returns
 returns c =
     let f = c.forest-forest.result.now in
-    let e = c.nodes_stand_once.ensures in
+    let e = c.law_nodes_stand_once.ensures in
     let p = part_of c.args.doc.now.world c.args.owner in
     let points = c.range_points-points.result in
     let names = sym c.forest-forest.ensures.names in

@@ -12,14 +12,14 @@ at f k = index_of f.trees (name_at f.names k)
 pub returns-in_default : goal.returns-in_default
 returns-in_default c =
     let f = c.args.forest.now in
-    let e = c.nodes_stand_once.ensures in
+    let e = c.law_nodes_stand_once.ensures in
     let low = index-none f e.once e.only c.back.low c.back.invariant.low_is_node c.prev.result c.prev.ensures.value c.in_default.is in
     sym (lt-ltb (at f c.args.first) (at f c.args.second) (omega (arith, low, c.back.invariant.difference, c.requires.apart)))
 
 pub returns-in_default-prev : goal.returns-in_default-prev
 returns-in_default-prev c =
     let f = c.args.forest.now in
-    let e = c.nodes_stand_once.ensures in
+    let e = c.law_nodes_stand_once.ensures in
     let other = index-none f e.once e.only c.back.other c.back.invariant.other_is_node c.prev-in-back.result c.prev-in-back.ensures.value
     c.in_default-prev.is in
     sym (false_from_ne_true (nat_lt (at f c.args.first) (at f c.args.second))
@@ -28,7 +28,7 @@ returns-in_default-prev c =
 pub returns-then-eq : goal.returns-then-eq
 returns-then-eq c =
     let f = c.args.forest.now in
-    let e = c.nodes_stand_once.ensures in
+    let e = c.law_nodes_stand_once.ensures in
     let low = index-some f e.once e.only c.back.low c.back.invariant.low_is_node c.prev.result c.prev.ensures.value c.in-Some.before c.in-Some.is in
     let met : c.in-Some.before ≡ c.args.second = eqb-true c.in-Some.before c.args.second (sym c.if-eq.ensures) in
     let second : at f c.in-Some.before ≡ at f c.args.second = ap (at f) met in
@@ -38,7 +38,7 @@ returns-then-eq c =
 pub returns-then-eq-2 : goal.returns-then-eq-2
 returns-then-eq-2 c =
     let f = c.args.forest.now in
-    let e = c.nodes_stand_once.ensures in
+    let e = c.law_nodes_stand_once.ensures in
     let other = index-some f e.once e.only c.back.other c.back.invariant.other_is_node c.prev-in-back.result c.prev-in-back.ensures.value
     c.in-Some-prev.beside c.in-Some-prev.is in
     let met : c.in-Some-prev.beside ≡ c.args.first = eqb-true c.in-Some-prev.beside c.args.first (sym c.if-eq-2.ensures) in
@@ -47,7 +47,7 @@ returns-then-eq-2 c =
 
 pub back-smaller : goal.back-smaller
 back-smaller c =
-    let e = c.nodes_stand_once.ensures in
+    let e = c.law_nodes_stand_once.ensures in
     let low = index-some c.args.forest.now e.once e.only c.back.low c.back.invariant.low_is_node c.prev.result c.prev.ensures.value
     c.in-Some.before c.in-Some.is in
     omega (arith, low)
@@ -55,7 +55,7 @@ back-smaller c =
 pub back-preserved : goal.back-preserved
 back-preserved c =
     let f = c.args.forest.now in
-    let e = c.nodes_stand_once.ensures in
+    let e = c.law_nodes_stand_once.ensures in
     let low = index-some f e.once e.only c.back.low c.back.invariant.low_is_node c.prev.result c.prev.ensures.value c.in-Some.before c.in-Some.is in
     let other = index-some f e.once e.only c.back.other c.back.invariant.other_is_node c.prev-in-back.result c.prev-in-back.ensures.value
     c.in-Some-prev.beside c.in-Some-prev.is in

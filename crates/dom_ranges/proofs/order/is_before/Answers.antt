@@ -26,8 +26,8 @@ none_below false (Some k) i limit e h = sym (false_from_ne_true (nat_le limit i)
 pub part-first_side-requires-clause-one_tree : goal.part-first_side-requires-clause-one_tree
 part-first_side-requires-clause-one_tree c =
     let f = c.args.forest.now in
-    let once = c.nodes_stand_once.ensures.once in
-    let only = c.nodes_stand_once.ensures.only in
+    let once = c.law_nodes_stand_once.ensures.once in
+    let only = c.law_nodes_stand_once.ensures.only in
     let v = path-reached f once only c.args.first.0 c.climb-first_top.result.0 c.climb-first_top.result.1 c.climb-first_top.ensures.reached in
     let w = path-reached f once only c.args.second.0 c.climb-second_top.result.0 c.climb-second_top.result.1 c.climb-second_top.ensures.reached in
     sym (first-through f once only c.args.first.0 c.climb-first_top.result.0 v.0 c.climb-first_top.ensures.node v.1)
@@ -37,8 +37,8 @@ part-first_side-requires-clause-one_tree c =
 pub returns-then-ne : goal.returns-then-ne
 returns-then-ne c =
     let f = c.args.forest.now in
-    let once = c.nodes_stand_once.ensures.once in
-    let only = c.nodes_stand_once.ensures.only in
+    let once = c.law_nodes_stand_once.ensures.once in
+    let only = c.law_nodes_stand_once.ensures.only in
     let v = path-reached f once only c.args.first.0 c.climb-first_top.result.0 c.climb-first_top.result.1 c.climb-first_top.ensures.reached in
     let w = path-reached f once only c.args.second.0 c.climb-second_top.result.0 c.climb-second_top.result.1 c.climb-second_top.ensures.reached in
     let b = c.part-first_side.ensures.beside in
@@ -54,8 +54,8 @@ returns-then-ne c =
 pub returns-in-Some-default : goal.returns-in-Some-default
 returns-in-Some-default c =
     let f = c.args.forest.now in
-    let once = c.nodes_stand_once.ensures.once in
-    let only = c.nodes_stand_once.ensures.only in
+    let once = c.law_nodes_stand_once.ensures.once in
+    let only = c.law_nodes_stand_once.ensures.only in
     let child = c.in-Some-default.child in
     let same : c.climb-first_top.result.0 ≡ c.climb-second_top.result.0 =
     eqb-true c.climb-first_top.result.0 c.climb-second_top.result.0 (not-false _ (sym c.if-ne.ensures)) in
@@ -78,8 +78,8 @@ returns-in-Some-default c =
 pub returns-in-None-Some : goal.returns-in-None-Some
 returns-in-None-Some c =
     let f = c.args.forest.now in
-    let once = c.nodes_stand_once.ensures.once in
-    let only = c.nodes_stand_once.ensures.only in
+    let once = c.law_nodes_stand_once.ensures.once in
+    let only = c.law_nodes_stand_once.ensures.only in
     let child = c.in-None-Some.child in
     let same : c.climb-first_top.result.0 ≡ c.climb-second_top.result.0 =
     eqb-true c.climb-first_top.result.0 c.climb-second_top.result.0 (not-false _ (sym c.if-ne.ensures)) in

@@ -10,17 +10,18 @@ use Rattle.dom_ranges.proofs.order.part.Goals as goal
 pub returns-in_default-clause-beside : goal.returns-in_default-clause-beside
 returns-in_default-clause-beside c =
     let f = c.args.forest.now in
-    let here = depth-root f c.nodes_stand_once.ensures.once c.nodes_stand_once.ensures.only c.up.low c.up.invariant.low_is_node c.in_default.ensures.value in
-    absurd (c.up.invariant.apart (roots-same f c.nodes_stand_once.ensures.once c.nodes_stand_once.ensures.only c.nodes_stand_once.ensures.distinct
+    let here = depth-root f c.law_nodes_stand_once.ensures.once c.law_nodes_stand_once.ensures.only c.up.low c.up.invariant.low_is_node
+        c.in_default.ensures.value in
+    absurd (c.up.invariant.apart (roots-same f c.law_nodes_stand_once.ensures.once c.law_nodes_stand_once.ensures.only c.law_nodes_stand_once.ensures.distinct
     c.up.low c.up.other
     c.up.invariant.low_is_node c.up.invariant.other_is_node here (sym c.up.invariant.level ∙ here) c.up.invariant.one_tree))
 
 pub returns-in_default-parent-clause-beside : goal.returns-in_default-parent-clause-beside
 returns-in_default-parent-clause-beside c =
     let f = c.args.forest.now in
-    let here = depth-root f c.nodes_stand_once.ensures.once c.nodes_stand_once.ensures.only c.up.other c.up.invariant.other_is_node
+    let here = depth-root f c.law_nodes_stand_once.ensures.once c.law_nodes_stand_once.ensures.only c.up.other c.up.invariant.other_is_node
     c.in_default-parent.ensures.value in
-    absurd (c.up.invariant.apart (roots-same f c.nodes_stand_once.ensures.once c.nodes_stand_once.ensures.only c.nodes_stand_once.ensures.distinct
+    absurd (c.up.invariant.apart (roots-same f c.law_nodes_stand_once.ensures.once c.law_nodes_stand_once.ensures.only c.law_nodes_stand_once.ensures.distinct
     c.up.low c.up.other
     c.up.invariant.low_is_node c.up.invariant.other_is_node (c.up.invariant.level ∙ here) here c.up.invariant.one_tree))
 
@@ -28,7 +29,7 @@ pub returns-then-eq-clause-beside : goal.returns-then-eq-clause-beside
 returns-then-eq-clause-beside c =
     let f = c.args.forest.now in
     let same : c.in-Some.above ≡ c.in-Some-parent.beside = eqb-true c.in-Some.above c.in-Some-parent.beside (sym c.if-eq.ensures) in
-    beside-here f c.nodes_stand_once.ensures.once c.nodes_stand_once.ensures.only c.nodes_stand_once.ensures.distinct c.args.first c.args.second
+    beside-here f c.law_nodes_stand_once.ensures.once c.law_nodes_stand_once.ensures.only c.law_nodes_stand_once.ensures.distinct c.args.first c.args.second
     c.up.low c.up.other c.in-Some.above
     c.up.invariant.first_path.0 c.up.invariant.second_path.0 c.up.invariant.low_is_node c.up.invariant.other_is_node c.up.invariant.apart
     c.in-Some.ensures.value
@@ -36,15 +37,15 @@ returns-then-eq-clause-beside c =
 
 pub up-smaller : goal.up-smaller
 up-smaller c =
-    let up = depth-up c.args.forest.now c.nodes_stand_once.ensures.once c.nodes_stand_once.ensures.only c.up.low c.in-Some.above
+    let up = depth-up c.args.forest.now c.law_nodes_stand_once.ensures.once c.law_nodes_stand_once.ensures.only c.up.low c.in-Some.above
     c.up.invariant.low_is_node c.in-Some.ensures.value in
     omega (arith, up)
 
 pub up-preserved : goal.up-preserved
 up-preserved c =
     let f = c.args.forest.now in
-    let once = c.nodes_stand_once.ensures.once in
-    let only = c.nodes_stand_once.ensures.only in
+    let once = c.law_nodes_stand_once.ensures.once in
+    let only = c.law_nodes_stand_once.ensures.only in
     let up = depth-up f once only c.up.low c.in-Some.above c.up.invariant.low_is_node c.in-Some.ensures.value in
     let over = depth-up f once only c.up.other c.in-Some-parent.beside c.up.invariant.other_is_node c.in-Some-parent.ensures.value in
     let low_path = path-up f once only c.up.low c.in-Some.above c.up.invariant.low_is_node c.in-Some.ensures.value in

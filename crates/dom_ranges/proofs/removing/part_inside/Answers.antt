@@ -12,7 +12,7 @@ use Rattle.dom_ranges.proofs.removing.part_inside.Goals as goal
 pub loop-at-init : goal.loop-at-init
 loop-at-init c =
     let f = c.args.forest.now in
-    let e = c.nodes_stand_once.ensures in
+    let e = c.law_nodes_stand_once.ensures in
     record {
       stands = λ some. top-stands f c.args.top e.once e.only (c.requires.nodes 0 (end_in 0 false (at 0 0)) some).0;
       few = omega arith;
@@ -35,7 +35,7 @@ loop-at-smaller c = omega arith
 pub loop-at-preserved : goal.loop-at-preserved
 loop-at-preserved c =
     let f = c.args.forest.now in
-    let e = c.nodes_stand_once.ensures in
+    let e = c.law_nodes_stand_once.ensures in
     let some : 0 < length c.args.ends.now = omega arith in
     let step = following_step f e.once e.only c.args.top c.in-Some.key c.following-at.result
     (c.loop-at.invariant.stands some c.in-Some.key c.in-Some.is) c.following-at.ensures.value c.following-at.ensures.node in
@@ -55,6 +55,6 @@ pub returns-clause-all : goal.returns-clause-all
 returns-clause-all c =
     λ k d l out.
     let f = c.args.forest.now in
-    let e = c.nodes_stand_once.ensures in
+    let e = c.law_nodes_stand_once.ensures in
     outside-test f.trees (name_at f.names c.args.top) (name_at f.names (get_or c.args.ends.now k d).node) (Once-forest f e.once e.only)
     (λ i. subst (λ o. from_key f c.args.top o (name_at f.names (get_or c.args.ends.now k d).node)) c.in_default.is (c.loop-at.invariant.ahead k d l out i))

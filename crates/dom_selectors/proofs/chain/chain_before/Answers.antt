@@ -12,7 +12,7 @@ use Rattle.dom_selectors.proofs.chain.chain_before.Goals as goal
 pub loop-at-init : goal.loop-at-init
 loop-at-init c =
     let f = c.args.forest.now in
-    let step = earlier_step f c.nodes_stand_once.ensures.once c.nodes_stand_once.ensures.only c.args.key c.element_before-at.result c.requires
+    let step = earlier_step f c.law_nodes_stand_once.ensures.once c.law_nodes_stand_once.ensures.only c.args.key c.element_before-at.result c.requires
     c.element_before-at.ensures.value in
     record {
       node = c.element_before-at.ensures.node;
@@ -24,7 +24,7 @@ pub loop-at-smaller : goal.loop-at-smaller
 loop-at-smaller c =
     let f = c.args.forest.now in
     let node = c.loop-at.invariant.node c.in-Some.before c.in-Some.is in
-    let step = earlier_step f c.nodes_stand_once.ensures.once c.nodes_stand_once.ensures.only c.in-Some.before c.element_before-at-in-Some.result
+    let step = earlier_step f c.law_nodes_stand_once.ensures.once c.law_nodes_stand_once.ensures.only c.in-Some.before c.element_before-at-in-Some.result
     node c.element_before-at-in-Some.ensures.value in
     earlier_less f c.in-Some.before c.loop-at.at c.element_before-at-in-Some.result c.in-Some.is step.0
 
@@ -32,7 +32,7 @@ pub loop-at-preserved : goal.loop-at-preserved
 loop-at-preserved c =
     let f = c.args.forest.now in
     let node = c.loop-at.invariant.node c.in-Some.before c.in-Some.is in
-    let step = earlier_step f c.nodes_stand_once.ensures.once c.nodes_stand_once.ensures.only c.in-Some.before c.element_before-at-in-Some.result
+    let step = earlier_step f c.law_nodes_stand_once.ensures.once c.law_nodes_stand_once.ensures.only c.in-Some.before c.element_before-at-in-Some.result
     node c.element_before-at-in-Some.ensures.value in
     record {
       node = c.element_before-at-in-Some.ensures.node;

@@ -43,8 +43,8 @@ loop-last-preserved c =
     let hit : compound_matches f.trees k x ≡ true =
     ap (λ ps. compound_matches f.trees (compound_view ps) x) (sym c.as_slice.ensures.value) ∙
     (sym c.compound_matches.ensures ∙ c.if-not-compound_matches.false) in
-    let once = Once-forest f c.nodes_stand_once.ensures.once c.nodes_stand_once.ensures.only in
-    let has = Has-forest f c.nodes_stand_once.ensures.once c.loop-last.at c.loop-last.invariant.node in
+    let once = Once-forest f c.law_nodes_stand_once.ensures.once c.law_nodes_stand_once.ensures.only in
+    let has = Has-forest f c.law_nodes_stand_once.ensures.once c.loop-last.at c.loop-last.invariant.node in
     let fewer : length c.in-Some.left.now < length c.loop-last.rest.now = omega (arith, c.in-Some.ensures.cases.1) in
     elim c.match-last.branch [
       | in-Child w ↦
@@ -78,8 +78,8 @@ returns-in-Descendant-clause-ends c =
     ap (λ ps. compound_matches f.trees (compound_view ps) x) (sym c.as_slice.ensures.value) ∙
     (sym c.compound_matches.ensures ∙ c.if-not-compound_matches.false) in
     chain-ends
-    (Once-forest f c.nodes_stand_once.ensures.once c.nodes_stand_once.ensures.only)
-    (Has-forest f c.nodes_stand_once.ensures.once c.loop-last.at c.loop-last.invariant.node)
+    (Once-forest f c.law_nodes_stand_once.ensures.once c.law_nodes_stand_once.ensures.only)
+    (Has-forest f c.law_nodes_stand_once.ensures.once c.loop-last.at c.loop-last.invariant.node)
     c.loop-last.invariant.leads
     (subst (λ d. StopsAt IsSearched f.trees d x) (sym is) (searched last.combinator c.in-Descendant.is, hit))
 
@@ -109,8 +109,8 @@ returns-in_err-at-clause-ends c =
     let hit : compound_matches f.trees k x ≡ true =
     ap (λ ps. compound_matches f.trees (compound_view ps) x) (sym c.as_slice.ensures.value) ∙
     (sym c.compound_matches.ensures ∙ c.if-not-compound_matches.false) in
-    let once = Once-forest f c.nodes_stand_once.ensures.once c.nodes_stand_once.ensures.only in
-    let has = Has-forest f c.nodes_stand_once.ensures.once c.loop-last.at c.loop-last.invariant.node in
+    let once = Once-forest f c.law_nodes_stand_once.ensures.once c.law_nodes_stand_once.ensures.only in
+    let has = Has-forest f c.law_nodes_stand_once.ensures.once c.loop-last.at c.loop-last.invariant.node in
     let none : complex_matches f.trees whole x ≡ false = elim c.match-last.branch [
       | in-Child w ↦ no_parent f.trees whole left k x once has hit (is ∙ ap (λ h. joined left (combinator_view h) k) w.in-Child.is)
           (sym w.parent-next.ensures.value ∙ ap (option_map (name_at f.names)) (sym w.next-is ∙ c.in_err-at.was))
@@ -132,8 +132,8 @@ returns-clause-ends c =
     let f = c.args.forest.now in
     let x = name_at f.names c.loop-last.at in
     chain-ends
-    (Once-forest f c.nodes_stand_once.ensures.once c.nodes_stand_once.ensures.only)
-    (Has-forest f c.nodes_stand_once.ensures.once c.loop-last.at c.loop-last.invariant.node)
+    (Once-forest f c.law_nodes_stand_once.ensures.once c.law_nodes_stand_once.ensures.only)
+    (Has-forest f c.law_nodes_stand_once.ensures.once c.loop-last.at c.loop-last.invariant.node)
     c.loop-last.invariant.leads
     (subst (λ d. StopsAt IsSearched f.trees d x) (sym (no-links c.args.first.now c.loop-last.rest.now c.in_default.ensures.cases))
     (sym c.compound_matches-2.ensures ∙ c.if-not-compound_matches-2.false))

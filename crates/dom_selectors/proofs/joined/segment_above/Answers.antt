@@ -16,7 +16,7 @@ loop-at-init c =
     record {
       node = c.parent-at.ensures.node;
       left = ap (list_any (complex_matches f.trees (complex_from c.args.first.now c.args.links.now)))
-          (sym (above_step f c.nodes_stand_once.ensures.once c.nodes_stand_once.ensures.only c.args.key c.parent-at.result c.requires
+          (sym (above_step f c.law_nodes_stand_once.ensures.once c.law_nodes_stand_once.ensures.only c.args.key c.parent-at.result c.requires
           c.parent-at.ensures.value));
     }
 
@@ -25,14 +25,14 @@ loop-at-smaller c =
     let f = c.args.forest.now in
     let node = c.loop-at.invariant.node c.in-Some.above c.in-Some.is in
     above_less f c.in-Some.above c.loop-at.at c.parent-at-in-Some.result c.in-Some.is
-    (above_step f c.nodes_stand_once.ensures.once c.nodes_stand_once.ensures.only c.in-Some.above c.parent-at-in-Some.result node
+    (above_step f c.law_nodes_stand_once.ensures.once c.law_nodes_stand_once.ensures.only c.in-Some.above c.parent-at-in-Some.result node
     c.parent-at-in-Some.ensures.value)
 
 pub loop-at-preserved : goal.loop-at-preserved
 loop-at-preserved c =
     let f = c.args.forest.now in
     let node = c.loop-at.invariant.node c.in-Some.above c.in-Some.is in
-    let step = above_step f c.nodes_stand_once.ensures.once c.nodes_stand_once.ensures.only c.in-Some.above c.parent-at-in-Some.result node
+    let step = above_step f c.law_nodes_stand_once.ensures.once c.law_nodes_stand_once.ensures.only c.in-Some.above c.parent-at-in-Some.result node
     c.parent-at-in-Some.ensures.value in
     record {
       node = c.parent-at-in-Some.ensures.node;
@@ -45,7 +45,7 @@ returns-in-Some-segment_end-clause-ends c =
     let f = c.args.forest.now in
     let whole = complex_from c.args.first.now c.args.links.now in
     segment-above (name_at f.names c.args.key)
-    (Once-forest f c.nodes_stand_once.ensures.once c.nodes_stand_once.ensures.only)
-    (Has-forest f c.nodes_stand_once.ensures.once c.in-Some.above (c.loop-at.invariant.node c.in-Some.above c.in-Some.is))
+    (Once-forest f c.law_nodes_stand_once.ensures.once c.law_nodes_stand_once.ensures.only)
+    (Has-forest f c.law_nodes_stand_once.ensures.once c.in-Some.above (c.loop-at.invariant.node c.in-Some.above c.in-Some.is))
     (sym (ap (λ o. list_any (complex_matches f.trees whole) (from_above f.trees (option_map (name_at f.names) o))) c.in-Some.is) ∙ c.loop-at.invariant.left)
     c.in-Some-segment_end.ensures.ends

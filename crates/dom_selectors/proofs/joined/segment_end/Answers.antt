@@ -47,7 +47,8 @@ loop-last-preserved c =
       shorter = omega (arith, c.in-Some-split_last.ensures.cases.1, c.in-Some-chain_before.ensures.shorter);
       comes = comes-before c.loop-last.invariant.comes (compound_view last.compound.items) (is
           ∙ ap (λ h. joined left (combinator_view h) (compound_view last.compound.items)) its_later) (complex_from c.args.first.now next.links.now)
-          (name_at f.names next.key) (Once-forest f c.nodes_stand_once.ensures.once c.nodes_stand_once.ensures.only) c.in-Some-chain_before.ensures.ends;
+          (name_at f.names next.key) (Once-forest f c.law_nodes_stand_once.ensures.once c.law_nodes_stand_once.ensures.only)
+              c.in-Some-chain_before.ensures.ends;
     }
 
 pub returns-then-not-matches-clause-ends : goal.returns-then-not-matches-clause-ends

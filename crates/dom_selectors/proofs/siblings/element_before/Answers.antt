@@ -17,7 +17,7 @@ loop-at-init c =
     record {
       node = c.prev-at.ensures.node;
       left = ap (filter (λ y. is_element (kind_of f.trees y)))
-          (sym (previous_step f c.nodes_stand_once.ensures.once c.nodes_stand_once.ensures.only c.args.key c.prev-at.result c.requires
+          (sym (previous_step f c.law_nodes_stand_once.ensures.once c.law_nodes_stand_once.ensures.only c.args.key c.prev-at.result c.requires
           c.prev-at.ensures.value));
     }
 
@@ -26,14 +26,14 @@ loop-at-smaller c =
     let f = c.args.forest.now in
     let node = c.loop-at.invariant.node c.in-Some.before c.in-Some.is in
     previous_less f c.in-Some.before c.loop-at.at c.prev-at-in-Some.result c.in-Some.is
-    (previous_step f c.nodes_stand_once.ensures.once c.nodes_stand_once.ensures.only c.in-Some.before c.prev-at-in-Some.result node
+    (previous_step f c.law_nodes_stand_once.ensures.once c.law_nodes_stand_once.ensures.only c.in-Some.before c.prev-at-in-Some.result node
     c.prev-at-in-Some.ensures.value)
 
 pub loop-at-preserved : goal.loop-at-preserved
 loop-at-preserved c =
     let f = c.args.forest.now in
     let node = c.loop-at.invariant.node c.in-Some.before c.in-Some.is in
-    let step = previous_step f c.nodes_stand_once.ensures.once c.nodes_stand_once.ensures.only c.in-Some.before c.prev-at-in-Some.result node
+    let step = previous_step f c.law_nodes_stand_once.ensures.once c.law_nodes_stand_once.ensures.only c.in-Some.before c.prev-at-in-Some.result node
     c.prev-at-in-Some.ensures.value in
     record {
       node = c.prev-at-in-Some.ensures.node;

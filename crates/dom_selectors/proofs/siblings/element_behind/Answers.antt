@@ -17,7 +17,7 @@ loop-at-init c =
     record {
       node = c.next-at.ensures.node;
       left = ap (filter (λ y. is_element (kind_of f.trees y)))
-          (sym (next_step f c.nodes_stand_once.ensures.once c.nodes_stand_once.ensures.only c.args.key c.next-at.result c.requires
+          (sym (next_step f c.law_nodes_stand_once.ensures.once c.law_nodes_stand_once.ensures.only c.args.key c.next-at.result c.requires
           c.next-at.ensures.value));
     }
 
@@ -26,14 +26,14 @@ loop-at-smaller c =
     let f = c.args.forest.now in
     let node = c.loop-at.invariant.node c.in-Some.behind c.in-Some.is in
     next_less f c.in-Some.behind c.loop-at.at c.next-at-in-Some.result c.in-Some.is
-    (next_step f c.nodes_stand_once.ensures.once c.nodes_stand_once.ensures.only c.in-Some.behind c.next-at-in-Some.result node
+    (next_step f c.law_nodes_stand_once.ensures.once c.law_nodes_stand_once.ensures.only c.in-Some.behind c.next-at-in-Some.result node
     c.next-at-in-Some.ensures.value)
 
 pub loop-at-preserved : goal.loop-at-preserved
 loop-at-preserved c =
     let f = c.args.forest.now in
     let node = c.loop-at.invariant.node c.in-Some.behind c.in-Some.is in
-    let step = next_step f c.nodes_stand_once.ensures.once c.nodes_stand_once.ensures.only c.in-Some.behind c.next-at-in-Some.result node
+    let step = next_step f c.law_nodes_stand_once.ensures.once c.law_nodes_stand_once.ensures.only c.in-Some.behind c.next-at-in-Some.result node
     c.next-at-in-Some.ensures.value in
     record {
       node = c.next-at-in-Some.ensures.node;

@@ -17,7 +17,7 @@ use Rattle.dom_slots.proofs.find.next_looking.Goals as goal
 pub loop-at-init : goal.loop-at-init
 loop-at-init c =
     let f = c.args.forest.now in
-    let e = c.nodes_stand_once.ensures in
+    let e = c.law_nodes_stand_once.ensures in
     let x = name_at f.names c.args.child in
     let at = Has-forest f e.once c.args.child c.requires.node in
     let test : NodeName → Bool = λ y. looks_for c.args.name.now (node_in f.trees y) in
@@ -41,7 +41,7 @@ behind : (c : After-next-at-in-Some)
     ForSome c.next-at-in-Some.result (IsChild c.args.forest.now g))
 behind c =
     let f = c.args.forest.now in
-    let e = c.nodes_stand_once.ensures in
+    let e = c.law_nodes_stand_once.ensures in
     let up = c.requires.parent.1 in
     let child = c.loop-at.invariant.child c.requires.parent.0 up c.in-Some.sibling c.in-Some.is in
     next_sibling-step f (Once-forest f e.once e.only) (name_at f.names c.args.child) c.requires.parent.0

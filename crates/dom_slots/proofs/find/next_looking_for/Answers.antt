@@ -14,7 +14,7 @@ use Rattle.dom_slots.proofs.find.next_looking_for.Goals as goal
 pub returns-in_err-_sibling-clause-value : goal.returns-in_err-_sibling-clause-value
 returns-in_err-_sibling-clause-value c =
     let f = c.args.forest.now in
-    let e = c.nodes_stand_once.ensures in
+    let e = c.law_nodes_stand_once.ensures in
     let x = name_at f.names c.args.child in
     let up = c.requires.parent.1 in
     let name = slot_name (node_in f.trees (name_at f.names c.args.slot)) in

@@ -16,7 +16,7 @@ use Rattle.dom_slots.proofs.find.slot_named.Goals as goal
 pub loop-at-init : goal.loop-at-init
 loop-at-init c =
     let f = c.args.forest.now in
-    let e = c.nodes_stand_once.ensures in
+    let e = c.law_nodes_stand_once.ensures in
     record {
       stands = stands-top f e.once e.only c.args.top c.requires (Some c.args.top) refl;
       left = ap (λ xs. first_of (filter (λ y. has_slot_name c.args.name.now (node_in f.trees y)) xs)) (from-top f e.once e.only c.args.top c.requires);
@@ -25,7 +25,7 @@ loop-at-init c =
 pub loop-at-smaller : goal.loop-at-smaller
 loop-at-smaller c =
     let f = c.args.forest.now in
-    let e = c.nodes_stand_once.ensures in
+    let e = c.law_nodes_stand_once.ensures in
     let step = following_step f e.once e.only c.args.top c.in-Some.key c.following-at.result
     (c.loop-at.invariant.stands c.in-Some.key c.in-Some.is) c.following-at.ensures.value c.following-at.ensures.node in
     length-behind f c.args.top c.in-Some.key c.loop-at.at c.following-at.result c.in-Some.is step.0
@@ -33,7 +33,7 @@ loop-at-smaller c =
 pub loop-at-preserved : goal.loop-at-preserved
 loop-at-preserved c =
     let f = c.args.forest.now in
-    let e = c.nodes_stand_once.ensures in
+    let e = c.law_nodes_stand_once.ensures in
     let step = following_step f e.once e.only c.args.top c.in-Some.key c.following-at.result
     (c.loop-at.invariant.stands c.in-Some.key c.in-Some.is) c.following-at.ensures.value c.following-at.ensures.node in
     record {
@@ -45,7 +45,7 @@ loop-at-preserved c =
 pub returns-then-has_name-clause-value : goal.returns-then-has_name-clause-value
 returns-then-has_name-clause-value c =
     let f = c.args.forest.now in
-    let e = c.nodes_stand_once.ensures in
+    let e = c.law_nodes_stand_once.ensures in
     let test : NodeName → Bool = λ y. has_slot_name c.args.name.now (node_in f.trees y) in
     sym (first-hit test (name_at f.names c.in-Some.key) _ (sym c.if-has_name.ensures))
     ∙ (ap (λ o. first_of (filter test (from_node f.trees (name_at f.names c.args.top) (option_map (name_at f.names) o)))) (sym c.in-Some.is)
@@ -54,7 +54,7 @@ returns-then-has_name-clause-value c =
 pub returns-clause-value : goal.returns-clause-value
 returns-clause-value c =
     let f = c.args.forest.now in
-    let e = c.nodes_stand_once.ensures in
+    let e = c.law_nodes_stand_once.ensures in
     let test : NodeName → Bool = λ y. has_slot_name c.args.name.now (node_in f.trees y) in
     ap (λ o. first_of (filter test (from_node f.trees (name_at f.names c.args.top) (option_map (name_at f.names) o)))) (sym c.in_default.is)
     ∙ (c.loop-at.invariant.left ∙ sym (named-first f.trees (Once-forest f e.once e.only) (has_slot_name c.args.name.now) (name_at f.names c.args.top)))

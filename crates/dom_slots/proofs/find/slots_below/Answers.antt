@@ -17,7 +17,7 @@ use Rattle.dom_slots.proofs.find.slots_below.Goals.{then-is_slot+in_ok-push, els
 pub loop-at-init : goal.loop-at-init
 loop-at-init c =
     let f = c.args.forest.now in
-    let e = c.nodes_stand_once.ensures in
+    let e = c.law_nodes_stand_once.ensures in
     record {
       stands = stands-top f e.once e.only c.args.top c.requires (Some c.args.top) refl;
       nodes = subst (All (λ j. j < length f.names)) (sym c.new-keys.ensures.items) (λ k d h. absurd (omega arith));
@@ -29,7 +29,7 @@ loop-at-init c =
 pub loop-at-smaller : goal.loop-at-smaller
 loop-at-smaller c =
     let f = c.args.forest.now in
-    let e = c.nodes_stand_once.ensures in
+    let e = c.law_nodes_stand_once.ensures in
     let step = following_step f e.once e.only c.args.top c.in-Some.key c.following-at.result
     (c.loop-at.invariant.stands c.in-Some.key c.in-Some.is) c.following-at.ensures.value c.following-at.ensures.node in
     length-behind f c.args.top c.in-Some.key c.loop-at.at c.following-at.result c.in-Some.is step.0
@@ -37,7 +37,7 @@ loop-at-smaller c =
 pub loop-at-preserved : goal.loop-at-preserved
 loop-at-preserved c =
     let f = c.args.forest.now in
-    let e = c.nodes_stand_once.ensures in
+    let e = c.law_nodes_stand_once.ensures in
     let step = following_step f e.once e.only c.args.top c.in-Some.key c.following-at.result
     (c.loop-at.invariant.stands c.in-Some.key c.in-Some.is) c.following-at.ensures.value c.following-at.ensures.node in
     let test : NodeName → Bool = λ y. is_slot_element (node_in f.trees y) in
@@ -61,7 +61,7 @@ loop-at-preserved c =
 pub returns-clause-value : goal.returns-clause-value
 returns-clause-value c =
     let f = c.args.forest.now in
-    let e = c.nodes_stand_once.ensures in
+    let e = c.law_nodes_stand_once.ensures in
     let test : NodeName → Bool = λ y. is_slot_element (node_in f.trees y) in
     sym (append-nil (map (name_at f.names) c.loop-at.keys.items))
     ∙ (ap (λ o. map (name_at f.names) c.loop-at.keys.items ++

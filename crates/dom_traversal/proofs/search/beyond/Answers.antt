@@ -13,10 +13,10 @@ pub returns-then-is_some-clause-value : goal.returns-then-is_some-clause-value
 returns-then-is_some-clause-value c =
     let f = c.args.forest.now in
     let inner : IsInner f c.args.top c.loop-top.at = record {
-      once = c.nodes_stand_once.ensures.once;
-      only = c.nodes_stand_once.ensures.only;
+      once = c.law_nodes_stand_once.ensures.once;
+      only = c.law_nodes_stand_once.ensures.only;
       stands = c.loop-top.invariant.stands;
-      other = other_name f c.nodes_stand_once.ensures.distinct c.loop-top.at c.args.top c.loop-top.invariant.stands.node c.requires.top_is_node
+      other = other_name f c.law_nodes_stand_once.ensures.distinct c.loop-top.at c.args.top c.loop-top.invariant.stands.node c.requires.top_is_node
           (sym c.loop-top-test.ensures);
     } in
     (next_step c.next-next.result inner c.next-next.ensures.value c.next-next.ensures.node (sym c.if-is_some.ensures)).0
@@ -26,10 +26,10 @@ pub returns-then-is_some-clause-stands : goal.returns-then-is_some-clause-stands
 returns-then-is_some-clause-stands c =
     let f = c.args.forest.now in
     let inner : IsInner f c.args.top c.loop-top.at = record {
-      once = c.nodes_stand_once.ensures.once;
-      only = c.nodes_stand_once.ensures.only;
+      once = c.law_nodes_stand_once.ensures.once;
+      only = c.law_nodes_stand_once.ensures.only;
       stands = c.loop-top.invariant.stands;
-      other = other_name f c.nodes_stand_once.ensures.distinct c.loop-top.at c.args.top c.loop-top.invariant.stands.node c.requires.top_is_node
+      other = other_name f c.law_nodes_stand_once.ensures.distinct c.loop-top.at c.args.top c.loop-top.invariant.stands.node c.requires.top_is_node
           (sym c.loop-top-test.ensures);
     } in
     (next_step c.next-next.result inner c.next-next.ensures.value c.next-next.ensures.node (sym c.if-is_some.ensures)).1
@@ -38,10 +38,10 @@ pub returns-in_err-at-clause-value : goal.returns-in_err-at-clause-value
 returns-in_err-at-clause-value c =
     let f = c.args.forest.now in
     let inner : IsInner f c.args.top c.loop-top.at = record {
-      once = c.nodes_stand_once.ensures.once;
-      only = c.nodes_stand_once.ensures.only;
+      once = c.law_nodes_stand_once.ensures.once;
+      only = c.law_nodes_stand_once.ensures.only;
       stands = c.loop-top.invariant.stands;
-      other = other_name f c.nodes_stand_once.ensures.distinct c.loop-top.at c.args.top c.loop-top.invariant.stands.node c.requires.top_is_node
+      other = other_name f c.law_nodes_stand_once.ensures.distinct c.loop-top.at c.args.top c.loop-top.invariant.stands.node c.requires.top_is_node
           (sym c.loop-top-test.ensures);
     } in
     absurd (climb_ends inner c.in_err-at.ensures.value)
@@ -50,10 +50,10 @@ pub loop-top-smaller : goal.loop-top-smaller
 loop-top-smaller c =
     let f = c.args.forest.now in
     let inner : IsInner f c.args.top c.loop-top.at = record {
-      once = c.nodes_stand_once.ensures.once;
-      only = c.nodes_stand_once.ensures.only;
+      once = c.law_nodes_stand_once.ensures.once;
+      only = c.law_nodes_stand_once.ensures.only;
       stands = c.loop-top.invariant.stands;
-      other = other_name f c.nodes_stand_once.ensures.distinct c.loop-top.at c.args.top c.loop-top.invariant.stands.node c.requires.top_is_node
+      other = other_name f c.law_nodes_stand_once.ensures.distinct c.loop-top.at c.args.top c.loop-top.invariant.stands.node c.requires.top_is_node
           (sym c.loop-top-test.ensures);
     } in
     let last = no_key (name_at f.names) c.next-next.result c.next-next.ensures.value (sym c.if-is_some.ensures) in
@@ -63,10 +63,10 @@ pub loop-top-preserved : goal.loop-top-preserved
 loop-top-preserved c =
     let f = c.args.forest.now in
     let inner : IsInner f c.args.top c.loop-top.at = record {
-      once = c.nodes_stand_once.ensures.once;
-      only = c.nodes_stand_once.ensures.only;
+      once = c.law_nodes_stand_once.ensures.once;
+      only = c.law_nodes_stand_once.ensures.only;
       stands = c.loop-top.invariant.stands;
-      other = other_name f c.nodes_stand_once.ensures.distinct c.loop-top.at c.args.top c.loop-top.invariant.stands.node c.requires.top_is_node
+      other = other_name f c.law_nodes_stand_once.ensures.distinct c.loop-top.at c.args.top c.loop-top.invariant.stands.node c.requires.top_is_node
           (sym c.loop-top-test.ensures);
     } in
     let last = no_key (name_at f.names) c.next-next.result c.next-next.ensures.value (sym c.if-is_some.ensures) in
@@ -79,6 +79,6 @@ returns-clause-value c =
     let same : name_at f.names c.loop-top.at ≡ name_at f.names c.args.top =
     ap (name_at f.names) (eqb-true c.loop-top.at c.args.top (not-false _ (sym c.loop-top-test.ensures))) in
     let w = subst (IsWithin f.trees (name_at f.names c.args.top)) same
-    (IsWithin-key f c.nodes_stand_once.ensures.once c.nodes_stand_once.ensures.only c.args.top c.loop-top.at c.loop-top.invariant.stands) in
+    (IsWithin-key f c.law_nodes_stand_once.ensures.once c.law_nodes_stand_once.ensures.only c.args.top c.loop-top.at c.loop-top.invariant.stands) in
     ap first_of (sym (ap (beyond f.trees (name_at f.names c.args.top)) same ∙ (top_places f.trees (name_at f.names c.args.top) w).1) ∙
     c.loop-top.invariant.left)

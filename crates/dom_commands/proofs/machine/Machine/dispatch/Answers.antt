@@ -36,7 +36,7 @@ returns-in_err-admit_event-clause-handled c =
     let at = seen_at s ls c.args.self.now c.self.view_is c.requires in
     rw (p.1, p.2)
     (subst (λ (m : MachineNow). IsHandled o said m.world m.world text text (Err f)) c.self.view_is
-    (stopped-heard (own_listeners s.names ls) s.world (fits-own s.names s.world c.names_tell_nodes.ensures.there ls at) o said text f
+    (stopped-heard (own_listeners s.names ls) s.world (fits-own s.names s.world c.law_names_tell_nodes.ensures.there ls at) o said text f
     (refused_line s.world o said text f (sym (c.admit_event.ensures.refusal (event_view c.args.event)) ∙ c.in_err-admit_event.was))))
 
 pub open_turn-requires-clause-owner_is_there : goal.open_turn-requires-clause-owner_is_there
@@ -60,7 +60,7 @@ returns-clause-handled c =
     let related = option_map word_view c.args.related in
     let said = Command.dispatch x e related in
     let of = own_listeners s.names ls in
-    let fits = fits-own s.names s.world c.names_tell_nodes.ensures.there ls (seen_at s ls m c.self.view_is c.requires) in
+    let fits = fits-own s.names s.world c.law_names_tell_nodes.ensures.there ls (seen_at s ls m c.self.view_is c.requires) in
     let none : refusal m.world o said ≡ None =
     subst (λ (n : MachineNow). refusal n.world o said ≡ None) c.self.view_is
     (refusal-heard of s.world fits o said ∙ passed (refusal s.world o said) (sym (c.admit_event.ensures.refusal e) ∙ c.in_ok-admit_event.was)) in

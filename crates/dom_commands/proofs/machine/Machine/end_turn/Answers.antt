@@ -27,7 +27,7 @@ returns-in_err-admit-clause-handled c =
     let at = seen_at s ls c.args.self.now c.self.view_is c.requires in
     rw (p.1, p.2)
     (subst (λ (m : MachineNow). IsHandled o (Command.end_turn) m.world m.world text text (Err f)) c.self.view_is
-    (stopped-heard (own_listeners s.names ls) s.world (fits-own s.names s.world c.names_tell_nodes.ensures.there ls at) o (Command.end_turn) text f
+    (stopped-heard (own_listeners s.names ls) s.world (fits-own s.names s.world c.law_names_tell_nodes.ensures.there ls at) o (Command.end_turn) text f
     (refused s.world o (Command.end_turn) ([]) text f (search namings) (sym c.admit.ensures ∙ c.in_err-admit.was))))
 
 pub returns-clause-handled : goal.returns-clause-handled
@@ -39,7 +39,7 @@ returns-clause-handled c =
     let reply = says o (replied nothing) ∷ [] in
     let at = seen_at s ls m c.self.view_is c.requires in (
       subst (λ (n : MachineNow). refusal n.world o Command.end_turn ≡ None) c.self.view_is
-          (passed-heard (own_listeners s.names ls) s.world (fits-own s.names s.world c.names_tell_nodes.ensures.there ls at) o Command.end_turn []
+          (passed-heard (own_listeners s.names ls) s.world (fits-own s.names s.world c.law_names_tell_nodes.ensures.there ls at) o Command.end_turn []
           (search namings) (sym c.admit.ensures ∙ c.in_ok-admit.was) refl),
       c.in_ok-close_turn.ensures.world,
       c.in_ok-put_reply.ensures.ok ∙ ap (λ (x : List ℕ). x ++ output_text reply) c.in_ok-close_turn.ensures.text ∙

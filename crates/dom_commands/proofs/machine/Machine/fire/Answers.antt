@@ -25,7 +25,7 @@ pub returns-clause-world : goal.returns-clause-world
 returns-clause-world c =
     let all = fired c.self.inside.state c.self.inside.listeners c.dispatch.new.self c.args.self.now c.self.view_is c.requires.sound
     c.forest_and_slots.result.0.now c.forest_and_slots.result.1.now.hosts c.forest_and_slots.ensures.names
-    c.names_tell_nodes.ensures.there c.forest_and_slots.ensures.shown c.args.target c.args.event.related (event_words c.args.event)
+    c.law_names_tell_nodes.ensures.there c.forest_and_slots.ensures.shown c.args.target c.args.event.related (event_words c.args.event)
     c.in_ok-outcome.outcome c.in_ok-outcome.ensures.keys c.in_ok-outcome.ensures.names in
     all.1
 
@@ -33,7 +33,7 @@ pub returns-clause-answer : goal.returns-clause-answer
 returns-clause-answer c =
     let all = fired c.self.inside.state c.self.inside.listeners c.dispatch.new.self c.args.self.now c.self.view_is c.requires.sound
     c.forest_and_slots.result.0.now c.forest_and_slots.result.1.now.hosts c.forest_and_slots.ensures.names
-    c.names_tell_nodes.ensures.there c.forest_and_slots.ensures.shown c.args.target c.args.event.related (event_words c.args.event)
+    c.law_names_tell_nodes.ensures.there c.forest_and_slots.ensures.shown c.args.target c.args.event.related (event_words c.args.event)
     c.in_ok-outcome.outcome c.in_ok-outcome.ensures.keys c.in_ok-outcome.ensures.names in
     all.3
 
@@ -41,7 +41,7 @@ pub returns-clause-listeners : goal.returns-clause-listeners
 returns-clause-listeners c =
     let all = fired c.self.inside.state c.self.inside.listeners c.dispatch.new.self c.args.self.now c.self.view_is c.requires.sound
     c.forest_and_slots.result.0.now c.forest_and_slots.result.1.now.hosts c.forest_and_slots.ensures.names
-    c.names_tell_nodes.ensures.there c.forest_and_slots.ensures.shown c.args.target c.args.event.related (event_words c.args.event)
+    c.law_names_tell_nodes.ensures.there c.forest_and_slots.ensures.shown c.args.target c.args.event.related (event_words c.args.event)
     c.in_ok-outcome.outcome c.in_ok-outcome.ensures.keys c.in_ok-outcome.ensures.names in
     all.0
 
@@ -49,7 +49,7 @@ pub returns-clause-text : goal.returns-clause-text
 returns-clause-text c =
     let all = fired c.self.inside.state c.self.inside.listeners c.dispatch.new.self c.args.self.now c.self.view_is c.requires.sound
     c.forest_and_slots.result.0.now c.forest_and_slots.result.1.now.hosts c.forest_and_slots.ensures.names
-    c.names_tell_nodes.ensures.there c.forest_and_slots.ensures.shown c.args.target c.args.event.related (event_words c.args.event)
+    c.law_names_tell_nodes.ensures.there c.forest_and_slots.ensures.shown c.args.target c.args.event.related (event_words c.args.event)
     c.in_ok-outcome.outcome c.in_ok-outcome.ensures.keys c.in_ok-outcome.ensures.names in
     let names = c.forest_and_slots.result.0.now.names in
     c.in_ok-put_lines.ensures

@@ -30,7 +30,7 @@ returns-in_err-admit-clause-handled c =
     let at = seen_at s ls c.args.self.now c.self.view_is c.requires in
     rw (p.1, p.2)
     (subst (λ (m : MachineNow). IsHandled o said m.world m.world text text (Err f)) c.self.view_is
-    (stopped-heard (own_listeners s.names ls) s.world (fits-own s.names s.world c.names_tell_nodes.ensures.there ls at) o said text f
+    (stopped-heard (own_listeners s.names ls) s.world (fits-own s.names s.world c.law_names_tell_nodes.ensures.there ls at) o said text f
     (refused s.world o said (Any c.args.node ∷ []) text f (search namings) (sym c.admit.ensures ∙ c.in_err-admit.was))))
 
 pub returns-clause-handled : goal.returns-clause-handled
@@ -50,7 +50,7 @@ returns-clause-handled c =
     let Done : MachineNow → List NodeName → List (Listener ℕ) → Type 0 =
     λ m names ms. IsHandled o said m.world (heard (own_listeners names ms) end) before after r in
     let done : Done (machine_now s ls) s.names now =
-    listen_handled s.names ls s.world c.names_tell_nodes.ensures.distinct c.names_tell_nodes.ensures.there at sound.reached o
+    listen_handled s.names ls s.world c.law_names_tell_nodes.ensures.distinct c.law_names_tell_nodes.ensures.there at sound.reached o
     (word_view c.args.node) k c.key-node.ensures.node c.key-node.ensures.name
     (Any c.args.node ∷ []) (sym c.admit.ensures ∙ c.in_ok-admit.was) (listener_view c.args.words)
     (search namings) end before after r c.accept.ensures.done in
@@ -69,4 +69,4 @@ returns-clause-listeners c =
     (subst (λ (names : List NodeName). AllByRecursion (IsListenerAt names) c.listen.new.self) (sym c.accept.ensures.names)
     (subst (λ (ms : List (Listener ℕ)). AllByRecursion (IsListenerAt s.names) ms)
     (sym (c.in_ok-listen.ensures.ok ∙ ap (λ v. listened nat_eq k v ls) c.listener_init.ensures))
-    (at-listened s.names c.names_tell_nodes.ensures.distinct ls at k c.key-node.ensures.node (listener_view c.args.words))))
+    (at-listened s.names c.law_names_tell_nodes.ensures.distinct ls at k c.key-node.ensures.node (listener_view c.args.words))))

@@ -9,13 +9,13 @@ use Rattle.dom_commands.proofs.machine.Machine.notify.Goals as goal
 pub tell_observers-requires : goal.tell_observers-requires
 tell_observers-requires c =
     told_there c.self.inside.state c.take_signals.new.state c.take_signals.new.state c.self.inside.listeners c.args.self.now c.self.view_is
-    c.requires.sound c.names_tell_nodes.ensures.there c.args.owner c.requires.there
+    c.requires.sound c.law_names_tell_nodes.ensures.there c.args.owner c.requires.there
     c.in_ok-slots.ensures.names c.in_ok-slots.ensures.world
 
 pub signal_slots-requires-clause-sound : goal.signal_slots-requires-clause-sound
 signal_slots-requires-clause-sound c =
     told_is_sound c.self.inside.state c.take_signals.new.state c.tell_observers.new.state c.self.inside.listeners c.args.self.now c.self.view_is
-    c.requires.sound c.names_tell_nodes.ensures.there c.args.owner c.requires.there
+    c.requires.sound c.law_names_tell_nodes.ensures.there c.args.owner c.requires.there
     c.in_ok-slots.ensures.names c.in_ok-slots.ensures.world c.in_ok-tell_observers.ensures.names c.in_ok-tell_observers.ensures.world
 
 pub returns-clause-text : goal.returns-clause-text
@@ -29,7 +29,7 @@ returns-clause-text c =
     let text = c.args.out.now.items in
     let names = c.in_ok-slots.ensures.names in
     let world = c.in_ok-slots.ensures.world in
-    let there = c.names_tell_nodes.ensures.there in
+    let there = c.law_names_tell_nodes.ensures.there in
     let told = told_world s t u ls m c.self.view_is c.requires.sound there o c.requires.there names world c.in_ok-tell_observers.ensures.names
     c.in_ok-tell_observers.ensures.world in
     let are = told_slots s t u ls m c.self.view_is c.requires.sound there o c.requires.there names world c.in_ok-tell_observers.ensures.names
@@ -50,7 +50,7 @@ returns-clause-world c =
     let o = c.args.owner in
     let names = c.in_ok-slots.ensures.names in
     let world = c.in_ok-slots.ensures.world in
-    let there = c.names_tell_nodes.ensures.there in
+    let there = c.law_names_tell_nodes.ensures.there in
     let told = told_world s t u ls m c.self.view_is c.requires.sound there o c.requires.there names world c.in_ok-tell_observers.ensures.names
     c.in_ok-tell_observers.ensures.world in
     let are = told_slots s t u ls m c.self.view_is c.requires.sound there o c.requires.there names world c.in_ok-tell_observers.ensures.names

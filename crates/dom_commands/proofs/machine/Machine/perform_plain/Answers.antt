@@ -7,19 +7,19 @@ use Rattle.dom_commands.proofs.machine.Machine.perform_plain.Goals as goal
 
 pub perform-requires-clause-bounds : goal.perform-requires-clause-bounds
 perform-requires-clause-bounds c = seen_bounds c.self.inside.state c.self.inside.listeners c.args.self.now c.self.view_is c.requires.sound
-    c.names_tell_nodes.ensures.there
+    c.law_names_tell_nodes.ensures.there
 
 pub perform-requires-clause-first : goal.perform-requires-clause-first
 perform-requires-clause-first c = seen_first_nodes c.self.inside.state c.self.inside.listeners c.args.self.now c.self.view_is c.requires.sound
-    c.names_tell_nodes.ensures.there
+    c.law_names_tell_nodes.ensures.there
 
 pub perform-requires-clause-ends : goal.perform-requires-clause-ends
 perform-requires-clause-ends c = seen_range_ends c.self.inside.state c.self.inside.listeners c.args.self.now c.self.view_is c.requires.sound
-    c.names_tell_nodes.ensures.there
+    c.law_names_tell_nodes.ensures.there
 
 pub perform-requires-clause-roots : goal.perform-requires-clause-roots
 perform-requires-clause-roots c = seen_shadow_roots c.self.inside.state c.self.inside.listeners c.args.self.now c.self.view_is c.requires.sound
-    c.names_tell_nodes.ensures.there
+    c.law_names_tell_nodes.ensures.there
 
 pub returns-clause-handled : goal.returns-clause-handled
 returns-clause-handled c =
@@ -31,7 +31,7 @@ returns-clause-handled c =
     let before = c.args.out.now.items in
     let after = c.perform.new.out.items in
     subst (λ (m : MachineNow). IsHandled o said m.world (machine_now t ls).world before after c.perform.result) c.self.view_is
-    (plain_handled s t ls c.names_tell_nodes.ensures.there (seen_at s ls c.args.self.now c.self.view_is c.requires.sound)
+    (plain_handled s t ls c.law_names_tell_nodes.ensures.there (seen_at s ls c.args.self.now c.self.view_is c.requires.sound)
     (seen_reached s ls c.args.self.now c.self.view_is c.requires.sound) o said c.requires.plain before after c.perform.result
     c.perform.ensures.names c.perform.ensures.handled)
 
@@ -39,5 +39,5 @@ pub returns-clause-listeners : goal.returns-clause-listeners
 returns-clause-listeners c =
     let s = c.self.inside.state in
     let ls = c.self.inside.listeners in
-    kept_at s c.perform.new.state ls c.names_tell_nodes.ensures.there (seen_at s ls c.args.self.now c.self.view_is c.requires.sound)
+    kept_at s c.perform.new.state ls c.law_names_tell_nodes.ensures.there (seen_at s ls c.args.self.now c.self.view_is c.requires.sound)
     c.perform.result c.perform.ensures.names

@@ -30,7 +30,7 @@ returns-in_err-admit-clause-handled c =
     let at = seen_at s ls c.args.self.now c.self.view_is c.requires in
     rw (p.1, p.2)
     (subst (λ (m : MachineNow). IsHandled o said m.world m.world text text (Err f)) c.self.view_is
-    (stopped-heard (own_listeners s.names ls) s.world (fits-own s.names s.world c.names_tell_nodes.ensures.there ls at) o said text f
+    (stopped-heard (own_listeners s.names ls) s.world (fits-own s.names s.world c.law_names_tell_nodes.ensures.there ls at) o said text f
     (refused s.world o said (Any c.args.node ∷ []) text f (search namings)
     (sym c.admit.ensures ∙ c.in_err-admit.was))))
 
@@ -51,7 +51,7 @@ returns-clause-handled c =
     let Done : MachineNow → List NodeName → List (Listener ℕ) → Type 0 =
     λ m names ms. IsHandled o said m.world (heard (own_listeners names ms) end) before after r in
     let done : Done (machine_now s ls) s.names now =
-    unlisten_handled s.names ls s.world c.names_tell_nodes.ensures.distinct c.names_tell_nodes.ensures.there at sound.reached o
+    unlisten_handled s.names ls s.world c.law_names_tell_nodes.ensures.distinct c.law_names_tell_nodes.ensures.there at sound.reached o
     (word_view c.args.node) k c.key-node.ensures.node c.key-node.ensures.name
     (Any c.args.node ∷ []) (sym c.admit.ensures ∙ c.in_ok-admit.was) c.args.event.now c.args.label.now c.args.capture
     (search namings) end before after r c.accept.ensures.done in
@@ -68,4 +68,4 @@ returns-clause-listeners c =
     always_at (machine_now c.accept.new.self c.unlisten.new.self) c.accept.result
     (subst (λ (names : List NodeName). AllByRecursion (IsListenerAt names) c.unlisten.new.self) (sym c.accept.ensures.names)
     (subst (λ (ms : List (Listener ℕ)). AllByRecursion (IsListenerAt s.names) ms) (sym (c.unlisten.ensures))
-    (at-unlistened s.names c.names_tell_nodes.ensures.distinct ls at k c.key-node.ensures.node c.args.event.now c.args.label.now c.args.capture)))
+    (at-unlistened s.names c.law_names_tell_nodes.ensures.distinct ls at k c.key-node.ensures.node c.args.event.now c.args.label.now c.args.capture)))

@@ -21,7 +21,7 @@ no_first (x ∷ xs) e = cc
 pub returns : goal.returns
 returns c = λ none.
     let f = c.args.forest.now in
-    let e = c.nodes_stand_once.ensures in
+    let e = c.law_nodes_stand_once.ensures in
     let n = name_at f.names c.args.root in
     let test : NodeName → Bool = λ y. is_slot_element (node_in f.trees y) in
     let last : c.following.result ≡ None = was_none c.following.result (c.is_none.ensures ∙ ap not none) in

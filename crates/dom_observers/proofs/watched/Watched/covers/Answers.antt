@@ -11,7 +11,7 @@ loop-at-preserved c =
     let f = c.args.forest.now in
     let sought = c.args.self.now.above.keys in
     let done = subst (HasPassed f c.args.key sought) c.in-Some.is c.loop-at.invariant in
-    passes-more f c.nodes_stand_once.ensures.once c.nodes_stand_once.ensures.only c.args.key c.in-Some.node sought c.parent-at.result done
+    passes-more f c.law_nodes_stand_once.ensures.once c.law_nodes_stand_once.ensures.only c.args.key c.in-Some.node sought c.parent-at.result done
     (sym c.if-has_above.ensures) c.parent-at.ensures.value c.parent-at.ensures.node
 
 pub loop-at-smaller : goal.loop-at-smaller
@@ -19,7 +19,7 @@ loop-at-smaller c =
     let f = c.args.forest.now in
     let done = subst (HasPassed f c.args.key c.args.self.now.above.keys) c.in-Some.is c.loop-at.invariant in
     subst (λ at. length (above f c.parent-at.result) < length (above f at)) (sym c.in-Some.is)
-    (climbs-fewer f c.nodes_stand_once.ensures.once c.nodes_stand_once.ensures.only c.in-Some.node c.parent-at.result
+    (climbs-fewer f c.law_nodes_stand_once.ensures.once c.law_nodes_stand_once.ensures.only c.in-Some.node c.parent-at.result
     (done.climbed.next c.in-Some.node refl) c.parent-at.ensures.value)
 
 pub returns-then-has_above : goal.returns-then-has_above
@@ -27,10 +27,11 @@ returns-then-has_above c =
     let f = c.args.forest.now in
     let sought = c.args.self.now.above.keys in
     let done = subst (HasPassed f c.args.key sought) c.in-Some.is c.loop-at.invariant in
-    sym (passes-to f c.nodes_stand_once.ensures.once c.nodes_stand_once.ensures.distinct c.args.key c.in-Some.node sought done (sym c.if-has_above.ensures))
+    sym (passes-to f c.law_nodes_stand_once.ensures.once c.law_nodes_stand_once.ensures.distinct c.args.key c.in-Some.node sought done
+        (sym c.if-has_above.ensures))
 
 pub returns : goal.returns
 returns c =
     let f = c.args.forest.now in
     let sought = c.args.self.now.above.keys in
-    sym (passes-all f c.nodes_stand_once.ensures.distinct c.args.key sought (subst (HasPassed f c.args.key sought) c.in_default.is c.loop-at.invariant))
+    sym (passes-all f c.law_nodes_stand_once.ensures.distinct c.args.key sought (subst (HasPassed f c.args.key sought) c.in_default.is c.loop-at.invariant))

@@ -9,8 +9,8 @@ pub invariant_of-self : goal.invariant_of-self
 invariant_of-self c =
     let asks : AsksNode c.self.inside.forest c.add-added.new.self c.args.owner (λ ns x. node_from ns x c.args.node) c.add-added.result = record {
       own_name = λ ns x. refl;
-      apart = c.nodes_stand_once.ensures.distinct;
-      stands = record { once = c.nodes_stand_once.ensures.once; only = c.nodes_stand_once.ensures.only };
+      apart = c.law_nodes_stand_once.ensures.distinct;
+      stands = record { once = c.law_nodes_stand_once.ensures.once; only = c.law_nodes_stand_once.ensures.only };
       names = c.add-added.ensures.names;
       trees = c.add-added.ensures.trees;
       limit = c.add-added.ensures.limit;
@@ -22,8 +22,8 @@ pub returns-clause-names : goal.returns-clause-names
 returns-clause-names c =
     let asks : AsksNode c.self.inside.forest c.add-added.new.self c.args.owner (λ ns x. node_from ns x c.args.node) c.add-added.result = record {
       own_name = λ ns x. refl;
-      apart = c.nodes_stand_once.ensures.distinct;
-      stands = record { once = c.nodes_stand_once.ensures.once; only = c.nodes_stand_once.ensures.only };
+      apart = c.law_nodes_stand_once.ensures.distinct;
+      stands = record { once = c.law_nodes_stand_once.ensures.once; only = c.law_nodes_stand_once.ensures.only };
       names = c.add-added.ensures.names;
       trees = c.add-added.ensures.trees;
       limit = c.add-added.ensures.limit;
@@ -35,8 +35,8 @@ pub returns-clause-world : goal.returns-clause-world
 returns-clause-world c =
     let asks : AsksNode c.self.inside.forest c.add-added.new.self c.args.owner (λ ns x. node_from ns x c.args.node) c.add-added.result = record {
       own_name = λ ns x. refl;
-      apart = c.nodes_stand_once.ensures.distinct;
-      stands = record { once = c.nodes_stand_once.ensures.once; only = c.nodes_stand_once.ensures.only };
+      apart = c.law_nodes_stand_once.ensures.distinct;
+      stands = record { once = c.law_nodes_stand_once.ensures.once; only = c.law_nodes_stand_once.ensures.only };
       names = c.add-added.ensures.names;
       trees = c.add-added.ensures.trees;
       limit = c.add-added.ensures.limit;

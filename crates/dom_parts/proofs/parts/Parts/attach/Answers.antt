@@ -13,14 +13,14 @@ use Rattle.dom_parts.proofs.parts.Parts.attach.Goals as goal
 pub attach_root-made-requires-clause-new_owner : goal.attach_root-made-requires-clause-new_owner
 attach_root-made-requires-clause-new_owner c =
     new_owner c.self.inside.forest (all_tables c.self.inside) c.self.invariant c.args.host
-    (accepted c.self.inside.forest (all_tables c.self.inside) c.self.invariant c.nodes_stand_once.ensures.distinct c.args.self.now c.self.view_is
+    (accepted c.self.inside.forest (all_tables c.self.inside) c.self.invariant c.law_nodes_stand_once.ensures.distinct c.args.self.now c.self.view_is
     c.args.host c.requires c.in-Ok.ensures.refusal).1.1
     c.in-Ok.owner (c.in-Ok.ensures.component ∙ next_is_for c.self.inside.forest (all_tables c.self.inside) c.self.invariant
-    c.nodes_stand_once.ensures.distinct c.args.self.now c.self.view_is c.args.host c.requires)
+    c.law_nodes_stand_once.ensures.distinct c.args.self.now c.self.view_is c.args.host c.requires)
 
 pub attach_root-made-requires-clause-new_host : goal.attach_root-made-requires-clause-new_host
 attach_root-made-requires-clause-new_host c =
-    (accepted c.self.inside.forest (all_tables c.self.inside) c.self.invariant c.nodes_stand_once.ensures.distinct c.args.self.now c.self.view_is
+    (accepted c.self.inside.forest (all_tables c.self.inside) c.self.invariant c.law_nodes_stand_once.ensures.distinct c.args.self.now c.self.view_is
     c.args.host c.requires c.in-Ok.ensures.refusal).0
 
 pub invariant_of-self : goal.invariant_of-self
@@ -28,14 +28,14 @@ invariant_of-self c =
     let f = c.self.inside.forest in
     let d = (node_in f.trees (name_at f.names c.args.host)).document in
     held_then f (all_tables c.self.inside) c.self.invariant c.args.host
-    (accepted c.self.inside.forest (all_tables c.self.inside) c.self.invariant c.nodes_stand_once.ensures.distinct c.args.self.now c.self.view_is
+    (accepted c.self.inside.forest (all_tables c.self.inside) c.self.invariant c.law_nodes_stand_once.ensures.distinct c.args.self.now c.self.view_is
     c.args.host c.requires c.in-Ok.ensures.refusal).1.1
     c.in-Ok.owner (c.in-Ok.ensures.component ∙ next_is_for c.self.inside.forest (all_tables c.self.inside) c.self.invariant
-    c.nodes_stand_once.ensures.distinct c.args.self.now c.self.view_is c.args.host c.requires) c.attach_root-made.new.forest
+    c.law_nodes_stand_once.ensures.distinct c.args.self.now c.self.view_is c.args.host c.requires) c.attach_root-made.new.forest
     c.attach_root-made.new.slots d c.in-Ok-made.ensures.names c.in-Ok-made.ensures.trees
     c.in-Ok-made.ensures.hosts c.in-Ok-made.ensures.free c.in-Ok-made.ensures.slots
     (known f c.self.invariant c.self.view_is (λ e. c.args.host < length e.names) c.requires)
-    (accepted c.self.inside.forest (all_tables c.self.inside) c.self.invariant c.nodes_stand_once.ensures.distinct c.args.self.now c.self.view_is
+    (accepted c.self.inside.forest (all_tables c.self.inside) c.self.invariant c.law_nodes_stand_once.ensures.distinct c.args.self.now c.self.view_is
     c.args.host c.requires c.in-Ok.ensures.refusal).1.0
 
 pub returns-in-Ok-made-clause-names : goal.returns-in-Ok-made-clause-names
@@ -43,10 +43,10 @@ returns-in-Ok-made-clause-names c =
     let f = c.self.inside.forest in
     let d = (node_in f.trees (name_at f.names c.args.host)).document in
     names_then f (all_tables c.self.inside) c.self.invariant c.args.host
-    (accepted c.self.inside.forest (all_tables c.self.inside) c.self.invariant c.nodes_stand_once.ensures.distinct c.args.self.now c.self.view_is
+    (accepted c.self.inside.forest (all_tables c.self.inside) c.self.invariant c.law_nodes_stand_once.ensures.distinct c.args.self.now c.self.view_is
     c.args.host c.requires c.in-Ok.ensures.refusal).1.1
     c.in-Ok.owner (c.in-Ok.ensures.component ∙ next_is_for c.self.inside.forest (all_tables c.self.inside) c.self.invariant
-    c.nodes_stand_once.ensures.distinct c.args.self.now c.self.view_is c.args.host c.requires) c.attach_root-made.new.forest
+    c.law_nodes_stand_once.ensures.distinct c.args.self.now c.self.view_is c.args.host c.requires) c.attach_root-made.new.forest
     c.attach_root-made.new.slots d c.in-Ok-made.ensures.names c.in-Ok-made.ensures.trees
     c.in-Ok-made.ensures.hosts c.in-Ok-made.ensures.free c.in-Ok-made.ensures.slots
     c.args.self.now c.self.view_is c.requires c.in-Ok.ensures.component
@@ -56,10 +56,10 @@ returns-in-Ok-made-clause-world c =
     let f = c.self.inside.forest in
     let d = (node_in f.trees (name_at f.names c.args.host)).document in
     world_then f (all_tables c.self.inside) c.self.invariant c.args.host
-    (accepted c.self.inside.forest (all_tables c.self.inside) c.self.invariant c.nodes_stand_once.ensures.distinct c.args.self.now c.self.view_is
+    (accepted c.self.inside.forest (all_tables c.self.inside) c.self.invariant c.law_nodes_stand_once.ensures.distinct c.args.self.now c.self.view_is
     c.args.host c.requires c.in-Ok.ensures.refusal).1.1
     c.in-Ok.owner (c.in-Ok.ensures.component ∙ next_is_for c.self.inside.forest (all_tables c.self.inside) c.self.invariant
-    c.nodes_stand_once.ensures.distinct c.args.self.now c.self.view_is c.args.host c.requires) c.attach_root-made.new.forest
+    c.law_nodes_stand_once.ensures.distinct c.args.self.now c.self.view_is c.args.host c.requires) c.attach_root-made.new.forest
     c.attach_root-made.new.slots d c.in-Ok-made.ensures.names c.in-Ok-made.ensures.trees
     c.in-Ok-made.ensures.hosts c.in-Ok-made.ensures.free c.in-Ok-made.ensures.slots
     c.args.self.now c.self.view_is c.requires refl

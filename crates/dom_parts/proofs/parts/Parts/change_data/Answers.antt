@@ -19,7 +19,7 @@ returns-in_err-text-clause-whole c start all =
 pub on_replace_data-requires : goal.on_replace_data-requires
 on_replace_data-requires c =
     let f = c.self.inside.forest in
-    data_asks f c.self.invariant c.self.view_is c.nodes_stand_once.ensures.once c.nodes_stand_once.ensures.only c.args.node c.args.offset
+    data_asks f c.self.invariant c.self.view_is c.law_nodes_stand_once.ensures.once c.law_nodes_stand_once.ensures.only c.args.node c.args.offset
     c.args.count c.args.data.items c.requires.node_is_node c.requires.may_come c.requires.there (let fits = c.ranges.offset in omega arith)
     (subst (λ (units : List ℕ). length units < 2 ^ 64)
     (c.in_ok-text.ensures.items ∙ ap (replaced c.args.offset c.args.count c.args.data.items) c.text.ensures)
@@ -33,9 +33,9 @@ invariant_of-self c =
     let f = c.self.inside.forest in
     let x = name_at f.names c.args.node in
     let h = with_data_replaced c.args.offset c.args.count c.args.data.items in
-    let once = c.nodes_stand_once.ensures.once c.args.node
+    let once = c.law_nodes_stand_once.ensures.once c.args.node
     (known f c.self.invariant c.self.view_is (λ e. c.args.node < length e.names) c.requires.node_is_node) in
-    data_held f c.self.invariant c.self.view_is c.nodes_stand_once.ensures.once c.nodes_stand_once.ensures.only c.args.node c.args.offset
+    data_held f c.self.invariant c.self.view_is c.law_nodes_stand_once.ensures.once c.law_nodes_stand_once.ensures.only c.args.node c.args.offset
     c.args.count c.args.data.items c.requires.node_is_node c.requires.may_come c.requires.there (let fits = c.ranges.offset in omega arith)
     (subst (λ (units : List ℕ). length units < 2 ^ 64)
     (c.in_ok-text.ensures.items ∙ ap (replaced c.args.offset c.args.count c.args.data.items) c.text.ensures)
@@ -43,7 +43,7 @@ invariant_of-self c =
     (sym c.text.ensures ∙ shown f c.self.invariant c.self.view_is (λ ts x. (node_in ts x).text) (λ ns. c.text.result.now) c.args.node
     c.text.ensures (λ r. ap (λ n. n.text) r.node))
     c.len-size.result (let len = c.len-size.ensures in omega (arith, len, c.args.data.ok.0))
-    c.nodes_stand_once.ensures.distinct c.on_replace_data.new.self c.on_replace_data.ensures c.set_data.new.self c.set_data.ensures.names
+    c.law_nodes_stand_once.ensures.distinct c.on_replace_data.new.self c.on_replace_data.ensures c.set_data.new.self c.set_data.ensures.names
     (c.set_data.ensures.trees ∙ ap (λ units. change_node (with_text units) x f.trees)
     (c.in_ok-text.ensures.items ∙ ap (replaced c.args.offset c.args.count c.args.data.items) c.text.ensures)
     ∙ data_changed x c.args.offset c.args.count c.args.data.items f.trees (omega (arith, once)))
@@ -55,9 +55,9 @@ pub returns-clause-ok : goal.returns-clause-ok
 returns-clause-ok c =
     let f = c.self.inside.forest in
     let x = name_at f.names c.args.node in
-    let once = c.nodes_stand_once.ensures.once c.args.node
+    let once = c.law_nodes_stand_once.ensures.once c.args.node
     (known f c.self.invariant c.self.view_is (λ e. c.args.node < length e.names) c.requires.node_is_node) in
-    data_state f c.self.invariant c.self.view_is c.nodes_stand_once.ensures.once c.nodes_stand_once.ensures.only c.args.node c.args.offset
+    data_state f c.self.invariant c.self.view_is c.law_nodes_stand_once.ensures.once c.law_nodes_stand_once.ensures.only c.args.node c.args.offset
     c.args.count c.args.data.items c.requires.node_is_node c.requires.may_come c.requires.there (let fits = c.ranges.offset in omega arith)
     (subst (λ (units : List ℕ). length units < 2 ^ 64)
     (c.in_ok-text.ensures.items ∙ ap (replaced c.args.offset c.args.count c.args.data.items) c.text.ensures)
@@ -65,7 +65,7 @@ returns-clause-ok c =
     (sym c.text.ensures ∙ shown f c.self.invariant c.self.view_is (λ ts x. (node_in ts x).text) (λ ns. c.text.result.now) c.args.node
     c.text.ensures (λ r. ap (λ n. n.text) r.node))
     c.len-size.result (let len = c.len-size.ensures in omega (arith, len, c.args.data.ok.0))
-    c.nodes_stand_once.ensures.distinct c.on_replace_data.new.self c.on_replace_data.ensures c.set_data.new.self c.set_data.ensures.names
+    c.law_nodes_stand_once.ensures.distinct c.on_replace_data.new.self c.on_replace_data.ensures c.set_data.new.self c.set_data.ensures.names
     (c.set_data.ensures.trees ∙ ap (λ units. change_node (with_text units) x f.trees)
     (c.in_ok-text.ensures.items ∙ ap (replaced c.args.offset c.args.count c.args.data.items) c.text.ensures)
     ∙ data_changed x c.args.offset c.args.count c.args.data.items f.trees (omega (arith, once)))

@@ -19,4 +19,4 @@ returns c =
     subst (λ (d : DocState). c.is_document.result ≡ is_connected d.world (name_in d c.args.node)) c.self.view_is
     (c.is_document.ensures
     ∙ (ap is_document (c.kind.ensures ∙ ap (kind_of f.trees) (c.outermost_root-root.ensures.value ∙ ap (λ n. outermost_root s n (root_of f.trees x)) depth))
-    ∙ sym (connected_held f c.self.invariant c.nodes_stand_once.ensures.once x)))
+    ∙ sym (connected_held f c.self.invariant c.law_nodes_stand_once.ensures.once x)))

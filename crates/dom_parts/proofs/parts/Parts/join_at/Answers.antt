@@ -26,7 +26,7 @@ invariant_of-self c =
     let o = (name_at f.names c.args.first).owner in
     let at = index_of f.trees (name_at f.names c.args.next) in
     held_live f.names f.trees all c.self.invariant c.on_join_child.new.self
-    ((join_ranged (contents f.names f.trees all) all.ranges c.on_join_child.new.self c.self.invariant.ranges c.nodes_stand_once.ensures.distinct o
+    ((join_ranged (contents f.names f.trees all) all.ranges c.on_join_child.new.self c.self.invariant.ranges c.law_nodes_stand_once.ensures.distinct o
     c.args.first c.args.size c.args.next c.args.parent at
     (known f c.self.invariant c.self.view_is (λ e. c.args.first < length e.names) c.requires.first_is_node)
     (known f c.self.invariant c.self.view_is (λ e. c.args.next < length e.names) c.requires.next_is_node)
@@ -50,7 +50,7 @@ returns-clause-state c =
     live_done f c.self.invariant c.self.view_is c.args.first c.on_join_child.new.self
     (λ ns. join_at (name_at ns c.args.first) c.args.size (name_at ns c.args.next) (name_at ns c.args.parent) at)
     (join_told (contents f.names f.trees all) c.self.inside.slots.hosts (are_hosts f.names f.trees all c.self.invariant) all.ranges
-    c.on_join_child.new.self c.self.invariant.ranges c.nodes_stand_once.ensures.distinct o
+    c.on_join_child.new.self c.self.invariant.ranges c.law_nodes_stand_once.ensures.distinct o
     (owner_there f c.self.invariant c.self.view_is c.args.first c.requires.first_is_node) c.args.first c.args.size c.args.next c.args.parent at
     (known f c.self.invariant c.self.view_is (λ e. c.args.first < length e.names) c.requires.first_is_node)
     (known f c.self.invariant c.self.view_is (λ e. c.args.next < length e.names) c.requires.next_is_node)

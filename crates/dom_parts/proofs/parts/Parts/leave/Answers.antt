@@ -48,8 +48,8 @@ invariant_of-self-2 c =
     let o = (name_at f.names c.args.node).owner in
     let is : o ≡ c.name-owner.result.owner = ap (λ (x : NodeName). x.owner) c.name-owner.ensures.at in
     let u : KeyedTables = record (each o) { iterators = (cursors_of c.leave.new.self o).iterators } in
-    removal_held f c.self.invariant c.self.view_is c.args.node c.requires.node_is_node c.iterators_stay.ensures c.nodes_stand_once.ensures.once
-    c.nodes_stand_once.ensures.only c.nodes_stand_once.ensures.distinct
+    removal_held f c.self.invariant c.self.view_is c.args.node c.requires.node_is_node c.law_iterators_stay.ensures c.law_nodes_stand_once.ensures.once
+    c.law_nodes_stand_once.ensures.only c.law_nodes_stand_once.ensures.distinct
     c.in-Some.parent (c.parent.ensures.node c.in-Some.parent c.in-Some.is) c.in-Some.ensures.value
     u
     (subst (λ (q : Owner). AreLeft f c.args.node (each q).iterators (cursors_of c.leave.new.self q).iterators) (sym is) c.leave.ensures.iterators) refl
@@ -77,8 +77,8 @@ returns c =
     let o = (name_at f.names c.args.node).owner in
     let is : o ≡ c.name-owner.result.owner = ap (λ (x : NodeName). x.owner) c.name-owner.ensures.at in
     let u : KeyedTables = record (each o) { iterators = (cursors_of c.leave.new.self o).iterators } in
-    removal_state f c.self.invariant c.self.view_is c.args.node c.requires.node_is_node c.iterators_stay.ensures c.nodes_stand_once.ensures.once
-    c.nodes_stand_once.ensures.only c.nodes_stand_once.ensures.distinct
+    removal_state f c.self.invariant c.self.view_is c.args.node c.requires.node_is_node c.law_iterators_stay.ensures c.law_nodes_stand_once.ensures.once
+    c.law_nodes_stand_once.ensures.only c.law_nodes_stand_once.ensures.distinct
     c.in-Some.parent (c.parent.ensures.node c.in-Some.parent c.in-Some.is) c.in-Some.ensures.value
     u
     (subst (λ (q : Owner). AreLeft f c.args.node (each q).iterators (cursors_of c.leave.new.self q).iterators) (sym is) c.leave.ensures.iterators) refl

@@ -25,7 +25,7 @@ returns-clause-world c =
     c.args.node
     (known f c.self.invariant c.self.view_is (λ e. c.args.node < length e.names) c.requires.node_is_node)
     (known f c.self.invariant c.self.view_is (λ e. owner_in e c.args.node ≡ c.args.owner) c.requires.own) (words_of c.args.options)
-    c.nodes_stand_once.ensures.distinct c.observe.result c.observe.ensures.tables
+    c.law_nodes_stand_once.ensures.distinct c.observe.result c.observe.ensures.tables
 
 pub returns-clause-no_kind : goal.returns-clause-no_kind
 returns-clause-no_kind c =

@@ -48,17 +48,17 @@ invariant_of-self c =
     tree_held f c.self.invariant c.self.view_is c.args.parent c.requires.parent_is_node (placed x p b)
     (put f.trees c.self.invariant.owned p.owner x p b
     (known f c.self.invariant c.self.view_is (λ e. owner_in e c.args.node ≡ owner_in e c.args.parent) c.requires.one_owner) refl)
-    (keeps_placed f.trees (Once-forest f c.nodes_stand_once.ensures.once c.nodes_stand_once.ensures.only) x p b
-    (Has-forest f c.nodes_stand_once.ensures.once c.args.node
+    (keeps_placed f.trees (Once-forest f c.law_nodes_stand_once.ensures.once c.law_nodes_stand_once.ensures.only) x p b
+    (Has-forest f c.law_nodes_stand_once.ensures.once c.args.node
     (known f c.self.invariant c.self.view_is (λ e. c.args.node < length e.names) c.requires.node_is_node))
-    (Has-forest f c.nodes_stand_once.ensures.once c.args.parent
+    (Has-forest f c.law_nodes_stand_once.ensures.once c.args.parent
     (known f c.self.invariant c.self.view_is (λ e. c.args.parent < length e.names) c.requires.parent_is_node))
     (read_there f c.self.invariant c.self.view_is parent_of c.args.node (λ r. r.parent) ∙
     known f c.self.invariant c.self.view_is (λ e. parent_of (trees_in e c.args.node) (name_in e c.args.node) ≡ None) c.requires.unlinked)
     (read_there f c.self.invariant c.self.view_is (λ ts y. is_inclusive_ancestor ts x y) c.args.parent (λ r. ap (is_in name_eq x) r.path)
     ∙ known f c.self.invariant c.self.view_is
     (λ e. is_inclusive_ancestor (trees_in e c.args.parent) (name_in e c.args.node) (name_in e c.args.parent) ≡ false) c.requires.not_above)
-    (once_forest f.names f.trees c.nodes_stand_once.ensures.once c.nodes_stand_once.ensures.only))
+    (once_forest f.names f.trees c.law_nodes_stand_once.ensures.once c.law_nodes_stand_once.ensures.only))
     (Place c.args.node c.args.parent c.args.before)
     c.link-done.new.forest c.settle.new.forest (signal_tables c.link-done.new.slots c.link-done.new.signalled c.link-done.new.queue)
     (tables_of (cursors_of c.settle.new.cursors) (observers_of c.settle.new.observers) c.settle.new.queue c.settle.new.slots c.settle.new.signalled
@@ -82,17 +82,17 @@ returns c =
     let there = owner_there f c.self.invariant c.self.view_is c.args.parent c.requires.parent_is_node in
     let all = all_tables c.self.inside in
     tree_state f c.self.invariant c.self.view_is c.args.parent c.requires.parent_is_node (placed x p b) change
-    (keeps_placed f.trees (Once-forest f c.nodes_stand_once.ensures.once c.nodes_stand_once.ensures.only) x p b
-    (Has-forest f c.nodes_stand_once.ensures.once c.args.node
+    (keeps_placed f.trees (Once-forest f c.law_nodes_stand_once.ensures.once c.law_nodes_stand_once.ensures.only) x p b
+    (Has-forest f c.law_nodes_stand_once.ensures.once c.args.node
     (known f c.self.invariant c.self.view_is (λ e. c.args.node < length e.names) c.requires.node_is_node))
-    (Has-forest f c.nodes_stand_once.ensures.once c.args.parent
+    (Has-forest f c.law_nodes_stand_once.ensures.once c.args.parent
     (known f c.self.invariant c.self.view_is (λ e. c.args.parent < length e.names) c.requires.parent_is_node))
     (read_there f c.self.invariant c.self.view_is parent_of c.args.node (λ r. r.parent) ∙
     known f c.self.invariant c.self.view_is (λ e. parent_of (trees_in e c.args.node) (name_in e c.args.node) ≡ None) c.requires.unlinked)
     (read_there f c.self.invariant c.self.view_is (λ ts y. is_inclusive_ancestor ts x y) c.args.parent (λ r. ap (is_in name_eq x) r.path)
     ∙ known f c.self.invariant c.self.view_is
     (λ e. is_inclusive_ancestor (trees_in e c.args.parent) (name_in e c.args.node) (name_in e c.args.parent) ≡ false) c.requires.not_above)
-    (once_forest f.names f.trees c.nodes_stand_once.ensures.once c.nodes_stand_once.ensures.only))
+    (once_forest f.names f.trees c.law_nodes_stand_once.ensures.once c.law_nodes_stand_once.ensures.only))
     (Place c.args.node c.args.parent c.args.before)
     c.link-done.new.forest c.settle.new.forest (signal_tables c.link-done.new.slots c.link-done.new.signalled c.link-done.new.queue)
     (tables_of (cursors_of c.settle.new.cursors) (observers_of c.settle.new.observers) c.settle.new.queue c.settle.new.slots c.settle.new.signalled

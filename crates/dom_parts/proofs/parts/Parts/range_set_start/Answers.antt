@@ -8,26 +8,26 @@ set_start-requires-clause-ends c = own_at_nodes c.self.inside.forest.names c.sel
 
 pub invariant_of-self : goal.invariant_of-self
 invariant_of-self c =
-    start_held c.self.inside.forest c.self.invariant c.self.view_is c.args.owner c.args.number c.requires.there c.nodes_stand_once.ensures.once
-    c.nodes_stand_once.ensures.only c.args.node c.args.offset c.requires.node_is_node c.requires.own
+    start_held c.self.inside.forest c.self.invariant c.self.view_is c.args.owner c.args.number c.requires.there c.law_nodes_stand_once.ensures.once
+    c.law_nodes_stand_once.ensures.only c.args.node c.args.offset c.requires.node_is_node c.requires.own
     (let fits = c.ranges.offset in omega arith) c.set_start.new.self c.set_start.result c.set_start.ensures.set c.set_start.ensures.err
 
 pub returns-clause-world : goal.returns-clause-world
 returns-clause-world c =
-    start_makes c.self.inside.forest c.self.invariant c.self.view_is c.args.owner c.args.number c.requires.there c.nodes_stand_once.ensures.once
-    c.nodes_stand_once.ensures.only c.args.node c.args.offset c.requires.node_is_node c.requires.own
+    start_makes c.self.inside.forest c.self.invariant c.self.view_is c.args.owner c.args.number c.requires.there c.law_nodes_stand_once.ensures.once
+    c.law_nodes_stand_once.ensures.only c.args.node c.args.offset c.requires.node_is_node c.requires.own
     (let fits = c.ranges.offset in omega arith) c.set_start.new.self c.set_start.result c.set_start.ensures.set
 
 pub returns-clause-refused : goal.returns-clause-refused
 returns-clause-refused c =
-    end_refused c.self.inside.forest c.self.invariant c.self.view_is c.args.owner c.args.number c.requires.there c.nodes_stand_once.ensures.once
-    c.nodes_stand_once.ensures.only c.args.node c.args.offset c.requires.node_is_node c.requires.own
+    end_refused c.self.inside.forest c.self.invariant c.self.view_is c.args.owner c.args.number c.requires.there c.law_nodes_stand_once.ensures.once
+    c.law_nodes_stand_once.ensures.only c.args.node c.args.offset c.requires.node_is_node c.requires.own
     (let fits = c.ranges.offset in omega arith) c.set_start.new.self c.set_start.ensures.index_size
 
 pub returns-clause-other : goal.returns-clause-other
 returns-clause-other c =
-    end_faults c.self.inside.forest c.self.invariant c.self.view_is c.args.owner c.args.number c.requires.there c.nodes_stand_once.ensures.once
-    c.nodes_stand_once.ensures.only c.args.node c.args.offset c.requires.node_is_node c.requires.own
+    end_faults c.self.inside.forest c.self.invariant c.self.view_is c.args.owner c.args.number c.requires.there c.law_nodes_stand_once.ensures.once
+    c.law_nodes_stand_once.ensures.only c.args.node c.args.offset c.requires.node_is_node c.requires.own
     (let fits = c.ranges.offset in omega arith) c.set_start.new.self c.set_start.result c.set_start.ensures.unknown c.set_start.ensures.other
 
 pub returns-clause-err : goal.returns-clause-err

@@ -14,7 +14,7 @@ pub invariant_of-self : goal.invariant_of-self
 invariant_of-self c =
     let f = c.self.inside.forest in
     let speaks = known f c.self.invariant c.self.view_is (λ e. NamesNodes e c.args.change) c.requires in
-    notify_held f c.self.invariant c.nodes_stand_once.ensures.once c.nodes_stand_once.ensures.only c.nodes_stand_once.ensures.distinct
+    notify_held f c.self.invariant c.law_nodes_stand_once.ensures.once c.law_nodes_stand_once.ensures.only c.law_nodes_stand_once.ensures.distinct
     (change_of c.args.change) speaks
     (tables_of c.queue_record.new.self) c.in-Ok-true.ensures.tables c.self.view_is c.push_notify.new.self c.name-owner.result.owner
     (ap (λ (n : NodeName). n.owner) (sym c.name-owner.ensures.at) ∙ ap (λ k. (name_at f.names k).owner) c.target.ensures)
@@ -24,7 +24,7 @@ pub invariant_of-self-in-Ok-false : goal.invariant_of-self-in-Ok-false
 invariant_of-self-in-Ok-false c =
     let f = c.self.inside.forest in
     let speaks = known f c.self.invariant c.self.view_is (λ e. NamesNodes e c.args.change) c.requires in
-    record_held f c.self.invariant c.nodes_stand_once.ensures.once c.nodes_stand_once.ensures.only c.nodes_stand_once.ensures.distinct
+    record_held f c.self.invariant c.law_nodes_stand_once.ensures.once c.law_nodes_stand_once.ensures.only c.law_nodes_stand_once.ensures.distinct
     (change_of c.args.change) speaks
     (tables_of c.queue_record.new.self) c.in-Ok-false.ensures.tables c.self.inside.queue false refl
 
@@ -35,7 +35,7 @@ pub returns-in-Ok-true : goal.returns-in-Ok-true
 returns-in-Ok-true c =
     let f = c.self.inside.forest in
     let speaks = known f c.self.invariant c.self.view_is (λ e. NamesNodes e c.args.change) c.requires in
-    notify_state f c.self.invariant c.nodes_stand_once.ensures.once c.nodes_stand_once.ensures.only c.nodes_stand_once.ensures.distinct
+    notify_state f c.self.invariant c.law_nodes_stand_once.ensures.once c.law_nodes_stand_once.ensures.only c.law_nodes_stand_once.ensures.distinct
     (change_of c.args.change) speaks
     (tables_of c.queue_record.new.self) c.in-Ok-true.ensures.tables c.self.view_is c.push_notify.new.self c.name-owner.result.owner
     (ap (λ (n : NodeName). n.owner) (sym c.name-owner.ensures.at) ∙ ap (λ k. (name_at f.names k).owner) c.target.ensures)
@@ -45,7 +45,7 @@ pub returns-in-Ok-false : goal.returns-in-Ok-false
 returns-in-Ok-false c =
     let f = c.self.inside.forest in
     let speaks = known f c.self.invariant c.self.view_is (λ e. NamesNodes e c.args.change) c.requires in
-    record_state f c.self.invariant c.nodes_stand_once.ensures.once c.nodes_stand_once.ensures.only c.nodes_stand_once.ensures.distinct
+    record_state f c.self.invariant c.law_nodes_stand_once.ensures.once c.law_nodes_stand_once.ensures.only c.law_nodes_stand_once.ensures.distinct
     (change_of c.args.change) speaks
     (tables_of c.queue_record.new.self) c.in-Ok-false.ensures.tables c.self.view_is c.self.inside.queue
     (name_at f.names (target_of (change_of c.args.change))).owner refl

@@ -30,7 +30,7 @@ invariant_of-self c =
     let all = all_tables c.self.inside in
     let o = (name_at f.names c.args.node).owner in
     held_live f.names f.trees all c.self.invariant c.on_split.new.self
-    ((split_ranged (contents f.names f.trees all) all.ranges c.on_split.new.self c.self.invariant.ranges c.nodes_stand_once.ensures.distinct o
+    ((split_ranged (contents f.names f.trees all) all.ranges c.on_split.new.self c.self.invariant.ranges c.law_nodes_stand_once.ensures.distinct o
     c.args.node c.args.offset c.args.new c.args.parent c.args.index
     (known f c.self.invariant c.self.view_is (λ e. c.args.node < length e.names) c.requires.node_is_node)
     (known f c.self.invariant c.self.view_is (λ e. c.args.new < length e.names) c.requires.new_is_node)
@@ -49,7 +49,7 @@ returns c =
     live_done f c.self.invariant c.self.view_is c.args.node c.on_split.new.self
     (λ ns. split_at (name_at ns c.args.node) c.args.offset (name_at ns c.args.new) (name_at ns c.args.parent) c.args.index)
     (split_told (contents f.names f.trees all) c.self.inside.slots.hosts (are_hosts f.names f.trees all c.self.invariant) all.ranges
-    c.on_split.new.self c.self.invariant.ranges c.nodes_stand_once.ensures.distinct o
+    c.on_split.new.self c.self.invariant.ranges c.law_nodes_stand_once.ensures.distinct o
     (owner_there f c.self.invariant c.self.view_is c.args.node c.requires.node_is_node) c.args.node c.args.offset c.args.new c.args.parent c.args.index
     (known f c.self.invariant c.self.view_is (λ e. c.args.node < length e.names) c.requires.node_is_node)
     (known f c.self.invariant c.self.view_is (λ e. c.args.new < length e.names) c.requires.new_is_node)

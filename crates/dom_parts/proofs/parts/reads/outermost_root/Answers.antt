@@ -22,7 +22,7 @@ loop-left-preserved c =
     let hosts = c.args.slots.now.hosts in
     let s = shadows f hosts in
     let named : host_named f.names hosts (name_at f.names c.loop-left.root) ≡ Some (name_at f.names c.in-Some.host) =
-    sym (host-named f.names c.nodes_stand_once.ensures.distinct hosts c.requires.hosts c.loop-left.root c.loop-left.invariant.0) ∙
+    sym (host-named f.names c.law_nodes_stand_once.ensures.distinct hosts c.requires.hosts c.loop-left.root c.loop-left.invariant.0) ∙
     ap (option_map (name_at f.names)) (sym c.host_of.ensures ∙ c.in-Some.is) in
     let one_less : suc (c.loop-left.left - 1) ≡ c.loop-left.left = (let some = c.loop-left-test.true in omega arith) in (
       c.root-root-in-loop-left.ensures.node,
@@ -39,7 +39,7 @@ returns-in_default-clause-value c =
     let f = c.args.forest.now in
     let hosts = c.args.slots.now.hosts in
     let named : host_named f.names hosts (name_at f.names c.loop-left.root) ≡ None =
-    sym (host-named f.names c.nodes_stand_once.ensures.distinct hosts c.requires.hosts c.loop-left.root c.loop-left.invariant.0) ∙
+    sym (host-named f.names c.law_nodes_stand_once.ensures.distinct hosts c.requires.hosts c.loop-left.root c.loop-left.invariant.0) ∙
     ap (option_map (name_at f.names)) (sym c.host_of.ensures ∙ c.in_default.is) in
     sym (outermost_none (shadows f hosts) c.loop-left.left (name_at f.names c.loop-left.root) named) ∙ c.loop-left.invariant.1
 

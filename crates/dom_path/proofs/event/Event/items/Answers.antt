@@ -19,7 +19,7 @@ loop-next-preserved c =
     let x = c.in-Some.at in
     let so_far = subst (IsTrack f hosts t r e.composed trees items) c.in-Some.is c.loop-next.invariant.track in
     let item = subst (IsItemOf f hosts t r trees) (sym c.item.ensures)
-    (item-made f hosts c.nodes_stand_once.ensures.distinct trees c.loop-next.invariant.are e.target e.related x c.loop-next.invariant.event
+    (item-made f hosts c.law_nodes_stand_once.ensures.distinct trees c.loop-next.invariant.are e.target e.related x c.loop-next.invariant.event
     (so_far.place x refl)) in
     record {
       track = track-more f hosts t r e.composed trees new items x c.item.result c.push.new.self.items c.in_ok-next.next so_far

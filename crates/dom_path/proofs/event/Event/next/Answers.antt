@@ -31,7 +31,7 @@ returns-then-ends_before-clause-value c = λ depth hosted.
     let y = name_at f.names x.node in
     let event = event-kept f hosts c.args.trees.now new e.target e.related c.in_ok-above.ensures.grown c.requires.event in
     let ends : ends_at (shadows f hosts) depth t r y ≡ true =
-    sym (ends-named f hosts c.nodes_stand_once.ensures.distinct new c.in_ok-above.ensures.trees depth hosted e.target e.related x event.at_target
+    sym (ends-named f hosts c.law_nodes_stand_once.ensures.distinct new c.in_ok-above.ensures.trees depth hosted e.target e.related x event.at_target
     event.at_related
     (c.in_ok-above.ensures.stands x c.in-Some.is)) ∙ sym c.if-ends_before.ensures in
     let both : Some (name_at f.names c.at-top.result.root) ≡ Some (root_of f.trees t) =
@@ -55,7 +55,7 @@ returns-clause-value c = λ depth hosted.
     let y = name_at f.names x.node in
     let event = event-kept f hosts c.args.trees.now new e.target e.related c.in_ok-above.ensures.grown c.requires.event in
     let ends : ends_at (shadows f hosts) depth t r y ≡ false =
-    sym (ends-named f hosts c.nodes_stand_once.ensures.distinct new c.in_ok-above.ensures.trees depth hosted e.target e.related x event.at_target
+    sym (ends-named f hosts c.law_nodes_stand_once.ensures.distinct new c.in_ok-above.ensures.trees depth hosted e.target e.related x event.at_target
     event.at_related
     (c.in_ok-above.ensures.stands x c.in-Some.is)) ∙ sym c.if-ends_before.ensures in
     let both : Some (name_at f.names c.at-top.result.root) ≡ Some (root_of f.trees t) =

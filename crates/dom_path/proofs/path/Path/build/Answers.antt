@@ -18,9 +18,9 @@ returns-clause-items c = λ w is.
     let trees = c.items_of.new.trees in
     let all = c.in_ok-items.items.items in
     let hosted = world-hosted f hosts w is in
-    let shown = path-shown f hosts c.nodes_stand_once.ensures.distinct t r c.args.composed trees c.in_ok-items.ensures.trees max_depth hosted all
+    let shown = path-shown f hosts c.law_nodes_stand_once.ensures.distinct t r c.args.composed trees c.in_ok-items.ensures.trees max_depth hosted all
     c.in_ok-items.ensures.each (c.in_ok-items.ensures.path max_depth hosted) in
-    (in-world f hosts w is t r c.args.composed (c.nodes_stand_once.ensures.present c.args.target c.requires.target_is_node)
+    (in-world f hosts w is t r c.args.composed (c.law_nodes_stand_once.ensures.present c.args.target c.requires.target_is_node)
     (map (item_named f.names) all) (map (view_named f.names) (map (view_in trees all) all)) shown).0
 
 pub returns-clause-views : goal.returns-clause-views
@@ -32,9 +32,9 @@ returns-clause-views c = λ w is.
     let trees = c.items_of.new.trees in
     let all = c.in_ok-items.items.items in
     let hosted = world-hosted f hosts w is in
-    let shown = path-shown f hosts c.nodes_stand_once.ensures.distinct t r c.args.composed trees c.in_ok-items.ensures.trees max_depth hosted all
+    let shown = path-shown f hosts c.law_nodes_stand_once.ensures.distinct t r c.args.composed trees c.in_ok-items.ensures.trees max_depth hosted all
     c.in_ok-items.ensures.each (c.in_ok-items.ensures.path max_depth hosted) in
-    (in-world f hosts w is t r c.args.composed (c.nodes_stand_once.ensures.present c.args.target c.requires.target_is_node)
+    (in-world f hosts w is t r c.args.composed (c.law_nodes_stand_once.ensures.present c.args.target c.requires.target_is_node)
     (map (item_named f.names) all) (map (view_named f.names) (map (view_in trees all) all)) shown).1
 
 pub returns-clause-nodes : goal.returns-clause-nodes
@@ -54,6 +54,6 @@ returns-clause-hosted c = λ depth hosted.
     let f = c.args.forest.now in
     let t = name_at f.names c.args.target in
     let r = option_map (name_at f.names) c.args.related in
-    path-shown f c.args.slots.now.hosts c.nodes_stand_once.ensures.distinct t r c.args.composed c.items_of.new.trees c.in_ok-items.ensures.trees
+    path-shown f c.args.slots.now.hosts c.law_nodes_stand_once.ensures.distinct t r c.args.composed c.items_of.new.trees c.in_ok-items.ensures.trees
     depth hosted c.in_ok-items.items.items c.in_ok-items.ensures.each
     (c.in_ok-items.ensures.path depth hosted)

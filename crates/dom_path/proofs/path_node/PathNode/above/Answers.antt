@@ -12,5 +12,5 @@ returns-then-composed-clause-value c =
       | then-composed-via-else-composed+then-ne w ↦ or-second c.args.composed _ (sym w.if-ne.ensures)
     ] in
     c.outside.ensures.value
-    ∙ up-host c.args.forest.now c.args.slots.now.hosts c.nodes_stand_once.ensures.distinct c.args.composed c.args.top c.args.trees.now
+    ∙ up-host c.args.forest.now c.args.slots.now.hosts c.law_nodes_stand_once.ensures.distinct c.args.composed c.args.top c.args.trees.now
     c.args.self.now c.requires.stands c.requires.top_is_node c.if-self.true opened

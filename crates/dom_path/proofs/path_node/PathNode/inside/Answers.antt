@@ -14,7 +14,7 @@ returns-in_default-slot_below-clause-stands c = λ x e.
     let self = c.args.self.now in
     let trees = c.args.trees.now in
     let parent = c.in-Some.parent in
-    let e' = c.nodes_stand_once.ensures in
+    let e' = c.law_nodes_stand_once.ensures in
     let same : c.in_tree.result ≡ x = cc in
     subst (IsPathNode f hosts trees) same
     (stand-made f hosts trees c.in_tree.result parent self.tree c.in_tree.ensures.node c.in_tree.ensures.tree c.in_tree.ensures.shadow
@@ -31,7 +31,7 @@ returns-clause-trees c =
     let parent = c.in-Some.parent in
     let root = c.in-Some-slot_below.below.root in
     let below = c.in-Some-slot_below.ensures.below c.in-Some-slot_below.below refl in
-    let e' = c.nodes_stand_once.ensures in
+    let e' = c.law_nodes_stand_once.ensures in
     let put : Tree = record { root = root; host = Some parent; outer = self.tree } in
     subst (AreTrees f hosts) (sym c.in_ok-tree.ensures.trees)
     (trees-more f hosts trees put c.requires.trees (let w = c.requires.stands.within in record { within = omega (arith, w); behind = λ _. w })
@@ -50,7 +50,7 @@ returns-clause-stands c = λ x e.
     let root = c.in-Some-slot_below.below.root in
     let slot = c.in-Some-slot_below.below.slot in
     let below = c.in-Some-slot_below.ensures.below c.in-Some-slot_below.below refl in
-    let e' = c.nodes_stand_once.ensures in
+    let e' = c.law_nodes_stand_once.ensures in
     let put : Tree = record { root = root; host = Some parent; outer = self.tree } in
     let new = c.push.new.self in
     let grown : new ≡ trees ++ put ∷ [] = c.in_ok-tree.ensures.trees in

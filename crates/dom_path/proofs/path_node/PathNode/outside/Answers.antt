@@ -15,7 +15,7 @@ returns-in_err-host-clause-value c =
     let none : c.host_of.result ≡ None = c.in_err-host.was in
     ap (option_map (λ (x : PathNode). name_at f.names x.node)) c.from_residual.ensures
     ∙ ap (option_map (name_at f.names)) (sym none ∙ c.host_of.ensures)
-    ∙ host-named f.names c.nodes_stand_once.ensures.distinct c.args.slots.now.hosts c.requires.slots.hosts c.args.self.now.node c.requires.stands.node
+    ∙ host-named f.names c.law_nodes_stand_once.ensures.distinct c.args.slots.now.hosts c.requires.slots.hosts c.args.self.now.node c.requires.stands.node
 
 pub in_tree-requires : goal.in_tree-requires
 in_tree-requires c = host-node c.args.forest.now.names c.args.slots.now.hosts c.requires.slots.hosts c.args.self.now.node c.in_ok-host.host
@@ -28,7 +28,7 @@ returns-clause-stands c = λ x e.
     let self = c.args.self.now in
     let host = c.in_ok-host.host in
     let trees = c.args.trees.now in
-    let e' = c.nodes_stand_once.ensures in
+    let e' = c.law_nodes_stand_once.ensures in
     let named = sym (host-named f.names e'.distinct hosts c.requires.slots.hosts self.node c.requires.stands.node) ∙
     ap (option_map (name_at f.names)) (sym c.in_ok-host.ensures) in
     let same : c.in_tree.result ≡ x = cc in
@@ -45,4 +45,4 @@ returns-clause-value c =
     let f = c.args.forest.now in
     ap (λ k. Some (name_at f.names k)) c.in_tree.ensures.node
     ∙ ap (option_map (name_at f.names)) c.in_ok-host.ensures
-    ∙ host-named f.names c.nodes_stand_once.ensures.distinct c.args.slots.now.hosts c.requires.slots.hosts c.args.self.now.node c.requires.stands.node
+    ∙ host-named f.names c.law_nodes_stand_once.ensures.distinct c.args.slots.now.hosts c.requires.slots.hosts c.args.self.now.node c.requires.stands.node

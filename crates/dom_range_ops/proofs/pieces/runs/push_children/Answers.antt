@@ -12,7 +12,7 @@ use Rattle.dom_range_ops.proofs.pieces.runs.push_children.Goals as goal
 pub returns-then-behind : goal.returns-then-behind
 returns-then-behind c =
     let f = c.args.forest.now in
-    let e = c.nodes_stand_once.ensures in
+    let e = c.law_nodes_stand_once.ensures in
     let p = name_at f.names c.args.point.0 in
     let n = c.args.point.1 in
     let kids = children_of f.trees p in
@@ -24,7 +24,7 @@ returns-then-behind c =
 pub returns : goal.returns
 returns c =
     let f = c.args.forest.now in
-    let e = c.nodes_stand_once.ensures in
+    let e = c.law_nodes_stand_once.ensures in
     let p = name_at f.names c.args.point.0 in
     let n = c.args.point.1 in
     let kids = children_of f.trees p in

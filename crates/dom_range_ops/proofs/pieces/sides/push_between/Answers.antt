@@ -25,7 +25,7 @@ returns-then-is_before c =
 pub returns : goal.returns
 returns c =
     let f = c.args.forest.now in
-    let e = c.nodes_stand_once.ensures in
+    let e = c.law_nodes_stand_once.ensures in
     let points = c.args.points.now in
     let r = range_at_points f.names points in
     let w = c.requires.paths in

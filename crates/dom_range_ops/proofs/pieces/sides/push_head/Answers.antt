@@ -12,7 +12,7 @@ use Rattle.dom_range_ops.proofs.pieces.sides.push_head.Goals as goal
 pub returns-in_ok-push_siblings : goal.returns-in_ok-push_siblings
 returns-in_ok-push_siblings c =
     let f = c.args.forest.now in
-    let e = c.nodes_stand_once.ensures in
+    let e = c.law_nodes_stand_once.ensures in
     let p = name_at f.names c.args.node in
     let x = name_at f.names c.args.child in
     let kids = children_of f.trees p in

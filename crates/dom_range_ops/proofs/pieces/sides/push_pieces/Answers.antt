@@ -14,7 +14,7 @@ use Rattle.dom_range_ops.proofs.pieces.sides.push_pieces.Goals as goal
 pub returns : goal.returns
 returns c =
     let f = c.args.forest.now in
-    let e = c.nodes_stand_once.ensures in
+    let e = c.law_nodes_stand_once.ensures in
     let points = c.args.points.now in
     let r = range_at_points f.names points in
     let w = c.requires.paths in

@@ -13,7 +13,7 @@ use Rattle.dom_range_ops.proofs.pieces.sides.push_tail.Goals.{then-behind+in_ok-
 pub returns : goal.returns
 returns c =
     let f = c.args.forest.now in
-    let e = c.nodes_stand_once.ensures in
+    let e = c.law_nodes_stand_once.ensures in
     let x = name_at f.names c.args.child in
     let later = items_after name_eq x (siblings f.trees x) in
     let old = c.args.pieces.now.items in

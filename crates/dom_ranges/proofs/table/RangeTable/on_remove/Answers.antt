@@ -18,7 +18,7 @@ returns-in-Some-clause-named c =
     let x = name_at f.names c.args.node in
     let rs = named_ranges f.names (ranges_of c.args.self.now o) in
     ap (named_ranges f.names) (c.remove_child.ensures o)
-    ∙ ((removal-named f c.nodes_stand_once.ensures.distinct c.args.node c.in-Some.parent (index_of f.trees x)
+    ∙ ((removal-named f c.law_nodes_stand_once.ensures.distinct c.args.node c.in-Some.parent (index_of f.trees x)
     (c.in-Some.ensures.node c.in-Some.parent refl)).0 (ranges_of c.args.self.now o) (c.requires.ends o)
     ∙ ap (λ (p : Option NodeName). option_map_or
     (λ parent. named_ends_by (after_removal name_eq (is_inclusive_ancestor f.trees x) parent (index_of f.trees x)) rs) p rs)

@@ -16,7 +16,7 @@ use Rattle.dom_selectors.proofs.selector.Selector.query_all.Goals.{then-matches+
 
 pub following-at-requires-clause-within : goal.following-at-requires-clause-within
 following-at-requires-clause-within c = above-itself c.args.forest.now.trees (name_at c.args.forest.now.names c.args.top)
-    (c.nodes_stand_once.ensures.once c.args.top c.requires)
+    (c.law_nodes_stand_once.ensures.once c.args.top c.requires)
 
 pub loop-at-init : goal.loop-at-init
 loop-at-init c =
@@ -24,8 +24,8 @@ loop-at-init c =
     let top = name_at f.names c.args.top in
     let test : NodeName → Bool = selector_matches f.trees (selector_view c.args.self.now) in
     let here : StandsIn f c.args.top c.args.top =
-    record { node = c.requires; within = above-itself f.trees top (c.nodes_stand_once.ensures.once c.args.top c.requires) } in
-    let step = following_step f c.nodes_stand_once.ensures.once c.nodes_stand_once.ensures.only c.args.top c.args.top c.following-at.result here
+    record { node = c.requires; within = above-itself f.trees top (c.law_nodes_stand_once.ensures.once c.args.top c.requires) } in
+    let step = following_step f c.law_nodes_stand_once.ensures.once c.law_nodes_stand_once.ensures.only c.args.top c.args.top c.following-at.result here
     c.following-at.ensures.value c.following-at.ensures.node in
     let left = filter test (from_node f.trees top (option_map (name_at f.names) c.following-at.result)) in
     record {
@@ -33,13 +33,13 @@ loop-at-init c =
       nodes = subst (All (λ k. k < length f.names)) (sym c.new-found.ensures.items) (λ k d h. absurd (omega (arith, h)));
       all = ap (λ xs. map (name_at f.names) xs ++ left) c.new-found.ensures.items
           ∙ ap (filter test) (sym step.0 ∙
-          behind_top f.trees top (IsWithin-key f c.nodes_stand_once.ensures.once c.nodes_stand_once.ensures.only c.args.top c.args.top here));
+          behind_top f.trees top (IsWithin-key f c.law_nodes_stand_once.ensures.once c.law_nodes_stand_once.ensures.only c.args.top c.args.top here));
     }
 
 pub loop-at-smaller : goal.loop-at-smaller
 loop-at-smaller c =
     let f = c.args.forest.now in
-    let step = following_step f c.nodes_stand_once.ensures.once c.nodes_stand_once.ensures.only c.args.top c.in-Some.key
+    let step = following_step f c.law_nodes_stand_once.ensures.once c.law_nodes_stand_once.ensures.only c.args.top c.in-Some.key
     c.following-at-in-Some.result (c.loop-at.invariant.stands c.in-Some.key c.in-Some.is) c.following-at-in-Some.ensures.value
     c.following-at-in-Some.ensures.node in
     length-behind f c.args.top c.in-Some.key c.loop-at.at c.following-at-in-Some.result c.in-Some.is step.0
@@ -50,7 +50,7 @@ loop-at-preserved c =
     let top = name_at f.names c.args.top in
     let test : NodeName → Bool = selector_matches f.trees (selector_view c.args.self.now) in
     let stands = c.loop-at.invariant.stands c.in-Some.key c.in-Some.is in
-    let step = following_step f c.nodes_stand_once.ensures.once c.nodes_stand_once.ensures.only c.args.top c.in-Some.key
+    let step = following_step f c.law_nodes_stand_once.ensures.once c.law_nodes_stand_once.ensures.only c.args.top c.in-Some.key
     c.following-at-in-Some.result stands c.following-at-in-Some.ensures.value c.following-at-in-Some.ensures.node in
     let next = from_node f.trees top (option_map (name_at f.names) c.following-at-in-Some.result) in
     let before : map (name_at f.names) c.loop-at.found.items ++ filter test (name_at f.names c.in-Some.key ∷ next) ≡ _ =

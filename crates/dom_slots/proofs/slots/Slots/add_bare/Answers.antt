@@ -21,4 +21,4 @@ returns-in_ok-add_once c =
     let next = c.add_once.new.signals.items in
     subst (λ ys. AreRenewed f hosts p old done (told ++ ys) table next)
     (both (y ∷ []) (is_move c.args.step) (is_bare_at (shadows f hosts) y) (sym c.if-is_move.ensures) (sym c.in_ok-is_bare.ensures ∙ c.if-branch.true))
-    (told-more r c.nodes_stand_once.ensures.distinct next c.args.around c.requires.around c.in_ok-add_once.ensures)
+    (told-more r c.law_nodes_stand_once.ensures.distinct next c.args.around c.requires.around c.in_ok-add_once.ensures)

@@ -19,7 +19,7 @@ returns-in-Some-clause-value c =
     let y = name_at f.names c.args.slot in
     let hosted : option_map (name_at f.names) c.host_of.result ≡ host_named f.names hosts (root_of f.trees y) =
     ap (option_map (name_at f.names)) c.host_of.ensures ∙
-    (host-named f.names c.nodes_stand_once.ensures.distinct hosts c.requires.hosts c.root.result c.root.ensures.node ∙
+    (host-named f.names c.law_nodes_stand_once.ensures.distinct hosts c.requires.hosts c.root.result c.root.ensures.node ∙
     ap (host_named f.names hosts) c.root.ensures.value) in
     subst (λ xs. IfOk c.assigned_under.result (λ keys. map (name_at f.names) keys.items ≡ xs))
     (ap (λ o. option_map_or (assigned_under (shadows f hosts) y) o []) (ap (option_map (name_at f.names)) (sym c.in-Some.is) ∙ hosted))
@@ -32,7 +32,7 @@ returns-in-None-clause-value c =
     let y = name_at f.names c.args.slot in
     let hosted : option_map (name_at f.names) c.host_of.result ≡ host_named f.names hosts (root_of f.trees y) =
     ap (option_map (name_at f.names)) c.host_of.ensures ∙
-    (host-named f.names c.nodes_stand_once.ensures.distinct hosts c.requires.hosts c.root.result c.root.ensures.node ∙
+    (host-named f.names c.law_nodes_stand_once.ensures.distinct hosts c.requires.hosts c.root.result c.root.ensures.node ∙
     ap (host_named f.names hosts) c.root.ensures.value) in
     ap (map (name_at f.names)) c.new.ensures.items ∙ ap (λ o. option_map_or (assigned_under (shadows f hosts) y) o [])
     (ap (option_map (name_at f.names)) (sym c.in-None.is) ∙ hosted)

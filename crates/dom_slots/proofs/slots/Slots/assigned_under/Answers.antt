@@ -21,7 +21,7 @@ pub loop-at-init : goal.loop-at-init
 loop-at-init c =
     let f = c.args.forest.now in
     let h = name_at f.names c.args.host in
-    let e = c.nodes_stand_once.ensures in
+    let e = c.law_nodes_stand_once.ensures in
     let test : NodeName → Bool = is_assigned_at (shadows f c.args.self.now.hosts) (name_at f.names c.args.slot) in
     let step = first_step f (Once-forest f e.once e.only) h (Has-forest f e.once c.args.host c.requires.host_is_node) c.first-at.result
     c.first-at.ensures.value c.first-at.ensures.node in
@@ -43,7 +43,7 @@ pub loop-at-smaller : goal.loop-at-smaller
 loop-at-smaller c =
     let f = c.args.forest.now in
     let h = name_at f.names c.args.host in
-    let e = c.nodes_stand_once.ensures in
+    let e = c.law_nodes_stand_once.ensures in
     let k = c.in-Some.child in
     let child = c.loop-at.invariant.child k c.in-Some.is in
     let step = next_step f (Once-forest f e.once e.only) h (Has-forest f e.once c.args.host c.requires.host_is_node) k child
@@ -54,7 +54,7 @@ pub loop-at-preserved : goal.loop-at-preserved
 loop-at-preserved c =
     let f = c.args.forest.now in
     let h = name_at f.names c.args.host in
-    let e = c.nodes_stand_once.ensures in
+    let e = c.law_nodes_stand_once.ensures in
     let k = c.in-Some.child in
     let child = c.loop-at.invariant.child k c.in-Some.is in
     let step = next_step f (Once-forest f e.once e.only) h (Has-forest f e.once c.args.host c.requires.host_is_node) k child
@@ -97,7 +97,7 @@ returns-then-not-is_first-clause-value c =
     let s = shadows f c.args.self.now.hosts in
     let h = name_at f.names c.args.host in
     let y = name_at f.names c.args.slot in
-    let e = c.nodes_stand_once.ensures in
+    let e = c.law_nodes_stand_once.ensures in
     let once = Once-forest f e.once e.only in
     let own = slot_name (node_in f.trees y) in
     ap (map (name_at f.names)) c.new-keys.ensures.items

@@ -98,7 +98,7 @@ module _ (c : After-moved_signals) where
   s = c.args.self.now
 
   stands : StandsOnce c.args.forest.now
-  stands = record { once = c.nodes_stand_once.ensures.once; only = c.nodes_stand_once.ensures.only }
+  stands = record { once = c.law_nodes_stand_once.ensures.once; only = c.law_nodes_stand_once.ensures.only }
 
   hosts_are : hosts_in c.self.inside.hosts.items ≡ c.args.self.now.hosts
   hosts_are = ap (λ (t : SlotsNow). t.hosts) c.self.view_is
@@ -119,7 +119,7 @@ module _ (c : After-moved_signals) where
         (hosts_in c.self.inside.hosts.items) c.self.inside.table (begun_in c.in-Some.begun) hosts_are
         (ap (λ (t : SlotsNow). t.table) c.self.view_is) same
         (c.moved_signals.ensures.renewed (is_changed_at (shadow_trees f.names was s.hosts) (shadows f s.hosts)))
-        (apart-but-for was f s b h stands apart c.nodes_stand_once.ensures.distinct)
+        (apart-but-for was f s b h stands apart c.law_nodes_stand_once.ensures.distinct)
 
 pub returns-in-Some-clause-value : goal.returns-in-Some-clause-value
 returns-in-Some-clause-value c = λ was b h. IfOk-weaker c.moved_signals.result _ _
@@ -149,7 +149,7 @@ module _ (c : After-inside_signals) where
   s_in = c.args.self.now
 
   stands_in : StandsOnce c.args.forest.now
-  stands_in = record { once = c.nodes_stand_once.ensures.once; only = c.nodes_stand_once.ensures.only }
+  stands_in = record { once = c.law_nodes_stand_once.ensures.once; only = c.law_nodes_stand_once.ensures.only }
 
   hosts_in_are : hosts_in c.self.inside.hosts.items ≡ c.args.self.now.hosts
   hosts_in_are = ap (λ (t : SlotsNow). t.hosts) c.self.view_is
@@ -167,7 +167,7 @@ module _ (c : After-inside_signals) where
       (begun-same c.take.result c.in-Some.begun b c.in-Some.is
       (ap (option_map begun_in) c.take.ensures.value ∙ (ap (λ (t : SlotsNow). t.begun) c.self.view_is ∙ h.begun)))
       (c.inside_signals.ensures.renewed (is_changed_at (shadow_trees f_in.names was s_in.hosts) (shadows f_in s_in.hosts)))
-      (inside-but-for was f_in s_in b h stands_in c.nodes_stand_once.ensures.distinct)
+      (inside-but-for was f_in s_in b h stands_in c.law_nodes_stand_once.ensures.distinct)
 
 pub returns-in-Some-2-clause-value : goal.returns-in-Some-2-clause-value
 returns-in-Some-2-clause-value c = λ was b h. IfOk-weaker c.inside_signals.result _ _

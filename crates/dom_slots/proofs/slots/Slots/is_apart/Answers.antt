@@ -20,7 +20,7 @@ returns-then-is_outside c =
     let hosted : option_map (name_at f.names) c.host_of.result ≡ host_named f.names hosts x =
     ap (option_map (name_at f.names)) c.host_of.ensures
     ∙ (ap (λ k. option_map (name_at f.names) (host_of_root hosts k)) c.node-node.ensures
-    ∙ host-named f.names c.nodes_stand_once.ensures.distinct hosts c.requires.hosts (step_node c.args.step)
+    ∙ host-named f.names c.law_nodes_stand_once.ensures.distinct hosts c.requires.hosts (step_node c.args.step)
     (node-within f.names c.args.step c.requires.nodes)) in
     let last = is_outside (shadows f hosts) (parent_of f.trees x) in
     let up : c.is_outside-then-is_outside.result ≡ last =
@@ -45,7 +45,7 @@ returns-else-is_outside c =
     let hosted : option_map (name_at f.names) c.host_of.result ≡ host_named f.names hosts x =
     ap (option_map (name_at f.names)) c.host_of.ensures
     ∙ (ap (λ k. option_map (name_at f.names) (host_of_root hosts k)) c.node-node.ensures
-    ∙ host-named f.names c.nodes_stand_once.ensures.distinct hosts c.requires.hosts (step_node c.args.step)
+    ∙ host-named f.names c.law_nodes_stand_once.ensures.distinct hosts c.requires.hosts (step_node c.args.step)
     (node-within f.names c.args.step c.requires.nodes)) in
     let last = is_outside (shadows f hosts) (parent_of f.trees x) in
     elim c.if-is_none.branch [

@@ -32,7 +32,7 @@ returns-then-not-is_slot c =
       | then-not-is_slot-via-else-not-is_slot+then-is_none w ↦
           let found : option_map (name_at f.names) w.host_of.result ≡ host_named f.names hosts (root_of f.trees y) =
           ap (option_map (name_at f.names)) w.host_of.ensures ∙
-          (host-named f.names c.nodes_stand_once.ensures.distinct hosts c.requires.hosts w.root.result w.root.ensures.node ∙
+          (host-named f.names c.law_nodes_stand_once.ensures.distinct hosts c.requires.hosts w.root.result w.root.ensures.node ∙
           ap (host_named f.names hosts) w.root.ensures.value) in
           second-fails (is_slot_element (node_in f.trees y)) hosted rest
           (sym (ap is_some found) ∙ (sym (is_some-named (name_at f.names) w.host_of.result) ∙ (w.is_none.ensures ∙ ap not w.if-is_none.true)))
@@ -47,7 +47,7 @@ returns c =
     let rest = is_empty (assigned_at (shadows f hosts) y) in
     let found : option_map (name_at f.names) c.host_of.result ≡ host_named f.names hosts (root_of f.trees y) =
     ap (option_map (name_at f.names)) c.host_of.ensures ∙
-    (host-named f.names c.nodes_stand_once.ensures.distinct hosts c.requires.hosts c.root.result c.root.ensures.node ∙
+    (host-named f.names c.law_nodes_stand_once.ensures.distinct hosts c.requires.hosts c.root.result c.root.ensures.node ∙
     ap (host_named f.names hosts) c.root.ensures.value) in
     let long : vec_len c.in_ok-list.list ≡ length c.in_ok-list.list.items = omega (arith, c.in_ok-list.list.ok) in
     c.is_empty.ensures ∙ (ap (λ n. n == 0) long ∙ (is_empty-named f.names c.in_ok-list.list.items ∙ (ap is_empty c.in_ok-list.ensures.value

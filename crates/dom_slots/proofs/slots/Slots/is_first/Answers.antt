@@ -19,7 +19,7 @@ returns-in-Some c =
     let f = c.args.forest.now in
     let hosts = c.args.self.now.hosts in
     let y = name_at f.names c.args.slot in
-    let apart = c.nodes_stand_once.ensures.distinct in
+    let apart = c.law_nodes_stand_once.ensures.distinct in
     let root = name_at f.names c.in-Some.root in
     let first : NodeName → DomString → Option NodeName = λ r a. option_map (λ (n : Node). n.name) (find (has_slot_name a) (nodes (subtree f.trees r))) in
     let at : Some root ≡ root_named f.names hosts (name_at f.names c.args.host) =
@@ -36,6 +36,6 @@ returns-in-None c =
     let y = name_at f.names c.args.slot in
     let first : NodeName → DomString → Option NodeName = λ r a. option_map (λ (n : Node). n.name) (find (has_slot_name a) (nodes (subtree f.trees r))) in
     let at : None ≡ root_named f.names hosts (name_at f.names c.args.host) =
-    ap (option_map (name_at f.names)) (sym c.in-None.is ∙ c.root_of.ensures) ∙ root-named f.names c.nodes_stand_once.ensures.distinct hosts
+    ap (option_map (name_at f.names)) (sym c.in-None.is ∙ c.root_of.ensures) ∙ root-named f.names c.law_nodes_stand_once.ensures.distinct hosts
     c.requires.hosts c.args.host c.requires.host_is_node in
     ap (λ o. is_in name_eq y (option_to_list (option_and_then (λ r. first r (slot_name (node_in f.trees y))) o))) at

@@ -16,7 +16,7 @@ returns-in-Some c =
       name c.in-Some.host,
       sym (ap (option_map name) (sym c.in-Some.is) ∙
           (ap (option_map name) c.host_of.ensures ∙
-          (host-named f.names c.nodes_stand_once.ensures.distinct hosts c.requires.hosts c.root.result c.root.ensures.node ∙
+          (host-named f.names c.law_nodes_stand_once.ensures.distinct hosts c.requires.hosts c.root.result c.root.ensures.node ∙
           ap (host_named f.names hosts) c.root.ensures.value))),
       sym c.parent.ensures.value ∙ ap (option_map name) up,
     )

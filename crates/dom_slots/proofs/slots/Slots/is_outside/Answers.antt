@@ -15,7 +15,7 @@ returns-in-Some c =
     let name = name_at f.names in
     let hosted : option_map name c.host_of.result ≡ host_named f.names hosts (root_of f.trees (name c.in-Some.key)) =
     ap (option_map name) c.host_of.ensures
-    ∙ (host-named f.names c.nodes_stand_once.ensures.distinct hosts c.requires.hosts c.root.result c.root.ensures.node ∙
+    ∙ (host-named f.names c.law_nodes_stand_once.ensures.distinct hosts c.requires.hosts c.root.result c.root.ensures.node ∙
     ap (host_named f.names hosts) c.root.ensures.value) in
     is_none-named name c.host_of.result _ c.is_none.result c.is_none.ensures hosted ∙ ap (λ o. is_outside (shadows f hosts) (option_map name o))
     (sym c.in-Some.is)

@@ -18,7 +18,7 @@ pub returns-clause-renewed : goal.returns-clause-renewed
 returns-clause-renewed c =
     λ p old done told right r.
     let f = c.args.forest.now in
-    let e = c.nodes_stand_once.ensures in
+    let e = c.law_nodes_stand_once.ensures in
     let once = Once-forest f e.once e.only in
     let s = c.args.self.now in
     let k = c.in-Some.key in

@@ -30,7 +30,7 @@ returns-then-not-take_out-clause-renewed c =
     let lists = λ (j : ℕ). c.take_out.ensures.lists j ∙ ap (λ (t : SlotTable). if nat_eq k j then without node (list_of t j) else list_of t j) tables in
     subst (λ o. AreRenewed f s.hosts p old (done ++ option_to_list (option_map (name_at f.names) o))
     (told ++ filter p (option_to_list (option_map (name_at f.names) o))) c.take_out.new.self keys) (sym c.in-Some.is)
-    (renewed-more f c.nodes_stand_once.ensures.distinct s.hosts p old done told s.table keys r k (c.requires.slot k c.in-Some.is) list
+    (renewed-more f c.law_nodes_stand_once.ensures.distinct s.hosts p old done told s.table keys r k (c.requires.slot k c.in-Some.is) list
     (right k c.in-Some.is) (All-filter (λ j. not (j == node)) (λ j. j < length f.names) (list_of s.table k) (r.nodes k)) c.take_out.new.self
     (at-slot (without node) k s.table c.take_out.new.self lists) keys (ap (λ b. if b then append_once nat_eq keys k else keys) differs))
 
@@ -53,7 +53,7 @@ returns-clause-renewed c =
     (λ (is : c.add_once.new.signals.items ≡ append_once nat_eq keys k).
     subst (λ o. AreRenewed f s.hosts p old (done ++ option_to_list (option_map (name_at f.names) o))
     (told ++ filter p (option_to_list (option_map (name_at f.names) o))) c.take_out.new.self c.add_once.new.signals.items) (sym c.in-Some.is)
-    (renewed-more f c.nodes_stand_once.ensures.distinct s.hosts p old done told s.table keys r k (c.requires.slot k c.in-Some.is) list
+    (renewed-more f c.law_nodes_stand_once.ensures.distinct s.hosts p old done told s.table keys r k (c.requires.slot k c.in-Some.is) list
     (right k c.in-Some.is) (All-filter (λ j. not (j == node)) (λ j. j < length f.names) (list_of s.table k) (r.nodes k)) c.take_out.new.self
     (at-slot (without node) k s.table c.take_out.new.self lists) c.add_once.new.signals.items
     (is ∙ ap (λ b. if b then append_once nat_eq keys k else keys) differs))) c.add_once.ensures

@@ -26,7 +26,7 @@ returns-then-eq-clause-renewed c =
     let still = sym c.is_move.ensures ∙ c.if-is_move.false in
     subst (λ keys. AreRenewed f s.hosts p s.table (own_slots f s.hosts slot step) (filter p (own_slots f s.hosts slot step)) s.table keys)
     (sym c.requires.signals)
-    (both-stay f c.nodes_stand_once.ensures.distinct s.hosts step (node-within f.names step c.requires.nodes) slot c.slot_now-slot.result
+    (both-stay f c.law_nodes_stand_once.ensures.distinct s.hosts step (node-within f.names step c.requires.nodes) slot c.slot_now-slot.result
     c.slot_now-slot.ensures.node own c.requires.slot p s.table
     (but.stays still (ap (option_map (name_at f.names)) (sym same) ∙ own)) start)
 
@@ -34,7 +34,7 @@ pub returns-clause-renewed : goal.returns-clause-renewed
 returns-clause-renewed c =
     λ p but start.
     let f = c.args.forest.now in
-    let distinct = c.nodes_stand_once.ensures.distinct in
+    let distinct = c.law_nodes_stand_once.ensures.distinct in
     let s = c.args.self.now in
     let step = c.args.begun.step in
     let slot = c.args.begun.slot in

@@ -18,7 +18,7 @@ returns-in_ok-add_once-clause-renewed c =
     sym c.if-has_other.true ∙ (c.has_other.ensures ∙
     (ap (λ (t : SlotTable). not (list_eq nat_eq (list_of t k) c.deref.result.now)) tables ∙
     ap (λ ks. not (list_eq nat_eq (list_of s.table k) ks)) c.deref.ensures.value)) in
-    renewed-more f c.nodes_stand_once.ensures.distinct s.hosts p old done told s.table c.args.signals.now.items r k c.requires.node list
+    renewed-more f c.law_nodes_stand_once.ensures.distinct s.hosts p old done told s.table c.args.signals.now.items r k c.requires.node list
     c.in_ok-list.ensures.value c.in_ok-list.ensures.nodes c.insert.new.self
     (λ j. c.in_ok-insert.ensures j ∙ ap (λ (t : SlotTable). if nat_eq k j then list else list_of t j) tables) c.add_once.new.signals.items
     (c.in_ok-add_once.ensures ∙ ap (λ b. if b then append_once nat_eq c.args.signals.now.items k else c.args.signals.now.items) told_true)
@@ -31,7 +31,7 @@ returns-else-has_other-clause-renewed c =
     let k = c.args.slot in
     let list = c.in_ok-list.list.items in
     let tables : c.self.inside.table ≡ s.table = ap (λ (t : SlotsNow). t.table) c.self.view_is in
-    renewed-stays f c.nodes_stand_once.ensures.distinct s.hosts p old done told s.table c.args.signals.now.items r k c.requires.node list
+    renewed-stays f c.law_nodes_stand_once.ensures.distinct s.hosts p old done told s.table c.args.signals.now.items r k c.requires.node list
     c.in_ok-list.ensures.value c.in_ok-list.ensures.nodes
     (sym (sym c.if-has_other.false ∙ (c.has_other.ensures ∙
     (ap (λ (t : SlotTable). not (list_eq nat_eq (list_of t k) c.deref.result.now)) tables ∙

@@ -12,7 +12,7 @@ returns-in_err-root-clause-value c =
     let p = c.in_ok-parent.parent in
     ap (option_map (name_at f.names)) c.from_residual-in_err-root.ensures
     ∙ slot-no_root (shadows f hosts) (name_at f.names c.args.node) (name_at f.names p) c.in_ok-parent.ensures.value
-    (ap (option_map (name_at f.names)) c.in_err-root.ensures ∙ root-named f.names c.nodes_stand_once.ensures.distinct hosts c.requires.hosts p
+    (ap (option_map (name_at f.names)) c.in_err-root.ensures ∙ root-named f.names c.law_nodes_stand_once.ensures.distinct hosts c.requires.hosts p
     (c.parent.ensures.node p c.in_ok-parent.was))
 
 pub slot_named-requires : goal.slot_named-requires
@@ -27,6 +27,6 @@ returns-clause-value c =
     c.slot_named.ensures.value
     ∙ slot-searched (shadows f hosts) (name_at f.names c.args.node) (name_at f.names p) c.in_ok-parent.ensures.value
     (name_at f.names c.in_ok-root.root) c.in_ok-name.name.now
-    (ap (option_map (name_at f.names)) c.in_ok-root.ensures ∙ root-named f.names c.nodes_stand_once.ensures.distinct hosts c.requires.hosts p
+    (ap (option_map (name_at f.names)) c.in_ok-root.ensures ∙ root-named f.names c.law_nodes_stand_once.ensures.distinct hosts c.requires.hosts p
     (c.parent.ensures.node p c.in_ok-parent.was))
     c.in_ok-name.ensures

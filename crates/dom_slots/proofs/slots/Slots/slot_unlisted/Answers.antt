@@ -16,7 +16,7 @@ returns-in_err-root-clause-value c =
     let p = c.in_ok-parent.parent in
     ap (option_map (name_at f.names)) c.from_residual-in_err-root.ensures
     ∙ slot-no_root (shadows f hosts) (name_at f.names c.args.node) (name_at f.names p) c.in_ok-parent.ensures.value
-    (ap (option_map (name_at f.names)) c.in_err-root.ensures ∙ root-named f.names c.nodes_stand_once.ensures.distinct hosts c.requires.slots.hosts
+    (ap (option_map (name_at f.names)) c.in_err-root.ensures ∙ root-named f.names c.law_nodes_stand_once.ensures.distinct hosts c.requires.slots.hosts
     p (c.parent.ensures.node p c.in_ok-parent.was))
 
 pub parent-requires-2 : goal.parent-requires-2
@@ -32,7 +32,7 @@ pub returns-then-eq-clause-value : goal.returns-then-eq-clause-value
 returns-then-eq-clause-value c =
     let f = c.args.forest.now in
     let hosts = c.args.self.now.hosts in
-    let e = c.nodes_stand_once.ensures in
+    let e = c.law_nodes_stand_once.ensures in
     let name = name_at f.names in
     let n = c.args.node in
     let p = c.in_ok-parent.parent in

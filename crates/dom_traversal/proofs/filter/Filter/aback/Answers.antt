@@ -9,48 +9,48 @@ up-init c = Aback-begin c.args.forest.now (filter_of c.args.self.now) c.args.top
 
 pub returns-then-is_some-clause-value : goal.returns-then-is_some-clause-value
 returns-then-is_some-clause-value c =
-    (back_found c.args.forest.now c.nodes_stand_once.ensures.once c.nodes_stand_once.ensures.only (filter_of c.args.self.now) c.args.top
+    (back_found c.args.forest.now c.law_nodes_stand_once.ensures.once c.law_nodes_stand_once.ensures.only (filter_of c.args.self.now) c.args.top
     c.args.key c.up.at c.up.invariant c.prev-previous.result c.prev-previous.ensures.value c.prev-previous.ensures.node
     (sym c.if-is_some.ensures)).value
 
 pub returns-then-is_some-clause-below : goal.returns-then-is_some-clause-below
 returns-then-is_some-clause-below c =
-    (back_found c.args.forest.now c.nodes_stand_once.ensures.once c.nodes_stand_once.ensures.only (filter_of c.args.self.now) c.args.top
+    (back_found c.args.forest.now c.law_nodes_stand_once.ensures.once c.law_nodes_stand_once.ensures.only (filter_of c.args.self.now) c.args.top
     c.args.key c.up.at c.up.invariant c.prev-previous.result c.prev-previous.ensures.value c.prev-previous.ensures.node
     (sym c.if-is_some.ensures)).below
 
 pub returns-then-is_some-clause-stop : goal.returns-then-is_some-clause-stop
 returns-then-is_some-clause-stop c =
-    (back_found c.args.forest.now c.nodes_stand_once.ensures.once c.nodes_stand_once.ensures.only (filter_of c.args.self.now) c.args.top
+    (back_found c.args.forest.now c.law_nodes_stand_once.ensures.once c.law_nodes_stand_once.ensures.only (filter_of c.args.self.now) c.args.top
     c.args.key c.up.at c.up.invariant c.prev-previous.result c.prev-previous.ensures.value c.prev-previous.ensures.node
     (sym c.if-is_some.ensures)).stop
 
 pub returns-then-is_some-clause-path : goal.returns-then-is_some-clause-path
 returns-then-is_some-clause-path c =
-    (back_found c.args.forest.now c.nodes_stand_once.ensures.once c.nodes_stand_once.ensures.only (filter_of c.args.self.now) c.args.top
+    (back_found c.args.forest.now c.law_nodes_stand_once.ensures.once c.law_nodes_stand_once.ensures.only (filter_of c.args.self.now) c.args.top
     c.args.key c.up.at c.up.invariant c.prev-previous.result c.prev-previous.ensures.value c.prev-previous.ensures.node
     (sym c.if-is_some.ensures)).path
 
 pub returns-in_err-parent-clause-value : goal.returns-in_err-parent-clause-value
 returns-in_err-parent-clause-value c =
-    absurd (no_parent_below c.args.forest.now c.nodes_stand_once.ensures.once c.nodes_stand_once.ensures.only (filter_of c.args.self.now)
+    absurd (no_parent_below c.args.forest.now c.law_nodes_stand_once.ensures.once c.law_nodes_stand_once.ensures.only (filter_of c.args.self.now)
     c.args.top c.up.at c.up.invariant.below None c.in_err-parent.ensures.value refl)
 
 pub returns-then-is_stop-clause-value : goal.returns-then-is_stop-clause-value
 returns-then-is_stop-clause-value c =
-    (back_ends c.args.forest.now c.nodes_stand_once.ensures.once c.nodes_stand_once.ensures.only (filter_of c.args.self.now) c.args.top c.args.key
+    (back_ends c.args.forest.now c.law_nodes_stand_once.ensures.once c.law_nodes_stand_once.ensures.only (filter_of c.args.self.now) c.args.top c.args.key
     c.up.at c.up.invariant c.in_ok-parent.parent c.in_ok-parent.ensures.value c.prev-previous.result c.prev-previous.ensures.value
     (sym c.if-is_some.ensures) (sym c.if-is_stop.ensures)).value
 
 pub up-smaller : goal.up-smaller
 up-smaller c =
-    (rises c.args.forest.now c.nodes_stand_once.ensures.once c.nodes_stand_once.ensures.only (filter_of c.args.self.now) c.args.top c.up.at
+    (rises c.args.forest.now c.law_nodes_stand_once.ensures.once c.law_nodes_stand_once.ensures.only (filter_of c.args.self.now) c.args.top c.up.at
     c.in_ok-parent.parent c.up.invariant.below c.in_ok-parent.ensures.value (c.in_ok-parent.ensures.node c.in_ok-parent.parent refl)
     (sym c.if-is_stop.ensures)).higher
 
 pub up-preserved : goal.up-preserved
 up-preserved c =
-    back_up c.args.forest.now c.nodes_stand_once.ensures.once c.nodes_stand_once.ensures.only (filter_of c.args.self.now) c.args.top c.args.key
+    back_up c.args.forest.now c.law_nodes_stand_once.ensures.once c.law_nodes_stand_once.ensures.only (filter_of c.args.self.now) c.args.top c.args.key
     c.up.at c.up.invariant c.in_ok-parent.parent c.in_ok-parent.ensures.value c.prev-previous.result c.prev-previous.ensures.value
     (sym c.if-is_some.ensures)
     (c.in_ok-parent.ensures.node c.in_ok-parent.parent refl) (sym c.if-is_stop.ensures)

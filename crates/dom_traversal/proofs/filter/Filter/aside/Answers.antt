@@ -6,50 +6,50 @@ use Rattle.dom_traversal.proofs.filter.Filter.aside.Goals as goal
 
 pub returns-then-is_some-clause-value : goal.returns-then-is_some-clause-value
 returns-then-is_some-clause-value c =
-    (follows_next c.args.forest.now c.nodes_stand_once.ensures.once c.nodes_stand_once.ensures.only (filter_of c.args.self.now) c.args.top c.up.at
+    (follows_next c.args.forest.now c.law_nodes_stand_once.ensures.once c.law_nodes_stand_once.ensures.only (filter_of c.args.self.now) c.args.top c.up.at
     c.up.invariant.below c.next-next.result c.next-next.ensures.value c.next-next.ensures.node (sym c.if-is_some.ensures)).value
     ∙ ap first_of c.up.invariant.left
 
 pub returns-then-is_some-clause-below : goal.returns-then-is_some-clause-below
 returns-then-is_some-clause-below c =
-    (follows_next c.args.forest.now c.nodes_stand_once.ensures.once c.nodes_stand_once.ensures.only (filter_of c.args.self.now) c.args.top c.up.at
+    (follows_next c.args.forest.now c.law_nodes_stand_once.ensures.once c.law_nodes_stand_once.ensures.only (filter_of c.args.self.now) c.args.top c.up.at
     c.up.invariant.below c.next-next.result c.next-next.ensures.value c.next-next.ensures.node (sym c.if-is_some.ensures)).below
 
 pub returns-then-is_some-clause-stop : goal.returns-then-is_some-clause-stop
 returns-then-is_some-clause-stop c = λ j e.
-    (follows_next c.args.forest.now c.nodes_stand_once.ensures.once c.nodes_stand_once.ensures.only (filter_of c.args.self.now) c.args.top c.up.at
+    (follows_next c.args.forest.now c.law_nodes_stand_once.ensures.once c.law_nodes_stand_once.ensures.only (filter_of c.args.self.now) c.args.top c.up.at
     c.up.invariant.below c.next-next.result c.next-next.ensures.value c.next-next.ensures.node (sym c.if-is_some.ensures)).stop j e
     ∙ c.up.invariant.stop
 
 pub returns-in_err-parent-clause-value : goal.returns-in_err-parent-clause-value
 returns-in_err-parent-clause-value c =
-    absurd (no_parent_below c.args.forest.now c.nodes_stand_once.ensures.once c.nodes_stand_once.ensures.only (filter_of c.args.self.now)
+    absurd (no_parent_below c.args.forest.now c.law_nodes_stand_once.ensures.once c.law_nodes_stand_once.ensures.only (filter_of c.args.self.now)
     c.args.top c.up.at c.up.invariant.below None c.in_err-parent.ensures.value refl)
 
 pub returns-then-is_stop-clause-value : goal.returns-then-is_stop-clause-value
 returns-then-is_stop-clause-value c =
     ap first_of
-    (sym (ends_beyond c.args.forest.now c.nodes_stand_once.ensures.once c.nodes_stand_once.ensures.only (filter_of c.args.self.now) c.args.top
+    (sym (ends_beyond c.args.forest.now c.law_nodes_stand_once.ensures.once c.law_nodes_stand_once.ensures.only (filter_of c.args.self.now) c.args.top
     c.up.at c.in_ok-parent.parent c.up.invariant.below c.in_ok-parent.ensures.value c.next-next.result c.next-next.ensures.value
     (sym c.if-is_some.ensures) (sym c.if-is_stop.ensures))
     ∙ c.up.invariant.left)
 
 pub up-smaller : goal.up-smaller
 up-smaller c =
-    (rises c.args.forest.now c.nodes_stand_once.ensures.once c.nodes_stand_once.ensures.only (filter_of c.args.self.now) c.args.top c.up.at
+    (rises c.args.forest.now c.law_nodes_stand_once.ensures.once c.law_nodes_stand_once.ensures.only (filter_of c.args.self.now) c.args.top c.up.at
     c.in_ok-parent.parent c.up.invariant.below c.in_ok-parent.ensures.value (c.in_ok-parent.ensures.node c.in_ok-parent.parent refl)
     (sym c.if-is_stop.ensures)).higher
 
 pub up-preserved : goal.up-preserved
 up-preserved c =
-    let up = rises c.args.forest.now c.nodes_stand_once.ensures.once c.nodes_stand_once.ensures.only (filter_of c.args.self.now) c.args.top
+    let up = rises c.args.forest.now c.law_nodes_stand_once.ensures.once c.law_nodes_stand_once.ensures.only (filter_of c.args.self.now) c.args.top
     c.up.at c.in_ok-parent.parent c.up.invariant.below c.in_ok-parent.ensures.value
     (c.in_ok-parent.ensures.node c.in_ok-parent.parent refl) (sym c.if-is_stop.ensures) in
     record {
       below = up.below;
       stop = sym up.stop ∙ c.up.invariant.stop;
       left =
-          sym (rises_beyond c.args.forest.now c.nodes_stand_once.ensures.once c.nodes_stand_once.ensures.only (filter_of c.args.self.now)
+          sym (rises_beyond c.args.forest.now c.law_nodes_stand_once.ensures.once c.law_nodes_stand_once.ensures.only (filter_of c.args.self.now)
           c.args.top c.up.at c.in_ok-parent.parent c.up.invariant.below c.in_ok-parent.ensures.value c.next-next.result
           c.next-next.ensures.value (sym c.if-is_some.ensures) (sym c.if-is_stop.ensures))
           ∙ c.up.invariant.left;

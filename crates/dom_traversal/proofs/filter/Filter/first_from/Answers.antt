@@ -7,14 +7,14 @@ use Rattle.dom_traversal.proofs.filter.Filter.first_from.Goals as goal
 pub loop-at-smaller : goal.loop-at-smaller
 loop-at-smaller c =
     let f = c.args.forest.now in
-    let step = following_step f c.nodes_stand_once.ensures.once c.nodes_stand_once.ensures.only c.args.top c.in-Some.key c.following-at.result
+    let step = following_step f c.law_nodes_stand_once.ensures.once c.law_nodes_stand_once.ensures.only c.args.top c.in-Some.key c.following-at.result
     (c.loop-at.invariant.stands c.in-Some.key c.in-Some.is) c.following-at.ensures.value c.following-at.ensures.node in
     length-behind f c.args.top c.in-Some.key c.loop-at.at c.following-at.result c.in-Some.is step.0
 
 pub loop-at-preserved : goal.loop-at-preserved
 loop-at-preserved c =
     let f = c.args.forest.now in
-    let step = following_step f c.nodes_stand_once.ensures.once c.nodes_stand_once.ensures.only c.args.top c.in-Some.key c.following-at.result
+    let step = following_step f c.law_nodes_stand_once.ensures.once c.law_nodes_stand_once.ensures.only c.args.top c.in-Some.key c.following-at.result
     (c.loop-at.invariant.stands c.in-Some.key c.in-Some.is) c.following-at.ensures.value c.following-at.ensures.node in
     record {
       stands = step.1;

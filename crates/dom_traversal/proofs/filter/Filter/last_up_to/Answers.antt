@@ -12,14 +12,14 @@ use Rattle.dom_traversal.proofs.filter.Filter.last_up_to.Goals as goal
 pub loop-at-smaller : goal.loop-at-smaller
 loop-at-smaller c =
     let f = c.args.forest.now in
-    let step = preceding_step c.nodes_stand_once.ensures.once c.nodes_stand_once.ensures.only c.preceding-at.result
+    let step = preceding_step c.law_nodes_stand_once.ensures.once c.law_nodes_stand_once.ensures.only c.preceding-at.result
     (c.loop-at.invariant.stands c.in-Some.key c.in-Some.is) c.preceding-at.ensures.value c.preceding-at.ensures.node in
     length-ahead f c.args.top c.preceding-at.result c.in-Some.is step.0
 
 pub loop-at-preserved : goal.loop-at-preserved
 loop-at-preserved c =
     let f = c.args.forest.now in
-    let step = preceding_step c.nodes_stand_once.ensures.once c.nodes_stand_once.ensures.only c.preceding-at.result
+    let step = preceding_step c.law_nodes_stand_once.ensures.once c.law_nodes_stand_once.ensures.only c.preceding-at.result
     (c.loop-at.invariant.stands c.in-Some.key c.in-Some.is) c.preceding-at.ensures.value c.preceding-at.ensures.node in
     record {
       stands = step.1;

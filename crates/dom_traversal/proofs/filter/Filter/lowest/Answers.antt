@@ -16,14 +16,14 @@ pub returns-in_default-clause-ends : goal.returns-in_default-clause-ends
 returns-in_default-clause-ends c = λ _.
     let f = c.args.forest.now in
     let x = name_at f.names c.loop-at.at in
-    let own = IsWithin-itself f c.nodes_stand_once.ensures.once c.nodes_stand_once.ensures.only c.loop-at.at c.loop-at.invariant.node in
+    let own = IsWithin-itself f c.law_nodes_stand_once.ensures.once c.law_nodes_stand_once.ensures.only c.loop-at.at c.loop-at.invariant.node in
     alone f.trees x x own (sym c.last.ensures.value ∙ ap (option_map (name_at f.names)) (none_left c.last.result c.in_default.not-Some))
 
 pub loop-at-smaller : goal.loop-at-smaller
 loop-at-smaller c =
     let f = c.args.forest.now in
     let x = name_at f.names c.loop-at.at in
-    let own = IsWithin-itself f c.nodes_stand_once.ensures.once c.nodes_stand_once.ensures.only c.loop-at.at c.loop-at.invariant.node in
+    let own = IsWithin-itself f c.law_nodes_stand_once.ensures.once c.law_nodes_stand_once.ensures.only c.loop-at.at c.loop-at.invariant.node in
     (descends f.trees x x (name_at f.names c.in-Some.last) own (sym c.in-Some.ensures.value)).smaller
 
 pub loop-at-preserved : goal.loop-at-preserved
@@ -31,11 +31,11 @@ loop-at-preserved c =
     let f = c.args.forest.now in
     let x = name_at f.names c.loop-at.at in
     let last = name_at f.names c.in-Some.last in
-    let own = IsWithin-itself f c.nodes_stand_once.ensures.once c.nodes_stand_once.ensures.only c.loop-at.at c.loop-at.invariant.node in
+    let own = IsWithin-itself f c.law_nodes_stand_once.ensures.once c.law_nodes_stand_once.ensures.only c.loop-at.at c.loop-at.invariant.node in
     let down = descends f.trees x x last own (sym c.in-Some.ensures.value) in
     let in_top = λ (top : NodeName) (above : is_inclusive_ancestor f.trees top (name_at f.names c.args.key) ≡ true). descends f.trees top x last
-    (IsWithin-forest f c.nodes_stand_once.ensures.once c.nodes_stand_once.ensures.only
-    (Has-forest f c.nodes_stand_once.ensures.once c.loop-at.at c.loop-at.invariant.node) (c.loop-at.invariant.within top above))
+    (IsWithin-forest f c.law_nodes_stand_once.ensures.once c.law_nodes_stand_once.ensures.only
+    (Has-forest f c.law_nodes_stand_once.ensures.once c.loop-at.at c.loop-at.invariant.node) (c.loop-at.invariant.within top above))
     (sym c.in-Some.ensures.value) in
     record {
       node = c.in-Some.ensures.node c.in-Some.last refl;

@@ -6,24 +6,24 @@ use Rattle.dom_traversal.proofs.filter.Filter.onward.Goals as goal
 
 pub returns-then-is_some-clause-value : goal.returns-then-is_some-clause-value
 returns-then-is_some-clause-value c =
-    (follows_child c.args.forest.now c.nodes_stand_once.ensures.once c.nodes_stand_once.ensures.only (filter_of c.args.self.now) c.args.top
+    (follows_child c.args.forest.now c.law_nodes_stand_once.ensures.once c.law_nodes_stand_once.ensures.only (filter_of c.args.self.now) c.args.top
     c.args.key c.requires.below c.requires.skipped c.first-child.result c.first-child.ensures.value c.first-child.ensures.node
     (sym c.if-is_some.ensures)).value
 
 pub returns-then-is_some-clause-below : goal.returns-then-is_some-clause-below
 returns-then-is_some-clause-below c =
-    (follows_child c.args.forest.now c.nodes_stand_once.ensures.once c.nodes_stand_once.ensures.only (filter_of c.args.self.now) c.args.top
+    (follows_child c.args.forest.now c.law_nodes_stand_once.ensures.once c.law_nodes_stand_once.ensures.only (filter_of c.args.self.now) c.args.top
     c.args.key c.requires.below c.requires.skipped c.first-child.result c.first-child.ensures.value c.first-child.ensures.node
     (sym c.if-is_some.ensures)).below
 
 pub returns-then-is_some-clause-stop : goal.returns-then-is_some-clause-stop
 returns-then-is_some-clause-stop c =
-    (follows_child c.args.forest.now c.nodes_stand_once.ensures.once c.nodes_stand_once.ensures.only (filter_of c.args.self.now) c.args.top
+    (follows_child c.args.forest.now c.law_nodes_stand_once.ensures.once c.law_nodes_stand_once.ensures.only (filter_of c.args.self.now) c.args.top
     c.args.key c.requires.below c.requires.skipped c.first-child.result c.first-child.ensures.value c.first-child.ensures.node
     (sym c.if-is_some.ensures)).stop
 
 pub returns-clause-value : goal.returns-clause-value
 returns-clause-value c =
     c.aside.ensures.value
-    ∙ ap first_of (sym (behind_leaf c.args.forest.now c.nodes_stand_once.ensures.once c.nodes_stand_once.ensures.only (filter_of c.args.self.now)
+    ∙ ap first_of (sym (behind_leaf c.args.forest.now c.law_nodes_stand_once.ensures.once c.law_nodes_stand_once.ensures.only (filter_of c.args.self.now)
     c.args.top c.args.key c.requires.below c.first-child.result c.first-child.ensures.value (sym c.if-is_some.ensures)))

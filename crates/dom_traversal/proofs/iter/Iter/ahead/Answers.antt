@@ -18,7 +18,7 @@ returns-clause-value c =
     let i = c.args.self.now in
     let found = subst (λ (j : KeyedIterator). option_map (name_at f.names) c.following.result ≡ first_of
     (behind f.trees (name_at f.names j.root) (name_at f.names j.reference))) c.self.view_is c.following.ensures.value in
-    let step = following_step f c.nodes_stand_once.ensures.once c.nodes_stand_once.ensures.only i.root i.reference c.following.result
+    let step = following_step f c.law_nodes_stand_once.ensures.once c.law_nodes_stand_once.ensures.only i.root i.reference c.following.result
     c.requires.reference found c.following.ensures.node in
     sym step.0 ∙ nodes_ahead-behind f.trees (iterator_view f.names i) (ap (λ (j : KeyedIterator). j.before) (sym c.self.view_is) ∙ c.if-self.false)
 
@@ -28,5 +28,5 @@ returns-clause-stands c =
     let i = c.args.self.now in
     let found = subst (λ (j : KeyedIterator). option_map (name_at f.names) c.following.result ≡ first_of
     (behind f.trees (name_at f.names j.root) (name_at f.names j.reference))) c.self.view_is c.following.ensures.value in
-    (following_step f c.nodes_stand_once.ensures.once c.nodes_stand_once.ensures.only i.root i.reference c.following.result c.requires.reference
+    (following_step f c.law_nodes_stand_once.ensures.once c.law_nodes_stand_once.ensures.only i.root i.reference c.following.result c.requires.reference
     found c.following.ensures.node).1

@@ -43,14 +43,14 @@ pub beyond-requires-clause-stands : goal.beyond-requires-clause-stands
 beyond-requires-clause-stands c =
     let f = c.args.forest.now in
     let placed = subst (IsIteratorOf f) (sym c.self.view_is) c.requires.iterator in
-    below_root f c.nodes_stand_once.ensures.once c.nodes_stand_once.ensures.only c.self.inside.root c.self.inside.reference c.args.node
+    below_root f c.law_nodes_stand_once.ensures.once c.law_nodes_stand_once.ensures.only c.self.inside.root c.self.inside.reference c.args.node
     placed.reference c.requires.node_is_node (sym c.if-is_inclusive_ancestor.ensures) (sym c.if-not-is_inclusive_ancestor.ensures)
 
 pub preceding-requires-clause-within : goal.preceding-requires-clause-within
 preceding-requires-clause-within c =
     let f = c.args.forest.now in
     let placed = subst (IsIteratorOf f) (sym c.self.view_is) c.requires.iterator in
-    (below_root f c.nodes_stand_once.ensures.once c.nodes_stand_once.ensures.only c.self.inside.root c.self.inside.reference c.args.node
+    (below_root f c.law_nodes_stand_once.ensures.once c.law_nodes_stand_once.ensures.only c.self.inside.root c.self.inside.reference c.args.node
     placed.reference c.requires.node_is_node (sym c.if-is_inclusive_ancestor.ensures) (sym c.if-not-is_inclusive_ancestor.ensures)).within
 
 pub returns-in-Some-clause-left : goal.returns-in-Some-clause-left
@@ -63,10 +63,10 @@ pub returns-in-Some-preceding-clause-kept : goal.returns-in-Some-preceding-claus
 returns-in-Some-preceding-clause-kept c =
     let f = c.args.forest.now in
     let placed = subst (IsIteratorOf f) (sym c.self.view_is) c.requires.iterator in
-    let below = below_root f c.nodes_stand_once.ensures.once c.nodes_stand_once.ensures.only c.self.inside.root c.self.inside.reference
+    let below = below_root f c.law_nodes_stand_once.ensures.once c.law_nodes_stand_once.ensures.only c.self.inside.root c.self.inside.reference
     c.args.node placed.reference c.requires.node_is_node (sym c.if-is_inclusive_ancestor.ensures)
     (sym c.if-not-is_inclusive_ancestor.ensures) in
-    let step = preceding_step c.nodes_stand_once.ensures.once c.nodes_stand_once.ensures.only
+    let step = preceding_step c.law_nodes_stand_once.ensures.once c.law_nodes_stand_once.ensures.only
     (Some c.in-Some-preceding.previous) below c.in-Some-preceding.ensures.value c.in-Some-preceding.ensures.node in
     record { root = placed.root; reference = step.1 c.in-Some-preceding.previous refl }
 
@@ -74,19 +74,19 @@ pub returns-in-Some-preceding-clause-left : goal.returns-in-Some-preceding-claus
 returns-in-Some-preceding-clause-left c =
     let f = c.args.forest.now in
     let placed = subst (IsIteratorOf f) (sym c.self.view_is) c.requires.iterator in
-    let below = below_root f c.nodes_stand_once.ensures.once c.nodes_stand_once.ensures.only c.self.inside.root c.self.inside.reference
+    let below = below_root f c.law_nodes_stand_once.ensures.once c.law_nodes_stand_once.ensures.only c.self.inside.root c.self.inside.reference
     c.args.node placed.reference c.requires.node_is_node (sym c.if-is_inclusive_ancestor.ensures)
     (sym c.if-not-is_inclusive_ancestor.ensures) in
     λ _. ahead-outside f.trees (name_at f.names c.self.inside.root) (name_at f.names c.args.node) (name_at f.names c.in-Some-preceding.previous)
-    (IsWithin-key f c.nodes_stand_once.ensures.once c.nodes_stand_once.ensures.only c.self.inside.root c.args.node below)
+    (IsWithin-key f c.law_nodes_stand_once.ensures.once c.law_nodes_stand_once.ensures.only c.self.inside.root c.args.node below)
     (sym c.in-Some-preceding.ensures.value)
 
 pub returns-in_default-preceding-clause-left : goal.returns-in_default-preceding-clause-left
 returns-in_default-preceding-clause-left c =
     let f = c.args.forest.now in
     let placed = subst (IsIteratorOf f) (sym c.self.view_is) c.requires.iterator in
-    let below = below_root f c.nodes_stand_once.ensures.once c.nodes_stand_once.ensures.only c.self.inside.root c.self.inside.reference
+    let below = below_root f c.law_nodes_stand_once.ensures.once c.law_nodes_stand_once.ensures.only c.self.inside.root c.self.inside.reference
     c.args.node placed.reference c.requires.node_is_node (sym c.if-is_inclusive_ancestor.ensures)
     (sym c.if-not-is_inclusive_ancestor.ensures) in
-    λ _. absurd (not_first f c.nodes_stand_once.ensures.once c.nodes_stand_once.ensures.only c.self.inside.root c.args.node c.preceding.result
+    λ _. absurd (not_first f c.law_nodes_stand_once.ensures.once c.law_nodes_stand_once.ensures.only c.self.inside.root c.args.node c.preceding.result
     below (sym c.if-is_inclusive_ancestor.ensures) c.preceding.ensures.value c.in_default-preceding.not-Some)

@@ -18,7 +18,7 @@ returns-then-self-clause-value c =
     let i = c.args.self.now in
     let found = subst (λ (j : KeyedIterator). option_map (name_at f.names) c.preceding.result ≡ last_of
     (ahead_of f.trees (name_at f.names j.root) (name_at f.names j.reference))) c.self.view_is c.preceding.ensures.value in
-    let step = preceding_step c.nodes_stand_once.ensures.once c.nodes_stand_once.ensures.only c.preceding.result
+    let step = preceding_step c.law_nodes_stand_once.ensures.once c.law_nodes_stand_once.ensures.only c.preceding.result
     c.requires.reference found c.preceding.ensures.node in
     sym step.0 ∙ nodes_passed-ahead_of f.trees (iterator_view f.names i) (ap (λ (j : KeyedIterator). j.before) (sym c.self.view_is) ∙ c.if-self.true)
 
@@ -27,5 +27,5 @@ returns-then-self-clause-stands c =
     let f = c.args.forest.now in
     let found = subst (λ (j : KeyedIterator). option_map (name_at f.names) c.preceding.result ≡ last_of
     (ahead_of f.trees (name_at f.names j.root) (name_at f.names j.reference))) c.self.view_is c.preceding.ensures.value in
-    (preceding_step c.nodes_stand_once.ensures.once c.nodes_stand_once.ensures.only c.preceding.result c.requires.reference
+    (preceding_step c.law_nodes_stand_once.ensures.once c.law_nodes_stand_once.ensures.only c.preceding.result c.requires.reference
     found c.preceding.ensures.node).1

@@ -12,7 +12,7 @@ pub returns-then-eq-clause-value : goal.returns-then-eq-clause-value
 returns-then-eq-clause-value c =
     let f = c.args.forest.now in
     let root = ap (λ (v : KeyedWalker). v.root) c.self.view_is in
-    (steps_root f c.nodes_stand_once.ensures.once c.nodes_stand_once.ensures.only c.args.self.now c.args.key c.requires.comes
+    (steps_root f c.law_nodes_stand_once.ensures.once c.law_nodes_stand_once.ensures.only c.args.self.now c.args.key c.requires.comes
     (ap (name_at f.names) (eqb-true c.args.key c.self.inside.root (sym c.if-eq.ensures) ∙ root))).value
 
 pub returns-in_default-clause-value : goal.returns-in_default-clause-value
@@ -21,10 +21,10 @@ returns-in_default-clause-value c =
     let w : KeyedWalker = record { root = c.self.inside.root; current = c.self.inside.current; filter = filter_of c.self.inside.filter } in
     let placed = subst (IsWalkerOf f) (sym c.self.view_is) c.requires.walker in
     let comes = subst (λ (v : KeyedWalker). ComesBack f v c.args.key) (sym c.self.view_is) c.requires.comes in
-    let other = other_key f c.nodes_stand_once.ensures.distinct c.args.key c.self.inside.root comes.stands.node placed.root (sym c.if-eq.ensures) in
+    let other = other_key f c.law_nodes_stand_once.ensures.distinct c.args.key c.self.inside.root comes.stands.node placed.root (sym c.if-eq.ensures) in
     let previous = sym c.prev.ensures.value ∙ ap (option_map (name_at f.names)) (none_left c.prev.result c.in_default.not-Some) in
     (subst (λ (v : KeyedWalker). StepsBack f v c.args.key c.parent.result) c.self.view_is
-    (steps_parent f c.nodes_stand_once.ensures.once c.nodes_stand_once.ensures.only w c.args.key comes other c.parent.result
+    (steps_parent f c.law_nodes_stand_once.ensures.once c.law_nodes_stand_once.ensures.only w c.args.key comes other c.parent.result
     c.parent.ensures.value c.parent.ensures.node previous)).value
 
 pub returns-in_default-clause-comes : goal.returns-in_default-clause-comes
@@ -33,10 +33,10 @@ returns-in_default-clause-comes c =
     let w : KeyedWalker = record { root = c.self.inside.root; current = c.self.inside.current; filter = filter_of c.self.inside.filter } in
     let placed = subst (IsWalkerOf f) (sym c.self.view_is) c.requires.walker in
     let comes = subst (λ (v : KeyedWalker). ComesBack f v c.args.key) (sym c.self.view_is) c.requires.comes in
-    let other = other_key f c.nodes_stand_once.ensures.distinct c.args.key c.self.inside.root comes.stands.node placed.root (sym c.if-eq.ensures) in
+    let other = other_key f c.law_nodes_stand_once.ensures.distinct c.args.key c.self.inside.root comes.stands.node placed.root (sym c.if-eq.ensures) in
     let previous = sym c.prev.ensures.value ∙ ap (option_map (name_at f.names)) (none_left c.prev.result c.in_default.not-Some) in
     (subst (λ (v : KeyedWalker). StepsBack f v c.args.key c.parent.result) c.self.view_is
-    (steps_parent f c.nodes_stand_once.ensures.once c.nodes_stand_once.ensures.only w c.args.key comes other c.parent.result
+    (steps_parent f c.law_nodes_stand_once.ensures.once c.law_nodes_stand_once.ensures.only w c.args.key comes other c.parent.result
     c.parent.ensures.value c.parent.ensures.node previous)).comes
 
 pub returns-in_default-clause-shorter : goal.returns-in_default-clause-shorter
@@ -45,10 +45,10 @@ returns-in_default-clause-shorter c =
     let w : KeyedWalker = record { root = c.self.inside.root; current = c.self.inside.current; filter = filter_of c.self.inside.filter } in
     let placed = subst (IsWalkerOf f) (sym c.self.view_is) c.requires.walker in
     let comes = subst (λ (v : KeyedWalker). ComesBack f v c.args.key) (sym c.self.view_is) c.requires.comes in
-    let other = other_key f c.nodes_stand_once.ensures.distinct c.args.key c.self.inside.root comes.stands.node placed.root (sym c.if-eq.ensures) in
+    let other = other_key f c.law_nodes_stand_once.ensures.distinct c.args.key c.self.inside.root comes.stands.node placed.root (sym c.if-eq.ensures) in
     let previous = sym c.prev.ensures.value ∙ ap (option_map (name_at f.names)) (none_left c.prev.result c.in_default.not-Some) in
     (subst (λ (v : KeyedWalker). StepsBack f v c.args.key c.parent.result) c.self.view_is
-    (steps_parent f c.nodes_stand_once.ensures.once c.nodes_stand_once.ensures.only w c.args.key comes other c.parent.result
+    (steps_parent f c.law_nodes_stand_once.ensures.once c.law_nodes_stand_once.ensures.only w c.args.key comes other c.parent.result
     c.parent.ensures.value c.parent.ensures.node previous)).shorter
 
 pub returns-clause-value : goal.returns-clause-value
@@ -57,9 +57,9 @@ returns-clause-value c =
     let w : KeyedWalker = record { root = c.self.inside.root; current = c.self.inside.current; filter = filter_of c.self.inside.filter } in
     let placed = subst (IsWalkerOf f) (sym c.self.view_is) c.requires.walker in
     let comes = subst (λ (v : KeyedWalker). ComesBack f v c.args.key) (sym c.self.view_is) c.requires.comes in
-    let other = other_key f c.nodes_stand_once.ensures.distinct c.args.key c.self.inside.root comes.stands.node placed.root (sym c.if-eq.ensures) in
+    let other = other_key f c.law_nodes_stand_once.ensures.distinct c.args.key c.self.inside.root comes.stands.node placed.root (sym c.if-eq.ensures) in
     let inner : IsInner f c.self.inside.root c.args.key =
-    record { once = c.nodes_stand_once.ensures.once; only = c.nodes_stand_once.ensures.only; stands = comes.stands; other = other } in
+    record { once = c.law_nodes_stand_once.ensures.once; only = c.law_nodes_stand_once.ensures.only; stands = comes.stands; other = other } in
     let sibling = sibling-stands c.in-Some.sibling inner (c.in-Some.ensures.node c.in-Some.sibling refl) c.in-Some.ensures.value in
     let low : IsLowest f w c.in-Some.sibling c.lowest.result = record {
       stands = record { node = c.lowest.ensures.node; within = c.lowest.ensures.within (name_at f.names c.self.inside.root) sibling.within };
@@ -68,7 +68,8 @@ returns-clause-value c =
       path = c.lowest.ensures.path;
     } in
     (subst (λ (v : KeyedWalker). StepsBack f v c.args.key (Some c.lowest.result)) c.self.view_is
-    (steps_sibling f c.nodes_stand_once.ensures.once c.nodes_stand_once.ensures.only w c.args.key comes other c.in-Some.ensures.value placed.current low)).value
+    (steps_sibling f c.law_nodes_stand_once.ensures.once c.law_nodes_stand_once.ensures.only w c.args.key comes other c.in-Some.ensures.value
+        placed.current low)).value
 
 pub returns-clause-comes : goal.returns-clause-comes
 returns-clause-comes c =
@@ -76,9 +77,9 @@ returns-clause-comes c =
     let w : KeyedWalker = record { root = c.self.inside.root; current = c.self.inside.current; filter = filter_of c.self.inside.filter } in
     let placed = subst (IsWalkerOf f) (sym c.self.view_is) c.requires.walker in
     let comes = subst (λ (v : KeyedWalker). ComesBack f v c.args.key) (sym c.self.view_is) c.requires.comes in
-    let other = other_key f c.nodes_stand_once.ensures.distinct c.args.key c.self.inside.root comes.stands.node placed.root (sym c.if-eq.ensures) in
+    let other = other_key f c.law_nodes_stand_once.ensures.distinct c.args.key c.self.inside.root comes.stands.node placed.root (sym c.if-eq.ensures) in
     let inner : IsInner f c.self.inside.root c.args.key =
-    record { once = c.nodes_stand_once.ensures.once; only = c.nodes_stand_once.ensures.only; stands = comes.stands; other = other } in
+    record { once = c.law_nodes_stand_once.ensures.once; only = c.law_nodes_stand_once.ensures.only; stands = comes.stands; other = other } in
     let sibling = sibling-stands c.in-Some.sibling inner (c.in-Some.ensures.node c.in-Some.sibling refl) c.in-Some.ensures.value in
     let low : IsLowest f w c.in-Some.sibling c.lowest.result = record {
       stands = record { node = c.lowest.ensures.node; within = c.lowest.ensures.within (name_at f.names c.self.inside.root) sibling.within };
@@ -87,7 +88,8 @@ returns-clause-comes c =
       path = c.lowest.ensures.path;
     } in
     (subst (λ (v : KeyedWalker). StepsBack f v c.args.key (Some c.lowest.result)) c.self.view_is
-    (steps_sibling f c.nodes_stand_once.ensures.once c.nodes_stand_once.ensures.only w c.args.key comes other c.in-Some.ensures.value placed.current low)).comes
+    (steps_sibling f c.law_nodes_stand_once.ensures.once c.law_nodes_stand_once.ensures.only w c.args.key comes other c.in-Some.ensures.value
+        placed.current low)).comes
 
 pub returns-clause-shorter : goal.returns-clause-shorter
 returns-clause-shorter c =
@@ -95,9 +97,9 @@ returns-clause-shorter c =
     let w : KeyedWalker = record { root = c.self.inside.root; current = c.self.inside.current; filter = filter_of c.self.inside.filter } in
     let placed = subst (IsWalkerOf f) (sym c.self.view_is) c.requires.walker in
     let comes = subst (λ (v : KeyedWalker). ComesBack f v c.args.key) (sym c.self.view_is) c.requires.comes in
-    let other = other_key f c.nodes_stand_once.ensures.distinct c.args.key c.self.inside.root comes.stands.node placed.root (sym c.if-eq.ensures) in
+    let other = other_key f c.law_nodes_stand_once.ensures.distinct c.args.key c.self.inside.root comes.stands.node placed.root (sym c.if-eq.ensures) in
     let inner : IsInner f c.self.inside.root c.args.key =
-    record { once = c.nodes_stand_once.ensures.once; only = c.nodes_stand_once.ensures.only; stands = comes.stands; other = other } in
+    record { once = c.law_nodes_stand_once.ensures.once; only = c.law_nodes_stand_once.ensures.only; stands = comes.stands; other = other } in
     let sibling = sibling-stands c.in-Some.sibling inner (c.in-Some.ensures.node c.in-Some.sibling refl) c.in-Some.ensures.value in
     let low : IsLowest f w c.in-Some.sibling c.lowest.result = record {
       stands = record { node = c.lowest.ensures.node; within = c.lowest.ensures.within (name_at f.names c.self.inside.root) sibling.within };
@@ -106,5 +108,5 @@ returns-clause-shorter c =
       path = c.lowest.ensures.path;
     } in
     (subst (λ (v : KeyedWalker). StepsBack f v c.args.key (Some c.lowest.result)) c.self.view_is
-    (steps_sibling f c.nodes_stand_once.ensures.once c.nodes_stand_once.ensures.only w c.args.key comes other
+    (steps_sibling f c.law_nodes_stand_once.ensures.once c.law_nodes_stand_once.ensures.only w c.args.key comes other
     c.in-Some.ensures.value placed.current low)).shorter

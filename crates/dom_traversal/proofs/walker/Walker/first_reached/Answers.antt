@@ -10,7 +10,7 @@ loop-at-init c =
     let f = c.args.forest.now in
     let placed = subst (IsWalkerOf f) (sym c.self.view_is) c.requires.walker in
     let begins = subst (λ (v : KeyedWalker). ForSome c.args.from (BeginsForward f v c.args.top)) (sym c.self.view_is) c.requires.begins in
-    Reaches-begin c.nodes_stand_once.ensures.once c.nodes_stand_once.ensures.only placed.current begins
+    Reaches-begin c.law_nodes_stand_once.ensures.once c.law_nodes_stand_once.ensures.only placed.current begins
 
 pub loop-at-smaller-in-Some-Skip : goal.loop-at-smaller-in-Some-Skip
 loop-at-smaller-in-Some-Skip c =

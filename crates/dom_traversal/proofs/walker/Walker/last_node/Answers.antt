@@ -19,7 +19,7 @@ last_reached-requires-clause-begins c =
     let w : KeyedWalker = record { root = c.self.inside.root; current = c.self.inside.current; filter = filter_of c.self.inside.filter } in
     let placed = subst (IsWalkerOf f) (sym c.self.view_is) c.requires in
     let stands : StandsIn f c.self.inside.root c.self.inside.current = record { node = placed.current; within = sym c.if-not-is_inclusive_ancestor.ensures } in
-    let at = IsWithin-key f c.nodes_stand_once.ensures.once c.nodes_stand_once.ensures.only c.self.inside.root c.self.inside.current stands in
+    let at = IsWithin-key f c.law_nodes_stand_once.ensures.once c.law_nodes_stand_once.ensures.only c.self.inside.root c.self.inside.current stands in
     subst (λ (v : KeyedWalker). ForSome c.last.result (BeginsBackward f v c.self.inside.current)) c.self.view_is
     (Begins-last f w (within-itself f.trees (name_at f.names c.self.inside.root) (name_at f.names c.self.inside.current) at) c.last.result
     c.last.ensures.value c.last.ensures.node)
@@ -30,7 +30,7 @@ returns-clause-value c =
     let w : KeyedWalker = record { root = c.self.inside.root; current = c.self.inside.current; filter = filter_of c.self.inside.filter } in
     let placed = subst (IsWalkerOf f) (sym c.self.view_is) c.requires in
     let stands : StandsIn f c.self.inside.root c.self.inside.current = record { node = placed.current; within = sym c.if-not-is_inclusive_ancestor.ensures } in
-    let at = IsWithin-key f c.nodes_stand_once.ensures.once c.nodes_stand_once.ensures.only c.self.inside.root c.self.inside.current stands in
+    let at = IsWithin-key f c.law_nodes_stand_once.ensures.once c.law_nodes_stand_once.ensures.only c.self.inside.root c.self.inside.current stands in
     let child = option_map (name_at f.names) c.last.result in
     let found = subst (λ (v : KeyedWalker). option_map (name_at f.names) c.last_reached.result ≡ last_of
     (filter (is_candidate f.trees (walker_view f.names v) (stop_of f.trees v.filter (name_at f.names c.self.inside.current) child))

@@ -13,7 +13,7 @@ pub loop-at-init : goal.loop-at-init
 loop-at-init c =
     let f = c.args.forest.now in
     let begins = subst (λ (v : KeyedWalker). ForSome c.args.from (BeginsBackward f v c.args.top)) (sym c.self.view_is) c.requires.begins in
-    ReachesBack-begin c.nodes_stand_once.ensures.once c.nodes_stand_once.ensures.only begins
+    ReachesBack-begin c.law_nodes_stand_once.ensures.once c.law_nodes_stand_once.ensures.only begins
 
 pub returns-then-accepts-clause-value : goal.returns-then-accepts-clause-value
 returns-then-accepts-clause-value c =
@@ -27,7 +27,7 @@ returns-then-accepts-clause-value c =
       ends = c.lowest-low.ensures.ends;
       path = c.lowest-low.ensures.path;
     } in
-    let hit = ReachesBack-hit f c.nodes_stand_once.ensures.once c.nodes_stand_once.ensures.only w c.args.top placed.current c.args.from
+    let hit = ReachesBack-hit f c.law_nodes_stand_once.ensures.once c.law_nodes_stand_once.ensures.only w c.args.top placed.current c.args.from
     c.loop-at.at c.in-Some.key c.in-Some.is c.loop-at.invariant c.lowest-low.result low (sym c.if-accepts.ensures) in
     let from = option_map (name_at f.names) c.args.from in
     subst (λ (v : KeyedWalker). Some (name_at f.names c.lowest-low.result) ≡ last_of
@@ -46,7 +46,7 @@ aback-at-requires-clause-below c =
       ends = c.lowest-low.ensures.ends;
       path = c.lowest-low.ensures.path;
     } in
-    low_stands f c.nodes_stand_once.ensures.once c.nodes_stand_once.ensures.only w c.args.top placed.current c.args.from c.loop-at.at
+    low_stands f c.law_nodes_stand_once.ensures.once c.law_nodes_stand_once.ensures.only w c.args.top placed.current c.args.from c.loop-at.at
     c.in-Some.key c.in-Some.is c.loop-at.invariant c.lowest-low.result low
 
 pub loop-at-smaller : goal.loop-at-smaller
@@ -61,7 +61,7 @@ loop-at-smaller c =
       ends = c.lowest-low.ensures.ends;
       path = c.lowest-low.ensures.path;
     } in
-    ReachesBack-shorter f c.nodes_stand_once.ensures.once c.nodes_stand_once.ensures.only w c.args.top placed.current c.args.from c.loop-at.at
+    ReachesBack-shorter f c.law_nodes_stand_once.ensures.once c.law_nodes_stand_once.ensures.only w c.args.top placed.current c.args.from c.loop-at.at
     c.in-Some.key c.in-Some.is c.loop-at.invariant c.lowest-low.result low c.aback-at.result c.aback-at.ensures.value
 
 pub loop-at-preserved : goal.loop-at-preserved
@@ -76,6 +76,6 @@ loop-at-preserved c =
       ends = c.lowest-low.ensures.ends;
       path = c.lowest-low.ensures.path;
     } in
-    ReachesBack-step f c.nodes_stand_once.ensures.once c.nodes_stand_once.ensures.only w c.args.top placed.current c.args.from c.loop-at.at
+    ReachesBack-step f c.law_nodes_stand_once.ensures.once c.law_nodes_stand_once.ensures.only w c.args.top placed.current c.args.from c.loop-at.at
     c.in-Some.key c.in-Some.is c.loop-at.invariant c.lowest-low.result low c.aback-at.result c.aback-at.ensures.value (sym c.if-accepts.ensures)
     c.aback-at.ensures.below c.aback-at.ensures.stop c.aback-at.ensures.path

@@ -18,7 +18,7 @@ loop-at-init c =
     let placed = subst (IsWalkerOf f) (sym c.self.view_is) c.requires in
     let w : Walker = walker_view f.names record { root = c.self.inside.root; current = c.self.inside.current; filter = filter_of c.self.inside.filter } in
     let stands : StandsIn f c.self.inside.root c.self.inside.current = record { node = placed.current; within = sym c.if-not-is_inclusive_ancestor.ensures } in
-    let at = IsWithin-key f c.nodes_stand_once.ensures.once c.nodes_stand_once.ensures.only c.self.inside.root c.self.inside.current stands in
+    let at = IsWithin-key f c.law_nodes_stand_once.ensures.once c.law_nodes_stand_once.ensures.only c.self.inside.root c.self.inside.current stands in
     record {
       node = c.following-at.ensures.node;
       comes = Comes-begin f.trees w at (option_map (name_at f.names) c.following-at.result) c.following-at.ensures.value;
@@ -78,7 +78,7 @@ loop-at-preserved c =
     let w : Walker = walker_view f.names record { root = c.self.inside.root; current = c.self.inside.current; filter = filter_of c.self.inside.filter } in
     let placed = subst (IsWalkerOf f) (sym c.self.view_is) c.requires in
     let stands : StandsIn f c.self.inside.root c.self.inside.current = record { node = placed.current; within = sym c.if-not-is_inclusive_ancestor.ensures } in
-    let at = IsWithin-key f c.nodes_stand_once.ensures.once c.nodes_stand_once.ensures.only c.self.inside.root c.self.inside.current stands in
+    let at = IsWithin-key f c.law_nodes_stand_once.ensures.once c.law_nodes_stand_once.ensures.only c.self.inside.root c.self.inside.current stands in
     let h = subst (ComesNext f.trees w) (ap (option_map (name_at f.names)) c.in-Some.is) c.loop-at.invariant.comes in
     record {
       node = λ k e. (c.beyond-at.ensures.stands k e).node;

@@ -18,10 +18,10 @@ aside-from-requires-clause-below c =
     let f = c.args.forest.now in
     let placed = subst (IsWalkerOf f) (sym c.self.view_is) c.requires in
     let inner : IsInner f c.self.inside.root c.self.inside.current = record {
-      once = c.nodes_stand_once.ensures.once;
-      only = c.nodes_stand_once.ensures.only;
+      once = c.law_nodes_stand_once.ensures.once;
+      only = c.law_nodes_stand_once.ensures.only;
       stands = record { node = placed.current; within = sym c.if-not-is_inclusive_ancestor.ensures };
-      other = other_key f c.nodes_stand_once.ensures.distinct c.self.inside.current c.self.inside.root placed.current placed.root (sym c.if-eq.ensures);
+      other = other_key f c.law_nodes_stand_once.ensures.distinct c.self.inside.current c.self.inside.root placed.current placed.root (sym c.if-eq.ensures);
     } in
     inner-below inner
 
@@ -31,10 +31,10 @@ first_reached-requires-clause-begins c =
     let w : KeyedWalker = record { root = c.self.inside.root; current = c.self.inside.current; filter = filter_of c.self.inside.filter } in
     let placed = subst (IsWalkerOf f) (sym c.self.view_is) c.requires in
     let inner : IsInner f c.self.inside.root c.self.inside.current = record {
-      once = c.nodes_stand_once.ensures.once;
-      only = c.nodes_stand_once.ensures.only;
+      once = c.law_nodes_stand_once.ensures.once;
+      only = c.law_nodes_stand_once.ensures.only;
       stands = record { node = placed.current; within = sym c.if-not-is_inclusive_ancestor.ensures };
-      other = other_key f c.nodes_stand_once.ensures.distinct c.self.inside.current c.self.inside.root placed.current placed.root (sym c.if-eq.ensures);
+      other = other_key f c.law_nodes_stand_once.ensures.distinct c.self.inside.current c.self.inside.root placed.current placed.root (sym c.if-eq.ensures);
     } in
     let b = IsBelow-key f inner.once inner.only c.self.inside.root c.self.inside.current (inner-below inner) in
     subst (λ (v : KeyedWalker). ForSome c.aside-from.result (BeginsForward f v c.self.inside.root)) c.self.view_is
@@ -46,10 +46,10 @@ returns-clause-value c =
     let w : KeyedWalker = record { root = c.self.inside.root; current = c.self.inside.current; filter = filter_of c.self.inside.filter } in
     let placed = subst (IsWalkerOf f) (sym c.self.view_is) c.requires in
     let inner : IsInner f c.self.inside.root c.self.inside.current = record {
-      once = c.nodes_stand_once.ensures.once;
-      only = c.nodes_stand_once.ensures.only;
+      once = c.law_nodes_stand_once.ensures.once;
+      only = c.law_nodes_stand_once.ensures.only;
       stands = record { node = placed.current; within = sym c.if-not-is_inclusive_ancestor.ensures };
-      other = other_key f c.nodes_stand_once.ensures.distinct c.self.inside.current c.self.inside.root placed.current placed.root (sym c.if-eq.ensures);
+      other = other_key f c.law_nodes_stand_once.ensures.distinct c.self.inside.current c.self.inside.root placed.current placed.root (sym c.if-eq.ensures);
     } in
     let b = IsBelow-key f inner.once inner.only c.self.inside.root c.self.inside.current (inner-below inner) in
     let from = option_map (name_at f.names) c.aside-from.result in

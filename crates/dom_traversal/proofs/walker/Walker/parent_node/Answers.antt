@@ -14,11 +14,11 @@ pub returns-in_err-at-clause-value : goal.returns-in_err-at-clause-value
 returns-in_err-at-clause-value c =
     let f = c.args.forest.now in
     let placed = subst (IsWalkerOf f) (sym c.self.view_is) c.requires in
-    let other = other_name f c.nodes_stand_once.ensures.distinct c.loop-self.at c.self.inside.root c.loop-self.invariant.stands.node placed.root
+    let other = other_name f c.law_nodes_stand_once.ensures.distinct c.loop-self.at c.self.inside.root c.loop-self.invariant.stands.node placed.root
     (sym c.loop-self-test.ensures) in
     let inner : IsInner f c.self.inside.root c.loop-self.at = record {
-      once = c.nodes_stand_once.ensures.once;
-      only = c.nodes_stand_once.ensures.only;
+      once = c.law_nodes_stand_once.ensures.once;
+      only = c.law_nodes_stand_once.ensures.only;
       stands = c.loop-self.invariant.stands;
       other = other;
     } in
@@ -29,9 +29,10 @@ returns-then-accepts-clause-value c =
     let f = c.args.forest.now in
     let w : KeyedWalker = record { root = c.self.inside.root; current = c.self.inside.current; filter = filter_of c.self.inside.filter } in
     let placed = subst (IsWalkerOf f) (sym c.self.view_is) c.requires in
-    let other = other_name f c.nodes_stand_once.ensures.distinct c.loop-self.at c.self.inside.root c.loop-self.invariant.stands.node placed.root
+    let other = other_name f c.law_nodes_stand_once.ensures.distinct c.loop-self.at c.self.inside.root c.loop-self.invariant.stands.node placed.root
     (sym c.loop-self-test.ensures) in
-    let at = IsWithin-key f c.nodes_stand_once.ensures.once c.nodes_stand_once.ensures.only c.self.inside.root c.loop-self.at c.loop-self.invariant.stands in
+    let at = IsWithin-key f c.law_nodes_stand_once.ensures.once c.law_nodes_stand_once.ensures.only c.self.inside.root c.loop-self.at
+        c.loop-self.invariant.stands in
     sym (above-hit f.trees (walker_view f.names w) (name_at f.names c.loop-self.at) (name_at f.names c.in_ok-at.at) at other
     (sym c.in_ok-at.ensures.value) (sym c.if-accepts.ensures))
     ∙ (c.loop-self.invariant.left
@@ -42,11 +43,11 @@ pub loop-self-smaller : goal.loop-self-smaller
 loop-self-smaller c =
     let f = c.args.forest.now in
     let placed = subst (IsWalkerOf f) (sym c.self.view_is) c.requires in
-    let other = other_name f c.nodes_stand_once.ensures.distinct c.loop-self.at c.self.inside.root c.loop-self.invariant.stands.node placed.root
+    let other = other_name f c.law_nodes_stand_once.ensures.distinct c.loop-self.at c.self.inside.root c.loop-self.invariant.stands.node placed.root
     (sym c.loop-self-test.ensures) in
     let inner : IsInner f c.self.inside.root c.loop-self.at = record {
-      once = c.nodes_stand_once.ensures.once;
-      only = c.nodes_stand_once.ensures.only;
+      once = c.law_nodes_stand_once.ensures.once;
+      only = c.law_nodes_stand_once.ensures.only;
       stands = c.loop-self.invariant.stands;
       other = other;
     } in
@@ -57,12 +58,13 @@ loop-self-preserved c =
     let f = c.args.forest.now in
     let w : KeyedWalker = record { root = c.self.inside.root; current = c.self.inside.current; filter = filter_of c.self.inside.filter } in
     let placed = subst (IsWalkerOf f) (sym c.self.view_is) c.requires in
-    let other = other_name f c.nodes_stand_once.ensures.distinct c.loop-self.at c.self.inside.root c.loop-self.invariant.stands.node placed.root
+    let other = other_name f c.law_nodes_stand_once.ensures.distinct c.loop-self.at c.self.inside.root c.loop-self.invariant.stands.node placed.root
     (sym c.loop-self-test.ensures) in
-    let at = IsWithin-key f c.nodes_stand_once.ensures.once c.nodes_stand_once.ensures.only c.self.inside.root c.loop-self.at c.loop-self.invariant.stands in
+    let at = IsWithin-key f c.law_nodes_stand_once.ensures.once c.law_nodes_stand_once.ensures.only c.self.inside.root c.loop-self.at
+        c.loop-self.invariant.stands in
     let inner : IsInner f c.self.inside.root c.loop-self.at = record {
-      once = c.nodes_stand_once.ensures.once;
-      only = c.nodes_stand_once.ensures.only;
+      once = c.law_nodes_stand_once.ensures.once;
+      only = c.law_nodes_stand_once.ensures.only;
       stands = c.loop-self.invariant.stands;
       other = other;
     } in

@@ -19,7 +19,7 @@ back-at-requires-clause-comes c =
     let w : KeyedWalker = record { root = c.self.inside.root; current = c.self.inside.current; filter = filter_of c.self.inside.filter } in
     let placed = subst (IsWalkerOf f) (sym c.self.view_is) c.requires in
     let stands : StandsIn f c.self.inside.root c.self.inside.current = record { node = placed.current; within = sym c.if-not-is_inclusive_ancestor.ensures } in
-    let at = IsWithin-key f c.nodes_stand_once.ensures.once c.nodes_stand_once.ensures.only c.self.inside.root c.self.inside.current stands in
+    let at = IsWithin-key f c.law_nodes_stand_once.ensures.once c.law_nodes_stand_once.ensures.only c.self.inside.root c.self.inside.current stands in
     subst (λ (v : KeyedWalker). ComesBack f v c.self.inside.current) c.self.view_is
     (ComesBack-key f w c.self.inside.current placed.current (Returns-begin f.trees (walker_view f.names w) at))
 

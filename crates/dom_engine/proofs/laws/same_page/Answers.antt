@@ -1,9 +1,0 @@
-use Rattle.dom_isolation.proofs.PageRuns.{same-page}
-use Rattle.dom_engine.proofs.PageRuns.{page_text-same}
-use Rattle.dom_engine.proofs.laws.same_page.Goals as goal
-
-pub returns-clause-lines : goal.returns-clause-lines
-returns-clause-lines c = λ read. same-page read
-
-pub returns-clause-text : goal.returns-clause-text
-returns-clause-text c = page_text-same

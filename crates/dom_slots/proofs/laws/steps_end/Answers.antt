@@ -1,5 +1,0 @@
-use Rattle.dom_slots.proofs.Ended.{step-ends}
-use Rattle.dom_slots.proofs.laws.steps_end.Goals as goal
-
-pub returns : goal.returns
-returns c = step-ends

@@ -1,0 +1,10 @@
+use Rattle.std.proofs.Common.{sym, subst}
+use Rattle.dom_model.specs.Tree.{Node}
+use Rattle.dom_tree.specs.Attributes.{HaveOwnNames}
+use Rattle.dom_tree.proofs.Kept.{shows_node}
+use Rattle.dom_tree.proofs.forest.Forest.law_attributes_have_own_names.Goals as goal
+
+pub returns : goal.returns
+returns c =
+    subst (λ (n : Node). HaveOwnNames n.attributes) (sym (shows_node c.self.view_is c.self.invariant c.args.key _ c.requires c.payload.ensures.value))
+    (subst HaveOwnNames c.attributes.ensures c.law_have_own_names.ensures)

@@ -1,5 +1,0 @@
-use Rattle.dom_tree.proofs.EachNode.{each_node}
-use Rattle.dom_tree.proofs.owners.changes_add_up.Goals as goal
-
-pub returns : goal.returns
-returns c = each_node
