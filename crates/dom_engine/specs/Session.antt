@@ -10,6 +10,7 @@ use Rattle.dom_model.specs.Runs.{Run}
 use Rattle.dom_model.specs.Turns.{ending_other_turn}
 use Rattle.dom_model.specs.World.{World}
 use Rattle.dom_text.specs.Decode.{decode}
+use Rattle.dom_text.specs.Text.{output_text}
 
 -- the world as the lines so far have made it, and whether memory was refused to a call
 pub record SessionState : Type 0 where
@@ -28,3 +29,10 @@ abbrev pub ForeignLinesAreRefused : Type 0
 ForeignLinesAreRefused =
     (w : World) (line : List ℕ) (o : Owner) (c : Command) → decode line ≡ command o c → IsTrue (names_foreign c) →
     step w (decode line) ≡ refused_as_foreign w o
+
+-- a line whose command names another owner's node, in such a world, leaves this one and is answered with this text: its refusal, behind
+-- what the end of another component's turn told
+abbrev pub RefusesForeign : World → List ℕ → World → List ℕ → Type 0
+RefusesForeign w line left text =
+    (o : Owner) (c : Command) → decode line ≡ command o c → IsTrue (names_foreign c) →
+    (left ≡ (refused_as_foreign w o).0) × (text ≡ output_text (refused_as_foreign w o).1)

@@ -4,6 +4,7 @@ ghost use Rattle.dom_model.specs.DocumentMachine.{first_world, step, finish};
 ghost use Rattle.dom_text.specs.Text.{output_text};
 ghost use Rattle.dom_commands.specs.Machine.{IsAtRest};
 ghost use Rattle.dom_text.specs.Decode.{decode};
+ghost use Rattle.dom_engine.specs.Session.{RefusesForeign};
 
 use dom_commands::Machine;
 use dom_reader::parse_line;
@@ -51,11 +52,13 @@ impl Session {
     }
 
     /// Takes a line, without its 0x0A, and gives the lines that answer it, each with its 0x0A. A line that is refused is answered
-    /// too (own rule); an error is want of memory alone, now or in a call before.
+    /// too (own rule), one that names another owner's node among them (`foreign`). An error is want of memory alone, now or in a
+    /// call before.
     pub fn line(&mut self, line: &[u8]) -> Result<Vec<u8>, AllocError>
         ensures was { OnOk result (self.old.has_failed ≡ false) }
         ensures text { IfOk result (λ text. text.items ≡ output_text (step self.old.world (decode line.now)).1) }
         ensures world { OnOk result (self.new ≡ record { world = (step self.old.world (decode line.now)).0; has_failed = false }) }
+        ensures foreign { IfOk result (λ text. RefusesForeign self.old.world line.now self.new.world text.items) }
         ensures err { OnErr result (self.new.has_failed ≡ true) }
     {
         let mut out = Vec::new(self.alloc);
