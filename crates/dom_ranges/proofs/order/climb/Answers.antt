@@ -29,7 +29,7 @@ returns-in_default-parent-clause-depth c =
     let left = depth-up f c.law_nodes_stand_once.ensures.once c.law_nodes_stand_once.ensures.only c.up.left c.in-Some.fewer c.up.invariant.left_is_node
     c.in-Some.ensures.value in
     let fewer = depth-node f c.law_nodes_stand_once.ensures.once c.law_nodes_stand_once.ensures.only c.in-Some.fewer
-        (c.in-Some.ensures.node c.in-Some.fewer refl) in
+    (c.in-Some.ensures.node c.in-Some.fewer refl) in
     absurd (omega (arith, top, left, fewer, c.up.invariant.depth, c.requires.deep))
 
 pub up-smaller : goal.up-smaller

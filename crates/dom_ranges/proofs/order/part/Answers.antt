@@ -11,7 +11,7 @@ pub returns-in_default-clause-beside : goal.returns-in_default-clause-beside
 returns-in_default-clause-beside c =
     let f = c.args.forest.now in
     let here = depth-root f c.law_nodes_stand_once.ensures.once c.law_nodes_stand_once.ensures.only c.up.low c.up.invariant.low_is_node
-        c.in_default.ensures.value in
+    c.in_default.ensures.value in
     absurd (c.up.invariant.apart (roots-same f c.law_nodes_stand_once.ensures.once c.law_nodes_stand_once.ensures.only c.law_nodes_stand_once.ensures.distinct
     c.up.low c.up.other
     c.up.invariant.low_is_node c.up.invariant.other_is_node here (sym c.up.invariant.level ∙ here) c.up.invariant.one_tree))

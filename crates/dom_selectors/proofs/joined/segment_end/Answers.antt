@@ -48,7 +48,7 @@ loop-last-preserved c =
       comes = comes-before c.loop-last.invariant.comes (compound_view last.compound.items) (is
           ∙ ap (λ h. joined left (combinator_view h) (compound_view last.compound.items)) its_later) (complex_from c.args.first.now next.links.now)
           (name_at f.names next.key) (Once-forest f c.law_nodes_stand_once.ensures.once c.law_nodes_stand_once.ensures.only)
-              c.in-Some-chain_before.ensures.ends;
+          c.in-Some-chain_before.ensures.ends;
     }
 
 pub returns-then-not-matches-clause-ends : goal.returns-then-not-matches-clause-ends

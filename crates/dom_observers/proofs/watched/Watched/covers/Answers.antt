@@ -28,7 +28,7 @@ returns-then-has_above c =
     let sought = c.args.self.now.above.keys in
     let done = subst (HasPassed f c.args.key sought) c.in-Some.is c.loop-at.invariant in
     sym (passes-to f c.law_nodes_stand_once.ensures.once c.law_nodes_stand_once.ensures.distinct c.args.key c.in-Some.node sought done
-        (sym c.if-has_above.ensures))
+    (sym c.if-has_above.ensures))
 
 pub returns : goal.returns
 returns c =

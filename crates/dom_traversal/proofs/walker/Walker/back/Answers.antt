@@ -69,7 +69,7 @@ returns-clause-value c =
     } in
     (subst (λ (v : KeyedWalker). StepsBack f v c.args.key (Some c.lowest.result)) c.self.view_is
     (steps_sibling f c.law_nodes_stand_once.ensures.once c.law_nodes_stand_once.ensures.only w c.args.key comes other c.in-Some.ensures.value
-        placed.current low)).value
+    placed.current low)).value
 
 pub returns-clause-comes : goal.returns-clause-comes
 returns-clause-comes c =
@@ -89,7 +89,7 @@ returns-clause-comes c =
     } in
     (subst (λ (v : KeyedWalker). StepsBack f v c.args.key (Some c.lowest.result)) c.self.view_is
     (steps_sibling f c.law_nodes_stand_once.ensures.once c.law_nodes_stand_once.ensures.only w c.args.key comes other c.in-Some.ensures.value
-        placed.current low)).comes
+    placed.current low)).comes
 
 pub returns-clause-shorter : goal.returns-clause-shorter
 returns-clause-shorter c =

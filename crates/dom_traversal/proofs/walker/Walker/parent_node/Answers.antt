@@ -32,7 +32,7 @@ returns-then-accepts-clause-value c =
     let other = other_name f c.law_nodes_stand_once.ensures.distinct c.loop-self.at c.self.inside.root c.loop-self.invariant.stands.node placed.root
     (sym c.loop-self-test.ensures) in
     let at = IsWithin-key f c.law_nodes_stand_once.ensures.once c.law_nodes_stand_once.ensures.only c.self.inside.root c.loop-self.at
-        c.loop-self.invariant.stands in
+    c.loop-self.invariant.stands in
     sym (above-hit f.trees (walker_view f.names w) (name_at f.names c.loop-self.at) (name_at f.names c.in_ok-at.at) at other
     (sym c.in_ok-at.ensures.value) (sym c.if-accepts.ensures))
     ∙ (c.loop-self.invariant.left
@@ -61,7 +61,7 @@ loop-self-preserved c =
     let other = other_name f c.law_nodes_stand_once.ensures.distinct c.loop-self.at c.self.inside.root c.loop-self.invariant.stands.node placed.root
     (sym c.loop-self-test.ensures) in
     let at = IsWithin-key f c.law_nodes_stand_once.ensures.once c.law_nodes_stand_once.ensures.only c.self.inside.root c.loop-self.at
-        c.loop-self.invariant.stands in
+    c.loop-self.invariant.stands in
     let inner : IsInner f c.self.inside.root c.loop-self.at = record {
       once = c.law_nodes_stand_once.ensures.once;
       only = c.law_nodes_stand_once.ensures.only;
