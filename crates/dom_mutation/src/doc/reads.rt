@@ -57,8 +57,8 @@ impl Doc {
         self.parts.index(node)
     }
 
-    /// Whether a node's shadow-including root is a document (DOM Standard, concept: connected). Above a node's root there are as many
-    /// hosts as its owner is deep, eight at most.
+    /// Whether a node's shadow-including root is a document (DOM Standard, concept: connected). Above a node's root there are at most as
+    /// many hosts as its owner is deep, so eight at most.
     pub fn is_connected(&self, node: Key) -> bool
         requires { HoldsNode self.now node }
         ensures { result ≡ is_connected self.now.world (name_in self.now node) }

@@ -64,7 +64,7 @@ impl Forest {
         Some(at)
     }
 
-    /// The number of siblings before a node (DOM Standard, concept: index). Those that are remembered are looked through, and
+    /// The number of siblings before a node (DOM Standard, concept: index). Those that are remembered are not walked over, and
     /// the others are walked over one by one.
     pub fn index(&self, key: Key) -> usize
         requires { IsNode self.now key }
