@@ -35,3 +35,5 @@ mod Joining
 mod Parting
 mod Shortened
 mod Unlisted
+mod SlotNames
+mod Known

@@ -9,6 +9,7 @@ ghost use Rattle.dom_slots.specs.Kept.{AreSlotsOf, StandsOnce};
 mod apart;
 mod assigned;
 mod inside;
+mod known;
 mod moving;
 mod renewal;
 mod signals;
