@@ -2,7 +2,7 @@
 use Rattle.std.proofs.Common.{◌≡◌, ◌⊎◌, inl, inr, ℕ, ◌+◌, ◌<◌, ◌≤◌, Bool, true, false, List, [], ◌∷◌, ◌++◌, All, map, filter, drop, length, Option}
 use Rattle.std.proofs.Common.{Some, None, refl, sym, ap, subst, ◌∙◌, arith}
 use Rattle.std.specs.Prelude.{nat_eq, find, if◌then◌else◌, option_to_list, unwrap_or}
-use Rattle.std.specs.Option.{option_map, option_map_or, option_and_then, option_or, ForSome}
+use Rattle.std.specs.Option.{option_map, option_map_or, option_and_then, option_or}
 use Rattle.std.proofs.lemmas.Bool.{cases_Bool, cond-false, eqb-true}
 use Rattle.std.proofs.lemmas.List.{length_push}
 use Rattle.std.proofs.lemmas.List.Elements.{All-head, All-tail}
@@ -13,7 +13,7 @@ use Rattle.std.proofs.Math.Nat.{eq-or-lt_of_le}
 use Rattle.std.proofs.Math.Seq.{get_or-append_seam}
 use Rattle.dom_base.specs.declared.NodeName.{NodeName}
 use Rattle.dom_base.specs.declared.Owner.TheVariants.{Page}
-use Rattle.dom_model.specs.Names.{DomString, name_eq, name_before, node_of, is_in, first_of, last_of}
+use Rattle.dom_model.specs.Names.{name_eq, name_before, node_of, is_in, first_of, last_of}
 use Rattle.dom_model.specs.Tree.{Trees, none, tree, Node, nodes, roots, names_of, no_node, node_in, or_else, subtree, inclusive_ancestors, parent_of}
 use Rattle.dom_model.specs.Tree.{root_of, trees_below, children_of}
 use Rattle.dom_model.specs.TreeChanges.{with_node, put_root}
@@ -27,7 +27,7 @@ use Rattle.dom_traversal.proofs.Shapes.{Has, Once, above-absent, subtree-absent}
 use Rattle.dom_slots.specs.Hosts.{ShadowHost, HostsAreNodes, host_named, root_named, host_of_root}
 use Rattle.dom_slots.specs.Kept.{SlotsNow, HasOneMore, AreSlotsOf}
 use Rattle.dom_slots.specs.Shadows.{ShadowTrees, shadow_trees, slot_at, assigned_at, assigned_under}
-use Rattle.dom_slots.specs.Tables.{IsKnownTree, list_of, slot_for, first_slot_in}
+use Rattle.dom_slots.specs.Tables.{list_of}
 
 -- ---- a tree of one node among others
 
@@ -260,27 +260,6 @@ module _ (names : List NodeName) (ts : Trees) (hosts : List ShadowHost) (n : Nod
       (path_alone n n.name ts off)
       ∙ ap (λ o. option_map_or (assigned_under now n.name) o []) (host_kept names n.name hosts nodes n.name ∙ not_hosted names n.name new hosts nodes)
 
-  -- what is known of other trees stays so
-  key_more : (o : Option ℕ) → ForSome o (λ k. k < length names) → option_map (name_at (names ++ n.name ∷ [])) o ≡ option_map (name_at names) o
-  key_more None within = refl
-  key_more (Some k) within = ap (λ x. Some x) (name_kept names n.name k (within k refl))
-
-  known_more : (k : ℕ) (known : List (ℕ × DomString)) → IsKnownTree record { names = names; trees = ts } hosts k known →
-      IsKnownTree record { names = names ++ n.name ∷ []; trees = with_node n ts } hosts k known
-  known_more k known t =
-      let other : n.name ≡ name_at names k → ⊥ = λ e. new k t.within (sym e) in
-      let name : name_at (names ++ n.name ∷ []) k ≡ name_at names k = name_kept names n.name k t.within in
-      record {
-        within = longer names n.name k t.within;
-        hosted = (t.hosted.0, ap (host_named (names ++ n.name ∷ []) hosts) name ∙ (host_kept names n.name hosts nodes (name_at names k) ∙ t.hosted.1));
-        top = ap (root_of (with_node n ts)) name
-            ∙ (ap (λ path. unwrap_or (last_of path) (name_at names k)) (path_other (name_at names k) other) ∙ (t.top ∙ sym name));
-        keys = λ a j e. longer names n.name j (t.keys a j e);
-        first = λ a. key_more (slot_for a known) (t.keys a)
-            ∙ (t.first a ∙ sym (ap (λ x. first_slot_in (subtree (with_node n ts) x) a) name ∙
-            ap (λ us. first_slot_in us a) (tree_other (name_at names k) other)));
-      }
-
 -- ---- the slots of a forest with one node more
 
 module _ (f g : NamedTrees) (n : Node) (one : HasOneMore f g n) where
@@ -307,12 +286,9 @@ module _ (f g : NamedTrees) (n : Node) (one : HasOneMore f g n) where
       subst (λ (k : NamedTrees). AreSlotsOf k s) there record {
         hosts = hosts_longer f.names n.name s.hosts slots.hosts;
         table = record {
-          lists = record {
-            nodes = λ k. all_longer f.names n.name (list_of s.table k) (slots.table.lists.nodes k);
-            lists = λ k within. by k (let at : k ≤ length f.names = omega (arith, within, length_push f.names n.name) in eq-or-lt_of_le at);
-            beyond = λ k far. slots.table.lists.beyond k (omega (arith, far, length_push f.names n.name));
-          };
-          known = λ k known e. known_more f.names f.trees s.hosts n slots.hosts new_name new_node k known (slots.table.known k known e);
+          nodes = λ k. all_longer f.names n.name (list_of s.table k) (slots.table.nodes k);
+          lists = λ k within. by k (let at : k ≤ length f.names = omega (arith, within, length_push f.names n.name) in eq-or-lt_of_le at);
+          beyond = λ k far. slots.table.beyond k (omega (arith, far, length_push f.names n.name));
         };
       }
     where
@@ -322,13 +298,13 @@ module _ (f g : NamedTrees) (n : Node) (one : HasOneMore f g n) where
       by k (inl e) =
           let name : name_at (f.names ++ n.name ∷ []) k ≡ n.name =
           ap (λ i. name_at (f.names ++ n.name ∷ []) i) e ∙ get_or-append_seam f.names n.name [] (node_of Page 0) in
-          ap (map (name_at (f.names ++ n.name ∷ []))) (slots.table.lists.beyond k (omega arith))
+          ap (map (name_at (f.names ++ n.name ∷ []))) (slots.table.beyond k (omega arith))
           ∙ sym (ap (assigned_at (shadow_trees (f.names ++ n.name ∷ []) (with_node n f.trees) s.hosts)) name ∙
           assigned_new f.names f.trees s.hosts n slots.hosts new_name new_node)
       by k (inr within) =
           let name = name_kept f.names n.name k within in
-          names_kept f.names n.name (list_of s.table k) (slots.table.lists.nodes k)
-          ∙ (slots.table.lists.lists k within
+          names_kept f.names n.name (list_of s.table k) (slots.table.nodes k)
+          ∙ (slots.table.lists k within
           ∙ sym (ap (assigned_at (shadow_trees (f.names ++ n.name ∷ []) (with_node n f.trees) s.hosts)) name
           ∙ assigned_more f.names f.trees s.hosts n slots.hosts new_name new_node (name_at f.names k) (λ e. new_name k within (sym e))))
 

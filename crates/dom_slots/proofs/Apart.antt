@@ -18,16 +18,16 @@ use Rattle.dom_traversal.proofs.Lists.{In, In-parts}
 use Rattle.dom_traversal.proofs.Shapes.{Has}
 use Rattle.dom_slots.specs.Hosts.{ShadowHost, host_named}
 use Rattle.dom_slots.specs.Insides.{own_slots}
-use Rattle.dom_slots.specs.Kept.{BegunStep, SlotsNow, StandsOnce}
+use Rattle.dom_slots.specs.Kept.{BegunStep, SlotsNow, StandsOnce, IsEndOf}
 use Rattle.dom_slots.specs.Renewals.{AreRenewed, IsButFor}
 use Rattle.dom_slots.specs.Shadows.{shadows, shadow_trees, slot_at, assigned_at, is_bare_at, is_changed_at, signalled_by}
 use Rattle.dom_slots.specs.Steps.{StepHasNodes, step_node, is_move, around_of, left_by, IsStepFrom, step_signals, is_outside, is_apart}
-use Rattle.dom_slots.specs.Tables.{SlotTable, AreListsOf}
+use Rattle.dom_slots.specs.Tables.{SlotTable, IsTableOf}
 use Rattle.dom_slots.specs.declared.step.Step.{Step}
 use Rattle.dom_slots.specs.declared.step.Step.TheVariants.{Place, Removal, Attribute}
 use Rattle.dom_slots.proofs.Attributed.{parent-changed, changed-keeps, changed-stays}
 use Rattle.dom_slots.proofs.Choices.{third-fails}
-use Rattle.dom_slots.proofs.Ended.{IsListedEnd, told-signals, there-was, there-now, both-stand, not-own, none-own, but-for, others-among, renewed-table}
+use Rattle.dom_slots.proofs.Ended.{told-signals, there-was, there-now, both-stand, not-own, none-own, but-for, others-among, renewed-table}
 use Rattle.dom_slots.proofs.PlacedTrees.{Spot, grafted}
 use Rattle.dom_slots.proofs.Moved.{AreBoth, IsAside, Outside, root-aside, moved-keeps}
 use Rattle.dom_slots.proofs.OwnSignals.{own-signalled}
@@ -80,7 +80,7 @@ not_bare f hosts b y e =
 
 -- ---- the end of a step
 
-module _ (was : Trees) (f : NamedTrees) (s : SlotsNow) (b : BegunStep) (ended : IsListedEnd was f s b) (stands : StandsOnce f)
+module _ (was : Trees) (f : NamedTrees) (s : SlotsNow) (b : BegunStep) (ended : IsEndOf was f s b) (stands : StandsOnce f)
     (apart : is_apart (shadows f s.hosts) (name_at f.names (step_node b.step)) (option_map (name_at f.names) b.left) ≡ true) where
   abbrev x : NodeName
   x = name_at f.names (step_node b.step)
@@ -213,7 +213,7 @@ module _ (was : Trees) (f : NamedTrees) (s : SlotsNow) (b : BegunStep) (ended : 
 
   module _ (table : SlotTable) (keys : List ℕ) (r : AreRenewed f s.hosts is_other s.table own (filter is_other own) table keys) where
     -- behind the last the table is that of the trees now
-    pub apart-table : AreListsOf f s.hosts table
+    pub apart-table : IsTableOf f s.hosts table
     apart-table = renewed-table was f s b ended stands own apart-stays (filter is_other own) table keys r
 
     -- and the keys are those of the slots that are signalled

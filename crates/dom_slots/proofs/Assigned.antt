@@ -11,7 +11,7 @@ use Rattle.dom_tree.specs.Forest.{NamedTrees, name_at}
 use Rattle.dom_traversal.proofs.Lists.{In}
 use Rattle.dom_slots.specs.Hosts.{ShadowHost}
 use Rattle.dom_slots.specs.Shadows.{ShadowTrees, shadows, slot_at, assigned_at, assigned_under, is_assigned_at}
-use Rattle.dom_slots.specs.Tables.{SlotTable, list_of, AreListsOf}
+use Rattle.dom_slots.specs.Tables.{SlotTable, list_of, IsTableOf}
 
 -- a key among keys has its name among their names
 pub names-in : (names : List NodeName) (k : ℕ) (ks : List ℕ) → is_in nat_eq k ks ≡ true → In (name_at names k) (map (name_at names) ks)
@@ -43,7 +43,7 @@ module _ (s : ShadowTrees) (x y : NodeName) where
       by None i = absurd i
       by (Some h) i = only_slot (slot_at s x) (left-passes (is_assigned_at s y) x (children_of s.trees h) i)
 
-module _ (f : NamedTrees) (hosts : List ShadowHost) (table : SlotTable) (is : AreListsOf f hosts table) (node slot : ℕ)
+module _ (f : NamedTrees) (hosts : List ShadowHost) (table : SlotTable) (is : IsTableOf f hosts table) (node slot : ℕ)
     (listed : is_in nat_eq node (list_of table slot) ≡ true) where
   -- a slot with a list is a node
   pub listed-node : slot < length f.names

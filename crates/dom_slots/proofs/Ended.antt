@@ -1,7 +1,7 @@
 -- What the end of a step signals, and what stands before and after it.
 use Rattle.std.proofs.Common.{◌≡◌, ℕ, ◌<◌, Bool, true, false, not, List, [], ◌∷◌, ◌++◌, None, Some, map, length, refl, sym, ap, subst, ◌∙◌, true≢false}
 use Rattle.std.specs.Prelude.{find, if◌then◌else◌, option_to_list}
-use Rattle.std.specs.Option.{option_map, option_map_or, option_and_then, ForSome}
+use Rattle.std.specs.Option.{option_map, option_map_or, option_and_then}
 use Rattle.std.proofs.lemmas.Bool.{or_parts, true_from_ne_false}
 use Rattle.std.proofs.lemmas.List.Elements.{All-nil}
 use Rattle.std.proofs.lemmas.List.Folds.{list_any-append}
@@ -24,7 +24,7 @@ use Rattle.dom_slots.specs.Shadows.{ShadowTrees, shadows, shadow_trees, slot_at,
 use Rattle.dom_slots.specs.Steps.{StepHasNodes, IsStepFrom, step_node, around_of, is_move, left_by, step_signals}
 use Rattle.dom_slots.specs.declared.step.Step.{Step}
 use Rattle.dom_slots.specs.declared.step.Step.TheVariants.{Place, Removal, Attribute}
-use Rattle.dom_slots.specs.Tables.{SlotTable, list_of, AreListsOf}
+use Rattle.dom_slots.specs.Tables.{SlotTable, list_of, IsTableOf}
 use Rattle.dom_slots.proofs.Assigned.{listed-slot}
 use Rattle.dom_slots.proofs.Hosted.{named-key}
 use Rattle.dom_slots.proofs.Moved.{AreBoth}
@@ -38,18 +38,6 @@ node-within names (Place x parent before) nodes = nodes.0
 node-within names (Removal x) nodes = nodes
 node-within names (Attribute x) nodes = nodes
 
--- A step is at its end whose lists are those of the trees before it, whatever is known of shadow trees.
-pub record IsListedEnd (was : Trees) (f : NamedTrees) (s : SlotsNow) (b : BegunStep) : Type 0 where
-  pub stands : StandsOnce record { names = f.names; trees = was }
-  pub nodes : StepHasNodes f.names b.step
-  pub left_is : option_map (name_at f.names) b.left ≡ left_by f.names was b.step
-  pub left : ForSome b.left (λ k. k < length f.names)
-  pub slot_node : ForSome b.slot (λ k. k < length f.names)
-  pub slot : option_map (name_at f.names) b.slot ≡ slot_at (shadow_trees f.names was s.hosts) (name_at f.names (step_node b.step))
-  pub step : IsStepFrom f.names was f.trees b.step b.left
-  pub hosts : HostsAreNodes f.names s.hosts
-  pub lists : AreListsOf record { names = f.names; trees = was } s.hosts s.table
-
 -- what is signalled around a node, by the tables
 abbrev pub told_by : NamedTrees → List ShadowHost → (NodeName → Bool) → BegunStep → List NodeName
 told_by f hosts p b =
@@ -57,7 +45,7 @@ told_by f hosts p b =
     (name_at f.names around) (is_move b.step)) (around_of b.step b.left) []
 
 -- is what the step signals
-pub told-signals : (was : Trees) (f : NamedTrees) (s : SlotsNow) (b : BegunStep) → IsListedEnd was f s b
+pub told-signals : (was : Trees) (f : NamedTrees) (s : SlotsNow) (b : BegunStep) → IsEndOf was f s b
     → told_by f s.hosts (is_changed_at (shadow_trees f.names was s.hosts) (shadows f s.hosts)) b ≡ step_signals f.names
     (shadow_trees f.names was s.hosts) (shadows f s.hosts) b.step b.left
 told-signals was f s b h =
@@ -102,7 +90,7 @@ host-key names (g ∷ hosts) nodes r h e = by (name_eq r (name_at names g.root))
 
 -- ---- before and after a step
 
-module _ (was : Trees) (f : NamedTrees) (s : SlotsNow) (b : BegunStep) (ended : IsListedEnd was f s b) (stands : StandsOnce f) where
+module _ (was : Trees) (f : NamedTrees) (s : SlotsNow) (b : BegunStep) (ended : IsEndOf was f s b) (stands : StandsOnce f) where
   abbrev x : NodeName
   x = name_at f.names (step_node b.step)
 
@@ -128,7 +116,7 @@ module _ (was : Trees) (f : NamedTrees) (s : SlotsNow) (b : BegunStep) (ended : 
   both-stand = record {
     once_was = Once-forest record { names = f.names; trees = was } ended.stands.once ended.stands.only;
     once_now = Once-forest f stands.once stands.only;
-    stands = λ r h e. let w = host-key f.names s.hosts ended.hosts r h e in
+    stands = λ r h e. let w = host-key f.names s.hosts ended.slots.hosts r h e in
         (subst (Has was) w.2 (there-was w.0 w.1), subst (Has f.trees) w.2 (there-now w.0 w.1));
   }
 
@@ -156,23 +144,22 @@ module _ (was : Trees) (f : NamedTrees) (s : SlotsNow) (b : BegunStep) (ended : 
       → (is_move b.step ≡ false → slot_at before x ≡ slot_at after x → (y : NodeName) → Has was y → Has f.trees y →
       assigned_at before y ≡ assigned_at after y) → IsButFor f s.hosts s.table b.slot b.step
   but-for distinct kept still = record {
-    others = λ k within. ap (names_but x) (ended.lists.lists k within) ∙ kept (name_at f.names k) (there-was k within) (there-now k within);
+    others = λ k within. ap (names_but x) (ended.slots.table.lists k within) ∙ kept (name_at f.names k) (there-was k within) (there-now k within);
     listed = λ k within i.
         named-key f.names distinct b.slot ended.slot_node k within
-        (ended.slot ∙ sym (listed-slot record { names = f.names; trees = was } s.hosts s.table ended.lists (step_node b.step) k i));
+        (ended.slot ∙ sym (listed-slot record { names = f.names; trees = was } s.hosts s.table ended.slots.table (step_node b.step) k i));
     stays = λ unmoved same k within.
-        ended.lists.lists k within ∙ still unmoved (sym ended.slot ∙ same) (name_at f.names k) (there-was k within) (there-now k within);
+        ended.slots.table.lists k within ∙ still unmoved (sym ended.slot ∙ same) (name_at f.names k) (there-was k within) (there-now k within);
   }
 
   -- before the first list is renewed
   pub none-renewed : AreRenewed f s.hosts is-other s.table [] [] s.table []
   none-renewed = record {
-    others = λ k within. ap (λ xs. not (list_eq name_eq xs (assigned_at after (name_at f.names k)))) (sym (ended.lists.lists k within));
+    others = λ k within. ap (λ xs. not (list_eq name_eq xs (assigned_at after (name_at f.names k)))) (sym (ended.slots.table.lists k within));
     renewed = λ k within i. absurd (true≢false (sym i));
     kept = λ k within i. refl;
-    known = λ k. refl;
-    nodes = ended.lists.nodes;
-    beyond = ended.lists.beyond;
+    nodes = ended.slots.table.nodes;
+    beyond = ended.slots.table.beyond;
     keys_nodes = All-nil (λ k. k < length f.names);
     keys_are = refl;
     among = λ y i. absurd (true≢false (sym i));
@@ -197,7 +184,7 @@ module _ (was : Trees) (f : NamedTrees) (s : SlotsNow) (b : BegunStep) (ended : 
 
     -- where the lists of these are renewed the table is that of the trees now
     pub renewed-table : (told : List NodeName) (table : SlotTable) (keys : List ℕ) → AreRenewed f s.hosts is-other s.table slots told table keys →
-        AreListsOf f s.hosts table
+        IsTableOf f s.hosts table
     renewed-table told table keys r = record {
       nodes = r.nodes;
       lists = λ k within. by k within (is_in name_eq (name_at f.names k) slots) refl;
@@ -207,4 +194,4 @@ module _ (was : Trees) (f : NamedTrees) (s : SlotsNow) (b : BegunStep) (ended : 
         by : (k : ℕ) → k < length f.names → (b : Bool) → is_in name_eq (name_at f.names k) slots ≡ b →
             map (name_at f.names) (list_of table k) ≡ assigned_at after (name_at f.names k)
         by k within true i = r.renewed k within i
-        by k within false i = ap (map (name_at f.names)) (r.kept k within i) ∙ (ended.lists.lists k within ∙ stays k within i)
+        by k within false i = ap (map (name_at f.names)) (r.kept k within i) ∙ (ended.slots.table.lists k within ∙ stays k within i)

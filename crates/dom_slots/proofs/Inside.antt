@@ -18,14 +18,14 @@ use Rattle.dom_traversal.proofs.Lists.{In, is_in-from, In-parts}
 use Rattle.dom_traversal.proofs.Shapes.{Has, subtree-present}
 use Rattle.dom_slots.specs.Hosts.{ShadowHost}
 use Rattle.dom_slots.specs.Insides.{tree_slots, own_slots, bare_around, slots_around, left_slots, MovesNone, AreMoved, MayMove, IsInside}
-use Rattle.dom_slots.specs.Kept.{BegunStep, SlotsNow, StandsOnce}
+use Rattle.dom_slots.specs.Kept.{BegunStep, SlotsNow, StandsOnce, IsEndOf}
 use Rattle.dom_slots.specs.Renewals.{AreRenewed, IsButFor}
 use Rattle.dom_slots.specs.Shadows.{ShadowTrees, shadows, shadow_trees, slot_at, assigned_at, is_changed_at, signalled_by}
 use Rattle.dom_slots.specs.Steps.{StepHasNodes, step_node, is_move, around_of, left_by, IsStepFrom, step_signals}
-use Rattle.dom_slots.specs.Tables.{SlotTable, list_of, AreListsOf}
+use Rattle.dom_slots.specs.Tables.{SlotTable, list_of, IsTableOf}
 use Rattle.dom_slots.specs.declared.step.Step.{Step}
 use Rattle.dom_slots.specs.declared.step.Step.TheVariants.{Place, Removal, Attribute}
-use Rattle.dom_slots.proofs.Ended.{IsListedEnd, told-signals, there-was, there-now, both-stand, not-own, none-own, but-for, others-among, renewed-table}
+use Rattle.dom_slots.proofs.Ended.{told-signals, there-was, there-now, both-stand, not-own, none-own, but-for, others-among, renewed-table}
 use Rattle.dom_slots.proofs.Far.{IsAway, IsFar, KeepsFar, slot-among, far-kept, alone-kept, changed-far, changed-still}
 use Rattle.dom_slots.proofs.PlacedTrees.{Spot, grafted}
 use Rattle.dom_slots.proofs.Moved.{AreBoth}
@@ -54,7 +54,7 @@ module _ (names : List NodeName) (hosts : List ShadowHost) (m : Node) (d us : Tr
   far-so : KeepsFar names hosts m.name (grafted m d p us) (grafted m d q us)
   far-so = far-kept names hosts m d us p q apart both
 
-module _ (was : Trees) (f : NamedTrees) (s : SlotsNow) (b : BegunStep) (ended : IsListedEnd was f s b) (stands : StandsOnce f) where
+module _ (was : Trees) (f : NamedTrees) (s : SlotsNow) (b : BegunStep) (ended : IsEndOf was f s b) (stands : StandsOnce f) where
   abbrev before : ShadowTrees
   before = shadow_trees f.names was s.hosts
 
@@ -283,7 +283,7 @@ module _ (was : Trees) (f : NamedTrees) (s : SlotsNow) (b : BegunStep) (ended : 
   -- ---- the lists that are renewed
 
   moved_table : (around : ℕ) → around_of b.step b.left ≡ Some around → (told : List NodeName) (table : SlotTable) (keys : List ℕ)
-      → AreMoved f s.hosts is_other s.table own told b.step b.left (name_at f.names around) table keys → AreListsOf f s.hosts table
+      → AreMoved f s.hosts is_other s.table own told b.step b.left (name_at f.names around) table keys → IsTableOf f s.hosts table
   moved_table around e told table keys m =
       record { nodes = late.1.nodes; lists = λ k within. by k within (is_in name_eq (name_at f.names k) lefts) refl; beyond = late.1.beyond }
     where
@@ -300,7 +300,7 @@ module _ (was : Trees) (f : NamedTrees) (s : SlotsNow) (b : BegunStep) (ended : 
       early : (k : ℕ) → k < length f.names → is_in name_eq (name_at f.names k) lefts ≡ false → (c : Bool) →
           is_in name_eq (name_at f.names k) (told_slots around) ≡ c → map (name_at f.names) (list_of m.0 k) ≡ assigned_at after (name_at f.names k)
       early k within off true i = m.1.renewed k within i
-      early k within off false i = ap (map (name_at f.names)) (m.1.kept k within i) ∙ (ended.lists.lists k within ∙ moved around e k within i off)
+      early k within off false i = ap (map (name_at f.names)) (m.1.kept k within i) ∙ (ended.slots.table.lists k within ∙ moved around e k within i off)
 
       by : (k : ℕ) → k < length f.names → (c : Bool) → is_in name_eq (name_at f.names k) lefts ≡ c →
           map (name_at f.names) (list_of table k) ≡ assigned_at after (name_at f.names k)
@@ -314,15 +314,15 @@ module _ (was : Trees) (f : NamedTrees) (s : SlotsNow) (b : BegunStep) (ended : 
         (name_at f.names k) table keys
 
     -- the table is that of the trees now
-    pub inside-table : AreListsOf f s.hosts table
+    pub inside-table : IsTableOf f s.hosts table
     inside-table = by (around_of b.step b.left) refl
       where
-        at : (k : ℕ) → around_of b.step b.left ≡ Some k → MayMoveAt k → AreListsOf f s.hosts table
+        at : (k : ℕ) → around_of b.step b.left ≡ Some k → MayMoveAt k → IsTableOf f s.hosts table
         at k e (inl r) = renewed-table was f s b ended stands own (none_moved r.0)
             (filter is_other own ++ bare_around f s.hosts b.step (name_at f.names k)) table keys r.1
         at k e (inr m) = moved_table k e (filter is_other own ++ bare_around f s.hosts b.step (name_at f.names k)) table keys m
 
-        by : (o : Option ℕ) → around_of b.step b.left ≡ o → AreListsOf f s.hosts table
+        by : (o : Option ℕ) → around_of b.step b.left ≡ o → IsTableOf f s.hosts table
         by None e = renewed-table was f s b ended stands own (none_around e) (filter is_other own) table keys (inside.alone e)
         by (Some k) e = at k e (inside.around k e)
 

@@ -35,5 +35,3 @@ mod Joining
 mod Parting
 mod Shortened
 mod Unlisted
-mod SlotNames
-mod Known

@@ -48,7 +48,7 @@ node-of_tree ts once c h =
     (w.0, w.1, w.2, ap (node_in ts) (sym w.3) ∙ node_in-self ts once w.0 (in_tree ts c w.0 inside))
 
 -- no node stands above its parent
-pub not-below : (ts : Trees) → Once ts → (x p : NodeName) → Has ts x → parent_of ts x ≡ Some p → Has (subtree ts x) p → ⊥
+not-below : (ts : Trees) → Once ts → (x p : NodeName) → Has ts x → parent_of ts x ≡ Some p → Has (subtree ts x) p → ⊥
 not-below ts once x p h e i =
     let up = above-parent ts x p once h e in
     let round = above-split ts x p once up.1 (above-from_below ts x p once h i) in

@@ -144,20 +144,8 @@ slots-recast f g s h keeps names trees slots =
     Rattle.std.proofs.Common.subst (λ (k : NamedTrees). AreSlotsOf k s) there record {
       hosts = slots.hosts;
       table = record {
-        lists = record {
-          nodes = slots.table.lists.nodes;
-          lists = λ k node. slots.table.lists.lists k node ∙ sym (assigned-recast h keeps f.names f.trees s.hosts (name_at f.names k));
-          beyond = slots.table.lists.beyond;
-        };
-        known = λ k known e.
-            let t = slots.table.known k known e in
-            record {
-              within = t.within;
-              hosted = t.hosted;
-              top = ap (λ path. unwrap_or (Rattle.dom_model.specs.Names.last_of path) (name_at f.names k))
-                  (path_recast h keeps.name f.trees (name_at f.names k)) ∙ t.top;
-              keys = t.keys;
-              first = λ a. t.first a ∙ sym (first_recast h keeps f.trees (name_at f.names k) a);
-            };
+        nodes = slots.table.nodes;
+        lists = λ k node. slots.table.lists k node ∙ sym (assigned-recast h keeps f.names f.trees s.hosts (name_at f.names k));
+        beyond = slots.table.beyond;
       };
     }

@@ -15,7 +15,7 @@ use Rattle.dom_traversal.proofs.Lists.{filter-yes, filter-no}
 use Rattle.dom_slots.specs.Hosts.{ShadowHost}
 use Rattle.dom_slots.specs.Renewals.{AreRenewed}
 use Rattle.dom_slots.specs.Shadows.{shadows, assigned_at}
-use Rattle.dom_slots.specs.Tables.{SlotTable, list_of, known_of}
+use Rattle.dom_slots.specs.Tables.{SlotTable, list_of}
 use Rattle.dom_slots.proofs.Entering.{entered_nodes, entered_beyond}
 use Rattle.dom_slots.proofs.Hosted.{key-test}
 use Rattle.dom_slots.proofs.OwnSignals.{again_added, passing}
@@ -129,13 +129,12 @@ module _ (f : NamedTrees) (apart : TellApart f.names) (hosts : List ShadowHost) 
         by false = r.keys_nodes
 
     -- one list more is renewed
-    pub renewed-more : ((j : ℕ) → known_of new j ≡ known_of table j) → next ≡ (if differs then append_once nat_eq keys k else keys) →
+    pub renewed-more : next ≡ (if differs then append_once nat_eq keys k else keys) →
         AreRenewed f hosts p old (done ++ x ∷ []) (told ++ filter p (x ∷ [])) new next
-    renewed-more known is = record {
+    renewed-more is = record {
       others = r.others;
       renewed = renewed_so;
       kept = kept_so;
-      known = λ j. known j ∙ r.known j;
       nodes = entered_nodes f hosts apart k list inside table new lists r.nodes;
       beyond = λ j far. entered_beyond f hosts apart k node list table new lists j far ∙ r.beyond j far;
       keys_nodes = nodes_so is;
@@ -145,7 +144,7 @@ module _ (f : NamedTrees) (apart : TellApart f.names) (hosts : List ShadowHost) 
 
   -- a list that is no other stays
   pub renewed-stays : differs ≡ false → (next : List ℕ) → next ≡ keys → AreRenewed f hosts p old (done ++ x ∷ []) (told ++ filter p (x ∷ [])) table next
-  renewed-stays e next is = renewed-more table (λ j. by j (nat_eq k j) refl) next (λ j. refl)
+  renewed-stays e next is = renewed-more table (λ j. by j (nat_eq k j) refl) next
       (is ∙ ap (λ (b : Bool). if b then append_once nat_eq keys k else keys) (sym e))
     where
       same : list_of table k ≡ list
@@ -167,7 +166,6 @@ renewed-anew f hosts p old done told table keys r = record {
   others = λ k within. by k within (is_in name_eq (name_at f.names k) done) refl;
   renewed = λ k within i. absurd (true≢false (sym i));
   kept = λ k within i. refl;
-  known = λ k. refl;
   nodes = r.nodes;
   beyond = r.beyond;
   keys_nodes = All-nil (λ k. k < length f.names);
@@ -209,7 +207,6 @@ module _ {f : NamedTrees} {hosts : List ShadowHost} {p : NodeName → Bool} {old
         others = r.others;
         renewed = r.renewed;
         kept = r.kept;
-        known = r.known;
         nodes = r.nodes;
         beyond = r.beyond;
         keys_nodes = more.nodes;

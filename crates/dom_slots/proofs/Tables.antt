@@ -1,43 +1,38 @@
--- Tables as their lists and their known trees hold them.
-use Rattle.std.proofs.Common.{◌≡◌, ℕ, zero, suc, Bool, true, false, List, [], ◌∷◌, Option, Result, Ok, Err, refl, sym, ap, ◌∙◌, true≢false}
-use Rattle.std.specs.Prelude.{nat_eq, Vec, if◌then◌else◌, OnOk, is_err}
-use Rattle.dom_slots.specs.declared.named.NamedSlot.{NamedSlot}
+-- Tables as their lists hold them.
+use Rattle.std.proofs.Common.{◌≡◌, ℕ, zero, suc, ◌+◌, Bool, true, false, List, [], ◌∷◌, Some, Result, Ok, Err, refl, sym, ap, ◌∙◌, true≢false, arith}
+use Rattle.std.specs.Prelude.{nat_eq, Vec, if◌then◌else◌, unwrap_or, OnOk, is_err}
+use Rattle.std.specs.Map.{lookup}
+use Rattle.std.proofs.lemmas.Bool.{eq-eqb, ne_eqb}
 use Rattle.dom_slots.specs.KeyMaps.{list_at}
-use Rattle.dom_slots.specs.Lists.{known_at, table_in}
-use Rattle.dom_slots.specs.Tables.{list_of, known_of}
+use Rattle.dom_slots.specs.Tables.{list_of}
+use Rattle.dom_slots.specs.Lists.{table_from, table_in}
 
-module _ {A B : Type 0} where
-  -- a list is found by its slot
-  pub list-found : (rows : List (Vec ℕ A)) (trees : List (Option (Vec NamedSlot B))) (k : ℕ) → list_at rows k ≡ list_of (table_in rows trees) k
-  list-found [] [] k = refl
-  list-found [] (t ∷ trees) zero = refl
-  list-found [] (t ∷ trees) (suc k) = list-found [] trees k
-  list-found (v ∷ rows) [] zero = refl
-  list-found (v ∷ rows) [] (suc k) = list-found rows [] k
-  list-found (v ∷ rows) (t ∷ trees) zero = refl
-  list-found (v ∷ rows) (t ∷ trees) (suc k) = list-found rows trees k
+-- a list is found by its slot
+list-from : {A : Type 0} (i k : ℕ) (rows : List (Vec ℕ A)) → list_at rows k ≡ list_of (table_from i rows) (i + k)
+list-from i k [] = refl
+list-from i zero (v ∷ rows) = here (nat_eq (i + 0) i) (eq-eqb (i + 0) i (omega arith))
+  where
+    here : (b : Bool) → b ≡ true → v.items ≡ unwrap_or (if b then Some v.items else lookup (nat_eq (i + 0)) (table_from (suc i) rows)) []
+    here true e = refl
+    here false e = absurd (true≢false (sym e))
+list-from i (suc k) (v ∷ rows) =
+    later (nat_eq (i + suc k) i) (ne_eqb (i + suc k) i (λ e. omega (arith, e)))
+    (list-from (suc i) k rows ∙ ap (list_of (table_from (suc i) rows)) (omega arith))
+  where
+    later : (b : Bool) → b ≡ false → list_at rows k ≡ list_of (table_from (suc i) rows) (i + suc k) →
+        list_at rows k ≡ unwrap_or (if b then Some v.items else lookup (nat_eq (i + suc k)) (table_from (suc i) rows)) []
+    later true e rest = absurd (true≢false e)
+    later false e rest = rest
 
-  -- what is known of a tree is found by its root
-  pub known-found : (rows : List (Vec ℕ A)) (trees : List (Option (Vec NamedSlot B))) (k : ℕ) → known_at trees k ≡ known_of (table_in rows trees) k
-  known-found [] [] k = refl
-  known-found [] (t ∷ trees) zero = refl
-  known-found [] (t ∷ trees) (suc k) = known-found [] trees k
-  known-found (v ∷ rows) [] zero = refl
-  known-found (v ∷ rows) [] (suc k) = known-found rows [] k
-  known-found (v ∷ rows) (t ∷ trees) zero = refl
-  known-found (v ∷ rows) (t ∷ trees) (suc k) = known-found rows trees k
-
--- and so whatever the lists are
-pub known-stays : {A B C : Type 0} (rows : List (Vec ℕ A)) (now : List (Vec ℕ B)) (trees : List (Option (Vec NamedSlot C))) (k : ℕ) →
-    known_of (table_in now trees) k ≡ known_of (table_in rows trees) k
-known-stays rows now trees k = sym (known-found now trees k) ∙ known-found rows trees k
+pub list-found : {A : Type 0} (k : ℕ) (rows : List (Vec ℕ A)) → list_at rows k ≡ list_of (table_in rows) k
+list-found k rows = list-from 0 k rows ∙ ap (list_of (table_in rows)) (omega arith)
 
 -- the lists as a contract sees them, after that of one slot was changed
-pub changed-found : {A B C : Type 0} (change : List ℕ → List ℕ) (slot : ℕ) (rows : List (Vec ℕ A)) (now : List (Vec ℕ B))
-    (trees : List (Option (Vec NamedSlot C))) → ((k : ℕ) → list_at now k ≡ (if nat_eq slot k then change (list_at rows k) else list_at rows k))
-    → (k : ℕ) → list_of (table_in now trees) k ≡ (if nat_eq slot k then change (list_of (table_in rows trees) k) else list_of (table_in rows trees) k)
-changed-found change slot rows now trees lists k =
-    sym (list-found now trees k) ∙ (lists k ∙ ap (λ xs. if nat_eq slot k then change xs else xs) (list-found rows trees k))
+pub changed-found : {A B : Type 0} (change : List ℕ → List ℕ) (slot : ℕ) (rows : List (Vec ℕ A)) (now : List (Vec ℕ B))
+    → ((k : ℕ) → list_at now k ≡ (if nat_eq slot k then change (list_at rows k) else list_at rows k))
+    → (k : ℕ) → list_of (table_in now) k ≡ (if nat_eq slot k then change (list_of (table_in rows) k) else list_of (table_in rows) k)
+changed-found change slot rows now lists k =
+    sym (list-found k now) ∙ (lists k ∙ ap (λ xs. if nat_eq slot k then change xs else xs) (list-found k rows))
 
 -- what holds on success holds where no error is told
 pub when-ok : {X E : Type 0} (r : Result X E) (P : Type 0) → is_err r ≡ false → OnOk r P → P

@@ -20,7 +20,7 @@ use Rattle.dom_traversal.proofs.Shapes.{Has, Once, Has-subtree, has_or_not}
 use Rattle.dom_slots.specs.Hosts.{ShadowHost, host_named, root_named}
 use Rattle.dom_slots.specs.Kept.{StandsOnce}
 use Rattle.dom_slots.specs.Shadows.{ShadowTrees, shadows, slot_at, is_assigned_at, assigned_under, assigned_at}
-use Rattle.dom_slots.specs.Tables.{SlotTable, list_of, AreListsOf}
+use Rattle.dom_slots.specs.Tables.{SlotTable, list_of, IsTableOf}
 use Rattle.dom_slots.proofs.Attaching.{to_filter}
 use Rattle.dom_slots.proofs.Hosted.{key-test}
 use Rattle.dom_slots.proofs.Rooted.{root-alone, root-below}
@@ -37,7 +37,7 @@ in-keys names distinct n node (k ∷ ks) inside (inr i) =
     or_right (nat_eq n k) _ (in-keys names distinct n node ks (All-tail (λ j. j < length names) k ks inside) i)
 
 module _ (f : NamedTrees) (stands : StandsOnce f) (once : Once f.trees) (distinct : TellApart f.names) (hosts : List ShadowHost)
-    (table : SlotTable) (is : AreListsOf f hosts table) (n : ℕ) (node : n < length f.names)
+    (table : SlotTable) (is : IsTableOf f hosts table) (n : ℕ) (node : n < length f.names)
     (unlisted : (s : ℕ) → is_in nat_eq n (list_of table s) ≡ false) (at : Has f.trees (name_at f.names n)) (p r : NodeName)
     (up : parent_of f.trees (name_at f.names n) ≡ Some p) (shadow : root_named f.names hosts p ≡ Some r)
     (hosted : host_named f.names hosts r ≡ Some p) (here : Has f.trees r) (top : parent_of f.trees r ≡ None) where

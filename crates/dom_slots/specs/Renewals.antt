@@ -7,9 +7,9 @@ use Rattle.dom_slots.specs.Hosts.{ShadowHost}
 use Rattle.dom_slots.specs.Shadows.{shadows, slot_at, assigned_at}
 use Rattle.dom_slots.specs.Steps.{step_node, is_move}
 use Rattle.dom_slots.specs.declared.step.Step.{Step}
-use Rattle.dom_slots.specs.Tables.{SlotTable, list_of, known_of}
+use Rattle.dom_slots.specs.Tables.{SlotTable, list_of}
 
--- Of an old table the lists of the slots `done` were renewed by a forest, and all else is as it was. The keys are those
+-- Of an old table the lists of the slots `done` were renewed by a forest, and all others are as they were. The keys are those
 -- of the names `told`, each once, and of the renewed slots all with other nodes than before are among them: p tells which.
 pub record AreRenewed (f : NamedTrees) (hosts : List ShadowHost) (p : NodeName → Bool) (old : SlotTable) (done told : List NodeName)
     (table : SlotTable) (keys : List ℕ) : Type 0 where
@@ -18,7 +18,6 @@ pub record AreRenewed (f : NamedTrees) (hosts : List ShadowHost) (p : NodeName �
   pub renewed : (k : ℕ) → k < length f.names → is_in name_eq (name_at f.names k) done ≡ true →
       map (name_at f.names) (list_of table k) ≡ assigned_at (shadows f hosts) (name_at f.names k)
   pub kept : (k : ℕ) → k < length f.names → is_in name_eq (name_at f.names k) done ≡ false → list_of table k ≡ list_of old k
-  pub known : (k : ℕ) → known_of table k ≡ known_of old k
   pub nodes : (k : ℕ) → All (λ j. j < length f.names) (list_of table k)
   pub beyond : (k : ℕ) → length f.names ≤ k → list_of table k ≡ []
   pub keys_nodes : All (λ k. k < length f.names) keys

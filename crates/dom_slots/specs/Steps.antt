@@ -65,9 +65,3 @@ is_outside s o = option_map_or (λ p. is_none (s.host_of (root_of s.trees p))) o
 -- parent that it left nor the one that it has now stands in a shadow tree (own rule)
 abbrev pub is_apart : ShadowTrees → NodeName → Option NodeName → Bool
 is_apart s x left = is_none (s.host_of x) && (is_outside s left && is_outside s (parent_of s.trees x))
-
--- a node is neither that of a step nor the root of the tree in which that stands, nor the root of the one that it left
-pub record IsElsewhere (names : List NodeName) (ts : Trees) (step : Step) (left : Option ℕ) (k : ℕ) : Type 0 where
-  pub node : k ≡ step_node step → ⊥
-  pub reached : k < length names → name_at names k ≡ root_of ts (name_at names (step_node step)) → ⊥
-  pub left_root : (j : ℕ) → left ≡ Some j → k < length names → name_at names k ≡ root_of ts (name_at names j) → ⊥

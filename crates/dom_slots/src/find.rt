@@ -147,7 +147,7 @@ fn is_slot_word(text: &str) -> bool
 }
 
 /// Whether two strings of code units are the same.
-pub(crate) fn is_same(text: &[u16], other: &[u16]) -> bool
+fn is_same(text: &[u16], other: &[u16]) -> bool
     ensures { result ≡ text_eq text.now other.now }
 {
     text == other

@@ -7,7 +7,6 @@ mod find;
 mod key_lists;
 mod key_map;
 mod laws;
-mod named;
 mod slots;
 mod step;
 mod table;

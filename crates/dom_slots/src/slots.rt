@@ -9,7 +9,6 @@ ghost use Rattle.dom_slots.specs.Kept.{AreSlotsOf, StandsOnce};
 mod apart;
 mod assigned;
 mod inside;
-mod known;
 mod moving;
 mod renewal;
 mod signals;

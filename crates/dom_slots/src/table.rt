@@ -1,26 +1,22 @@
-//! Which nodes are assigned to each slot, the slots of each node, and the slots of trees by their names.
-ghost use Rattle.std.specs.Prelude.{◌≡◌, ℕ, ◌&&◌, ◌||◌, [], true, false, nat_eq, not, if◌then◌else◌, None, Some, OnOk};
-ghost use Rattle.std.specs.Option.{option_map, ForSome};
+//! Which nodes are assigned to each slot, and the slots of each node.
+ghost use Rattle.std.specs.Prelude.{◌≡◌, ℕ, ◌&&◌, ◌||◌, [], true, false, nat_eq, not, if◌then◌else◌, None, OnOk};
+ghost use Rattle.std.specs.Option.{ForSome};
 ghost use Rattle.dom_model.specs.Names.{is_in, list_eq};
 ghost use Rattle.node_arena.specs.Nodes.{insert_before, without};
 ghost use Rattle.dom_slots.specs.KeyMaps.{list_at};
-ghost use Rattle.dom_slots.specs.Lists.{named_in};
-ghost use Rattle.dom_slots.specs.Tables.{list_of, known_of, slot_for};
+ghost use Rattle.dom_slots.specs.Tables.{list_of};
 
 use crate::key_lists::KeyLists;
-use crate::named::{NamedSlot, first_named, reach_root};
 use node_arena::Key;
 use std::alloc::{AllocError, Global};
 use std::marker::Model;
 
 /// Lists of nodes by slots, and the slots of each node in whose lists it stands: one as a rule, and two while a node's old list
-/// is still to be renewed. A slot without a list has an empty one, and so has a node; who had one keeps it, empty. Of some roots
-/// the slots of their trees are known with their names.
+/// is still to be renewed. A slot without a list has an empty one, and so has a node; who had one keeps it, empty.
 #[derive(Drop)]
 pub(crate) struct Table {
     lists: KeyLists,
     slots: KeyLists,
-    trees: Vec<Option<Vec<NamedSlot>>>,
 }
 
 impl Model for Table {
@@ -30,7 +26,7 @@ impl Model for Table {
 
     ghost use Rattle.dom_slots.specs.Lists.{table_in, SlotsAgree};
 
-    ghost view = { λ t. table_in t.lists.rows.items t.trees.items };
+    ghost view = { λ t. table_in t.lists.rows.items };
 
     ghost invariant = { λ t. SlotsAgree t.lists.rows.items t.slots.rows.items };
 }
@@ -43,7 +39,6 @@ impl Table {
         Table {
             lists: KeyLists::new(alloc),
             slots: KeyLists::new(alloc),
-            trees: Vec::new(alloc),
         }
     }
 
@@ -76,8 +71,7 @@ impl Table {
         slot: Key,
         list: Vec<Key>,
     ) -> Result<(), AllocError>
-        ensures lists { OnOk result ((k : ℕ) → list_of self.new k ≡ (if nat_eq slot k then list.items else list_of self.old k)) }
-        ensures known { OnOk result ((k : ℕ) → known_of self.new k ≡ known_of self.old k) }
+        ensures { OnOk result ((k : ℕ) → list_of self.new k ≡ (if nat_eq slot k then list.items else list_of self.old k)) }
     {
         forget(&mut self.slots, self.lists.of(slot), slot);
         if remember(alloc, &mut self.slots, &list, slot).is_err() {
@@ -97,7 +91,6 @@ impl Table {
     pub(crate) fn take_out(&mut self, slot: Key, node: Key) -> bool
         ensures stood { result ≡ is_in nat_eq node (list_of self.old slot) }
         ensures lists { (k : ℕ) → list_of self.new k ≡ (if nat_eq slot k then without node (list_of self.old k) else list_of self.old k) }
-        ensures known { (k : ℕ) → known_of self.new k ≡ known_of self.old k }
     {
         let _ = self.slots.take_out(node, slot);
         self.lists.take_out(slot, node)
@@ -112,8 +105,7 @@ impl Table {
         node: Key,
         before: Option<Key>,
     ) -> Result<(), AllocError>
-        ensures lists { OnOk result ((k : ℕ) → list_of self.new k ≡ (if nat_eq slot k then insert_before (list_of self.old k) node before else list_of self.old k)) }
-        ensures known { OnOk result ((k : ℕ) → known_of self.new k ≡ known_of self.old k) }
+        ensures { OnOk result ((k : ℕ) → list_of self.new k ≡ (if nat_eq slot k then insert_before (list_of self.old k) node before else list_of self.old k)) }
     {
         self.lists.put(alloc, slot, node, before)?;
         if self.slots.put(alloc, node, slot, None).is_err() {
@@ -122,36 +114,6 @@ impl Table {
             return Err(AllocError);
         }
         Ok(())
-    }
-
-    /// The first slot of a name in the tree of a root, where the slots of that tree are known.
-    pub(crate) fn slot_in_tree(&self, root: Key, name: &[u16]) -> Option<Option<Key>>
-        ensures { result ≡ option_map (slot_for name.now) (known_of self.now root) }
-    {
-        match self.trees.get(root.index()) {
-            Some(Some(known)) => Some(first_named(known, name)),
-            _ => None,
-        }
-    }
-
-    /// Knows the slots of the tree of a root.
-    pub(crate) fn know(&mut self, root: Key, known: Vec<NamedSlot>) -> Result<(), AllocError>
-        ensures lists { OnOk result ((k : ℕ) → list_of self.new k ≡ list_of self.old k) }
-        ensures known { OnOk result ((k : ℕ) → known_of self.new k ≡ (if nat_eq root k then Some (named_in known.items) else known_of self.old k)) }
-    {
-        reach_root(&mut self.trees, root)?;
-        self.trees[root.index()] = Some(known);
-        Ok(())
-    }
-
-    /// Knows the slots of the tree of a root no more.
-    pub(crate) fn forget_tree(&mut self, root: Key)
-        ensures lists { (k : ℕ) → list_of self.new k ≡ list_of self.old k }
-        ensures known { (k : ℕ) → known_of self.new k ≡ (if nat_eq root k then None else known_of self.old k) }
-    {
-        if root.index() < self.trees.len() {
-            self.trees[root.index()] = None;
-        }
     }
 }
 

@@ -6,7 +6,7 @@ ghost use Rattle.dom_tree.specs.Forest.{IsNode, name_of};
 ghost use Rattle.dom_slots.specs.Hosts.{HostsAreNodes};
 ghost use Rattle.dom_slots.specs.Kept.{AreSlotsOf};
 ghost use Rattle.dom_slots.specs.Shadows.{shadows, slot_at, is_first_at, assigned_at, assigned_under};
-ghost use Rattle.dom_slots.specs.Tables.{list_of, AreKnownTrees};
+ghost use Rattle.dom_slots.specs.Tables.{list_of};
 
 use crate::Slots;
 use crate::find::{looks_for, slot_name, slot_named, slottable_name};
@@ -64,12 +64,10 @@ impl Slots {
         Ok(keys)
     }
 
-    /// Finds the slot of a node by the maps, also in a forest that is not that of the lists. Where the slots of the shadow tree of its
-    /// parent are known that tree is not walked.
+    /// Finds the slot of a node by the maps alone, so also in a forest that is not that of the table.
     pub(super) fn slot_now(&self, forest: &Forest, node: Key) -> Option<Key>
         requires node_is_node { IsNode forest.now node }
         requires hosts { HostsAreNodes forest.now.names self.now.hosts }
-        requires known { AreKnownTrees forest.now self.now.hosts self.now.table }
         ensures value { option_map (name_of forest.now) result ≡ slot_at (shadows forest.now self.now.hosts) (name_of forest.now node) }
         ensures node { ForSome result (IsNode forest.now) }
     {
@@ -77,10 +75,7 @@ impl Slots {
         let parent = forest.parent(node)?;
         let root = self.root_of(parent)?;
         let name = slottable_name(forest, node)?;
-        match self.table.slot_in_tree(root, name) {
-            Some(slot) => slot,
-            None => slot_named(forest, root, name),
-        }
+        slot_named(forest, root, name)
     }
 
     /// The nodes assigned to a slot, also in a forest that is not that of the table.

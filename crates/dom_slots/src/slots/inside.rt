@@ -10,7 +10,7 @@ ghost use Rattle.dom_slots.specs.Insides.{tree_slots, bare_around, left_slots, M
 ghost use Rattle.dom_slots.specs.Renewals.{AreRenewed, IsButFor};
 ghost use Rattle.dom_slots.specs.Shadows.{shadows, is_bare_at};
 ghost use Rattle.dom_slots.specs.Steps.{StepHasNodes, step_node, is_move};
-ghost use Rattle.dom_slots.specs.Tables.{SlotTable, AreKnownTrees};
+ghost use Rattle.dom_slots.specs.Tables.{SlotTable};
 
 use super::Begun;
 use crate::Slots;
@@ -33,7 +33,6 @@ impl Slots {
         requires nodes { StepHasNodes forest.now.names begun.step }
         requires left { ForSome begun.left (IsNode forest.now) }
         requires slot { ForSome begun.slot (IsNode forest.now) }
-        requires known { AreKnownTrees forest.now self.old.hosts self.old.table }
         ensures hosts { IfOk result (λ keys. self.new.hosts ≡ self.old.hosts) }
         ensures begun { IfOk result (λ keys. self.new.begun ≡ self.old.begun) }
         ensures renewed { (p : Name → Truth) →
@@ -55,7 +54,6 @@ impl Slots {
         requires nodes { StepHasNodes forest.now.names begun.step }
         requires left { ForSome begun.left (IsNode forest.now) }
         requires slot { ForSome begun.slot (IsNode forest.now) }
-        requires known { AreKnownTrees forest.now self.old.hosts self.old.table }
         requires still { MovesNone forest.now self.old.hosts begun.step }
         ensures hosts { IfOk result (λ keys. self.new.hosts ≡ self.old.hosts) }
         ensures begun { IfOk result (λ keys. self.new.begun ≡ self.old.begun) }
@@ -83,7 +81,6 @@ impl Slots {
         requires nodes { StepHasNodes forest.now.names begun.step }
         requires left { ForSome begun.left (IsNode forest.now) }
         requires slot { ForSome begun.slot (IsNode forest.now) }
-        requires known { AreKnownTrees forest.now self.old.hosts self.old.table }
         requires moved { map (name_of forest.now) moved.now ≡ slots_among (subtree forest.now.trees (name_of forest.now (step_node begun.step))) }
         requires moved_nodes { All (IsNode forest.now) moved.now }
         ensures hosts { IfOk result (λ keys. self.new.hosts ≡ self.old.hosts) }

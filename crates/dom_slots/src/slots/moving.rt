@@ -10,7 +10,7 @@ ghost use Rattle.dom_slots.specs.Insides.{own_slots};
 ghost use Rattle.dom_slots.specs.Renewals.{AreRenewed, IsButFor, names_but};
 ghost use Rattle.dom_slots.specs.Shadows.{shadows, slot_at, assigned_at};
 ghost use Rattle.dom_slots.specs.Steps.{StepHasNodes};
-ghost use Rattle.dom_slots.specs.Tables.{SlotTable, list_of, AreKnownTrees};
+ghost use Rattle.dom_slots.specs.Tables.{SlotTable, list_of};
 
 use super::Begun;
 use crate::Slots;
@@ -34,7 +34,6 @@ impl Slots {
         requires nodes { StepHasNodes forest.now.names begun.step }
         requires slot { ForSome begun.slot (IsNode forest.now) }
         requires signals { signals.items ≡ [] }
-        requires known { AreKnownTrees forest.now self.old.hosts self.old.table }
         ensures hosts { IfOk result (λ keys. self.new.hosts ≡ self.old.hosts) }
         ensures begun { IfOk result (λ keys. self.new.begun ≡ self.old.begun) }
         ensures renewed { (p : Name → Truth) → IsButFor forest.now self.old.hosts self.old.table begun.slot begun.step →

@@ -10,7 +10,7 @@ ghost use Rattle.dom_slots.specs.Kept.{BegunStep, AreSlotsOf, IsBegun, IsEndOf};
 ghost use Rattle.dom_slots.specs.Renewals.{AreRenewed};
 ghost use Rattle.dom_slots.specs.Shadows.{shadows, shadow_trees};
 ghost use Rattle.dom_slots.specs.Steps.{StepHasNodes, step_signals};
-ghost use Rattle.dom_slots.specs.Tables.{SlotTable, AreKnownTrees};
+ghost use Rattle.dom_slots.specs.Tables.{SlotTable};
 
 use super::Begun;
 use crate::Slots;
@@ -71,17 +71,11 @@ impl Slots {
         }
         match self.begun.take() {
             Some(begun) if self.is_apart(forest, begun.step, begun.left) => {
-                self.learn(forest, begun.step.node())?;
                 let mut signals = mem::replace(&mut self.spare, Vec::new(self.alloc));
                 signals.clear();
                 self.moved_signals(forest, begun, signals)
             }
-            Some(begun) => {
-                let kept = begun;
-                self.forget_trees(forest, kept);
-                self.learn(forest, begun.step.node())?;
-                self.inside_signals(forest, begun)
-            }
+            Some(begun) => self.inside_signals(forest, begun),
             None => Ok(Vec::new(self.alloc)),
         }
     }
@@ -103,7 +97,6 @@ impl Slots {
         requires hosts { HostsAreNodes forest.now.names self.old.hosts }
         requires nodes { StepHasNodes forest.now.names begun.step }
         requires slot { ForSome begun.slot (IsNode forest.now) }
-        requires known { AreKnownTrees forest.now self.old.hosts self.old.table }
         ensures hosts { IfOk result (λ keys. self.new.hosts ≡ self.old.hosts) }
         ensures begun { IfOk result (λ keys. self.new.begun ≡ self.old.begun) }
         ensures renewed { (p : Name → Truth) (old : SlotTable) → AreRenewed forest.now self.old.hosts p old [] [] self.old.table [] →

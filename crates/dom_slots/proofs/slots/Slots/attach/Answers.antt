@@ -1,12 +1,9 @@
-use Rattle.std.proofs.Common.{◌≡◌, Bool, true, false, ◌<◌, ◌++◌, ◌∷◌, [], List, Some, length, ap, sym, subst, ◌∙◌, arith}
-use Rattle.std.specs.Prelude.{nat_eq, find, if◌then◌else◌}
-use Rattle.std.specs.Option.{option_map}
-use Rattle.std.proofs.lemmas.Option.{none-some}
-use Rattle.dom_model.specs.Names.{name_eq}
+use Rattle.std.proofs.Common.{◌≡◌, ◌<◌, ◌++◌, ◌∷◌, [], List, Some, length, ap, sym, subst, ◌∙◌, arith}
+use Rattle.std.specs.Prelude.{nat_eq, if◌then◌else◌}
 use Rattle.std.proofs.lemmas.List.{map-append}
 use Rattle.std.proofs.lemmas.Grind.{common_steps}
 use Rattle.dom_slots.specs.declared.slots.Attached.{Attached}
-use Rattle.dom_slots.specs.Hosts.{ShadowHost, HostsAreNodes, host_of_root, root_of_host, host_named}
+use Rattle.dom_slots.specs.Hosts.{ShadowHost, HostsAreNodes, host_of_root, root_of_host}
 use Rattle.dom_slots.specs.Tables.{IsTableOf}
 use Rattle.dom_base.specs.declared.NodeName.{NodeName}
 use Rattle.dom_tree.specs.Forest.{name_at}
@@ -22,19 +19,6 @@ hosts_more : (names : List NodeName) (hosts : List ShadowHost) (h : ShadowHost) 
     h.root < length names → HostsAreNodes names (hosts ++ h ∷ [])
 hosts_more names [] h nodes host root = (host, root, tt)
 hosts_more names (g ∷ hosts) h nodes host root = (nodes.0, nodes.1, hosts_more names hosts h nodes.2 host root)
-
--- who had a host has it
-still_hosted : (names : List NodeName) (hosts : List ShadowHost) (h : ShadowHost) (r x : NodeName) → host_named names hosts r ≡ Some x →
-    host_named names (hosts ++ h ∷ []) r ≡ Some x
-still_hosted names [] h r x e = absurd (none-some x e)
-still_hosted names (g ∷ hosts) h r x e = by (name_eq r (name_at names g.root)) e (still_hosted names hosts h r x)
-  where
-    by : (b : Bool) → option_map (λ (k : ShadowHost). name_at names k.host) (if b then Some g else find (λ k. name_eq r (name_at names k.root)) hosts) ≡ Some x
-        → (host_named names hosts r ≡ Some x → host_named names (hosts ++ h ∷ []) r ≡ Some x)
-        → option_map (λ (k : ShadowHost). name_at names k.host)
-        (if b then Some g else find (λ k. name_eq r (name_at names k.root)) (hosts ++ h ∷ [])) ≡ Some x
-    by true here rest = here
-    by false there rest = rest there
 
 -- the host, and the hosts with it
 abbrev attached_host : goal.After-set-2 → ShadowHost
@@ -76,21 +60,10 @@ returns-clause-slots c =
     let tables_are : old.table ≡ c.self.inside.table = sym (ap (λ (s : SlotsNow). s.table) c.self.view_is) in
     let once = Once-forest f stands.once stands.only in
     let table : IsTableOf f (old.hosts ++ h ∷ []) old.table = record {
-      lists = record {
-        nodes = slots.table.lists.nodes;
-        lists = λ k node. slots.table.lists.lists k node ∙ same_assigned f.names f.trees old.hosts h bare
-            (λ y is. bare_unassigned f once old.hosts (name_at f.names c.args.root) bare y is) (name_at f.names k);
-        beyond = slots.table.lists.beyond;
-      };
-      known = λ k known e.
-          let t = slots.table.known k known e in
-          record {
-            within = t.within;
-            hosted = (t.hosted.0, still_hosted f.names old.hosts h (name_at f.names k) t.hosted.0 t.hosted.1);
-            top = t.top;
-            keys = t.keys;
-            first = t.first;
-          };
+      nodes = slots.table.nodes;
+      lists = λ k node. slots.table.lists k node ∙ same_assigned f.names f.trees old.hosts h bare
+          (λ y is. bare_unassigned f once old.hosts (name_at f.names c.args.root) bare y is) (name_at f.names k);
+      beyond = slots.table.beyond;
     } in
     record {
       hosts = subst (HostsAreNodes f.names) hosts_are (hosts_more f.names old.hosts h slots.hosts host root);

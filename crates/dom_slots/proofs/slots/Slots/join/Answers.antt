@@ -8,7 +8,7 @@ use Rattle.dom_traversal.proofs.Counts.{Once-forest, Has-forest}
 use Rattle.node_arena.specs.Nodes.{insert_before}
 use Rattle.dom_slots.specs.Kept.{SlotsNow}
 use Rattle.dom_slots.specs.Renewals.{AreRenewed}
-use Rattle.dom_slots.specs.Tables.{SlotTable, list_of, known_of}
+use Rattle.dom_slots.specs.Tables.{SlotTable, list_of}
 use Rattle.dom_slots.proofs.Joining.{inserted-differs, joined, not-listed, joined-inside}
 use Rattle.dom_slots.proofs.Leaving.{at-slot}
 use Rattle.dom_slots.proofs.Renewing.{renewed-more}
@@ -40,12 +40,11 @@ returns-clause-renewed c =
     let off = not-listed f once e.distinct s.hosts node k under.0 at under.2 under.1 own list (r.nodes k) (right k c.in-Some.is) before
     c.next_looking_for-before.ensures.node is in
     let differs : true ≡ not (list_eq nat_eq list new) = inserted-differs node before list off in
-    let lists = λ (j : ℕ). c.in_ok-put.ensures.lists j ∙ ap (λ (t : SlotTable). if nat_eq k j then insert_before (list_of t j) node before else list_of t j) tables in
-    let known = λ (j : ℕ). c.in_ok-put.ensures.known j ∙ ap (λ (t : SlotTable). known_of t j) tables in
+    let lists = λ (j : ℕ). c.in_ok-put.ensures j ∙ ap (λ (t : SlotTable). if nat_eq k j then insert_before (list_of t j) node before else list_of t j) tables in
     on_ok_weaker c.add_once.result
     (λ (told_is : c.add_once.new.signals.items ≡ append_once nat_eq keys k).
     subst (λ o. AreRenewed f s.hosts p old (done ++ option_to_list (option_map (name_at f.names) o))
     (told ++ filter p (option_to_list (option_map (name_at f.names) o))) c.put.new.self c.add_once.new.signals.items) (sym c.in-Some.is)
     (renewed-more f e.distinct s.hosts p old done told s.table keys r k (c.requires.slot k c.in-Some.is) new names within c.put.new.self
-    (at-slot (λ xs. insert_before xs node before) k s.table c.put.new.self lists) c.add_once.new.signals.items known
+    (at-slot (λ xs. insert_before xs node before) k s.table c.put.new.self lists) c.add_once.new.signals.items
     (told_is ∙ ap (λ b. if b then append_once nat_eq keys k else keys) differs))) c.add_once.ensures

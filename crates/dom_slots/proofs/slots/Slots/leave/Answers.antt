@@ -8,7 +8,7 @@ use Rattle.dom_tree.specs.Forest.{name_at}
 use Rattle.node_arena.specs.Nodes.{without}
 use Rattle.dom_slots.specs.Kept.{SlotsNow}
 use Rattle.dom_slots.specs.Renewals.{AreRenewed}
-use Rattle.dom_slots.specs.Tables.{SlotTable, list_of, known_of}
+use Rattle.dom_slots.specs.Tables.{SlotTable, list_of}
 use Rattle.dom_slots.proofs.Leaving.{without-differs, at-slot}
 use Rattle.dom_slots.proofs.Renewing.{renewed-more}
 use Rattle.dom_slots.proofs.slots.Slots.leave.Goals as goal
@@ -28,12 +28,11 @@ returns-then-not-take_out-clause-renewed c =
     (c.take_out.ensures.stood ∙ (ap (λ (t : SlotTable). is_in nat_eq node (list_of t k)) tables ∙
     without-differs node (list_of s.table k))) in
     let lists = λ (j : ℕ). c.take_out.ensures.lists j ∙ ap (λ (t : SlotTable). if nat_eq k j then without node (list_of t j) else list_of t j) tables in
-    let known = λ (j : ℕ). c.take_out.ensures.known j ∙ ap (λ (t : SlotTable). known_of t j) tables in
     subst (λ o. AreRenewed f s.hosts p old (done ++ option_to_list (option_map (name_at f.names) o))
     (told ++ filter p (option_to_list (option_map (name_at f.names) o))) c.take_out.new.self keys) (sym c.in-Some.is)
     (renewed-more f c.law_nodes_stand_once.ensures.distinct s.hosts p old done told s.table keys r k (c.requires.slot k c.in-Some.is) list
     (right k c.in-Some.is) (All-filter (λ j. not (j == node)) (λ j. j < length f.names) (list_of s.table k) (r.nodes k)) c.take_out.new.self
-    (at-slot (without node) k s.table c.take_out.new.self lists) keys known (ap (λ b. if b then append_once nat_eq keys k else keys) differs))
+    (at-slot (without node) k s.table c.take_out.new.self lists) keys (ap (λ b. if b then append_once nat_eq keys k else keys) differs))
 
 pub returns-clause-renewed : goal.returns-clause-renewed
 returns-clause-renewed c =
@@ -50,12 +49,11 @@ returns-clause-renewed c =
     (c.take_out.ensures.stood ∙ (ap (λ (t : SlotTable). is_in nat_eq node (list_of t k)) tables ∙
     without-differs node (list_of s.table k))) in
     let lists = λ (j : ℕ). c.take_out.ensures.lists j ∙ ap (λ (t : SlotTable). if nat_eq k j then without node (list_of t j) else list_of t j) tables in
-    let known = λ (j : ℕ). c.take_out.ensures.known j ∙ ap (λ (t : SlotTable). known_of t j) tables in
     on_ok_weaker c.add_once.result
     (λ (is : c.add_once.new.signals.items ≡ append_once nat_eq keys k).
     subst (λ o. AreRenewed f s.hosts p old (done ++ option_to_list (option_map (name_at f.names) o))
     (told ++ filter p (option_to_list (option_map (name_at f.names) o))) c.take_out.new.self c.add_once.new.signals.items) (sym c.in-Some.is)
     (renewed-more f c.law_nodes_stand_once.ensures.distinct s.hosts p old done told s.table keys r k (c.requires.slot k c.in-Some.is) list
     (right k c.in-Some.is) (All-filter (λ j. not (j == node)) (λ j. j < length f.names) (list_of s.table k) (r.nodes k)) c.take_out.new.self
-    (at-slot (without node) k s.table c.take_out.new.self lists) c.add_once.new.signals.items known
+    (at-slot (without node) k s.table c.take_out.new.self lists) c.add_once.new.signals.items
     (is ∙ ap (λ b. if b then append_once nat_eq keys k else keys) differs))) c.add_once.ensures

@@ -2,7 +2,7 @@ use Rattle.std.proofs.Common.{◌≡◌, true, not, refl, sym, ap, ◌∙◌}
 use Rattle.std.specs.Prelude.{nat_eq, if◌then◌else◌}
 use Rattle.dom_model.specs.Names.{append_once, list_eq}
 use Rattle.dom_slots.specs.Kept.{SlotsNow}
-use Rattle.dom_slots.specs.Tables.{SlotTable, list_of, known_of}
+use Rattle.dom_slots.specs.Tables.{SlotTable, list_of}
 use Rattle.dom_slots.proofs.Renewing.{renewed-more, renewed-stays}
 use Rattle.dom_slots.proofs.slots.Slots.renew_slot.Goals as goal
 
@@ -20,8 +20,7 @@ returns-in_ok-add_once-clause-renewed c =
     ap (λ ks. not (list_eq nat_eq (list_of s.table k) ks)) c.deref.ensures.value)) in
     renewed-more f c.law_nodes_stand_once.ensures.distinct s.hosts p old done told s.table c.args.signals.now.items r k c.requires.node list
     c.in_ok-list.ensures.value c.in_ok-list.ensures.nodes c.insert.new.self
-    (λ j. c.in_ok-insert.ensures.lists j ∙ ap (λ (t : SlotTable). if nat_eq k j then list else list_of t j) tables) c.add_once.new.signals.items
-    (λ j. c.in_ok-insert.ensures.known j ∙ ap (λ (t : SlotTable). known_of t j) tables)
+    (λ j. c.in_ok-insert.ensures j ∙ ap (λ (t : SlotTable). if nat_eq k j then list else list_of t j) tables) c.add_once.new.signals.items
     (c.in_ok-add_once.ensures ∙ ap (λ b. if b then append_once nat_eq c.args.signals.now.items k else c.args.signals.now.items) told_true)
 
 pub returns-else-has_other-clause-renewed : goal.returns-else-has_other-clause-renewed

@@ -14,11 +14,11 @@ listed c = subst (λ (t : SlotTable). is_in nat_eq c.args.node (list_of t c.in-S
     (c.slot.ensures.some c.in-Some.slot c.in-Some.is)
 
 pub returns-in-Some-clause-value : goal.returns-in-Some-clause-value
-returns-in-Some-clause-value c = listed-slot c.args.forest.now c.args.self.now.hosts c.args.self.now.table c.requires.slots.table.lists c.args.node
+returns-in-Some-clause-value c = listed-slot c.args.forest.now c.args.self.now.hosts c.args.self.now.table c.requires.slots.table c.args.node
     c.in-Some.slot (listed c)
 
 pub returns-in-Some-clause-node : goal.returns-in-Some-clause-node
 returns-in-Some-clause-node c =
     λ k e.
     subst (λ j. j < length c.args.forest.now.names) (same_Some c.in-Some.slot k e)
-    (listed-node c.args.forest.now c.args.self.now.hosts c.args.self.now.table c.requires.slots.table.lists c.args.node c.in-Some.slot (listed c))
+    (listed-node c.args.forest.now c.args.self.now.hosts c.args.self.now.table c.requires.slots.table c.args.node c.in-Some.slot (listed c))

@@ -40,7 +40,7 @@ returns-then-eq-clause-value c =
     let within = root-node f.names hosts c.requires.slots.hosts p r (sym c.in_ok-root.ensures) in
     let host_is = same-option c.host_of.result (Some p) (sym c.eq.ensures ∙ c.if-eq.true) in
     unlisted-none f record { once = e.once; only = e.only } (Once-forest f e.once e.only) e.distinct hosts c.args.self.now.table
-    c.requires.slots.table.lists n c.requires.node_is_node c.requires.unlisted (Has-forest f e.once n c.requires.node_is_node) (name p) (name r)
+    c.requires.slots.table n c.requires.node_is_node c.requires.unlisted (Has-forest f e.once n c.requires.node_is_node) (name p) (name r)
     (sym c.in_ok-parent.ensures.value) (sym
     (ap (option_map name) c.in_ok-root.ensures ∙ root-named f.names e.distinct hosts c.requires.slots.hosts p
     (c.parent.ensures.node p c.in_ok-parent.was)))

@@ -1,9 +1,9 @@
 use Rattle.std.proofs.Common.{sym, ap, subst, ◌∙◌}
 use Rattle.std.specs.Prelude.{nat_eq, if◌then◌else◌}
 use Rattle.dom_slots.specs.KeyMaps.{list_at}
-use Rattle.dom_slots.specs.Tables.{SlotTable, list_of, known_of}
+use Rattle.dom_slots.specs.Tables.{SlotTable, list_of}
 use Rattle.dom_slots.proofs.Mapping.{AreTaken, AreGiven, agree-inserted}
-use Rattle.dom_slots.proofs.Tables.{known-stays, changed-found, when-ok}
+use Rattle.dom_slots.proofs.Tables.{changed-found, when-ok}
 use Rattle.dom_slots.proofs.table.Table.insert.Goals as goal
 
 pub invariant_of-self-else-is_err-2 : goal.invariant_of-self-else-is_err-2
@@ -15,12 +15,8 @@ invariant_of-self-else-is_err-2 c =
     (subst (λ xs. AreGiven (list_at c.forget.new.slots.rows.items) c.args.slot xs (list_at c.remember.new.slots.rows.items)) c.deref.ensures.value
     (when-ok c.remember.result _ (sym c.is_err.ensures.value ∙ c.if-is_err.false) c.remember.ensures))
 
-pub returns-clause-lists : goal.returns-clause-lists
-returns-clause-lists c = λ k.
+pub returns : goal.returns
+returns c = λ k.
     changed-found (λ xs. c.args.list.items) c.args.slot c.self.inside.lists.rows.items c.set.new.self.rows.items
-    c.self.inside.trees.items (when-ok c.set.result _ (sym c.is_err-2.ensures.value ∙ c.if-is_err-2.false) c.set.ensures.ok) k
+    (when-ok c.set.result _ (sym c.is_err-2.ensures.value ∙ c.if-is_err-2.false) c.set.ensures.ok) k
     ∙ ap (λ (t : SlotTable). if nat_eq c.args.slot k then c.args.list.items else list_of t k) c.self.view_is
-
-pub returns-clause-known : goal.returns-clause-known
-returns-clause-known c = λ k. known-stays c.self.inside.lists.rows.items c.set.new.self.rows.items c.self.inside.trees.items k ∙
-    ap (λ (t : SlotTable). known_of t k) c.self.view_is

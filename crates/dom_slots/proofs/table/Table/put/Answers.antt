@@ -3,9 +3,9 @@ use Rattle.std.specs.Prelude.{nat_eq, if◌then◌else◌}
 use Rattle.dom_model.specs.Names.{is_in}
 use Rattle.node_arena.specs.Nodes.{insert_before}
 use Rattle.dom_slots.specs.KeyMaps.{list_at}
-use Rattle.dom_slots.specs.Tables.{SlotTable, list_of, known_of}
+use Rattle.dom_slots.specs.Tables.{SlotTable, list_of}
 use Rattle.dom_slots.proofs.Mapping.{agree-put}
-use Rattle.dom_slots.proofs.Tables.{known-stays, changed-found, when-ok}
+use Rattle.dom_slots.proofs.Tables.{changed-found, when-ok}
 use Rattle.dom_slots.proofs.table.Table.put.Goals as goal
 
 pub invariant_of-self : goal.invariant_of-self
@@ -17,12 +17,8 @@ invariant_of-self-else-is_err c =
     (list_at c.self.inside.slots.rows.items) (list_at c.put-2.new.self.rows.items) c.self.invariant c.args.before c.in_ok-put.ensures.ok
     (when-ok c.put-2.result _ (sym c.is_err.ensures.value ∙ c.if-is_err.false) c.put-2.ensures.ok)
 
-pub returns-clause-lists : goal.returns-clause-lists
-returns-clause-lists c = λ k.
+pub returns : goal.returns
+returns c = λ k.
     changed-found (λ xs. insert_before xs c.args.node c.args.before) c.args.slot c.self.inside.lists.rows.items c.put.new.self.rows.items
-    c.self.inside.trees.items c.in_ok-put.ensures.ok k
+    c.in_ok-put.ensures.ok k
     ∙ ap (λ (t : SlotTable). if nat_eq c.args.slot k then insert_before (list_of t k) c.args.node c.args.before else list_of t k) c.self.view_is
-
-pub returns-clause-known : goal.returns-clause-known
-returns-clause-known c = λ k. known-stays c.self.inside.lists.rows.items c.put.new.self.rows.items c.self.inside.trees.items k ∙
-    ap (λ (t : SlotTable). known_of t k) c.self.view_is

@@ -3,9 +3,9 @@ use Rattle.std.specs.Prelude.{nat_eq, if◌then◌else◌}
 use Rattle.dom_model.specs.Names.{is_in}
 use Rattle.node_arena.specs.Nodes.{without}
 use Rattle.dom_slots.specs.KeyMaps.{list_at}
-use Rattle.dom_slots.specs.Tables.{SlotTable, list_of, known_of}
+use Rattle.dom_slots.specs.Tables.{SlotTable, list_of}
 use Rattle.dom_slots.proofs.Mapping.{agree-taken_out}
-use Rattle.dom_slots.proofs.Tables.{list-found, known-stays, changed-found}
+use Rattle.dom_slots.proofs.Tables.{list-found, changed-found}
 use Rattle.dom_slots.proofs.table.Table.take_out.Goals as goal
 
 pub invariant_of-self : goal.invariant_of-self
@@ -16,13 +16,9 @@ invariant_of-self c =
 
 pub returns-clause-stood : goal.returns-clause-stood
 returns-clause-stood c = c.take_out-2.ensures.stood ∙
-    ap (is_in nat_eq c.args.node) (list-found c.self.inside.lists.rows.items c.self.inside.trees.items c.args.slot ∙ ap (λ (t : SlotTable). list_of t c.args.slot) c.self.view_is)
+    ap (is_in nat_eq c.args.node) (list-found c.args.slot c.self.inside.lists.rows.items ∙ ap (λ (t : SlotTable). list_of t c.args.slot) c.self.view_is)
 
 pub returns-clause-lists : goal.returns-clause-lists
 returns-clause-lists c = λ k.
-    changed-found (without c.args.node) c.args.slot c.self.inside.lists.rows.items c.take_out-2.new.self.rows.items c.self.inside.trees.items c.take_out-2.ensures.lists k
+    changed-found (without c.args.node) c.args.slot c.self.inside.lists.rows.items c.take_out-2.new.self.rows.items c.take_out-2.ensures.lists k
     ∙ ap (λ (t : SlotTable). if nat_eq c.args.slot k then without c.args.node (list_of t k) else list_of t k) c.self.view_is
-
-pub returns-clause-known : goal.returns-clause-known
-returns-clause-known c = λ k. known-stays c.self.inside.lists.rows.items c.take_out-2.new.self.rows.items c.self.inside.trees.items k ∙
-    ap (λ (t : SlotTable). known_of t k) c.self.view_is
