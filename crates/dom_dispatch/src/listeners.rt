@@ -1,12 +1,12 @@
 //! The listeners of all nodes.
 ghost use Rattle.std.specs.Prelude.{◌≡◌, nat_eq, [], string_bytes, IfOk, OnOk, OnErr};
 ghost use Rattle.dom_model.specs.Listeners.{is_listener, listened, unlistened};
-ghost use Rattle.dom_model.specs.Names.{text_eq};
 ghost use Rattle.std.specs.List.{list_any};
 ghost use Rattle.dom_dispatch.specs.Entries.{words_of, listener_of, hears_at};
 
 use crate::table::Table;
 use dom_base::Action;
+use dom_tree::is_same_text;
 use node_arena::Key;
 use std::alloc::{AllocError, Global};
 use std::marker::Model;
@@ -35,8 +35,8 @@ impl Entry {
         ensures { result ≡ is_listener nat_eq node event.now label.now capture (listener_of self.now) }
     {
         self.node == node
-            && is_text(self.words.event.as_str(), event)
-            && is_text(self.words.label.as_str(), label)
+            && is_same_text(self.words.event.as_str(), event)
+            && is_same_text(self.words.label.as_str(), label)
             && self.words.capture == capture
     }
 
@@ -46,7 +46,7 @@ impl Entry {
         ensures { result ≡ hears_at node event.now capturing (listener_of self.now) }
     {
         self.node == node
-            && is_text(self.words.event.as_str(), event)
+            && is_same_text(self.words.event.as_str(), event)
             && self.words.capture == capturing
     }
 
@@ -136,11 +136,4 @@ impl Listeners {
             self.table.take(node, at);
         }
     }
-}
-
-/// Whether two texts are the same.
-fn is_text(text: &str, other: &str) -> bool
-    ensures { result ≡ text_eq text.now other.now }
-{
-    text == other
 }

@@ -6,6 +6,7 @@ ghost use Rattle.dom_model.specs.Observers.{options_of, asks_for_nothing, asks_f
 ghost use Rattle.dom_observers.specs.Views.{words_of, change_of};
 
 use crate::change::Change;
+use dom_tree::is_same_text;
 
 /// The words of `observe` (DOM Standard, dictionary MutationObserverInit): the kinds of change asked for, whether
 /// those of descendants too, where old values are wanted, and the attributes to which those are limited, if they are.
@@ -57,7 +58,9 @@ impl Options {
         ensures { result ≡ option_map_or (is_in text_eq name.now) (words_of self.now).filter true }
     {
         match &self.filter {
-            Some(names) => names.iter().any(|passed| is_text(name, passed.as_str())),
+            Some(names) => names
+                .iter()
+                .any(|passed| is_same_text(name, passed.as_str())),
             None => true,
         }
     }
@@ -72,11 +75,4 @@ impl Options {
             Change::CharacterData { .. } => self.character_data_old_value,
         }
     }
-}
-
-/// Whether two texts are the same.
-fn is_text(text: &str, other: &str) -> bool
-    ensures { result ≡ text_eq text.now other.now }
-{
-    text == other
 }

@@ -4,7 +4,7 @@ use Rattle.std.proofs.Common.{append_assoc, arith}
 use Rattle.std.specs.Prelude.{not, ◌&&◌, ◌||◌, ◌==◌, nat_eq, if◌then◌else◌}
 use Rattle.std.specs.List.{prefix_len, starts_with, list_any}
 use Rattle.std.proofs.lemmas.List.{append-nil, take_all}
-use Rattle.std.proofs.lemmas.Bool.{and_right, or_left, or_from}
+use Rattle.std.proofs.lemmas.Bool.{or_left, or_from}
 use Rattle.dom_model.specs.Names.{DomString, text_eq}
 use Rattle.dom_model.specs.Selectors.{is_space, words_from}
 
@@ -69,10 +69,3 @@ module _ (word rest first behind : DomString) (n : ℕ) (long : n ≡ prefix_len
           list_any (text_eq word) (words_from [] (take (length cs - 1) (drop 1 cs))) ≡ list_any (text_eq word) (words_behind cs)
       others [] e = absurd (omega (arith, e))
       others (c ∷ cs) e = ap (λ xs. list_any (text_eq word) (words_from [] xs)) (take_all (length (c ∷ cs) - 1) cs (omega arith))
-
--- texts of other lengths are not the same
-pub unlike : (xs ys : List ℕ) → (length xs ≡ length ys → ⊥) → text_eq xs ys ≡ false
-unlike [] [] h = absurd (h refl)
-unlike [] (y ∷ ys) h = refl
-unlike (x ∷ xs) [] h = refl
-unlike (x ∷ xs) (y ∷ ys) h = and_right (x == y) (text_eq xs ys) (unlike xs ys (λ e. h (omega (arith, e))))

@@ -2,7 +2,6 @@
 ghost use Rattle.std.specs.Prelude.{◌≡◌, ◌&&◌, map, string_bytes};
 ghost use Rattle.std.specs.List.{list_all};
 ghost use Rattle.std.specs.Option.{option_map};
-ghost use Rattle.dom_model.specs.Names.{text_eq};
 ghost use Rattle.dom_model.specs.Tree.{node_in, attribute_value};
 ghost use Rattle.dom_model.specs.Selectors.{attribute_passes as spec_attribute_passes, simple_matches as spec_simple_matches};
 ghost use Rattle.dom_model.specs.Selectors.{part_matches as spec_part_matches, compound_matches as spec_compound_matches};
@@ -12,7 +11,7 @@ ghost use Rattle.dom_selectors.specs.Views.{test_view, simple_view, part_view, c
 use crate::selector::{AttributeTest, CompoundPart, Simple};
 use crate::siblings::{element_before, element_behind, is_element};
 use crate::values::value_passes;
-use dom_tree::Forest;
+use dom_tree::{Forest, is_same_text};
 use node_arena::Key;
 
 /// How many attributes of a node are compared by their names, before the others are looked up.
@@ -26,7 +25,7 @@ fn attribute<'a>(forest: &'a Forest, key: Key, name: &str) -> Option<&'a [u16]>
 {
     for index in 0..FEW {
         let (other, value) = forest.attr_at(key, index)?;
-        if is_same_name(name, other) {
+        if is_same_text(name, other) {
             return Some(value);
         }
     }
@@ -50,30 +49,13 @@ fn attribute_passes(
     }
 }
 
-/// Whether two names are the same. Names are short, so their bytes are compared one by one.
-fn is_same_name(name: &str, other: &str) -> bool
-    ensures { result ≡ text_eq name.now other.now }
-{
-    let text = name.as_bytes();
-    let others = other.as_bytes();
-    if text.len() != others.len() {
-        return false;
-    }
-    for (i, b) in others.iter().enumerate() {
-        if text[i] != *b {
-            return false;
-        }
-    }
-    true
-}
-
 /// Whether an element matches a simple selector.
 fn simple_matches(forest: &Forest, simple: &Simple, key: Key) -> bool
     requires { IsNode forest.now key }
     ensures { result ≡ spec_simple_matches forest.now.trees (name_of forest.now key) (simple_view simple.now) }
 {
     match simple {
-        Simple::OfType(name) => is_same_name(forest.element(key), name.as_str()),
+        Simple::OfType(name) => is_same_text(forest.element(key), name.as_str()),
         Simple::OfAnyType => true,
         Simple::OfId(id) => attribute_passes(forest, key, "id", AttributeTest::Equals, id),
         Simple::OfClass(class) => {

@@ -8,13 +8,7 @@ ghost use Rattle.dom_selectors.specs.Views.{test_view};
 
 use crate::selector::AttributeTest;
 use crate::tokens::is_space;
-
-/// Whether two strings are the same.
-fn is_same(text: &[u16], other: &[u16]) -> bool
-    ensures { result ≡ text_eq text.now other.now }
-{
-    text == other
-}
+use dom_tree::is_same_string;
 
 /// How many units stand before the first white space.
 fn word_len(text: &[u16]) -> usize
@@ -38,7 +32,7 @@ fn has_word(text: &[u16], word: &[u16]) -> bool
     let mut rest = text;
     loop {
         let (first, behind) = rest.split_at(word_len(rest));
-        if is_same(word, first) {
+        if is_same_string(word, first) {
             return true;
         }
         match behind {
@@ -67,7 +61,7 @@ fn holds_text(text: &[u16], part: &[u16]) -> bool
 fn begins_with_dash(text: &[u16], value: &[u16]) -> bool
     ensures { result ≡ spec_value_passes (test_view AttributeTest.BeginsWithDash) value.now text.now }
 {
-    if is_same(text, value) {
+    if is_same_string(text, value) {
         return true;
     }
     if !text.starts_with(value) {
@@ -81,7 +75,7 @@ pub(crate) fn value_passes(test: AttributeTest, value: &[u16], text: &[u16]) -> 
     ensures { result ≡ spec_value_passes (test_view test) value.now text.now }
 {
     match test {
-        AttributeTest::Equals => is_same(text, value),
+        AttributeTest::Equals => is_same_string(text, value),
         AttributeTest::HasWord => {
             !(value.is_empty() || has_space(value)) && has_word(text, value)
         }

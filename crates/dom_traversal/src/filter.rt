@@ -1,13 +1,12 @@
 //! Which nodes an iterator or a walker sees.
 ghost use Rattle.std.specs.Prelude.{◌≡◌};
-ghost use Rattle.dom_model.specs.Names.{text_eq};
 ghost use Rattle.dom_model.specs.Traversal.{accepts, answer_at, is_shown};
 ghost use Rattle.dom_model.specs.Tree.{is_element, kind_of};
 ghost use Rattle.dom_tree.specs.Forest.{IsNode, name_of};
 ghost use Rattle.dom_traversal.specs.Filters.{filter_of, show_of};
 
 use dom_base::{Kind, Verdict};
-use dom_tree::Forest;
+use dom_tree::{Forest, is_same_text};
 use node_arena::Key;
 
 /// Which nodes are shown, and what is answered at an element with a name (DOM Standard, interface NodeFilter). Of `show`
@@ -33,7 +32,7 @@ impl Filter {
             return None;
         }
         let (name, verdict) = self.name.as_ref()?;
-        if is_text(forest.element(key), name.as_str()) {
+        if is_same_text(forest.element(key), name.as_str()) {
             Some(*verdict)
         } else {
             None
@@ -61,13 +60,6 @@ fn is_shown(show: u8, kind: Kind) -> bool
         Kind::Fragment | Kind::Shadow => 16,
     };
     show & bit != 0
-}
-
-/// Whether two texts are the same.
-fn is_text(text: &str, other: &str) -> bool
-    ensures { result ≡ text_eq text.now other.now }
-{
-    text == other
 }
 
 /// Whether a kind of node is that of elements.

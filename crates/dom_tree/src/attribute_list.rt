@@ -9,6 +9,7 @@ ghost use Rattle.dom_tree.specs.Attributes.{HaveOwnNames, value_among};
 ghost use Rattle.dom_tree.specs.Forest.{attribute_from, attributes_from};
 
 use crate::hashed_attributes::HashedAttributes;
+use crate::texts::is_same_text;
 use dom_base::DomStr;
 use indexmap::IndexMap;
 use std::alloc::{AllocError, Global};
@@ -135,24 +136,7 @@ fn place_of(attributes: &[(String, DomStr)], name: &str) -> Option<usize>
 {
     attributes
         .iter()
-        .position(|attribute| is_same(name, attribute.0.as_str()))
-}
-
-/// Whether two names are the same. They are compared byte by byte, since most names are short.
-fn is_same(name: &str, other: &str) -> bool
-    ensures { result ≡ bytes_eq name.now other.now }
-{
-    let bytes = name.as_bytes();
-    let others = other.as_bytes();
-    if bytes.len() != others.len() {
-        return false;
-    }
-    for index in 0..bytes.len() {
-        if bytes[index] != others[index] {
-            return false;
-        }
-    }
-    true
+        .position(|attribute| is_same_text(name, attribute.0.as_str()))
 }
 
 /// The attributes of a node, in a box. A node that never had one has no box.

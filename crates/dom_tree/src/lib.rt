@@ -14,7 +14,9 @@ mod owners;
 mod shared;
 mod stored;
 mod table;
+mod texts;
 
 pub use data::NodeData;
 pub use forest::Forest;
 pub use owners::{law_changes_add_up, law_changes_are_own, law_reads_are_own};
+pub use texts::{is_same_string, is_same_text};

@@ -12,16 +12,16 @@ returns-in_err-other c =
     ap (option_map (λ value. value.now)) c.from_residual.ensures
     ∙ (sym (value_nowhere c.args.name.now all c.loop-index.index (sym c.in_err-other.ensures)) ∙ c.loop-index.invariant)
 
-pub returns-then-is_same_name : goal.returns-then-is_same_name
-returns-then-is_same_name c =
+pub returns-then-is_same_text : goal.returns-then-is_same_text
+returns-then-is_same_text c =
     let all = (node_in c.args.forest.now.trees (name_at c.args.forest.now.names c.args.key)).attributes in
     sym (value_here c.args.name.now all c.loop-index.index (attribute_from c.in_ok-other.other.now c.in_ok-other.value.now)
-    (sym c.in_ok-other.ensures) (sym c.is_same_name.ensures ∙ c.if-is_same_name.true))
+    (sym c.in_ok-other.ensures) (sym c.is_same_text.ensures.text ∙ c.if-is_same_text.true))
     ∙ c.loop-index.invariant
 
 pub loop-index-preserved : goal.loop-index-preserved
 loop-index-preserved c =
     let all = (node_in c.args.forest.now.trees (name_at c.args.forest.now.names c.args.key)).attributes in
     sym (value_later c.args.name.now all c.loop-index.index (attribute_from c.in_ok-other.other.now c.in_ok-other.value.now)
-    (sym c.in_ok-other.ensures) (sym c.is_same_name.ensures ∙ c.if-is_same_name.false))
+    (sym c.in_ok-other.ensures) (sym c.is_same_text.ensures.text ∙ c.if-is_same_text.false))
     ∙ c.loop-index.invariant

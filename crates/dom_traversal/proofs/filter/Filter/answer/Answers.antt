@@ -19,16 +19,16 @@ named_answer : (s : Show) (f : NameFilter) (named : Option NameFilter) (n : Node
 named_answer s f named n kind element name same kind_is element_is name_is shown is_one is_named is_same =
     rw (← kind_is, ← shown, ← is_named, ← is_one, ← element_is, ← name_is, ← is_same) refl
 
-pub returns-then-is_text : goal.returns-then-is_text
-returns-then-is_text c =
+pub returns-then-is_same_text : goal.returns-then-is_same_text
+returns-then-is_same_text c =
     let n = node_in c.args.forest.now.trees (name_at c.args.forest.now.names c.args.key) in
     named_answer (show_of c.args.self.now.show) (name_filter_of c.in_ok-name.field-0.now) _ n _ _ _ true c.kind-kind.ensures c.element.ensures
     c.as_str.ensures.value c.if-not-is_shown.ensures c.if-not-is_element.ensures
-    (ap (option_map name_filter_of) c.in_ok-name.ensures.value) c.if-is_text.ensures
+    (ap (option_map name_filter_of) c.in_ok-name.ensures.value) c.if-is_same_text.ensures.text
 
-pub returns-else-is_text : goal.returns-else-is_text
-returns-else-is_text c =
+pub returns-else-is_same_text : goal.returns-else-is_same_text
+returns-else-is_same_text c =
     let n = node_in c.args.forest.now.trees (name_at c.args.forest.now.names c.args.key) in
     named_answer (show_of c.args.self.now.show) (name_filter_of c.in_ok-name.field-0.now) _ n _ _ _ false c.kind-kind.ensures c.element.ensures
     c.as_str.ensures.value c.if-not-is_shown.ensures c.if-not-is_element.ensures
-    (ap (option_map name_filter_of) c.in_ok-name.ensures.value) c.if-is_text.ensures
+    (ap (option_map name_filter_of) c.in_ok-name.ensures.value) c.if-is_same_text.ensures.text
