@@ -2,6 +2,7 @@
 #![tactic(auto)]
 
 mod cursors;
+mod references;
 mod tables;
 
 pub use cursors::Cursors;

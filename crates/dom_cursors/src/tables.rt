@@ -1,5 +1,6 @@
 //! What one owner has of cursors.
 ghost use Rattle.std.specs.Prelude.{◌≡◌, ℕ, ◌≤◌, ◌↔◌, ◌⊎◌, ◌++◌, ◌∷◌, [], length, true, false, is_some, slice_get, slice_set, IfOk, IfErr, OnOk, OnErr};
+ghost use Rattle.std.specs.Prelude.{◌<◌, Some};
 ghost use Rattle.std.specs.Option.{option_map, ForSome};
 ghost use Rattle.dom_base.specs.declared.Refusal.TheVariants.{Limit};
 ghost use Rattle.dom_model.specs.Traversal.{iterator_next_node, iterator_previous_node, walker_move};
@@ -7,8 +8,10 @@ ghost use Rattle.dom_tree.specs.Forest.{IsNode, name_of};
 ghost use Rattle.dom_traversal.specs.Filters.{filter_of};
 ghost use Rattle.dom_traversal.specs.Iterators.{KeyedIterator, iterator_view, iterator_at, IsIteratorOf};
 ghost use Rattle.dom_traversal.specs.Walkers.{walker_view, walker_at, IsWalkerOf};
-ghost use Rattle.dom_cursors.specs.OwnTables.{EachItem, AreLeft, no_keyed_tables};
+ghost use Rattle.dom_cursors.specs.OwnTables.{EachItem, AreLeft, IsLeftIf, no_keyed_tables};
+ghost use Rattle.dom_cursors.specs.References.{MayHaveLeft};
 
+use crate::references::{Reference, bring, list, number_at};
 use dom_base::{Fault, MAX_NODES, Move, Refusal};
 use dom_traversal::{Filter, Iter, Walker};
 use dom_tree::Forest;
@@ -16,10 +19,11 @@ use node_arena::Key;
 use std::alloc::Global;
 use std::marker::Model;
 
-/// One owner's iterators and walkers, each by its number.
+/// One owner's iterators and walkers, each by its number, and the iterators' references by their nodes.
 #[derive(Drop)]
 pub(crate) struct OwnTables {
     iterators: Vec<Iter>,
+    references: Vec<Reference>,
     walkers: Vec<Walker>,
 }
 
@@ -28,7 +32,11 @@ impl Model for OwnTables {
 
     ghost Value = { KeyedTables };
 
+    ghost use Rattle.dom_cursors.specs.References.{AreListed, AreSorted};
+
     ghost view = { λ t. record { iterators = t.iterators.items; walkers = t.walkers.items } };
+
+    ghost invariant = { λ t. AreSorted t.references.items × AreListed t.iterators.items t.references.items };
 }
 
 impl OwnTables {
@@ -38,6 +46,7 @@ impl OwnTables {
     {
         OwnTables {
             iterators: Vec::new(alloc),
+            references: Vec::new(alloc),
             walkers: Vec::new(alloc),
         }
     }
@@ -70,7 +79,9 @@ impl OwnTables {
         if number == MAX_NODES as usize {
             return Err(Fault::Refused(Refusal::Limit));
         }
+        self.references.reserve(1)?;
         self.iterators.push(Iter::new(root, filter))?;
+        list(&mut self.references, number, root);
         Ok(number as u32)
     }
 
@@ -93,16 +104,72 @@ impl OwnTables {
     }
 
     /// Lets each iterator leave the tree of a node that is about to be removed (DOM Standard, NodeIterator pre-remove
-    /// steps).
+    /// steps). Those are looked for that stand at each node of the tree. Where the tree has more nodes than there are
+    /// iterators, the search stops after as many: to ask each iterator is less then.
     pub(crate) fn leave(&mut self, forest: &Forest, node: Key)
         requires node_is_node { IsNode forest.now node }
         requires iterators { EachItem (IsIteratorOf forest.now) self.old.iterators }
         ensures iterators { AreLeft forest.now node self.old.iterators self.new.iterators }
         ensures walkers { self.new.walkers ≡ self.old.walkers }
     {
-        for iterator in self.iterators.iter_mut() {
-            iterator.on_remove(forest, node);
+        forest.law_nodes_stand_once();
+        let mut left = self.iterators.len();
+        let mut at = Some(node);
+        while let Some(key) = at {
+            if left == 0 {
+                self.leave_each(forest, node);
+                return;
+            }
+            left -= 1;
+            self.leave_from(forest, node, key);
+            at = forest.following(key, node);
         }
+    }
+
+    /// Lets the iterators that stand at a key's node leave the tree of a node.
+    fn leave_from(&mut self, forest: &Forest, node: Key, key: Key)
+        requires node_is_node { IsNode forest.now node }
+        requires iterators { EachItem (IsIteratorOf forest.now) self.old.iterators }
+        ensures may { MayHaveLeft forest.now node self.old.iterators self.new.iterators }
+        ensures left { (k : ℕ) → ForSome (slice_get self.old.iterators k) (λ i. i.reference ≡ key →
+            IsLeftIf forest.now node (Some i) (slice_get self.new.iterators k)) }
+        ensures len { length self.new.iterators ≡ length self.old.iterators }
+        ensures walkers { self.new.walkers ≡ self.old.walkers }
+    {
+        let mut least = 0;
+        while let Some(number) = number_at(self.references.as_slice(), key, least) {
+            self.leave_one(forest, node, number);
+            least = number + 1;
+        }
+    }
+
+    /// Lets each iterator leave the tree of a node, one after the other.
+    fn leave_each(&mut self, forest: &Forest, node: Key)
+        requires node_is_node { IsNode forest.now node }
+        requires iterators { EachItem (IsIteratorOf forest.now) self.old.iterators }
+        ensures iterators { AreLeft forest.now node self.old.iterators self.new.iterators }
+        ensures walkers { self.new.walkers ≡ self.old.walkers }
+    {
+        for number in 0..self.iterators.len() {
+            self.leave_one(forest, node, number);
+        }
+    }
+
+    /// Lets one iterator leave the tree of a node.
+    fn leave_one(&mut self, forest: &Forest, node: Key, number: usize)
+        requires node_is_node { IsNode forest.now node }
+        requires there { number < length self.old.iterators }
+        requires iterators { EachItem (IsIteratorOf forest.now) self.old.iterators }
+        ensures may { MayHaveLeft forest.now node self.old.iterators self.new.iterators }
+        ensures left { IsLeftIf forest.now node (slice_get self.old.iterators number) (slice_get self.new.iterators number) }
+        ensures len { length self.new.iterators ≡ length self.old.iterators }
+        ensures walkers { self.new.walkers ≡ self.old.walkers }
+    {
+        let iterator = &mut self.iterators[number];
+        let (from, _) = iterator.at();
+        iterator.on_remove(forest, node);
+        let (to, _) = iterator.at();
+        bring(&mut self.references, number, from, to);
     }
 
     /// Moves an iterator on.
@@ -116,7 +183,11 @@ impl OwnTables {
         ensures kept { ForSome (slice_get self.old.iterators number) (λ i. IsIteratorOf forest.now (iterator_at i false result)) }
     {
         let iterator = &mut self.iterators[number as usize];
-        iterator.next(forest)
+        let (from, _) = iterator.at();
+        let found = iterator.next(forest);
+        let (to, _) = iterator.at();
+        bring(&mut self.references, number as usize, from, to);
+        found
     }
 
     /// Moves an iterator back.
@@ -130,7 +201,11 @@ impl OwnTables {
         ensures kept { ForSome (slice_get self.old.iterators number) (λ i. IsIteratorOf forest.now (iterator_at i true result)) }
     {
         let iterator = &mut self.iterators[number as usize];
-        iterator.previous(forest)
+        let (from, _) = iterator.at();
+        let found = iterator.previous(forest);
+        let (to, _) = iterator.at();
+        bring(&mut self.references, number as usize, from, to);
+        found
     }
 
     /// Where an iterator stands.

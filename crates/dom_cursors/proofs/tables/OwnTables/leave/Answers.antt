@@ -1,41 +1,91 @@
-use Rattle.std.proofs.Common.{◌≡◌, ◌<◌, length, drop, List, slice_index_or, sym, ap, subst, ◌∙◌, arith}
+use Rattle.std.proofs.Common.{inl, inr, Some, refl, sym, subst, ◌∙◌}
 use Rattle.std.specs.Prelude.{slice_get}
-use Rattle.std.proofs.lemmas.Option.{slice_get-get_or}
-use Rattle.std.proofs.lemmas.List.{take_at}
-use Rattle.dom_traversal.specs.Iterators.{KeyedIterator}
-use Rattle.dom_cursors.specs.OwnTables.{KeyedTables, AreLeft}
-use Rattle.dom_cursors.proofs.Leaving.{left_more, left_all}
+use Rattle.std.proofs.lemmas.Bool.{cases_Bool}
+use Rattle.dom_model.specs.Names.{name_eq, is_in}
+use Rattle.dom_model.specs.Tree.{inclusive_descendants}
+use Rattle.dom_tree.specs.Forest.{name_at}
+use Rattle.dom_traversal.proofs.Lists.{In-from, In-not}
+use Rattle.dom_traversal.proofs.Counts.{Once-forest}
+use Rattle.dom_traversal.proofs.Order.{outside-test}
+use Rattle.dom_traversal.proofs.Searching.{following_step}
+use Rattle.dom_cursors.specs.OwnTables.{IsLeftIf}
+use Rattle.dom_cursors.proofs.Leaving.{may-none, may-may, may-items, may-left, left-may, all-left, left-outside}
+use Rattle.dom_cursors.proofs.Inside.{from_key, all-from_top, top-stands, next-from}
 use Rattle.dom_cursors.proofs.tables.OwnTables.leave.Goals as goal
 
-pub on_remove-requires-clause-iterator : goal.on_remove-requires-clause-iterator
-on_remove-requires-clause-iterator c =
-    let xs = c.loop-iterator.iterator-items in
-    let i = c.loop-iterator.iterator-index in
-    let less : i < length xs = omega arith in
-    let items : c.deref_mut-iterator-items.result.now ≡ c.args.self.now.iterators =
-    c.deref_mut-iterator-items.ensures.value ∙ ap (λ (t : KeyedTables). t.iterators) c.self.view_is in
-    c.requires.iterators i (slice_index_or xs i c.iterator-item.result)
-    (ap (λ is. slice_get is i) (sym items) ∙ sym (c.loop-iterator.invariant.rest i (omega arith)) ∙ slice_get-get_or xs i c.iterator-item.result less)
+pub loop-at-init : goal.loop-at-init
+loop-at-init c =
+    let f = c.args.forest.now in
+    let e = c.law_nodes_stand_once.ensures in
+    record {
+      stands = top-stands f c.args.node e.once e.only c.requires.node_is_node;
+      may = may-none f c.args.node c.args.self.now.iterators;
+      ahead = λ k i there inside. inl (all-from_top f c.args.node e.once e.only c.requires.node_is_node (name_at f.names i.reference) inside);
+      same = refl;
+    }
 
-pub loop-iterator-preserved : goal.loop-iterator-preserved
-loop-iterator-preserved c =
-    let xs = c.loop-iterator.iterator-items in
-    let i = c.loop-iterator.iterator-index in
-    let less : i < length xs = omega arith in
-    left_more c.args.forest.now c.args.node c.deref_mut-iterator-items.result.now xs i (slice_index_or xs i c.iterator-item.result)
-    c.on_remove.new.self c.loop-iterator.invariant
-    (slice_get-get_or xs i c.iterator-item.result less)
-    (record { value = c.on_remove.ensures.value; root = c.on_remove.ensures.root; kept = c.on_remove.ensures.kept; left = c.on_remove.ensures.left })
+pub leave_each-requires-clause-iterators : goal.leave_each-requires-clause-iterators
+leave_each-requires-clause-iterators c =
+    may-items c.args.forest.now c.args.node c.args.self.now.iterators c.loop-at.self.iterators c.loop-at.invariant.may c.requires.iterators
+
+pub leave_from-requires-clause-iterators : goal.leave_from-requires-clause-iterators
+leave_from-requires-clause-iterators c =
+    may-items c.args.forest.now c.args.node c.args.self.now.iterators c.loop-at.self.iterators c.loop-at.invariant.may c.requires.iterators
+
+pub following-at-requires-clause-key_is_node : goal.following-at-requires-clause-key_is_node
+following-at-requires-clause-key_is_node c = (c.loop-at.invariant.stands c.in-Some.key c.in-Some.is).node
+
+pub loop-at-preserved : goal.loop-at-preserved
+loop-at-preserved c =
+    let f = c.args.forest.now in
+    let e = c.law_nodes_stand_once.ensures in
+    let was = c.args.self.now.iterators in
+    let mid = c.loop-at.self.iterators in
+    let now = c.leave_from.new.self.iterators in
+    let may = c.loop-at.invariant.may in
+    let stands = c.loop-at.invariant.stands c.in-Some.key c.in-Some.is in
+    let step = following_step f e.once e.only c.args.node c.in-Some.key c.following-at.result stands c.following-at.ensures.value c.following-at.ensures.node in
+    record {
+      stands = step.1;
+      may = may-may f c.args.node was mid now may c.leave_from.ensures.may;
+      ahead = λ k i there inside. elim (c.loop-at.invariant.ahead k i there inside) [
+        | inr left ↦ inr (left-may f c.args.node was mid now c.leave_from.ensures.may k left)
+        | inl from ↦
+            elim (next-from f c.args.node c.in-Some.key c.loop-at.at c.following-at.result c.in-Some.is step.0 (name_at f.names i.reference) from) [
+              | inr next ↦ inl next
+              | inl same ↦ inr (elim (may k) [
+                | inl left ↦ left-may f c.args.node was mid now c.leave_from.ensures.may k left
+                | inr kept ↦ may-left f c.args.node was mid now may k
+                    (subst (λ o. IsLeftIf f c.args.node o (slice_get now k)) (sym (kept ∙ there))
+                    (c.leave_from.ensures.left k i (kept ∙ there)
+                    (e.distinct i.reference c.in-Some.key (c.requires.iterators k i there).reference.node stands.node same)))
+              ])
+            ]
+      ];
+      same = c.leave_from.ensures.walkers ∙ c.loop-at.invariant.same;
+    }
 
 pub returns-clause-iterators : goal.returns-clause-iterators
 returns-clause-iterators c =
-    let xs : List KeyedIterator = c.loop-iterator.iterator-items in
-    let was : List KeyedIterator = c.deref_mut-iterator-items.result.now in
-    let items : was ≡ c.args.self.now.iterators = c.deref_mut-iterator-items.ensures.value ∙ ap (λ (t : KeyedTables). t.iterators) c.self.view_is in
-    let same : length xs ≡ c.self.inside.iterators.len = c.loop-iterator.auto.iterator-items ∙ c.deref_mut-iterator-items.ensures.len in
-    let end : length xs ≡ c.loop-iterator.iterator-index = omega arith in
-    let all : AreLeft c.args.forest.now c.args.node was xs =
-    left_all c.args.forest.now c.args.node was xs c.loop-iterator.iterator-index c.loop-iterator.invariant end in
-    let whole : AreLeft c.args.forest.now c.args.node c.args.self.now.iterators xs = subst (λ is. AreLeft c.args.forest.now c.args.node is xs) items all in
-    subst (AreLeft c.args.forest.now c.args.node c.args.self.now.iterators)
-    (sym (take_at xs (drop (length xs) c.self.inside.iterators.items) c.self.inside.iterators.len same)) whole
+    let f = c.args.forest.now in
+    let e = c.law_nodes_stand_once.ensures in
+    let was = c.args.self.now.iterators in
+    let now = c.loop-at.self.iterators in
+    let may = c.loop-at.invariant.may in
+    all-left f c.args.node was now may
+    (λ k i there.
+    let x = name_at f.names i.reference in
+    let all = inclusive_descendants f.trees (name_at f.names c.args.node) in
+    elim (cases_Bool (is_in name_eq x all)) [
+      | inl t ↦ elim (c.loop-at.invariant.ahead k i there (In-from x all t)) [
+        | inr left ↦ left
+        | inl from ↦ absurd (subst (λ o. from_key f c.args.node o x) c.in_default.is from)
+      ]
+      | inr t ↦ elim (may k) [
+        | inl left ↦ left
+        | inr kept ↦
+            let outside = outside-test f.trees (name_at f.names c.args.node) x (Once-forest f e.once e.only) (In-not x all t) in
+            subst (λ o. IsLeftIf f c.args.node o (slice_get now k)) (sym there)
+            (subst (IsLeftIf f c.args.node (Some i)) (sym (kept ∙ there)) (left-outside f c.args.node i (c.requires.iterators k i there) outside))
+      ]
+    ])

@@ -1,0 +1,43 @@
+-- A walk through the tree of a node, and which of its nodes are still to come.
+use Rattle.std.proofs.Common.{◌≡◌, ◌⊎◌, inl, inr, ℕ, ◌<◌, length, Option, Some, sym, subst}
+use Rattle.std.specs.Option.{option_map, ForSome}
+use Rattle.dom_base.specs.declared.NodeName.{NodeName}
+use Rattle.dom_model.specs.Tree.{inclusive_descendants}
+use Rattle.dom_tree.specs.Forest.{NamedTrees, name_at}
+use Rattle.dom_traversal.specs.Within.{behind, beyond, from_node, StandsIn}
+use Rattle.dom_traversal.proofs.Lists.{In, In-left}
+use Rattle.dom_traversal.proofs.Order.{here, below, behind_is}
+use Rattle.dom_traversal.proofs.Counts.{StandOnce, StandAlone, above-within}
+use Rattle.dom_traversal.proofs.Searching.{IsWithin-itself}
+
+module _ (f : NamedTrees) (top : ℕ) where
+  -- the names from a key on, in the tree of the top
+  abbrev pub from_key : Option ℕ → NodeName → Type 0
+  from_key at y = In y (from_node f.trees (name_at f.names top) (option_map (name_at f.names) at))
+
+  -- from the top on are all
+  pub all-from_top : StandOnce f → StandAlone f → top < length f.names → (y : NodeName) →
+      In y (inclusive_descendants f.trees (name_at f.names top)) → from_key (Some top) y
+  all-from_top once only node y i =
+      let x = name_at f.names top in
+      let w = IsWithin-itself f once only top node in
+      elim (subst (In y) (here f.trees x x w) i) [
+        | inl e ↦ inl e
+        | inr j ↦ inr (subst (In y) (sym (behind_is f.trees x x w)) (In-left y (below f.trees x) (beyond f.trees x x) j))
+      ]
+
+  -- and the top stands in its tree
+  pub top-stands : StandOnce f → StandAlone f → top < length f.names → ForSome (Some top) (StandsIn f top)
+  top-stands once only node =
+      λ k e.
+      let same : k ≡ top = cc in
+      rw same record { node = node; within = above-within f.trees (name_at f.names top) (name_at f.names top) (IsWithin-itself f once only top node) }
+
+  -- of the names from a key on those that are not its own are from the next key on
+  pub next-from : (k : ℕ) (at next : Option ℕ) → at ≡ Some k →
+      behind f.trees (name_at f.names top) (name_at f.names k) ≡ from_node f.trees (name_at f.names top) (option_map (name_at f.names) next)
+      → (y : NodeName) → from_key at y → (y ≡ name_at f.names k) ⊎ from_key next y
+  next-from k at next is e y i = elim (subst (λ o. from_key o y) is i) [
+    | inl same ↦ inl same
+    | inr j ↦ inr (subst (In y) e j)
+  ]
