@@ -1,9 +1,9 @@
 -- Folds and filters, and sets of numbers in order.
-use Rattle.std.proofs.Common.{◌≡◌, ℕ, ◌+◌, ◌<◌, Bool, true, false, not, ◌&&◌, ◌||◌, cond, eqb, List, [], ◌∷◌, ◌++◌, length, map, get_or, take}
-use Rattle.std.proofs.Common.{inl, inr, refl, sym, ap, ◌∙◌, subst, arith}
+use Rattle.std.proofs.Common.{◌≡◌, ℕ, Bool, true, false, not, ◌&&◌, ◌||◌, eqb, List, [], ◌∷◌, ◌++◌, map}
+use Rattle.std.proofs.Common.{inl, inr, refl, sym, ap, ◌∙◌, subst}
 use Rattle.std.specs.List.{fold, filter, list_any, flat_map}
-use Rattle.std.proofs.lemmas.List.{append_assoc, append-nil, length-map, get_or-map, map-append}
-use Rattle.std.proofs.lemmas.List.Elements.{filter-append, filter_agree, filter_more}
+use Rattle.std.proofs.lemmas.List.{append_assoc, append-nil}
+use Rattle.std.proofs.lemmas.List.Elements.{filter-append, filter_agree}
 use Rattle.std.proofs.lemmas.List.Folds.{list_any-append}
 use Rattle.std.proofs.lemmas.Bool.{cond-true, cond-false, eqb-true, eq-eqb, ne_eqb, cases_eq, or_left, and_from, and_left, and_right, not_from_true}
 use Rattle.std.proofs.lemmas.Bool.{not_from_false}
@@ -129,12 +129,3 @@ fold-distinct xs = fold-append_once [] xs ∙ all_pass (distinct eqb xs)
 pub list_any_of_map : {X Y : Type 0} (p : X → Bool) (h : Y → X) (ys : List Y) → list_any p (map h ys) ≡ list_any (λ y. p (h y)) ys
 list_any_of_map p h [] = refl
 list_any_of_map p h (y ∷ ys) = ap (λ b. p (h y) || b) (list_any_of_map p h ys)
-
--- one image more that passes a test
-pub filter-view_more : {X Y Z : Type 0} (p : Y → Bool) (g : Y → Z) (view : X → Y) (xs : List X) (i : ℕ) (x : X) → i < length xs → x ≡ get_or xs i x
-    → map g (filter p (take (i + 1) (map view xs))) ≡ map g (filter p (take i (map view xs))) ++ map g (cond (p (view x)) (view x ∷ []) [])
-filter-view_more p g view xs i x short is =
-    let item : get_or (map view xs) i (view x) ≡ view x = get_or-map view xs i x (view x) short ∙ ap view (sym is) in
-    ap (map g) (filter_more p (map view xs) i (view x) (let same = length-map xs view in omega (arith, same, short)) ∙
-    ap (λ y. filter p (take i (map view xs)) ++ cond (p y) (y ∷ []) []) item)
-    ∙ map-append g (filter p (take i (map view xs))) (cond (p (view x)) (view x ∷ []) [])

@@ -1,6 +1,10 @@
 mod Folds
 mod Gathering
 mod Tables
+mod Leaving
+mod Once
+mod Keeping
+mod Renewing
 mod Lookups
 pub mod Ascending
 pub mod Naming

@@ -35,11 +35,6 @@ told-fold path c t rec same =
     (interested eqb path t.registrations c)
     ∙ given-all (record_for eqb path t.registrations c) t (interested eqb path t.registrations c)
 
--- a list with a last item has one
-pub is_empty-push : {X : Type 0} (xs : List X) (x : X) → is_empty (xs ++ x ∷ []) ≡ false
-is_empty-push [] x = refl
-is_empty-push (y ∷ ys) x = refl
-
 -- ---- queues that are emptied
 
 -- a write where nothing is
@@ -49,7 +44,7 @@ set-none (y ∷ ys) zero x e = cc
 set-none (y ∷ ys) (suc k) x e = ap (λ zs. y ∷ zs) (set-none ys k x e)
 
 -- what a write leaves elsewhere
-slice_get-set_other : {X : Type 0} (xs : List X) (j k : ℕ) (x : X) → eqb k j ≡ false → slice_get (set xs j x) k ≡ slice_get xs k
+pub slice_get-set_other : {X : Type 0} (xs : List X) (j k : ℕ) (x : X) → eqb k j ≡ false → slice_get (set xs j x) k ≡ slice_get xs k
 slice_get-set_other [] j k x e = refl
 slice_get-set_other (y ∷ ys) zero zero x e = absurd (true≢false (sym (eq-eqb zero zero refl) ∙ e))
 slice_get-set_other (y ∷ ys) zero (suc k) x e = refl

@@ -1,34 +1,38 @@
 -- What is noted of an owner's registrations: their places, and the nodes from which what is below is observed; what is found in these
 -- places, what is known of nodes of which nothing is noted, and the walk upwards that looks for noted nodes.
-use Rattle.std.proofs.Common.{◌≡◌, ℕ, ◌+◌, ◌<◌, ◌≤◌, Bool, true, false, not, ◌&&◌, ◌||◌, cond, eqb, List, [], ◌∷◌, ◌++◌, length, map, get_or, take, Option}
-use Rattle.std.proofs.Common.{Some, None, Bor, refl, sym, ap, ◌∙◌, subst, arith}
-use Rattle.std.specs.Prelude.{option_map, slice_get, if◌then◌else◌}
+use Rattle.std.proofs.Common.{inl, inr, ◌≡◌, ℕ, ◌+◌, ◌<◌, ◌≤◌, Bool, true, false, not, ◌&&◌, ◌||◌, cond, eqb, List, [], ◌∷◌, ◌++◌, length, map}
+use Rattle.std.proofs.Common.{get_or, take, Option, Some, None, Bor, refl, sym, ap, ◌∙◌, subst, arith}
+use Rattle.std.specs.Prelude.{option_map, slice_get, is_some, if◌then◌else◌}
 use Rattle.std.specs.Option.{ForSome}
-use Rattle.std.specs.Slice.{IsItemAt}
 use Rattle.std.specs.List.{list_any, filter, cons_option, fold}
-use Rattle.std.proofs.lemmas.Bool.{cond-true, cond-false, or_parts, or_from, or_left, or_right, and_left, and_right, eqb-true}
-use Rattle.std.proofs.lemmas.List.{append_assoc, length-map, length_push, length-take-le, take_all, take_more}
-use Rattle.std.proofs.lemmas.Option.{slice_get-map, slice_get_past, slice_get_read}
+use Rattle.std.proofs.lemmas.Bool.{cond-true, cond-false, cases_eq, or_parts, or_from, or_left, or_right, and_left, and_right, eqb-true, false≢true}
+use Rattle.std.proofs.lemmas.List.{append_assoc, length-append, length-map, length_push, length-take-le, map-append, take_all, take-append-le, take_more}
+use Rattle.std.proofs.lemmas.Option.{same_Some, slice_get-get_or}
 use Rattle.std.proofs.lemmas.List.Elements.{filter-append, filter_map-append}
 use Rattle.std.proofs.lemmas.List.Folds.{list_any-append}
-use Rattle.std.proofs.lemmas.List.Sums.{length-filter, count_by-le-length}
+use Rattle.std.proofs.lemmas.Map.Views.{any-filter_same}
 use Rattle.dom_model.specs.Names.{is_in, append_once}
 use Rattle.dom_model.specs.Tree.{parent_of}
 use Rattle.dom_model.specs.Output.{Change}
-use Rattle.dom_model.specs.Observers.{Registration, registrations_on, asks_for, fits, fitting, transients_for, target_of, is_transient}
+use Rattle.dom_model.specs.Observers.{Registration, registrations_on, asks_for, fits, fitting, transients_for, target_of, is_asked_for, is_transient}
 use Rattle.dom_tree.specs.Forest.{NamedTrees, name_at}
 use Rattle.dom_tree.specs.Apart.{TellApart}
 use Rattle.dom_traversal.proofs.Counts.{StandOnce, StandAlone}
+use Rattle.dom_observers.specs.declared.owned.Owned.{Owned}
 use Rattle.dom_observers.specs.declared.places.Places.{Places}
 use Rattle.dom_observers.specs.declared.registered.Registered.{Registered}
+use Rattle.dom_observers.specs.declared.removal.Removal.{Removal}
 use Rattle.dom_observers.specs.declared.watched.Watched.{Watched}
-use Rattle.dom_observers.specs.Views.{registration_of}
+use Rattle.dom_observers.specs.Views.{registration_of, unless_gone, those_there, there_in}
+use Rattle.dom_observers.specs.Removals.{goes}
 use Rattle.dom_observers.specs.Naming.{IsKey}
 use Rattle.dom_observers.specs.Paths.{path_keys}
-use Rattle.dom_observers.specs.Taking.{transient_copy, picked}
-use Rattle.dom_observers.specs.Watching.{places_in, places_or, places_at, places_from, is_above, AreNoted, any_transient}
+use Rattle.dom_observers.specs.Taking.{transient_copy, picked, copied_at}
+use Rattle.dom_observers.specs.Watching.{places_in, places_or, places_at, places_from, is_above, among, AreNoted, IsPlaceOf}
 use Rattle.dom_observers.proofs.Ascending.{HasClimbed, climbs-first, climbs-more, climbs-all, climbs-through}
 use Rattle.dom_observers.proofs.Folds.{is_in-append_once, filter-filter, fold-append, eqb-turned}
+use Rattle.dom_observers.proofs.Gathering.{walk-copies}
+use Rattle.dom_observers.proofs.Leaving.{there-got, there-raw, there-within, there-append, any-there}
 
 -- ---- the places of a node's registrations
 
@@ -56,35 +60,60 @@ get-seam (x ∷ xs) y ys = get-seam xs y ys
 -- The registrations in the places of a node are those on the node, in their order.
 module _ (x : ℕ) where
   -- the places behind some others, with one of these less
-  moved : (done : List (Registration ℕ)) (r : Registration ℕ) (rs : List (Registration ℕ))
-      → picked ((done ++ r ∷ []) ++ rs) (places_from x (length (done ++ r ∷ [])) rs) ≡ picked (done ++ r ∷ rs) (places_from x (length done + 1) rs)
-  moved done r rs = λ j. picked (append_assoc done (r ∷ []) rs j) (places_from x (length_push done r j) rs)
+  moved : (done : List Registered) (r : Registered) (rs : List Registered)
+      → picked ((done ++ r ∷ []) ++ rs) (places_from x (length (done ++ r ∷ [])) (map registration_of rs))
+      ≡ picked (done ++ r ∷ rs) (places_from x (length done + 1) (map registration_of rs))
+  moved done r rs = λ j. picked (append_assoc done (r ∷ []) rs j) (places_from x (length_push done r j) (map registration_of rs))
 
-  picked-behind : (done rs : List (Registration ℕ)) → picked (done ++ rs) (places_from x (length done) rs) ≡ filter (λ r. eqb r.node x) rs
+  abbrev on : Registration ℕ → Bool
+  on t = eqb t.node x
+
+  picked-behind : (done rs : List Registered)
+      → picked (done ++ rs) (places_from x (length done) (map registration_of rs)) ≡ filter (λ t. eqb t.node x) (those_there rs)
   picked-behind done [] = refl
-  picked-behind done (r ∷ rs) = by (eqb r.node x) (sym (moved done r rs) ∙ picked-behind (done ++ r ∷ []) rs)
+  picked-behind done (r ∷ rs) = by (eqb r.node x) r.has_gone refl refl (sym (moved done r rs) ∙ picked-behind (done ++ r ∷ []) rs)
     where
-      by : (here : Bool) → picked (done ++ r ∷ rs) (places_from x (length done + 1) rs) ≡ filter (λ s. eqb s.node x) rs
-          → picked (done ++ r ∷ rs) (cond here (length done ∷ places_from x (length done + 1) rs) (places_from x (length done + 1) rs))
-          ≡ cond here (r ∷ filter (λ s. eqb s.node x) rs) (filter (λ s. eqb s.node x) rs)
-      by true rest = λ j. cons_option (get-seam done r rs j) (rest j)
-      by false rest = rest
+      places : List ℕ
+      places = places_from x (length done + 1) (map registration_of rs)
 
--- what is read in a place
-pub read : (items : List Registered) {i : ℕ} (r : Option (Bor Registered)) → IsItemAt items i r
-    → slice_get (map registration_of items) i ≡ option_map (λ b. registration_of b.now) r
-read items {i = i} None is =
-    slice_get_past (map registration_of items) i (let same = length-map items registration_of in let past = is.3 in omega (arith, same, past))
-read items {i = i} (Some b) is =
-    slice_get-map registration_of items i ∙ ap (option_map registration_of) (slice_get_read items (length items) i b.now refl is.3.0 is.1)
+      got : (o : Option (Registration ℕ)) → unless_gone r ≡ o → there_in (done ++ r ∷ rs) (length done) ≡ o
+      got o e = there-got (done ++ r ∷ rs) (length done) r (get-seam done r rs) ∙ e
+
+      by : (here gone : Bool) → eqb r.node x ≡ here → unless_gone r ≡ cond gone None (Some (registration_of r))
+          → picked (done ++ r ∷ rs) places ≡ filter on (those_there rs)
+          → picked (done ++ r ∷ rs) (cond here (length done ∷ places) places)
+          ≡ filter on (cons_option (cond gone None (Some (registration_of r))) (those_there rs))
+      by true true e g rest = λ j. cons_option (got None g j) (rest j)
+      by true false e g rest =
+          (λ j. cons_option (got (Some (registration_of r)) g j) (rest j))
+          ∙ sym (cond-true (eqb r.node x) (registration_of r ∷ filter on (those_there rs)) (filter on (those_there rs)) e)
+      by false true e g rest = rest
+      by false false e g rest =
+          rest ∙ sym (cond-false (eqb r.node x) (registration_of r ∷ filter on (those_there rs)) (filter on (those_there rs)) e)
+
+-- what is found in a place
+pub read : (rs : List Registered) (i : ℕ) {r : Option (Bor Registered)} (o : Option (Bor Registered)) → r ≡ o
+    → option_map (λ b. registration_of b.now) r ≡ there_in rs i → there_in rs i ≡ option_map (λ b. registration_of b.now) o
+read rs i o e is = sym is ∙ ap (option_map (λ b. registration_of b.now)) e
 
 -- what a walk over places has found after one place more
-pub picked-next : {B : Type 0} (f : B → Registration ℕ → B) (b : B) (rs : List (Registration ℕ)) (places : List ℕ) (i : ℕ) → i < length places
-    → fold f b (picked rs (take (i + 1) places)) ≡ fold f (fold f b (picked rs (take i places))) (cons_option (slice_get rs (get_or places i 0)) [])
+pub picked-next : {B : Type 0} (f : B → Registration ℕ → B) (b : B) (rs : List Registered) (places : List ℕ) (i : ℕ) → i < length places
+    → fold f b (picked rs (take (i + 1) places)) ≡ fold f (fold f b (picked rs (take i places))) (cons_option (there_in rs (get_or places i 0)) [])
 picked-next f b rs places i short =
     ap (λ ps. fold f b (picked rs ps)) (take_more places i 0 short)
-    ∙ (ap (fold f b) (filter_map-append (slice_get rs) (take i places) (get_or places i 0 ∷ []))
-    ∙ fold-append f b (picked rs (take i places)) (cons_option (slice_get rs (get_or places i 0)) []))
+    ∙ (ap (fold f b) (filter_map-append (there_in rs) (take i places) (get_or places i 0 ∷ []))
+    ∙ fold-append f b (picked rs (take i places)) (cons_option (there_in rs (get_or places i 0)) []))
+
+-- where none of some places has what passes a test, and the next has not
+pub none-next : (p : Registration ℕ → Bool) (rs : List Registered) (places : List ℕ) (i : ℕ) (o : Option (Registration ℕ)) → i < length places →
+    there_in rs (get_or places i 0) ≡ o → list_any p (picked rs (take i places)) ≡ false → list_any p (cons_option o []) ≡ false
+    → list_any p (picked rs (take (i + 1) places)) ≡ false
+none-next p rs places i o short at none off =
+    ap (λ ps. list_any p (picked rs ps)) (take_more places i 0 short)
+    ∙ (ap (list_any p) (filter_map-append (there_in rs) (take i places) (get_or places i 0 ∷ []))
+    ∙ (list_any-append p (picked rs (take i places)) (cons_option (there_in rs (get_or places i 0)) [])
+    ∙ or_from (list_any p (picked rs (take i places))) (list_any p (cons_option (there_in rs (get_or places i 0)) [])) none
+    (ap (λ q. list_any p (cons_option q [])) at ∙ off)))
 
 -- ---- where nothing passes a test
 
@@ -146,17 +175,31 @@ list-changed change node v was now updated is x = ap places_or (updated x) ∙ b
 
 -- ---- what is noted
 
+-- the second of three tests that all hold
+pub second : (a b c : Bool) → (a && (b && c)) ≡ true → b ≡ true
+second true true c e = refl
+second true false c e = e
+second false b c e = absurd (false≢true e)
+
 -- What one more noted registration changes.
 pub record NotesNext (w v : Watched) (r : Registration ℕ) : Type 0 where
   pub places : (x : ℕ) → places_at v x ≡ (if eqb r.node x then places_at w x ++ w.noted ∷ [] else places_at w x)
   pub above : v.above.keys ≡ cond r.options.subtree (append_once eqb w.above.keys r.node) w.above.keys
   pub noted : v.noted ≡ w.noted + 1
+  pub stay : (removal : Removal) (i : ℕ) → is_in eqb i (among w.owned removal) ≡ true → is_in eqb i (among v.owned removal) ≡ true
+  pub found : (removal : Removal) → goes removal r ≡ true → is_in eqb w.noted (among v.owned removal) ≡ true
 
-module _ {w : Watched} {rs : List (Registration ℕ)} (noted : AreNoted w rs) where
+module _ {w : Watched} {rs : List Registered} (noted : AreNoted w rs) where
+  abbrev raw : List (Registration ℕ)
+  raw = map registration_of rs
+
   -- one registration more is noted
-  module _ {v : Watched} (r : Registration ℕ) (short : w.noted < length rs) (there : get_or rs w.noted r ≡ r) (next : NotesNext w v r) where
-    one_more : take v.noted rs ≡ take w.noted rs ++ r ∷ []
-    one_more = ap (λ n. take n rs) next.noted ∙ (take_more rs w.noted r short ∙ ap (λ s. take w.noted rs ++ s ∷ []) there)
+  module _ {v : Watched} (r : Registration ℕ) (short : w.noted < length rs) (there : get_or raw w.noted r ≡ r) (next : NotesNext w v r) where
+    short_raw : w.noted < length raw
+    short_raw = let same = length-map rs registration_of in omega (arith, same, short)
+
+    one_more : take v.noted raw ≡ take w.noted raw ++ r ∷ []
+    one_more = ap (λ n. take n raw) next.noted ∙ (take_more raw w.noted r short_raw ∙ ap (λ s. take w.noted raw ++ s ∷ []) there)
 
     -- a node that is not above now was not so before, nor does the registration observe what is below it
     off_above : (x : ℕ) → is_in eqb x v.above.keys ≡ false → (is_in eqb x w.above.keys ≡ false) × (is_above x r ≡ false)
@@ -169,106 +212,123 @@ module _ {w : Watched} {rs : List (Registration ℕ)} (noted : AreNoted w rs) wh
             (parts.0, and_left (eqb r.node x) r.options.subtree (eqb-turned r.node x ∙ parts.1))
         by false e h = (h, and_right (eqb r.node x) r.options.subtree e)
 
+    -- what stands in the place
+    is_next : (i : ℕ) (t : Registration ℕ) → i ≡ w.noted → there_in rs i ≡ Some t → t ≡ r
+    is_next i t same e =
+        same_Some t r (sym (there-raw rs i t e) ∙ (ap (slice_get raw) same ∙ (slice_get-get_or raw w.noted r short_raw ∙ ap Some there)))
+
     pub noted-next : AreNoted v rs
     noted-next = record {
       within = omega (arith, next.noted, short);
       places = λ x.
           next.places x
           ∙ (ap (λ ps. cond (eqb r.node x) (ps ++ w.noted ∷ []) ps) (noted.places x)
-          ∙ (ap (λ n. cond (eqb r.node x) (places_from x 0 (take w.noted rs) ++ n ∷ []) (places_from x 0 (take w.noted rs)))
-          (let long = length-take-le w.noted rs noted.within in omega (arith, long))
-          ∙ (sym (places-more x 0 (take w.noted rs) r) ∙ ap (places_from x 0) (sym one_more))));
+          ∙ (ap (λ n. cond (eqb r.node x) (places_from x 0 (take w.noted raw) ++ n ∷ []) (places_from x 0 (take w.noted raw)))
+          (let long = length-take-le w.noted raw (omega (arith, short_raw)) in omega (arith, long))
+          ∙ (sym (places-more x 0 (take w.noted raw) r) ∙ ap (places_from x 0) (sym one_more))));
       above = λ x off.
           let parts = off_above x off in
           ap (list_any (is_above x)) one_more
-          ∙ (list_any-append (is_above x) (take w.noted rs) (r ∷ [])
-          ∙ or_from (list_any (is_above x) (take w.noted rs)) (is_above x r || false) (noted.above x parts.0)
+          ∙ (list_any-append (is_above x) (take w.noted raw) (r ∷ [])
+          ∙ or_from (list_any (is_above x) (take w.noted raw)) (is_above x r || false) (noted.above x parts.0)
           (or_from (is_above x r) false parts.1 refl));
+      found = λ removal i t below e is. elim (cases_eq i w.noted) [
+        | inl same ↦ subst (λ j. is_in eqb j (among v.owned removal) ≡ true) (sym same)
+            (next.found removal (subst (λ s. goes removal s ≡ true) (is_next i t same e) is))
+        | inr other ↦ next.stay removal i (noted.found removal i t (omega (arith, below, next.noted, other)) e is)
+      ];
     }
+
+  -- others stand behind
+  pub noted-append : (more : List Registered) → AreNoted w (rs ++ more)
+  noted-append more =
+      let same = length-map rs registration_of in
+      let front : take w.noted (map registration_of (rs ++ more)) ≡ take w.noted raw =
+      ap (take w.noted) (map-append registration_of rs more)
+      ∙ take-append-le w.noted raw (map registration_of more) (omega (arith, same, noted.within)) in
+      record {
+        within = let long = length-append rs more in omega (arith, long, noted.within);
+        places = λ x. noted.places x ∙ ap (places_from x 0) (sym front);
+        above = λ x off. ap (list_any (is_above x)) front ∙ noted.above x off;
+        found = λ removal i t below e is. noted.found removal i t below (sym (there-append rs more i (omega (arith, below, noted.within))) ∙ e) is;
+      }
+
+  -- some have gone
+  pub noted-left : (o : Owned) (ss : List Registered) → map registration_of ss ≡ raw
+      → ((i : ℕ) (t : Registration ℕ) → there_in ss i ≡ Some t → there_in rs i ≡ Some t)
+      → ((removal : Removal) (i : ℕ) → is_in eqb i (among w.owned removal) ≡ true → is_some (there_in ss i) ≡ true → is_in eqb i (among o removal) ≡ true)
+      → AreNoted (record w { owned = o }) ss
+  noted-left o ss same fewer stay = record {
+    within =
+        let long = length-map rs registration_of in
+        let short = length-map ss registration_of in
+        let even = ap (length {A = Registration ℕ}) same in
+        omega (arith, noted.within, long, short, even);
+    places = λ x. noted.places x ∙ ap (λ ts. places_from x 0 (take w.noted ts)) (sym same);
+    above = λ x off. ap (λ ts. list_any (is_above x) (take w.noted ts)) same ∙ noted.above x off;
+    found = λ removal i t below e is. stay removal i (noted.found removal i t below (fewer i t e) is) (ap is_some e);
+  }
 
   -- ---- where all are noted
   module _ (all : length rs ≤ w.noted) where
-    whole : take w.noted rs ≡ rs
-    whole = take_all w.noted rs all
+    whole : take w.noted raw ≡ raw
+    whole = take_all w.noted raw (let same = length-map rs registration_of in omega (arith, same, all))
 
     -- those found by a node's places are those on the node
-    pub picked-on : (x : ℕ) → picked rs (places_at w x) ≡ filter (λ r. eqb r.node x) rs
+    pub picked-on : (x : ℕ) → picked rs (places_at w x) ≡ filter (λ r. eqb r.node x) (those_there rs)
     picked-on x = ap (picked rs) (noted.places x ∙ ap (places_from x 0) whole) ∙ picked-behind x [] rs
 
+    -- all that go are found
+    pub found-all : (removal : Removal) (i : ℕ) (t : Registration ℕ) → there_in rs i ≡ Some t → goes removal t ≡ true →
+        is_in eqb i (among w.owned removal) ≡ true
+    found-all removal i t e is = noted.found removal i t (let short = there-within rs i t e in omega (arith, short, all)) e is
+
     -- a node without places has no registration
-    off_target : (x : ℕ) → places_at w x ≡ [] → list_any (λ r. eqb r.node x) rs ≡ false
-    off_target x none = none_kept (λ r. eqb r.node x) rs (sym (picked-on x) ∙ ap (picked rs) none)
+    off_target : (x : ℕ) → places_at w x ≡ [] → list_any (λ r. eqb r.node x) (those_there rs) ≡ false
+    off_target x none = none_kept (λ r. eqb r.node x) (those_there rs) (sym (picked-on x) ∙ ap (picked rs) none)
 
     -- one that is not above has none that observes what is below it
-    off_below : (x : ℕ) → is_in eqb x w.above.keys ≡ false → list_any (is_above x) rs ≡ false
-    off_below x off = ap (list_any (is_above x)) (sym whole) ∙ noted.above x off
+    off_below : (x : ℕ) → is_in eqb x w.above.keys ≡ false → list_any (is_above x) (those_there rs) ≡ false
+    off_below x off = any-there (is_above x) rs (ap (list_any (is_above x)) (sym whole) ∙ noted.above x off)
+
+    -- the one that an observer asked for on a node is found among those on the node
+    pub placed : (k x : ℕ) {places : List ℕ} → places ≡ places_at w x → (o : Option ℕ) → IsPlaceOf (is_asked_for eqb k x) rs (picked rs places) o
+        → IsPlaceOf (is_asked_for eqb k x) rs (those_there rs) o
+    placed k x at (Some i) is = is
+    placed k x at None is =
+        let p = is_asked_for eqb k x in
+        sym (any-filter_same p (λ (r : Registration ℕ). eqb r.node x) true
+        (λ r e. second (eqb r.observer k) (eqb r.node x) (not (is_transient r.source)) e) (those_there rs))
+        ∙ (ap (list_any p) (sym (picked-on x)) ∙ (ap (λ ps. list_any p (picked rs ps)) (sym at) ∙ is))
+
+    -- the copies of those on a path
+    pub copied : (node : ℕ) {slice : List Registered} {path keys : List ℕ} → slice ≡ rs → path ≡ keys → fold (copied_at node slice w) [] path
+        ≡ transients_for eqb node keys (those_there rs)
+    copied node {path = path} {keys = keys} list way =
+        ap (λ xs. fold (copied_at node xs w) [] path) list
+        ∙ (ap (fold (copied_at node rs w) []) way ∙ walk-copies (those_there rs) (λ x. picked rs (places_at w x)) picked-on node keys)
 
     module _ (path : List ℕ) (past : list_any (λ x. is_in eqb x w.above.keys) path ≡ false) where
       -- none fits a change of a node without registrations
-      pub fitting-unnoted : (c : Change ℕ) → places_at w (target_of c) ≡ [] → fitting eqb path rs c ≡ []
+      pub fitting-unnoted : (c : Change ℕ) → places_at w (target_of c) ≡ [] → fitting eqb path (those_there rs) c ≡ []
       fitting-unnoted c none =
-          none_on_path rs (fits eqb c) w.above.keys path (λ x off. nothing_fits c x rs (off_target (target_of c) none) (off_below x off)) past
+          none_on_path (those_there rs) (fits eqb c) w.above.keys path
+          (λ x off. nothing_fits c x (those_there rs) (off_target (target_of c) none) (off_below x off)) past
 
       -- and nothing is copied
-      pub copies-unnoted : (node : ℕ) → transients_for eqb node path rs ≡ []
-      copies-unnoted node = ap (map (transient_copy node)) (none_on_path rs (λ r. r.options.subtree) w.above.keys path off_below past)
-
--- ---- registrations that go
-
--- a test that all pass keeps all
-pub kept-all : {X : Type 0} (p : X → Bool) (xs : List X) → length xs ≤ length (filter p xs) → filter p xs ≡ xs
-kept-all p [] long = refl
-kept-all p (x ∷ xs) long = by (p x) refl (kept-all p xs)
-  where
-    by : (b : Bool) → p x ≡ b → (length xs ≤ length (filter p xs) → filter p xs ≡ xs) → filter p (x ∷ xs) ≡ x ∷ xs
-    by true e rest =
-        let same = cond-true (p x) (x ∷ filter p xs) (filter p xs) e in
-        let less = ap length same in
-        same ∙ ap (λ ys. x ∷ ys) (rest (omega (arith, long, less)))
-    by false e rest =
-        let less = ap length (cond-false (p x) (x ∷ filter p xs) (filter p xs) e) in
-        let most = count_by-le-length p xs in
-        let count = length-filter p xs in
-        absurd (omega (arith, long, less, most, count))
-
--- where none is transient, none goes
-pub kept-lasting : (q : Registration ℕ → Bool) (rs : List (Registration ℕ)) → any_transient rs ≡ false
-    → filter (λ r. not (is_transient r.source && q r)) rs ≡ rs
-kept-lasting q [] e = refl
-kept-lasting q (r ∷ rs) e =
-    let parts = or_parts (is_transient r.source) (any_transient rs) e in
-    let p = λ (s : Registration ℕ). not (is_transient s.source && q s) in
-    cond-true (p r) (r ∷ filter p rs) (filter p rs) (ap not (and_left (is_transient r.source) (q r) parts.0))
-    ∙ ap (λ ss. r ∷ ss) (kept-lasting q rs parts.1)
-
--- no other becomes transient
-pub transients-kept : (p : Registration ℕ → Bool) (rs : List (Registration ℕ)) → any_transient (filter p rs) ≡ true → any_transient rs ≡ true
-transients-kept p [] e = e
-transients-kept p (r ∷ rs) e = by (p r) refl (is_transient r.source) refl (transients-kept p rs)
-  where
-    by : (b : Bool) → p r ≡ b → (t : Bool) → is_transient r.source ≡ t → (any_transient (filter p rs) ≡ true → any_transient rs ≡ true)
-        → any_transient (r ∷ rs) ≡ true
-    by b h true g rest = or_left (is_transient r.source) (any_transient rs) g
-    by true h false g rest =
-        or_right (is_transient r.source) (any_transient rs)
-        (rest (sym (ap (λ t. t || any_transient (filter p rs)) g) ∙ (sym (ap any_transient (cond-true (p r) (r ∷ filter p rs) (filter p rs) h)) ∙ e)))
-    by false h false g rest =
-        or_right (is_transient r.source) (any_transient rs) (rest (sym (ap any_transient (cond-false (p r) (r ∷ filter p rs) (filter p rs) h)) ∙ e))
+      pub copies-unnoted : (node : ℕ) → transients_for eqb node path (those_there rs) ≡ []
+      copies-unnoted node =
+          ap (map (transient_copy node)) (none_on_path (those_there rs) (λ r. r.options.subtree) w.above.keys path off_below past)
 
 -- ---- a list that is read as a slice
 
--- what is noted of the registrations as a contract sees them
-pub noted-now : {w v : Watched} {slice items : List Registered} {rs : List (Registration ℕ)} → slice ≡ items → map registration_of items ≡ rs
-    → (AreNoted w (map registration_of slice) → AreNoted v (map registration_of slice)) → AreNoted w (map registration_of items) → AreNoted v rs
-noted-now {w = w} {v = v} is view notes noted =
-    subst (AreNoted v) (ap (map registration_of) is ∙ view) (notes (subst (AreNoted w) (sym (ap (map registration_of) is)) noted))
+-- what is noted of the list
+pub noted-now : {w v : Watched} {slice items : List Registered} → slice ≡ items → (AreNoted w slice → AreNoted v slice) → AreNoted w items → AreNoted v items
+noted-now {w = w} {v = v} is notes noted = subst (AreNoted v) is (notes (subst (AreNoted w) (sym is) noted))
 
 -- all are noted
-pub all-now : {slice items : List Registered} {rs : List (Registration ℕ)} {n : ℕ} → slice ≡ items → map registration_of items ≡ rs
-    → length slice ≤ n → length rs ≤ n
-all-now {slice = slice} {n = n} is view short =
-    subst (λ (xs : List (Registration ℕ)). length xs ≤ n) (ap (map registration_of) is ∙ view)
-    (let same = length-map slice registration_of in omega (arith, same, short))
+pub all-now : {slice items : List Registered} {n : ℕ} → slice ≡ items → length slice ≤ n → length items ≤ n
+all-now {n = n} is short = subst (λ (xs : List Registered). length xs ≤ n) is short
 
 -- ---- the walk upwards
 

@@ -1,5 +1,6 @@
 -- Unmarked: own rules, about what the code holds and its contracts say.
 pub mod Views
+pub mod Removals
 pub mod Tables
 pub mod Watching
 pub mod TableView

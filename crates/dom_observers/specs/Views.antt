@@ -1,5 +1,6 @@
 -- What contracts see of what the code holds: the model's options, registrations and changes.
-use Rattle.std.specs.Prelude.{ℕ, List, map, option_map, string_bytes, Vec}
+use Rattle.std.specs.Prelude.{◌≡◌, ℕ, List, Option, Some, None, map, filter_map, slice_get, option_map, string_bytes, Vec, if◌then◌else◌}
+use Rattle.std.specs.Option.{option_map_or}
 use Rattle.dom_model.specs.Command.{ObserveWords}
 use Rattle.dom_model.specs.Output.{Change as Changed, child_list, attributes, character_data}
 use Rattle.dom_model.specs.Observers.{Registration, Source as From, asked_for, copied_from, copied_from_transient}
@@ -38,6 +39,22 @@ source_of CopiedFromTransient = copied_from_transient
 -- a registration (DOM Standard, concept: registered observer)
 abbrev pub registration_of : Registered → Registration ℕ
 registration_of r = record { node = r.node; observer = r.observer; options = words_of r.options.value; source = source_of r.source }
+
+-- a registration, unless it has gone
+abbrev pub unless_gone : Registered → Option (Registration ℕ)
+unless_gone r = if r.has_gone then None else Some (registration_of r)
+
+-- the registrations of a list that have not gone, in order (DOM Standard, concept: registered observer list)
+abbrev pub those_there : List Registered → List (Registration ℕ)
+those_there rs = filter_map unless_gone rs
+
+-- none of a list has gone
+abbrev pub AreThere : List Registered → Type 0
+AreThere rs = those_there rs ≡ map registration_of rs
+
+-- the registration in a place of a list, unless it has gone
+abbrev pub there_in : List Registered → ℕ → Option (Registration ℕ)
+there_in rs i = option_map_or unless_gone (slice_get rs i) None
 
 -- an observer's number with its records
 abbrev pub notice_of : {Z : Type 0} → ℕ × Vec Change Z → ℕ × List (Changed ℕ)

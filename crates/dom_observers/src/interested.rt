@@ -1,12 +1,12 @@
 //! The observers that take the record of a change.
-ghost use Rattle.std.specs.Prelude.{◌≡◌, nat_eq, map, fold, IfOk, OnOk};
+ghost use Rattle.std.specs.Prelude.{◌≡◌, nat_eq, fold, IfOk, OnOk};
 ghost use Rattle.std.specs.List.{list_any};
-ghost use Rattle.dom_observers.specs.Views.{change_of, registration_of};
+ghost use Rattle.dom_observers.specs.Views.{change_of};
 ghost use Rattle.dom_observers.specs.Taking.{none_found, and_found, found_by, found_at, picked};
 ghost use Rattle.dom_observers.specs.InterestedObservers.{found_of};
 
 use crate::change::Change;
-use crate::registered::Registered;
+use crate::registered::{Registered, there_at};
 use crate::watched::Watched;
 use indexmap::IndexSet;
 use node_arena::Key;
@@ -40,7 +40,7 @@ impl InterestedObservers {
         change: &Change,
     ) -> Result<InterestedObservers, AllocError>
         ensures { IfOk result (λ t. found_of t ≡
-            fold (found_at (map registration_of registrations.now) watched.now (change_of change.now)) none_found path.now) }
+            fold (found_at registrations.now watched.now (change_of change.now)) none_found path.now) }
     {
         let mut interested = InterestedObservers::new(alloc);
         for node in path {
@@ -57,10 +57,10 @@ impl InterestedObservers {
         change: &Change,
     ) -> Result<(), AllocError>
         ensures { OnOk result (found_of self.new ≡
-            fold (found_by (change_of change.now)) (found_of self.old) (picked (map registration_of registrations.now) places.now)) }
+            fold (found_by (change_of change.now)) (found_of self.old) (picked registrations.now places.now)) }
     {
         for place in places {
-            if let Some(registered) = registrations.get(*place) {
+            if let Some(registered) = there_at(registrations, *place) {
                 if registered.fits(change) {
                     self.add(registered.observer, registered.options.ask_for_old(change))?;
                 }

@@ -8,10 +8,12 @@ mod interested;
 mod laws;
 mod observers;
 mod options;
+mod owned;
 mod path;
 mod places;
 mod registered;
 mod registrations;
+mod removal;
 mod table;
 mod watched;
 

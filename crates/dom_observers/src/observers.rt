@@ -154,7 +154,8 @@ impl Observers {
     /// Gives the record of a change to the observers of the target's owner that are interested in it, each once, which are
     /// then pending; it answers whether there are some (DOM Standard, queue a mutation record). A change of a node of an
     /// owner without registrations takes no walk, and where nobody is interested one look for each inclusive ancestor serves. No
-    /// registration on another node is looked at, but those that came since the last change, or all where some have gone since then.
+    /// registration on another node is looked at, but those that came since the last change, or all where the places of those that have
+    /// gone were closed up since then.
     /// After a refusal of memory some may have it and others not.
     pub fn queue_record(&mut self, forest: &Forest, change: Change) -> Result<bool, AllocError>
         requires { IsNode forest.now (target_of (change_of change)) }

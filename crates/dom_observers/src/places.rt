@@ -1,11 +1,16 @@
-//! Where a node's registrations stand in a list.
-ghost use Rattle.std.specs.Prelude.{◌≡◌, ◌++◌, ◌∷◌, [], OnOk, OnErr};
-ghost use Rattle.dom_observers.specs.Watching.{places_in};
+//! Where a node's or an observer's registrations stand in a list.
+ghost use Rattle.std.specs.Prelude.{◌≡◌, ℕ, ◌++◌, ◌∷◌, [], nat_eq, true, is_some, OnOk, OnErr, if◌then◌else◌};
+ghost use Rattle.indexmap.specs.IndexMap.{get};
+ghost use Rattle.dom_model.specs.Names.{is_in};
+ghost use Rattle.dom_observers.specs.Views.{there_in};
+ghost use Rattle.dom_observers.specs.Watching.{places_in, places_or};
 
+use crate::registered::{Registered, is_there};
+use indexmap::IndexMap;
 use std::alloc::{AllocError, Global};
 use std::slice;
 
-/// The places of a node's registrations in a list, in order. One alone takes no memory.
+/// The places of some registrations in a list, in order. One alone takes no memory.
 #[derive(Drop)]
 pub enum Places {
     One(usize),
@@ -38,4 +43,34 @@ impl Places {
         *self = Places::More(both);
         Ok(())
     }
+
+    /// Drops the places of a list's registrations that have gone. One alone may stay.
+    pub(crate) fn drop_gone(&mut self, registrations: &[Registered])
+        ensures { (i : ℕ) → is_in nat_eq i (places_in self.old) ≡ true → is_some (there_in registrations.now i) ≡ true
+            → is_in nat_eq i (places_in self.new) ≡ true }
+    {
+        if let Places::More(list) = self {
+            list.retain(|place| is_there(registrations, *place));
+        }
+    }
+}
+
+/// Puts a place behind those of a node or an observer with a number.
+pub(crate) fn put(
+    alloc: Global,
+    lists: &mut IndexMap<usize, Places>,
+    number: usize,
+    place: usize,
+) -> Result<(), AllocError>
+    ensures ok { OnOk result ((x : ℕ) → places_or (get nat_eq lists.new x) ≡
+        (if nat_eq number x then places_or (get nat_eq lists.old x) ++ place ∷ [] else places_or (get nat_eq lists.old x))) }
+    ensures err { OnErr result ((x : ℕ) → places_or (get nat_eq lists.new x) ≡ places_or (get nat_eq lists.old x)) }
+{
+    match lists.get_mut(&number) {
+        Some(places) => places.push(alloc, place)?,
+        None => {
+            let _ = lists.insert(number, Places::One(place))?;
+        }
+    }
+    Ok(())
 }

@@ -1,7 +1,7 @@
 //! Registrations of observers on nodes.
-ghost use Rattle.std.specs.Prelude.{◌≡◌, nat_eq, not, IfOk, ◌&&◌, ◌==◌};
-ghost use Rattle.dom_model.specs.Observers.{fits, is_transient, is_asked_for, stems_from, with_options};
-ghost use Rattle.dom_observers.specs.Views.{words_of, change_of, registration_of, source_of};
+ghost use Rattle.std.specs.Prelude.{◌≡◌, nat_eq, not, false, option_map, is_some, IfOk, ◌&&◌};
+ghost use Rattle.dom_model.specs.Observers.{fits, is_transient, is_asked_for, stems_from};
+ghost use Rattle.dom_observers.specs.Views.{change_of, registration_of, source_of, there_in};
 ghost use Rattle.dom_observers.specs.Taking.{transient_copy};
 
 use crate::change::Change;
@@ -20,13 +20,14 @@ pub enum Source {
 }
 
 /// A registration of an observer on a node (DOM Standard, concept: registered observer). Its transient copies share its
-/// options.
+/// options. One that has gone stays in its place of a list until the places are closed up.
 #[derive(Drop)]
 pub struct Registered {
     pub node: Key,
     pub observer: u32,
     pub options: Rc<Options>,
     pub source: Source,
+    pub has_gone: bool,
 }
 
 impl Registered {
@@ -61,32 +62,10 @@ impl Registered {
         }
     }
 
-    /// A copy of it, with other options where it is the one that an observer asked for on a node (DOM Standard,
-    /// observe()).
-    pub(crate) fn renewed(
-        &self,
-        observer: u32,
-        node: Key,
-        options: &Rc<Options>,
-    ) -> Result<Registered, AllocError>
-        ensures { IfOk result (λ r. registration_of r ≡ with_options nat_eq observer node (words_of options.now.value) (registration_of self.now)) }
-    {
-        let options = if self.is_asked_for(observer, node) {
-            options.clone()?
-        } else {
-            self.options.clone()?
-        };
-        Ok(Registered {
-            node: self.node,
-            observer: self.observer,
-            options,
-            source: self.source,
-        })
-    }
-
     /// A transient copy for a removed node (DOM Standard, remove).
     pub(crate) fn copied_to(&self, node: Key) -> Result<Registered, AllocError>
-        ensures { IfOk result (λ r. registration_of r ≡ transient_copy node (registration_of self.now)) }
+        ensures copy { IfOk result (λ r. registration_of r ≡ transient_copy node (registration_of self.now)) }
+        ensures there { IfOk result (λ r. r.has_gone ≡ false) }
     {
         let source = if self.is_transient() {
             Source::CopiedFromTransient
@@ -98,6 +77,24 @@ impl Registered {
             observer: self.observer,
             options: self.options.clone()?,
             source,
+            has_gone: false,
         })
     }
+}
+
+/// The registration in a place of a list, unless it has gone.
+pub(crate) fn there_at(registrations: &[Registered], place: usize) -> Option<&Registered>
+    ensures { option_map (λ r. registration_of r.now) result ≡ there_in registrations.now place }
+{
+    match registrations.get(place) {
+        Some(registered) if !registered.has_gone => Some(registered),
+        _ => None,
+    }
+}
+
+/// Whether a place of a list has a registration that has not gone.
+pub(crate) fn is_there(registrations: &[Registered], place: usize) -> bool
+    ensures { result ≡ is_some (there_in registrations.now place) }
+{
+    there_at(registrations, place).is_some()
 }

@@ -1,12 +1,12 @@
 //! The registrations of an owner's observers.
-ghost use Rattle.std.specs.Prelude.{◌≡◌, ℕ, not, nat_eq, [], ◌∷◌, ◌++◌, map, filter, fold, IfOk, OnOk, OnErr, ◌&&◌, ◌==◌};
+ghost use Rattle.std.specs.Prelude.{◌≡◌, ℕ, not, nat_eq, false, [], ◌∷◌, ◌++◌, map, filter, fold, IfOk, OnOk, OnErr};
 ghost use Rattle.std.specs.List.{list_any};
 ghost use Rattle.dom_model.specs.Names.{is_empty};
-ghost use Rattle.dom_model.specs.Observers.{is_asked_for, stems_from, with_options, with_registration, without_observer, without_transients};
-ghost use Rattle.dom_model.specs.Observers.{transients_for, interested, record_for, target_of, asked_for};
+ghost use Rattle.dom_model.specs.Observers.{is_asked_for, with_registration, transients_for, interested, record_for, target_of, asked_for};
 ghost use Rattle.dom_observers.specs.InterestedObservers.{record_of};
 ghost use Rattle.dom_observers.specs.Paths.{path_keys};
-ghost use Rattle.dom_observers.specs.Views.{words_of, change_of, registration_of};
+ghost use Rattle.dom_observers.specs.Views.{words_of, change_of, registration_of, AreThere};
+ghost use Rattle.dom_observers.specs.Removals.{goes};
 ghost use Rattle.dom_observers.specs.Taking.{picked, copied_by, copied_at};
 ghost use Rattle.dom_tree.specs.Forest.{IsNode};
 
@@ -14,37 +14,40 @@ use crate::change::Change;
 use crate::interested::InterestedObservers;
 use crate::options::Options;
 use crate::path::inclusive_ancestors;
-use crate::registered::{Registered, Source};
+use crate::registered::{Registered, Source, there_at};
+use crate::removal::Removal;
 use crate::watched::Watched;
 use dom_tree::Forest;
-use indexmap::IndexSet;
 use node_arena::Key;
 use std::alloc::{AllocError, Global};
 use std::marker::Model;
 use std::rc::Rc;
 
+/// How many that have gone may keep their places, though they are most.
+const MANY: usize = 32;
+
 /// The registrations of an owner's observers in the order of their making (DOM Standard, concept: registered observer
-/// list), the nodes that they watch, and whether some of them may be transient.
+/// list), in a list in which some may have gone, and so many have; and the nodes that they watch.
 #[derive(Drop)]
 pub struct Registrations {
     list: Vec<Registered>,
+    gone: usize,
     watched: Watched,
-    may_be_transient: bool,
     alloc: Global,
 }
 
 impl Model for Registrations {
-    ghost use Rattle.std.specs.Prelude.{ℕ, List, map};
+    ghost use Rattle.std.specs.Prelude.{ℕ, List};
     ghost use Rattle.dom_model.specs.Observers.{Registration};
 
     ghost Value = { List (Registration ℕ) };
 
-    ghost use Rattle.dom_observers.specs.Views.{registration_of};
+    ghost use Rattle.dom_observers.specs.Views.{those_there};
     ghost use Rattle.dom_observers.specs.Watching.{AreKept};
 
-    ghost view = { λ r. map registration_of r.list.items };
+    ghost view = { λ r. those_there r.list.items };
 
-    ghost invariant = { λ r. AreKept r.watched r.may_be_transient (map registration_of r.list.items) };
+    ghost invariant = { λ r. AreKept r.watched r.gone r.list.items };
 }
 
 impl Registrations {
@@ -55,7 +58,7 @@ impl Registrations {
         Registrations {
             list: Vec::new(alloc),
             watched: Watched::new(alloc),
-            may_be_transient: false,
+            gone: 0,
             alloc,
         }
     }
@@ -64,7 +67,7 @@ impl Registrations {
     pub(crate) fn is_empty(&self) -> bool
         ensures { result ≡ is_empty self.now }
     {
-        self.list.is_empty()
+        self.list.len() == self.gone
     }
 
     /// The observers that are interested in a change of a node, found by looks at the registrations on its inclusive ancestors alone
@@ -96,7 +99,8 @@ impl Registrations {
         )
     }
 
-    /// Registers an observer on a node, or gives its registration there other options (DOM Standard, observe()).
+    /// Registers an observer on a node, or gives its registration there other options, and takes the transient copies of it away (DOM
+    /// Standard, observe()). The registrations on the node are looked at, and the transient ones.
     pub(crate) fn observe(
         &mut self,
         observer: u32,
@@ -106,27 +110,22 @@ impl Registrations {
         ensures ok { OnOk result (self.new ≡ with_registration nat_eq observer node (words_of options.value) self.old) }
         ensures err { OnErr result (self.new ≡ self.old) }
     {
-        if self.is_registered(observer, node) {
-            self.renew(observer, node, &options)
-        } else {
-            self.add(observer, node, options)
+        let place = self
+            .watched
+            .asked_for(self.list.as_slice(), observer, node, options.subtree)?;
+        match place {
+            Some(place) => {
+                self.list[place].options = options;
+                self.remove(&Removal::CopiesOf(observer, node));
+                Ok(())
+            }
+            None => self.add(observer, node, options),
         }
     }
 
-    /// Gives an observer's registration on a node other options, and takes the transient copies of it away.
-    fn renew(&mut self, observer: u32, node: Key, options: &Rc<Options>) -> Result<(), AllocError>
-        ensures ok { OnOk result (self.new ≡ map (with_options nat_eq observer node (words_of options.now.value))
-            (filter (λ r. not ((r.observer == observer) && stems_from nat_eq node r.source)) self.old)) }
-        ensures err { OnErr result (self.new ≡ self.old) }
-    {
-        self.list = self.renewed(observer, node, options)?;
-        self.watched = Watched::new(self.alloc);
-        self.may_be_transient = true;
-        Ok(())
-    }
-
-    /// Adds a registration of an observer on a node.
+    /// Adds a registration of an observer on a node, where it has none there.
     fn add(&mut self, observer: u32, node: Key, options: Rc<Options>) -> Result<(), AllocError>
+        requires { list_any (is_asked_for nat_eq observer node) self.old ≡ false }
         ensures ok { OnOk result (self.new ≡ self.old ++
             record { node = node; observer = observer; options = words_of options.value; source = asked_for } ∷ []) }
         ensures err { OnErr result (self.new ≡ self.old) }
@@ -136,62 +135,36 @@ impl Registrations {
             observer,
             options,
             source: Source::AskedFor,
+            has_gone: false,
         })?;
         Ok(())
     }
 
-    /// Whether an observer has a registration on a node that was asked for.
-    fn is_registered(&self, observer: u32, node: Key) -> bool
-        ensures { result ≡ list_any (is_asked_for nat_eq observer node) self.now }
+    /// Takes the registrations away that go. Those among which they are found are looked at, or all where memory for their places is
+    /// refused. Where most places are of registrations that have gone, they are closed up.
+    pub(crate) fn remove(&mut self, removal: &Removal)
+        ensures { self.new ≡ filter (λ r. not (goes removal.now r)) self.old }
     {
-        self.list
-            .iter()
-            .any(|registered| registered.is_asked_for(observer, node))
-    }
-
-    /// The registrations where an observer's on a node has other options, and the transient copies of it are gone.
-    fn renewed(
-        &self,
-        observer: u32,
-        node: Key,
-        options: &Rc<Options>,
-    ) -> Result<Vec<Registered>, AllocError>
-        ensures { IfOk result (λ rs. map registration_of rs.items ≡ map (with_options nat_eq observer node (words_of options.now.value))
-            (filter (λ r. not ((r.observer == observer) && stems_from nat_eq node r.source)) self.now)) }
-    {
-        let mut renewed = Vec::new(self.alloc);
-        for registered in &self.list {
-            if !registered.stems_from(observer, node) {
-                renewed.push(registered.renewed(observer, node, options)?)?;
-            }
-        }
-        Ok(renewed)
-    }
-
-    /// Takes an observer's registrations away, transient ones too (DOM Standard, disconnect()).
-    pub(crate) fn remove_of(&mut self, observer: u32)
-        ensures { self.new ≡ without_observer observer self.old }
-    {
-        let before = self.list.len();
-        self.list
-            .retain(|registered| registered.observer != observer);
-        self.watched.forget_if(self.list.len() < before);
-    }
-
-    /// Takes the transient registrations of some observers away (DOM Standard, notify mutation observers). Where there is no transient
-    /// one, no registration is looked at.
-    pub(crate) fn remove_transients(&mut self, observers: &IndexSet<u32>)
-        ensures { self.new ≡ without_transients observers.now.keys self.old }
-    {
-        if !self.may_be_transient {
+        if self.watched.note(self.list.as_slice()).is_err() {
+            self.close_up(removal);
             return;
         }
-        let before = self.list.len();
-        self.list.retain(|registered| {
-            !(registered.is_transient() && observers.contains(&registered.observer))
-        });
-        self.watched.forget_if(self.list.len() < before);
-        self.may_be_transient = self.list.iter().any(|registered| registered.is_transient());
+        let places = self.watched.owned.among(removal);
+        let went = removal.take_in(&mut self.list, places);
+        self.gone += went;
+        self.watched.owned.drop_gone(self.list.as_slice(), removal);
+        if self.gone > MANY && self.gone > self.list.len() / 2 {
+            self.close_up(removal);
+        }
+    }
+
+    /// Takes the registrations away that go, and closes the places up of those that have gone. All are then to be noted anew.
+    fn close_up(&mut self, removal: &Removal)
+        ensures { self.new ≡ filter (λ r. not (goes removal.now r)) self.old }
+    {
+        self.list.retain(|registered| !registered.has_gone && !removal.takes(registered));
+        self.watched = Watched::new(self.alloc);
+        self.gone = 0;
     }
 
     /// Adds the transient registrations of a node that is removed from a parent (DOM Standard, remove). Where it gets none, this costs
@@ -219,7 +192,6 @@ impl Registrations {
             node,
         )?;
         self.list.append(&mut copies)?;
-        self.may_be_transient = true;
         Ok(())
     }
 }
@@ -232,8 +204,9 @@ fn copies_for(
     path: &[Key],
     node: Key,
 ) -> Result<Vec<Registered>, AllocError>
-    ensures { IfOk result (λ copies. map registration_of copies.items ≡
-        fold (copied_at node (map registration_of registrations.now) watched.now) [] path.now) }
+    ensures there { IfOk result (λ copies. AreThere copies.items) }
+    ensures copies { IfOk result (λ copies. map registration_of copies.items ≡
+        fold (copied_at node registrations.now watched.now) [] path.now) }
 {
     let mut copies = Vec::new(alloc);
     for above in path {
@@ -249,11 +222,13 @@ fn copy_from(
     node: Key,
     copies: &mut Vec<Registered>,
 ) -> Result<(), AllocError>
-    ensures { OnOk result (map registration_of copies.new.items ≡ fold (copied_by node) (map registration_of copies.old.items)
-        (picked (map registration_of registrations.now) places.now)) }
+    requires { AreThere copies.old.items }
+    ensures there { OnOk result (AreThere copies.new.items) }
+    ensures copies { OnOk result (map registration_of copies.new.items ≡ fold (copied_by node) (map registration_of copies.old.items)
+        (picked registrations.now places.now)) }
 {
     for place in places {
-        if let Some(registered) = registrations.get(*place) {
+        if let Some(registered) = there_at(registrations, *place) {
             if registered.options.subtree {
                 copies.push(registered.copied_to(node)?)?;
             }

@@ -17,6 +17,7 @@ use crate::change::{Change, Record};
 use crate::interested::InterestedObservers;
 use crate::options::Options;
 use crate::registrations::Registrations;
+use crate::removal::Removal;
 use dom_base::{Fault, MAX_NODES, Refusal};
 use dom_tree::Forest;
 use indexmap::IndexSet;
@@ -113,7 +114,7 @@ impl Table {
         if self.take(observer).is_none() {
             return false;
         }
-        self.registrations.remove_of(observer);
+        self.registrations.remove(&Removal::Of(observer));
         true
     }
 
@@ -230,7 +231,7 @@ impl Table {
             let records = self.take(*observer).unwrap_or(Vec::new(alloc));
             notices.push((*observer, records))?;
         }
-        self.registrations.remove_transients(&pending);
+        self.registrations.remove(&Removal::TransientsOf(pending));
         Ok(notices)
     }
 }

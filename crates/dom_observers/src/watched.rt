@@ -1,27 +1,29 @@
 //! The nodes that observers watch.
-ghost use Rattle.std.specs.Prelude.{◌≡◌, ℕ, ◌≤◌, ◌++◌, ◌∷◌, [], List, nat_eq, map, length, false, OnOk, OnErr, if◌then◌else◌};
+ghost use Rattle.std.specs.Prelude.{◌≡◌, ℕ, ◌≤◌, ◌++◌, ◌∷◌, [], List, nat_eq, length, true, false, IfOk, OnOk, OnErr, if◌then◌else◌};
 ghost use Rattle.std.specs.List.{list_any};
-ghost use Rattle.indexmap.specs.IndexMap.{get};
 ghost use Rattle.dom_model.specs.Names.{is_in, append_once};
-ghost use Rattle.dom_model.specs.Observers.{Registration};
+ghost use Rattle.dom_model.specs.Observers.{is_asked_for};
 ghost use Rattle.dom_observers.specs.Paths.{path_keys};
-ghost use Rattle.dom_observers.specs.Views.{registration_of};
-ghost use Rattle.dom_observers.specs.Watching.{places_or, places_at, AreNoted};
+ghost use Rattle.dom_observers.specs.Taking.{picked};
+ghost use Rattle.dom_observers.specs.Views.{those_there};
+ghost use Rattle.dom_observers.specs.Watching.{places_at, AreNoted, IsPlaceOf};
 ghost use Rattle.dom_tree.specs.Forest.{IsNode};
 
-use crate::places::Places;
-use crate::registered::Registered;
+use crate::owned::Owned;
+use crate::places::{Places, put};
+use crate::registered::{Registered, there_at};
 use dom_tree::Forest;
 use indexmap::{IndexMap, IndexSet};
 use node_arena::Key;
 use std::alloc::{AllocError, Global};
 
-/// For each node the places of its registrations in an owner's list, of as many from the first on as are noted, and nodes among which
-/// are all that have a noted one that observes what is below them (own rule).
+/// For each node the places of its registrations in an owner's list, of as many from the first on as are noted, those that have gone
+/// too; nodes among which are all that have a noted one that observes what is below them; and whose the noted ones are (own rule).
 #[derive(Drop)]
 pub struct Watched {
-    places: IndexMap<Key, Places>,
+    places: IndexMap<usize, Places>,
     above: IndexSet<Key>,
+    pub(crate) owned: Owned,
     noted: usize,
     alloc: Global,
 }
@@ -29,34 +31,25 @@ pub struct Watched {
 impl Watched {
     /// None is noted. It takes no memory yet.
     pub(crate) fn new(alloc: Global) -> Self
-        ensures { (rs : List (Registration ℕ)) → AreNoted result rs }
+        ensures { (rs : List Registered) → AreNoted result rs }
     {
         Watched {
             places: IndexMap::new(alloc),
             above: IndexSet::new(alloc),
+            owned: Owned::new(alloc),
             noted: 0,
             alloc,
         }
     }
 
-    /// Forgets all places, if registrations have gone.
-    pub(crate) fn forget_if(&mut self, have_gone: bool)
-        ensures { (rs : List (Registration ℕ)) → (have_gone ≡ false → AreNoted self.old rs) → AreNoted self.new rs }
-    {
-        if have_gone {
-            self.places.clear();
-            self.above.clear();
-            self.noted = 0;
-        }
-    }
-
     /// Notes those registrations of a list that are not noted yet. Where memory is refused some of them stay so.
     pub(crate) fn note(&mut self, registrations: &[Registered]) -> Result<(), AllocError>
-        ensures noted { AreNoted self.old (map registration_of registrations.now) → AreNoted self.new (map registration_of registrations.now) }
+        ensures noted { AreNoted self.old registrations.now → AreNoted self.new registrations.now }
         ensures all { OnOk result (length registrations.now ≤ self.new.noted) }
     {
         for place in self.noted..registrations.len() {
             let registered = &registrations[place];
+            self.owned.add(registered, place)?;
             self.add(registered.node, place, registered.options.subtree)?;
             self.noted = place + 1;
         }
@@ -71,18 +64,41 @@ impl Watched {
         ensures above { OnOk result (self.new.above.keys ≡ (if observes_below then append_once nat_eq self.old.above.keys node else self.old.above.keys)) }
         ensures kept { (x : ℕ) → is_in nat_eq x self.new.above.keys ≡ false → is_in nat_eq x self.old.above.keys ≡ false }
         ensures noted { self.new.noted ≡ self.old.noted }
+        ensures owned { self.new.owned ≡ self.old.owned }
     {
         if observes_below {
             self.above.insert(node)?;
         }
-        put(self.alloc, &mut self.places, node, place)
+        put(self.alloc, &mut self.places, node.index(), place)
+    }
+
+    /// The place of the registration on a node that an observer asked for, if there is one. Those on the node alone are looked at. If
+    /// what is below the node is to be observed, it is then among those above.
+    pub(crate) fn asked_for(
+        &mut self,
+        registrations: &[Registered],
+        observer: u32,
+        node: Key,
+        observes_below: bool,
+    ) -> Result<Option<usize>, AllocError>
+        ensures noted { AreNoted self.old registrations.now → AreNoted self.new registrations.now }
+        ensures place { IfOk result (λ place. AreNoted self.old registrations.now →
+            IsPlaceOf (is_asked_for nat_eq observer node) registrations.now (those_there registrations.now) place) }
+        ensures above { OnOk result (observes_below ≡ true → is_in nat_eq node self.new.above.keys ≡ true) }
+    {
+        self.note(registrations)?;
+        let place = asked_for_in(registrations, self.places(node), observer, node);
+        if observes_below {
+            self.above.insert(node)?;
+        }
+        Ok(place)
     }
 
     /// The noted places of a node's registrations, by one look.
     pub(crate) fn places(&self, node: Key) -> &[usize]
         ensures { result.now ≡ places_at self.now node }
     {
-        match self.places.get(&node) {
+        match self.places.get(&node.index()) {
             Some(places) => places.as_slice(),
             None => &[],
         }
@@ -113,22 +129,21 @@ impl Watched {
     }
 }
 
-/// Puts a place behind those of a node.
-fn put(
-    alloc: Global,
-    lists: &mut IndexMap<Key, Places>,
+/// Which of some places has the registration on a node that an observer asked for, if one has.
+fn asked_for_in(
+    registrations: &[Registered],
+    places: &[usize],
+    observer: u32,
     node: Key,
-    place: usize,
-) -> Result<(), AllocError>
-    ensures ok { OnOk result ((x : ℕ) → places_or (get nat_eq lists.new x) ≡
-        (if nat_eq node x then places_or (get nat_eq lists.old x) ++ place ∷ [] else places_or (get nat_eq lists.old x))) }
-    ensures err { OnErr result ((x : ℕ) → places_or (get nat_eq lists.new x) ≡ places_or (get nat_eq lists.old x)) }
+) -> Option<usize>
+    ensures { IsPlaceOf (is_asked_for nat_eq observer node) registrations.now (picked registrations.now places.now) result }
 {
-    match lists.get_mut(&node) {
-        Some(places) => places.push(alloc, place)?,
-        None => {
-            let _ = lists.insert(node, Places::One(place))?;
+    for place in places {
+        if let Some(registered) = there_at(registrations, *place) {
+            if registered.is_asked_for(observer, node) {
+                return Some(*place);
+            }
         }
     }
-    Ok(())
+    None
 }

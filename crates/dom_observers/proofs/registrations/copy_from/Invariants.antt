@@ -1,10 +1,13 @@
 use Rattle.std.proofs.Common.{◌≡◌, take, map}
 use Rattle.std.specs.List.{fold}
-use Rattle.dom_observers.specs.Views.{registration_of}
+use Rattle.dom_observers.specs.Views.{registration_of, AreThere}
 use Rattle.dom_observers.specs.Taking.{copied_by, picked}
 use Rattle.dom_observers.proofs.registrations.copy_from.Given as goal
 
 abbrev pub invariant-loop-place : goal.invariant-loop-place
 invariant-loop-place l =
-    map registration_of l.copies.items ≡ fold (copied_by l.node) (map registration_of l.initial.copies.items)
-    (picked (map registration_of l.registrations) (take l.place-index l.places))
+    record {
+      there : AreThere l.copies.items;
+      copies : map registration_of l.copies.items ≡ fold (copied_by l.node) (map registration_of l.initial.copies.items)
+          (picked l.registrations (take l.place-index l.places));
+    }

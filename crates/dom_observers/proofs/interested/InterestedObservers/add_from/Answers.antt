@@ -1,9 +1,8 @@
-use Rattle.std.proofs.Common.{◌≡◌, ℕ, Option, Some, None, nat_eq, [], map, get_or, sym, ap, ◌∙◌, arith}
-use Rattle.std.specs.Prelude.{slice_get}
+use Rattle.std.proofs.Common.{◌≡◌, ℕ, Option, Some, None, nat_eq, [], get_or, sym, ap, ◌∙◌, arith}
 use Rattle.std.specs.List.{fold, cons_option}
 use Rattle.std.proofs.lemmas.Bool.{cond-true, cond-false}
 use Rattle.dom_model.specs.Observers.{Registration, fits, asks_for_old}
-use Rattle.dom_observers.specs.Views.{words_of, change_of, registration_of}
+use Rattle.dom_observers.specs.Views.{words_of, change_of, registration_of, there_in}
 use Rattle.dom_observers.specs.Taking.{found_by, and_found}
 use Rattle.dom_observers.specs.InterestedObservers.{found_of}
 use Rattle.dom_observers.proofs.Watching.{picked-next, read}
@@ -14,13 +13,13 @@ pub loop-place-preserved : goal.loop-place-preserved
 loop-place-preserved c =
     let ch = change_of c.args.change.now in
     let f = found_by ch in
-    let rs = map registration_of c.args.registrations.now in
+    let rs = c.args.registrations.now in
     let places = c.args.places.now in
     let i = c.loop-place.place-index in
     let before = found_of c.loop-place.self in
     let there = λ (o : Option (Registration ℕ)). fold f before (cons_option o []) in
-    let here : found_of c.match-get.self ≡ fold f before (cons_option (slice_get rs (get_or places i 0)) []) =
-    elim c.match-get.branch [
+    let here : found_of c.match-there_at.self ≡ fold f before (cons_option (there_in rs (get_or places i 0)) []) =
+    elim c.match-there_at.branch [
       | in-Some+then-fits+in_ok-add w ↦
           let item = registration_of w.in-Some.registered.now in
           let more = and_found before item.observer (asks_for_old item.options ch) in
@@ -28,15 +27,15 @@ loop-place-preserved c =
           ∙ (w.in_ok-add.ensures
           ∙ (ap (and_found before item.observer) (w.ask_for_old.ensures ∙ ap (λ o. asks_for_old (words_of o) ch) w.deref.ensures)
           ∙ (sym (cond-true (fits nat_eq ch item) more before (sym w.fits.ensures ∙ w.if-fits.true))
-          ∙ sym (ap there (read c.args.registrations.now (Some w.in-Some.registered) w.in-Some.ensures.lookup)))))
+          ∙ sym (ap there (read rs (get_or places i 0) (Some w.in-Some.registered) w.in-Some.is c.there_at.ensures)))))
       | in-Some+else-fits w ↦
           let item = registration_of w.in-Some.registered.now in
           ap found_of w.self-is
           ∙ (sym (cond-false (fits nat_eq ch item) (and_found before item.observer (asks_for_old item.options ch)) before
           (sym w.fits.ensures ∙ w.if-fits.false))
-          ∙ sym (ap there (read c.args.registrations.now (Some w.in-Some.registered) w.in-Some.ensures.lookup)))
-      | in_default w ↦ ap found_of w.self-is ∙ sym (ap there (read c.args.registrations.now None w.in_default.ensures.lookup))
+          ∙ sym (ap there (read rs (get_or places i 0) (Some w.in-Some.registered) w.in-Some.is c.there_at.ensures)))
+      | in_default w ↦ ap found_of w.self-is ∙ sym (ap there (read rs (get_or places i 0) None w.in_default.is c.there_at.ensures))
     ] in
     here
-    ∙ (ap (λ b. fold f b (cons_option (slice_get rs (get_or places i 0)) [])) c.loop-place.invariant
+    ∙ (ap (λ b. fold f b (cons_option (there_in rs (get_or places i 0)) [])) c.loop-place.invariant
     ∙ sym (picked-next f (found_of c.args.self.now) rs places i (omega arith)))

@@ -1,6 +1,6 @@
-use Rattle.std.proofs.Common.{◌≡◌, take, map}
+use Rattle.std.proofs.Common.{◌≡◌, take}
 use Rattle.std.specs.List.{fold}
-use Rattle.dom_observers.specs.Views.{change_of, registration_of}
+use Rattle.dom_observers.specs.Views.{change_of}
 use Rattle.dom_observers.specs.Taking.{found_by, picked}
 use Rattle.dom_observers.specs.InterestedObservers.{found_of}
 use Rattle.dom_observers.proofs.interested.InterestedObservers.add_from.Given as goal
@@ -8,4 +8,4 @@ use Rattle.dom_observers.proofs.interested.InterestedObservers.add_from.Given as
 abbrev pub invariant-loop-place : goal.invariant-loop-place
 invariant-loop-place l =
     found_of l.self ≡ fold (found_by (change_of l.change)) (found_of l.initial.self)
-    (picked (map registration_of l.registrations) (take l.place-index l.places))
+    (picked l.registrations (take l.place-index l.places))

@@ -26,5 +26,5 @@ returns-clause-value c =
 pub returns-clause-tables : goal.returns-clause-tables
 returns-clause-tables c =
     let a : TablesOf ℕ = table_of c.take.new.self in
-    ap (λ (rs : List (Registration ℕ)). record a { registrations = rs }) c.remove_of.ensures
+    ap (λ (rs : List (Registration ℕ)). record a { registrations = rs }) c.remove.ensures
     ∙ ap (λ (t : TablesOf ℕ). record t { registrations = without_observer c.args.observer t.registrations }) c.take.ensures.tables

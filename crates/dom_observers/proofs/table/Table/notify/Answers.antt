@@ -75,7 +75,7 @@ returns-clause-tables c =
     let l = c.loop-observer.invariant in
     let same = ap (λ s. s.keys) c.replace-pending.ensures.value in
     let all = take_all c.loop-observer.observer-index items (omega arith) ∙ (c.as_slice-observer-items.ensures.keys ∙ same) in
-    let rs = c.remove_transients.ensures ∙
+    let rs = c.remove.ensures ∙
     (ap (without_transients c.replace-pending.result.keys) l.registrations ∙ ap (λ ks. without_transients ks t.registrations) same) in
     let queues = l.queues ∙ ap (fold emptying t.record_queues) all in
     ap (λ list. built list (table_of c.loop-observer.self).record_queues (table_of c.loop-observer.self).pending) rs

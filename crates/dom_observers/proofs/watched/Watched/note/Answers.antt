@@ -1,9 +1,10 @@
-use Rattle.std.proofs.Common.{◌+◌, ◌++◌, ◌∷◌, [], eqb, cond, map, get_or, refl, sym, ap, ◌∙◌, arith}
-use Rattle.std.proofs.lemmas.List.{length-map, get_or-map}
-use Rattle.dom_model.specs.Names.{append_once}
+use Rattle.std.proofs.Common.{◌≡◌, ◌+◌, ◌++◌, ◌∷◌, [], true, eqb, cond, map, get_or, refl, sym, ap, ◌∙◌, subst, arith}
+use Rattle.std.proofs.lemmas.List.{get_or-map}
+use Rattle.dom_model.specs.Names.{is_in, append_once}
 use Rattle.dom_observers.specs.declared.options.Options.{Options}
+use Rattle.dom_observers.specs.declared.owned.Owned.{Owned}
 use Rattle.dom_observers.specs.Views.{registration_of}
-use Rattle.dom_observers.specs.Watching.{places_at}
+use Rattle.dom_observers.specs.Watching.{places_at, among}
 use Rattle.dom_observers.proofs.Watching.{noted-next}
 use Rattle.dom_observers.proofs.watched.Watched.note.Goals as goal
 
@@ -18,15 +19,20 @@ loop-place-preserved c =
     record {
       next = refl;
       noted = λ was.
-          noted-next (c.loop-place.invariant.noted was) (registration_of item) (let same = length-map items registration_of in omega (arith, same, next, short))
+          noted-next (c.loop-place.invariant.noted was) (registration_of item) (omega (arith, next, short))
           (ap (λ n. get_or (map registration_of items) n (registration_of item)) next
           ∙ (get_or-map registration_of items i item (registration_of item) (omega (arith, short)) ∙ ap registration_of (sym c.index-registrations-place.is)))
           (record {
             places = λ x.
-                c.in_ok-add.ensures.places x ∙ ap (λ n. cond (eqb item.node x) (places_at before x ++ n ∷ []) (places_at before x)) (sym next);
+                c.in_ok-add-2.ensures.places x ∙ ap (λ n. cond (eqb item.node x) (places_at before x ++ n ∷ []) (places_at before x)) (sym next);
             above =
-                c.in_ok-add.ensures.above
+                c.in_ok-add-2.ensures.above
                 ∙ ap (λ (o : Options). cond o.subtree (append_once eqb before.above.keys item.node) before.above.keys) c.deref.ensures;
             noted = ap (λ n. n + 1) (sym next);
+            stay = λ removal j e.
+                subst (λ (o : Owned). is_in eqb j (among o removal) ≡ true) (sym c.add-in-loop-place.ensures.owned) (c.add.ensures.stay removal j e);
+            found = λ removal is.
+                subst (λ (o : Owned). is_in eqb before.noted (among o removal) ≡ true) (sym c.add-in-loop-place.ensures.owned)
+                (subst (λ n. is_in eqb n (among c.add.new.self removal) ≡ true) (sym next) (c.in_ok-add.ensures.found removal is));
           });
     }

@@ -1,5 +1,4 @@
-use Rattle.std.proofs.Common.{◌≡◌, map}
-use Rattle.dom_observers.specs.Views.{registration_of}
+use Rattle.std.proofs.Common.{◌≡◌}
 use Rattle.dom_observers.specs.Watching.{AreNoted}
 use Rattle.dom_observers.proofs.watched.Watched.note.Given as goal
 
@@ -7,5 +6,5 @@ use Rattle.dom_observers.proofs.watched.Watched.note.Given as goal
 abbrev pub invariant-loop-place : goal.invariant-loop-place
 invariant-loop-place l = record {
   next : l.self.noted ≡ l.place;
-  noted : AreNoted l.fn.self (map registration_of l.registrations) → AreNoted l.self (map registration_of l.registrations);
+  noted : AreNoted l.fn.self l.registrations → AreNoted l.self l.registrations;
 }
