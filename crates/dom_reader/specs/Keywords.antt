@@ -120,11 +120,6 @@ begins first (b ∷ bytes) = b == first
 abbrev pub keywords_with : ℕ → List Keyword
 keywords_with first = filter (λ k. begins first (keyword_word k)) keywords
 
--- the commands' words that begin with `re`, in their order
-abbrev pub re_keywords : List Keyword
-re_keywords = keyword.Replace ∷ keyword.Remove ∷ keyword.ReplaceData ∷ []
-
--- the commands' words that begin with `range-`, in their order
-abbrev pub range_keywords : List Keyword
-range_keywords =
-    keyword.RangeNew ∷ keyword.RangeStart ∷ keyword.RangeEnd ∷ keyword.RangeCollapse ∷ keyword.RangeDrop ∷ keyword.RangeGet ∷ keyword.RangeText ∷ []
+-- a command's word with its text
+abbrev pub spelled : Keyword → List ℕ × Keyword
+spelled k = (keyword_word k, k)

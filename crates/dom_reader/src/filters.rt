@@ -8,7 +8,7 @@ ghost use Rattle.dom_text.specs.Readers.{only_if, between_commas, take_name as s
 ghost use Rattle.dom_text.specs.Readers.{name_filter_of as spec_name_filter_of, attribute_filter_of as spec_attribute_filter_of, last_as};
 ghost use Rattle.dom_words.specs.Gives.{Gives};
 ghost use Rattle.dom_reader.specs.Views.{show_view, name_filter_view};
-ghost use Rattle.dom_reader.specs.Filters.{parts_view, name_behind as spec_name_behind};
+ghost use Rattle.dom_reader.specs.Filters.{parts_view, last_word as spec_last_word, name_behind as spec_name_behind};
 
 use crate::line::{NameFilter, Show};
 use crate::nodes::behind;
@@ -134,6 +134,15 @@ fn attribute_filter_of(alloc: Global, word: &[u8]) -> Result<Vec<String>, NotRea
     names_of(alloc, names)
 }
 
+/// The next word, which has to be the line's last one.
+fn last_word<'a>(words: &mut WordReader<'a>) -> Result<&'a [u8], NotRead>
+    ensures { Gives (λ x. x.now) result (spec_last_word words.old) }
+{
+    let word = words.word()?;
+    words.end()?;
+    Ok(word)
+}
+
 /// `skip=NAME` or `reject=NAME` as the line's last word, where there is one more.
 pub fn last_name_filter(
     alloc: Global,
@@ -144,10 +153,8 @@ pub fn last_name_filter(
     if words.is_at_end() {
         return Ok(None);
     }
-    let word = words.word()?;
-    let filter = name_filter_of(alloc, word)?;
-    words.end()?;
-    Ok(Some(filter))
+    let word = last_word(words)?;
+    Ok(Some(name_filter_of(alloc, word)?))
 }
 
 /// `filter=NAME,..` as the line's last word, where there is one more.
@@ -160,8 +167,6 @@ pub fn last_attribute_filter(
     if words.is_at_end() {
         return Ok(None);
     }
-    let word = words.word()?;
-    let names = attribute_filter_of(alloc, word)?;
-    words.end()?;
-    Ok(Some(names))
+    let word = last_word(words)?;
+    Ok(Some(attribute_filter_of(alloc, word)?))
 }
