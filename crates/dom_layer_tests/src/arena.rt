@@ -76,15 +76,21 @@ fn check_children(rt: &impl Abort, arena: &Arena<u32>, parent: Key, wanted: &[u3
     check_from_last(rt, arena, parent, wanted);
 }
 
-#[test]
-fn children_stand_where_they_are_put(rt: HostRuntime) -> Result<(), Fail> {
-    let mut arena = Arena::new(rt.alloc());
+// Adds four nodes and moves them.
+fn add_and_move(rt: &impl Abort, arena: &mut Arena<u32>) -> Result<(), AllocError> {
     let root = arena.add(0)?;
     let one = arena.add(1)?;
     let two = arena.add(2)?;
     let three = arena.add(3)?;
-    move_children(&rt, &mut arena, root, one, two, three);
+    move_children(rt, arena, root, one, two, three);
     Ok(())
+}
+
+#[test]
+fn children_stand_where_they_are_put(rt: HostRuntime) {
+    let mut arena = Arena::new(rt.alloc());
+    let moved = add_and_move(&rt, &mut arena);
+    assert!(rt; moved.is_ok());
 }
 
 // Puts three nodes below a root, takes them out and puts them below one another.
@@ -116,50 +122,30 @@ fn move_children(rt: &impl Abort, arena: &mut Arena<u32>, root: Key, one: Key, t
     check_children(rt, arena, one, &[2]);
 }
 
-#[test]
-fn a_payload_is_written(rt: HostRuntime) -> Result<(), Fail> {
-    let mut arena = Arena::new(rt.alloc());
+// Adds two nodes, one below the other, and writes a payload.
+fn add_and_write(rt: &impl Abort, arena: &mut Arena<u32>) -> Result<(), AllocError> {
     let root = arena.add(7)?;
     let child = arena.add(8)?;
-    link(&rt, &mut arena, root, child, None);
+    link(rt, arena, root, child, None);
     *arena.payload_mut(child) = 18;
-    assert_eq!(rt; *arena.payload(root), 7);
-    check_children(&rt, &arena, root, &[18]);
+    assert!(rt; *arena.payload(root) == 7);
+    check_children(rt, arena, root, &[18]);
     assert!(rt; root != child && root < child);
     Ok(())
 }
 
-// Checks that the payloads of the children are the odd numbers below 100,000, falling, read from the first one.
-fn check_odd_from_first(rt: &impl Abort, arena: &Arena<Vec<u32>>, root: Key)
-    requires { root < length arena.now.payloads }
-{
-    let mut at = arena.first(root);
-    for half in (0..50_000).rev() {
-        let child = at.expect(rt, "a child is missing");
-        assert!(rt; arena.payload(child).as_slice() == [2 * half + 1].as_slice());
-        at = arena.next(child);
-    }
-    assert!(rt; at.is_none());
-}
-
-// Checks that they are these odd numbers, rising, read from the last one.
-fn check_odd_from_last(rt: &impl Abort, arena: &Arena<Vec<u32>>, root: Key)
-    requires { root < length arena.now.payloads }
-{
-    let mut at = arena.last(root);
-    for half in 0..50_000 {
-        let child = at.expect(rt, "a child is missing");
-        assert!(rt; arena.payload(child).as_slice() == [2 * half + 1].as_slice());
-        at = arena.prev(child);
-    }
-    assert!(rt; at.is_none());
+#[test]
+fn a_payload_is_written(rt: HostRuntime) {
+    let mut arena = Arena::new(rt.alloc());
+    let written = add_and_write(&rt, &mut arena);
+    assert!(rt; written.is_ok());
 }
 
 // Adds the numbers below 100,000 below a root, each before the one added last, and gives their nodes.
 fn add_numbers(
     rt: &impl Abort,
     alloc: Global,
-    arena: &mut Arena<Vec<u32>>,
+    arena: &mut Arena<u32>,
     root: Key,
 ) -> Result<Vec<Key>, AllocError>
     requires { root < length arena.old.payloads }
@@ -169,9 +155,7 @@ fn add_numbers(
     let mut before = None;
     let mut children = Vec::new(alloc);
     for number in 0..100_000u32 {
-        let mut payload = Vec::new(alloc);
-        payload.push(number)?;
-        let child = arena.add(payload)?;
+        let child = arena.add(number)?;
         link(rt, arena, root, child, before);
         before = Some(child);
         children.push(child)?;
@@ -180,26 +164,45 @@ fn add_numbers(
 }
 
 // Takes the nodes with even numbers out.
-fn unlink_even(arena: &mut Arena<Vec<u32>>, children: &[Key])
+fn unlink_even(arena: &mut Arena<u32>, children: &[Key])
     requires { All (λ k. k < length arena.old.payloads) children.now }
     ensures { length arena.new.payloads ≡ length arena.old.payloads }
 {
     for child in children {
-        if matches!(arena.payload(*child).first(), Some(number) if *number % 2 == 0) {
+        if *arena.payload(*child) % 2 == 0 {
             arena.unlink(*child);
         }
     }
 }
 
-#[test]
-fn many_children_go_and_stay(rt: HostRuntime) -> Result<(), Fail> {
-    let mut arena = Arena::new(rt.alloc());
-    let root = arena.add(Vec::new(rt.alloc()))?;
-    let children = add_numbers(&rt, rt.alloc(), &mut arena, root)?;
-    unlink_even(&mut arena, children.as_slice());
-    check_odd_from_first(&rt, &arena, root);
-    check_odd_from_last(&rt, &arena, root);
+// The odd numbers below 100,000, falling.
+fn odd_numbers(alloc: Global) -> Result<Vec<u32>, AllocError> {
+    let mut numbers = Vec::new(alloc);
+    for half in (0..50_000).rev() {
+        numbers.push(2 * half + 1)?;
+    }
+    Ok(numbers)
+}
+
+// Adds numbers, takes the even ones out and looks at the others.
+fn add_and_unlink(
+    rt: &impl Abort,
+    alloc: Global,
+    arena: &mut Arena<u32>,
+) -> Result<(), AllocError> {
+    let odd = odd_numbers(alloc)?;
+    let root = arena.add(0)?;
+    let children = add_numbers(rt, alloc, arena, root)?;
+    unlink_even(arena, children.as_slice());
+    check_children(rt, arena, root, odd.as_slice());
     Ok(())
+}
+
+#[test]
+fn many_children_go_and_stay(rt: HostRuntime) {
+    let mut arena = Arena::new(rt.alloc());
+    let unlinked = add_and_unlink(&rt, rt.alloc(), &mut arena);
+    assert!(rt; unlinked.is_ok());
 }
 
 // A number below a bound, which changes from call to call.
@@ -268,35 +271,71 @@ fn reorder<T>(
     Ok(())
 }
 
-#[test]
-fn remembered_children_are_where_they_are_put(rt: HostRuntime) -> Result<(), Fail> {
-    let mut arena = Arena::new(rt.alloc());
-    let root = arena.add(Vec::new(rt.alloc()))?;
-    let children = add_numbers(&rt, rt.alloc(), &mut arena, root)?;
-    let mut order = Vec::new(rt.alloc());
+// The numbers below 100,000, falling.
+fn falling(alloc: Global) -> Result<Vec<usize>, AllocError> {
+    let mut order = Vec::new(alloc);
     for number in (0..100_000).rev() {
         order.push(number)?;
     }
-    reorder(&rt, &mut arena, root, children.as_slice(), &mut order)?;
+    Ok(order)
+}
+
+// Looks whether every hundredth child is where the plain list has it.
+fn check_places<T>(rt: &impl Abort, arena: &Arena<T>, children: &[Key], order: &[usize])
+    requires { All (λ k. k < length arena.now.payloads) children.now }
+{
     for step in 0..1_000 {
         let place = step * 100;
         assert!(rt; place < order.len());
-        let child = child_at(&rt, &arena, children.as_slice(), order[place]);
+        let child = child_at(rt, arena, children, order[place]);
         assert!(rt; arena.index_below(child, usize::MAX) == Some(place));
     }
+}
+
+// Adds numbers, moves them and looks where they are.
+fn add_and_reorder(
+    rt: &impl Abort,
+    alloc: Global,
+    arena: &mut Arena<u32>,
+    order: &mut Vec<usize>,
+) -> Result<(), AllocError> {
+    let root = arena.add(0)?;
+    let children = add_numbers(rt, alloc, arena, root)?;
+    reorder(rt, arena, root, children.as_slice(), order)?;
+    check_places(rt, arena, children.as_slice(), order.as_slice());
     Ok(())
 }
 
 #[test]
-fn payloads_go_with_the_arena(rt: HostRuntime) -> Result<(), Fail> {
+fn remembered_children_are_where_they_are_put(rt: HostRuntime) -> Result<(), Fail> {
+    let mut order = falling(rt.alloc())?;
+    let mut arena = Arena::new(rt.alloc());
+    let reordered = add_and_reorder(&rt, rt.alloc(), &mut arena, &mut order);
+    assert!(rt; reordered.is_ok());
+    Ok(())
+}
+
+// Adds a payload with one number.
+fn add_alone(
+    rt: &impl Abort,
+    alloc: Global,
+    arena: &mut Arena<Vec<u32>>,
+    number: u32,
+) -> Result<(), AllocError> {
+    let mut payload = Vec::new(alloc);
+    payload.push(number)?;
+    let key = arena.add(payload)?;
+    assert!(rt; arena.payload(key).as_slice() == [number].as_slice());
+    Ok(())
+}
+
+#[test]
+fn payloads_go_with_the_arena(rt: HostRuntime) {
     let mut arena = Arena::new(rt.alloc());
     for number in 0..1_000u32 {
-        let mut payload = Vec::new(rt.alloc());
-        payload.push(number)?;
-        let key = arena.add(payload)?;
-        assert_eq!(rt; arena.payload(key).as_slice(), [number].as_slice());
+        let added = add_alone(&rt, rt.alloc(), &mut arena, number);
+        assert!(rt; added.is_ok());
     }
-    Ok(())
 }
 
 // A payload that counts how often payloads were dropped.
@@ -312,16 +351,19 @@ impl Drop for Counted<'_> {
 }
 
 #[test]
-fn each_payload_is_dropped_once_with_its_arena(rt: HostRuntime) -> Result<(), Fail> {
+fn each_payload_is_dropped_once_with_its_arena(rt: HostRuntime) {
     let drops = Cell::new(0);
     let mut arena = Arena::new(rt.alloc());
-    let root = arena.add(Counted { drops: &drops })?;
+    let Ok(root) = arena.add(Counted { drops: &drops }) else {
+        panic!(rt; "no memory");
+    };
     for _ in 0..999 {
-        let child = arena.add(Counted { drops: &drops })?;
+        let Ok(child) = arena.add(Counted { drops: &drops }) else {
+            panic!(rt; "no memory");
+        };
         link(&rt, &mut arena, root, child, None);
     }
-    assert_eq!(rt; drops.get(), 0);
+    assert!(rt; drops.get() == 0);
     drop(arena);
-    assert_eq!(rt; drops.get(), 1000);
-    Ok(())
+    assert!(rt; drops.get() == 1000);
 }

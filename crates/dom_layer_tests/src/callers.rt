@@ -2,7 +2,7 @@
 ghost use Rattle.std.specs.Prelude.{◌≡◌, None, IfOk};
 ghost use Rattle.dom_tree.specs.Forest.{IsNode};
 
-use dom_base::{Kind, NodeName, Owner};
+use dom_base::{Fault, Kind, NodeName, Owner};
 use dom_callers::{
     has_match, headings, label, move_to_front, next_focus, rearrange, select_contents,
     watch_attributes,
@@ -15,7 +15,6 @@ use indexmap::IndexMap;
 use node_arena::{Arena, Key};
 use std::alloc::{AllocError, Global};
 use std::process::Abort;
-use std::test::Fail;
 
 // A `button`, or a Text `x`.
 fn node(alloc: Global, kind: Kind) -> Result<NodeData, AllocError>
@@ -55,21 +54,28 @@ fn link(rt: &impl Abort, forest: &mut Forest, parent: u32, child: u32) {
     forest.link_before(into, node, None);
 }
 
-// An element 0 with the children 1 and 2, which are `button`s, and a Text 3 in the second of them.
-fn buttons(rt: &impl Abort, alloc: Global) -> Result<Forest, Fail> {
-    let mut forest = Forest::new(alloc);
+// Adds an element 0 with the children 1 and 2, which are `button`s, and a Text 3 in the second of them.
+fn add_buttons(rt: &impl Abort, alloc: Global, forest: &mut Forest) -> Result<(), Fault> {
     for kind in [Kind::Element, Kind::Element, Kind::Element, Kind::Text] {
         forest.add(Owner::Page, node(alloc, kind)?)?;
     }
-    link(rt, &mut forest, 0, 1);
-    link(rt, &mut forest, 0, 2);
-    link(rt, &mut forest, 2, 3);
-    Ok(forest)
+    link(rt, forest, 0, 1);
+    link(rt, forest, 0, 2);
+    link(rt, forest, 2, 3);
+    Ok(())
+}
+
+// A forest with these nodes.
+fn buttons(rt: &impl Abort, alloc: Global) -> Forest {
+    let mut forest = Forest::new(alloc);
+    let added = add_buttons(rt, alloc, &mut forest);
+    assert!(rt; added.is_ok());
+    forest
 }
 
 #[test]
-fn a_document_is_asked(rt: HostRuntime) -> Result<(), Fail> {
-    let forest = buttons(&rt, rt.alloc())?;
+fn a_document_is_asked(rt: HostRuntime) {
+    let forest = buttons(&rt, rt.alloc());
     let top = key_of(&rt, &forest, 0);
     let second = key_of(&rt, &forest, 2);
     assert!(rt; label(&forest, second) == Some(&[120]));
@@ -78,62 +84,69 @@ fn a_document_is_asked(rt: HostRuntime) -> Result<(), Fail> {
         name: None,
     };
     let next = next_focus(&forest, top, second, filter).expect(&rt, "nothing gets the focus");
-    assert_eq!(rt; forest.name(next).number, 1);
-    assert!(rt; has_match(rt.alloc(), &forest, top, &[42])?);
-    Ok(())
+    assert!(rt; forest.name(next).number == 1);
+    let matched = has_match(rt.alloc(), &forest, top, &[42]);
+    assert!(rt; matches!(matched, Ok(true)));
 }
 
 #[test]
-fn a_document_is_watched(rt: HostRuntime) -> Result<(), Fail> {
-    let forest = buttons(&rt, rt.alloc())?;
+fn a_document_is_watched(rt: HostRuntime) {
+    let forest = buttons(&rt, rt.alloc());
     let top = key_of(&rt, &forest, 0);
     let mut ranges = RangeTable::new(rt.alloc());
-    let range = select_contents(&mut ranges, Owner::Page, &forest, top)?;
+    let Ok(range) = select_contents(&mut ranges, Owner::Page, &forest, top) else {
+        panic!(rt; "no range is made");
+    };
     let points = ranges
         .points(Owner::Page, range)
         .expect(&rt, "the range is not there");
     assert!(rt; points.start == (top, 0) && points.end == (top, 2));
     let mut observers = Observers::new(rt.alloc());
-    assert_eq!(rt; watch_attributes(&mut observers, Owner::Page, top)?, 0);
+    let watched = watch_attributes(&mut observers, Owner::Page, top);
+    assert!(rt; matches!(watched, Ok(0)));
     assert!(rt; observers.is_watched(Owner::Page));
-    Ok(())
 }
 
 #[test]
-fn a_note_is_rearranged(rt: HostRuntime) -> Result<(), Fail> {
+fn a_note_is_rearranged(rt: HostRuntime) {
     let mut forest = Forest::new(rt.alloc());
     let mut ranges = RangeTable::new(rt.alloc());
-    let range = rearrange(rt.alloc(), &mut forest, &mut ranges)?;
+    let Ok(range) = rearrange(rt.alloc(), &mut forest, &mut ranges) else {
+        panic!(rt; "no range is made");
+    };
     let article = key_of(&rt, &forest, 1);
     let heading = key_of(&rt, &forest, 2);
-    assert_eq!(rt; forest.last(article), Some(heading));
-    let found = headings(rt.alloc(), &forest, article)?;
+    assert!(rt; forest.last(article) == Some(heading));
+    let Ok(found) = headings(rt.alloc(), &forest, article) else {
+        panic!(rt; "no memory");
+    };
     assert!(rt; found.as_slice() == [heading].as_slice());
     let points = ranges
         .points(Owner::Page, range)
         .expect(&rt, "the range is not there");
     assert!(rt; points.start == (article, 0) && points.end == (article, 2));
-    Ok(())
 }
 
 #[test]
-fn a_root_stays(rt: HostRuntime) -> Result<(), Fail> {
+fn a_root_stays(rt: HostRuntime) {
     let mut arena = Arena::new(rt.alloc());
-    let top = arena.add('t')?;
+    let Ok(top) = arena.add('t') else {
+        panic!(rt; "no memory");
+    };
     move_to_front(&mut arena, top);
     assert!(rt; arena.parent(top).is_none());
-    Ok(())
 }
 
 #[test]
-fn a_text_stands_below_its_ancestors(rt: HostRuntime) -> Result<(), Fail> {
-    let forest = buttons(&rt, rt.alloc())?;
-    let path = inclusive_ancestors(rt.alloc(), &forest, key_of(&rt, &forest, 3))?;
+fn a_text_stands_below_its_ancestors(rt: HostRuntime) {
+    let forest = buttons(&rt, rt.alloc());
+    let Ok(path) = inclusive_ancestors(rt.alloc(), &forest, key_of(&rt, &forest, 3)) else {
+        panic!(rt; "no memory");
+    };
     let wanted = [
         key_of(&rt, &forest, 3),
         key_of(&rt, &forest, 2),
         key_of(&rt, &forest, 0),
     ];
     assert!(rt; path.as_slice() == wanted.as_slice());
-    Ok(())
 }

@@ -35,7 +35,8 @@ find-view p view said [] = refl
 find-view {C = C} p view said (x ∷ xs) = go (p (view x)) (find-view p view said xs)
   where
     go : (t : Bool) → option_map (λ y. said (view y)) (find (λ y. p (view y)) xs) ≡ option_map said (find p (map view xs))
-        → option_map {U = C} (λ y. said (view y)) (cond t (Some x) (find (λ y. p (view y)) xs)) ≡ option_map said (cond t (Some (view x)) (find p (map view xs)))
+        → option_map {U = C} (λ y. said (view y)) (cond t (Some x) (find (λ y. p (view y)) xs))
+        ≡ option_map said (cond t (Some (view x)) (find p (map view xs)))
     go true more = refl
     go false more = more
 

@@ -3,8 +3,6 @@
 #![tactic(auto)]
 
 #[cfg(test)]
-mod observers;
-#[cfg(test)]
 mod printer;
 #[cfg(test)]
 mod reader;

@@ -1,3 +1,6 @@
+//! What the reader takes and refuses, and how it cuts bytes into lines. `examples/large` tries lines that are too long, and bytes
+//! that are no text.
+
 ghost use Rattle.std.specs.Prelude.{◌<◌};
 
 mod refused;
@@ -5,7 +8,7 @@ mod said;
 
 use dom_base::Owner;
 use dom_printer::put_owner_word;
-use dom_reader::{Command, Line, Splitter, parse_line};
+use dom_reader::{Splitter, parse_line};
 use refused::{NO_OWNER, REFUSED};
 use said::{COMMANDS, OPTIONAL_WORDS};
 use std::alloc::{AllocError, Global};
@@ -53,19 +56,6 @@ fn other_lines_say_no_command(rt: HostRuntime) -> Result<(), Fail> {
     check_rows(&rt, rt.alloc(), NO_OWNER)
 }
 
-#[test]
-fn bytes_that_are_no_text_say_no_command(rt: HostRuntime) -> Result<(), Fail> {
-    assert_eq!(rt; read_as(rt.alloc(), b"\x80 .")?.as_str(), "None Syntax");
-    assert_eq!(rt; read_as(rt.alloc(), b"p tree n0\x80")?.as_str(), "p Syntax");
-    assert_eq!(rt; read_as(rt.alloc(), b"p .\r")?.as_str(), "p Syntax");
-    assert_eq!(rt;
-        read_as(rt.alloc(), b"p new text \"\xC3\xA9\"")?.as_str(),
-        "p Syntax"
-    );
-    assert_eq!(rt; read_as(rt.alloc(), b"p micro \x7F")?.as_str(), "p Syntax");
-    Ok(())
-}
-
 // A line of so many bytes: a front, letters `a`, and a back.
 fn long_line(
     alloc: Global,
@@ -81,24 +71,35 @@ fn long_line(
     Ok(line)
 }
 
-#[test]
-fn a_line_has_at_most_65536_bytes(rt: HostRuntime) -> Result<(), Fail> {
-    let alloc = rt.alloc();
-    let fits = long_line(alloc, b"p new comment \"", 65_520, b"\"")?;
-    assert_eq!(rt; fits.len(), 65_536);
-    let read = parse_line(alloc, &fits)?;
-    let Line { owner, command } = read.map_err(|_| "a line that fits is refused")?;
-    assert_eq!(rt; owner, Owner::Page);
-    match command {
-        Command::NewComment(data) => assert_eq!(rt; data.len(), 65_520),
-        _ => assert!(rt; false, "no comment is made"),
+// Puts a line, with a bar behind it.
+fn put_barred(text: &mut Vec<u8>, line: &[u8]) -> Result<(), AllocError> {
+    text.extend_from_slice(line)?;
+    text.extend_from_slice(b"|")
+}
+
+// Feeds a piece, and puts the lines that it completes.
+fn put_fed(text: &mut Vec<u8>, splitter: &mut Splitter, piece: &[u8]) -> Result<(), AllocError> {
+    for line in splitter.feed(piece)? {
+        put_barred(text, &line)?;
     }
-    let long = long_line(alloc, b"p new comment \"", 65_521, b"\"")?;
-    assert_eq!(rt; read_as(alloc, &long)?.as_str(), "p Syntax");
-    let nobody = long_line(alloc, b"", 65_537, b"")?;
-    assert_eq!(rt; read_as(alloc, &nobody)?.as_str(), "None Syntax");
-    let component = long_line(alloc, b"c1 ", 65_534, b"")?;
-    assert_eq!(rt; read_as(alloc, &component)?.as_str(), "c1 Syntax");
+    Ok(())
+}
+
+// Feeds bytes in pieces of this size, and puts the lines.
+fn put_all_fed(
+    text: &mut Vec<u8>,
+    splitter: &mut Splitter,
+    bytes: &[u8],
+    size: usize,
+) -> Result<(), AllocError>
+    requires { 0 < size }
+{
+    for piece in bytes.chunks(size) {
+        put_fed(text, splitter, piece)?;
+    }
+    if let Some(line) = splitter.finish() {
+        put_barred(text, &line)?;
+    }
     Ok(())
 }
 
@@ -108,37 +109,49 @@ fn barred(alloc: Global, bytes: &[u8], size: usize) -> Result<Vec<u8>, AllocErro
 {
     let mut splitter = Splitter::new(alloc);
     let mut text = Vec::new(alloc);
-    for piece in bytes.chunks(size) {
-        for line in splitter.feed(piece)? {
-            text.extend_from_slice(&line)?;
-            text.push(b'|')?;
-        }
-    }
-    if let Some(line) = splitter.finish() {
-        text.extend_from_slice(&line)?;
-        text.push(b'|')?;
-    }
+    put_all_fed(&mut text, &mut splitter, bytes, size)?;
     Ok(text)
+}
+
+// Feeds bytes in pieces of this size, and compares the lines.
+fn check_pieces(
+    rt: &impl Abort,
+    alloc: Global,
+    bytes: &[u8],
+    size: usize,
+    wanted: &[u8],
+) -> Result<(), AllocError>
+    requires { 0 < size }
+{
+    let lines = barred(alloc, bytes, size)?;
+    assert!(rt; lines.as_slice() == wanted, "in pieces of {size}");
+    Ok(())
 }
 
 #[test]
 fn pieces_of_any_size_give_the_same_lines(rt: HostRuntime) -> Result<(), Fail> {
+    let alloc = rt.alloc();
     let bytes = b"p .\n\np new element a\n\x80\n\n\np parent n0".as_slice();
     let wanted = b"p .||p new element a|\x80|||p parent n0|".as_slice();
     for size in 1..8 {
-        assert_eq!(rt;
-            barred(rt.alloc(), bytes, size)?.as_slice(),
-            wanted,
-            "in pieces of {size}"
-        );
+        check_pieces(&rt, alloc, bytes, size, wanted)?;
     }
-    assert_eq!(rt; barred(rt.alloc(), bytes, bytes.len())?.as_slice(), wanted);
-    assert_eq!(rt;
-        barred(rt.alloc(), b"p .\n", 9)?.as_slice(),
-        b"p .|".as_slice()
-    );
-    assert_eq!(rt; barred(rt.alloc(), b"", 1)?.as_slice(), b"".as_slice());
+    check_pieces(&rt, alloc, bytes, bytes.len(), wanted)?;
+    check_pieces(&rt, alloc, b"p .\n", 9, b"p .|")?;
+    check_pieces(&rt, alloc, b"", 1, b"")?;
     Ok(())
+}
+
+// Feeds a long line in large, middling and small pieces.
+fn check_sizes(
+    rt: &impl Abort,
+    alloc: Global,
+    bytes: &[u8],
+    wanted: &[u8],
+) -> Result<(), AllocError> {
+    check_pieces(rt, alloc, bytes, 80_000, wanted)?;
+    check_pieces(rt, alloc, bytes, 4_096, wanted)?;
+    check_pieces(rt, alloc, bytes, 7, wanted)
 }
 
 #[test]
@@ -146,21 +159,25 @@ fn of_a_long_line_65537_bytes_are_kept(rt: HostRuntime) -> Result<(), Fail> {
     let alloc = rt.alloc();
     let bytes = long_line(alloc, b"p .\n", 70_000, b"\np .\n")?;
     let wanted = long_line(alloc, b"p .|", 65_537, b"|p .|")?;
-    assert_eq!(rt;
-        barred(alloc, &bytes, 80_000)?.as_slice(),
-        wanted.as_slice()
-    );
-    assert_eq!(rt; barred(alloc, &bytes, 4_096)?.as_slice(), wanted.as_slice());
-    assert_eq!(rt; barred(alloc, &bytes, 7)?.as_slice(), wanted.as_slice());
+    let checked = check_sizes(&rt, alloc, &bytes, &wanted);
+    assert!(rt; checked.is_ok());
+    Ok(())
+}
+
+// Feeds a byte between two ends of the stream, and asks for a third.
+fn feed_between_ends(rt: &impl Abort, splitter: &mut Splitter) -> Result<(), AllocError> {
+    assert!(rt; splitter.finish().is_none());
+    let lines = splitter.feed(b"p")?;
+    assert!(rt; lines.is_empty());
+    let rest = splitter.finish();
+    assert!(rt; matches!(&rest, Some(line) if line.as_slice() == b"p".as_slice()));
+    assert!(rt; splitter.finish().is_none());
     Ok(())
 }
 
 #[test]
-fn a_splitter_goes_on_after_its_end(rt: HostRuntime) -> Result<(), Fail> {
+fn a_splitter_goes_on_after_its_end(rt: HostRuntime) {
     let mut splitter = Splitter::new(rt.alloc());
-    assert!(rt; splitter.finish().is_none());
-    assert!(rt; splitter.feed(b"p")?.is_empty());
-    assert!(rt; splitter.finish() == Some(Vec::from_slice(rt.alloc(), b"p")?));
-    assert!(rt; splitter.finish().is_none());
-    Ok(())
+    let fed = feed_between_ends(&rt, &mut splitter);
+    assert!(rt; fed.is_ok());
 }

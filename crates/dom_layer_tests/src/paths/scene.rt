@@ -5,7 +5,7 @@ ghost use Rattle.dom_model.specs.Tree.{subtree};
 ghost use Rattle.dom_tree.specs.Forest.{IsNode, name_of};
 ghost use Rattle.dom_slots.specs.Kept.{AreSlotsOf};
 
-use dom_base::{Kind, NodeName, Owner, OwnerPath};
+use dom_base::{Fault, Kind, NodeName, Owner, OwnerPath};
 use dom_path::{Item, Path};
 use dom_slots::{Slots, Step, law_steps_end};
 use dom_tree::{Forest, NodeData};
@@ -13,7 +13,6 @@ use indexmap::IndexMap;
 use node_arena::Key;
 use std::alloc::{AllocError, Global};
 use std::process::Abort;
-use std::test::Fail;
 
 const FIRST: Owner = Owner::Component(OwnerPath {
     depth: 1,
@@ -25,28 +24,7 @@ const SECOND: Owner = Owner::Component(OwnerPath {
     parts: [2, 0, 0, 0, 0, 0, 0, 0],
 });
 
-// What is done to make trees. Nodes are written as `n1` of the page, `m1` of the first component and `k1` of the second one.
-#[derive(Clone, Copy)]
-pub(super) enum Line<'a> {
-    // A host and a shadow root.
-    Attach(&'a str, &'a str),
-    // A parent and its next child.
-    Append(&'a str, &'a str),
-}
-
-// An item of a path: the node, the target if it is its own, the target and the related node that it sees (an empty word for
-// none), `root` or `slot`, and the nodes of the composed path.
-#[derive(Clone, Copy)]
-pub(super) struct Row<'a>(
-    pub(super) &'a str,
-    pub(super) &'a str,
-    pub(super) &'a str,
-    pub(super) &'a str,
-    pub(super) &'a str,
-    pub(super) &'a str,
-);
-
-// The name that is written like this.
+// The name that is written like this: `n1` of the page, `m1` of the first component or `k1` of the second one.
 fn name(text: &str) -> NodeName {
     let bytes = text.as_bytes();
     let owner = match bytes.first() {
@@ -74,42 +52,23 @@ fn node(alloc: Global, kind: Kind, element: &str) -> Result<NodeData, AllocError
 }
 
 // Nodes of an owner, each alone: elements of these names, but for `shadow`.
-fn add(alloc: Global, forest: &mut Forest, owner: Owner, words: &[&str]) -> Result<(), Fail> {
-    for word in words {
-        let kind = match *word {
-            "shadow" => Kind::Shadow,
-            _ => Kind::Element,
+fn add(alloc: Global, forest: &mut Forest, owner: Owner, names: &str) -> Result<(), Fault> {
+    for name in names.split(' ') {
+        let kind = if name == "shadow" {
+            Kind::Shadow
+        } else {
+            Kind::Element
         };
-        forest.add(owner, node(alloc, kind, word)?)?;
+        forest.add(owner, node(alloc, kind, name)?)?;
     }
     Ok(())
 }
 
-// Adds these nodes of the page, and two components' shadow roots and nodes.
-fn add_all(
-    alloc: Global,
-    forest: &mut Forest,
-    page: &[&str],
-    first: &[&str],
-    second: &[&str],
-) -> Result<(), Fail> {
-    add(alloc, forest, Owner::Page, page)?;
-    add(alloc, forest, FIRST, &["shadow"])?;
-    add(alloc, forest, FIRST, first)?;
-    add(alloc, forest, SECOND, &["shadow"])?;
-    add(alloc, forest, SECOND, second)
-}
-
-// A forest with these nodes.
-pub(super) fn nodes(
-    alloc: Global,
-    page: &[&str],
-    first: &[&str],
-    second: &[&str],
-) -> Result<Forest, Fail> {
-    let mut forest = Forest::new(alloc);
-    add_all(alloc, &mut forest, page, first, second)?;
-    Ok(forest)
+// Nodes of the page, and two components' shadow roots and nodes.
+fn add_all(alloc: Global, forest: &mut Forest) -> Result<(), Fault> {
+    add(alloc, forest, Owner::Page, "html div span")?;
+    add(alloc, forest, FIRST, "shadow slot b")?;
+    add(alloc, forest, SECOND, "shadow i slot")
 }
 
 // The node of a name, which has to be there.
@@ -181,53 +140,53 @@ fn append(
     Ok(())
 }
 
-// Does what a line says.
+// Does what a line says: `attach`, a host and a shadow root, or `append`, a parent and its next child.
 fn perform(
     rt: &impl Abort,
     forest: &mut Forest,
     slots: &mut Slots,
-    line: &Line<'_>,
+    line: &str,
 ) -> Result<(), AllocError>
     requires slots { AreSlotsOf forest.old slots.old }
     requires free { slots.old.begun ≡ None }
     ensures slots { OnOk result (AreSlotsOf forest.new slots.new) }
     ensures free { OnOk result (slots.new.begun ≡ None) }
 {
-    match line {
-        Line::Attach(host, root) => attach(rt, forest, slots, host, root),
-        Line::Append(parent, child) => append(rt, forest, slots, parent, child),
+    let mut words = line.split(' ');
+    let is_attach = words.next() == Some("attach");
+    let above = words.next().expect(rt, "a line has three words");
+    let node = words.next().expect(rt, "a line has three words");
+    if is_attach {
+        attach(rt, forest, slots, above, node)
+    } else {
+        append(rt, forest, slots, above, node)
     }
 }
 
-// Whether these are the nodes of these names, in order.
-fn are(rt: &impl Abort, forest: &Forest, nodes: &[Key], text: &str) -> bool {
-    let mut at = 0;
-    for word in text.split_whitespace() {
-        if nodes.get(at) != Some(&key_of(rt, forest, word)) {
-            return false;
-        }
-        at = at.saturating_add(1);
-    }
-    nodes.len() == at
-}
-
-// Whether this is the node of the name, or none where the name is empty.
-fn is(rt: &impl Abort, forest: &Forest, node: Option<Key>, text: &str) -> bool {
+// Whether the word names this node, or is `-` where there is none.
+fn is(rt: &impl Abort, forest: &Forest, node: Option<Key>, word: Option<&str>) -> bool {
+    let word = word.expect(rt, "a row has at least six words");
     match node {
-        Some(node) => !text.is_empty() && node == key_of(rt, forest, text),
-        None => text.is_empty(),
+        Some(node) => word != "-" && node == key_of(rt, forest, word),
+        None => word == "-",
     }
 }
 
-// Looks whether an item is as the row says.
-fn look(rt: &impl Abort, forest: &Forest, item: &Item, row: &Row<'_>) {
-    let Row(node, target, seen, related, place, _) = row;
-    assert!(rt; is(rt, forest, Some(item.node), node));
-    assert!(rt; is(rt, forest, item.target, target));
-    assert!(rt; is(rt, forest, Some(item.event_target), seen));
-    assert!(rt; is(rt, forest, item.related, related));
-    assert!(rt; item.root_of_closed == (*place == "root"));
-    assert!(rt; item.slot_in_closed == (*place == "slot"));
+// Looks whether an item and its composed path are as the row says: the node, the target if it is its own, the target and the related
+// node that it sees, `root`, `slot` or `-`, and the nodes of the path. A word `-` is for none.
+fn look(rt: &impl Abort, forest: &Forest, item: &Item, path: &[Key], row: &str) {
+    let mut words = row.split(' ');
+    assert!(rt; is(rt, forest, Some(item.node), words.next()));
+    assert!(rt; is(rt, forest, item.target, words.next()));
+    assert!(rt; is(rt, forest, Some(item.event_target), words.next()));
+    assert!(rt; is(rt, forest, item.related, words.next()));
+    let place = words.next();
+    assert!(rt; item.root_of_closed == (place == Some("root")));
+    assert!(rt; item.slot_in_closed == (place == Some("slot")));
+    for node in path {
+        assert!(rt; is(rt, forest, Some(*node), words.next()));
+    }
+    assert!(rt; words.next().is_none());
 }
 
 // Looks whether the path of an event is as the rows say: of a target, a related node (an empty word for none), composed or not.
@@ -237,7 +196,7 @@ fn compare(
     forest: &Forest,
     slots: &Slots,
     event: (&str, &str, bool),
-    rows: &[Row<'_>],
+    rows: &str,
 ) -> Result<(), AllocError>
     requires slots { AreSlotsOf forest.now slots.now }
     requires free { slots.now.begun ≡ None }
@@ -258,18 +217,36 @@ fn compare_items(
     rt: &impl Abort,
     forest: &Forest,
     path: &Path,
-    rows: &[Row<'_>],
+    rows: &str,
 ) -> Result<(), AllocError> {
-    assert!(rt; path.items().len() == rows.len());
     let mut at = 0;
-    for row in rows {
+    for row in rows.lines() {
         assert!(rt; at < path.items().len());
-        look(rt, forest, &path.items()[at], row);
-        let nodes = path.composed_path(at)?;
-        assert!(rt; are(rt, forest, &nodes, row.5));
+        let composed = path.composed_path(at)?;
+        look(rt, forest, &path.items()[at], &composed, row);
         at += 1;
     }
+    assert!(rt; path.items().len() == at);
     Ok(())
+}
+
+// Does what the lines say, and looks whether the path of an event is then as the rows say.
+fn play(
+    rt: &impl Abort,
+    alloc: Global,
+    forest: &mut Forest,
+    slots: &mut Slots,
+    lines: &str,
+    event: (&str, &str, bool),
+    rows: &str,
+) -> Result<(), AllocError>
+    requires slots { AreSlotsOf forest.old slots.old }
+    requires free { slots.old.begun ≡ None }
+{
+    for line in lines.lines() {
+        perform(rt, forest, slots, line)?;
+    }
+    compare(rt, alloc, forest, slots, event, rows)
 }
 
 // Makes trees, and compares the path of an event with rows. The page has n0 to n2, the first component the shadow root m0, the
@@ -277,16 +254,14 @@ fn compare_items(
 pub(super) fn run(
     rt: &impl Abort,
     alloc: Global,
-    lines: &[Line<'_>],
+    lines: &str,
     event: (&str, &str, bool),
-    rows: &[Row<'_>],
-) -> Result<(), Fail> {
-    let page = ["html", "div", "span"];
-    let mut forest = nodes(alloc, &page, &["slot", "b"], &["i", "slot"])?;
+    rows: &str,
+) {
+    let mut forest = Forest::new(alloc);
+    let added = add_all(alloc, &mut forest);
+    assert!(rt; added.is_ok());
     let mut slots = Slots::new(alloc);
-    for line in lines {
-        perform(rt, &mut forest, &mut slots, line)?;
-    }
-    compare(rt, alloc, &forest, &slots, event, rows)?;
-    Ok(())
+    let played = play(rt, alloc, &mut forest, &mut slots, lines, event, rows);
+    assert!(rt; played.is_ok());
 }

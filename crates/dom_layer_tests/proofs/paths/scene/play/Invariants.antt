@@ -1,6 +1,6 @@
 use Rattle.std.proofs.Common.{◌≡◌, None}
 use Rattle.dom_slots.specs.Kept.{AreSlotsOf}
-use Rattle.dom_layer_tests.proofs.paths.scene.run.Given as goal
+use Rattle.dom_layer_tests.proofs.paths.scene.play.Given as goal
 
 abbrev pub invariant-loop-line : goal.invariant-loop-line
 invariant-loop-line g l = record {
