@@ -114,9 +114,9 @@ module _ (f : NamedTrees) (once : StandOnce f) (only : StandAlone f) where
         (Has-forest f once k other) e)
 
     -- two roots of one tree are one
-    pub roots-same : (j k : ℕ) → j < length f.names → k < length f.names → depth_at f j ≡ 1 → depth_at f k ≡ 1 →
+    pub roots-same : {j k : ℕ} → j < length f.names → k < length f.names → depth_at f j ≡ 1 → depth_at f k ≡ 1 →
         first_of (path_at f j) ≡ first_of (path_at f k) → j ≡ k
-    roots-same j k node other d e first =
+    roots-same {j} {k} node other d e first =
         let v = one-item (path_at f j) d in
         let w = one-item (path_at f k) e in
         let same : Some v.0 ≡ Some w.0 = ap first_of (sym v.1) ∙ (first ∙ ap first_of w.1) in

@@ -73,7 +73,7 @@ module _ (es now : List RangeEnd) (low high node kept i : ℕ) (order : low ≤ 
     where
       by : {x y : RangeEnd} → get_or now a d ≡ x → get_or now b d ≡ y → AtMostBut node (point_of x) (point_of y) →
           AtMostBut node (point_of (get_or now a d)) (point_of (get_or now b d))
-      by e f h = points_same (AtMostBut node) _ _ _ _ e f h
+      by e f h = points_same (AtMostBut node) e f h
 
       order_of : a ≡ kept → (b < kept) ⊎ (i < b) → i ≤ b
       order_of e f = elim f [ inl l ↦ absurd (omega (arith, e, l, le)) | inr l ↦ omega (arith, l) ]
@@ -110,10 +110,10 @@ pub mid-was : (es : List RangeEnd) (first behind j i : ℕ) (d : RangeEnd) → f
 mid-was es first behind j i d e l = get_or-take (behind - first) (drop first es) j d l ∙ (get_or-drop first es j d ∙ ap (λ (t : ℕ). get_or es t d) e)
 
 -- a part of a list that was rotated
-pub IsTurned-rotated : (es ys : List RangeEnd) (first middle behind : ℕ) → first ≤ middle → middle ≤ behind → behind ≤ length es →
+pub IsTurned-rotated : {es : List RangeEnd} (ys : List RangeEnd) {first middle behind : ℕ} → first ≤ middle → middle ≤ behind → behind ≤ length es →
     RotatedLeft (mid_of first (behind - first) es) ys (length (mid_of first (behind - first) es)) (middle - first)
     → length ys ≡ length (mid_of first (behind - first) es) → IsTurned es (put_mid first (behind - first) es ys) first middle behind
-IsTurned-rotated es ys first middle behind one two within rotated same =
+IsTurned-rotated {es} ys {first} {middle} {behind} one two within rotated same =
     record {
       outside = mid-outside es ys first behind (omega arith) within same;
       second = λ k d l m. mid-part es ys first behind (omega arith) within same k d l (omega (arith, m, one)) ∙
@@ -191,7 +191,7 @@ module _ (es now : List RangeEnd) (first middle behind : ℕ) (one : first ≤ m
     where
       by : (i j : ℕ) → get_or now a d ≡ get_or es i d → get_or now b d ≡ get_or es j d → R (point_of (get_or es i d)) (point_of (get_or es j d)) →
           R (point_of (get_or now a d)) (point_of (get_or now b d))
-      by i j e f l = points_same R _ _ _ _ e f l
+      by i j e f l = points_same R e f l
 
       out : (k : ℕ) → (k < first) ⊎ (behind ≤ k) → first ≤ k → k < behind → ⊥
       out k p f g = elim p [ inl l ↦ omega (arith, l, f) | inr l ↦ omega (arith, l, g) ]
@@ -231,9 +231,9 @@ remove-set es i x = ap (λ xs. xs ++ drop (suc i) (set es i x)) (take-set-le i e
     ap (λ xs. take i es ++ xs) (drop-set-lt (suc i) es i x (omega arith))
 
 -- an end that changed, in a list that was put in order
-pub HasChanged-set : (es now : List RangeEnd) (i : ℕ) (x y : RangeEnd) → i < length es → ((d : RangeEnd) → get_or es i d ≡ x) →
+pub HasChanged-set : {es now : List RangeEnd} (i : ℕ) {x y : RangeEnd} → i < length es → ((d : RangeEnd) → get_or es i d ≡ x) →
     IsPermutation (set es i y) now → HasChanged es now (x ∷ []) (y ∷ [])
-HasChanged-set es now i x y within here moved =
+HasChanged-set {es} i {x} {y} within here moved =
     let inside : i < length (set es i y) = omega (arith, within, length-set es i y) in
     record {
       rest = remove es i;

@@ -78,7 +78,7 @@ each-listed P live es listed holds slot p there = (one false, one true)
   where
     one : (e : Bool) → P (end_of e p)
     one e =
-        let w = listed-once live es listed slot e p there in
+        let w = listed-once listed slot e there in
         let d = end_in 0 false (at 0 0) in
         subst P (ap (λ (x : RangeEnd). point_of x) (w.there d)) (holds w.place d w.within)
 
@@ -148,10 +148,10 @@ ends-alike f g (Some r ∷ rs) each =
 -- ---- an index that is looked for only as far as ends stand
 
 -- a join by a number that stands for the index
-pub join-near : (first size next parent index near : ℕ) (b : Boundary ℕ) → IsNear parent index near b →
+pub join-near : (first size next : ℕ) {parent index near : ℕ} (b : Boundary ℕ) → IsNear parent index near b →
     after_join eqb first size next parent near b ≡ after_join eqb first size next parent index b
-join-near first size next parent index near b (inl e) = ap (λ (i : ℕ). after_join eqb first size next parent i b) e
-join-near first size next parent index near b (inr h) =
+join-near first size next {parent} b (inl e) = ap (λ (i : ℕ). after_join eqb first size next parent i b) e
+join-near first size next {parent} {index} {near} b (inr h) =
     ap (λ (t : Bool). cond (eqb b.node next) (at first (b.offset + size)) (cond t (at first size) b)) (tests (eqb b.node parent) refl)
   where
     tests : (t : Bool) → eqb b.node parent ≡ t → (t && eqb b.offset near) ≡ (t && eqb b.offset index)
@@ -179,11 +179,11 @@ module _ (inside : ℕ → Bool) (parent index : ℕ) where
 -- ---- the table after all ends were moved
 
 -- what a table keeps
-pub kept-moved : (rule : Boundary ℕ → Boundary ℕ) (live after : Slab Points) (n : Numbers) (es now : List RangeEnd) → Moves rule live after →
+pub kept-moved : (rule : Boundary ℕ → Boundary ℕ) {live after : Slab Points} {n : Numbers} {es now : List RangeEnd} → Moves rule live after →
     HaveNumbers live n → IsListed after now → IsSortedByPoint now → es ≡ now
     → HaveNumbers after n × IsListed after es × IsSortedByPoint es
-kept-moved rule live after n es now moved held listed sorted same = (
-  HaveNumbers-same live after n n (HoldSame-moved (map_ends rule) live after moved) (λ o. refl) held,
+kept-moved rule {live} {after} {n} moved held listed sorted same = (
+  HaveNumbers-same after n (HoldSame-moved (map_ends rule) live after moved) (λ o. refl) held,
   subst (IsListed after) (sym same) listed,
   subst IsSortedByPoint (sym same) sorted,
 )

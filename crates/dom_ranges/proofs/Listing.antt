@@ -145,9 +145,9 @@ pub end-same : (x y : RangeEnd) → x.slot ≡ y.slot → x.is_end ≡ y.is_end 
 end-same x y e f g = ap (λ b. end_in x.slot x.is_end b) g ∙ (ap (λ b. end_in x.slot b (point_of y)) f ∙ ap (λ s. end_in s y.is_end (point_of y)) e)
 
 -- the end of a range that is there is listed once
-pub listed-once : (live : Slab Points) (es : List RangeEnd) → IsListed live es → (slot : ℕ) (is_end : Bool) (p : Points) →
+pub listed-once : {live : Slab Points} {es : List RangeEnd} → IsListed live es → (slot : ℕ) (is_end : Bool) {p : Points} →
     get live slot ≡ Some p → IsListedOnce es (end_in slot is_end (end_of is_end p))
-listed-once live es listed slot is_end p there =
+listed-once {live} {es} listed slot is_end {p} there =
     let w = counts-listed slot is_end es (omega (arith, listed.counted slot is_end, ap bit (ap is_some there))) in
     record {
       place = w.0;

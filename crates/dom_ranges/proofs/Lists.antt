@@ -18,15 +18,15 @@ map_twice f h g [] e = refl
 map_twice f h g (x ∷ xs) e = cons_same (g x) (h (f x)) (map g xs) (map h (map f xs)) (e x) (map_twice f h g xs e)
 
 -- rewritten by functions that agree at each item but one
-pub map_set : {X Y : Type 0} (f g : X → Y) (y : Y) (xs : List X) (k : ℕ) → ((x : X) → slice_get xs k ≡ Some x → g x ≡ y) →
+pub map_set : {X Y : Type 0} {f g : X → Y} {y : Y} (xs : List X) {k : ℕ} → ((x : X) → slice_get xs k ≡ Some x → g x ≡ y) →
     ((j : ℕ) (x : X) → (j ≡ k → ⊥) → slice_get xs j ≡ Some x → g x ≡ f x)
     → map g xs ≡ slice_set (map f xs) k y
-map_set f g y [] k here others = refl
-map_set f g y (x ∷ xs) zero here others =
+map_set [] here others = refl
+map_set {f} {g} {y} (x ∷ xs) {k = zero} here others =
     cons_same (g x) y (map g xs) (map f xs) (here x refl) (map_kept f g xs (λ j z e. others (suc j) z (λ s. omega (arith, s)) e))
-map_set f g y (x ∷ xs) (suc k) here others =
+map_set {f} {g} {y} (x ∷ xs) {k = suc k} here others =
     cons_same (g x) (f x) (map g xs) (slice_set (map f xs) k y) (others 0 x (λ s. omega (arith, s)) refl)
-    (map_set f g y xs k (λ z e. here z e) (λ j z off e. others (suc j) z (λ s. off (omega (arith, s))) e))
+    (map_set xs (λ z e. here z e) (λ j z off e. others (suc j) z (λ s. off (omega (arith, s))) e))
 
 -- two ways to rewrite a list, equal but for one item, agree where that item is set in both
 pub set_over : {X Y : Type 0} (f g : X → Y) (y : Y) (xs : List X) (k : ℕ) →

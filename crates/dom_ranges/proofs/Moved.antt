@@ -37,10 +37,10 @@ ranges_by_ends rule (Some p) (Some q) e h =
     (let f = h refl true in cc))
 
 -- what holds of both ends of a range that is held holds of each that is listed
-pub holds-listed : (Q : Boundary ℕ → Type 0) (live : Slab Points) (es : List RangeEnd) → IsListed live es →
+pub holds-listed : (Q : Boundary ℕ → Type 0) {live : Slab Points} {es : List RangeEnd} → IsListed live es →
     ((slot : ℕ) → ForSome (get live slot) (λ p. BothEnds Q (range_from p)))
     → (k : ℕ) (d : RangeEnd) → k < length es → Q (point_of (get_or es k d))
-holds-listed Q live es listed each k d l = by (get_or es k d).is_end (get live (get_or es k d).slot) (each (get_or es k d).slot) (listed.standing k d l)
+holds-listed Q {live} {es} listed each k d l = by (get_or es k d).is_end (get live (get_or es k d).slot) (each (get_or es k d).slot) (listed.standing k d l)
   where
     by : (b : Bool) (m : Option Points) → ((p : Points) → m ≡ Some p → BothEnds Q (range_from p)) → option_map (end_of b) m ≡ Some (point_of (get_or es k d)) →
         Q (point_of (get_or es k d))
@@ -63,9 +63,9 @@ bit_same false true e = absurd (omega (arith, e))
 bit_same false false e = refl
 
 -- all ranges were moved then
-pub ranges-ruled : (rule : Boundary ℕ → Boundary ℕ) (start after : Slab Points) (es now : List RangeEnd) → IsListed start es → IsListed after now →
+pub ranges-ruled : {rule : Boundary ℕ → Boundary ℕ} {start after : Slab Points} {es now : List RangeEnd} → IsListed start es → IsListed after now →
     AreRuled rule es now → (slot : ℕ) → option_map range_from (get after slot) ≡ option_map (λ p. map_ends rule (range_from p)) (get start slot)
-ranges-ruled rule start after es now listed then ruled slot =
+ranges-ruled {rule} {start} {after} {es} {now} listed then ruled slot =
     ranges_by_ends rule (get start slot) (get after slot)
     (bit_same _ _ (sym (then.counted slot true) ∙ (times-same slot true es now ruled.same_length ruled.same_slot ruled.same_end ∙ listed.counted slot true)))
     (λ there b.
@@ -82,10 +82,10 @@ ranges-ruled rule start after es now listed then ruled slot =
     is ∙ (ap Some (ruled.moved w.0 d w.1) ∙ ap (option_map rule) (sym was)))
 
 -- an end outside a part that was moved is listed as it was
-pub stays-outside : (rule : Boundary ℕ → Boundary ℕ) (target : ℕ) (es now : List RangeEnd) (one : Span) →
+pub stays-outside : {rule : Boundary ℕ → Boundary ℕ} {target : ℕ} {es now : List RangeEnd} (one : Span) →
     IsMovedPart rule target es now (is_chosen one nowhere)
     → (k : ℕ) (d : RangeEnd) → is_in one k ≡ false → get_or now k d ≡ get_or es k d
-stays-outside rule target es now one first k d out = first.same_others k d (rw out refl)
+stays-outside one first k d out = first.same_others k d (rw out refl)
 
 module _ (rule : Boundary ℕ → Boundary ℕ) (target : ℕ) (es now last : List RangeEnd) (one two : Span)
     (first : IsMovedPart rule target es now (is_chosen one nowhere)) (second : IsMovedPart rule target now last (is_chosen two one))
@@ -111,8 +111,8 @@ module _ (rule : Boundary ℕ → Boundary ℕ) (target : ℕ) (es now last : Li
           | inl e ↦ ap (λ (x : RangeEnd). point_of x) (second.same_others k d (by (is_in two k) (is_in one k) e)) ∙ first.moved k d l (in_one k e)
           | inr e ↦ elim (cases_Bool (is_in two k)) [
             | inl f ↦ second.moved k d (omega (arith, l, first.same_length)) (in_two k e f) ∙
-                ap (λ (x : RangeEnd). rule (point_of x)) (stays-outside rule target es now one first k d e)
-            | inr f ↦ ap (λ (x : RangeEnd). point_of x) (second.same_others k d (in_none k f) ∙ stays-outside rule target es now one first k d e) ∙
+                ap (λ (x : RangeEnd). rule (point_of x)) (stays-outside one first k d e)
+            | inr f ↦ ap (λ (x : RangeEnd). point_of x) (second.same_others k d (in_none k f) ∙ stays-outside one first k d e) ∙
                 sym (all k d l e f)
           ]
         ];

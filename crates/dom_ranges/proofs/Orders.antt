@@ -18,40 +18,40 @@ is_less b e = ltb e.node b.node || (eqb e.node b.node && ltb e.offset b.offset)
 -- ---- what the tests say
 
 pub at_most-true : (b : Boundary ℕ) (e : RangeEnd) → is_at_most b e ≡ true → AtMost (point_of e) b
-at_most-true b e = by (ltb e.node b.node) (eqb e.node b.node) (leb e.offset b.offset) refl refl refl
+at_most-true b e = by refl refl refl
   where
-    by : (x y z : Bool) → ltb e.node b.node ≡ x → eqb e.node b.node ≡ y → leb e.offset b.offset ≡ z → x || (y && z) ≡ true → AtMost (point_of e) b
-    by true y z f g h i = (omega (arith, ltb-true e.node b.node f), λ s. absurd (omega (arith, ltb-true e.node b.node f, s)))
-    by false true true f g h i = (omega (arith, eqb-true e.node b.node g), λ _. leb-true e.offset b.offset h)
-    by false true false f g h i = cc
-    by false false z f g h i = cc
+    by : {x y z : Bool} → ltb e.node b.node ≡ x → eqb e.node b.node ≡ y → leb e.offset b.offset ≡ z → x || (y && z) ≡ true → AtMost (point_of e) b
+    by {x = true} f g h i = (omega (arith, ltb-true e.node b.node f), λ s. absurd (omega (arith, ltb-true e.node b.node f, s)))
+    by {x = false} {y = true} {z = true} f g h i = (omega (arith, eqb-true e.node b.node g), λ _. leb-true e.offset b.offset h)
+    by {x = false} {y = true} {z = false} f g h i = cc
+    by {x = false} {y = false} f g h i = cc
 
 pub at_most-false : (b : Boundary ℕ) (e : RangeEnd) → is_at_most b e ≡ false → LessThan b (point_of e)
-at_most-false b e = by (ltb e.node b.node) (eqb e.node b.node) (leb e.offset b.offset) refl refl refl
+at_most-false b e = by refl refl refl
   where
-    by : (x y z : Bool) → ltb e.node b.node ≡ x → eqb e.node b.node ≡ y → leb e.offset b.offset ≡ z → x || (y && z) ≡ false → LessThan b (point_of e)
-    by true y z f g h i = cc
-    by false true true f g h i = cc
-    by false true false f g h i = (ltb-false e.node b.node f, λ _. leb-false e.offset b.offset h)
-    by false false z f g h i = (ltb-false e.node b.node f, λ s. absurd (eqb-false e.node b.node g (sym s)))
+    by : {x y z : Bool} → ltb e.node b.node ≡ x → eqb e.node b.node ≡ y → leb e.offset b.offset ≡ z → x || (y && z) ≡ false → LessThan b (point_of e)
+    by {x = true} f g h i = cc
+    by {x = false} {y = true} {z = true} f g h i = cc
+    by {x = false} {y = true} {z = false} f g h i = (ltb-false e.node b.node f, λ _. leb-false e.offset b.offset h)
+    by {x = false} {y = false} f g h i = (ltb-false e.node b.node f, λ s. absurd (eqb-false e.node b.node g (sym s)))
 
 pub less-true : (b : Boundary ℕ) (e : RangeEnd) → is_less b e ≡ true → LessThan (point_of e) b
-less-true b e = by (ltb e.node b.node) (eqb e.node b.node) (ltb e.offset b.offset) refl refl refl
+less-true b e = by refl refl refl
   where
-    by : (x y z : Bool) → ltb e.node b.node ≡ x → eqb e.node b.node ≡ y → ltb e.offset b.offset ≡ z → x || (y && z) ≡ true → LessThan (point_of e) b
-    by true y z f g h i = (omega (arith, ltb-true e.node b.node f), λ s. absurd (omega (arith, ltb-true e.node b.node f, s)))
-    by false true true f g h i = (omega (arith, eqb-true e.node b.node g), λ _. ltb-true e.offset b.offset h)
-    by false true false f g h i = cc
-    by false false z f g h i = cc
+    by : {x y z : Bool} → ltb e.node b.node ≡ x → eqb e.node b.node ≡ y → ltb e.offset b.offset ≡ z → x || (y && z) ≡ true → LessThan (point_of e) b
+    by {x = true} f g h i = (omega (arith, ltb-true e.node b.node f), λ s. absurd (omega (arith, ltb-true e.node b.node f, s)))
+    by {x = false} {y = true} {z = true} f g h i = (omega (arith, eqb-true e.node b.node g), λ _. ltb-true e.offset b.offset h)
+    by {x = false} {y = true} {z = false} f g h i = cc
+    by {x = false} {y = false} f g h i = cc
 
 pub less-false : (b : Boundary ℕ) (e : RangeEnd) → is_less b e ≡ false → AtMost b (point_of e)
-less-false b e = by (ltb e.node b.node) (eqb e.node b.node) (ltb e.offset b.offset) refl refl refl
+less-false b e = by refl refl refl
   where
-    by : (x y z : Bool) → ltb e.node b.node ≡ x → eqb e.node b.node ≡ y → ltb e.offset b.offset ≡ z → x || (y && z) ≡ false → AtMost b (point_of e)
-    by true y z f g h i = cc
-    by false true true f g h i = cc
-    by false true false f g h i = (ltb-false e.node b.node f, λ _. ltb-false e.offset b.offset h)
-    by false false z f g h i = (ltb-false e.node b.node f, λ s. absurd (eqb-false e.node b.node g (sym s)))
+    by : {x y z : Bool} → ltb e.node b.node ≡ x → eqb e.node b.node ≡ y → ltb e.offset b.offset ≡ z → x || (y && z) ≡ false → AtMost b (point_of e)
+    by {x = true} f g h i = cc
+    by {x = false} {y = true} {z = true} f g h i = cc
+    by {x = false} {y = true} {z = false} f g h i = (ltb-false e.node b.node f, λ _. ltb-false e.offset b.offset h)
+    by {x = false} {y = false} f g h i = (ltb-false e.node b.node f, λ s. absurd (eqb-false e.node b.node g (sym s)))
 
 -- ---- sorted lists
 
@@ -88,6 +88,6 @@ pub AtMostBut-nodes : (node : ℕ) (b c : Boundary ℕ) → b.node ≤ c.node �
 AtMostBut-nodes node b c l h = (l, λ e off. absurd (off (h e)))
 
 -- a relation of boundary points holds of the same ones
-pub points_same : (R : Boundary ℕ → Boundary ℕ → Type 0) (x y z w : RangeEnd) → x ≡ z → y ≡ w → R (point_of z) (point_of w) → R (point_of x) (point_of y)
-points_same R x y z w e f h =
+pub points_same : (R : Boundary ℕ → Boundary ℕ → Type 0) {x y z w : RangeEnd} → x ≡ z → y ≡ w → R (point_of z) (point_of w) → R (point_of x) (point_of y)
+points_same R {y} {z} e f h =
     subst (λ (t : RangeEnd). R (point_of t) (point_of y)) (sym e) (subst (λ (t : RangeEnd). R (point_of z) (point_of t)) (sym f) h)

@@ -26,12 +26,12 @@ place-none k o p apart x own (tree n c r) of =
     rw (name_apart o p apart x n.name own of.0, place-none 0 o p apart x own c of.1) (place-none (k + 1) o p apart x own r of.2)
 
 -- the way down from the root is the same
-way-own : (j k : ℕ) (o : Owner) (x : NodeName) → x.owner ≡ o → (ts : Trees) → HaveOwners ts →
+way-own : (j k : ℕ) {o : Owner} (x : NodeName) → x.owner ≡ o → (ts : Trees) → HaveOwners ts →
     option_map (drop 1) (place_from k ts x) ≡ option_map (drop 1) (place_from j (trees_of_owner o ts) x)
-way-own j k o x own none have = refl
-way-own j k o x own (tree n c r) have = elim (cases_Bool (owner_eq n.name.owner o)) [
-  | inl e ↦ rw e (both (name_eq n.name x) (place_from 0 c x) (way-own (j + 1) (k + 1) o x own r have.1))
-  | inr e ↦ rw (e, name_apart o n.name.owner e x n.name own refl, place-none 0 o n.name.owner e x own c have.0) (way-own j (k + 1) o x own r have.1)
+way-own j k x own none have = refl
+way-own j k {o} x own (tree n c r) have = elim (cases_Bool (owner_eq n.name.owner o)) [
+  | inl e ↦ rw e (both (name_eq n.name x) (place_from 0 c x) (way-own (j + 1) (k + 1) x own r have.1))
+  | inr e ↦ rw (e, name_apart o n.name.owner e x n.name own refl, place-none 0 o n.name.owner e x own c have.0) (way-own j (k + 1) x own r have.1)
 ]
   where
     both : (t : Bool) (below : Option (List ℕ)) → option_map (drop 1) (place_from (k + 1) r x) ≡ option_map (drop 1) (place_from (j + 1) (trees_of_owner o r) x)
@@ -101,9 +101,9 @@ odd k = 2 * k + 1
 behind_one : (m : ℕ) (xs ys : List ℕ) → list_before (m ∷ xs) (m ∷ ys) ≡ list_before xs ys
 behind_one m xs ys = rw (false_from_ne_true (ltb m m) (λ e. omega (arith, ltb-true m m e)), eq-eqb m m refl) refl
 
-before_shown : (us : Trees) (b c : Boundary NodeName) (m : ℕ) (p q : List ℕ) → place_of us b.node ≡ m ∷ p → place_of us c.node ≡ m ∷ q
+before_shown : (us : Trees) (b c : Boundary NodeName) {m : ℕ} {p q : List ℕ} → place_of us b.node ≡ m ∷ p → place_of us c.node ≡ m ∷ q
     → is_before us b c ≡ list_before (map odd p ++ (2 * b.offset) ∷ []) (map odd q ++ (2 * c.offset) ∷ [])
-before_shown us b c m p q e f =
+before_shown us b c {m} {p} {q} e f =
     ap (λ path. list_before (map odd path ++ (2 * b.offset) ∷ []) (map odd (place_of us c.node) ++ (2 * c.offset) ∷ [])) e
     ∙ (ap (λ path. list_before (map odd (m ∷ p) ++ (2 * b.offset) ∷ []) (map odd path ++ (2 * c.offset) ∷ [])) f
     ∙ behind_one (odd m) (map odd p ++ (2 * b.offset) ∷ []) (map odd q ++ (2 * c.offset) ∷ []))
@@ -116,7 +116,7 @@ module _ (ts : Trees) (owned : AreOwned ts) (once : Once ts) (o : Owner) where
 
   -- the way down to it
   way : (x : NodeName) → IsOwnIn x → drop 1 (place_of ts x) ≡ drop 1 (place_of (trees_of_owner o ts) x)
-  way x h = ways_same (place_from 0 ts x) (place_from 0 (trees_of_owner o ts) x) (way-own 0 0 o x h.owner ts owned.owners)
+  way x h = ways_same (place_from 0 ts x) (place_from 0 (trees_of_owner o ts) x) (way-own 0 0 x h.owner ts owned.owners)
 
   -- whether two have one root
   pub same_root-own : (x y : NodeName) → IsOwnIn x → IsOwnIn y → same_root ts x y ≡ same_root (trees_of_owner o ts) x y
@@ -140,10 +140,10 @@ module _ (ts : Trees) (owned : AreOwned ts) (once : Once ts) (o : Owner) where
       ap first_of w_own.2)) in
       let way_b : v.1 ≡ v_own.1 = ap (drop 1) (sym v.2) ∙ (way b.node h ∙ ap (drop 1) v_own.2) in
       let way_c : w.1 ≡ w_own.1 = ap (drop 1) (sym w.2) ∙ (way c.node g ∙ ap (drop 1) w_own.2) in
-      before_shown ts b c v.0 v.1 w.1 v.2 (w.2 ∙ ap (λ m. m ∷ w.1) (sym first))
+      before_shown ts b c v.2 (w.2 ∙ ap (λ m. m ∷ w.1) (sym first))
       ∙ (ap (λ p. list_before (map odd p ++ (2 * b.offset) ∷ []) (map odd w.1 ++ (2 * c.offset) ∷ [])) way_b
       ∙ (ap (λ q. list_before (map odd v_own.1 ++ (2 * b.offset) ∷ []) (map odd q ++ (2 * c.offset) ∷ [])) way_c
-      ∙ sym (before_shown us b c v_own.0 v_own.1 w_own.1 v_own.2 (w_own.2 ∙ ap (λ m. m ∷ w_own.1) (sym first_own)))))
+      ∙ sym (before_shown us b c v_own.2 (w_own.2 ∙ ap (λ m. m ∷ w_own.1) (sym first_own)))))
     where
       placed : (us : Trees) → Once us → (x : NodeName) → Has us x → (m : ℕ) × (p : List ℕ) × (place_of us x ≡ m ∷ p)
       placed us single x h = let v = place-at_root us 0 x single h in (v.0, v.1, known us single x (v.0 ∷ v.1) v.2)

@@ -22,14 +22,14 @@ up_to first i = record { first = first; behind = i }
 
 -- what is chosen
 pub chosen-true : (part skipped : Span) (k : ℕ) → is_chosen part skipped k ≡ true → (part.first ≤ k) × (k < part.behind) × (is_in skipped k ≡ false)
-chosen-true part skipped k e = by (leb part.first k) (ltb k part.behind) (is_in skipped k) refl refl refl e
+chosen-true part skipped k e = by refl refl refl e
   where
-    by : (a b c : Bool) → leb part.first k ≡ a → ltb k part.behind ≡ b → is_in skipped k ≡ c → (a && b) && not c ≡ true → (part.first ≤ k) ×
+    by : {a b c : Bool} → leb part.first k ≡ a → ltb k part.behind ≡ b → is_in skipped k ≡ c → (a && b) && not c ≡ true → (part.first ≤ k) ×
         (k < part.behind) × (is_in skipped k ≡ false)
-    by true true false f g h i = (leb-true part.first k f, ltb-true k part.behind g, h)
-    by true true true f g h i = cc
-    by true false c f g h i = cc
-    by false b c f g h i = cc
+    by {a = true} {b = true} {c = false} f g h i = (leb-true part.first k f, ltb-true k part.behind g, h)
+    by {a = true} {b = true} {c = true} f g h i = cc
+    by {a = true} {b = false} f g h i = cc
+    by {a = false} f g h i = cc
 
 pub chosen-made : (part skipped : Span) (k : ℕ) → part.first ≤ k → k < part.behind → is_in skipped k ≡ false → is_chosen part skipped k ≡ true
 chosen-made part skipped k l m e = rw (le-leb part.first k l, lt-ltb k part.behind m, e) refl
@@ -143,7 +143,7 @@ IsListed-set live after es i one b listed within is_one put others =
         IsListed-put live after es (set es i y) one.slot one.is_end b p listed e put others
         (subst (λ (x : RangeEnd). HasChanged es (set es i y) (x ∷ []) (y ∷ []))
         (end-same one (end_in one.slot one.is_end (end_of one.is_end p)) refl refl (sym (same_Some _ _ f)))
-        (HasChanged-set es (set es i y) i one y within is_one (IsPermutation-refl (set es i y))))
+        (HasChanged-set i within is_one (IsPermutation-refl (set es i y))))
 
 -- the part outside which no node changed, after one end more
 pub nodes-more : (es now next : List RangeEnd) (i first behind least : ℕ) → ((k : ℕ) (d : RangeEnd) → k ≢ i → get_or next k d ≡ get_or now k d) →

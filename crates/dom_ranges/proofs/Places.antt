@@ -119,12 +119,12 @@ abbrev pub StandsUnder : ℕ → Trees → NodeName → NodeName → Type 0
 StandsUnder k ts p x = (path : List ℕ) × (place_from k ts p ≡ Some path) ×
     (place_from k ts x ≡ Some (path ++ length (items_before name_eq x (children_of ts p)) ∷ []))
 
-pub place-child : (ts : Trees) (k : ℕ) (x p : NodeName) → Once ts → Has ts x → parent_of ts x ≡ Some p → StandsUnder k ts p x
-place-child none k x p once h e = absurd h
-place-child (tree n c r) k x p once (inl i) e = absurd (none-some p (rw (above-here n c r x i) at e))
-place-child (tree n c r) k x p once (inr (inl h)) e =
+pub place-child : (ts : Trees) (k : ℕ) (x : NodeName) {p : NodeName} → Once ts → Has ts x → parent_of ts x ≡ Some p → StandsUnder k ts p x
+place-child none k x once h e = absurd h
+place-child (tree n c r) k x {p} once (inl i) e = absurd (none-some p (rw (above-here n c r x i) at e))
+place-child (tree n c r) k x {p} once (inr (inl h)) e =
     let w = above-present c x h in
-    by (place-child c 0 x p once.3 h) (parent_below) w.0 w.1
+    by (place-child c 0 x once.3 h) (parent_below) w.0 w.1
     (ap (λ path. first_of (drop 1 path)) (sym (above-below n c r x once h ∙ ap (λ path. path ++ n.name ∷ []) w.1)) ∙ e)
   where
     parent_below : parent_of c x ≡ Some p → Has c p
@@ -149,10 +149,10 @@ place-child (tree n c r) k x p once (inr (inl h)) e =
           place-below n c r k p w.0 once (there up) w.1,
           place-below n c r k x _ once h w.2 ∙ ap (λ xs. Some (k ∷ (w.0 ++ length (items_before name_eq x xs) ∷ []))) (sym kids),
         )
-place-child (tree n c r) k x p once (inr (inr h)) e =
+place-child (tree n c r) k x {p} once (inr (inr h)) e =
     let f : parent_of r x ≡ Some p = ap (λ path. first_of (drop 1 path)) (sym (above-beside n c r x once h)) ∙ e in
     let there = (above-parent r x p once.4 h f).1 in
-    let w = place-child r (k + 1) x p once.4 h f in
+    let w = place-child r (k + 1) x once.4 h f in
     let kids : children_of (tree n c r) p ≡ children_of r p = ap (λ (us : Trees). names_of (roots (trees_below us))) (subtree-beside n c r p once there) in (
       w.0,
       place-beside n c r k p once there ∙ w.1,
@@ -198,7 +198,7 @@ module _ (ts : Trees) (once : Once ts) where
   -- a child's place
   pub path-child : (x p : NodeName) → Has ts x → parent_of ts x ≡ Some p → place_of ts x ≡ place_of ts p ++ index_of ts x ∷ []
   path-child x p h e =
-      let w = place-child ts 0 x p once h e in
+      let w = place-child ts 0 x once h e in
       let index : index_of ts x ≡ length (items_before name_eq x (children_of ts p)) =
       ap (λ (o : Option NodeName). length (items_before name_eq x (option_map_or (children_of ts) o (x ∷ [])))) e in
       known x _ w.2 ∙ (ap (λ path. path ++ length (items_before name_eq x (children_of ts p)) ∷ []) (sym (known p w.0 w.1)) ∙

@@ -118,18 +118,18 @@ module _ (es : List RangeEnd) (place : ℕ) (y : RangeEnd) (within : place < len
       record {
         order = omega arith;
         within = omega (arith, within, length-set es place y);
-        outside = λ i j d le l p q. points_same AtMost _ _ _ _ (kept i d p) (kept j d q) (sorted i j d le (omega (arith, l, length-set es place y)));
-        inside = λ i j d from le to. points_same AtMost _ _ _ _ (it i d from (omega (arith, le, to))) (it j d (omega (arith, from, le)) to)
+        outside = λ i j d le l p q. points_same AtMost (kept i d p) (kept j d q) (sorted i j d le (omega (arith, l, length-set es place y)));
+        inside = λ i j d from le to. points_same AtMost (it i d from (omega (arith, le, to))) (it j d (omega (arith, from, le)) to)
             (omega arith, λ _. omega arith);
       }
 
   pub behind-set : (i : ℕ) → (i < place) ⊎ (place + 1 ≤ i) → ((d : RangeEnd) → AtMost (point_of (get_or es i d)) (point_of y)) →
       IsBehind AtMost (set es place y) place (place + 1) i
-  behind-set i p l j d from to = points_same AtMost _ _ _ _ (kept i d p) (it j d from to) (l d)
+  behind-set i p l j d from to = points_same AtMost (kept i d p) (it j d from to) (l d)
 
   pub ahead-set : (j : ℕ) → (j < place) ⊎ (place + 1 ≤ j) → ((d : RangeEnd) → LessThan (point_of y) (point_of (get_or es j d))) →
       IsAhead AtMost (set es place y) place (place + 1) j
-  ahead-set j p l i d from to = points_same AtMost _ _ _ _ (it i d from to) (kept j d p) (let h = l d in (h.0, λ e. omega (arith, h.1 e)))
+  ahead-set j p l i d from to = points_same AtMost (it i d from to) (kept j d p) (let h = l d in (h.0, λ e. omega (arith, h.1 e)))
 
 -- ---- two ends with one boundary point behind a sorted list
 
@@ -156,7 +156,7 @@ module _ (es : List RangeEnd) (x y : RangeEnd) (alike : point_of x ≡ point_of 
       record {
         order = omega arith;
         within = omega (arith, length-append es (x ∷ y ∷ []));
-        outside = λ i j d le l p q. points_same AtMost _ _ _ _ (was i d (low i (omega (arith, le, l)) p)) (was j d (low j l q)) (sorted i j d le (low j l q));
+        outside = λ i j d le l p q. points_same AtMost (was i d (low i (omega (arith, le, l)) p)) (was j d (low j l q)) (sorted i j d le (low j l q));
         inside = λ i j d from le to. at_two AtMost _ _ (two i d from (omega (arith, le, to))) (two j d (omega (arith, from, le)) to)
             (omega arith, λ _. omega arith);
       }
@@ -204,7 +204,7 @@ module _ (es ys : List RangeEnd) (node : ℕ) (part : Span) (order : part.first 
   pub IsSortedByPoint-ordered : IsSortedBut node es → IsNonDecreasingBy offset_of ys → IsSortedByPoint now
   IsSortedByPoint-ordered sorted up i j d le l = elim (cases i) [
     | inl p ↦ elim (cases j) [
-      | inl q ↦ points_same AtMost _ _ _ _ (stays i p) (stays j q)
+      | inl q ↦ points_same AtMost (stays i p) (stays j q)
           (let s = sorted i j d le in_list in (s.0, λ e. s.1 e (off-node i d (omega (arith, le, in_list)) p)))
       | inr q ↦
           let s = sorted i j d le in_list in
@@ -250,12 +250,12 @@ pub IsSortedByPoint-removed : (es : List RangeEnd) (i : ℕ) → i < length es �
 IsSortedByPoint-removed es i within sorted a b d le l =
     let size = length-remove es i within in
     elim (cases_lt b i) [
-      | inl m ↦ points_same AtMost _ _ _ _ (get_or-remove_below es i d a (omega (arith, m, le)) within) (get_or-remove_below es i d b m within)
+      | inl m ↦ points_same AtMost (get_or-remove_below es i d a (omega (arith, m, le)) within) (get_or-remove_below es i d b m within)
           (sorted a b d le (omega (arith, m, within)))
       | inr m ↦ elim (cases_lt a i) [
-        | inl n ↦ points_same AtMost _ _ _ _ (get_or-remove_below es i d a n within) (get_or-remove_above es i d b m within)
+        | inl n ↦ points_same AtMost (get_or-remove_below es i d a n within) (get_or-remove_above es i d b m within)
             (sorted a (b + 1) d (omega (arith, le)) (omega (arith, l, size)))
-        | inr n ↦ points_same AtMost _ _ _ _ (get_or-remove_above es i d a n within) (get_or-remove_above es i d b m within)
+        | inr n ↦ points_same AtMost (get_or-remove_above es i d a n within) (get_or-remove_above es i d b m within)
             (sorted (a + 1) (b + 1) d (omega (arith, le)) (omega (arith, l, size)))
       ]
     ]

@@ -27,8 +27,9 @@ abbrev pub SameLists : Numbers → Numbers → Type 0
 SameLists n m = (o : Owner) → slots_of m o ≡ slots_of n o
 
 -- what holds stays where slots and lists do
-pub HaveNumbers-same : (live after : Slab Points) (n m : Numbers) → HoldSame live after → SameLists n m → HaveNumbers live n → HaveNumbers after m
-HaveNumbers-same live after n m hold same h =
+pub HaveNumbers-same : {live : Slab Points} (after : Slab Points) {n : Numbers} (m : Numbers) → HoldSame live after → SameLists n m → HaveNumbers live n →
+    HaveNumbers after m
+HaveNumbers-same after m hold same h =
     let back = λ (o : Owner) (k slot : ℕ) (e : StandsUnder m slot o k). ap (λ (ss : List (Option ℕ)). slice_get ss k) (sym (same o)) ∙ e in
     record {
       held = λ o k slot e. (hold slot).1 (h.held o k slot (back o k slot e));
@@ -121,7 +122,7 @@ ranges-written live after n v slot k owner q shows h at u o = ranges_of-shown af
         map (range_kept after) (slots_of n o) ≡ cond b (slice_set (ranges_of v owner) k (Some (range_from q))) (ranges_of v o)
     by true e =
         let same = owner_eq-true owner o e in
-        map_set (range_kept live) (range_kept after) (Some (range_from q)) (slots_of n o) k
+        map_set (slots_of n o)
         (λ t f. ap (range_kept after) (same_Some _ _ (sym f ∙ subst (λ (p : Owner). StandsUnder n slot p k) same at)) ∙ ap (option_map range_from) u.changed)
         (λ j t off f. shown_other live after slot u.others t (λ g. off (h.apart o owner j k slot (f ∙ ap Some g) at).1))
         ∙ ap (λ rs. slice_set rs k (Some (range_from q))) (sym (shows o) ∙ ap (ranges_of v) (sym same))

@@ -7,8 +7,7 @@ use Rattle.dom_ranges.proofs.ends.bring.Goals as goal
 
 pub returns-then-to-place-clause-brought : goal.returns-then-to-place-clause-brought
 returns-then-to-place-clause-brought c =
-    HasChanged-set c.args.ends.now c.turn.new.ends c.find-place.result c.args.end
-    (end_in c.args.end.slot c.args.end.is_end (at c.args.node c.args.offset)) c.find-place.ensures.within c.find-place.ensures.found
+    HasChanged-set c.find-place.result c.find-place.ensures.within c.find-place.ensures.found
     c.turn.ensures.permutation
 
 pub returns-then-to-place-clause-sorted : goal.returns-then-to-place-clause-sorted
@@ -30,8 +29,7 @@ returns-then-to-place-clause-sorted c =
 
 pub returns-else-to-place-clause-brought : goal.returns-else-to-place-clause-brought
 returns-else-to-place-clause-brought c =
-    HasChanged-set c.args.ends.now c.turn-else-to-place.new.ends c.find-place.result c.args.end
-    (end_in c.args.end.slot c.args.end.is_end (at c.args.node c.args.offset)) c.find-place.ensures.within c.find-place.ensures.found
+    HasChanged-set c.find-place.result c.find-place.ensures.within c.find-place.ensures.found
     c.turn-else-to-place.ensures.permutation
 
 pub returns-else-to-place-clause-sorted : goal.returns-else-to-place-clause-sorted

@@ -7,14 +7,14 @@ use Rattle.dom_ranges.proofs.moving.drop_range.Goals as goal
 pub drop_end-requires-clause-there : goal.drop_end-requires-clause-there
 drop_end-requires-clause-there c =
     let there : get c.args.live.now c.args.slot ≡ Some c.in-Some.points = sym c.in-Some.ensures.value in
-    listed-once c.args.live.now c.args.ends.now.items c.requires.listed c.args.slot false c.in-Some.points there
+    listed-once c.requires.listed c.args.slot false there
 
 pub drop_end-requires-in-Some-clause-there : goal.drop_end-requires-in-Some-clause-there
 drop_end-requires-in-Some-clause-there c =
     let there : get c.args.live.now c.args.slot ≡ Some c.in-Some.points = sym c.in-Some.ensures.value in
     listed-once-rest c.args.live.now c.args.ends.now.items c.drop_end.new.ends.items c.args.slot (end_of false c.in-Some.points) (end_of true c.in-Some.points)
     c.requires.listed (ap is_some there) c.drop_end.ensures.dropped
-    (listed-once c.args.live.now c.args.ends.now.items c.requires.listed c.args.slot true c.in-Some.points there)
+    (listed-once c.requires.listed c.args.slot true there)
 
 pub returns-in-Some-clause-listed : goal.returns-in-Some-clause-listed
 returns-in-Some-clause-listed c =

@@ -10,13 +10,13 @@ use Rattle.dom_ranges.proofs.moving.move_ends.Goals as goal
 
 pub move_part-here-requires-clause-can_move : goal.move_part-here-requires-clause-can_move
 move_part-here-requires-clause-can_move g c =
-    λ k d l e. holds-listed (g.C.Change.can_move c.args.change.now) c.args.live.now c.args.ends.now c.requires.listed c.requires.can_move k d l
+    λ k d l e. holds-listed (g.C.Change.can_move c.args.change.now) c.requires.listed c.requires.can_move k d l
 
 pub move_part-there-requires-clause-can_move : goal.move_part-there-requires-clause-can_move
 move_part-there-requires-clause-can_move g c =
     λ k d l e. subst (λ (x : RangeEnd). g.C.Change.can_move c.args.change.now (point_of x))
-    (sym (stays-outside _ _ c.args.ends.now c.move_part-here.new.ends c.args.one c.move_part-here.ensures.moved k d (chosen-true c.args.two c.args.one k e).2))
-    (holds-listed (g.C.Change.can_move c.args.change.now) c.args.live.now c.args.ends.now c.requires.listed c.requires.can_move k d
+    (sym (stays-outside c.args.one c.move_part-here.ensures.moved k d (chosen-true c.args.two c.args.one k e).2))
+    (holds-listed (g.C.Change.can_move c.args.change.now) c.requires.listed c.requires.can_move k d
     (omega (arith, l, c.move_part-here.ensures.moved.same_length)))
 
 pub returns-then-is_empty-2-clause-moved : goal.returns-then-is_empty-2-clause-moved
@@ -28,7 +28,7 @@ returns-then-is_empty-2-clause-moved g c =
 
 pub returns-then-keeps_order-clause-moved : goal.returns-then-keeps_order-clause-moved
 returns-then-keeps_order-clause-moved g c =
-    ranges-ruled _ _ _ _ _ c.requires.listed c.move_part-there.ensures.listed
+    ranges-ruled c.requires.listed c.move_part-there.ensures.listed
     (ruled-both _ _ _ _ _ _ _ c.move_part-here.ensures.moved c.move_part-there.ensures.moved c.requires.all)
 
 pub returns-then-keeps_order-clause-sorted : goal.returns-then-keeps_order-clause-sorted
@@ -58,7 +58,7 @@ put_in_order-requires g c = elim c.if-low-high.branch [
 
 pub returns-clause-moved : goal.returns-clause-moved
 returns-clause-moved g c =
-    ranges-ruled _ _ _ _ _ c.requires.listed c.move_part-there.ensures.listed
+    ranges-ruled c.requires.listed c.move_part-there.ensures.listed
     (ruled-both _ _ _ _ _ _ _ c.move_part-here.ensures.moved c.move_part-there.ensures.moved c.requires.all)
 
 pub returns-clause-listed : goal.returns-clause-listed

@@ -15,7 +15,7 @@ bring-requires-clause-there c =
       | else-is_end w ↦ ap (λ t. at t.0 t.1) w.from-is ∙ sym (ap (λ b. end_of b c.in-Some.points) w.if-is_end.false)
     ] in
     subst (λ (b : Boundary _). IsListedOnce c.args.ends.now (end_in c.args.slot c.args.is_end b)) (sym point_is)
-    (listed-once c.args.live.now c.args.ends.now c.requires.listed c.args.slot c.args.is_end c.in-Some.points there)
+    (listed-once c.requires.listed c.args.slot c.args.is_end there)
 
 pub returns-after-is_end-clause-listed : goal.returns-after-is_end-clause-listed
 returns-after-is_end-clause-listed c =

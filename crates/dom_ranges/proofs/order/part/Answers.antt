@@ -13,7 +13,6 @@ returns-in_default-clause-beside c =
     let here = depth-root f c.law_nodes_stand_once.ensures.once c.law_nodes_stand_once.ensures.only c.up.low c.up.invariant.low_is_node
     c.in_default.ensures.value in
     absurd (c.up.invariant.apart (roots-same f c.law_nodes_stand_once.ensures.once c.law_nodes_stand_once.ensures.only c.law_nodes_stand_once.ensures.distinct
-    c.up.low c.up.other
     c.up.invariant.low_is_node c.up.invariant.other_is_node here (sym c.up.invariant.level ∙ here) c.up.invariant.one_tree))
 
 pub returns-in_default-parent-clause-beside : goal.returns-in_default-parent-clause-beside
@@ -22,7 +21,6 @@ returns-in_default-parent-clause-beside c =
     let here = depth-root f c.law_nodes_stand_once.ensures.once c.law_nodes_stand_once.ensures.only c.up.other c.up.invariant.other_is_node
     c.in_default-parent.ensures.value in
     absurd (c.up.invariant.apart (roots-same f c.law_nodes_stand_once.ensures.once c.law_nodes_stand_once.ensures.only c.law_nodes_stand_once.ensures.distinct
-    c.up.low c.up.other
     c.up.invariant.low_is_node c.up.invariant.other_is_node (c.up.invariant.level ∙ here) here c.up.invariant.one_tree))
 
 pub returns-then-eq-clause-beside : goal.returns-then-eq-clause-beside

@@ -45,7 +45,7 @@ loop-at-preserved c =
       few = omega arith;
       within = c.around-part.ensures.within (length c.args.ends.now) c.loop-at.invariant.within c.part_of.ensures.within;
       ahead = λ k d l out i.
-          next-from f c.args.top c.in-Some.key c.loop-at.at c.following-at.result c.in-Some.is step.0 (name_at f.names (get_or c.args.ends.now k d).node)
+          next-from f c.args.top c.following-at.result c.in-Some.is step.0
           (λ same. true≢false (sym (c.around-part.ensures.second k
           (c.part_of.ensures.all k d l (e.distinct _ _ (c.requires.nodes k d l).1 key_is_node same))) ∙ out))
           (c.loop-at.invariant.ahead k d l (false_from_ne_true _ (λ was. true≢false (sym (c.around-part.ensures.first k was) ∙ out))) i);

@@ -31,7 +31,7 @@ returns-in_err-reserve-2-clause-err c =
 pub invariant_of-self-in_err-slot : goal.invariant_of-self-in_err-slot
 invariant_of-self-in_err-slot c =
     let same = λ (s : ℕ). ap (λ (t : Slab Points). get t s) c.in_err-slot.ensures.err in (
-      HaveNumbers-same c.self.inside.live c.insert.new.self c.self.inside.numbers c.reserve.new.self
+      HaveNumbers-same c.insert.new.self c.reserve.new.self
           (λ s. (λ i. subst IsSome (same s) i, λ i. subst IsSome (sym (same s)) i)) c.reserve.ensures.slots c.self.invariant.0,
       subst (IsListed c.insert.new.self) (sym c.reserve-2.ensures.items)
           (IsListed-same c.self.inside.live c.insert.new.self c.self.inside.ends.items same c.self.invariant.1),
@@ -56,7 +56,7 @@ roomy : (c : goal.After-list_range) → Shows c.self.inside.live c.reserve.new.s
 roomy c = (
   Shows-same c.self.inside.live c.self.inside.live c.self.inside.numbers c.reserve.new.self _
       (Shows-view c.self.inside.live c.self.inside.numbers _ c.self.view_is) (λ s. refl) c.reserve.ensures.slots,
-  HaveNumbers-same c.self.inside.live c.self.inside.live c.self.inside.numbers c.reserve.new.self (λ s. (λ i. i, λ i. i))
+  HaveNumbers-same c.self.inside.live c.reserve.new.self (λ s. (λ i. i, λ i. i))
       c.reserve.ensures.slots c.self.invariant.0,
 )
 

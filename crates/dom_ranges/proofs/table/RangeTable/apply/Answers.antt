@@ -18,7 +18,7 @@ returns g c =
 
 pub invariant_of-self : goal.invariant_of-self
 invariant_of-self g c =
-    kept-moved (g.C.Change.rule c.args.change.now) c.self.inside.live c.move_concerned.new.live c.self.inside.numbers _ c.move_concerned.new.ends
+    kept-moved (g.C.Change.rule c.args.change.now)
     c.move_concerned.ensures.moved c.self.invariant.0 c.move_concerned.ensures.listed c.move_concerned.ensures.sorted
     (written-back c.self.inside.ends.items c.move_concerned.new.ends c.self.inside.ends.len
     (c.move_concerned.auto.ends ∙ ap (length {A = RangeEnd}) c.as_mut_slice.ensures.value) (omega (arith, c.self.inside.ends.ok.0)))

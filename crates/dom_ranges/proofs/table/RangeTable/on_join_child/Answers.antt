@@ -14,8 +14,8 @@ on_join-requires c =
     let index = index_of c.args.forest.now.trees (name_at c.args.forest.now.names c.args.next) in
     let near = c.index_among-index.ensures o k r e in
     let fits = c.requires.fits o k r e in (
-      subst Fits (sym (join-near c.args.first c.args.size c.args.next c.args.parent index c.index_among-index.result r.start near.0)) fits.0,
-      subst Fits (sym (join-near c.args.first c.args.size c.args.next c.args.parent index c.index_among-index.result r.end near.1)) fits.1,
+      subst Fits (sym (join-near c.args.first c.args.size c.args.next r.start near.0)) fits.0,
+      subst Fits (sym (join-near c.args.first c.args.size c.args.next r.end near.1)) fits.1,
     )
 
 pub returns : goal.returns
@@ -26,6 +26,6 @@ returns c o =
     (after_join nat_eq c.args.first c.args.size c.args.next c.args.parent index) (ranges_of c.args.self.now o)
     (λ k r e.
     let near = c.index_among-index.ensures o k r e in (
-      join-near c.args.first c.args.size c.args.next c.args.parent index c.index_among-index.result r.start near.0,
-      join-near c.args.first c.args.size c.args.next c.args.parent index c.index_among-index.result r.end near.1,
+      join-near c.args.first c.args.size c.args.next r.start near.0,
+      join-near c.args.first c.args.size c.args.next r.end near.1,
     ))

@@ -25,8 +25,7 @@ returns c =
 pub invariant_of-self : goal.invariant_of-self
 invariant_of-self c =
     let f = c.args.forest.now in
-    kept-moved (after_removal nat_eq (is_inside f c.args.node) c.args.parent (index_of f.trees (name_at f.names c.args.node))) c.self.inside.live
-    c.move_out.new.live c.self.inside.numbers _ c.move_out.new.ends
+    kept-moved (after_removal nat_eq (is_inside f c.args.node) c.args.parent (index_of f.trees (name_at f.names c.args.node)))
     c.move_out.ensures.moved c.self.invariant.0 c.move_out.ensures.listed c.move_out.ensures.sorted
     (written-back c.self.inside.ends.items c.move_out.new.ends c.self.inside.ends.len
     (c.move_out.auto.ends ∙ ap (length {A = RangeEnd}) c.as_mut_slice-ends.ensures.value) (omega (arith, c.self.inside.ends.ok.0)))

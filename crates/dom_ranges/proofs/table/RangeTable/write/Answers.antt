@@ -42,7 +42,7 @@ invariant_of-self c =
     let back = sym (written-back c.self.inside.ends.items c.put_end-in-Some.new.ends c.self.inside.ends.len
     (c.put_end-in-Some.auto.ends ∙ (c.put_end.auto.ends ∙ ap (length {A = RangeEnd}) c.as_mut_slice-ends.ensures.value))
     (omega (arith, c.self.inside.ends.ok.0))) in (
-      HaveNumbers-same c.self.inside.live c.put_end-in-Some.new.live c.self.inside.numbers c.self.inside.numbers
+      HaveNumbers-same c.put_end-in-Some.new.live c.self.inside.numbers
           (HoldSame-written c.self.inside.live c.put_end-in-Some.new.live c.in-Some.slot c.args.points u
           (c.self.invariant.0.held c.args.owner c.args.number c.in-Some.slot
           (slot-under c.self.inside.numbers c.args.owner c.args.number c.in-Some.slot c.in-Some.ensures))) (λ o. refl) c.self.invariant.0,
