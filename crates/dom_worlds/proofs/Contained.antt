@@ -40,9 +40,9 @@ place-here : (k : ℕ) (n : Node) (c r : Trees) (x : NodeName) → name_eq n.nam
 place-here k n c r x e = cond-true (name_eq n.name x) (Some (k ∷ [])) (option_or (option_map (λ path. k ∷ path) (place_from 0 c x)) (place_from (k + 1) r x)) e
 
 -- below
-place-below : {path : List ℕ} (k : ℕ) (n : Node) (c r : Trees) (x : NodeName) → name_eq n.name x ≡ false → place_from 0 c x ≡ Some path →
+place-below : {path : List ℕ} {k : ℕ} (n : Node) (c r : Trees) (x : NodeName) → name_eq n.name x ≡ false → place_from 0 c x ≡ Some path →
     place_from k (tree n c r) x ≡ Some (k ∷ path)
-place-below {path} k n c r x e h =
+place-below {path} {k} n c r x e h =
     cond-false (name_eq n.name x) (Some (k ∷ [])) (option_or (option_map (λ path. k ∷ path) (place_from 0 c x)) (place_from (k + 1) r x)) e
     ∙ ap (λ o. option_or (option_map (λ path. k ∷ path) o) (place_from (k + 1) r x)) h
 
@@ -64,7 +64,7 @@ place-there k (tree n c r) x h =
     by_cases (name_eq n.name x) (λ e. (k ∷ [], place-here k n c r x e))
     (λ e. let g = times-elsewhere n c r x e in
     by_times (times_in c x) (λ z. let at = place-there (k + 1) r x (omega arith) in (at.0, place-behind k n c r x e z ∙ at.1))
-    (λ z. let at = place-there 0 c x z in (k ∷ at.0, place-below k n c r x e at.1)))
+    (λ z. let at = place-there 0 c x z in (k ∷ at.0, place-below n c r x e at.1)))
 
 -- the place of a node below another one
 place-nested : (k : ℕ) (ts : Trees) (a z : NodeName) {path rest : List ℕ} → IsUnique ts → place_from k ts a ≡ Some path →
@@ -84,7 +84,7 @@ place-nested k (tree n c r) a z {path} {rest} u p q =
     let one : Some (k ∷ []) ≡ Some path = sym (place-here k n c r a e) ∙ p in
     let is : k ∷ [] ≡ path = cc in
     let other : name_eq n.name z ≡ false = by_cases (name_eq n.name z) (λ f. absurd (let g = times-here n c r z f in omega arith)) (λ f. f) in
-    place-below k n c r z other at ∙ ap (λ xs. Some (xs ++ rest)) is)
+    place-below n c r z other at ∙ ap (λ xs. Some (xs ++ rest)) is)
     (λ e. let g = times-elsewhere n c r a e in
     by_times (times_in c a)
     (λ y. let same = ap trees_below (subtree-elsewhere n c r a e ∙ ap (λ t. or_else t (subtree r a)) (subtree-absent c a y)) in
@@ -101,9 +101,9 @@ place-nested k (tree n c r) a z {path} {rest} u p q =
     let there : 1 ≤ times_in c z = let s = times-below (subtree c a) z in let t = times-subtree c a z in omega arith in
     let other : name_eq n.name z ≡ false = by_cases (name_eq n.name z) (λ f. absurd (let g = times-here n c r z f in omega arith)) (λ f. f) in
     let own = place-there 0 c a y in
-    let one : Some (k ∷ own.0) ≡ Some path = sym (place-below k n c r a e own.1) ∙ p in
+    let one : Some (k ∷ own.0) ≡ Some path = sym (place-below n c r a e own.1) ∙ p in
     let is : k ∷ own.0 ≡ path = cc in
-    place-below k n c r z other (place-nested 0 c a z uc own.1 at) ∙ ap (λ xs. Some (xs ++ rest)) is))
+    place-below n c r z other (place-nested 0 c a z uc own.1 at) ∙ ap (λ xs. Some (xs ++ rest)) is))
 
 -- Roots of a list, by their numbers: those before a number, and those up to one of them.
 record IsRootAt (k : ℕ) (us : Trees) (bound : ℕ) (x : NodeName) : Type 0 where

@@ -15,12 +15,12 @@ use Rattle.dom_worlds.proofs.Tests.{by_cases, either_way, which_way}
 use Rattle.dom_worlds.proofs.TreeChangeLaws.{nodes-then}
 
 -- what follows for each
-pub fit-then : (W C K W' C' K' : NodeName → Type 0) → ((x : NodeName) → W x → W' x) → ((x : NodeName) → C x → C' x) →
+pub fit-then : (W : NodeName → Type 0) {C K W' C' K' : NodeName → Type 0} → ((x : NodeName) → W x → W' x) → ((x : NodeName) → C x → C' x) →
     ((x : NodeName) → K x → K' x) → (pieces : Pieces) → AreFit W C K pieces → AreFit W' C' K' pieces
-fit-then W C K W' C' K' f g k nothing h = tt
-fit-then W C K W' C' K' f g k (whole x rest) h = (f x h.0, fit-then W C K W' C' K' f g k rest h.1)
-fit-then W C K W' C' K' f g k (cut x from to rest) h = (g x h.0, fit-then W C K W' C' K' f g k rest h.1)
-fit-then W C K W' C' K' f g k (clone x inner rest) h = (k x h.0, fit-then W C K W' C' K' f g k inner h.1, fit-then W C K W' C' K' f g k rest h.2)
+fit-then W f g k nothing h = tt
+fit-then W f g k (whole x rest) h = (f x h.0, fit-then W f g k rest h.1)
+fit-then W f g k (cut x from to rest) h = (g x h.0, fit-then W f g k rest h.1)
+fit-then W f g k (clone x inner rest) h = (k x h.0, fit-then W f g k inner h.1, fit-then W f g k rest h.2)
 
 -- a node of which a clone may be taken: of data a part, of another one what is taken of its children
 abbrev pub IsClonable : (NodeName → Type 0) → (NodeName → Type 0) → Node → Type 0

@@ -39,18 +39,18 @@ host-there w i h o host e =
 
 module _ {only_log : Bool} (w : World) (r : IsReached only_log w) where
   -- A composed event: the way up from each node of the chain leads to the next one.
-  climbs : IsWhole w → (first : NodeName) (depth : ℕ) (x : NodeName) → owner_depth x.owner ≤ depth → 1 ≤ times_in (trees_with w x) x → {o : Option NodeName} →
+  climbs : IsWhole w → (first : NodeName) (depth : ℕ) {x : NodeName} → owner_depth x.owner ≤ depth → 1 ≤ times_in (trees_with w x) x → {o : Option NodeName} →
       host_above w x ≡ o → (rest : List NodeName) × (flat_map (way_up w) (host_chain w x) ≡ x ∷ rest) × Runs (event_parent w true first) x rest None
-  climbs h first depth x d t {o = None} e =
+  climbs h first depth {x} d t {o = None} e =
       let way = node-way w r true first 0 (λ c g. refl) x (omega arith) t None (root-loose w r true first x e) in
       (way.0, ap (flat_map (way_up w)) (hosts-alone (owner_depth x.owner) w x e) ∙ append-nil (way_up w x) ∙ way.1, way.2)
-  climbs h first zero x d t {o = Some host} e = let deep = (below-host w r.world x host e).deeper in absurd (omega (arith, d, deep))
-  climbs h first (suc depth) x d t {o = Some host} e =
+  climbs h first zero {x} d t {o = Some host} e = let deep = (below-host w r.world x host e).deeper in absurd (omega (arith, d, deep))
+  climbs h first (suc depth) {x} d t {o = Some host} e =
       let b = below-host w r.world x host e in
       let deep = b.deeper in
       let way = node-way w r true first 0 (λ c g. refl) x (omega arith) t (Some host) (λ p. root-out w r true first x host b refl) in
       let there = host-there w r.world h x.owner host (above-host w x host e).0 in
-      let on = climbs h first depth host (omega (arith, d, deep)) there refl in (
+      let on = climbs h first depth (omega (arith, d, deep)) there refl in (
         way.0 ++ host ∷ on.0,
         ap (flat_map (way_up w)) (chain-below w x host b) ∙ ap (λ xs. xs ++ flat_map (way_up w) (host_chain w host)) way.1 ∙ ap (λ ys. (x ∷ way.0) ++ ys) on.1,
         runs-join (event_parent w true first) x way.0 host on.0 None way.2 on.2,
@@ -74,7 +74,7 @@ module _ {only_log : Bool} (w : World) (r : IsReached only_log w) where
 -- the law
 pub path-follows_parents : PathFollowsParents
 path-follows_parents b w r h x true t =
-    let way = climbs w r h x (owner_depth x.owner) x (omega arith) (has_node-times (trees_with w x) x t) refl in
+    let way = climbs w r h x (owner_depth x.owner) (omega arith) (has_node-times (trees_with w x) x t) refl in
     follows-path w true way.1 way.2
 path-follows_parents b w r h x false t =
     let way = stays w r x (has_node-times (trees_with w x) x t) (host_above w x) refl in

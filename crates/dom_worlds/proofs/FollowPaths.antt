@@ -44,10 +44,10 @@ runs-join up x [] y ys e h g = (h, g)
 runs-join up x (z ∷ xs) y ys e h g = (h.0, runs-join up z xs y ys e h.1 g)
 
 -- by another function that agrees
-runs-change : {e : Option NodeName} (up to : NodeName → Option NodeName) (Q : NodeName → Type 0) → ((y z : NodeName) → Q y → up y ≡ Some z → to y ≡ Some z) →
+runs-change : {e : Option NodeName} {up to : NodeName → Option NodeName} {Q : NodeName → Type 0} → ((y z : NodeName) → Q y → up y ≡ Some z → to y ≡ Some z) →
     ((y : NodeName) → Q y → up y ≡ None → to y ≡ e) → (x : NodeName) (xs : List NodeName) → AllByRecursion Q (x ∷ xs) → Runs up x xs None → Runs to x xs e
-runs-change up to Q f g x [] q h = g x q.0 h
-runs-change {e} up to Q f g x (y ∷ ys) q h = (f x y q.0 h.0, runs-change up to Q f g y ys q.1 h.1)
+runs-change f g x [] q h = g x q.0 h
+runs-change f g x (y ∷ ys) q h = (f x y q.0 h.0, runs-change f g y ys q.1 h.1)
 
 -- Ancestors: each is followed by its parent.
 ancestors-run : (ts : Trees) → IsUnique ts → (x : NodeName) (path : List NodeName) → inclusive_ancestors ts x ≡ x ∷ path → Runs (parent_of ts) x path None
@@ -180,12 +180,11 @@ module _ {only_log : Bool} (w : World) (r : IsReached only_log w) (composed : Bo
   tree-run x path at e ends =
       let ts = trees_with w x in
       let u = (r.world.parts x.owner).unique in
-      let Q : NodeName → Type 0 = λ y. (y.owner ≡ x.owner) × ((1 ≤ times_in ts y) × (root_of ts y ≡ root_of ts x)) in
       let owned = subst (AllByRecursion (IsOf x.owner)) at (ancestors-owned w r.world x) in
       let rooted = subst (AllByRecursion (λ y. root_of ts y ≡ root_of ts x)) at (ancestors-root ts u x) in
       let there = subst (AllByRecursion (λ y. 1 ≤ times_in ts y)) at (ancestors-there ts x) in
       let same = λ (y : NodeName) (g : y.owner ≡ x.owner). ap (λ o. parent_of (part_of w o).trees y) g in
-      runs-change (parent_of ts) next_up Q
+      runs-change
       (λ y z q g. let up : parent_at w y ≡ Some z = same y q.0 ∙ g in cond-false (is_shadow (kind_at w y)) (up_from y) (parent_at w y) (next-parent y z up)
       ∙ up)
       (λ y q g. let root : root_of ts x ≡ y = sym q.1.1 ∙ root-itself ts y u q.1.0 g in

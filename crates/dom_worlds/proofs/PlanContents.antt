@@ -57,7 +57,7 @@ old-still count into p q h c x o = record { there = still c x o.there; alone = �
 
 -- of all pieces
 pub whole-then : (P Q : NodeName → Type 0) → ((x : NodeName) → P x → Q x) → (pieces : Pieces) → AllWhole P pieces → AllWhole Q pieces
-whole-then P Q f pieces h = fit-then P P P Q Q Q f f f pieces h
+whole-then P Q f pieces h = fit-then P f f f pieces h
 
 -- what is placed below a new node that itself went below another one
 pub changed-inner : {into new : NodeName} {p q r : Part} → times_in p.trees new ≡ 0 → Changed (Some into) p q → Changed (Some new) q r → Changed (Some into) p r

@@ -69,7 +69,7 @@ taken-then xs y p one two h = subst (λ (q : Part). HasRoom nowhere q × AreChil
 pub fits-still : {spot : Option NodeName} {p q : Part} (xs : List NodeName) (y : NodeName) → Changed spot p q → (pieces : Pieces) →
     AreFit (Misses xs y) (IsData p) (IsOpenIn p) pieces → AreFit (Misses xs y) (IsData q) (IsOpenIn q) pieces
 fits-still {p} {q} xs y c pieces h =
-    fit-then (Misses xs y) (IsData p) (IsOpenIn p) (Misses xs y) (IsData q) (IsOpenIn q) (λ x m. m)
+    fit-then (Misses xs y) (λ x m. m)
     (λ x d. (still c x d.0, ap has_data (c.kinds x d.0) ∙ d.1)) (λ x d. (still c x d.0, open-still c x d.0 d.1)) pieces h
 
 -- pieces may be taken into a node: they are of old nodes and fit, and there is room and the children are there that are to stay
