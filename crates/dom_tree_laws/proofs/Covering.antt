@@ -54,9 +54,9 @@ walks_first x y (z ∷ xs) e once =
     let is = name_eq-same z in
     record { stands = rw (apart, is) refl; more = rw (apart, is, e) (ap (λ w. w ∷ []) same); fewer = rw (apart, is, e) (omega arith) }
 
-walks_behind : (x y : NodeName) (xs : List NodeName) (o : Option NodeName) → name_eq y x ≡ false → Lacks x xs → Walks xs y o → Walks (x ∷ xs) y o
-walks_behind x y xs None e lacks w = record { stands = tt; more = rw e (ap (λ zs. x ∷ zs) w.more); fewer = rw e (w.fewer) }
-walks_behind x y xs (Some z) e lacks w =
+walks_behind : (x : NodeName) {y : NodeName} {xs : List NodeName} (o : Option NodeName) → name_eq y x ≡ false → Lacks x xs → Walks xs y o → Walks (x ∷ xs) y o
+walks_behind x None e lacks w = record { stands = tt; more = rw e (ap (λ zs. x ∷ zs) w.more); fewer = rw e (w.fewer) }
+walks_behind x {xs} (Some z) e lacks w =
     let apart = apart_in x z xs lacks w.stands in
     record { stands = rw apart (w.stands); more = rw (apart, e) (ap (λ zs. x ∷ zs) w.more); fewer = rw (apart, e) (w.fewer) }
 
@@ -65,7 +65,7 @@ walks [] once y h = cc
 walks (x ∷ xs) once y h = elim (cases_Bool (name_eq y x)) [
   | inl e ↦ subst (λ o. Walks (x ∷ xs) y o) (ap first_of (sym (cond-true (name_eq y x) xs (items_after name_eq y xs) e))) (walks_first x y xs e once)
   | inr e ↦ subst (λ o. Walks (x ∷ xs) y o) (ap first_of (sym (cond-false (name_eq y x) xs (items_after name_eq y xs) e)))
-      (walks_behind x y xs (first_of (items_after name_eq y xs)) e once.0 (walks xs once.1 y (rw e at h)))
+      (walks_behind x (first_of (items_after name_eq y xs)) e once.0 (walks xs once.1 y (rw e at h)))
 ]
 
 -- ---- documents, set in tree order

@@ -87,12 +87,12 @@ invariant_of-self-2 c p =
     let last : map task_of c.push_back.new.self.items ≡ was ++ notify_task o ∷ [] = grind (arith, common_steps) in
     let now = ap (count_by (is_notify_of p)) last ∙ counted-more o p was in
     let there : number_at c.set.new.self p ≡ (if owner_eq o p then 1 else number_at c.self.inside.waiting p) = c.in_ok-set.ensures.ok p in
-    by (owner_eq o p) refl (count_by (is_notify_of p) was) (c.self.invariant p).0 (c.self.invariant p).1 _ now _ there
+    by (owner_eq o p) refl (c.self.invariant p).0 (c.self.invariant p).1 now there
   where
-    by : (b : Bool) → owner_eq c.args.owner p ≡ b → (n : ℕ) → n ≡ number_at c.self.inside.waiting p → number_at c.self.inside.waiting p ≤ 1 →
-        (m : ℕ) → m ≡ n + one b → (k : ℕ) → k ≡ (if b then 1 else number_at c.self.inside.waiting p) → (m ≡ k) × (k ≤ 1)
-    by false e n is most m counted k kept = (omega (arith, is, counted, kept), omega (arith, most, kept))
-    by true e n is most m counted k kept =
+    by : (b : Bool) → owner_eq c.args.owner p ≡ b → {n : ℕ} → n ≡ number_at c.self.inside.waiting p → number_at c.self.inside.waiting p ≤ 1 →
+        {m : ℕ} → m ≡ n + one b → {k : ℕ} → k ≡ (if b then 1 else number_at c.self.inside.waiting p) → (m ≡ k) × (k ≤ 1)
+    by false e is most counted kept = (omega (arith, is, counted, kept), omega (arith, most, kept))
+    by true e is most counted kept =
         let none : number_at c.self.inside.waiting p ≡ 0 =
         ap (number_at c.self.inside.waiting) (sym (owner_eq-true c.args.owner p e)) ∙ (sym c.get.ensures ∙ c.if-get-ne0.false) in
         (omega (arith, is, none, counted, kept), omega (arith, kept))
