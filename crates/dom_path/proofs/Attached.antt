@@ -23,17 +23,17 @@ record IsFound (names : List NodeName) (P : ShadowHost → Type 0) (root host : 
   root_is : root ≡ name_at names at.root
   host_is : name_at names at.host ≡ host
 
-found : (names : List NodeName) (P : ShadowHost → Type 0) (root host : NodeName) (hosts : List ShadowHost) → AllByRecursion P hosts →
+found : (names : List NodeName) (P : ShadowHost → Type 0) (root : NodeName) {host : NodeName} (hosts : List ShadowHost) → AllByRecursion P hosts →
     host_named names hosts root ≡ Some host
     → IsFound names P root host
-found names P root host [] all e = cc
-found names P root host (h ∷ hosts) all e =
+found names P root [] all e = cc
+found names P root {host} (h ∷ hosts) all e =
     by_cases (name_eq root (name_at names h.root))
     (λ t. let both : Some (name_at names h.host) ≡ Some host = sym
     (ap (option_map (λ (k : ShadowHost). name_at names k.host))
     (cond-true (name_eq root (name_at names h.root)) (Some h) (find (λ (k : ShadowHost). name_eq root (name_at names k.root)) hosts) t)) ∙ e in
     record { at = h; such = all.0; root_is = name_eq-true root (name_at names h.root) t; host_is = cc })
-    (λ t. found names P root host hosts all.1
+    (λ t. found names P root hosts all.1
     (sym (ap (option_map (λ (k : ShadowHost). name_at names k.host))
     (cond-false (name_eq root (name_at names h.root)) (Some h) (find (λ (k : ShadowHost). name_eq root (name_at names k.root)) hosts) t)) ∙ e))
 
@@ -59,7 +59,7 @@ theirs-apart names host root (h ∷ hosts) apart e =
     (cond-false (name_eq host (name_at names h.host)) (Some h) (find (λ (k : ShadowHost). name_eq host (name_at names k.host)) hosts) t))
     ∙ e in
     let among = theirs-apart names host root hosts apart.1 rest in
-    let k = found names (λ k. name_eq (name_at names k.root) (name_at names h.root) ≡ false) root host hosts apart.0 among in
+    let k = found names (λ k. name_eq (name_at names k.root) (name_at names h.root) ≡ false) root hosts apart.0 among in
     let test : name_eq root (name_at names h.root) ≡ false = ap (λ y. name_eq y (name_at names h.root)) k.root_is ∙ k.such in
     ap (option_map (λ (k : ShadowHost). name_at names k.host))
     (cond-false (name_eq root (name_at names h.root)) (Some h) (find (λ (k : ShadowHost). name_eq root (name_at names k.root)) hosts) test)
@@ -72,7 +72,7 @@ module _ (f : NamedTrees) (hosts : List ShadowHost) (depth : ℕ) (are : AreAtta
   -- a node with a host above is deeper than it
   deeper : (x host : NodeName) → host_above_at s x ≡ Some host → (owner_depth host.owner < owner_depth x.owner) × (owner_depth x.owner ≤ depth)
   deeper x host e =
-      let k = found f.names (IsAttached f depth) (root_of f.trees x) host hosts are.each e in
+      let k = found f.names (IsAttached f depth) (root_of f.trees x) hosts are.each e in
       let own = ap owner_depth (sym (stays_own f.trees are.owned x.owner x refl).root ∙ ap (λ (y : NodeName). y.owner) k.root_is ∙ k.such.owned) in
       let its = ap (λ (y : NodeName). owner_depth y.owner) k.host_is in
       let less = k.such.deeper in
@@ -99,7 +99,7 @@ module _ (f : NamedTrees) (hosts : List ShadowHost) (depth : ℕ) (are : AreAtta
     where
       by : (o : Option NodeName) → host_named f.names hosts root ≡ o → IsTrue (is_some o) → parent_of f.trees root ≡ None
       by None e k = absurd (true≢false (sym k))
-      by (Some host) e k = let at = found f.names (IsAttached f depth) root host hosts are.each e in ap (parent_of f.trees) at.root_is ∙ at.such.alone
+      by (Some host) e k = let at = found f.names (IsAttached f depth) root hosts are.each e in ap (parent_of f.trees) at.root_is ∙ at.such.alone
 
   pub attached-hosted : IsHosted f hosts depth
   attached-hosted = record { nested = nested; theirs = λ host root e. theirs-apart f.names host root hosts are.apart e; roots = roots }

@@ -120,10 +120,10 @@ module _ (f : NamedTrees) (hosts : List ShadowHost) (once : Once f.trees) (depth
   up-plain x e = cond-false (shadow x) (if composed || not (name_eq x top) then s.host_of x else None) (option_or (slot_at s x) (parent_of f.trees x)) e
 
   -- up a tree
-  climb : (root : NodeName) → ((z : NodeName) → Has f.trees z → root_of f.trees z ≡ root → EndsIf up (plain z) → Ends up z) → EndsIf up (s.host_of root)
-      → (path : List NodeName) (z : NodeName) → Has f.trees z → root_of f.trees z ≡ root → inclusive_ancestors f.trees z ≡ z ∷ path → Ends up z
+  climb : {root : NodeName} → ((z : NodeName) → Has f.trees z → root_of f.trees z ≡ root → EndsIf up (plain z) → Ends up z) → EndsIf up (s.host_of root)
+      → (path : List NodeName) {z : NodeName} → Has f.trees z → root_of f.trees z ≡ root → inclusive_ancestors f.trees z ≡ z ∷ path → Ends up z
   unfolding plain EndsIf
-  climb root again out [] z has of path = again z has of (by_cases (shadow z)
+  climb again out [] {z} has of path = again z has of (by_cases (shadow z)
       (λ e. subst (EndsIf up) (sym (cond-true (shadow z) (up z) (parent_of f.trees z) e))
       (up-shadow z e (subst (λ y. EndsIf up (s.host_of y)) (sym of ∙ alone) out)))
       (λ e. subst (EndsIf up) (sym (cond-false (shadow z) (up z) (parent_of f.trees z) e ∙ none)) tt))
@@ -133,11 +133,11 @@ module _ (f : NamedTrees) (hosts : List ShadowHost) (once : Once f.trees) (depth
 
       alone : root_of f.trees z ≡ z
       alone = root-alone f.trees z has none
-  climb root again out (p ∷ path) z has of is =
+  climb again out (p ∷ path) {z} has of is =
       let parent : parent_of f.trees z ≡ Some p = ap (λ p. first_of (drop 1 p)) is in
       let above = above-parent f.trees z p once has parent in
       let rest : inclusive_ancestors f.trees p ≡ p ∷ path = ap (drop 1) (sym above.0 ∙ is) in
-      let further = climb root again out path p above.1 (sym (root-parent f.trees once z p has parent) ∙ of) rest in
+      let further = climb again out path above.1 (sym (root-parent f.trees once z p has parent) ∙ of) rest in
       again z has of (by_cases (shadow z)
       (λ e. subst (EndsIf up) (sym (cond-true (shadow z) (up z) (parent_of f.trees z) e)) (up-shadow z e (loose parent (s.host_of z) refl)))
       (λ e. subst (EndsIf up) (sym (cond-false (shadow z) (up z) (parent_of f.trees z) e ∙ parent)) further))
@@ -149,7 +149,7 @@ module _ (f : NamedTrees) (hosts : List ShadowHost) (once : Once f.trees) (depth
   -- a whole tree
   tree-ends : (x : NodeName) → Has f.trees x → ((z : NodeName) → Has f.trees z → root_of f.trees z ≡ root_of f.trees x → EndsIf up (plain z) → Ends up z)
       → EndsIf up (s.host_of (root_of f.trees x)) → Ends up x
-  tree-ends x has again out = let path = above-present f.trees x has in climb (root_of f.trees x) again out path.0 x has refl path.1
+  tree-ends x has again out = let path = above-present f.trees x has in climb again out path.0 has refl path.1
 
   -- The slot of a node, with its shadow root.
   record HasSlot (x y : NodeName) : Type 0 where
@@ -181,7 +181,7 @@ module _ (f : NamedTrees) (hosts : List ShadowHost) (once : Once f.trees) (depth
   enters : (x y : NodeName) → Has f.trees x → slot_at s x ≡ Some y → Enters x y
   enters x y has e =
       let k = has-slot x y e in
-      let root = slot-root f hosts once x k.parent k.root y k.up_is k.attached (root_there k.parent k.root k.attached) e depth hosted in
+      let root = slot-root f hosts once x k.up_is k.attached (root_there k.parent k.root k.attached) e hosted in
       let above : host_above_at s y ≡ Some k.parent = ap s.host_of (sym root) ∙ hosted.theirs k.parent k.root k.attached in
       record {
         there = Has-subtree f.trees k.root y once (slot-has (subtree f.trees k.root) (node_in f.trees x) y k.found);

@@ -51,11 +51,11 @@ module _ (f : NamedTrees) (hosts : List ShadowHost) where
   }
 
   -- a node's place, from its parts
-  pub stand-made : (trees : List Tree) (x : PathNode) (node place : ℕ) → x.node ≡ node → x.tree ≡ place →
+  pub stand-made : {trees : List Tree} {x : PathNode} {node place : ℕ} → x.node ≡ node → x.tree ≡ place →
       x.is_shadow_root ≡ is_shadow (node_in f.trees (name_at f.names node)).kind
       → node < length f.names → place < length trees → ((depth : ℕ) → IsHosted f hosts depth → IsTreeOf f trees place (name_at f.names node)) →
       IsPathNode f hosts trees x
-  stand-made trees x node place e g shadow there within is = record {
+  stand-made {trees} {x} {node} {place} e g shadow there within is = record {
     node = subst (λ k. k < length f.names) (sym e) there;
     within = subst (λ k. k < length trees) (sym g) within;
     tree = λ depth hosted. subst (λ k. IsTreeOf f trees k (name_at f.names x.node)) (sym g)
@@ -107,9 +107,10 @@ module _ (f : NamedTrees) (hosts : List ShadowHost) where
     pub there : ForSome to (λ y. (outer < length trees) × IsTreeOf f trees outer y)
 
   -- a tree less to come may be added
-  pub outside-nested : (x : NodeName) (old around left trees : List Tree) (t : Tree) (outer : ℕ) → IsOutside x old around trees outer → around ≡ left ++ t ∷ []
+  pub outside-nested : {x : NodeName} {old around : List Tree} (left : List Tree) {trees : List Tree} (t : Tree) {outer : ℕ} →
+      IsOutside x old around trees outer → around ≡ left ++ t ∷ []
       → IsNested (length trees) (record { root = t.root; host = t.host; outer = outer })
-  outside-nested x old around left trees t outer h e =
+  outside-nested {x} left {trees} t {outer} h e =
       let b = goes-back (Some x) h.to left t (subst (λ ts. GoesOut f hosts (Some x) ts h.to) e h.way) in
       record { within = h.within; behind = λ is. by t.host is b.3 }
     where
@@ -118,10 +119,11 @@ module _ (f : NamedTrees) (hosts : List ShadowHost) where
       by (Some k) is e = (h.there (name_at f.names k) (sym e)).0
 
   -- once it was added
-  pub outside-more : (x : NodeName) (old around left trees new : List Tree) (t : Tree) (outer place : ℕ) → IsOutside x old around trees outer →
+  pub outside-more : {x : NodeName} {old around : List Tree} (left : List Tree) {trees new : List Tree} (t : Tree) {outer place : ℕ} →
+      IsOutside x old around trees outer →
       around ≡ left ++ t ∷ []
       → new ≡ trees ++ record { root = t.root; host = t.host; outer = outer } ∷ [] → place ≡ length trees → IsOutside x old left new place
-  outside-more x old around left trees new t outer place h e is p =
+  outside-more {x} {old} left {trees} {new} t {outer} {place} h e is p =
       let b = goes-back (Some x) h.to left t (subst (λ ts. GoesOut f hosts (Some x) ts h.to) e h.way) in
       let put : Tree = record { root = t.root; host = t.host; outer = outer } in
       let one : length new ≡ suc (length trees) = ap length is ∙ length-append trees (put ∷ []) ∙ (omega arith) in
@@ -130,7 +132,7 @@ module _ (f : NamedTrees) (hosts : List ShadowHost) where
         way = b.1;
         grown = grows-twice old trees new h.grown (put ∷ [], is);
         are = subst (AreTrees f hosts) (sym is)
-            (trees-more trees put h.are (outside-nested x old around left trees t outer h e) (record { root = b.2.nodes.root; host = b.2.nodes.host })
+            (trees-more trees put h.are (outside-nested left t h e) (record { root = b.2.nodes.root; host = b.2.nodes.host })
             (λ depth hosted. record { host = b.2.host; outer = λ k at. (h.there (name_at f.names k) (sym b.3 ∙ ap (option_map (name_at f.names)) at)).1 }));
         within = omega (arith, one, p);
         there = λ y same. (
@@ -141,7 +143,8 @@ module _ (f : NamedTrees) (hosts : List ShadowHost) where
       }
 
   -- with none to come the node's tree is there
-  pub outside-last : (x : NodeName) (old around trees : List Tree) (outer : ℕ) → IsOutside x old around trees outer → (0 < length around → ⊥) →
+  pub outside-last : {x : NodeName} {old : List Tree} (around : List Tree) {trees : List Tree} {outer : ℕ} → IsOutside x old around trees outer →
+      (0 < length around → ⊥) →
       (outer < length trees) × IsTreeOf f trees outer x
-  outside-last x old [] trees outer h e = h.there x (sym h.way)
-  outside-last x old (t ∷ around) trees outer h e = absurd (e (omega arith))
+  outside-last {x} [] h e = h.there x (sym h.way)
+  outside-last (t ∷ around) h e = absurd (e (omega arith))

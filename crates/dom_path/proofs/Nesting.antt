@@ -132,10 +132,10 @@ module _ (trees : List Tree) (nested : AreNested trees) where
   seen-itself viewer node place e = ap (λ o. option_map_or (λ host. seen_up trees place viewer host (outer_of trees place)) o node) e
 
 -- the host by which a tree's nodes are hidden, read at a tree
-pub hiding-is : (trees : List Tree) (viewer place : ℕ) (t : Tree) (b : Bool) → slice_get trees place ≡ Some t →
+pub hiding-is : (trees : List Tree) (viewer place : ℕ) {t : Tree} {b : Bool} → slice_get trees place ≡ Some t →
     is_in nat_eq t.root (roots_around trees viewer) ≡ b
     → hiding_host trees viewer place ≡ (if b then None else t.host)
-hiding-is trees viewer place t b e g =
+hiding-is trees viewer place {t} {b} e g =
     ap (option_and_then (λ (t : Tree). if is_in nat_eq t.root (roots_around trees viewer) then None else t.host)) e ∙
     ap (λ (b : Bool). if b then None else t.host) g
 

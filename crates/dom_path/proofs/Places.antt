@@ -174,7 +174,7 @@ module _ (f : NamedTrees) (hosts : List ShadowHost) (distinct : TellApart f.name
     hiding-picked place a is =
         let k = here place a is in
         let b = is_in nat_eq k.t.root (roots_around trees viewer) in
-        ap (option_map name) (hiding-is trees viewer place k.t b k.at refl) ∙ pick-named f.names k.t.host b ∙
+        ap (option_map name) (hiding-is trees viewer place k.at refl) ∙ pick-named f.names k.t.host b ∙
         (λ j. if around-test place a k j then None else k.above j)
 
     -- whether it is hidden

@@ -70,15 +70,15 @@ module _ (f : NamedTrees) (hosts : List ShadowHost) (once : Once f.trees) where
           subst (λ y. IsTreeOf f trees t.outer y) same (its.outer k e)
 
   -- a parent stands in the node's tree
-  pub tree-parent : (trees : List Tree) (place : ℕ) (x p : NodeName) → Has f.trees x → parent_of f.trees x ≡ Some p → IsTreeOf f trees place x →
+  pub tree-parent : (trees : List Tree) (place : ℕ) (x : NodeName) {p : NodeName} → Has f.trees x → parent_of f.trees x ≡ Some p → IsTreeOf f trees place x →
       IsTreeOf f trees place p
-  tree-parent trees place x p has up is = is ∙ ap Some (root-parent f.trees once x p has up)
+  tree-parent trees place x {p} has up is = is ∙ ap Some (root-parent f.trees once x p has up)
 
   -- a slot stands in the tree of its shadow root
-  pub slot-root : (x p r y : NodeName) → parent_of f.trees x ≡ Some p → root_named f.names hosts p ≡ Some r → Has f.trees r →
-      slot_at (shadows f hosts) x ≡ Some y → (depth : ℕ) → IsHosted f hosts depth
+  pub slot-root : (x : NodeName) {p r y : NodeName} → parent_of f.trees x ≡ Some p → root_named f.names hosts p ≡ Some r → Has f.trees r →
+      slot_at (shadows f hosts) x ≡ Some y → {depth : ℕ} → IsHosted f hosts depth
       → r ≡ root_of f.trees y
-  slot-root x p r y up at has is depth hosted =
+  slot-root x {p} {r} {y} up at has is hosted =
       let found : slot_in (subtree f.trees r) (node_in f.trees x) ≡ Some y =
       ap (λ o. option_and_then (λ q. slot_in (subtree f.trees q) (node_in f.trees x)) o) (sym at)
       ∙ ap (λ o. option_and_then (λ q. slot_in (subtree f.trees q) (node_in f.trees x)) (option_and_then (root_named f.names hosts) o)) (sym up) ∙ is in

@@ -61,9 +61,9 @@ module _ (f : NamedTrees) (hosts : List ShadowHost) (t : NodeName) (r : Option N
       pub way : (depth : ℕ) → IsHosted f hosts depth → (rest : List Item) → Comes depth next rest → IsWay f hosts t r depth composed (items ++ rest)
 
     -- as it begins
-    pub track-first : (trees : List Tree) (items : List Item) (x : PathNode) → items ≡ [] → IsPathNode f hosts trees x → name_at f.names x.node ≡ t →
+    pub track-first : {trees : List Tree} {items : List Item} {x : PathNode} → items ≡ [] → IsPathNode f hosts trees x → name_at f.names x.node ≡ t →
         x.is_entered ≡ false → IsTrack trees items (Some x)
-    track-first trees items x e place named off = subst (λ is. IsTrack trees is (Some x)) (sym e) (record {
+    track-first {trees} {x} e place named off = subst (λ is. IsTrack trees is (Some x)) (sym e) (record {
       place = λ y h. subst (IsPathNode f hosts trees) (let same : x ≡ y = cc in same) place;
       each = tt;
       way = λ depth hosted rest h. begins depth rest h;
@@ -105,15 +105,15 @@ module _ (f : NamedTrees) (hosts : List ShadowHost) (t : NodeName) (r : Option N
               (sym v ∙ ap Some same, h.1 ∙ en y refl ∙ ap (λ z. is_assigned_at (shadows f hosts) z (name_at f.names x.node)) same, h.2)
 
     -- as it ends
-    pub track-last : (trees : List Tree) (items : List Item) (next : Option PathNode) → next ≡ None → IsTrack trees items next → (depth : ℕ) →
+    pub track-last : {trees : List Tree} {items : List Item} {next : Option PathNode} → next ≡ None → IsTrack trees items next → (depth : ℕ) →
         IsHosted f hosts depth → IsWay f hosts t r depth composed items
-    track-last trees items next e track depth hosted =
+    track-last {items} e track depth hosted =
         subst (IsWay f hosts t r depth composed) (append-nil items) (track.way depth hosted [] (subst (λ n. Comes depth n []) (sym e) refl))
 
 -- an event's places stay among more trees
-pub event-kept : (f : NamedTrees) (hosts : List ShadowHost) (trees new : List Tree) (target : PathNode) (related : Option PathNode) → Grows trees new →
+pub event-kept : {f : NamedTrees} {hosts : List ShadowHost} {trees new : List Tree} {target : PathNode} {related : Option PathNode} → Grows trees new →
     IsEvent f hosts trees target related → IsEvent f hosts new target related
-event-kept f hosts trees new target related g h = record {
+event-kept {f} {hosts} {trees} {new} {target} g h = record {
   at_target = stand-kept f hosts trees new target g h.at_target;
   at_related = λ x e. stand-kept f hosts trees new x g (h.at_related x e);
   begins = h.begins;

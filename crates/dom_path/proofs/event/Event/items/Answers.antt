@@ -27,13 +27,12 @@ loop-next-preserved c =
           (ap (λ (i : Item). i.node) c.item.ensures) (ap (λ (i : Item). i.slot_in_closed) c.item.ensures)
           c.in_ok-next.ensures.stands c.in_ok-next.ensures.value c.in_ok-next.ensures.entered;
       are = c.in_ok-next.ensures.trees;
-      event = event-kept f hosts trees new e.target e.related c.in_ok-next.ensures.grown c.loop-next.invariant.event;
+      event = event-kept c.in_ok-next.ensures.grown c.loop-next.invariant.event;
     }
 
 pub returns-clause-way : goal.returns-clause-way
 returns-clause-way c =
     let f = c.args.forest.now in
     let e = c.args.self.now in
-    track-last f c.args.slots.now.hosts (name_at f.names e.target.node) (related_name f.names e.related) e.composed c.loop-next.trees
-    c.loop-next.items.items c.loop-next.next c.in_default.is
+    track-last f c.args.slots.now.hosts (name_at f.names e.target.node) (related_name f.names e.related) e.composed c.in_default.is
     c.loop-next.invariant.track

@@ -29,7 +29,7 @@ returns-then-ends_before-clause-value c = λ depth hosted.
     let t = name_at f.names e.target.node in
     let r = related_name f.names e.related in
     let y = name_at f.names x.node in
-    let event = event-kept f hosts c.args.trees.now new e.target e.related c.in_ok-above.ensures.grown c.requires.event in
+    let event = event-kept c.in_ok-above.ensures.grown c.requires.event in
     let ends : ends_at (shadows f hosts) depth t r y ≡ true =
     sym (ends-named f hosts c.law_nodes_stand_once.ensures.distinct new c.in_ok-above.ensures.trees depth hosted e.target e.related x event.at_target
     event.at_related
@@ -53,7 +53,7 @@ returns-clause-value c = λ depth hosted.
     let t = name_at f.names e.target.node in
     let r = related_name f.names e.related in
     let y = name_at f.names x.node in
-    let event = event-kept f hosts c.args.trees.now new e.target e.related c.in_ok-above.ensures.grown c.requires.event in
+    let event = event-kept c.in_ok-above.ensures.grown c.requires.event in
     let ends : ends_at (shadows f hosts) depth t r y ≡ false =
     sym (ends-named f hosts c.law_nodes_stand_once.ensures.distinct new c.in_ok-above.ensures.trees depth hosted e.target e.related x event.at_target
     event.at_related

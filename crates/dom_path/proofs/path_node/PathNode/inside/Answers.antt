@@ -17,9 +17,9 @@ returns-in_default-slot_below-clause-stands c = λ x e.
     let e' = c.law_nodes_stand_once.ensures in
     let same : c.in_tree.result ≡ x = cc in
     subst (IsPathNode f hosts trees) same
-    (stand-made f hosts trees c.in_tree.result parent self.tree c.in_tree.ensures.node c.in_tree.ensures.tree c.in_tree.ensures.shadow
+    (stand-made f hosts c.in_tree.ensures.node c.in_tree.ensures.tree c.in_tree.ensures.shadow
     (c.in-Some.ensures.node parent refl) c.requires.stands.within
-    (λ depth hosted. tree-parent f hosts (Once-forest f e'.once e'.only) trees self.tree (name_at f.names self.node) (name_at f.names parent)
+    (λ depth hosted. tree-parent f hosts (Once-forest f e'.once e'.only) trees self.tree (name_at f.names self.node)
     (Has-forest f e'.once self.node c.requires.stands.node) (sym c.in-Some.ensures.value) (c.requires.stands.tree depth hosted)))
 
 pub returns-clause-trees : goal.returns-clause-trees
@@ -37,7 +37,7 @@ returns-clause-trees c =
     (trees-more f hosts trees put c.requires.trees (let w = c.requires.stands.within in record { within = omega (arith, w); behind = λ _. w })
     (record { root = below.root_node; host = λ k same. subst (λ j. j < length f.names) (let is : parent ≡ k = cc in is) (c.in-Some.ensures.node parent refl) })
     (tree-entered f hosts (Once-forest f e'.once e'.only) trees self.tree root parent below.attached
-    (λ depth hosted. tree-parent f hosts (Once-forest f e'.once e'.only) trees self.tree (name_at f.names self.node) (name_at f.names parent)
+    (λ depth hosted. tree-parent f hosts (Once-forest f e'.once e'.only) trees self.tree (name_at f.names self.node)
     (Has-forest f e'.once self.node c.requires.stands.node) (sym c.in-Some.ensures.value) (c.requires.stands.tree depth hosted))))
 
 pub returns-clause-stands : goal.returns-clause-stands
@@ -58,10 +58,10 @@ returns-clause-stands c = λ x e.
     let longer = ap length grown ∙ length-append trees (put ∷ []) in
     let same : c.in_tree-2.result ≡ x = cc in
     subst (IsPathNode f hosts new) same
-    (stand-made f hosts new c.in_tree-2.result slot c.in_ok-tree.tree c.in_tree-2.ensures.node c.in_tree-2.ensures.tree c.in_tree-2.ensures.shadow
+    (stand-made f hosts c.in_tree-2.ensures.node c.in_tree-2.ensures.tree c.in_tree-2.ensures.shadow
     below.slot_node (omega (arith, last, longer))
     (λ depth hosted. subst (λ ts. IsTreeOf f ts c.in_ok-tree.tree (name_at f.names slot)) (sym grown)
     (subst (λ k. IsTreeOf f (trees ++ put ∷ []) k (name_at f.names slot)) (sym last)
     (tree-pushed f hosts trees put (name_at f.names slot)
-    (slot-root f hosts (Once-forest f e'.once e'.only) (name_at f.names self.node) (name_at f.names parent) (name_at f.names root) (name_at f.names slot)
-    (sym c.in-Some.ensures.value) below.attached (Has-forest f e'.once root below.root_node) (sym c.in-Some-slot_below.ensures.value) depth hosted)))))
+    (slot-root f hosts (Once-forest f e'.once e'.only) (name_at f.names self.node)
+    (sym c.in-Some.ensures.value) below.attached (Has-forest f e'.once root below.root_node) (sym c.in-Some-slot_below.ensures.value) hosted)))))

@@ -33,7 +33,7 @@ returns-clause-stands c = λ x e.
     ap (option_map (name_at f.names)) (sym c.in_ok-host.ensures) in
     let same : c.in_tree.result ≡ x = cc in
     subst (IsPathNode f hosts trees) same
-    (stand-made f hosts trees c.in_tree.result host c.at-tree.result.outer c.in_tree.ensures.node c.in_tree.ensures.tree c.in_tree.ensures.shadow
+    (stand-made f hosts c.in_tree.ensures.node c.in_tree.ensures.tree c.in_tree.ensures.shadow
     (host-node f.names hosts c.requires.slots.hosts self.node host (sym c.in_ok-host.ensures))
     (let below = (c.requires.trees.nested self.tree c.at-tree.result c.at-tree.ensures).within in let w = c.requires.stands.within in omega
     (arith, below, w))

@@ -1,6 +1,5 @@
 use Rattle.std.proofs.Common.{◌++◌, None, sym, ap, ◌∙◌, arith, true≢false}
 use Rattle.std.specs.Prelude.{is_some, option_to_list}
-use Rattle.dom_tree.specs.Forest.{name_at}
 use Rattle.dom_path.proofs.Goings.{outside-nested, outside-more, outside-last}
 use Rattle.dom_path.proofs.Nesting.{grows-none}
 use Rattle.dom_path.proofs.trees.Trees.add.Goals as goal
@@ -19,21 +18,20 @@ pub push-requires : goal.push-requires
 push-requires c =
     let split = c.pop.ensures.items ∙ ap (λ o. c.pop.new.self.items ++ option_to_list o) c.in-Some.is in
     record {
-      nested = outside-nested c.args.forest.now c.args.slots.now.hosts (name_at c.args.forest.now.names c.args.node) c.args.self.now
-          c.loop-tree.around.items c.pop.new.self.items
-          c.loop-tree.self c.in-Some.tree c.loop-tree.outer c.loop-tree.invariant split;
+      nested = outside-nested c.args.forest.now c.args.slots.now.hosts c.pop.new.self.items
+          c.in-Some.tree c.loop-tree.invariant split;
     }
 
 pub loop-tree-preserved : goal.loop-tree-preserved
 loop-tree-preserved c =
     let split = c.pop.ensures.items ∙ ap (λ o. c.pop.new.self.items ++ option_to_list o) c.in-Some.is in
-    outside-more c.args.forest.now c.args.slots.now.hosts (name_at c.args.forest.now.names c.args.node) c.args.self.now c.loop-tree.around.items
+    outside-more c.args.forest.now c.args.slots.now.hosts
     c.pop.new.self.items
-    c.loop-tree.self c.push.new.self c.in-Some.tree c.loop-tree.outer c.in_ok-outer.outer c.loop-tree.invariant split c.in_ok-outer.ensures.trees
+    c.in-Some.tree c.loop-tree.invariant split c.in_ok-outer.ensures.trees
     c.in_ok-outer.ensures.place
 
 pub returns-clause-within : goal.returns-clause-within
 returns-clause-within c =
-    (outside-last c.args.forest.now c.args.slots.now.hosts (name_at c.args.forest.now.names c.args.node) c.args.self.now c.loop-tree.around.items
-    c.loop-tree.self c.loop-tree.outer c.loop-tree.invariant
+    (outside-last c.args.forest.now c.args.slots.now.hosts c.loop-tree.around.items
+    c.loop-tree.invariant
     (λ h. true≢false (sym (c.pop.ensures.variant.1 h) ∙ ap is_some c.in_default.is))).0

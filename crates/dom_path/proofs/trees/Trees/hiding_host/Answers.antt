@@ -20,7 +20,7 @@ returns-then-encloses c =
     let within : c.args.place < length trees = omega (arith, long, inside) in
     let at = subst (λ ts. slice_get ts c.args.place ≡ Some t) same (slice_get_read trees (length trees) c.args.place t refl within c.index-trees-place.is) in
     let around = subst (λ ts. is_in nat_eq t.root (roots_around ts c.args.viewer) ≡ true) same (sym c.if-encloses.ensures) in
-    sym (hiding-is self c.args.viewer c.args.place t true at around)
+    sym (hiding-is self c.args.viewer c.args.place at around)
 
 pub returns-else-encloses : goal.returns-else-encloses
 returns-else-encloses c =
@@ -33,4 +33,4 @@ returns-else-encloses c =
     let within : c.args.place < length trees = omega (arith, long, inside) in
     let at = subst (λ ts. slice_get ts c.args.place ≡ Some t) same (slice_get_read trees (length trees) c.args.place t refl within c.index-trees-place.is) in
     let around = subst (λ ts. is_in nat_eq t.root (roots_around ts c.args.viewer) ≡ false) same (sym c.if-encloses.ensures) in
-    sym (hiding-is self c.args.viewer c.args.place t false at around)
+    sym (hiding-is self c.args.viewer c.args.place at around)
