@@ -58,9 +58,9 @@ own_key names o xs ns all own i d within =
 module _ (names : List NodeName) (o : Owner) (ns : List ℕ) (i d : ℕ) (within : i < length ns) where
   -- and one more
   pub one_more : (keys : List ℕ) (k : ℕ) → slice_get names k ≡ Some (node_of o (get_or ns i d)) → k < length names →
-      (map (name_at names) keys ≡ map (node_of o) (take i ns)) × All (λ j. j < length names) keys → (more : List ℕ) → more ≡ keys ++ k ∷ []
+      (map (name_at names) keys ≡ map (node_of o) (take i ns)) × All (λ j. j < length names) keys → {more : List ℕ} → more ≡ keys ++ k ∷ []
       → (map (name_at names) more ≡ map (node_of o) (take (i + 1) ns)) × All (λ j. j < length names) more
-  one_more keys k found node so_far more is = (
+  one_more keys k found node so_far is = (
     ap (map (name_at names)) is
         ∙ (map-append (name_at names) keys (k ∷ [])
         ∙ (ap (λ xs. xs ++ name_at names k ∷ []) so_far.0

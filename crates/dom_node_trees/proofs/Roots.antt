@@ -46,9 +46,9 @@ module _ (f : NamedTrees) (hosts : List ShadowHost) (deeper : NodeName → List 
       }
 
   -- with a root that is found they are nodes still
-  pub nodes_within : (keys : List ℕ) (at : Option ℕ) (k : ℕ) → Lists keys at → HostsAreNodes f.names hosts → (r : ℕ) → root_of_host hosts k ≡ Some r →
+  pub nodes_within : {keys : List ℕ} {at : Option ℕ} (k : ℕ) → Lists keys at → HostsAreNodes f.names hosts → {r : ℕ} → root_of_host hosts k ≡ Some r →
       All (λ j. j < length f.names) (keys ++ r ∷ [])
-  nodes_within keys at k lists nodes r root = All-push (λ j. j < length f.names) keys r lists.nodes (root-node f.names hosts nodes k r root)
+  nodes_within {keys} k lists nodes {r} root = All-push (λ j. j < length f.names) keys r lists.nodes (root-node f.names hosts nodes k r root)
 
   module _ (once : IsOnce f.trees) (keys : List ℕ) (at : Option ℕ) (k : ℕ) (is : at ≡ Some k) (lists : Lists keys at) where
     abbrev y : NodeName

@@ -31,9 +31,9 @@ abbrev pub signalled_by : List NodeName → List NodeName → ℕ → List NodeN
 signalled_by names signalled slot = append_once name_eq signalled (name_at names slot)
 
 -- one item more of a fold
-pub fold_next : {X Y : Type 0} (f : Y → X → Y) (z : Y) (xs : List X) (i : ℕ) (x : X) → i < length xs → x ≡ get_or xs i x →
+pub fold_next : {X Y : Type 0} (f : Y → X → Y) (z : Y) (xs : List X) (i : ℕ) {x : X} → i < length xs → x ≡ get_or xs i x →
     fold f z (take (i + 1) xs) ≡ f (fold f z (take i xs)) x
-fold_next f z xs i x within is = fold_more f z xs i x within ∙ ap (f (fold f z (take i xs))) (sym is)
+fold_next f z xs i {x} within is = fold_more f z xs i x within ∙ ap (f (fold f z (take i xs))) (sym is)
 
 queued_names : (names : List NodeName) (tasks : List Task) (keys : List ℕ) →
     fold (queued_by names) tasks keys ≡ fold (λ (ts : List Task) (s : NodeName). queued_notify s.owner ts) tasks (map (name_at names) keys)

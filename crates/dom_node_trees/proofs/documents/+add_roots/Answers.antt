@@ -23,7 +23,7 @@ add_roots-requires t c =
     let found = sym c.root_of.ensures ∙ c.in-Some-root_of.is in
     let nodes = subst (λ (ks : List ℕ). All (λ k. k < length f.names) ks) (sym c.in_ok-push.ensures.items)
     (nodes_within f hosts (roots_within (c.args.depth - 1) f hosts) (map (name_at f.names) c.args.roots.now.items) c.args.top
-    c.loop-at.roots.items c.loop-at.at c.in-Some.node c.loop-at.invariant c.requires.hosts c.in-Some-root_of.root found) in
+    c.in-Some.node c.loop-at.invariant c.requires.hosts found) in
     let less : c.args.depth - 1 < t = (let fuel = c.decreases in let some = c.if-depth-eq0.false in omega arith) in
     (less, (root-node f.names hosts c.requires.hosts c.in-Some.node c.in-Some-root_of.root found, (c.requires.hosts, nodes)))
 

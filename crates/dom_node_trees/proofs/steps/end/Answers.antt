@@ -12,11 +12,11 @@ loop-slot-preserved c = (
   c.in_ok-signal.ensures.signalled
       ∙ (ap (λ xs. append_once name_eq xs (name_at c.args.forest.now.names c.slot-item.result)) c.loop-slot.invariant.0
       ∙ sym (fold_next (signalled_by c.args.forest.now.names) c.args.signalled.now c.deref-slot-items.result.now c.loop-slot.slot-index
-      c.slot-item.result c.loop-slot-test.true c.slot-item.is)),
+      c.loop-slot-test.true c.slot-item.is)),
   c.in_ok-signal.ensures.queue
       ∙ (ap (queued_notify (name_at c.args.forest.now.names c.slot-item.result).owner) c.loop-slot.invariant.1
       ∙ sym (fold_next (queued_by c.args.forest.now.names) c.args.queue.now c.deref-slot-items.result.now c.loop-slot.slot-index
-      c.slot-item.result c.loop-slot-test.true c.slot-item.is)),
+      c.loop-slot-test.true c.slot-item.is)),
 )
 
 pub returns : goal.returns

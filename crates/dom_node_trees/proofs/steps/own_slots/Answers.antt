@@ -14,4 +14,4 @@ loop-number-preserved c =
     let pushed : c.push.new.self.items ≡ c.loop-number.keys.items ++ c.in-Some.key ∷ [] = grind (arith, common_steps) in
     one_more c.args.forest.now.names c.args.owner c.of-number-items.result.now c.loop-number.number-index 0 c.loop-number-test.true
     c.loop-number.keys.items c.in-Some.key (c.in-Some.ensures.found c.in-Some.key refl) (c.in-Some.ensures.node c.in-Some.key refl)
-    c.loop-number.invariant c.push.new.self.items pushed
+    c.loop-number.invariant pushed
