@@ -36,11 +36,11 @@ reverse-mapped f (x ∷ xs) =
     sym (reverse-append (f x ∷ []) (map f xs))
 
 -- what is kept of a list, and then mapped, by a test that agrees
-filter-mapped : {X Y : Type 0} (f : X → Y) (P : X → Type 0) (p : X → Bool) (q : Y → Bool) → ((x : X) → P x → p x ≡ q (f x)) → (xs : List X) →
+filter-mapped : {X Y : Type 0} (f : X → Y) (P : X → Type 0) {p : X → Bool} (q : Y → Bool) → ((x : X) → P x → p x ≡ q (f x)) → (xs : List X) →
     AllByRecursion P xs → map f (filter p xs) ≡ filter q (map f xs)
-filter-mapped f P p q same [] h = refl
-filter-mapped f P p q same (x ∷ xs) h =
-    let rest = filter-mapped f P p q same xs h.1 in
+filter-mapped f P q same [] h = refl
+filter-mapped f P {p} q same (x ∷ xs) h =
+    let rest = filter-mapped f P q same xs h.1 in
     by_cases (p x)
     (λ e. ap (map f) (cond-true (p x) (x ∷ filter p xs) (filter p xs) e) ∙ ap (λ ys. f x ∷ ys) rest ∙
     sym (cond-true (q (f x)) (f x ∷ filter q (map f xs)) (filter q (map f xs)) (sym (same x h.0) ∙ e)))
@@ -71,7 +71,7 @@ module _ (names : List NodeName) (apart : TellApart names) where
       → map (listener_named names) (unlistened nat_eq x event label capture ls) ≡ unlistened name_eq (name x) event label capture
       (map (listener_named names) ls)
   unlistened-named ls h x at event label capture =
-      filter-mapped (listener_named names) (IsListenerAt names) (λ l. not (is_listener nat_eq x event label capture l))
+      filter-mapped (listener_named names) (IsListenerAt names)
       (λ l. not (is_listener name_eq (name x) event label capture l))
       (λ l k. ap not (known x at event label capture l k)) ls h
 
@@ -194,7 +194,7 @@ module _ (names : List NodeName) (apart : TellApart names) where
       where
         hear : map (listener_named names) (filter (hears nat_eq e v) s.listeners) ≡ filter (hears name_eq e (visit_named names v))
             (map (listener_named names) s.listeners)
-        hear = filter-mapped (listener_named names) (IsListenerAt names) (hears nat_eq e v) (hears name_eq e (visit_named names v))
+        hear = filter-mapped (listener_named names) (IsListenerAt names) (hears name_eq e (visit_named names v))
             (λ l k. ap (λ b. b && (text_eq l.words.event e.event && beq l.words.capture v.capturing))
             (key-test names apart l.node v.current k at)) s.listeners h
 
@@ -269,7 +269,7 @@ module _ (names : List NodeName) (apart : TellApart names) where
         let up = filter (λ v. e.bubbles || is_at_target nat_eq v) vs in
         let down_views = all-reverse (IsViewOf names) vs g in
         let up_views = all-kept (IsViewOf names) (λ v. e.bubbles || is_at_target nat_eq v) vs g in
-        let up_named = filter-mapped (view_named names) (IsViewOf names) (λ v. e.bubbles || is_at_target nat_eq v)
+        let up_named = filter-mapped (view_named names) (IsViewOf names)
         (λ v. e.bubbles || is_at_target name_eq v) (λ v k. ap (λ b. e.bubbles || b) (target-named v k)) vs g in
         visits-named (visits_of nat_eq e.bubbles vs)
         (both-at (map (visit_of nat_eq true) down) (map (visit_of nat_eq false) up) (along-at true down down_views)

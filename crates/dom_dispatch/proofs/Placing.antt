@@ -42,10 +42,10 @@ places-append k n (x ∷ xs) ys = by (is_of_node k x) (places-append k (n + 1) x
     by false rest = rest
 
 -- the places with one entry more
-pub places-more : (k : ℕ) (es : List (Option Entry)) (e : Entry) (before now : List ℕ) → before ≡ places_from k 0 es →
+pub places-more : (k : ℕ) (es : List (Option Entry)) (e : Entry) {before now : List ℕ} → before ≡ places_from k 0 es →
     now ≡ (if nat_eq e.node k then before ++ length es ∷ [] else before)
     → now ≡ places_from k 0 (es ++ Some e ∷ [])
-places-more k es e before now was is =
+places-more k es e was is =
     is ∙ ap (λ ps. if nat_eq e.node k then ps ++ length es ∷ [] else ps) was ∙ by (nat_eq e.node k)
     ∙ sym (places-append k 0 es (Some e ∷ []) ∙ ap (λ m. places_from k 0 es ++ places_from k m (Some e ∷ [])) (omega arith))
   where
@@ -153,9 +153,9 @@ module _ (k : ℕ) where
     pub number : length (places_from k n before) ≡ at
 
   -- a list parted at an entry is so with one place more in front
-  further : (n : ℕ) (o : Option Entry) (b : Bool) → is_of_node k o ≡ b → (es : List (Option Entry)) (i j : ℕ) → IsParted (n + 1) es i j →
+  further : (n : ℕ) (o : Option Entry) {b : Bool} → is_of_node k o ≡ b → {es : List (Option Entry)} {i j : ℕ} → IsParted (n + 1) es i j →
       IsParted n (o ∷ es) (if b then suc i else i) j
-  further n o b is es i j s = record {
+  further n o {b} is {i} s = record {
     before = o ∷ s.before;
     after = s.after;
     entry = s.entry;
@@ -171,11 +171,11 @@ module _ (k : ℕ) where
 
   parted-from : (n : ℕ) (es : List (Option Entry)) (at j : ℕ) → slice_get (places_from k n es) at ≡ Some j → IsParted n es at j
   parted-from n [] at j h = cc
-  parted-from n (None ∷ es) at j h = further n None false refl es at j (parted-from (n + 1) es at j h)
+  parted-from n (None ∷ es) at j h = further n None refl (parted-from (n + 1) es at j h)
   parted-from n (Some e ∷ es) at j h = by_cases (nat_eq e.node k)
       (λ is. first (λ i g. parted-from (n + 1) es i j g) is at
       (ap (λ (b : Bool). slice_get (if b then n ∷ places_from k (n + 1) es else places_from k (n + 1) es) at) (sym is) ∙ h))
-      (λ is. further n (Some e) false is es at j
+      (λ is. further n (Some e) is
       (parted-from (n + 1) es at j (ap (λ (b : Bool). slice_get (if b then n ∷ places_from k (n + 1) es else places_from k (n + 1) es) at)
       (sym is) ∙ h)))
     where
@@ -183,7 +183,7 @@ module _ (k : ℕ) where
           slice_get (n ∷ places_from k (n + 1) es) at ≡ Some j → IsParted n (Some e ∷ es) at j
       first again is zero g = let same : n ≡ j =
           cc in record { before = []; after = es; entry = e; whole = refl; own = is; place = omega (arith, same); number = refl }
-      first again is (suc i) g = further n (Some e) true is es i j (again i g)
+      first again is (suc i) g = further n (Some e) is (again i g)
 
   pub parted : (es : List (Option Entry)) (at j : ℕ) → slice_get (places_from k 0 es) at ≡ Some j → IsParted 0 es at j
   parted es at j h = parted-from 0 es at j h

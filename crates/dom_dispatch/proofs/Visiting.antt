@@ -33,9 +33,9 @@ map-cond f true x = refl
 map-cond f false x = refl
 
 -- one more is kept, or not
-pub kept-more : {X Y : Type 0} (f : X → Y) (p : X → Bool) (xs : List X) (i : ℕ) (x : X) → i < length xs → x ≡ get_or xs i x
+pub kept-more : {X Y : Type 0} (f : X → Y) (p : X → Bool) (xs : List X) (i : ℕ) {x : X} → i < length xs → x ≡ get_or xs i x
     → map f (filter p (take i xs)) ++ cond (p x) (f x ∷ []) [] ≡ map f (filter p (take (i + 1) xs))
-kept-more f p xs i x h g =
+kept-more f p xs i {x} h g =
     let here = filter p (take i xs) in
     sym (ap (map f) (filter_more p xs i x h ∙ ap (λ y. here ++ cond (p y) (y ∷ []) []) (sym g)) ∙ map-append f here (cond (p x) (x ∷ []) []) ∙
     ap (λ ys. map f here ++ ys) (map-cond f (p x) x))
@@ -54,13 +54,13 @@ module _ {D V W : Type 0} (step : D → W → D) (g : V → W) where
       let done = map g (filter p (take i vs)) in
       a ∙ sym (fold-cond (p v) before (g v)) ∙ ap (λ d. fold step d (cond (p v) (g v ∷ []) [])) b
       ∙ sym (fold-append step from done (cond (p v) (g v ∷ []) []))
-      ∙ ap (fold step from) (kept-more g p vs i v (slice_get_within vs i v at) (sym (get_or_from_slice_get vs i v v at)))
+      ∙ ap (fold step from) (kept-more g p vs i (slice_get_within vs i v at) (sym (get_or_from_slice_get vs i v v at)))
 
   -- the next visit from the end
-  pub captured-more : (vs : List V) (k n : ℕ) (v : V) → n ≡ suc k → slice_get vs k ≡ Some v → (from before after : D) →
+  pub captured-more : (vs : List V) {k n : ℕ} {v : V} → n ≡ suc k → slice_get vs k ≡ Some v → (from : D) {before after : D} →
       before ≡ fold step from (map g (reverse (drop n vs)))
       → after ≡ step before (g v) → after ≡ fold step from (map g (reverse (drop k vs)))
-  captured-more vs k n v next at from before after b a =
+  captured-more vs {k} {v} next at from b a =
       let rest = reverse (drop (suc k) vs) in
       let all : drop k vs ≡ v ∷ drop (suc k) vs =
       drop-cons vs k v (slice_get_within vs k v at) ∙ ap (λ x. x ∷ drop (suc k) vs) (get_or_from_slice_get vs k v v at) in
@@ -93,11 +93,11 @@ views-of names [] h = tt
 views-of names (v ∷ vs) h = (record { node = h.0.node; target = h.0.target }, views-of names vs h.1)
 
 -- a dispatch by keys is the dispatch in each world
-pub dispatched-in : (f : NamedTrees) (hosts : List ShadowHost) → TellApart f.names →
-    (before after : List (Listener ℕ)) (target : ℕ) (related : Option ℕ) (e : EventWords) (outcome : Outcome)
+pub dispatched-in : {f : NamedTrees} {hosts : List ShadowHost} → TellApart f.names →
+    {before after : List (Listener ℕ)} {target : ℕ} {related : Option ℕ} {e : EventWords} {outcome : Outcome}
     → IsDispatched f hosts before after target related e outcome → AllByRecursion (IsListenerAt f.names) before →
     IsDispatchedIn f hosts before after target related e outcome
-dispatched-in f hosts apart before after target related e outcome d at w is has =
+dispatched-in {f} apart {before} {target} {related} {e} d at w is has =
     let far = dispatched-along f.names apart before at d.shown (views-of f.names d.shown d.nodes) w has (name_at f.names target)
     (option_map (name_at f.names) related) e (d.path w is) in (
       λ o. far.0 o ∙ ap (λ (ls : List (Listener ℕ)). record (part_of w o)

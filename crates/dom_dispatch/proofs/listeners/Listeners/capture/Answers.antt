@@ -13,9 +13,8 @@ loop-at-preserved c =
     let v = view-there path.trees path.items path.views c.items-at.ensures.views (c.loop-at.at - 1) within in
     record {
       within = omega (arith, c.loop-at.invariant.within);
-      visits = captured-more (visited nat_eq (event_words c.args.event.now)) (visit_of nat_eq true) path.views (c.loop-at.at - 1) c.loop-at.at v.0 next v.1
-          (dispatching_in c.args.self.now c.args.so_far.now) (dispatching_in c.loop-at.self c.loop-at.so_far)
-          (dispatching_in c.visit.new.self c.visit.new.so_far)
+      visits = captured-more (visited nat_eq (event_words c.args.event.now)) (visit_of nat_eq true) path.views next v.1
+          (dispatching_in c.args.self.now c.args.so_far.now)
           c.loop-at.invariant.visits (c.in_ok-visit.ensures.visit v.0 v.1);
       owners = c.in_ok-visit.ensures.owners;
     }

@@ -35,5 +35,4 @@ returns-clause-keys c =
 
 pub returns-clause-names : goal.returns-clause-names
 returns-clause-names c =
-    dispatched-in c.args.forest.now c.args.slots.now.hosts c.law_nodes_stand_once.ensures.distinct c.args.self.now c.bubble.new.self c.args.target
-    c.args.event.related (event_words c.args.event) _ (returns-clause-keys c)
+    dispatched-in c.law_nodes_stand_once.ensures.distinct (returns-clause-keys c)

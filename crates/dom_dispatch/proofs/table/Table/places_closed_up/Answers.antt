@@ -26,7 +26,7 @@ loop-entry-preserved c =
             within = omega (arith, w.count-is, inv.within);
             indexed = λ k.
                 ap (λ p. places_at p k) w.places-is
-                ∙ places-more k done e (places_at kept k) (places_at w.push.new.self k) (w.in_ok-reserve.ensures.places k ∙ inv.indexed k)
+                ∙ places-more k done e (w.in_ok-reserve.ensures.places k ∙ inv.indexed k)
                 (w.push.ensures k ∙ ap (λ n. if nat_eq e.node k then places_at kept k ++ n ∷ [] else places_at kept k) inv.counted)
                 ∙ ap (places_from k 0) (sym more);
           }

@@ -12,7 +12,7 @@ returns-clause-indexed c = λ k.
     let es = room.entries.items in
     let place : c.len.result ≡ length es = omega (arith, c.len.ensures, room.entries.ok) in
     let kept = c.reserve.new.self in
-    places-more k es entry (places_at kept k) (places_at c.push.new.self k) (c.reserve.ensures.places k ∙ c.make_room.ensures.indexed k)
+    places-more k es entry (c.reserve.ensures.places k ∙ c.make_room.ensures.indexed k)
     (c.push.ensures k ∙ ap (λ j. if nat_eq entry.node k then places_at kept k ++ j ∷ [] else places_at kept k) place)
     ∙ ap (places_from k 0) (sym c.push_reserved.ensures.items)
 
