@@ -180,17 +180,17 @@ module _ (f : NamedTrees) (was : AllTables) (held : IsDoc f.names f.trees was) (
       let same : owner_depth o ≡ depth = ap (λ (x : NodeName). owner_depth x.owner) e ∙ sym is in
       may_attach-from o (there_word f was held o (held.present host within_names)) (omega (arith, same, few))
 
-  pub components_of : (y : NodeName) → name_at f.names host ≡ y → MayAttach (name_at f.names host).owner →
+  pub components_of : {y : NodeName} → name_at f.names host ≡ y → MayAttach (name_at f.names host).owner →
       (j k : ℕ) → j ≤ k → count_of (component_made y.owner j) f.names ≡ 0 → count_of (component_made y.owner k) f.names ≡ 0
-  components_of y e may =
+  components_of e may =
       subst (λ (z : NodeName). (j k : ℕ) → j ≤ k → count_of (component_made z.owner j) f.names ≡ 0 → count_of (component_made z.owner k) f.names ≡ 0) e
       (components_run f was held o may)
 
   -- the count that is made of the owner's components
-  pub count_at : (y : NodeName) → name_at f.names host ≡ y → MayAttach (name_at f.names host).owner → (r : ℕ) →
+  pub count_at : {y : NodeName} → name_at f.names host ≡ y → MayAttach (name_at f.names host).owner → (r : ℕ) →
       ((k : ℕ) → k < r → count_of (component_made y.owner k) f.names ≢ 0) →
       (r < 1000 → count_of (component_made y.owner r) f.names ≡ 0) → r ≤ 1000 → r ≡ count_hosts f.names was.slots.hosts (name_at f.names host).owner
-  count_at y e may r =
+  count_at e may r =
       subst (λ (z : NodeName). ((k : ℕ) → k < r → count_of (component_made z.owner k) f.names ≢ 0) →
       (r < 1000 → count_of (component_made z.owner r) f.names ≡ 0) → r ≤ 1000 → r ≡ count_hosts f.names was.slots.hosts o) e
       (count_is f was held o may r)
@@ -250,9 +250,9 @@ module _ (f : NamedTrees) (was : AllTables) (held : IsDoc f.names f.trees was) (
       (ap (λ b. refusal_from b may (count_hosts f.names was.slots.hosts o) room) (sym e) ∙ refusal_is)
 
   -- its owner's word has all the numbers that it may
-  pub refused_depth : hosted ≡ false → may ≡ true → (y : NodeName) → name_at f.names host ≡ y → (depth : ℕ) → depth ≡ owner_depth y.owner →
+  pub refused_depth : hosted ≡ false → may ≡ true → {y : NodeName} → name_at f.names host ≡ y → {depth : ℕ} → depth ≡ owner_depth y.owner →
       max_depth ≤ depth → Some Limit ≡ attaching_refusal (part_of d.world (owner_in d host)) (name_in d host)
-  refused_depth e m y at depth is full =
+  refused_depth e m at {depth} is full =
       let same : owner_depth o ≡ depth = ap (λ (x : NodeName). owner_depth x.owner) at ∙ sym is in
       let off : room ≡ false = room_is ∙ le-ltb (owner_depth o) max_depth (omega (arith, same, full)) in
       sym (past (nat_lt 1000 (count_hosts f.names was.slots.hosts o + 1)) room off) ∙ limited e m

@@ -230,7 +230,7 @@ module _ (f g : NamedTrees) (was now : AllTables) (host : ℕ) (d : Option NodeN
   own_after q =
       subst (AreTablesOf (named_trees g.names g.trees) q) (sym (own_rest q))
       (subst (λ (h : NamedTrees). AreTablesOf h q (was.each q)) (λ i. named_trees (sym more.names i) (sym more.trees i))
-      (tables_more f.names (shadow_root_of c) f.trees (new_root (shadow_root_of c) Shadow d) refl new_name q (was.each q) (held.own q)))
+      (tables_more f.names (shadow_root_of c) f.trees (new_root (shadow_root_of c) Shadow d) refl new_name (held.own q)))
 
   -- none of its nodes was there before
   uncounted : (k : ℕ) → k < length f.names → (name_at f.names k).owner ≢ c
@@ -257,7 +257,7 @@ module _ (f g : NamedTrees) (was now : AllTables) (host : ℕ) (d : Option NodeN
     due = subst (λ (ts : List Task). AllByRecursion (IsDue (world_from g.names g.trees now)) ts) (sym more.tasks)
         (due_kept (world_from f.names f.trees was) (world_from g.names g.trees now) there_after was.tasks held.due);
     ranges = subst (AreRangesOf (contents g.names g.trees now)) (sym more.ranges)
-        (ranges_attached (contents f.names f.trees was) (contents g.names g.trees now) was.ranges c (name_at f.names host) d
+        (ranges_attached
         is_new one held.ranges);
     numbered = subst AreNumbered (sym more.names)
         (subst (λ n. AreNumbered (f.names ++ node_of c n ∷ [])) (count_none c f.names uncounted) (numbered_more f.names c held.numbered));

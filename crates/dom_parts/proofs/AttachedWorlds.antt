@@ -139,7 +139,7 @@ module _ (a : Contents) (hosts : List ShadowHost) (held : AreHostsOf a hosts) (m
 
     marked_world : world_of marked ≡ with_part (world_of a) marked_part
     marked_world =
-        changed a marked m marked_part (single_hosted a hosts held) there record {
+        changed a marked m (single_hosted a hosts held) there record {
           owners = refl;
           signalled = refl;
           tasks = refl;

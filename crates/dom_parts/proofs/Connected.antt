@@ -77,9 +77,9 @@ module _ (w : World) where
   chain_begins (suc depth) x = (flat_map (hosts_from depth w) (option_to_list (host_above w x)), refl)
 
   -- with a host it is that of the host
-  from_host : (depth : ℕ) (x h a : NodeName) (path : List NodeName) → host_above w x ≡ Some h → ancestors_at w h ≡ a ∷ path →
+  from_host : (depth : ℕ) (x : NodeName) {h a : NodeName} {path : List NodeName} → host_above w x ≡ Some h → ancestors_at w h ≡ a ∷ path →
       connected_from (suc depth) x ≡ connected_from depth h
-  from_host depth x h a path above stands =
+  from_host depth x {h} {a} {path} above stands =
       ap (λ (hs : List NodeName). is_document (kind_at w (unwrap_or (last_of (flat_map (ancestors_at w) hs)) x))) chain
       ∙ (ap (λ (p : List NodeName). is_document (kind_at w (unwrap_or (last_of (ancestors_at w x ++ p)) x))) behind
       ∙ (ap (λ (o : Option NodeName). is_document (kind_at w (unwrap_or o x))) (last_behind None (ancestors_at w x) a later)
@@ -146,7 +146,7 @@ module _ (s : ShadowTrees) (w : World) (shown : IsShownBy s w) (stands : (r h : 
               connected_from w (suc depth) x ≡ is_document (kind_of s.trees (outermost_root s (suc depth) (root_of s.trees x)))
           at [] i = let there = stands (root_of s.trees x) h host in let gone = path_gone s.trees h i in absurd (omega (arith, there, gone))
           at (a ∷ path) i =
-              from_host w depth x h a path e
+              from_host w depth x e
               (ap (λ (ts : Trees). inclusive_ancestors ts h) (shown.trees h.owner) ∙ (sym (read_own s.trees shown.owned h.owner h refl).path ∙ i))
               ∙ (above h ∙ ap (λ r. is_document (kind_of s.trees r)) (sym (outermost_some s depth (root_of s.trees x) h host)))
 

@@ -23,7 +23,7 @@ use Rattle.dom_tree.specs.Owners.{trees_of_owner}
 use Rattle.dom_tree.proofs.Owned.{stays_own}
 use Rattle.dom_traversal.specs.Iterators.{KeyedIterator, iterator_view, iterator_at}
 use Rattle.dom_traversal.specs.Walkers.{KeyedWalker, walker_view, walker_at}
-use Rattle.dom_parts.specs.Contents.{part_with, part_in}
+use Rattle.dom_parts.specs.Contents.{part_with}
 use Rattle.dom_cursors.specs.OwnTables.{KeyedTables, no_keyed_tables}
 use Rattle.dom_cursors.proofs.Owners.{with-own, with-other}
 use Rattle.dom_parts.specs.AllTables.{AreTablesOf, AllTables, with_table}
@@ -105,7 +105,7 @@ module _ (names : List NodeName) (ts : Trees) (tables : AllTables) (held : IsDoc
       Makes o c v (world_from names ts tables) (world_from names ts tables)
   makes_read c v is = (
     ap (λ p. effect p c) part_was ∙ is ∙ ap (λ p. Effect.tables p [] v) (sym part_was),
-    changed (contents names ts tables) (contents names ts tables) o (part_in (contents names ts tables) o) (single_owners names ts tables held)
+    changed (contents names ts tables) (contents names ts tables) o (single_owners names ts tables held)
         there (record { owners = refl; signalled = refl; tasks = refl; own = refl; others = λ q other. refl })
         ∙ ap (with_part (world_from names ts tables)) (sym (part_at (contents names ts tables) o there)),
   )
@@ -126,7 +126,7 @@ module _ (names : List NodeName) (ts : Trees) (tables : AllTables) (held : IsDoc
         ])
         (λ p off. with-other tables.each o u p (λ same. true≢false (sym there ∙ ap (is_there (world_from names ts tables)) (sym same) ∙ off)) ∙ held.idle p off)
         held.made record { free = held.signals.free; slots = held.signals.slots; nodes = held.signals.nodes } held.speaks held.unobserved held.due
-        (ranges_stay (contents names ts tables) (contents names ts (with_table tables o u)) tables.ranges held.ranges refl refl (λ p. refl)) held.numbered
+        (ranges_stay (contents names ts (with_table tables o u)) held.ranges refl refl (λ p. refl)) held.numbered
 
     there_set : is_there (world_from names ts (with_table tables o u)) o ≡ true
     there_set = there_same (contents names ts (with_table tables o u)) (contents names ts tables) refl o ∙ there
@@ -139,7 +139,7 @@ module _ (names : List NodeName) (ts : Trees) (tables : AllTables) (held : IsDoc
         Makes o c v (world_from names ts tables) (world_from names ts (with_table tables o u))
     makes_set c v is = (
       ap (λ p. effect p c) part_was ∙ is ∙ ap (λ p. Effect.tables p [] v) (sym part_now),
-      changed (contents names ts tables) (contents names ts (with_table tables o u)) o (part_of (world_from names ts (with_table tables o u)) o)
+      changed (contents names ts tables) (contents names ts (with_table tables o u)) o
           (single_owners names ts tables held) there record {
             owners = refl;
             signalled = refl;

@@ -113,9 +113,9 @@ module _ (names : List NodeName) (ts : Trees) (tables : AllTables) (held : IsDoc
       AreSlotsOf (named_trees names (f ts)) tables.slots → IsDoc names (f ts) tables
   held_changed o there f change keeps slots =
       held_with names ts tables held o there names (f ts) tables refl change.owned change.others held.present held.limited
-      (λ p. tables_kept names ts (f ts) keeps p (tables.each p) (held.own p)) held.idle held.made
+      (λ p. tables_kept names ts (f ts) keeps (held.own p)) held.idle held.made
       record { free = held.signals.free; slots = slots; nodes = held.signals.nodes } held.speaks held.unobserved held.due
-      (ranges_stay (contents names ts tables) (contents names (f ts) tables) tables.ranges held.ranges refl refl (λ p. refl)) held.numbered
+      (ranges_stay (contents names (f ts) tables) held.ranges refl refl (λ p. refl)) held.numbered
 
   -- other observers
   pub held_observers : (observers : Owner → TablesOf ℕ) → ((p : Owner) → SpeaksOf (IsKey names) (observers p)) →
@@ -132,7 +132,7 @@ module _ (names : List NodeName) (ts : Trees) (tables : AllTables) (held : IsDoc
     speaks = speaks;
     unobserved = λ o off. unobserved o (sym (who o) ∙ off);
     due = due_kept (world_from names ts tables) (world_from names ts (with_observers tables observers)) (λ o on. who o ∙ on) tables.tasks held.due;
-    ranges = ranges_stay (contents names ts tables) (contents names ts (with_observers tables observers)) tables.ranges held.ranges refl refl (λ o. refl);
+    ranges = ranges_stay (contents names ts (with_observers tables observers)) held.ranges refl refl (λ o. refl);
     numbered = held.numbered;
   }
     where
@@ -153,6 +153,6 @@ module _ (names : List NodeName) (ts : Trees) (tables : AllTables) (held : IsDoc
     speaks = held.speaks;
     unobserved = held.unobserved;
     due = due_kept (world_from names ts tables) (world_from names ts (with_queue tables tasks)) (λ o on. on) tasks due;
-    ranges = ranges_stay (contents names ts tables) (contents names ts (with_queue tables tasks)) tables.ranges held.ranges refl refl (λ o. refl);
+    ranges = ranges_stay (contents names ts (with_queue tables tasks)) held.ranges refl refl (λ o. refl);
     numbered = held.numbered;
   }

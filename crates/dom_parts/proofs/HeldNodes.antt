@@ -82,11 +82,11 @@ module _ (names : List NodeName) (ts : Trees) (tables : AllTables) (held : IsDoc
       held_with names ts tables held o there grown (with_node n ts) tables refl own_change.owned own_change.others
       (present_more names ts tables (next_name o names) there held.present)
       (λ p. limited_more names o p (count_of o names) (held.limited o) (held.limited p) room)
-      (λ p. tables_more names (next_name o names) ts n is new p (tables.each p) (held.own p)) held.idle
+      (λ p. tables_more names (next_name o names) ts n is new (held.own p)) held.idle
       (made_renamed names grown (names_pushed names (next_name o names)) [] tables.slots.hosts tt held.signals.slots.hosts held.made)
       record { free = held.signals.free; slots = slots; nodes = names_grown names (next_name o names) tables.signalled held.signals.nodes }
       (λ p. speaks_grown names (next_name o names) (tables.observers p) (held.speaks p)) held.unobserved held.due
-      (ranges_grown (contents names ts tables) (contents grown (with_node n ts) tables) tables.ranges (next_name o names) held.ranges refl refl
+      (ranges_grown (contents grown (with_node n ts) tables) (next_name o names) held.ranges refl refl
       (named_grown names (next_name o names) tables.ranges held.ranges.own)) (numbered_more names o held.numbered)
 
   -- each owner's tables are the same in names
@@ -252,9 +252,9 @@ given_up g tables empty first =
     subst (λ (p : NamedTrees). IsDoc p.names p.trees tables) (sym empty) (subst (IsDoc [] none) (sym first.all) (empty_held tables.ranges first.no_ranges))
 
 -- with the first one
-pub first_held : (g : NamedTrees) (tables : AllTables) (n : Node) → n.name ≡ node_of Page 0 → AreFirst tables → g.names ≡ node_of Page 0 ∷ [] →
+pub first_held : (g : NamedTrees) {tables : AllTables} (n : Node) → n.name ≡ node_of Page 0 → AreFirst tables → g.names ≡ node_of Page 0 ∷ [] →
     g.trees ≡ with_node n none → IsDoc g.names g.trees tables
-first_held g tables n is one names trees =
+first_held g {tables} n is one names trees =
     let first = with_live first_tables tables.ranges in
     subst (IsDoc g.names g.trees) (sym one.all)
     (subst (λ ns. IsDoc ns g.trees first) (sym names)

@@ -47,7 +47,7 @@ module _ (a : Contents) (hosts : List ShadowHost) (held : AreHostsOf a hosts) (o
   document_stepped = stepped_hosted a hosts held o there (document_in d a x) (set_document x d) part_changed
 
   pub document_hosted : AreHostsOf (document_in d a x) hosts
-  document_hosted = hosts_stepped a (document_in d a x) hosts o (set_document x d) held there (names_same a.names) change.owned part_changed
+  document_hosted = hosts_stepped (set_document x d) held there (names_same a.names) change.owned part_changed
 
 -- the shadow trees of components, one after another
 shadows_stepped : (a : Contents) (hosts : List ShadowHost) (d : NodeName) (os : List Owner) → AreHostsOf a hosts →

@@ -148,9 +148,9 @@ attached_step p (set_range k r) = refl
 attached_step p (queue_record c) = refl
 
 -- so what is held has the same hosts after it
-pub hosts_stepped : (a b : Contents) (hosts : List ShadowHost) (o : Owner) (s : Step) → AreHostsOf a hosts → is_there (world_of a) o ≡ true
+pub hosts_stepped : {a b : Contents} {hosts : List ShadowHost} {o : Owner} (s : Step) → AreHostsOf a hosts → is_there (world_of a) o ≡ true
     → KeepsNames a.names b.names → AreOwned b.trees → IsChangeOf a b o (part_step (part_in a o) s) → AreHostsOf b hosts
-hosts_stepped a b hosts o s held there keeps owned change = record {
+hosts_stepped {a} {b} {hosts} {o} s held there keeps owned change = record {
   owners = change.owners ∙ held.owners;
   made = made_renamed a.names b.names keeps [] hosts tt held.nodes held.made;
   nodes = nodes_renamed a.names b.names keeps hosts held.nodes;
@@ -178,7 +178,7 @@ module _ (a : Contents) (hosts : List ShadowHost) (held : AreHostsOf a hosts) (o
   -- the step in its owner's part, before what follows elsewhere
   pub stepped_hosted : (b : Contents) (s : Step) → IsChangeOf a b o (part_step (part_in a o) s) → world_of b ≡ stepped o (world_of a) s
   stepped_hosted b s change =
-      changed a b o (part_step (part_in a o) s) (single_hosted a hosts held) there change ∙
+      changed a b o (single_hosted a hosts held) there change ∙
       ap (λ (p : Part). Rattle.dom_model.specs.World.with_part (world_of a) (part_step p s)) (sym (part_at a o there))
 
   -- a step after which nothing follows elsewhere, with hosts or without
@@ -225,7 +225,7 @@ module _ (a : Contents) (hosts : List ShadowHost) (held : AreHostsOf a hosts) (o
 
     -- the hosts stay
     pub hosts_moved : (s : Step) → IsChangeOf a moved o (part_step (part_in a o) s) → AreHostsOf moved hosts
-    hosts_moved s change = hosts_stepped a moved hosts o s held there (names_same a.names) owned change
+    hosts_moved s change = hosts_stepped s held there (names_same a.names) owned change
 
     -- the slots that the hosts tell are those of the world
     told : (s : Step) → IsChangeOf a moved o (part_step (part_in a o) s) → (x around : NodeName) (is_move : Bool)

@@ -136,11 +136,11 @@ module _ (names : List NodeName) where
       (if b then Some h else find (λ g. name_eq x (name_at names g.root)) hosts)) miss ∙ host_none (earlier ++ h ∷ []) hosts x made.1 other
 
   -- the host of a component is at its place among its maker's
-  host_from : (earlier hosts : List ShadowHost) (o m : Owner) (i : ℕ) → made_by o ≡ Some (m, count_hosts names earlier m + i) →
+  host_from : (earlier hosts : List ShadowHost) (o : Owner) {m : Owner} (i : ℕ) → made_by o ≡ Some (m, count_hosts names earlier m + i) →
       AreMadeBehind names earlier hosts → host_named names hosts (shadow_root_of o) ≡ slice_get (attached_of names hosts m) i
-  host_from earlier [] o m i named made = refl
-  host_from earlier (h ∷ hosts) o m i named made =
-      at (cases_Bool (owner_eq (maker_of names h) m)) i named (λ j again. host_from (earlier ++ h ∷ []) hosts o m j again made.1)
+  host_from earlier [] o i named made = refl
+  host_from earlier (h ∷ hosts) o {m} i named made =
+      at (cases_Bool (owner_eq (maker_of names h) m)) i named (λ j again. host_from (earlier ++ h ∷ []) hosts o j again made.1)
     where
       looked : (b : Bool) → name_eq (shadow_root_of o) (name_at names h.root) ≡ b → host_named names (h ∷ hosts) (shadow_root_of o) ≡
           (if b then Some (name_at names h.host) else host_named names hosts (shadow_root_of o))
@@ -257,7 +257,7 @@ module _ (c : Contents) (hosts : List ShadowHost) (held : AreHostsOf c hosts) wh
       by (Some (maker, k)) e =
           ap (option_and_then (λ (m : Owner × ℕ). slice_get (part_of (world_of c) m.0).attached m.1)) e
           ∙ (ap (λ xs. slice_get xs k) (attached_hosted maker)
-          ∙ sym (host_from c.names [] hosts o maker k (e ∙ ap (λ n. Some (maker, n)) (sym (zero-add k))) held.made))
+          ∙ sym (host_from c.names [] hosts o k (e ∙ ap (λ n. Some (maker, n)) (sym (zero-add k))) held.made))
 
   -- The world has just these trees and hosts: so its slots, assigned nodes and signals are those of the hosts
   -- (`law_slots_are_of_worlds` of dom_slots).

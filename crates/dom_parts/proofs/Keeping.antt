@@ -28,9 +28,9 @@ use Rattle.dom_parts.proofs.OwnNodes.{adjusted_own}
 
 -- ---- where nothing that stands above a node ceases to
 
-iterator_kept : (names : List NodeName) (ts us : Trees) → KeepsAbove ts us → (o : Owner) (i : KeyedIterator) →
+iterator_kept : (names : List NodeName) (ts us : Trees) → KeepsAbove ts us → {o : Owner} {i : KeyedIterator} →
     IsOwnIterator (named_trees names ts) o i → IsOwnIterator (named_trees names us) o i
-iterator_kept names ts us keeps o i h = record {
+iterator_kept names ts us keeps {i} h = record {
   stands = record {
     root = h.stands.root;
     reference = record { node = h.stands.reference.node; within = keeps (name_at names i.root) (name_at names i.reference) h.stands.reference.within };
@@ -42,10 +42,10 @@ walker_kept : (names : List NodeName) (ts us : Trees) (o : Owner) (w : KeyedWalk
     IsOwnWalker (named_trees names us) o w
 walker_kept names ts us o w h = record { stands = record { root = h.stands.root; current = h.stands.current }; own = h.own; own_current = h.own_current }
 
-pub tables_kept : (names : List NodeName) (ts us : Trees) → KeepsAbove ts us → (o : Owner) (t : KeyedTables) →
+pub tables_kept : (names : List NodeName) (ts us : Trees) → KeepsAbove ts us → {o : Owner} {t : KeyedTables} →
     AreTablesOf (named_trees names ts) o t → AreTablesOf (named_trees names us) o t
-tables_kept names ts us keeps o t h = record {
-  iterators = λ k i e. iterator_kept names ts us keeps o i (h.iterators k i e);
+tables_kept names ts us keeps {o} h = record {
+  iterators = λ k i e. iterator_kept names ts us keeps (h.iterators k i e);
   walkers = λ k w e. walker_kept names ts us o w (h.walkers k w e);
   few_iterators = h.few_iterators;
   few_walkers = h.few_walkers;
@@ -105,9 +105,9 @@ module _ (names : List NodeName) (x : NodeName) where
   speaks_grown r = speaks_more (IsKey names) (IsKey (names ++ x ∷ [])) (λ k less. let longer = length_push names x in omega arith) r
 
   -- and what holds of them stays so, where the name is a new one
-  pub tables_more : (ts : Trees) (n : Node) → n.name ≡ x → ((k : ℕ) → k < length names → name_at names k ≢ x) → (o : Owner) (t : KeyedTables)
+  pub tables_more : (ts : Trees) (n : Node) → n.name ≡ x → ((k : ℕ) → k < length names → name_at names k ≢ x) → {o : Owner} {t : KeyedTables}
       → AreTablesOf (named_trees names ts) o t → AreTablesOf (named_trees (names ++ x ∷ []) (with_node n ts)) o t
-  tables_more ts n is new o t h = record {
+  tables_more ts n is new {o} h = record {
     iterators = λ k i e. iterator_more i (h.iterators k i e);
     walkers = λ k w e. walker_more w (h.walkers k w e);
     few_iterators = h.few_iterators;

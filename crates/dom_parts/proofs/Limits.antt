@@ -41,9 +41,9 @@ within_limit names ts {tables} held o = elim (cases_Bool (is_there (world_from n
   | inr off ↦ ap (λ (p : Part). past_limit p.node_count 0) (part_off (contents names ts tables) o off)
 ]
 
-pub limit_held : (f : NamedTrees) {tables : AllTables} (d : DocState) → state_from f.names f.trees tables ≡ d → IsDoc f.names f.trees tables →
+pub limit_held : (f : NamedTrees) {tables : AllTables} {d : DocState} → state_from f.names f.trees tables ≡ d → IsDoc f.names f.trees tables →
     (o : Owner) → is_there d.world o ≡ true
     → {P : Type 0} → (P ↔ (count_of o f.names ≡ 1000000)) → P ↔ (past_limit (part_of d.world o).node_count 1 ≡ true)
-limit_held f {tables} d is_d held o there {P} limit =
+limit_held f {tables} is_d held o there {P} limit =
     subst (λ (e : DocState). is_there e.world o ≡ true → P ↔ (past_limit (part_of e.world o).node_count 1 ≡ true)) is_d
     (λ h. let both = limit_at f.names f.trees tables held o h in (λ p. both.0 (limit.0 p), λ e. limit.1 (both.1 e))) there

@@ -103,7 +103,7 @@ module _ (names : List NodeName) (ts : Trees) (tables : AllTables) (held : IsDoc
       -- the world then
       pub seen_world : (p : Part) → with_seen (named_tables (name_at names) r) ≡ p →
           world_from names ts (with_observers tables seen) ≡ with_part (world_from names ts tables) p
-      seen_world p same = changed (contents names ts tables) (contents names ts (with_observers tables seen)) o p
+      seen_world p same = changed (contents names ts tables) (contents names ts (with_observers tables seen)) o
           (single_owners names ts tables held) there (change_seen p same)
 
       part_then : part_of (world_from names ts (with_observers tables seen)) o ≡ with_seen (named_tables (name_at names) r)

@@ -1,5 +1,5 @@
 -- What cursors read of an owner's nodes in the trees of all owners is what they read in the owner's own trees.
-use Rattle.std.proofs.Common.{◌≡◌, Bool, true, false, ◌&&◌, ◌||◌, List, [], ◌∷◌, ◌++◌, Option, Some, None, refl, ap, subst, ◌∙◌, inl, inr}
+use Rattle.std.proofs.Common.{◌≡◌, Bool, true, false, ◌&&◌, ◌||◌, List, [], ◌∷◌, ◌++◌, Option, Some, refl, ap, subst, ◌∙◌, inl, inr}
 use Rattle.std.specs.Prelude.{filter, find, drop, if◌then◌else◌}
 use Rattle.std.specs.List.{list_any, list_all, last_or}
 use Rattle.std.proofs.lemmas.Option.{none-some, same_Some}
@@ -58,13 +58,13 @@ pub each_first : (P : NodeName → Type 0) (xs : List NodeName) (y : NodeName) �
 each_first P [] y h e = absurd (none-some y e)
 each_first P (x ∷ xs) y h e = subst P (same_Some x y e) h.0
 
-each_last_from : (P : NodeName → Type 0) (o : Option NodeName) (xs : List NodeName) (y : NodeName) → ((z : NodeName) → o ≡ Some z → P z) →
+each_last_from : (P : NodeName → Type 0) {o : Option NodeName} (xs : List NodeName) {y : NodeName} → ((z : NodeName) → o ≡ Some z → P z) →
     Each P xs → last_or o xs ≡ Some y → P y
-each_last_from P o [] y g h e = g y e
-each_last_from P o (x ∷ xs) y g h e = each_last_from P (Some x) xs y (λ z is. subst P (same_Some x z is) h.0) h.1 e
+each_last_from P [] {y} g h e = g y e
+each_last_from P (x ∷ xs) g h e = each_last_from P xs (λ z is. subst P (same_Some x z is) h.0) h.1 e
 
 pub each_last : (P : NodeName → Type 0) (xs : List NodeName) (y : NodeName) → Each P xs → last_of xs ≡ Some y → P y
-each_last P xs y h e = each_last_from P None xs y (λ z none. absurd (none-some z none)) h e
+each_last P xs y h e = each_last_from P xs (λ z none. absurd (none-some z none)) h e
 
 pub each_find : (P : NodeName → Type 0) (p : NodeName → Bool) (xs : List NodeName) (y : NodeName) → Each P xs → find p xs ≡ Some y → P y
 each_find P p [] y h e = absurd (none-some y e)

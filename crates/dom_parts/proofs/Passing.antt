@@ -148,11 +148,11 @@ module _ (f : NamedTrees) {tables : AllTables} (held : IsDoc f.names f.trees tab
   name_known k less = subst (λ (e : DocState). k < length e.names) is_d less
 
 -- a walker that moved is one of its owner
-pub walk_stays : (f : NamedTrees) → AreOwned f.trees → (o : Owner) (w : KeyedWalker) → IsOwnWalker f o w → (m : Move) (r : Option ℕ) →
+pub walk_stays : {f : NamedTrees} → AreOwned f.trees → {o : Owner} {w : KeyedWalker} → IsOwnWalker f o w → (m : Move) (r : Option ℕ) →
     option_map (name_at f.names) r ≡ walker_move f.trees (walker_view f.names w) m
     → IsWalkerOf f (walker_at w r) → IsOwnWalker f o (walker_at w r)
-walk_stays f owned o w h m None value kept = record { stands = kept; own = h.own; own_current = h.own_current }
-walk_stays f owned o w h m (Some j) value kept =
+walk_stays owned h m None value kept = record { stands = kept; own = h.own; own_current = h.own_current }
+walk_stays {f} owned {o} {w} h m (Some j) value kept =
     record {
       stands = kept;
       own = h.own;

@@ -31,9 +31,9 @@ module _ (o : Owner) where
     others = λ b h. ap (λ t. cond (t && nat_lt index b.offset) (at parent (b.offset + count)) b) (apart parent own b h);
   }
 
-  pub removal_rule : (ts : Trees) → AreOwned ts → (x parent : NodeName) (index : ℕ) → x.owner ≡ o → parent.owner ≡ o →
+  pub removal_rule : {ts : Trees} → AreOwned ts → (x parent : NodeName) (index : ℕ) → x.owner ≡ o → parent.owner ≡ o →
       IsRuleOf o (after_removal name_eq (is_inclusive_ancestor ts x) parent index)
-  removal_rule ts owned x parent index is own = record {
+  removal_rule {ts} owned x parent index is own = record {
     stays = λ b h.
         either_own o (is_inclusive_ancestor ts x b.node) (at parent index)
         (cond (name_eq b.node parent && nat_lt index b.offset) (at parent (b.offset - 1)) b) own

@@ -89,7 +89,7 @@ module _ (f : NamedTrees) {tables : AllTables} (held : IsDoc f.names f.trees tab
           { ranges = slice_set (part_of w o).ranges k (Some g) } =
           ap (λ rs. record p { ranges = rs }) one ∙ ap (λ (q : Part). record q { ranges = slice_set q.ranges k (Some g) }) (sym here) in
           ap (λ (v : World). state f.names v)
-          (changed c (ranged u c) o (record p { ranges = named_ranges f.names (slice_set own k (Some r)) }) (single_owners f.names f.trees tables held)
+          (changed c (ranged u c) o (single_owners f.names f.trees tables held)
           there_now (set_change c tables.ranges u held.ranges o there_now (slice_set own k (Some r)) set)
           ∙ ap (with_part w) part)
         where

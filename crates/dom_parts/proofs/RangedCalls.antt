@@ -64,7 +64,7 @@ module _ (c : Contents) (t u : RangeLists) (ranges : AreRangesOf c t) (o : Owner
       → Makes o command v (world_of c) (world_of (ranged u c))
   set_makes single command v is = (
     ap (λ p. effect p command) (part_at c o there) ∙ (is ∙ ap (λ p. Effect.tables p [] v) (sym part_now)),
-    changed c (ranged u c) o (record (part_in c o) { ranges = named_ranges c.names rs }) single there set_change ∙ ap (with_part (world_of c)) (sym part_now),
+    changed c (ranged u c) o single there set_change ∙ ap (with_part (world_of c)) (sym part_now),
   )
 
   -- the table is that of what is held then

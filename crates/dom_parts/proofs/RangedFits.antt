@@ -25,10 +25,10 @@ use Rattle.dom_parts.proofs.RangedLists.{each_both}
 
 -- what holds of all ranges by names holds of those over keys
 each_named : (P : Option (Range NodeName) → Type 0) (names : List NodeName) (rs : RangeList) → AllByRecursion P (named_ranges names rs) →
-    (k : ℕ) (r : Range ℕ) → slice_get rs k ≡ Some (Some r) → P (Some (named_range names r))
-each_named P names [] all k r e = cc
-each_named P names (s ∷ rs) all zero r e = subst (λ o. P (option_map (named_range names) o)) (same_Some s (Some r) e) all.0
-each_named P names (s ∷ rs) all (suc k) r e = each_named P names rs all.1 k r e
+    (k : ℕ) {r : Range ℕ} → slice_get rs k ≡ Some (Some r) → P (Some (named_range names r))
+each_named P names [] all k e = cc
+each_named P names (s ∷ rs) all zero {r} e = subst (λ o. P (option_map (named_range names) o)) (same_Some s (Some r) e) all.0
+each_named P names (s ∷ rs) all (suc k) e = each_named P names rs all.1 k e
 
 -- a choice of points
 fits_if : (t : Bool) (b c : Boundary ℕ) → (t ≡ true → Fits b) → Fits c → Fits (cond t b c)
@@ -63,7 +63,7 @@ module _ (c : Contents) (t : RangeLists) (ranges : AreRangesOf c t) (o : Owner) 
   bounded bounds x k r e =
       let all : AllByRecursion (EndsWithin (part_in c o).trees) (named_ranges c.names (ranges_of t o)) =
       subst (AllByRecursion (EndsWithin (part_in c o).trees)) (ranges.shown o) bounds.ranges in
-      let both = each_named (EndsWithin (part_in c o).trees) c.names (ranges_of t o) all k r e in (
+      let both = each_named (EndsWithin (part_in c o).trees) c.names (ranges_of t o) all k e in (
         λ at_x. subst (λ j. r.start.offset ≤ length_of (part_in c o).trees (name_at c.names j)) (eqb-true r.start.node x at_x) both.0,
         λ at_x. subst (λ j. r.end.offset ≤ length_of (part_in c o).trees (name_at c.names j)) (eqb-true r.end.node x at_x) both.1,
       )

@@ -14,9 +14,9 @@ use Rattle.dom_parts.proofs.RangedLists.{own_at_nodes}
 use Rattle.dom_parts.proofs.Worlds.{there_same}
 
 -- the same names, owners and ranges
-pub ranges_stay : (a b : Contents) (t : RangeLists) → AreRangesOf a t → b.names ≡ a.names → b.owners ≡ a.owners →
+pub ranges_stay : {a : Contents} (b : Contents) {t : RangeLists} → AreRangesOf a t → b.names ≡ a.names → b.owners ≡ a.owners →
     ((o : Owner) → (b.tables o).ranges ≡ (a.tables o).ranges) → AreRangesOf b t
-ranges_stay a b t held names owners same = record {
+ranges_stay {a} b {t} held names owners same = record {
   shown = λ o. same o ∙ (held.shown o ∙ ap (λ ns. named_ranges ns (ranges_of t o)) (sym names));
   own = subst (λ ns. AreOwnRanges ns t) (sym names) held.own;
   few = held.few;
@@ -45,9 +45,9 @@ module _ (names : List NodeName) (x : NodeName) (t : RangeLists) (own : AreOwnRa
       }
 
 -- a node more of an owner that is there
-pub ranges_grown : (a b : Contents) (t : RangeLists) (x : NodeName) → AreRangesOf a t → b.names ≡ a.names ++ x ∷ [] → b.owners ≡ a.owners →
+pub ranges_grown : {a : Contents} (b : Contents) {t : RangeLists} (x : NodeName) → AreRangesOf a t → b.names ≡ a.names ++ x ∷ [] → b.owners ≡ a.owners →
     ((o : Owner) → (b.tables o).ranges ≡ (a.tables o).ranges) → AreRangesOf b t
-ranges_grown a b t x held names owners same = record {
+ranges_grown {a} b {t} x held names owners same = record {
   shown = λ o. same o ∙ (held.shown o ∙ (sym (named_grown a.names x t held.own o) ∙ ap (λ ns. named_ranges ns (ranges_of t o)) (sym names)));
   own = subst (λ ns. AreOwnRanges ns t) (sym names) (own_grown a.names x t held.own);
   few = held.few;

@@ -30,33 +30,33 @@ pub own_at_nodes : (names : List NodeName) (t : RangeLists) → AreOwnRanges nam
 own_at_nodes names t own o = EachRange-weaker (IsOwnPoint names o) (IsAtNode names) (λ b h. h.node) (ranges_of t o) (own o)
 
 -- ranges whose ends a rule leaves are left
-unmoved : (names : List NodeName) (o q : Owner) → q ≢ o → (g : Boundary NodeName → Boundary NodeName) → IsRuleOf o g → (rs : RangeList) →
+unmoved : (names : List NodeName) {o : Owner} (q : Owner) → q ≢ o → {g : Boundary NodeName → Boundary NodeName} → IsRuleOf o g → (rs : RangeList) →
     EachRange (BothEnds (IsOwnPoint names q)) rs
     → named_ends_by g (named_ranges names rs) ≡ named_ranges names rs
-unmoved names o q other g of [] own = refl
-unmoved names o q other g of (None ∷ rs) own = ap (λ zs. None ∷ zs) (unmoved names o q other g of rs (λ k r e. own (suc k) r e))
-unmoved names o q other g of (Some r ∷ rs) own =
+unmoved names q other of [] own = refl
+unmoved names q other of (None ∷ rs) own = ap (λ zs. None ∷ zs) (unmoved names q other of rs (λ k r e. own (suc k) r e))
+unmoved names q other {g} of (Some r ∷ rs) own =
     let here = own 0 r refl in
     let left : (b : Boundary ℕ) → IsOwnPoint names q b → g (named_boundary names b) ≡ named_boundary names b =
     λ b h. of.others (named_boundary names b) (λ e. other (sym h.owner ∙ e)) in
     cons_same (Some (map_ends g (named_range names r))) (Some (named_range names r)) (named_ends_by g (named_ranges names rs)) (named_ranges names rs)
     (ap (λ b. Some (from_to b (g (named_boundary names r.end)))) (left r.start here.0) ∙ ap (λ b. Some (from_to (named_boundary names r.start) b))
     (left r.end here.1))
-    (unmoved names o q other g of rs (λ k s e. own (suc k) s e))
+    (unmoved names q other of rs (λ k s e. own (suc k) s e))
 
 -- rules that agree at an owner's points do the same to its ranges
-pub agreed : (names : List NodeName) (o : Owner) (g h : Boundary NodeName → Boundary NodeName) →
+pub agreed : (names : List NodeName) {o : Owner} {g h : Boundary NodeName → Boundary NodeName} →
     ((b : Boundary NodeName) → b.node.owner ≡ o → g b ≡ h b) → (rs : RangeList) → EachRange (BothEnds (IsOwnPoint names o)) rs
     → named_ends_by g (named_ranges names rs) ≡ named_ends_by h (named_ranges names rs)
-agreed names o g h same [] own = refl
-agreed names o g h same (None ∷ rs) own = ap (λ zs. None ∷ zs) (agreed names o g h same rs (λ k r e. own (suc k) r e))
-agreed names o g h same (Some r ∷ rs) own =
+agreed names same [] own = refl
+agreed names same (None ∷ rs) own = ap (λ zs. None ∷ zs) (agreed names same rs (λ k r e. own (suc k) r e))
+agreed names {g} {h} same (Some r ∷ rs) own =
     let here = own 0 r refl in
     cons_same (Some (map_ends g (named_range names r))) (Some (map_ends h (named_range names r))) (named_ends_by g (named_ranges names rs))
     (named_ends_by h (named_ranges names rs))
     (ap (λ b. Some (from_to b (g (named_boundary names r.end)))) (same (named_boundary names r.start) here.0.owner) ∙
     ap (λ b. Some (from_to (h (named_boundary names r.start)) b)) (same (named_boundary names r.end) here.1.owner))
-    (agreed names o g h same rs (λ k s e. own (suc k) s e))
+    (agreed names same rs (λ k s e. own (suc k) s e))
 
 -- ---- one boundary point
 
@@ -105,7 +105,7 @@ module _ (names : List NodeName) (o : Owner) (f : Boundary ℕ → Boundary ℕ)
   -- the others' stay
   pub named_others : (q : Owner) → q ≢ o → named_ranges names (ranges_of u q) ≡ named_ranges names (ranges_of t q)
   named_others q other = ap (named_ranges names) (moved q) ∙
-      (rule (ranges_of t q) (own_at_nodes names t own q) ∙ unmoved names o q other g of (ranges_of t q) (own q))
+      (rule (ranges_of t q) (own_at_nodes names t own q) ∙ unmoved names q other of (ranges_of t q) (own q))
 
   -- all ends stay at nodes of their owners
   pub own_moved : ((q : Owner) → EachRange (BothEnds (λ b. Fits (f b))) (ranges_of t q)) → AreOwnRanges names u

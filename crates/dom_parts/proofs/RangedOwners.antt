@@ -31,9 +31,9 @@ in_more o c (q ∷ os) (inl e) = inl e
 in_more o c (q ∷ os) (inr h) = inr (in_more o c os h)
 
 -- a component is attached
-pub ranges_attached : (a b : Contents) (t : RangeLists) (c : Owner) (x : NodeName) (d : Option NodeName) → is_there (world_of a) c ≡ false →
+pub ranges_attached : {a b : Contents} {t : RangeLists} {c : Owner} {x : NodeName} {d : Option NodeName} → is_there (world_of a) c ≡ false →
     IsAttached a b c x d → AreRangesOf a t → AreRangesOf b t
-ranges_attached a b t c x d off one held = record {
+ranges_attached {a} {b} {t} {c} {x} off one held = record {
   shown = λ o. lists o ∙ (sym (named_grown a.names (shadow_root_of c) t held.own o) ∙ ap (λ ns. named_ranges ns (ranges_of t o)) (sym one.names));
   own = subst (λ ns. AreOwnRanges ns t) (sym one.names) (own_grown a.names (shadow_root_of c) t held.own);
   few = held.few;

@@ -175,7 +175,7 @@ module _ (c : Contents) (t u : RangeLists) (ranges : AreRangesOf c t) (apart : T
         → IsChangeOf c (ranged u b) o (part_step (part_in c o) (take_out (name_at c.names x))) × Holds removal_by_keys b
     removal_ranged moved change =
         let law = removal-named (named_trees c.names c.trees) apart x parent (index_of c.trees (name_at c.names x)) above in
-        let of = removal_rule o c.trees owned (name_at c.names x) (name_at c.names parent) (index_of c.trees (name_at c.names x)) own own_parent in
+        let of = removal_rule o owned (name_at c.names x) (name_at c.names parent) (index_of c.trees (name_at c.names x)) own own_parent in
         let f = removal_by_keys in let g =
         after_removal name_eq (is_inclusive_ancestor c.trees (name_at c.names x)) (name_at c.names parent)
         (index_of c.trees (name_at c.names x)) in
@@ -184,7 +184,7 @@ module _ (c : Contents) (t u : RangeLists) (ranges : AreRangesOf c t) (apart : T
         let left = lifted c t u ranges o f g law.0 law.1 of moved b names (left_part (name_at c.names x) (name_at c.names parent)) change in
         let ends : named_ends_by g (c.tables o).ranges ≡ named_ends_by h (c.tables o).ranges =
         ap (named_ends_by g) (ranges.shown o) ∙
-        (agreed c.names o g h same_rule (ranges_of t o) (ranges.own o) ∙ ap (named_ends_by h) (sym (ranges.shown o))) in (
+        (agreed c.names same_rule (ranges_of t o) (ranges.own o) ∙ ap (named_ends_by h) (sym (ranges.shown o))) in (
           record {
             owners = left.owners;
             signalled = left.signalled;

@@ -93,7 +93,7 @@ module _ (f : NamedTrees) {tables : AllTables} (held : IsDoc f.names f.trees tab
         (held_with f.names f.trees tables held (name_at f.names k).owner (owner_there f held is_d k k<) f.names (h f.trees)
         (with_signals next after) here.hosts change.owned change.others held.present held.limited own idle held.made
         record { free = here.held.free; slots = here.held.slots; nodes = here.held.nodes } speaks unobserved due_then
-        (ranges_stay (contents f.names (h f.trees) next) (contents f.names (h f.trees) (with_signals next after)) live stand refl
+        (ranges_stay (contents f.names (h f.trees) (with_signals next after)) stand refl
         (ap (λ (hs : List ShadowHost). Page ∷ host_owners hs) here.hosts) (λ p. refl)) held.numbered))
 
     build : List ShadowHost → List NodeName → List Task → Contents
@@ -139,9 +139,9 @@ module _ {T E : Type 0} (m g : NamedTrees) (mid last : AllTables) where
       subst (λ (p : NamedTrees). IsDoc p.names p.trees last) (sym forest) (subst (IsDoc m.names m.trees) (sym tables) held)
   settled_held (Err e) forest tables empty first held = given_up g last empty first
 
-  pub settled_state : (d : DocState) (r q : Result T E) → q ≡ r → OnOk r (g ≡ m) → OnOk r (last ≡ mid) →
+  pub settled_state : (d : DocState) {r q : Result T E} → q ≡ r → OnOk r (g ≡ m) → OnOk r (last ≡ mid) →
       OnOk r (state_from m.names m.trees mid ≡ d) → OnOk q (state_from g.names g.trees last ≡ d)
-  settled_state d r q same forest tables state = subst (λ p. OnOk p (state_from g.names g.trees last ≡ d)) (sym same) (by r forest tables state)
+  settled_state d {r} same forest tables state = subst (λ p. OnOk p (state_from g.names g.trees last ≡ d)) (sym same) (by r forest tables state)
     where
       by : (p : Result T E) → OnOk p (g ≡ m) → OnOk p (last ≡ mid) → OnOk p (state_from m.names m.trees mid ≡ d) → OnOk p (state_from g.names g.trees last ≡ d)
       by (Ok x) forest tables state = ap (λ (p : NamedTrees). state_from p.names p.trees last) forest ∙ (ap (state_from m.names m.trees) tables ∙ state)
@@ -165,10 +165,10 @@ module _ (f : NamedTrees) {tables : AllTables} (held : IsDoc f.names f.trees tab
     (signals : OnOk r (HasSignalled f.names f.trees m.trees s None (signals_of tables) after))
     (settled : Settled m g (with_signals tables after) last r q) where
   pub own_kept : (p : Owner) → AreTablesOf (named_trees f.names (h f.trees)) p (tables.each p)
-  own_kept p = tables_kept f.names f.trees (h f.trees) keeps p (tables.each p) (held.own p)
+  own_kept p = tables_kept f.names f.trees (h f.trees) keeps (held.own p)
 
   pub ranges_kept : AreRangesOf (contents f.names (h f.trees) tables) tables.ranges
-  ranges_kept = ranges_stay (contents f.names f.trees tables) (contents f.names (h f.trees) tables) tables.ranges held.ranges refl refl (λ p. refl)
+  ranges_kept = ranges_stay (contents f.names (h f.trees) tables) held.ranges refl refl (λ p. refl)
 
   pub tree_held : IsDoc g.names g.trees last
   tree_held =
@@ -183,7 +183,7 @@ module _ (f : NamedTrees) {tables : AllTables} (held : IsDoc f.names f.trees tab
       (world_from f.names f.trees tables) (t f.names)
       → OnOk q (state_from g.names g.trees last ≡ stepped (owner_in d k) (t d.names) d)
   tree_state t e =
-      settled_state m g (with_signals tables after) last (stepped (owner_in d k) (t d.names) d) r q settled.result settled.forest settled.tables
+      settled_state m g (with_signals tables after) last (stepped (owner_in d k) (t d.names) d) settled.result settled.forest settled.tables
       (on_three r names trees signals (λ ns us sig. signalled_state f held is_d k k< tables.each h change own_kept held.idle tables.observers
       held.speaks held.unobserved tables.ranges ranges_kept m ns us s None after sig t e))
 
@@ -271,9 +271,9 @@ module _ (f : NamedTrees) {tables : AllTables} (held : IsDoc f.names f.trees tab
       (record tables { each = each; observers = seen; ranges = live })) live
   live_then =
       let was = contents f.names f.trees tables in
-      ranges_stay (ranged live gone_contents)
+      ranges_stay
       (contents f.names (taken_out (name_at f.names k) f.trees)
-      (record tables { each = each; observers = seen; ranges = live })) live
+      (record tables { each = each; observers = seen; ranges = live }))
       ((removal_ranged was tables.ranges live held.ranges apart (name_at f.names k).owner held.owned gone_contents refl k parent node at_parent
       refl (sym is_parent) is_live changed).1
       (removal_fits was tables.ranges held.ranges (name_at f.names k).owner (is_inside f k) parent (index_of f.trees (name_at f.names k)) small))
@@ -289,7 +289,7 @@ module _ (f : NamedTrees) {tables : AllTables} (held : IsDoc f.names f.trees tab
   pub removal_state : OnOk q (state_from g.names g.trees last ≡ stepped (owner_in d k) (take_out (name_in d k)) d)
   removal_state =
       settled_state m g (with_signals (with_live (with_observers (record tables { each = each }) seen) live) after) last
-      (stepped (owner_in d k) (take_out (name_in d k)) d) r q settled.result settled.forest settled.tables
+      (stepped (owner_in d k) (take_out (name_in d k)) d) settled.result settled.forest settled.tables
       (on_three r names trees left (λ ns us l. signalled_state f held is_d k k< each
       (taken_out (name_at f.names k)) gone own_left idle_left seen speaks_then off_then live live_then m ns us (Removal k) l.left after l.signals
       (λ xs. take_out (name_at xs k))

@@ -40,7 +40,7 @@ module _ (f : NamedTrees) {tables : AllTables} (held : IsDoc f.names f.trees tab
       speaks = held.speaks;
       unobserved = held.unobserved;
       due = due_kept (world_from f.names f.trees tables) (world_from f.names f.trees (record tables { signalled = rest })) (λ p on. on) tables.tasks held.due;
-      ranges = ranges_stay (contents f.names f.trees tables) (contents f.names f.trees (record tables { signalled = rest })) tables.ranges
+      ranges = ranges_stay (contents f.names f.trees (record tables { signalled = rest }))
           held.ranges refl refl (λ p. refl);
       numbered = held.numbered;
     }

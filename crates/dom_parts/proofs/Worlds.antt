@@ -115,9 +115,9 @@ abbrev world_with : List Part → List NodeName → List Task → World
 world_with ps ss ts = record { parts = ps; signalled = ss; tasks = ts; turn = None }
 
 -- then the world has that part written
-pub changed : (a b : Contents) (o : Owner) (p : Part) → Single a.owners → is_there (world_of a) o ≡ true → IsChangeOf a b o p →
+pub changed : (a b : Contents) (o : Owner) {p : Part} → Single a.owners → is_there (world_of a) o ≡ true → IsChangeOf a b o p →
     world_of b ≡ with_part (world_of a) p
-changed a b o p single there change =
+changed a b o {p} single there change =
     ap (λ os. world_with (map (part_in b) os) b.signalled b.tasks) change.owners
     ∙ ap (λ ps. world_with ps b.signalled b.tasks) (put_in a b o p change.own change.others a.owners single (there_in a o there))
     ∙ ap (λ ss. world_with (put_part (map (part_in a) a.owners) p) ss b.tasks) change.signalled

@@ -45,7 +45,7 @@ returns-clause-world c =
     (added_held asks c.self.view_is c.self.invariant c.requires.owner_is_there).1.1
 
 pub returns-clause-limit : goal.returns-clause-limit
-returns-clause-limit c = limit_held c.self.inside.forest c.args.self.now c.self.view_is c.self.invariant c.args.owner c.requires.owner_is_there
+returns-clause-limit c = limit_held c.self.inside.forest c.self.view_is c.self.invariant c.args.owner c.requires.owner_is_there
     c.add-added.ensures.limit
 
 pub returns-clause-err : goal.returns-clause-err

@@ -40,7 +40,7 @@ returns-then-depth-ge-MAX_DEPTH-clause-refusal c =
     c.self.view_is c.args.host c.requires
     (sym (ap is_some c.root_of.ensures) ∙ (sym c.is_some.ensures ∙ c.if-is_some.false))
     (ap may_be_host (sym c.element.ensures) ∙ (sym c.may_be_host.ensures ∙ c.if-not-may_be_host.false))
-    c.name-maker.result c.name-maker.ensures.at c.depth.result c.depth.ensures (deep c.depth.result c.if-depth-ge-MAX_DEPTH.true)
+    c.name-maker.ensures.at c.depth.ensures (deep c.depth.result c.if-depth-ge-MAX_DEPTH.true)
 
 pub count_made-number-requires-clause-deep : goal.count_made-number-requires-clause-deep
 count_made-number-requires-clause-deep c =
@@ -49,7 +49,7 @@ count_made-number-requires-clause-deep c =
 pub count_made-number-requires-clause-run : goal.count_made-number-requires-clause-run
 count_made-number-requires-clause-run c =
     components_of c.self.inside.forest (all_tables c.self.inside) c.self.invariant c.law_nodes_stand_once.ensures.distinct c.args.self.now
-    c.self.view_is c.args.host c.requires c.name-maker.result c.name-maker.ensures.at
+    c.self.view_is c.args.host c.requires c.name-maker.ensures.at
     (may_of_depth c.self.inside.forest (all_tables c.self.inside) c.self.invariant c.law_nodes_stand_once.ensures.distinct c.args.self.now
     c.self.view_is c.args.host c.requires c.name-maker.result c.name-maker.ensures.at c.depth.result c.depth.ensures
     (shallow c.depth.result c.if-depth-ge-MAX_DEPTH.false))
@@ -60,7 +60,7 @@ returns-then-number-eq-MAX_COMPONENTS-clause-refusal c =
     c.self.view_is c.args.host c.requires c.name-maker.result c.name-maker.ensures.at c.depth.result c.depth.ensures
     (shallow c.depth.result c.if-depth-ge-MAX_DEPTH.false) in
     let number = count_at c.self.inside.forest (all_tables c.self.inside) c.self.invariant c.law_nodes_stand_once.ensures.distinct c.args.self.now
-    c.self.view_is c.args.host c.requires c.name-maker.result c.name-maker.ensures.at may c.count_made-number.result
+    c.self.view_is c.args.host c.requires c.name-maker.ensures.at may c.count_made-number.result
     c.count_made-number.ensures.made c.count_made-number.ensures.next c.count_made-number.ensures.few in
     refused_limit c.self.inside.forest (all_tables c.self.inside) c.self.invariant c.law_nodes_stand_once.ensures.distinct c.args.self.now
     c.self.view_is c.args.host c.requires
@@ -78,7 +78,7 @@ returns-clause-component c =
     c.self.view_is c.args.host c.requires c.name-maker.result c.name-maker.ensures.at c.depth.result c.depth.ensures
     (shallow c.depth.result c.if-depth-ge-MAX_DEPTH.false) in
     let number = count_at c.self.inside.forest (all_tables c.self.inside) c.self.invariant c.law_nodes_stand_once.ensures.distinct c.args.self.now
-    c.self.view_is c.args.host c.requires c.name-maker.result c.name-maker.ensures.at may c.count_made-number.result
+    c.self.view_is c.args.host c.requires c.name-maker.ensures.at may c.count_made-number.result
     c.count_made-number.ensures.made c.count_made-number.ensures.next c.count_made-number.ensures.few in
     c.component_made.ensures
     ∙ (ap (λ (y : NodeName). component_made y.owner c.count_made-number.result) (sym c.name-maker.ensures.at)
@@ -92,7 +92,7 @@ returns-clause-refusal c =
     c.self.view_is c.args.host c.requires c.name-maker.result c.name-maker.ensures.at c.depth.result c.depth.ensures
     (shallow c.depth.result c.if-depth-ge-MAX_DEPTH.false) in
     let number = count_at c.self.inside.forest (all_tables c.self.inside) c.self.invariant c.law_nodes_stand_once.ensures.distinct c.args.self.now
-    c.self.view_is c.args.host c.requires c.name-maker.result c.name-maker.ensures.at may c.count_made-number.result
+    c.self.view_is c.args.host c.requires c.name-maker.ensures.at may c.count_made-number.result
     c.count_made-number.ensures.made c.count_made-number.ensures.next c.count_made-number.ensures.few in
     taken c.self.inside.forest (all_tables c.self.inside) c.self.invariant c.law_nodes_stand_once.ensures.distinct c.args.self.now
     c.self.view_is c.args.host c.requires

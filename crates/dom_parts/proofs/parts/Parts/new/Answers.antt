@@ -7,7 +7,6 @@ use Rattle.dom_model.specs.TreeChanges.{with_node}
 use Rattle.dom_tree.specs.Forest.{NamedTrees, next_name, node_from}
 use Rattle.dom_tree.specs.declared.data.NodeData.{NodeData}
 use Rattle.dom_cursors.specs.OwnTables.{no_keyed_tables}
-use Rattle.dom_cursors.specs.Cursors.{cursors_of}
 use Rattle.dom_parts.specs.AllTables.{no_slots, tables_of}
 use Rattle.dom_slots.specs.Kept.{SlotsNow}
 use Rattle.dom_parts.proofs.HeldNodes.{first_held}
@@ -24,7 +23,7 @@ invariant_of-result c =
     let slots = c.new-in-Ok-4.result in
     let signalled = c.new-in-Ok-5.result in
     let ranges = c.new-in-Ok-3.result in
-    first_held c.add.new.self (tables_of (cursors_of c.new-in-Ok.result) seen tasks slots signalled ranges)
+    first_held c.add.new.self
     (node_from [] (node_of Page 0) first) refl record {
       all = (λ j. tables_of (λ o. c.new-in-Ok.ensures o j) seen tasks slots signalled ranges)
           ∙ (λ j. tables_of (λ o. no_keyed_tables) (λ o. c.new-in-Ok-2.ensures o j) tasks slots signalled ranges)

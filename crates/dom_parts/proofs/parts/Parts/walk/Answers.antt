@@ -34,7 +34,7 @@ invariant_of-self c =
     (c.walk.ensures.state item.0 item.1)
     (walk_moved f c.self.invariant c.self.view_is c.args.owner
     c.args.number item.0 (walker_at item.0 c.walk.result) item.1
-    (walk_stays f c.self.invariant.owned c.args.owner item.0 kept c.args.step c.walk.result (c.walk.ensures.value item.0 item.1)
+    (walk_stays c.self.invariant.owned kept c.args.step c.walk.result (c.walk.ensures.value item.0 item.1)
     (c.walk.ensures.kept item.0 item.1)))
 
 pub returns-clause-node : goal.returns-clause-node
