@@ -210,8 +210,8 @@ split_right old new n k split found =
     ap (λ xs. contains xs k) split.halves
     ∙ (contains-append (block_of new n) (block_of new (n + 1)) k ∙ or_right (contains (block_of new n) k) _ found)
 
-from_split : (old new : List (List ℕ)) (n b k : ℕ) → IsSplit old new n → contains (block_of new b) k ≡ true → IsFrom old n b k
-from_split old new n b k split found = elim (cases_order b n) [
+from_split : {old new : List (List ℕ)} {n : ℕ} (b k : ℕ) → IsSplit old new n → contains (block_of new b) k ≡ true → IsFrom old n b k
+from_split {old} {new} {n} b k split found = elim (cases_order b n) [
   | inl l ↦ record { at = b; found = ap (λ xs. contains xs k) (sym (split.before b l)) ∙ found; moved = inl (refl, omega arith) }
   | inr (inl e) ↦ record {
     at = b;
@@ -236,8 +236,8 @@ from_split old new n b k split found = elim (cases_order b n) [
 
 AreApart-split : (old new : List (List ℕ)) (n : ℕ) → AreApart old → IsOnce (block_of old n) → IsSplit old new n → AreApart new
 AreApart-split old new n apart once split a b k in_a in_b =
-    let from_a = from_split old new n a k split in_a in
-    let from_b = from_split old new n b k split in_b in
+    let from_a = from_split a k split in_a in
+    let from_b = from_split b k split in_b in
     by from_a.moved from_b.moved (apart from_a.at from_b.at k from_a.found from_b.found)
   where
     both : contains (block_of new n) k ≡ true → contains (block_of new (n + 1)) k ≡ true → ⊥
@@ -257,9 +257,9 @@ pub IsNumberedBelow-split : {old new : List (List ℕ)} {numbers : List ℕ} {n 
     IsNumberedBelow new numbers (n + 1)
 IsNumberedBelow-split {old} {new} {numbers} {n} numbered split = record {
   apart = AreApart-split old new n (AreApart-numbered old numbers numbered) (numbered.once n) split;
-  within = λ b k found. let from = from_split old new n b k split found in slice_get_within numbers k from.at (numbered.numbered from.at k from.found);
+  within = λ b k found. let from = from_split b k split found in slice_get_within numbers k from.at (numbered.numbered from.at k from.found);
   numbered = λ b k l found.
-      let from = from_split old new n b k split found in
+      let from = from_split b k split found in
       let same : from.at ≡ b = elim from.moved [ inl h ↦ h.0 | inr h ↦ absurd (omega arith) ] in
       numbered.numbered from.at k from.found ∙ ap Some same;
 }
@@ -297,9 +297,9 @@ AreFilled-split {old} {new} {n} filled split b within = elim (cases_order b n) [
       )
     ]
 
-from_closed : (old new : List (List ℕ)) (n b k : ℕ) → IsClosed old new n → contains (block_of new b) k ≡ true →
+from_closed : {old new : List (List ℕ)} {n : ℕ} (b k : ℕ) → IsClosed old new n → contains (block_of new b) k ≡ true →
     (a : ℕ) × (contains (block_of old a) k ≡ true) × (((a ≡ b) × (b < n)) ⊎ ((a ≡ b + 1) × (n ≤ b)))
-from_closed old new n b k closed found = elim (cases_below b n) [
+from_closed {n} b k closed found = elim (cases_below b n) [
   | inl l ↦ (b, ap (λ xs. contains xs k) (sym (closed.before b l)) ∙ found, inl (refl, l))
   | inr l ↦ (b + 1, ap (λ xs. contains xs k) (sym (closed.behind b l)) ∙ found, inr (refl, l))
 ]
@@ -309,10 +309,10 @@ pub IsNumberedBelow-closed : {old new : List (List ℕ)} {numbers : List ℕ} {n
     IsNumberedBelow new numbers n
 IsNumberedBelow-closed {old} {new} {numbers} {n} numbered closed = record {
   apart = λ a b k in_a in_b.
-      let from_a = from_closed old new n a k closed in_a in
-      let from_b = from_closed old new n b k closed in_b in
+      let from_a = from_closed a k closed in_a in
+      let from_b = from_closed b k closed in_b in
       by a b from_a.2 from_b.2 (AreApart-numbered old numbers numbered from_a.0 from_b.0 k from_a.1 from_b.1);
-  within = λ b k found. let from = from_closed old new n b k closed found in slice_get_within numbers k from.0 (numbered.numbered from.0 k from.1);
+  within = λ b k found. let from = from_closed b k closed found in slice_get_within numbers k from.0 (numbered.numbered from.0 k from.1);
   numbered = λ b k l found. numbered.numbered b k (ap (λ xs. contains xs k) (sym (closed.before b l)) ∙ found);
 }
   where

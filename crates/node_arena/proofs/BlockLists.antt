@@ -71,9 +71,9 @@ block_within (x ∷ xs) zero k found = omega arith
 block_within (x ∷ xs) (suc b) k found = omega (arith, block_within xs b k found)
 
 -- the block that a key's number names is the only one with the key
-pub only : (blocks : List (List ℕ)) (numbers : List ℕ) (n k : ℕ) → IsNumbered blocks numbers → slice_get numbers k ≡ Some n →
+pub only : {blocks : List (List ℕ)} {numbers : List ℕ} {n : ℕ} (k : ℕ) → IsNumbered blocks numbers → slice_get numbers k ≡ Some n →
     contains (block_of blocks n) k ≡ true → IsOnly blocks n k
-only blocks numbers n k numbered e found = record { found = found; others = λ b there. same_Some b n (sym (numbered.numbered b k there) ∙ e) }
+only {n} k numbered e found = record { found = found; others = λ b there. same_Some b n (sym (numbered.numbered b k there) ∙ e) }
 
 only_behind : (x : List ℕ) (xs : List (List ℕ)) (n k : ℕ) → IsOnly (x ∷ xs) (suc n) k → IsOnly xs n k × (contains x k ≡ false)
 only_behind x xs n k here = (

@@ -138,8 +138,9 @@ one_more : (xs rest : List ℕ) (c : ℕ) → head_of rest ≡ Some c → AreFir
 one_more xs [] c e = absurd (none-some c e)
 one_more xs (y ∷ rest) c e = (rest, ap (λ z. xs ++ z ∷ rest) (same_Some y c e) ∙ sym (append_assoc xs (c ∷ []) rest))
 
-pub first_more : (xs list : List ℕ) (l c : ℕ) → IsOnce list → AreFirst xs list → last_of xs ≡ Some l → next_in list l ≡ Some c → AreFirst (xs ++ c ∷ []) list
-first_more xs list l c once first last next =
+pub first_more : (xs : List ℕ) {list : List ℕ} {l c : ℕ} → IsOnce list → AreFirst xs list → last_of xs ≡ Some l → next_in list l ≡ Some c →
+    AreFirst (xs ++ c ∷ []) list
+first_more xs {l} {c} once first last next =
     let beside = next_behind xs first.0 l (subst IsOnce first.1 once) last in
     subst (AreFirst (xs ++ c ∷ [])) (sym first.1) (one_more xs first.0 c (sym beside ∙ (ap (λ ys. next_in ys l) (sym first.1) ∙ next)))
 
@@ -148,22 +149,23 @@ first_begun xs list c none e = rw none (one_more [] list c e)
 
 -- ---- a walk back from a node to the last of the first siblings that are known
 
--- a node that stands just behind those known is the first of the others
-ends_in : (known rest : List ℕ) (k : ℕ) (last : Option ℕ) → IsOnce (known ++ rest) → contains rest k ≡ true → last_of known ≡ last →
-    prev_from last rest k ≡ last → place_in rest k ≡ 0
-ends_in known rest k None once found is e = first_place rest k found e
-ends_in known rest k (Some s) once found is e = elim (prev_place (Some s) rest k s (IsOnce-append_right known rest once) found e) [
-  | inl w ↦ w.0
-  | inr w ↦ absurd (both_ways _ (IsOnce-apart known rest s once (contains-last_of known s is)) w.0)
-]
+module _ (known rest : List ℕ) (k : ℕ) where
+  -- a node that stands just behind those known is the first of the others
+  ends_in : (last : Option ℕ) → IsOnce (known ++ rest) → contains rest k ≡ true → last_of known ≡ last →
+      prev_from last rest k ≡ last → place_in rest k ≡ 0
+  ends_in None once found is e = first_place rest k found e
+  ends_in (Some s) once found is e = elim (prev_place (Some s) rest k (IsOnce-append_right known rest once) found e) [
+    | inl w ↦ w.0
+    | inr w ↦ absurd (both_ways _ (IsOnce-apart known rest s once (contains-last_of known s is)) w.0)
+  ]
 
--- one step back among the others
-steps_in : (known rest : List ℕ) (k s : ℕ) → IsOnce (known ++ rest) → contains rest k ≡ true → prev_from (last_of known) rest k ≡ Some s →
-    (last_of known ≡ Some s → ⊥) → (contains known s ≡ false) × (contains rest s ≡ true) × (place_in rest k ≡ suc (place_in rest s))
-steps_in known rest k s once found e other = elim (prev_place (last_of known) rest k s (IsOnce-append_right known rest once) found e) [
-  | inl w ↦ absurd (other w.1)
-  | inr w ↦ (false_from_ne_true _ (λ t. both_ways _ (IsOnce-apart known rest s once t) w.0), w.0, w.1)
-]
+  -- one step back among the others
+  steps_in : (s : ℕ) → IsOnce (known ++ rest) → contains rest k ≡ true → prev_from (last_of known) rest k ≡ Some s →
+      (last_of known ≡ Some s → ⊥) → (contains known s ≡ false) × (contains rest s ≡ true) × (place_in rest k ≡ suc (place_in rest s))
+  steps_in s once found e other = elim (prev_place (last_of known) rest k (IsOnce-append_right known rest once) found e) [
+    | inl w ↦ absurd (other w.1)
+    | inr w ↦ (false_from_ne_true _ (λ t. both_ways _ (IsOnce-apart known rest s once t) w.0), w.0, w.1)
+  ]
 
 -- no list with items is the beginning of an empty one
 nothing_first : (known rest : List ℕ) → [] ≡ known ++ rest → known ≡ []
@@ -179,8 +181,8 @@ pub record Stands (lists : List (List ℕ)) (known : List ℕ) (k p : ℕ) : Typ
   pub prev : prev_of lists k ≡ prev_from (last_of known) rest k
   pub place : place_of lists k ≡ length known + place_in rest k
 
-stands : (lists : List (List ℕ)) → IsForest lists → (known : List ℕ) (k p : ℕ) → parent_of lists k ≡ Some p → IsBehind lists known k → Stands lists known k p
-stands lists forest known k p e behind =
+stands : {lists : List (List ℕ)} → IsForest lists → {known : List ℕ} {k p : ℕ} → parent_of lists k ≡ Some p → IsBehind lists known k → Stands lists known k p
+stands {lists} forest {known} {k} {p} e behind =
     let first : AreFirst known (children_of lists p) = subst (λ (o : Option ℕ). AreFirst known (siblings_in lists o)) e behind.first in
     let child : contains (known ++ first.0) k ≡ true = ap (λ xs. contains xs k) (sym first.1) ∙ contains-parent lists k p e in
     record {
@@ -209,18 +211,18 @@ pub behind_ends : (lists : List (List ℕ)) → IsForest lists → (known : List
 behind_ends lists forest known k behind ends = elim (cases_Option (parent_of lists k)) [
   | inl e ↦ place_of-root lists k e ∙ sym (ap (length {A = ℕ}) (root_known lists known k e behind))
   | inr w ↦
-      let there = stands lists forest known k w.0 w.1 behind in
+      let there = stands forest w.1 behind in
       let none = ends_in known there.rest k (last_of known) there.once there.found refl (sym there.prev ∙ ends) in
       omega (arith, there.place, none)
 ]
 
 -- one step back from a node behind those known
-pub behind_step : (lists : List (List ℕ)) → IsForest lists → (known : List ℕ) (k s : ℕ) → IsBehind lists known k → prev_of lists k ≡ Some s →
+pub behind_step : {lists : List (List ℕ)} → IsForest lists → {known : List ℕ} {k s : ℕ} → IsBehind lists known k → prev_of lists k ≡ Some s →
     (last_of known ≡ Some s → ⊥) → IsBehind lists known s × (place_of lists k ≡ suc (place_of lists s))
-behind_step lists forest known k s behind prev other = elim (cases_Option (parent_of lists k)) [
+behind_step {lists} forest {known} {k} {s} behind prev other = elim (cases_Option (parent_of lists k)) [
   | inl e ↦ absurd (none-some s (ap (option_and_then (λ q. prev_in (children_of lists q) k)) (sym e) ∙ prev))
   | inr w ↦
-      let there = stands lists forest known k w.0 w.1 behind in
+      let there = stands forest w.1 behind in
       let step = steps_in known there.rest k s there.once there.found (sym there.prev ∙ prev) other in
       let child : contains (children_of lists w.0) s ≡ true =
       ap (λ xs. contains xs s) there.is ∙ (contains-append known there.rest s ∙ or_right (contains known s) _ step.1) in
@@ -237,7 +239,7 @@ pub behind_none : (lists : List (List ℕ)) → IsForest lists → (known : List
 behind_none lists forest known k behind e = elim (cases_Option (parent_of lists k)) [
   | inl h ↦ ap last_of (root_known lists known k h behind)
   | inr w ↦
-      let there = stands lists forest known k w.0 w.1 behind in
+      let there = stands forest w.1 behind in
       by there.rest (last_of known) there.found (sym there.prev ∙ e)
 ]
   where

@@ -15,12 +15,12 @@ place_in-within (x ∷ xs) k found = elim (cases_Bool (eqb x k)) [
 ]
 
 -- what stands just before k has the place before
-pub prev_place : (before : Option ℕ) (xs : List ℕ) (k s : ℕ) → IsOnce xs → contains xs k ≡ true → prev_from before xs k ≡ Some s
+pub prev_place : (before : Option ℕ) (xs : List ℕ) (k : ℕ) {s : ℕ} → IsOnce xs → contains xs k ≡ true → prev_from before xs k ≡ Some s
     → ((place_in xs k ≡ 0) × (before ≡ Some s)) ⊎ ((contains xs s ≡ true) × (place_in xs k ≡ suc (place_in xs s)))
-prev_place before [] k s once found e = absurd (true≢false (sym found))
-prev_place before (x ∷ xs) k s once found e = elim (cases_Bool (eqb x k)) [
+prev_place before [] k once found e = absurd (true≢false (sym found))
+prev_place before (x ∷ xs) k {s} once found e = elim (cases_Bool (eqb x k)) [
   | inl h ↦ rw h (inl (refl, rw h at e))
-  | inr h ↦ rw h (elim (prev_place (Some x) xs k s once.1 (rw h at found) (rw h at e)) [
+  | inr h ↦ rw h (elim (prev_place (Some x) xs k once.1 (rw h at found) (rw h at e)) [
     | inl w ↦
         let same : x ≡ s = same_Some x s w.1 in
         inr (or_left (eqb x s) _ (eq-eqb x s same), rw (eq-eqb x s same, w.0) refl)

@@ -102,11 +102,11 @@ module _ {V : Type 0} where
     pub set : (w : V) → set_at cells p w ≡ set cells k (placed cell.at w)
 
   -- one place further on
-  found-later : (n : Placed V) (ns : List (Placed V)) (k : ℕ) (p : Ptr) → same_ptr n.at p ≡ false →
+  found-later : (n : Placed V) {ns : List (Placed V)} {k : ℕ} {p : Ptr} → same_ptr n.at p ≡ false →
       ((i : ℕ) → number_of (places_of ns) p ≡ Some i → Found ns i p) → (o : Option ℕ) → number_of (places_of ns) p ≡ o →
       option_map suc o ≡ Some k → Found (n ∷ ns) k p
-  found-later n ns k p e rest None is h = absurd (none-some k h)
-  found-later n ns k p e rest (Some i) is h =
+  found-later n {k} e rest None is h = absurd (none-some k h)
+  found-later n {ns} {k} {p} e rest (Some i) is h =
       let r = rest i is in
       subst (λ j. Found (n ∷ ns) j p) (same_Some (suc i) k h) (
       record {
@@ -128,7 +128,7 @@ module _ {V : Type 0} where
         (record { cell = n; is = refl; at = same_ptr_eq n.at p e; value = rw e refl; set = λ w. rw e refl })
     | inr e ↦
         let later : option_map suc (number_of (places_of ns) p) ≡ Some k = rw e at h in
-        found-later n ns k p e (λ i is. found ns i p is) (number_of (places_of ns) p) refl later
+        found-later n e (λ i is. found ns i p is) (number_of (places_of ns) p) refl later
   ]
 
 -- the cell at the first of the places, and the places of the others

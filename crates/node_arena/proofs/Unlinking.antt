@@ -14,17 +14,17 @@ parent-before lists forest c k p e =
     parent_of_is lists forest.one_list p k
     (contains-without c (children_of lists p) k (rw (children_of-without lists c p) at (contains-parent (map (without c) lists) k p e)))
 
-above-before : (lists : List (List ℕ)) → IsForest lists → (c n a k : ℕ) → contains (ancestors_within n (map (without c) lists) k) a ≡ true →
+above-before : {lists : List (List ℕ)} → IsForest lists → (c n a k : ℕ) → contains (ancestors_within n (map (without c) lists) k) a ≡ true →
     contains (ancestors_of lists k) a ≡ true
-above-before lists forest c zero a k found = absurd (true≢false (sym found))
-above-before lists forest c (suc n) a k found = elim (cases_Option (parent_of (map (without c) lists) k)) [
+above-before forest c zero a k found = absurd (true≢false (sym found))
+above-before {lists} forest c (suc n) a k found = elim (cases_Option (parent_of (map (without c) lists) k)) [
   | inl e ↦ absurd (true≢false (sym (rw e at found)))
   | inr w ↦
       let p = w.0 in
       let up = ancestors_of-child lists forest k p (parent-before lists forest c k p w.1) in
       elim (or_cases (eqb p a) (contains (ancestors_within n (map (without c) lists) p) a) (rw w.1 at found)) [
         | inl h ↦ rw (up, h) refl
-        | inr h ↦ rw up (or_right (eqb p a) (contains (ancestors_of lists p) a) (above-before lists forest c n a p h))
+        | inr h ↦ rw up (or_right (eqb p a) (contains (ancestors_of lists p) a) (above-before forest c n a p h))
       ]
 ]
 
@@ -32,7 +32,7 @@ pub above-without : (lists : List (List ℕ)) → IsForest lists → (c a k : �
 unfolding ancestors_of
 above-without lists forest c a k found = elim (or_cases (eqb k a) (contains (ancestors_of (map (without c) lists) k) a) found) [
   | inl h ↦ rw h refl
-  | inr h ↦ or_right (eqb k a) (contains (ancestors_of lists k) a) (above-before lists forest c (length (map (without c) lists)) a k h)
+  | inr h ↦ or_right (eqb k a) (contains (ancestors_of lists k) a) (above-before forest c (length (map (without c) lists)) a k h)
 ]
 
 -- no node is its parent, or stands above it

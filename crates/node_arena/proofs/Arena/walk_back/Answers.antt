@@ -23,8 +23,7 @@ returns-in_default-clause-none g c is =
 pub loop-index-preserved : goal.loop-index-preserved
 loop-index-preserved g c =
     let first = c.loop-index.invariant.behind in
-    let step = behind_step c.args.self.now.children c.prev-before.ensures.sound.forest first.known
-    c.loop-index.at c.in-Some.sibling first.behind (sym c.prev-before.ensures.value ∙ c.in-Some.is)
+    let step = behind_step c.prev-before.ensures.sound.forest first.behind (sym c.prev-before.ensures.value ∙ c.in-Some.is)
     (λ e. other_option c.prev-before.result c.args.last (sym c.eq.ensures ∙ c.if-eq.false) (c.in-Some.is ∙ sym (first.ends ∙ e))) in
     record {
       node = c.prev-before.ensures.node c.in-Some.sibling c.in-Some.is;

@@ -21,7 +21,7 @@ returns-in-Some-clause-first g c k e =
     let next : next_in (children_of lists c.args.self.now.parent) c.in-Some.last ≡ Some k =
     ap (option_and_then (λ p. next_in (children_of lists p) c.in-Some.last)) (sym parent)
     ∙ (sym (c.requires.linked.holds.next c.in-Some.last) ∙ (sym c.link.ensures ∙ e)) in
-    first_more c.args.self.now.keys (children_of lists c.args.self.now.parent) c.in-Some.last k
+    first_more c.args.self.now.keys
     (c.requires.linked.forest.once c.args.self.now.parent) c.requires.first (sym c.in-Some.ensures) next
 
 pub returns-in-Some-clause-other : goal.returns-in-Some-clause-other

@@ -11,7 +11,7 @@ get-requires g c =
     let asked = rw (← c.self.view_is, ← c.key.view_is) at c.requires in
     let within : c.key.inside.index < length cells = omega (arith, length-map cells (links_of (places_of cells))) in
     let seat : Seat cells c.key.inside.index c.index.result.now.ptr =
-    seat_of c.self.inside.list.items cells c.self.invariant c.key.inside.index c.index.result.now within c.index.ensures in
+    seat_of c.self.invariant c.key.inside.index within c.index.ensures in
     rw seat.cell.value refl
 
 pub is_nowhere-requires : goal.is_nowhere-requires
@@ -19,16 +19,16 @@ is_nowhere-requires g c =
     let cells = c.self.inside.pool.cells in
     let asked = rw (← c.self.view_is, ← c.key.view_is) at c.requires in
     let within : c.key.inside.index < length cells = omega (arith, length-map cells (links_of (places_of cells))) in
-    (reading c.self.inside.list.items cells c.self.invariant c.key.inside.index c.index.result.now within c.index.ensures c.get.result.now
-    c.get.ensures c.args.link c.pointer-to.result c.pointer-to.ensures).tested
+    (reading c.self.invariant within c.index.ensures
+    c.get.ensures c.pointer-to.ensures).tested
 
 pub returns-then-is_nowhere : goal.returns-then-is_nowhere
 returns-then-is_nowhere g c =
     let cells = c.self.inside.pool.cells in
     let asked = rw (← c.self.view_is, ← c.key.view_is) at c.requires in
     let within : c.key.inside.index < length cells = omega (arith, length-map cells (links_of (places_of cells))) in
-    let at = reading c.self.inside.list.items cells c.self.invariant c.key.inside.index c.index.result.now within c.index.ensures c.get.result.now
-    c.get.ensures c.args.link c.pointer-to.result c.pointer-to.ensures in
+    let at = reading c.self.invariant within c.index.ensures
+    c.get.ensures c.pointer-to.ensures in
     let is_null : c.pointer-to.result.ptr ≡ null_ptr = rw c.if-is_nowhere.true at c.is_nowhere.ensures in
     rw (← c.self.view_is, ← c.key.view_is) (read-null cells c.key.inside.index c.args.link c.pointer-to.result.ptr at is_null)
 
@@ -37,8 +37,8 @@ get-requires-2 g c =
     let cells = c.self.inside.pool.cells in
     let asked = rw (← c.self.view_is, ← c.key.view_is) at c.requires in
     let within : c.key.inside.index < length cells = omega (arith, length-map cells (links_of (places_of cells))) in
-    let at = reading c.self.inside.list.items cells c.self.invariant c.key.inside.index c.index.result.now within c.index.ensures c.get.result.now
-    c.get.ensures c.args.link c.pointer-to.result c.pointer-to.ensures in
+    let at = reading c.self.invariant within c.index.ensures
+    c.get.ensures c.pointer-to.ensures in
     let within_block : InBlock c.pointer-to.result.ptr = rw c.if-is_nowhere.false at c.is_nowhere.ensures in
     let to : Led cells c.pointer-to.result.ptr = led_to cells c.self.invariant.placed c.pointer-to.result.ptr at.inside within_block in
     rw to.cell.value refl
@@ -48,9 +48,9 @@ returns g c =
     let cells = c.self.inside.pool.cells in
     let asked = rw (← c.self.view_is, ← c.key.view_is) at c.requires in
     let within : c.key.inside.index < length cells = omega (arith, length-map cells (links_of (places_of cells))) in
-    let at = reading c.self.inside.list.items cells c.self.invariant c.key.inside.index c.index.result.now within c.index.ensures c.get.result.now
-    c.get.ensures c.args.link c.pointer-to.result c.pointer-to.ensures in
+    let at = reading c.self.invariant within c.index.ensures
+    c.get.ensures c.pointer-to.ensures in
     let within_block : InBlock c.pointer-to.result.ptr = rw c.if-is_nowhere.false at c.is_nowhere.ensures in
     rw (← c.self.view_is, ← c.key.view_is)
-    (read-key cells c.self.invariant.placed c.key.inside.index c.args.link c.pointer-to.result.ptr at within_block c.get-2.result.now
+    (read-key c.self.invariant.placed at within_block
     c.get-2.ensures)

@@ -38,4 +38,4 @@ returns-clause-ok g c =
     c.of-2.ensures ∙ c.of.ensures ∙ c.in_ok-kept.ensures.ok ∙ ap (λ k. alone c.args.payload k null) number in
     let put : c.put-place.new.self.cells ≡ cells ++ placed place.ptr (alone c.args.payload (length cells) null) ∷ [] =
     c.put-place.ensures.cells ∙ ap (λ v. cells ++ placed place.ptr v ∷ []) value in
-    rw (put, ← c.self.view_is) (seen-push list cells place null c.args.payload c.self.invariant c.nowhere-nowhere.ensures)
+    rw (put, ← c.self.view_is) (seen-push place null c.args.payload c.self.invariant c.nowhere-nowhere.ensures)

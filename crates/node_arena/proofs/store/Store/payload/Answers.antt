@@ -10,7 +10,7 @@ get-requires g c =
     let asked = rw (← c.self.view_is, ← c.key.view_is) at c.requires in
     let within : c.key.inside.index < length cells = omega (arith, length-map cells payload_of) in
     let seat : Seat cells c.key.inside.index c.index.result.now.ptr =
-    seat_of c.self.inside.list.items cells c.self.invariant c.key.inside.index c.index.result.now within c.index.ensures in
+    seat_of c.self.invariant c.key.inside.index within c.index.ensures in
     rw seat.cell.value refl
 
 pub returns : goal.returns
@@ -19,5 +19,5 @@ returns g c =
     let asked = rw (← c.self.view_is, ← c.key.view_is) at c.requires in
     let within : c.key.inside.index < length cells = omega (arith, length-map cells payload_of) in
     rw (← c.self.view_is, ← c.key.view_is)
-    (read-payload c.self.inside.list.items cells c.self.invariant c.key.inside.index c.index.result.now within c.index.ensures
-    c.get.result.now c.get.ensures)
+    (read-payload c.self.invariant c.key.inside.index within c.index.ensures
+    c.get.ensures)
