@@ -44,127 +44,128 @@ module _ (k : ℕ) (below rest : List ℕ) (once : (contains (below ++ rest) k �
   off_below : (y : ℕ) → contains rest y ≡ true → contains below y ≡ false
   off_below y there = false_from_ne_true _ (λ i. both_ways _ (IsOnce-apart below rest y once.1 i) there)
 
-no_keys : (nodes : List Node) (lists : List (List ℕ)) (ts : Trees) → Stands nodes lists ts [] → in_trees lists ts [] ≡ []
-no_keys nodes lists none s = refl
-no_keys nodes lists (tree n c r) s = absurd s
+module _ (nodes : List Node) (lists : List (List ℕ)) where
+  no_keys : (ts : Trees) → Stands nodes lists ts [] → in_trees lists ts [] ≡ []
+  no_keys none s = refl
+  no_keys (tree n c r) s = absurd s
 
--- the last of a row is the last below its last root
-last-in_trees : (nodes : List Node) (lists : List (List ℕ)) (y : ℕ) (ts : Trees) (ks : List ℕ) (b : Option ℕ) → Stands nodes lists ts ks →
-    IsOnce (in_trees lists ts ks) → last_from b ks ≡ Some y
-    → ((b ≡ Some y) × (in_trees lists ts ks ≡ [])) ⊎
-    ((contains ks y ≡ true) × ((before : Option ℕ) → last_from before (in_trees lists ts ks) ≡ last_below lists ts ks y))
-last-in_trees nodes lists y none [] b s once e = inl (e, refl)
-last-in_trees nodes lists y none (k ∷ ks) b s once e = absurd s
-last-in_trees nodes lists y (tree n c r) [] b s once e = absurd s
-last-in_trees nodes lists y (tree n c r) (k ∷ ks) b s once e =
-    let below = in_trees lists c (children_of lists k) in
-    let rest = in_trees lists r ks in
-    elim (last-in_trees nodes lists y r ks (Some k) s.2 (IsOnce-append_right below rest once.1) e) [
-      | inl h ↦
-          let same : k ≡ y = same_Some k y h.0 in
-          inr (
-            or_left (eqb k y) _ (eq-eqb k y same),
-            λ before. last_from-append (Some k) below rest ∙
-                (ap (last_from (last_from (Some k) below)) h.1 ∙ rw (eq-eqb k y same) refl),
-          )
-      | inr h ↦
-          let there : contains rest y ≡ true = root-in_trees nodes lists y r ks s.2 h.0 in
-          inr (
-            or_right (eqb k y) _ h.0,
-            λ before. last_from-append (Some k) below rest ∙
-                (h.1 (last_from (Some k) below) ∙ rw (off_right k below rest once y there, off_below k below rest once y there) refl),
-          )
-    ]
-
--- a node without children is the last below it
-last_below-leaf : (nodes : List Node) (lists : List (List ℕ)) (x : ℕ) → last_key (children_of lists x) ≡ None → (ts : Trees) (ks : List ℕ) →
-    Stands nodes lists ts ks → contains (in_trees lists ts ks) x ≡ true → last_below lists ts ks x ≡ Some x
-last_below-leaf nodes lists x leaf none ks s found = absurd (true≢false (sym found))
-last_below-leaf nodes lists x leaf (tree n c r) [] s found = absurd s
-last_below-leaf nodes lists x leaf (tree n c r) (k ∷ ks) s found =
-    let below = in_trees lists c (children_of lists k) in
-    let rest = in_trees lists r ks in
-    elim (cases_Bool (eqb k x)) [
-      | inl e ↦ rw e (here (eqb-true k x e) (children_of lists k) refl c s.1)
-      | inr e ↦
-          let there : contains (below ++ rest) x ≡ true = rw e at found in
-          elim (cases_Bool (contains below x)) [
-            | inl i ↦ rw (e, i) (last_below-leaf nodes lists x leaf c (children_of lists k) s.1 i)
-            | inr i ↦ rw (e, i) (last_below-leaf nodes lists x leaf r ks s.2 (rw (contains-append below rest x, i) at there))
-          ]
-    ]
-  where
-    last_some : (j : ℕ) (js : List ℕ) → last_from (Some j) js ≡ None → ⊥
-    last_some j [] e = none-some j (sym e)
-    last_some j (i ∷ js) e = last_some i js e
-
-    here : k ≡ x → (js : List ℕ) → children_of lists k ≡ js → (ts' : Trees) → Stands nodes lists ts' js → last_from (Some k) (in_trees lists ts' js) ≡ Some x
-    here same [] is ts' s' = ap (last_from (Some k)) (no_keys nodes lists ts' s') ∙ ap Some same
-    here same (j ∷ js) is ts' s' = absurd (last_some j js (ap last_key (sym is ∙ ap (children_of lists) same) ∙ leaf))
-
--- and of another one the last below its last child
-last_below-child : (nodes : List Node) (lists : List (List ℕ)) (x y : ℕ) → last_key (children_of lists x) ≡ Some y → (ts : Trees) (ks : List ℕ) →
-    Stands nodes lists ts ks → IsOnce (in_trees lists ts ks) → contains (in_trees lists ts ks) x ≡ true
-    → last_below lists ts ks x ≡ last_below lists ts ks y
-last_below-child nodes lists x y last none ks s once found = absurd (true≢false (sym found))
-last_below-child nodes lists x y last (tree n c r) [] s once found = absurd s
-last_below-child nodes lists x y last (tree n c r) (k ∷ ks) s once found =
-    let below = in_trees lists c (children_of lists k) in
-    let rest = in_trees lists r ks in
-    elim (or_cases (eqb k x) _ found) [
-      | inl e ↦
-          let same : last_key (children_of lists k) ≡ Some y = ap (λ j. last_key (children_of lists j)) (eqb-true k x e) ∙ last in
-          elim (last-in_trees nodes lists y c (children_of lists k) None s.1 (IsOnce-append_left below rest once.1) same) [
-            | inl h ↦ absurd (none-some y h.0)
-            | inr h ↦
-                let there : contains below y ≡ true = root-in_trees nodes lists y c (children_of lists k) s.1 h.0 in
-                rw (e, off_left k below rest once y there, there) (h.1 (Some k))
-          ]
-      | inr e ↦ elim (or_cases (contains below x) _ (sym (contains-append below rest x) ∙ e)) [
-        | inl i ↦
-            let there : contains below y ≡ true =
-            child-in_trees nodes lists x y (contains-last_of (children_of lists x) y last) c (children_of lists k) s.1 i in
-            rw (off_left k below rest once x i, i, off_left k below rest once y there, there)
-            (last_below-child nodes lists x y last c (children_of lists k) s.1 (IsOnce-append_left below rest once.1) i)
-        | inr i ↦
-            let there : contains rest y ≡ true = child-in_trees nodes lists x y (contains-last_of (children_of lists x) y last) r ks s.2 i in
-            rw (
-              off_right k below rest once x i,
-              off_below k below rest once x i,
-              off_right k below rest once y there,
-              off_below k below rest once
-                  y there,
-            ) (last_below-child nodes lists x y last r ks s.2 (IsOnce-append_right below rest once.1) i)
+  -- the last of a row is the last below its last root
+  last-in_trees : (y : ℕ) (ts : Trees) (ks : List ℕ) (b : Option ℕ) → Stands nodes lists ts ks →
+      IsOnce (in_trees lists ts ks) → last_from b ks ≡ Some y
+      → ((b ≡ Some y) × (in_trees lists ts ks ≡ [])) ⊎
+      ((contains ks y ≡ true) × ((before : Option ℕ) → last_from before (in_trees lists ts ks) ≡ last_below lists ts ks y))
+  last-in_trees y none [] b s once e = inl (e, refl)
+  last-in_trees y none (k ∷ ks) b s once e = absurd s
+  last-in_trees y (tree n c r) [] b s once e = absurd s
+  last-in_trees y (tree n c r) (k ∷ ks) b s once e =
+      let below = in_trees lists c (children_of lists k) in
+      let rest = in_trees lists r ks in
+      elim (last-in_trees y r ks (Some k) s.2 (IsOnce-append_right below rest once.1) e) [
+        | inl h ↦
+            let same : k ≡ y = same_Some k y h.0 in
+            inr (
+              or_left (eqb k y) _ (eq-eqb k y same),
+              λ before. last_from-append (Some k) below rest ∙
+                  (ap (last_from (last_from (Some k) below)) h.1 ∙ rw (eq-eqb k y same) refl),
+            )
+        | inr h ↦
+            let there : contains rest y ≡ true = root-in_trees nodes lists y r ks s.2 h.0 in
+            inr (
+              or_right (eqb k y) _ h.0,
+              λ before. last_from-append (Some k) below rest ∙
+                  (h.1 (last_from (Some k) below) ∙ rw (off_right k below rest once y there, off_below k below rest once y there) refl),
+            )
       ]
-    ]
 
--- just before a root of a row stands the last below the root before it
-prev-root : (nodes : List Node) (lists : List (List ℕ)) (x y : ℕ) (ts : Trees) (ks : List ℕ) (b before : Option ℕ) → Stands nodes lists ts ks →
-    IsOnce (in_trees lists ts ks) → contains ks x ≡ true → prev_from b ks x ≡ Some y
-    → ((b ≡ Some y) × (prev_from before (in_trees lists ts ks) x ≡ before)) ⊎
-    ((contains ks y ≡ true) × (prev_from before (in_trees lists ts ks) x ≡ last_below lists ts ks y))
-prev-root nodes lists x y none [] b before s once found e = absurd (true≢false (sym found))
-prev-root nodes lists x y none (k ∷ ks) b before s once found e = absurd s
-prev-root nodes lists x y (tree n c r) [] b before s once found e = absurd s
-prev-root nodes lists x y (tree n c r) (k ∷ ks) b before s once found e =
-    let below = in_trees lists c (children_of lists k) in
-    let rest = in_trees lists r ks in
-    elim (cases_Bool (eqb k x)) [
-      | inl h ↦ rw h (inl (rw h at e, refl))
-      | inr h ↦
-          let in_rest : contains ks x ≡ true = rw h at found in
-          let there : contains rest x ≡ true = root-in_trees nodes lists x r ks s.2 in_rest in
-          let prev : prev_from before (k ∷ (below ++ rest)) x ≡ prev_from (last_from (Some k) below) rest x =
-          rw (h, prev_from-append (Some k) below rest x, off_below k below rest once x there) refl in
-          elim (prev-root nodes lists x y r ks (Some k) (last_from (Some k) below) s.2 (IsOnce-append_right below rest once.1) in_rest (rw h at e)) [
-            | inl i ↦
-                let same : eqb k y ≡ true = eq-eqb k y (same_Some k y i.0) in
-                inr (or_left (eqb k y) _ same, prev ∙ (i.1 ∙ rw same refl))
-            | inr i ↦
-                let there_y : contains rest y ≡ true = root-in_trees nodes lists y r ks s.2 i.0 in
-                inr (or_right (eqb k y) _ i.0, prev ∙ (i.1 ∙ rw (off_right k below rest once y there_y, off_below k below rest once y there_y) refl))
-          ]
-    ]
+  -- a node without children is the last below it
+  last_below-leaf : (x : ℕ) → last_key (children_of lists x) ≡ None → (ts : Trees) (ks : List ℕ) →
+      Stands nodes lists ts ks → contains (in_trees lists ts ks) x ≡ true → last_below lists ts ks x ≡ Some x
+  last_below-leaf x leaf none ks s found = absurd (true≢false (sym found))
+  last_below-leaf x leaf (tree n c r) [] s found = absurd s
+  last_below-leaf x leaf (tree n c r) (k ∷ ks) s found =
+      let below = in_trees lists c (children_of lists k) in
+      let rest = in_trees lists r ks in
+      elim (cases_Bool (eqb k x)) [
+        | inl e ↦ rw e (here (eqb-true k x e) (children_of lists k) refl c s.1)
+        | inr e ↦
+            let there : contains (below ++ rest) x ≡ true = rw e at found in
+            elim (cases_Bool (contains below x)) [
+              | inl i ↦ rw (e, i) (last_below-leaf x leaf c (children_of lists k) s.1 i)
+              | inr i ↦ rw (e, i) (last_below-leaf x leaf r ks s.2 (rw (contains-append below rest x, i) at there))
+            ]
+      ]
+    where
+      last_some : (j : ℕ) (js : List ℕ) → last_from (Some j) js ≡ None → ⊥
+      last_some j [] e = none-some j (sym e)
+      last_some j (i ∷ js) e = last_some i js e
+
+      here : k ≡ x → (js : List ℕ) → children_of lists k ≡ js → (ts' : Trees) → Stands nodes lists ts' js → last_from (Some k) (in_trees lists ts' js) ≡ Some x
+      here same [] is ts' s' = ap (last_from (Some k)) (no_keys ts' s') ∙ ap Some same
+      here same (j ∷ js) is ts' s' = absurd (last_some j js (ap last_key (sym is ∙ ap (children_of lists) same) ∙ leaf))
+
+  -- and of another one the last below its last child
+  last_below-child : (x y : ℕ) → last_key (children_of lists x) ≡ Some y → (ts : Trees) (ks : List ℕ) →
+      Stands nodes lists ts ks → IsOnce (in_trees lists ts ks) → contains (in_trees lists ts ks) x ≡ true
+      → last_below lists ts ks x ≡ last_below lists ts ks y
+  last_below-child x y last none ks s once found = absurd (true≢false (sym found))
+  last_below-child x y last (tree n c r) [] s once found = absurd s
+  last_below-child x y last (tree n c r) (k ∷ ks) s once found =
+      let below = in_trees lists c (children_of lists k) in
+      let rest = in_trees lists r ks in
+      elim (or_cases (eqb k x) _ found) [
+        | inl e ↦
+            let same : last_key (children_of lists k) ≡ Some y = ap (λ j. last_key (children_of lists j)) (eqb-true k x e) ∙ last in
+            elim (last-in_trees y c (children_of lists k) None s.1 (IsOnce-append_left below rest once.1) same) [
+              | inl h ↦ absurd (none-some y h.0)
+              | inr h ↦
+                  let there : contains below y ≡ true = root-in_trees nodes lists y c (children_of lists k) s.1 h.0 in
+                  rw (e, off_left k below rest once y there, there) (h.1 (Some k))
+            ]
+        | inr e ↦ elim (or_cases (contains below x) _ (sym (contains-append below rest x) ∙ e)) [
+          | inl i ↦
+              let there : contains below y ≡ true =
+              child-in_trees nodes lists x y (contains-last_of (children_of lists x) y last) c (children_of lists k) s.1 i in
+              rw (off_left k below rest once x i, i, off_left k below rest once y there, there)
+              (last_below-child x y last c (children_of lists k) s.1 (IsOnce-append_left below rest once.1) i)
+          | inr i ↦
+              let there : contains rest y ≡ true = child-in_trees nodes lists x y (contains-last_of (children_of lists x) y last) r ks s.2 i in
+              rw (
+                off_right k below rest once x i,
+                off_below k below rest once x i,
+                off_right k below rest once y there,
+                off_below k below rest once
+                    y there,
+              ) (last_below-child x y last r ks s.2 (IsOnce-append_right below rest once.1) i)
+        ]
+      ]
+
+  -- just before a root of a row stands the last below the root before it
+  prev-root : (x y : ℕ) (ts : Trees) (ks : List ℕ) (b before : Option ℕ) → Stands nodes lists ts ks →
+      IsOnce (in_trees lists ts ks) → contains ks x ≡ true → prev_from b ks x ≡ Some y
+      → ((b ≡ Some y) × (prev_from before (in_trees lists ts ks) x ≡ before)) ⊎
+      ((contains ks y ≡ true) × (prev_from before (in_trees lists ts ks) x ≡ last_below lists ts ks y))
+  prev-root x y none [] b before s once found e = absurd (true≢false (sym found))
+  prev-root x y none (k ∷ ks) b before s once found e = absurd s
+  prev-root x y (tree n c r) [] b before s once found e = absurd s
+  prev-root x y (tree n c r) (k ∷ ks) b before s once found e =
+      let below = in_trees lists c (children_of lists k) in
+      let rest = in_trees lists r ks in
+      elim (cases_Bool (eqb k x)) [
+        | inl h ↦ rw h (inl (rw h at e, refl))
+        | inr h ↦
+            let in_rest : contains ks x ≡ true = rw h at found in
+            let there : contains rest x ≡ true = root-in_trees nodes lists x r ks s.2 in_rest in
+            let prev : prev_from before (k ∷ (below ++ rest)) x ≡ prev_from (last_from (Some k) below) rest x =
+            rw (h, prev_from-append (Some k) below rest x, off_below k below rest once x there) refl in
+            elim (prev-root x y r ks (Some k) (last_from (Some k) below) s.2 (IsOnce-append_right below rest once.1) in_rest (rw h at e)) [
+              | inl i ↦
+                  let same : eqb k y ≡ true = eq-eqb k y (same_Some k y i.0) in
+                  inr (or_left (eqb k y) _ same, prev ∙ (i.1 ∙ rw same refl))
+              | inr i ↦
+                  let there_y : contains rest y ≡ true = root-in_trees nodes lists y r ks s.2 i.0 in
+                  inr (or_right (eqb k y) _ i.0, prev ∙ (i.1 ∙ rw (off_right k below rest once y there_y, off_below k below rest once y there_y) refl))
+            ]
+      ]
 
 -- and before the first what stands before the row
 prev-first : (lists : List (List ℕ)) (x : ℕ) (ts : Trees) (ks : List ℕ) (before : Option ℕ) (nodes : List Node) → Stands nodes lists ts ks →
@@ -242,24 +243,24 @@ prev-child nodes lists p x o child e (tree n c r) (k ∷ ks) before s once found
 pub last_in : List Node → List (List ℕ) → ℕ → ℕ → Option ℕ
 last_in nodes lists top x = last_below lists (tree_at nodes lists top) (top ∷ []) x
 
-pub last_in-leaf : (nodes : List Node) (lists : List (List ℕ)) → IsWhole nodes lists → (top x : ℕ) → top < length lists →
+pub last_in-leaf : {nodes : List Node} {lists : List (List ℕ)} → IsWhole nodes lists → (top x : ℕ) → top < length lists →
     contains (x ∷ ancestors_of lists x) top ≡ true → None ≡ last_key (children_of lists x) → last_in nodes lists top x ≡ Some x
 unfolding last_in keys_at
-last_in-leaf nodes lists whole top x node above leaf =
+last_in-leaf {nodes} {lists} whole top x node above leaf =
     last_below-leaf nodes lists x (sym leaf) (tree_at nodes lists top) (top ∷ []) (subtree_here nodes lists whole top node)
-    (keys_at-inside nodes lists whole top x node above)
+    (keys_at-inside whole top x node above)
 
-pub last_in-child : (nodes : List Node) (lists : List (List ℕ)) → IsWhole nodes lists → (top x y : ℕ) → top < length lists →
+pub last_in-child : {nodes : List Node} {lists : List (List ℕ)} → IsWhole nodes lists → (top x : ℕ) {y : ℕ} → top < length lists →
     contains (x ∷ ancestors_of lists x) top ≡ true → Some y ≡ last_key (children_of lists x) → last_in nodes lists top x ≡ last_in nodes lists top y
 unfolding last_in keys_at
-last_in-child nodes lists whole top x y node above last =
+last_in-child {nodes} {lists} whole top x {y} node above last =
     last_below-child nodes lists x y (sym last) (tree_at nodes lists top) (top ∷ []) (subtree_here nodes lists whole top node)
-    (keys_at-once nodes lists whole top node) (keys_at-inside nodes lists whole top x node above)
+    (keys_at-once nodes lists whole top node) (keys_at-inside whole top x node above)
 
 -- the last child stands below what the node stands below, and deeper
-pub child_below : (lists : List (List ℕ)) → IsForest lists → (top x y : ℕ) → contains (x ∷ ancestors_of lists x) top ≡ true →
+pub child_below : {lists : List (List ℕ)} → IsForest lists → (top : ℕ) {x : ℕ} (y : ℕ) → contains (x ∷ ancestors_of lists x) top ≡ true →
     parent_of lists y ≡ Some x → contains (y ∷ ancestors_of lists y) top ≡ true
-child_below lists forest top x y above e = or_right (eqb y top) _ (ap (λ ys. contains ys top) (ancestors_of-child lists forest y x e) ∙ above)
+child_below {lists} forest top {x} y above e = or_right (eqb y top) _ (ap (λ ys. contains ys top) (ancestors_of-child lists forest y x e) ∙ above)
 
 pub deeper : (lists : List (List ℕ)) → IsForest lists → (x y : ℕ) → y < length lists → parent_of lists y ≡ Some x →
     length lists - length (ancestors_of lists y) < length lists - length (ancestors_of lists x)
@@ -278,31 +279,31 @@ pub before_in-top : (nodes : List Node) (lists : List (List ℕ)) → IsWhole no
 unfolding before_in
 before_in-top nodes lists whole top node = prev-alone lists top (tree_at nodes lists top) nodes (subtree_here nodes lists whole top node)
 
-pub before_in-root : (nodes : List Node) (lists : List (List ℕ)) → IsWhole nodes lists → (top x : ℕ) → top < length lists →
+pub before_in-root : {nodes : List Node} {lists : List (List ℕ)} → IsWhole nodes lists → (top x : ℕ) → top < length lists →
     contains (x ∷ ancestors_of lists x) top ≡ true → parent_of lists x ≡ None → before_in nodes lists top x ≡ None
-before_in-root nodes lists whole top x node above e = elim (eqb_tells x top) [
+before_in-root {nodes} {lists} whole top x node above e = elim (eqb_tells x top) [
   | inl h ↦ ap (before_in nodes lists top) h.1 ∙ before_in-top nodes lists whole top node
   | inr h ↦ absurd (has_above lists top x h.1 above e)
 ]
 
-pub before_in-child : (nodes : List Node) (lists : List (List ℕ)) → IsWhole nodes lists → (top x p : ℕ) (o : Option ℕ) → top < length lists →
+pub before_in-child : {nodes : List Node} {lists : List (List ℕ)} → IsWhole nodes lists → {top x p : ℕ} {o : Option ℕ} → top < length lists →
     (x ≡ top → ⊥) → contains (x ∷ ancestors_of lists x) top ≡ true → parent_of lists x ≡ Some p → o ≡ prev_of lists x
     → before_in nodes lists top x ≡ option_map_or (last_in nodes lists top) o (Some p)
 unfolding before_in last_in keys_at
-before_in-child nodes lists whole top x p o node other above e is =
+before_in-child {nodes} {lists} whole {top} {x} {p} {o} node other above e is =
     prev-child nodes lists p x o (contains-parent lists x p e) (sym (is ∙ ap (option_and_then (λ q. prev_in (children_of lists q) x)) e))
     (tree_at nodes lists top) (top ∷ []) None (subtree_here nodes lists whole top node) (keys_at-once nodes lists whole top node)
-    (keys_at-inside nodes lists whole top p node (still_below lists whole.forest top x p other above e))
+    (keys_at-inside whole top p node (still_below whole.forest other above e))
 
-preceding-at : (nodes : List Node) (lists : List (List ℕ)) → IsWhole nodes lists → (top x : ℕ) → top < length lists → x < length lists →
+preceding-at : {nodes : List Node} {lists : List (List ℕ)} → IsWhole nodes lists → (top x : ℕ) → top < length lists → x < length lists →
     contains (x ∷ ancestors_of lists x) top ≡ true
     → last_of (items_before name_eq (name_of_key nodes x) (inclusive_descendants (trees_of nodes lists) (name_of_key nodes top))) ≡ option_map
     (name_of_key nodes) (before_in nodes lists top x)
 unfolding before_in keys_at
-preceding-at nodes lists whole top x node at_x above =
+preceding-at {nodes} {lists} whole top x node at_x above =
     ap (λ ys. last_of (items_before name_eq (name_of_key nodes x) ys)) (keys_at-named nodes lists whole top node)
     ∙ last_or-items_before (name_of_key nodes) x None (in_trees lists (tree_at nodes lists top) (top ∷ []))
-    (keys_at-told nodes lists whole top x node at_x) (keys_at-inside nodes lists whole top x node above)
+    (keys_at-told whole top x node at_x) (keys_at-inside whole top x node above)
 
 pub shows_preceding : {f : NamedTrees} {ps : List Stored} {lists : List (List ℕ)} {keys : Owner → List ℕ} → seen ps lists ≡ f → IsKept ps lists keys
     → (top x : ℕ) (r : Option ℕ) → top < length f.names → x < length f.names → contains (x ∷ ancestors_of lists x) top ≡ true →
@@ -315,7 +316,7 @@ shows_preceding {f = f} {ps = ps} {lists = lists} {keys = keys} is kept top x r 
     subst (λ (g : NamedTrees). option_map (name_at g.names) r ≡ last_of
     (items_before name_eq (name_at g.names x) (inclusive_descendants g.trees (name_at g.names top)))) is
     (names_option ps r ∙ (ap (option_map (name_of_key (nodes_of ps))) result
-    ∙ (sym (preceding-at (nodes_of ps) lists (IsWhole-kept kept) top x (omega arith) (omega arith) above)
+    ∙ (sym (preceding-at (IsWhole-kept kept) top x (omega arith) (omega arith) above)
     ∙ (ap (λ y. last_of (items_before name_eq y (inclusive_descendants (trees_of (nodes_of ps) lists) (name_of_key (nodes_of ps) top))))
     (sym (name_at-same (stored_names ps) ps x))
     ∙ ap (λ y. last_of (items_before name_eq (name_at (stored_names ps) x) (inclusive_descendants (trees_of (nodes_of ps) lists) y)))

@@ -3,7 +3,7 @@ use Rattle.std.proofs.Common.{◌≡◌, Option, Some, sym, ap, subst, ◌∙◌
 use Rattle.std.specs.Option.{option_map_or}
 
 -- what a box shows, where there is one and its value is read by a reference
-pub boxed_shows : {B X Y : Type 0} (inside : B → X) (show : X → Y) (boxed : Option B) (none shown : Y) (b : B) (read : X) →
+pub boxed_shows : {B X Y : Type 0} (inside : B → X) (show : X → Y) {boxed : Option B} (none : Y) {shown : Y} {b : B} {read : X} →
     option_map_or (λ c. show (inside c)) boxed none ≡ shown → Some b ≡ boxed → read ≡ inside b → show read ≡ shown
-boxed_shows inside show boxed none shown b read view is at =
+boxed_shows inside show none {shown} view is at =
     ap show at ∙ subst (λ o. option_map_or (λ c. show (inside c)) o none ≡ shown) (sym is) view

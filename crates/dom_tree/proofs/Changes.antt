@@ -38,7 +38,7 @@ Stands-trees_of nodes lists whole =
 -- and are the only ones that do
 pub trees_of_is : (nodes : List Node) (lists : List (List ℕ)) → IsWhole nodes lists → (ts : Trees) →
     Stands nodes lists ts (root_keys nodes lists) → trees_of nodes lists ≡ ts
-trees_of_is nodes lists whole ts s = Stands-one nodes lists (trees_of nodes lists) ts (root_keys nodes lists) (Stands-trees_of nodes lists whole) s
+trees_of_is nodes lists whole ts s = Stands-one nodes lists (trees_of nodes lists) (root_keys nodes lists) (Stands-trees_of nodes lists whole) s
 
 pub is_root-none : (lists : List (List ℕ)) (k : ℕ) → parent_of lists k ≡ None → is_root lists k ≡ true
 is_root-none lists k e = ap is_none e
@@ -87,9 +87,9 @@ above_within lists forest (suc d) x j k deep child found = elim (or_cases (eqb x
   ]
 ]
 
-pub above_up : (lists : List (List ℕ)) → IsForest lists → (x j k : ℕ) → contains (children_of lists k) j ≡ true →
+pub above_up : {lists : List (List ℕ)} → IsForest lists → (x j k : ℕ) → contains (children_of lists k) j ≡ true →
     contains (x ∷ ancestors_of lists x) j ≡ true → contains (x ∷ ancestors_of lists x) k ≡ true
-above_up lists forest x j k child found = above_within lists forest (length (ancestors_of lists x)) x j k (omega arith) child found
+above_up {lists} forest x j k child found = above_within lists forest (length (ancestors_of lists x)) x j k (omega arith) child found
 
 -- ---- a node linked into a list
 
@@ -162,7 +162,7 @@ trees_of-linked nodes lists p c before asked =
     new = Stands-kept nodes nodes lists changed (λ k. contains (p ∷ ancestors_of lists p) k ≡ false)
         (λ k n apart at. at)
         (λ k apart. there k (λ e. both_ways _ apart (or_left (eqb p k) _ (eq-eqb p k (sym e)))))
-        (λ k j apart child. false_from_ne_true _ (λ found. both_ways _ apart (above_up lists whole.forest p j k child found)))
+        (λ k j apart child. false_from_ne_true _ (λ found. both_ways _ apart (above_up whole.forest p j k child found)))
         (subtree ts (name_of_key nodes c)) (c ∷ []) (λ k found. elim (or_cases (eqb c k) false found) [
           | inl h ↦ ap (contains (p ∷ ancestors_of lists p)) (sym (eqb-true c k h)) ∙ asked.not_above
           | inr h ↦ absurd (true≢false (sym h))
@@ -194,7 +194,7 @@ trees_of-linked nodes lists p c before asked =
 
     same_roots : root_keys nodes changed ≡ without_key c (root_keys nodes lists)
     same_roots = ap (passing nodes (is_root changed)) as_long
-        ∙ sym (without-passing nodes whole.named (is_root lists) (is_root changed) (length lists) c whole.paired asked.child_node
+        ∙ sym (without-passing whole.named c whole.paired asked.child_node
         (ap is_none has_parent) (λ k other. ap is_none (parent_of_same lists changed k (holders k other))))
 
 -- ---- a node taken out of its list
@@ -265,7 +265,7 @@ trees_of-unlinked nodes lists c whole node =
     same_roots = ap (passing nodes (is_root changed)) as_long
         ∙ (passing-more nodes whole.named other_root (is_root changed) (length lists) c whole.paired node not_here (ap is_none no_parent)
         (λ k other. ap is_none (parent_of_same changed lists k (holders k other)) ∙ elsewhere k other)
-        ∙ ap (put_key nodes c) (sym (without-passing nodes whole.named (is_root lists) other_root (length lists) c whole.paired node not_here elsewhere)))
+        ∙ ap (put_key nodes c) (sym (without-passing whole.named c whole.paired node not_here elsewhere)))
 
 -- ---- a node more
 
@@ -339,10 +339,10 @@ trees_of-push nodes lists m whole named =
 
 -- ---- nodes with other contents
 
-pub trees_of-map : (nodes others : List Node) (lists : List (List ℕ)) (f : Node → Node) → IsWhole nodes lists → length others ≡ length nodes
+pub trees_of-map : {nodes : List Node} (others : List Node) {lists : List (List ℕ)} {f : Node → Node} → IsWhole nodes lists → length others ≡ length nodes
     → ((y : Node) → (f y).name ≡ y.name) → ((k : ℕ) (y : Node) → slice_get nodes k ≡ Some y → slice_get others k ≡ Some (f y))
     → trees_of others lists ≡ map_nodes f (trees_of nodes lists)
-trees_of-map nodes others lists f whole as_long keeps each =
+trees_of-map {nodes} others {lists} {f} whole as_long keeps each =
     trees_of_is others lists whole_after _ (subst (λ (ks : List ℕ). Stands others lists (map_nodes f ts) ks) (sym same_roots) mapped)
   where
     ts : Trees

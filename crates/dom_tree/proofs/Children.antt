@@ -63,9 +63,9 @@ rest_of-step (x ∷ xs) k once found = elim (cases_Bool (eqb x k)) [
         rw apart refl
 
 -- the children from one on are that one and those from the next on
-pub rest_of-next : (lists : List (List ℕ)) → IsForest lists → (p k : ℕ) (r : Option ℕ) → contains (children_of lists p) k ≡ true →
+pub rest_of-next : {lists : List (List ℕ)} → IsForest lists → (p k : ℕ) {r : Option ℕ} → contains (children_of lists p) k ≡ true →
     r ≡ next_of lists k → rest_of (children_of lists p) (Some k) ≡ k ∷ rest_of (children_of lists p) r
-rest_of-next lists forest p k r child is =
+rest_of-next {lists} forest p k {r} child is =
     let e : r ≡ next_in (children_of lists p) k =
     is ∙ ap (option_and_then (λ q. next_in (children_of lists q) k)) (parent_of_is lists forest.one_list p k child) in
     rest_of-step (children_of lists p) k (forest.once p) child ∙ ap (λ o. k ∷ rest_of (children_of lists p) o) (sym e)
@@ -220,7 +220,7 @@ is_counted-split {f = f} {ps = ps} {lists = lists} {keys = keys} is kept k apart
     by (Some j) inside' =
         let here = within is kept k node in
         ap (λ b. is_element (node_at (nodes_of ps) k).kind && not b)
-        (name_of_key-eq (nodes_of ps) lists (IsWhole-kept kept) k j (omega (arith, kept.paired)) (inside' j refl))
+        (name_of_key-eq (IsWhole-kept kept) k j (omega (arith, kept.paired)) (inside' j refl))
 
 -- whether the one set apart is this one, as the code tests it
 pub apart_test : (o : Option ℕ) (k : ℕ) → option_eq KeyImpl.ghosts.eq o (Some k) ≡ option_map_or (λ j. eqb k j) o false

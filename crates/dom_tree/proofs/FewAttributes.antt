@@ -33,8 +33,8 @@ module _ {X : Type 0} (q : X → Bool) where
       by false here rest zero f m = absurd (omega (arith, f))
       by false here rest (suc j) f m = (here, rest j (omega (arith, f)) (omega (arith, m)))
 
-  pub place-at : (xs read : List X) (i : ℕ) (o : Option ℕ) → o ≡ position q read → read ≡ xs → o ≡ Some i → IsAt xs i
-  place-at xs read i o is same e = by (nat_lt (position_or_len q xs) (length xs)) refl (ap (position q) (sym same) ∙ (sym is ∙ e))
+  pub place-at : {xs read : List X} {i : ℕ} {o : Option ℕ} → o ≡ position q read → read ≡ xs → o ≡ Some i → IsAt xs i
+  place-at {xs} {i} is same e = by (nat_lt (position_or_len q xs) (length xs)) refl (ap (position q) (sym same) ∙ (sym is ∙ e))
     where
       by : (b : Bool) → nat_lt (position_or_len q xs) (length xs) ≡ b → cond b (Some (position_or_len q xs)) None ≡ Some i → IsAt xs i
       by true l f = at-first xs i (same_Some (position_or_len q xs) i f) (ltb-true (position_or_len q xs) (length xs) l)

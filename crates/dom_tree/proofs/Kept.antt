@@ -122,29 +122,29 @@ IsKept-lists a lists keys kept sound = record {
 
 -- ---- the nodes above a node, in the lists and in the trees
 
-pub ancestors_nodes : (lists : List (List ℕ)) → IsForest lists → (d x a : ℕ) → length (ancestors_of lists x) ≤ d →
+pub ancestors_nodes : {lists : List (List ℕ)} → IsForest lists → (d x a : ℕ) → length (ancestors_of lists x) ≤ d →
     contains (ancestors_of lists x) a ≡ true → a < length lists
-ancestors_nodes lists forest zero x a deep found = elim (cases_Option (parent_of lists x)) [
+ancestors_nodes {lists} forest zero x a deep found = elim (cases_Option (parent_of lists x)) [
   | inl e ↦ absurd (true≢false (sym (ap (λ ys. contains ys a) (sym (ancestors_of-root lists x e)) ∙ found)))
   | inr w ↦ absurd (omega (arith, ap (length {A = ℕ}) (ancestors_of-child lists forest x w.0 w.1)))
 ]
-ancestors_nodes lists forest (suc d) x a deep found = elim (cases_Option (parent_of lists x)) [
+ancestors_nodes {lists} forest (suc d) x a deep found = elim (cases_Option (parent_of lists x)) [
   | inl e ↦ absurd (true≢false (sym (ap (λ ys. contains ys a) (sym (ancestors_of-root lists x e)) ∙ found)))
   | inr w ↦
       let up = ancestors_of-child lists forest x w.0 w.1 in
       let within = parent_within lists w.0 x (contains-parent lists x w.0 w.1) in
       elim (or_cases (eqb w.0 a) _ (ap (λ ys. contains ys a) (sym up) ∙ found)) [
         | inl h ↦ subst (λ (k : ℕ). k < length lists) (eqb-true w.0 a h) within
-        | inr h ↦ ancestors_nodes lists forest d w.0 a (omega (arith, ap (length {A = ℕ}) up)) h
+        | inr h ↦ ancestors_nodes forest d w.0 a (omega (arith, ap (length {A = ℕ}) up)) h
       ]
 ]
 
-is_in-keys : (nodes : List Node) (lists : List (List ℕ)) → IsWhole nodes lists → (a : ℕ) → a < length lists → (ks : List ℕ) →
+is_in-keys : {nodes : List Node} {lists : List (List ℕ)} → IsWhole nodes lists → (a : ℕ) → a < length lists → (ks : List ℕ) →
     ((k : ℕ) → contains ks k ≡ true → k < length lists) → is_in name_eq (name_of_key nodes a) (map (name_of_key nodes) ks) ≡ contains ks a
-is_in-keys nodes lists whole a node [] each = refl
-is_in-keys nodes lists whole a node (k ∷ ks) each =
-    let here = name_of_key-eq nodes lists whole a k node (each k (contains-head k ks)) ∙ turned (eqb_tells a k) in
-    let rest = is_in-keys nodes lists whole a node ks (λ j found. each j (or_right (eqb k j) (contains ks j) found)) in
+is_in-keys whole a node [] each = refl
+is_in-keys {nodes} whole a node (k ∷ ks) each =
+    let here = name_of_key-eq whole a k node (each k (contains-head k ks)) ∙ turned (eqb_tells a k) in
+    let rest = is_in-keys whole a node ks (λ j found. each j (or_right (eqb k j) (contains ks j) found)) in
     ap (λ b. b || is_in name_eq (name_of_key nodes a) (map (name_of_key nodes) ks)) here ∙ ap (λ b. eqb k a || b) rest
   where
     turned : ((eqb a k ≡ true) × (a ≡ k)) ⊎ ((eqb a k ≡ false) × (a ≢ k)) → eqb a k ≡ eqb k a
@@ -152,13 +152,13 @@ is_in-keys nodes lists whole a node (k ∷ ks) each =
     turned (inr h) = h.0 ∙ sym (ne_eqb k a (λ e. h.1 (sym e)))
 
 -- one node is another or above it, in the trees where in the lists
-pub above-at : (nodes : List Node) (lists : List (List ℕ)) → IsWhole nodes lists → (a x : ℕ) → a < length lists → x < length lists →
+pub above-at : {nodes : List Node} {lists : List (List ℕ)} → IsWhole nodes lists → (a x : ℕ) → a < length lists → x < length lists →
     is_inclusive_ancestor (trees_of nodes lists) (name_of_key nodes a) (name_of_key nodes x) ≡ contains (x ∷ ancestors_of lists x) a
-above-at nodes lists whole a x at_a at_x =
+above-at {nodes} {lists} whole a x at_a at_x =
     ap (is_in name_eq (name_of_key nodes a)) (inclusive_ancestors-at nodes lists whole x at_x)
-    ∙ is_in-keys nodes lists whole a at_a (x ∷ ancestors_of lists x) (λ k found. elim (or_cases (eqb x k) _ found) [
+    ∙ is_in-keys whole a at_a (x ∷ ancestors_of lists x) (λ k found. elim (or_cases (eqb x k) _ found) [
       | inl h ↦ subst (λ (j : ℕ). j < length lists) (eqb-true x k h) at_x
-      | inr h ↦ ancestors_nodes lists whole.forest (length (ancestors_of lists x)) x k (omega arith) h
+      | inr h ↦ ancestors_nodes whole.forest (length (ancestors_of lists x)) x k (omega arith) h
     ])
 
 -- ---- a link
@@ -178,11 +178,11 @@ pub record LinkMeant (lists : List (List ℕ)) (parent child : ℕ) (before : Op
   pub not_above : contains (parent ∷ ancestors_of lists parent) child ≡ false
   pub before_is_child : (b : ℕ) → before ≡ Some b → contains (children_of lists parent) b ≡ true
 
-pub link_meant : (ps : List Stored) (lists : List (List ℕ)) (keys : Owner → List ℕ) → IsKept ps lists keys → (p c : ℕ) (before : Option ℕ) →
+pub link_meant : {ps : List Stored} {lists : List (List ℕ)} {keys : Owner → List ℕ} → IsKept ps lists keys → {p c : ℕ} {before : Option ℕ} →
     LinkShown (seen ps lists) p c before → LinkMeant lists p c before
-link_meant ps lists keys kept p c before shown = record {
+link_meant {ps} {lists} kept {p} {c} {before} shown = record {
   unlinked = by (cases_Option (parent_of lists c));
-  not_above = sym (above-at nodes lists whole c p child_within parent_within_lists) ∙
+  not_above = sym (above-at whole c p child_within parent_within_lists) ∙
       (ap (λ y. is_inclusive_ancestor ts y (name_of_key nodes p)) (sym (name_at-same names ps c)) ∙
       (ap (is_inclusive_ancestor ts (name_at names c)) (sym (name_at-same names ps p)) ∙ shown.not_above));
   before_is_child = λ b e. child_of b e (cases_Option (parent_of lists b));
@@ -234,10 +234,10 @@ link_meant ps lists keys kept p c before shown = record {
 abbrev pub with_linked : NamedTrees → ℕ → ℕ → Option ℕ → NamedTrees
 with_linked f p c before = record f { trees = placed (name_at f.names c) (name_at f.names p) (option_map (name_at f.names) before) f.trees }
 
-pub seen-linked : (ps : List Stored) (lists : List (List ℕ)) (keys : Owner → List ℕ) → IsKept ps lists keys → (p c : ℕ) (before : Option ℕ) →
+pub seen-linked : {ps : List Stored} {lists : List (List ℕ)} {keys : Owner → List ℕ} → IsKept ps lists keys → {p c : ℕ} {before : Option ℕ} →
     LinkShown (seen ps lists) p c before
     → IsForest (linked lists p c before) → seen ps (linked lists p c before) ≡ with_linked (seen ps lists) p c before
-seen-linked ps lists keys kept p c before shown after =
+seen-linked {ps} {lists} kept {p} {c} {before} shown after =
     ap (λ ts. record { names = names; trees = ts }) (trees_of-linked nodes lists p c before asked
     ∙ (ap (λ x. placed x (name_of_key nodes p) (option_map (name_of_key nodes) before) (trees_of nodes lists)) (sym (name_at-same names ps c))
     ∙ (ap (λ x. placed (name_at names c) x (option_map (name_of_key nodes) before) (trees_of nodes lists)) (sym (name_at-same names ps p))
@@ -253,7 +253,7 @@ seen-linked ps lists keys kept p c before shown after =
     as_long = length-map ps (λ s. s.name) ∙ kept.paired
 
     meant : LinkMeant lists p c before
-    meant = link_meant ps lists keys kept p c before shown
+    meant = link_meant kept shown
 
     asked : LinkAsked nodes lists p c before
     asked = record {
@@ -288,24 +288,24 @@ pub kept_with : (old new : Nodes Stored) (keys : Owner → List ℕ) → IsKept 
 kept_with old new keys kept same sound =
     IsKept-lists new old.children keys (subst (λ (ps : List Stored). IsKept ps old.children keys) (sym same) kept) sound
 
-pub link_asked : (f : NamedTrees) (a : Nodes Stored) (keys : Owner → List ℕ) → seen a.payloads a.children ≡ f →
-    IsKept a.payloads a.children keys → (p c : ℕ) (before : Option ℕ) → LinkShown f p c before → LinkMeant a.children p c before
-link_asked f a keys is kept p c before shown =
-    link_meant a.payloads a.children keys kept p c before (subst (λ (g : NamedTrees). LinkShown g p c before) (sym is) shown)
+pub link_asked : {f : NamedTrees} (a : Nodes Stored) {keys : Owner → List ℕ} → seen a.payloads a.children ≡ f →
+    IsKept a.payloads a.children keys → {p c : ℕ} {before : Option ℕ} → LinkShown f p c before → LinkMeant a.children p c before
+link_asked a is kept {p} {c} {before} shown =
+    link_meant kept (subst (λ (g : NamedTrees). LinkShown g p c before) (sym is) shown)
 
-pub link_done : (f : NamedTrees) (a b : Nodes Stored) (keys : Owner → List ℕ) → seen a.payloads a.children ≡ f →
-    IsKept a.payloads a.children keys → (p c : ℕ) (before : Option ℕ) → LinkShown f p c before
+pub link_done : {f : NamedTrees} (a : Nodes Stored) {b : Nodes Stored} {keys : Owner → List ℕ} → seen a.payloads a.children ≡ f →
+    IsKept a.payloads a.children keys → {p c : ℕ} {before : Option ℕ} → LinkShown f p c before
     → b ≡ record a { children = linked a.children p c before } → IsSound b → seen b.payloads b.children ≡ with_linked f p c before
-link_done f a b keys is kept p c before shown e sound =
+link_done a is kept {p} {c} {before} shown e sound =
     ap (λ d. seen d.payloads d.children) e
-    ∙ (seen-linked a.payloads a.children keys kept p c before (subst (λ (g : NamedTrees). LinkShown g p c before) (sym is) shown)
+    ∙ (seen-linked kept (subst (λ (g : NamedTrees). LinkShown g p c before) (sym is) shown)
     (subst (λ (d : Nodes Stored). IsForest d.children) e sound.forest)
     ∙ ap (λ g. with_linked g p c before) is)
 
-pub unlink_done : (f : NamedTrees) (a b : Nodes Stored) (keys : Owner → List ℕ) → seen a.payloads a.children ≡ f →
+pub unlink_done : {f : NamedTrees} (a : Nodes Stored) {b : Nodes Stored} {keys : Owner → List ℕ} → seen a.payloads a.children ≡ f →
     IsKept a.payloads a.children keys → (c : ℕ) → c < length f.names
     → b ≡ record a { children = map (without c) a.children } → seen b.payloads b.children ≡ with_unlinked f c
-unlink_done f a b keys is kept c node e =
+unlink_done a {keys} is kept c node e =
     ap (λ d. seen d.payloads d.children) e
     ∙ (seen-unlinked a.payloads a.children keys kept c (subst (λ (g : NamedTrees). c < length g.names) (sym is) node)
     ∙ ap (λ g. with_unlinked g c) is)

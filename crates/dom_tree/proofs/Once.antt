@@ -143,8 +143,8 @@ times_in-child nodes lists named forest p x q m at_p at_x child (tree n c r) [] 
 times_in-child nodes lists named forest p x q m at_p at_x child (tree n c r) (k ∷ ks) s =
     let below = times_in-child nodes lists named forest p x q m at_p at_x child c (children_of lists k) s.1 in
     let rest = times_in-child nodes lists named forest p x q m at_p at_x child r ks s.2 in
-    let tells_m = ap one (same_name nodes named k x n m s.0 at_x) in
-    let tells_q = ap one (same_name nodes named k p n q s.0 at_p) in
+    let tells_m = ap one (same_name named k x s.0 at_x) in
+    let tells_q = ap one (same_name named k p s.0 at_p) in
     omega (arith, below, rest, tells_m, tells_q, among, times_in-tree n c r m.name, times_in-tree n c r q.name, times-cons x k ks)
   where
     among : times x (children_of lists k) ≡ one (eqb k p)
@@ -162,7 +162,7 @@ times_in-root nodes lists named x m at root (tree n c r) [] s = absurd s
 times_in-root nodes lists named x m at root (tree n c r) (k ∷ ks) s =
     let below = times_in-root nodes lists named x m at root c (children_of lists k) s.1 in
     let rest = times_in-root nodes lists named x m at root r ks s.2 in
-    let tells = ap one (same_name nodes named k x n m s.0 at) in
+    let tells = ap one (same_name named k x s.0 at) in
     let among = times-absent x (children_of lists k) (contains-no_parent lists x root k) in
     omega (arith, below, rest, tells, among, times_in-tree n c r m.name, times-cons x k ks)
 
@@ -173,26 +173,26 @@ once-root nodes lists whole x node e =
     (root_keys nodes lists) (Stands-trees_of nodes lists whole)
     ∙ times-root nodes lists x node e
 
-once-child : (nodes : List Node) (lists : List (List ℕ)) → IsWhole nodes lists → (x p : ℕ) → x < length lists → parent_of lists x ≡ Some p
+once-child : {nodes : List Node} {lists : List (List ℕ)} → IsWhole nodes lists → (x : ℕ) {p : ℕ} → x < length lists → parent_of lists x ≡ Some p
     → times_in (trees_of nodes lists) (name_of_key nodes p) ≡ 1 → times_in (trees_of nodes lists) (name_of_key nodes x) ≡ 1
-once-child nodes lists whole x p node e above =
+once-child {nodes} {lists} whole x {p} node e above =
     let child = contains-parent lists x p e in
     let inside = parent_within lists p x child in
     let more = times_in-child nodes lists whole.named whole.forest p x (node_at nodes p) (node_at nodes x) (node_here nodes lists whole p inside)
     (node_here nodes lists whole x node) child (trees_of nodes lists) (root_keys nodes lists) (Stands-trees_of nodes lists whole) in
     omega (arith, more, above, times-child nodes lists x p e)
 
-pub once-within : (nodes : List Node) (lists : List (List ℕ)) → IsWhole nodes lists → (d x : ℕ) → length (ancestors_of lists x) ≤ d →
+pub once-within : {nodes : List Node} {lists : List (List ℕ)} → IsWhole nodes lists → (d x : ℕ) → length (ancestors_of lists x) ≤ d →
     x < length lists → times_in (trees_of nodes lists) (name_of_key nodes x) ≡ 1
-once-within nodes lists whole zero x deep node = elim (cases_Option (parent_of lists x)) [
+once-within {nodes} {lists} whole zero x deep node = elim (cases_Option (parent_of lists x)) [
   | inl e ↦ once-root nodes lists whole x node e
   | inr w ↦ absurd (omega (arith, ap (length {A = ℕ}) (ancestors_of-child lists whole.forest x w.0 w.1)))
 ]
-once-within nodes lists whole (suc d) x deep node = elim (cases_Option (parent_of lists x)) [
+once-within {nodes} {lists} whole (suc d) x deep node = elim (cases_Option (parent_of lists x)) [
   | inl e ↦ once-root nodes lists whole x node e
   | inr w ↦
-      once-child nodes lists whole x w.0 node w.1
-      (once-within nodes lists whole d w.0 (omega (arith, ap (length {A = ℕ}) (ancestors_of-child lists whole.forest x w.0 w.1)))
+      once-child whole x node w.1
+      (once-within whole d w.0 (omega (arith, ap (length {A = ℕ}) (ancestors_of-child lists whole.forest x w.0 w.1)))
       (parent_within lists w.0 x (contains-parent lists x w.0 w.1)))
 ]
 
@@ -209,57 +209,53 @@ is_in-names x (m ∷ ms) ns = ap (λ b. name_eq x m.name || b) (is_in-names x ms
 abbrev pub HasKey : List Node → NodeName → Type 0
 HasKey nodes x = (k : ℕ) × (n : Node) × (slice_get nodes k ≡ Some n) × (n.name ≡ x)
 
-only-Stands : (nodes : List Node) (lists : List (List ℕ)) (x : NodeName) (ts : Trees) (ks : List ℕ) → Stands nodes lists ts ks →
+only-Stands : (nodes : List Node) (lists : List (List ℕ)) {x : NodeName} (ts : Trees) (ks : List ℕ) → Stands nodes lists ts ks →
     is_in name_eq x (names_of (nodes_in ts)) ≡ true → HasKey nodes x
-only-Stands nodes lists x none ks s found = absurd (true≢false (sym found))
-only-Stands nodes lists x (tree n c r) [] s found = absurd s
-only-Stands nodes lists x (tree n c r) (k ∷ ks) s found = elim (or_cases (name_eq x n.name) _ found) [
+only-Stands nodes lists none ks s found = absurd (true≢false (sym found))
+only-Stands nodes lists (tree n c r) [] s found = absurd s
+only-Stands nodes lists {x} (tree n c r) (k ∷ ks) s found = elim (or_cases (name_eq x n.name) _ found) [
   | inl h ↦ (k, n, s.0, sym (name_eq-true x n.name h))
   | inr h ↦ elim (or_cases (is_in name_eq x (names_of (nodes_in c))) _ (sym (is_in-names x (nodes_in c) (nodes_in r)) ∙ h)) [
-    | inl i ↦ only-Stands nodes lists x c (children_of lists k) s.1 i
-    | inr i ↦ only-Stands nodes lists x r ks s.2 i
+    | inl i ↦ only-Stands nodes lists c (children_of lists k) s.1 i
+    | inr i ↦ only-Stands nodes lists r ks s.2 i
   ]
 ]
 
 -- ---- the answers
 
-pub shows_distinct : {f : NamedTrees} {ps : List Stored} {lists : List (List ℕ)} {keys : Owner → List ℕ} → seen ps lists ≡ f → IsKept ps lists keys
-    → (j k : ℕ) → j < length f.names → k < length f.names → name_at f.names j ≡ name_at f.names k → j ≡ k
-shows_distinct {f = f} {ps = ps} {lists = lists} {keys = keys} is kept j k at_j at_k e =
-    sym (eqb-true k j (sym (names_tell is kept j k at_j at_k) ∙ (ap (name_eq (name_at f.names j)) (sym e) ∙ name_eq-same (name_at f.names j))))
+module _ {f : NamedTrees} {ps : List Stored} {lists : List (List ℕ)} {keys : Owner → List ℕ} (is : seen ps lists ≡ f) (kept : IsKept ps lists keys) where
+  pub shows_distinct : (j k : ℕ) → j < length f.names → k < length f.names → name_at f.names j ≡ name_at f.names k → j ≡ k
+  shows_distinct j k at_j at_k e =
+      sym (eqb-true k j (sym (names_tell is kept j k at_j at_k) ∙ (ap (name_eq (name_at f.names j)) (sym e) ∙ name_eq-same (name_at f.names j))))
 
-pub shows_once : {f : NamedTrees} {ps : List Stored} {lists : List (List ℕ)} {keys : Owner → List ℕ} → seen ps lists ≡ f → IsKept ps lists keys
-    → (k : ℕ) → k < length f.names → count_by (λ n. name_eq n.name (name_at f.names k)) (nodes_in f.trees) ≡ 1
-shows_once {f = f} {ps = ps} {lists = lists} {keys = keys} is kept k node =
-    let inside = within is kept k node in
-    sym (times_count f.trees (name_at f.names k)) ∙ subst (λ (g : NamedTrees). times_in g.trees (name_at g.names k) ≡ 1) is
-    (ap (times_in (trees_of (nodes_of ps) lists)) (name_at-same (stored_names ps) ps k)
-    ∙ once-within (nodes_of ps) lists (IsWhole-kept kept) (length (ancestors_of lists k)) k (omega arith) (omega (arith, kept.paired)))
+  pub shows_once : (k : ℕ) → k < length f.names → count_by (λ n. name_eq n.name (name_at f.names k)) (nodes_in f.trees) ≡ 1
+  shows_once k node =
+      let inside = within is kept k node in
+      sym (times_count f.trees (name_at f.names k)) ∙ subst (λ (g : NamedTrees). times_in g.trees (name_at g.names k) ≡ 1) is
+      (ap (times_in (trees_of (nodes_of ps) lists)) (name_at-same (stored_names ps) ps k)
+      ∙ once-within (IsWhole-kept kept) (length (ancestors_of lists k)) k (omega arith) (omega (arith, kept.paired)))
 
-pub shows_only : {f : NamedTrees} {ps : List Stored} {lists : List (List ℕ)} {keys : Owner → List ℕ} → seen ps lists ≡ f → IsKept ps lists keys
-    → (x : NodeName) → has_node f.trees x ≡ true → (k : ℕ) × (slice_get f.names k ≡ Some x)
-shows_only {f = f} {ps = ps} {lists = lists} {keys = keys} is kept x found =
-    let whole = IsWhole-kept kept in
-    let key = only-Stands (nodes_of ps) lists x (trees_of (nodes_of ps) lists) (root_keys (nodes_of ps) lists)
-    (Stands-trees_of (nodes_of ps) lists whole) (ap (λ (g : NamedTrees). has_node g.trees x) is ∙ found) in
-    (key.0, ap (λ (g : NamedTrees). slice_get g.names key.0) (sym is) ∙ (slice_get-names (stored_names ps) ps key.0 key.1 key.2 ∙ ap Some key.3))
+  pub shows_only : (x : NodeName) → has_node f.trees x ≡ true → (k : ℕ) × (slice_get f.names k ≡ Some x)
+  shows_only x found =
+      let whole = IsWhole-kept kept in
+      let key = only-Stands (nodes_of ps) lists (trees_of (nodes_of ps) lists) (root_keys (nodes_of ps) lists)
+      (Stands-trees_of (nodes_of ps) lists whole) (ap (λ (g : NamedTrees). has_node g.trees x) is ∙ found) in
+      (key.0, ap (λ (g : NamedTrees). slice_get g.names key.0) (sym is) ∙ (slice_get-names (stored_names ps) ps key.0 key.1 key.2 ∙ ap Some key.3))
 
-pub shows_there : {f : NamedTrees} {ps : List Stored} {lists : List (List ℕ)} {keys : Owner → List ℕ} → seen ps lists ≡ f → IsKept ps lists keys
-    → (k : ℕ) → k < length f.names → has_node f.trees (name_at f.names k) ≡ true
-shows_there {f = f} {ps = ps} {lists = lists} {keys = keys} is kept k node =
-    let inside = within is kept k node in
-    subst (λ (g : NamedTrees). has_node g.trees (name_at g.names k) ≡ true) is
-    (ap (has_node (trees_of (nodes_of ps) lists)) (name_at-same (stored_names ps) ps k)
-    ∙ (has_node-reaches (trees_of (nodes_of ps) lists) (name_of_key (nodes_of ps) k) ∙ reached (nodes_of ps) lists (IsWhole-kept kept) k
-    (omega (arith, kept.paired))))
+  pub shows_there : (k : ℕ) → k < length f.names → has_node f.trees (name_at f.names k) ≡ true
+  shows_there k node =
+      let inside = within is kept k node in
+      subst (λ (g : NamedTrees). has_node g.trees (name_at g.names k) ≡ true) is
+      (ap (has_node (trees_of (nodes_of ps) lists)) (name_at-same (stored_names ps) ps k)
+      ∙ (has_node-reaches (trees_of (nodes_of ps) lists) (name_of_key (nodes_of ps) k) ∙ reached (nodes_of ps) lists (IsWhole-kept kept) k
+      (omega (arith, kept.paired))))
 
--- what is found is there
-pub shows_present : {f : NamedTrees} {ps : List Stored} {lists : List (List ℕ)} {keys : Owner → List ℕ} → seen ps lists ≡ f → IsKept ps lists keys
-    → (x : NodeName) (r : Option ℕ) → ((k : ℕ) → slice_get f.names k ≡ Some x → r ≡ Some k) → ForSome r (λ k. slice_get f.names k ≡ Some x) →
-    is_some r ≡ has_node f.trees x
-shows_present {f = f} {ps = ps} {lists = lists} {keys = keys} is kept x None all found = sym (false_from_ne_true _ (λ there.
-    let key = shows_only is kept x there in
-    none-some key.0 (all key.0 key.1)))
-shows_present {f = f} {ps = ps} {lists = lists} {keys = keys} is kept x (Some k) all found =
-    let at = found k refl in
-    sym (ap (has_node f.trees) (sym (get_or_from_slice_get f.names k x _ at)) ∙ shows_there is kept k (slice_get_within f.names k x at))
+  -- what is found is there
+  pub shows_present : (x : NodeName) (r : Option ℕ) → ((k : ℕ) → slice_get f.names k ≡ Some x → r ≡ Some k) → ForSome r (λ k. slice_get f.names k ≡ Some x) →
+      is_some r ≡ has_node f.trees x
+  shows_present x None all found = sym (false_from_ne_true _ (λ there.
+      let key = shows_only x there in
+      none-some key.0 (all key.0 key.1)))
+  shows_present x (Some k) all found =
+      let at = found k refl in
+      sym (ap (has_node f.trees) (sym (get_or_from_slice_get f.names k x _ at)) ∙ shows_there k (slice_get_within f.names k x at))

@@ -67,7 +67,7 @@ keys_at-once nodes lists whole top node = IsOnce-times (in_trees lists (tree_at 
         let inside : k < length lists = omega (arith, slice_get_within nodes k key.0 key.1) in
         let is = name_here nodes k key.0 key.1 in
         let all : times_in (trees_of nodes lists) key.0.name ≡ 1 =
-        ap (times_in (trees_of nodes lists)) is ∙ once-within nodes lists whole (length (ancestors_of lists k)) k (omega arith) inside in
+        ap (times_in (trees_of nodes lists)) is ∙ once-within whole (length (ancestors_of lists k)) k (omega arith) inside in
         omega (
           arith,
           times-in_trees nodes lists whole.named k key.0 key.1 (tree_at nodes lists top) (top ∷ []) s,
@@ -76,10 +76,10 @@ keys_at-once nodes lists whole top node = IsOnce-times (in_trees lists (tree_at 
           all,
         )
 
-pub keys_at-inside : (nodes : List Node) (lists : List (List ℕ)) → IsWhole nodes lists → (top x : ℕ) → top < length lists →
+pub keys_at-inside : {nodes : List Node} {lists : List (List ℕ)} → IsWhole nodes lists → (top x : ℕ) → top < length lists →
     contains (x ∷ ancestors_of lists x) top ≡ true → contains (keys_at nodes lists top) x ≡ true
 unfolding keys_at
-keys_at-inside nodes lists whole top x node above =
+keys_at-inside {nodes} {lists} whole top x node above =
     in_top nodes lists whole.forest top (tree_at nodes lists top) (subtree_here nodes lists whole top node) (length (ancestors_of lists x)) x
     (omega arith) above
 
@@ -88,13 +88,13 @@ pub keys_at-named : (nodes : List Node) (lists : List (List ℕ)) → IsWhole no
 unfolding keys_at
 keys_at-named nodes lists whole top node = names-in_trees nodes lists (tree_at nodes lists top) (top ∷ []) (subtree_here nodes lists whole top node)
 
-pub keys_at-told : (nodes : List Node) (lists : List (List ℕ)) → IsWhole nodes lists → (top x : ℕ) → top < length lists → x < length lists →
+pub keys_at-told : {nodes : List Node} {lists : List (List ℕ)} → IsWhole nodes lists → (top x : ℕ) → top < length lists → x < length lists →
     Tells (name_of_key nodes) x (keys_at nodes lists top)
 unfolding keys_at
-keys_at-told nodes lists whole top x node at_x k found =
+keys_at-told {nodes} {lists} whole top x node at_x k found =
     let key = key-in_trees nodes lists k (tree_at nodes lists top) (top ∷ []) (subtree_here nodes lists whole top node) found in
     let paired = whole.paired in
-    name_of_key-eq nodes lists whole x k at_x (omega (arith, slice_get_within nodes k key.0 key.1)) ∙ turned (eqb_tells x k)
+    name_of_key-eq whole x k at_x (omega (arith, slice_get_within nodes k key.0 key.1)) ∙ turned (eqb_tells x k)
   where
     turned : ((eqb x k ≡ true) × (x ≡ k)) ⊎ ((eqb x k ≡ false) × (x ≢ k)) → eqb x k ≡ eqb k x
     turned (inl h) = h.0 ∙ sym (eq-eqb k x (sym h.1))
@@ -114,9 +114,9 @@ unfolding behind_in
 behind_in-top nodes lists whole top node = behind-alone nodes lists top (tree_at nodes lists top) (subtree_here nodes lists whole top node)
 
 -- the node above one that is not the top
-pub still_below : (lists : List (List ℕ)) → IsForest lists → (top x p : ℕ) → (x ≡ top → ⊥) → contains (x ∷ ancestors_of lists x) top ≡ true →
+pub still_below : {lists : List (List ℕ)} → IsForest lists → {top x p : ℕ} → (x ≡ top → ⊥) → contains (x ∷ ancestors_of lists x) top ≡ true →
     parent_of lists x ≡ Some p → contains (p ∷ ancestors_of lists p) top ≡ true
-still_below lists forest top x p other above e = elim (or_cases (eqb x top) _ above) [
+still_below {lists} forest {top} {x} {p} other above e = elim (or_cases (eqb x top) _ above) [
   | inl h ↦ absurd (other (eqb-true x top h))
   | inr h ↦ ap (λ ys. contains ys top) (sym (ancestors_of-child lists forest x p e)) ∙ h
 ]
@@ -149,31 +149,31 @@ next_from-none (k ∷ ks) after x found e = elim (cases_Bool (eqb k x)) [
     by [] e' = refl
     by (j ∷ js) e' = absurd (none-some j (sym e'))
 
-behind_in-child : (nodes : List Node) (lists : List (List ℕ)) → IsWhole nodes lists → (top x p : ℕ) → top < length lists → (x ≡ top → ⊥) →
+behind_in-child : {nodes : List Node} {lists : List (List ℕ)} → IsWhole nodes lists → {top x p : ℕ} → top < length lists → (x ≡ top → ⊥) →
     contains (x ∷ ancestors_of lists x) top ≡ true → parent_of lists x ≡ Some p
     → behind_in nodes lists top x ≡ next_from (children_of lists p) (behind_in nodes lists top p) x
 unfolding behind_in keys_at
-behind_in-child nodes lists whole top x p node other above e =
+behind_in-child {nodes} {lists} whole {top} {x} {p} node other above e =
     behind-child nodes lists p x (contains-parent lists x p e) (tree_at nodes lists top) (top ∷ []) None (subtree_here nodes lists whole top node)
     (keys_at-once nodes lists whole top node)
-    (keys_at-inside nodes lists whole top p node (still_below lists whole.forest top x p other above e))
+    (keys_at-inside whole top p node (still_below whole.forest other above e))
 
 -- it is the sibling just after the node, and else what stands behind its parent
-pub behind_in-next : (nodes : List Node) (lists : List (List ℕ)) → IsWhole nodes lists → (top x y : ℕ) → top < length lists → (x ≡ top → ⊥) →
+pub behind_in-next : {nodes : List Node} {lists : List (List ℕ)} → IsWhole nodes lists → {top x y : ℕ} → top < length lists → (x ≡ top → ⊥) →
     contains (x ∷ ancestors_of lists x) top ≡ true → next_of lists x ≡ Some y
     → behind_in nodes lists top x ≡ Some y
-behind_in-next nodes lists whole top x y node other above e = elim (cases_Option (parent_of lists x)) [
+behind_in-next {nodes} {lists} whole {top} {x} {y} node other above e = elim (cases_Option (parent_of lists x)) [
   | inl h ↦ absurd (has_above lists top x other above h)
   | inr w ↦
-      behind_in-child nodes lists whole top x w.0 node other above w.1
+      behind_in-child whole node other above w.1
       ∙ next_from-some (children_of lists w.0) (behind_in nodes lists top w.0) x y (sym (ap (option_and_then (λ p. next_in (children_of lists p) x)) w.1) ∙ e)
 ]
 
-pub behind_in-parent : (nodes : List Node) (lists : List (List ℕ)) → IsWhole nodes lists → (top x p : ℕ) → top < length lists → (x ≡ top → ⊥) →
+pub behind_in-parent : {nodes : List Node} {lists : List (List ℕ)} → IsWhole nodes lists → {top x p : ℕ} → top < length lists → (x ≡ top → ⊥) →
     contains (x ∷ ancestors_of lists x) top ≡ true → next_of lists x ≡ None → parent_of lists x ≡ Some p
     → behind_in nodes lists top x ≡ behind_in nodes lists top p
-behind_in-parent nodes lists whole top x p node other above e h =
-    behind_in-child nodes lists whole top x p node other above h
+behind_in-parent {nodes} {lists} whole {top} {x} {p} node other above e h =
+    behind_in-child whole node other above h
     ∙ next_from-none (children_of lists p) (behind_in nodes lists top p) x (contains-parent lists x p h)
     (sym (ap (option_and_then (λ q. next_in (children_of lists q) x)) h) ∙ e)
 
@@ -186,11 +186,11 @@ pub head_or-lacking : (ks : List ℕ) (after r : Option ℕ) → r ≡ head_of k
 head_or-lacking [] after r e lacking = refl
 head_or-lacking (k ∷ ks) after r e lacking = absurd (true≢false (sym (lacking ∙ ap is_some e)))
 
-pub behind_in-here : (nodes : List Node) (lists : List (List ℕ)) → IsWhole nodes lists → (top x : ℕ) (r : Option ℕ) → top < length lists →
+pub behind_in-here : {nodes : List Node} {lists : List (List ℕ)} → IsWhole nodes lists → {top x : ℕ} {r : Option ℕ} → top < length lists →
     (x ≡ top → ⊥) → contains (x ∷ ancestors_of lists x) top ≡ true → r ≡ next_of lists x → true ≡ is_some r
     → r ≡ behind_in nodes lists top x
-behind_in-here nodes lists whole top x None node other above e here = absurd (true≢false here)
-behind_in-here nodes lists whole top x (Some y) node other above e here = sym (behind_in-next nodes lists whole top x y node other above (sym e))
+behind_in-here whole {r = None} node other above e here = absurd (true≢false here)
+behind_in-here whole {r = Some y} node other above e here = sym (behind_in-next whole node other above (sym e))
 
 pub lacks : (r : Option ℕ) → false ≡ is_some r → r ≡ None
 lacks None e = refl
@@ -207,19 +207,19 @@ told_same x y e = elim (eqb_tells x y) [
 ]
 
 -- the node just behind another one
-following-at : (nodes : List Node) (lists : List (List ℕ)) → IsWhole nodes lists → (top x : ℕ) → top < length lists → x < length lists →
+following-at : {nodes : List Node} {lists : List (List ℕ)} → IsWhole nodes lists → (top x : ℕ) → top < length lists → x < length lists →
     contains (x ∷ ancestors_of lists x) top ≡ true
     → first_of (items_after name_eq (name_of_key nodes x) (inclusive_descendants (trees_of nodes lists) (name_of_key nodes top))) ≡ option_map
     (name_of_key nodes) (head_or (children_of lists x) (behind_in nodes lists top x))
 unfolding behind_in keys_at
-following-at nodes lists whole top x node at_x above =
+following-at {nodes} {lists} whole top x node at_x above =
     let s = subtree_here nodes lists whole top node in
     let ks = in_trees lists (tree_at nodes lists top) (top ∷ []) in
     ap (λ ys. first_of (items_after name_eq (name_of_key nodes x) ys)) (keys_at-named nodes lists whole top node)
-    ∙ (first_of-items_after (name_of_key nodes) x ks (keys_at-told nodes lists whole top x node at_x)
+    ∙ (first_of-items_after (name_of_key nodes) x ks (keys_at-told whole top x node at_x)
     ∙ ap (option_map (name_of_key nodes))
     (next_in_is ks x ∙ next-in_trees nodes lists x (tree_at nodes lists top) (top ∷ []) None s
-    (keys_at-inside nodes lists whole top x node above)))
+    (keys_at-inside whole top x node above)))
 
 -- ---- the answers
 
@@ -234,7 +234,7 @@ shows_following {f = f} {ps = ps} {lists = lists} {keys = keys} is kept top x r 
     subst (λ (g : NamedTrees). option_map (name_at g.names) r ≡ first_of
     (items_after name_eq (name_at g.names x) (inclusive_descendants g.trees (name_at g.names top)))) is
     (names_option ps r ∙ (ap (option_map (name_of_key (nodes_of ps))) result
-    ∙ (sym (following-at (nodes_of ps) lists (IsWhole-kept kept) top x (omega arith) (omega arith) above)
+    ∙ (sym (following-at (IsWhole-kept kept) top x (omega arith) (omega arith) above)
     ∙ (ap (λ y. first_of (items_after name_eq y (inclusive_descendants (trees_of (nodes_of ps) lists) (name_of_key (nodes_of ps) top))))
     (sym (name_at-same (stored_names ps) ps x))
     ∙ ap (λ y. first_of (items_after name_eq (name_at (stored_names ps) x) (inclusive_descendants (trees_of (nodes_of ps) lists) y)))

@@ -53,7 +53,7 @@ in_order-trees nodes lists whole (k ∷ ks) each =
         (λ j found. within j (sym (contains-in_order nodes js j) ∙ found))
 
     same : trees_on nodes lists (in_order nodes (k ∷ ks)) ≡ put_root (name_of_key nodes k) new rest
-    same = Stands-one nodes lists _ _ (in_order nodes (k ∷ ks)) (stands (k ∷ ks) each)
+    same = Stands-one nodes lists _ (in_order nodes (k ∷ ks)) (stands (k ∷ ks) each)
         (Stands-put_root nodes lists new k (stands (k ∷ []) (λ j found. head j (or_cases (eqb k j) false found))) rest (in_order nodes ks) (stands ks later))
 
 -- so the roots of a forest are

@@ -217,12 +217,12 @@ own-without o x (tree n c r) = elim (cases_Bool (name_eq n.name x)) [
 ]
 
 -- another owner's trees never had it
-without-apart : (o p : Owner) → owner_eq p o ≡ false → (x : NodeName) → x.owner ≡ o → (ts : Trees) → AreOf p ts → without x ts ≡ ts
-without-apart o p apart x is none of = refl
-without-apart o p apart x is (tree n c r) of =
-    rw (name_apart o p apart x n.name is of.0, without-apart o p apart x is c of.1) (ap (tree n c) (without-apart o p apart x is r of.2))
+without-apart : {o : Owner} (p : Owner) → owner_eq p o ≡ false → (x : NodeName) → x.owner ≡ o → (ts : Trees) → AreOf p ts → without x ts ≡ ts
+without-apart p apart x is none of = refl
+without-apart {o} p apart x is (tree n c r) of =
+    rw (name_apart o p apart x n.name is of.0, without-apart p apart x is c of.1) (ap (tree n c) (without-apart p apart x is r of.2))
 
 -- so they stay as they are
-pub others-without : (o p : Owner) → owner_eq p o ≡ false → (x : NodeName) → x.owner ≡ o → (ts : Trees) → HaveOwners ts →
+pub others-without : {o : Owner} (p : Owner) → owner_eq p o ≡ false → (x : NodeName) → x.owner ≡ o → (ts : Trees) → HaveOwners ts →
     trees_of_owner p (without x ts) ≡ trees_of_owner p ts
-others-without o p apart x is ts have = own-without p x ts ∙ without-apart o p apart x is (trees_of_owner p ts) (AreOf-own p ts have)
+others-without p apart x is ts have = own-without p x ts ∙ without-apart p apart x is (trees_of_owner p ts) (AreOf-own p ts have)

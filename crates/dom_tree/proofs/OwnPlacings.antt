@@ -4,7 +4,7 @@ use Rattle.std.proofs.lemmas.Bool.{cases_Bool, cond_both}
 use Rattle.dom_base.specs.declared.Owner.{Owner}
 use Rattle.dom_base.specs.declared.NodeName.{NodeName}
 use Rattle.dom_model.specs.Names.{owner_eq, name_eq, name_before, is_in}
-use Rattle.dom_model.specs.Tree.{Trees, none, tree, Node, subtree, inclusive_descendants}
+use Rattle.dom_model.specs.Tree.{Trees, none, tree, Node, subtree}
 use Rattle.dom_model.specs.TreeChanges.{without, is_given, put_before, put_below, put_root, taken_out, placed, with_node, map_nodes}
 use Rattle.dom_model.specs.TreeChanges.{change_node, change_subtree}
 use Rattle.dom_model.proofs.OwnerLaws.{owner_eq-true, owner_eq-same, ne-owner_eq, name_eq-true}
@@ -132,77 +132,77 @@ mapped o f ts owned keeps off = record {
 
 -- ---- the laws
 
--- a new node of an owner
-pub added : (ts : Trees) → AreOwned ts → (o : Owner) (n : Node) → n.name.owner ≡ o → IsOwnChange o (with_node n) ts
-added ts owned o n is = record {
-  owned = record {
-    owners = HaveOwners-put_root n.name (tree n none none) ts refl (tt, tt) owned.owners;
-    order = AreInOrder-put_root n.name (tree n none none) ts refl owned.order;
-  };
-  own = own-put_root o n.name (tree n none none) ts refl (is, tt, tt) owned.order;
-  others = λ p apart. others-put_root o p (ne-owner_eq o p (λ e. apart (sym e))) n.name (tree n none none) ts refl (is, tt, tt);
-}
+module _ (ts : Trees) (owned : AreOwned ts) (o : Owner) where
+  -- a new node of an owner
+  pub added : (n : Node) → n.name.owner ≡ o → IsOwnChange o (with_node n) ts
+  added n is = record {
+    owned = record {
+      owners = HaveOwners-put_root n.name (tree n none none) ts refl (tt, tt) owned.owners;
+      order = AreInOrder-put_root n.name (tree n none none) ts refl owned.order;
+    };
+    own = own-put_root o n.name (tree n none none) ts refl (is, tt, tt) owned.order;
+    others = λ p apart. others-put_root o p (ne-owner_eq o p (λ e. apart (sym e))) n.name (tree n none none) ts refl (is, tt, tt);
+  }
 
--- an owner's node taken out of its tree
-pub taken : (ts : Trees) → AreOwned ts → (o : Owner) (x : NodeName) → x.owner ≡ o → IsOwnChange o (taken_out x) ts
-taken ts owned o x is =
-    let rest = owned-without x ts owned in
-    let new = subtree ts x in
-    let of : AreOf o (subtree ts x) = AreOf-alone o x is ts owned.owners in
-    let alone = IsAlone-subtree x ts in
-    record {
-      owned = record {
-        owners = HaveOwners-put_root x new (without x ts) alone (HaveOwners-one o new of) rest.owners;
-        order = AreInOrder-put_root x new (without x ts) alone rest.order;
-      };
-      own = own-put_root o x new (without x ts) alone of rest.order
-          ∙ (ap (put_root x new) (own-without o x ts) ∙ ap (λ us. put_root x us (without x (trees_of_owner o ts))) (read_own ts owned o x is).alone);
-      others = λ p apart. others-put_root o p (ne-owner_eq o p (λ e. apart (sym e))) x new (without x ts) alone of
-          ∙ others-without o p (ne-owner_eq p o apart) x is ts owned.owners;
-    }
+  -- an owner's node taken out of its tree
+  pub taken : (x : NodeName) → x.owner ≡ o → IsOwnChange o (taken_out x) ts
+  taken x is =
+      let rest = owned-without x ts owned in
+      let new = subtree ts x in
+      let of : AreOf o (subtree ts x) = AreOf-alone o x is ts owned.owners in
+      let alone = IsAlone-subtree x ts in
+      record {
+        owned = record {
+          owners = HaveOwners-put_root x new (without x ts) alone (HaveOwners-one o new of) rest.owners;
+          order = AreInOrder-put_root x new (without x ts) alone rest.order;
+        };
+        own = own-put_root o x new (without x ts) alone of rest.order
+            ∙ (ap (put_root x new) (own-without o x ts) ∙ ap (λ us. put_root x us (without x (trees_of_owner o ts))) (read_own ts owned o x is).alone);
+        others = λ p apart. others-put_root o p (ne-owner_eq o p (λ e. apart (sym e))) x new (without x ts) alone of
+            ∙ others-without p (ne-owner_eq p o apart) x is ts owned.owners;
+      }
 
--- an owner's tree placed below an owner's node
-pub put : (ts : Trees) → AreOwned ts → (o : Owner) (x parent : NodeName) (before : Option NodeName) → x.owner ≡ o → parent.owner ≡ o
-    → IsOwnChange o (placed x parent before) ts
-put ts owned o x parent before is is_parent =
-    let rest = owned-without x ts owned in
-    let new = subtree ts x in
-    let of : AreOf o (subtree ts x) = AreOf-alone o x is ts owned.owners in
-    record {
-      owned = record {
-        owners = HaveOwners-put_below o parent before new (without x ts) is_parent of rest.owners;
-        order = AreInOrder-put_below parent before new (without x ts) rest.order;
-      };
-      own = own-put_below o parent before new (without x ts)
-          ∙ (ap (put_below parent before new) (own-without o x ts) ∙ ap (λ us. put_below parent before us (without x (trees_of_owner o ts)))
-          (read_own ts owned o x is).alone);
-      others = λ p apart. own-put_below p parent before new (without x ts)
-          ∙ (ap (put_below parent before new) (others-without o p (ne-owner_eq p o apart) x is ts owned.owners)
-          ∙ put_below-apart o p (ne-owner_eq p o apart) parent is_parent before new (trees_of_owner p ts) (AreOf-own p ts owned.owners));
-    }
+  -- an owner's tree placed below an owner's node
+  pub put : (x parent : NodeName) (before : Option NodeName) → x.owner ≡ o → parent.owner ≡ o
+      → IsOwnChange o (placed x parent before) ts
+  put x parent before is is_parent =
+      let rest = owned-without x ts owned in
+      let new = subtree ts x in
+      let of : AreOf o (subtree ts x) = AreOf-alone o x is ts owned.owners in
+      record {
+        owned = record {
+          owners = HaveOwners-put_below o parent before new (without x ts) is_parent of rest.owners;
+          order = AreInOrder-put_below parent before new (without x ts) rest.order;
+        };
+        own = own-put_below o parent before new (without x ts)
+            ∙ (ap (put_below parent before new) (own-without o x ts) ∙ ap (λ us. put_below parent before us (without x (trees_of_owner o ts)))
+            (read_own ts owned o x is).alone);
+        others = λ p apart. own-put_below p parent before new (without x ts)
+            ∙ (ap (put_below parent before new) (others-without p (ne-owner_eq p o apart) x is ts owned.owners)
+            ∙ put_below-apart o p (ne-owner_eq p o apart) parent is_parent before new (trees_of_owner p ts) (AreOf-own p ts owned.owners));
+      }
 
 -- a node changed where a test holds, which it does for nodes of one owner alone
-changed_where : (o : Owner) (f : Node → Node) (test : NodeName → Bool) (ts : Trees) → AreOwned ts → ((n : Node) → (f n).name ≡ n.name)
+changed_where : {o : Owner} (f : Node → Node) {test : NodeName → Bool} {ts : Trees} → AreOwned ts → ((n : Node) → (f n).name ≡ n.name)
     → ((x : NodeName) → test x ≡ true → x.owner ≡ o) → IsOwnChange o (map_nodes (λ n. cond (test n.name) (f n) n)) ts
-changed_where o f test ts owned keeps of = mapped o (λ n. cond (test n.name) (f n) n) ts owned
+changed_where {o} f {test} {ts} owned keeps of = mapped o (λ n. cond (test n.name) (f n) n) ts owned
     (λ n. cond_both (test n.name) (f n) n (λ m. m.name ≡ n.name) (λ e. keeps n) (λ e. refl))
     (λ p apart n is. cond_both (test n.name) (f n) n (λ m. m ≡ n)
     (λ e. absurd (true≢false (sym (owner_eq-same o) ∙ (ap (λ q. owner_eq q o) (sym (of n.name e) ∙ is) ∙ apart)))) (λ e. refl))
 
--- other contents of an owner's node
-pub changed_node : (ts : Trees) → AreOwned ts → (o : Owner) (f : Node → Node) (x : NodeName) → ((n : Node) → (f n).name ≡ n.name) → x.owner ≡ o
-    → IsOwnChange o (change_node f x) ts
-changed_node ts owned o f x keeps is =
-    let whole = changed_where o f (λ y. name_eq y x) ts owned keeps (λ y e. ap (λ (z : NodeName). z.owner) (name_eq-true y x e) ∙ is) in
-    record { owned = whole.owned; own = whole.own; others = whole.others }
+module _ (ts : Trees) (owned : AreOwned ts) (o : Owner) (f : Node → Node) (x : NodeName) (keeps : ((n : Node) → (f n).name ≡ n.name)) (is : x.owner ≡ o) where
+  -- other contents of an owner's node
+  pub changed_node : IsOwnChange o (change_node f x) ts
+  changed_node =
+      let whole = changed_where f owned keeps (λ y e. ap (λ (z : NodeName). z.owner) (name_eq-true y x e) ∙ is) in
+      record { owned = whole.owned; own = whole.own; others = whole.others }
 
--- other contents of an owner's node and all below it
-pub changed_subtree : (ts : Trees) → AreOwned ts → (o : Owner) (f : Node → Node) (x : NodeName) → ((n : Node) → (f n).name ≡ n.name) → x.owner ≡ o
-    → IsOwnChange o (change_subtree f x) ts
-changed_subtree ts owned o f x keeps is =
-    let whole = changed_where o f (λ y. is_in name_eq y (inclusive_descendants ts x)) ts owned keeps (stays_own ts owned o x is).inside in
-    record {
-      owned = whole.owned;
-      own = whole.own ∙ ap (λ ys. map_nodes (λ n. cond (is_in name_eq n.name ys) (f n) n) (trees_of_owner o ts)) (read_own ts owned o x is).inside;
-      others = whole.others;
-    }
+  -- other contents of an owner's node and all below it
+  pub changed_subtree : IsOwnChange o (change_subtree f x) ts
+  changed_subtree =
+      let whole = changed_where f owned keeps (stays_own ts owned o x is).inside in
+      record {
+        owned = whole.owned;
+        own = whole.own ∙ ap (λ ys. map_nodes (λ n. cond (is_in name_eq n.name ys) (f n) n) (trees_of_owner o ts)) (read_own ts owned o x is).inside;
+        others = whole.others;
+      }

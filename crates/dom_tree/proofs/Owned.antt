@@ -63,18 +63,18 @@ pub name_apart : (o p : Owner) → owner_eq p o ≡ false → (x y : NodeName) �
 name_apart o p apart x y of_x of_y = and_left (owner_eq y.owner x.owner) _ (rw (of_x, of_y) apart)
 
 -- so it is not among the other's
-reaches-apart : (o p : Owner) → owner_eq p o ≡ false → (x : NodeName) → x.owner ≡ o → (ts : Trees) → AreOf p ts → reaches ts x ≡ false
-reaches-apart o p apart x is none of = refl
-reaches-apart o p apart x is (tree n c r) of =
+reaches-apart : {o : Owner} (p : Owner) → owner_eq p o ≡ false → (x : NodeName) → x.owner ≡ o → (ts : Trees) → AreOf p ts → reaches ts x ≡ false
+reaches-apart p apart x is none of = refl
+reaches-apart {o} p apart x is (tree n c r) of =
     or_from (name_eq n.name x) _ (name_apart o p apart x n.name is of.0)
-    (or_from (reaches c x) _ (reaches-apart o p apart x is c of.1) (reaches-apart o p apart x is r of.2))
+    (or_from (reaches c x) _ (reaches-apart p apart x is c of.1) (reaches-apart p apart x is r of.2))
 
 -- the tree of an owner's node, alone
 subtree-own : (o : Owner) (x : NodeName) → x.owner ≡ o → (ts : Trees) → HaveOwners ts → subtree ts x ≡ subtree (trees_of_owner o ts) x
 subtree-own o x is none have = refl
 subtree-own o x is (tree n c r) have = elim (cases_Bool (owner_eq n.name.owner o)) [
   | inl e ↦ rw e (ap (λ t. cond (name_eq n.name x) (tree n c none) (or_else (subtree c x) t)) (subtree-own o x is r have.1))
-  | inr e ↦ rw (e, name_apart o n.name.owner e x n.name is refl, subtree-none c x (reaches-apart o n.name.owner e x is c have.0)) (subtree-own o x is r have.1)
+  | inr e ↦ rw (e, name_apart o n.name.owner e x n.name is refl, subtree-none c x (reaches-apart n.name.owner e x is c have.0)) (subtree-own o x is r have.1)
 ]
 
 -- the nodes above an owner's node
@@ -82,7 +82,7 @@ path-own : (o : Owner) (x : NodeName) → x.owner ≡ o → (ts : Trees) → Hav
 path-own o x is none have = refl
 path-own o x is (tree n c r) have = elim (cases_Bool (owner_eq n.name.owner o)) [
   | inl e ↦ rw e (ap (λ t. cond (name_eq n.name x) (x ∷ []) (on_top (inclusive_ancestors c x) n.name t)) (path-own o x is r have.1))
-  | inr e ↦ rw (e, name_apart o n.name.owner e x n.name is refl, inclusive_ancestors-none c x (reaches-apart o n.name.owner e x is c have.0))
+  | inr e ↦ rw (e, name_apart o n.name.owner e x n.name is refl, inclusive_ancestors-none c x (reaches-apart n.name.owner e x is c have.0))
       (path-own o x is r have.1)
 ]
 
@@ -97,7 +97,7 @@ find-own o x is (tree n c r) have =
       | inl e ↦ rw e (ap (λ t. cond (p n) (Some n) t)
           (split (nodes r) ∙ (ap (option_or (find p (nodes c))) (find-own o x is r have.1) ∙ sym (split (nodes (trees_of_owner o r))))))
       | inr e ↦ rw (e, name_apart o n.name.owner e x n.name is refl)
-          (split (nodes r) ∙ (ap (λ t. option_or t (find p (nodes r))) (find-none c x (reaches-apart o n.name.owner e x is c have.0)) ∙
+          (split (nodes r) ∙ (ap (λ t. option_or t (find p (nodes r))) (find-none c x (reaches-apart n.name.owner e x is c have.0)) ∙
           find-own o x is r have.1))
     ]
 
@@ -106,7 +106,7 @@ reaches-own : (o : Owner) (x : NodeName) → x.owner ≡ o → (ts : Trees) → 
 reaches-own o x is none have = refl
 reaches-own o x is (tree n c r) have = elim (cases_Bool (owner_eq n.name.owner o)) [
   | inl e ↦ rw e (ap (λ b. name_eq n.name x || (reaches c x || b)) (reaches-own o x is r have.1))
-  | inr e ↦ rw (e, name_apart o n.name.owner e x n.name is refl, reaches-apart o n.name.owner e x is c have.0) (reaches-own o x is r have.1)
+  | inr e ↦ rw (e, name_apart o n.name.owner e x n.name is refl, reaches-apart n.name.owner e x is c have.0) (reaches-own o x is r have.1)
 ]
 
 -- ---- what is read of an owner's trees is the owner's
@@ -174,16 +174,16 @@ AreOf-subtree o x (tree n c r) of = elim (cases_Bool (name_eq n.name x)) [
 ]
 
 -- a path with a node on top
-AllOf-on_top : (o : Owner) (x : NodeName) (path others : List NodeName) → x.owner ≡ o → AllOf o path → AllOf o others → AllOf o (on_top path x others)
-AllOf-on_top o x [] others is all rest = rest
-AllOf-on_top o x (a ∷ path) others is all rest = AllOf-append o (a ∷ path) (x ∷ []) all (is, tt)
+AllOf-on_top : {o : Owner} (x : NodeName) (path others : List NodeName) → x.owner ≡ o → AllOf o path → AllOf o others → AllOf o (on_top path x others)
+AllOf-on_top x [] others is all rest = rest
+AllOf-on_top {o} x (a ∷ path) others is all rest = AllOf-append o (a ∷ path) (x ∷ []) all (is, tt)
 
 -- the path of an owner's node in an owner's trees
 AllOf-path : (o : Owner) (x : NodeName) → x.owner ≡ o → (ts : Trees) → AreOf o ts → AllOf o (inclusive_ancestors ts x)
 AllOf-path o x is none of = tt
 AllOf-path o x is (tree n c r) of = elim (cases_Bool (name_eq n.name x)) [
   | inl e ↦ rw e (is, tt)
-  | inr e ↦ rw e (AllOf-on_top o n.name (inclusive_ancestors c x) (inclusive_ancestors r x) of.0 (AllOf-path o x is c of.1) (AllOf-path o x is r of.2))
+  | inr e ↦ rw e (AllOf-on_top n.name (inclusive_ancestors c x) (inclusive_ancestors r x) of.0 (AllOf-path o x is c of.1) (AllOf-path o x is r of.2))
 ]
 
 -- the tree of an owner's node is the owner's
@@ -258,9 +258,9 @@ read_own ts owned o x is = record {
 -- ---- validity
 
 -- the tests of an insertion among an owner's nodes
-placing-own : (ts : Trees) → AreOwned ts → (o : Owner) (parent node : NodeName) (is_lost : Bool) (others : List Node) → parent.owner ≡ o → node.owner ≡ o
+placing-own : {ts : Trees} → AreOwned ts → {o : Owner} (parent node : NodeName) {is_lost : Bool} (others : List Node) → parent.owner ≡ o → node.owner ≡ o
     → placing_tests ts parent node is_lost others ≡ placing_tests (trees_of_owner o ts) parent node is_lost others
-placing-own ts owned o parent node is_lost others of_parent of_node =
+placing-own {ts} owned {o} parent node others of_parent of_node =
     let around = read_own ts owned o parent of_parent in
     let inside = read_own ts owned o node of_node in
     let into : kind_of ts parent ≡ kind_of (trees_of_owner o ts) parent = ap (λ (n : Node). n.kind) around.node in
@@ -270,38 +270,39 @@ placing-own ts owned o parent node is_lost others of_parent of_node =
     let breaks : breaks_document ts node others ≡ breaks_document (trees_of_owner o ts) node others = rw (kind, below) refl in
     cc
 
--- whether an owner's node has a parent
-has_parent-own : (ts : Trees) → AreOwned ts → (o : Owner) (parent x : NodeName) → x.owner ≡ o →
-    has_parent ts parent x ≡ has_parent (trees_of_owner o ts) parent x
-has_parent-own ts owned o parent x is = ap (λ q. option_map_or (name_eq parent) q false) (read_own ts owned o x is).parent
+module _ (ts : Trees) (owned : AreOwned ts) (o : Owner) (parent : NodeName) where
+  -- whether an owner's node has a parent
+  has_parent-own : (x : NodeName) → x.owner ≡ o →
+      has_parent ts parent x ≡ has_parent (trees_of_owner o ts) parent x
+  has_parent-own x is = ap (λ q. option_map_or (name_eq parent) q false) (read_own ts owned o x is).parent
 
--- the refusal of an insertion among an owner's nodes
-pub insertion_own : (ts : Trees) → AreOwned ts → (o : Owner) (parent node : NodeName) (child : Option NodeName)
-    → parent.owner ≡ o → node.owner ≡ o → ForSome child (λ c. c.owner ≡ o)
-    → insertion_refusal ts parent node child ≡ insertion_refusal (trees_of_owner o ts) parent node child
-insertion_own ts owned o parent node child of_parent of_node of_child =
-    ap first_refusal (placing-own ts owned o parent node (lost ts child) (child_nodes ts parent) of_parent of_node
-    ∙ (ap (λ b. placing_tests us parent node b (child_nodes ts parent)) (same_lost child of_child)
-    ∙ ap (placing_tests us parent node (lost us child)) (read_own ts owned o parent of_parent).child_list))
-  where
-    us : Trees
-    us = trees_of_owner o ts
+  -- the refusal of an insertion among an owner's nodes
+  pub insertion_own : (node : NodeName) (child : Option NodeName)
+      → parent.owner ≡ o → node.owner ≡ o → ForSome child (λ c. c.owner ≡ o)
+      → insertion_refusal ts parent node child ≡ insertion_refusal (trees_of_owner o ts) parent node child
+  insertion_own node child of_parent of_node of_child =
+      ap first_refusal (placing-own owned parent node (child_nodes ts parent) of_parent of_node
+      ∙ (ap (λ b. placing_tests us parent node b (child_nodes ts parent)) (same_lost child of_child)
+      ∙ ap (placing_tests us parent node (lost us child)) (read_own ts owned o parent of_parent).child_list))
+    where
+      us : Trees
+      us = trees_of_owner o ts
 
-    lost : Trees → Option NodeName → Bool
-    lost vs given = option_map_or (λ c. not (has_parent vs parent c)) given false
+      lost : Trees → Option NodeName → Bool
+      lost vs given = option_map_or (λ c. not (has_parent vs parent c)) given false
 
-    same_lost : (given : Option NodeName) → ForSome given (λ c. c.owner ≡ o) → lost ts given ≡ lost us given
-    same_lost None of = refl
-    same_lost (Some c) of = ap not (has_parent-own ts owned o parent c (of c refl))
+      same_lost : (given : Option NodeName) → ForSome given (λ c. c.owner ≡ o) → lost ts given ≡ lost us given
+      same_lost None of = refl
+      same_lost (Some c) of = ap not (has_parent-own c (of c refl))
 
--- the refusal of a replacement among an owner's nodes
-pub replacement_own : (ts : Trees) → AreOwned ts → (o : Owner) (parent node child : NodeName)
-    → parent.owner ≡ o → node.owner ≡ o → child.owner ≡ o
-    → replacement_refusal ts parent node child ≡ replacement_refusal (trees_of_owner o ts) parent node child
-replacement_own ts owned o parent node child of_parent of_node of_child =
-    let us = trees_of_owner o ts in
-    let others : Trees → List Node = λ vs. without_given (Some child) (child_nodes vs parent) in
-    ap first_refusal (placing-own ts owned o parent node (not (has_parent ts parent child)) (others ts) of_parent of_node
-    ∙ (ap (λ b. placing_tests us parent node (not b) (others ts)) (has_parent-own ts owned o parent child of_child)
-    ∙ ap (λ ns. placing_tests us parent node (not (has_parent us parent child)) (without_given (Some child) ns))
-    (read_own ts owned o parent of_parent).child_list))
+  -- the refusal of a replacement among an owner's nodes
+  pub replacement_own : (node child : NodeName)
+      → parent.owner ≡ o → node.owner ≡ o → child.owner ≡ o
+      → replacement_refusal ts parent node child ≡ replacement_refusal (trees_of_owner o ts) parent node child
+  replacement_own node child of_parent of_node of_child =
+      let us = trees_of_owner o ts in
+      let others : Trees → List Node = λ vs. without_given (Some child) (child_nodes vs parent) in
+      ap first_refusal (placing-own owned parent node (others ts) of_parent of_node
+      ∙ (ap (λ b. placing_tests us parent node (not b) (others ts)) (has_parent-own child of_child)
+      ∙ ap (λ ns. placing_tests us parent node (not (has_parent us parent child)) (without_given (Some child) ns))
+      (read_own ts owned o parent of_parent).child_list))

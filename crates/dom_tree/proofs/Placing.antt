@@ -50,29 +50,29 @@ module _ (f : NamedTrees) (parent node : ℕ) (replaced : Option ℕ) (n : ℕ) 
   pub breaks-no : n ≤ 1 → (n ≡ 1 → ⊥) → nat_eq n 1 ≡ breaks
   breaks-no at_most other = let is = ne_eqb n 1 other in is ∙ sym (few at_most ∙ ap (λ b. b && nat_lt 0 (element_count others)) is)
 
--- names tell keys apart, as a caller sees them
-pub names_tell : {f : NamedTrees} {ps : List Stored} {lists : List (List ℕ)} {keys : Owner → List ℕ} → seen ps lists ≡ f → IsKept ps lists keys
-    → (p q : ℕ) → p < length f.names → q < length f.names → name_eq (name_at f.names p) (name_at f.names q) ≡ eqb q p
-names_tell {f = f} {ps = ps} {lists = lists} {keys = keys} is kept p q at_p at_q =
-    let inside_p = within is kept p at_p in
-    let inside_q = within is kept q at_q in
-    subst (λ (g : NamedTrees). name_eq (name_at g.names p) (name_at g.names q) ≡ eqb q p) is
-    (ap (λ y. name_eq y (name_at (stored_names ps) q)) (name_at-same (stored_names ps) ps p)
-    ∙ (ap (name_eq (name_of_key (nodes_of ps) p)) (name_at-same (stored_names ps) ps q)
-    ∙ (name_of_key-eq (nodes_of ps) lists (IsWhole-kept kept) p q (omega (arith, kept.paired)) (omega (arith, kept.paired)) ∙ turned (eqb_tells p q))))
-  where
-    turned : ((eqb p q ≡ true) × (p ≡ q)) ⊎ ((eqb p q ≡ false) × (p ≢ q)) → eqb p q ≡ eqb q p
-    turned (inl h) = h.0 ∙ sym (eq-eqb q p (sym h.1))
-    turned (inr h) = h.0 ∙ sym (ne_eqb q p (λ e. h.1 (sym e)))
+module _ {f : NamedTrees} {ps : List Stored} {lists : List (List ℕ)} {keys : Owner → List ℕ} (is : seen ps lists ≡ f) (kept : IsKept ps lists keys)
+    (p : ℕ) where
+  -- names tell keys apart, as a caller sees them
+  pub names_tell : (q : ℕ) → p < length f.names → q < length f.names → name_eq (name_at f.names p) (name_at f.names q) ≡ eqb q p
+  names_tell q at_p at_q =
+      let inside_p = within is kept p at_p in
+      let inside_q = within is kept q at_q in
+      subst (λ (g : NamedTrees). name_eq (name_at g.names p) (name_at g.names q) ≡ eqb q p) is
+      (ap (λ y. name_eq y (name_at (stored_names ps) q)) (name_at-same (stored_names ps) ps p)
+      ∙ (ap (name_eq (name_of_key (nodes_of ps) p)) (name_at-same (stored_names ps) ps q)
+      ∙ (name_of_key-eq (IsWhole-kept kept) p q (omega (arith, kept.paired)) (omega (arith, kept.paired)) ∙ turned (eqb_tells p q))))
+    where
+      turned : ((eqb p q ≡ true) × (p ≡ q)) ⊎ ((eqb p q ≡ false) × (p ≢ q)) → eqb p q ≡ eqb q p
+      turned (inl h) = h.0 ∙ sym (eq-eqb q p (sym h.1))
+      turned (inr h) = h.0 ∙ sym (ne_eqb q p (λ e. h.1 (sym e)))
 
--- whether a node has another parent, as the code tests it
-pub lost_test : {f : NamedTrees} {ps : List Stored} {lists : List (List ℕ)} {keys : Owner → List ℕ} → seen ps lists ≡ f → IsKept ps lists keys
-    → (p x : ℕ) (r : Option ℕ) → p < length f.names → x < length f.names → r ≡ parent_of lists x → ((q : ℕ) → r ≡ Some q → q < length f.names)
-    → not (option_eq KeyImpl.ghosts.eq r (Some p)) ≡ not (has_parent f.trees (name_at f.names p) (name_at f.names x))
-lost_test {f = f} {ps = ps} {lists = lists} {keys = keys} is kept p x r at_p at_x found inside =
-    ap not (by r inside ∙ ap (λ o. option_map_or (name_eq (name_at f.names p)) o false) (shows is kept parent_in parent_of parent_in-at x r at_x found))
-  where
-    by : (o : Option ℕ) → ((q : ℕ) → o ≡ Some q → q < length f.names) →
-        option_eq KeyImpl.ghosts.eq o (Some p) ≡ option_map_or (name_eq (name_at f.names p)) (option_map (name_at f.names) o) false
-    by None inside' = refl
-    by (Some q) inside' = sym (names_tell is kept p q at_p (inside' q refl))
+  -- whether a node has another parent, as the code tests it
+  pub lost_test : (x : ℕ) (r : Option ℕ) → p < length f.names → x < length f.names → r ≡ parent_of lists x → ((q : ℕ) → r ≡ Some q → q < length f.names)
+      → not (option_eq KeyImpl.ghosts.eq r (Some p)) ≡ not (has_parent f.trees (name_at f.names p) (name_at f.names x))
+  lost_test x r at_p at_x found inside =
+      ap not (by r inside ∙ ap (λ o. option_map_or (name_eq (name_at f.names p)) o false) (shows is kept parent_in parent_of parent_in-at x r at_x found))
+    where
+      by : (o : Option ℕ) → ((q : ℕ) → o ≡ Some q → q < length f.names) →
+          option_eq KeyImpl.ghosts.eq o (Some p) ≡ option_map_or (name_eq (name_at f.names p)) (option_map (name_at f.names) o) false
+      by None inside' = refl
+      by (Some q) inside' = sym (names_tell q at_p (inside' q refl))

@@ -38,7 +38,7 @@ reaches-root nodes lists named x m at none [] s found = absurd (true≢false (sy
 reaches-root nodes lists named x m at none (k ∷ ks) s found = absurd s
 reaches-root nodes lists named x m at (tree n c r) [] s found = absurd s
 reaches-root nodes lists named x m at (tree n c r) (k ∷ ks) s found = elim (or_cases (eqb k x) (contains ks x) found) [
-  | inl h ↦ or_left (name_eq n.name m.name) _ (same_name nodes named k x n m s.0 at ∙ h)
+  | inl h ↦ or_left (name_eq n.name m.name) _ (same_name named k x s.0 at ∙ h)
   | inr h ↦ or_right (name_eq n.name m.name) _ (or_right (reaches c m.name) _ (reaches-root nodes lists named x m at r ks s.2 h))
 ]
 
@@ -48,7 +48,7 @@ pub reaches-child : (nodes : List Node) (lists : List (List ℕ)) → IsNamed no
 reaches-child nodes lists named p x q m at_p at_x child none ks s found = absurd (true≢false (sym found))
 reaches-child nodes lists named p x q m at_p at_x child (tree n c r) [] s found = absurd s
 reaches-child nodes lists named p x q m at_p at_x child (tree n c r) (k ∷ ks) s found =
-    let tells : name_eq n.name q.name ≡ eqb k p = same_name nodes named k p n q s.0 at_p in
+    let tells : name_eq n.name q.name ≡ eqb k p = same_name named k p s.0 at_p in
     elim (or_cases (name_eq n.name q.name) _ found) [
       | inl h ↦ elim (eqb_tells k p) [
         | inl e ↦ or_right (name_eq n.name m.name) _
@@ -63,31 +63,28 @@ reaches-child nodes lists named p x q m at_p at_x child (tree n c r) (k ∷ ks) 
       ]
     ]
 
--- all nodes of a forest are reached from its roots
-reaches-within : (nodes : List Node) (lists : List (List ℕ)) → IsNamed nodes → IsForest lists → length nodes ≡ length lists →
-    (ts : Trees) (ks : List ℕ) → Stands nodes lists ts ks
-    → ((k : ℕ) → k < length lists → parent_of lists k ≡ None → contains ks k ≡ true)
-    → (d x : ℕ) → length (ancestors_of lists x) ≤ d → x < length lists → reaches ts (name_of_key nodes x) ≡ true
-reaches-within nodes lists named forest paired ts ks s all zero x deep node = elim (cases_Option (parent_of lists x)) [
-  | inl e ↦ reaches-root nodes lists named x (node_at nodes x) (slice_get-get_or nodes x _ (omega arith)) ts ks s (all x node e)
-  | inr w ↦ absurd (omega (arith, ap (length {A = ℕ}) (ancestors_of-child lists forest x w.0 w.1)))
-]
-reaches-within nodes lists named forest paired ts ks s all (suc d) x deep node = elim (cases_Option (parent_of lists x)) [
-  | inl e ↦ reaches-root nodes lists named x (node_at nodes x) (slice_get-get_or nodes x _ (omega arith)) ts ks s (all x node e)
-  | inr w ↦
-      let p = w.0 in
-      let child = contains-parent lists x p w.1 in
-      let within : p < length lists = parent_within lists p x child in
-      reaches-child nodes lists named p x (node_at nodes p) (node_at nodes x) (slice_get-get_or nodes p _ (omega arith))
-      (slice_get-get_or nodes x _ (omega arith)) child ts ks s
-      (reaches-within nodes lists named forest paired ts ks s all d p (omega (arith, ap (length {A = ℕ}) (ancestors_of-child lists forest x p w.1))) within)
-]
+module _ (nodes : List Node) (lists : List (List ℕ)) (named : IsNamed nodes) (forest : IsForest lists) (paired : length nodes ≡ length lists) (ts : Trees)
+    (ks : List ℕ) (s : Stands nodes lists ts ks) (all : ((k : ℕ) → k < length lists → parent_of lists k ≡ None → contains ks k ≡ true)) where
+  -- all nodes of a forest are reached from its roots
+  reaches-within : (d x : ℕ) → length (ancestors_of lists x) ≤ d → x < length lists → reaches ts (name_of_key nodes x) ≡ true
+  reaches-within zero x deep node = elim (cases_Option (parent_of lists x)) [
+    | inl e ↦ reaches-root nodes lists named x (node_at nodes x) (slice_get-get_or nodes x _ (omega arith)) ts ks s (all x node e)
+    | inr w ↦ absurd (omega (arith, ap (length {A = ℕ}) (ancestors_of-child lists forest x w.0 w.1)))
+  ]
+  reaches-within (suc d) x deep node = elim (cases_Option (parent_of lists x)) [
+    | inl e ↦ reaches-root nodes lists named x (node_at nodes x) (slice_get-get_or nodes x _ (omega arith)) ts ks s (all x node e)
+    | inr w ↦
+        let p = w.0 in
+        let child = contains-parent lists x p w.1 in
+        let within : p < length lists = parent_within lists p x child in
+        reaches-child nodes lists named p x (node_at nodes p) (node_at nodes x) (slice_get-get_or nodes p _ (omega arith))
+        (slice_get-get_or nodes x _ (omega arith)) child ts ks s
+        (reaches-within d p (omega (arith, ap (length {A = ℕ}) (ancestors_of-child lists forest x p w.1))) within)
+  ]
 
-pub reaches-all : (nodes : List Node) (lists : List (List ℕ)) → IsNamed nodes → IsForest lists → length nodes ≡ length lists →
-    (ts : Trees) (ks : List ℕ) → Stands nodes lists ts ks
-    → ((k : ℕ) → k < length lists → parent_of lists k ≡ None → contains ks k ≡ true) → (x : ℕ) → x < length lists → reaches ts (name_of_key nodes x) ≡ true
-reaches-all nodes lists named forest paired ts ks s all x node =
-    reaches-within nodes lists named forest paired ts ks s all (length (ancestors_of lists x)) x (omega arith) node
+  pub reaches-all : (x : ℕ) → x < length lists → reaches ts (name_of_key nodes x) ≡ true
+  reaches-all x node =
+      reaches-within (length (ancestors_of lists x)) x (omega arith) node
 
 -- the tree of a node that is reached, alone
 pub subtree-none : (ts : Trees) (x : NodeName) → reaches ts x ≡ false → subtree ts x ≡ none
@@ -102,7 +99,7 @@ pub Stands-subtree : (nodes : List Node) (lists : List (List ℕ)) → IsNamed n
 Stands-subtree nodes lists named x m at none ks s found = absurd (true≢false (sym found))
 Stands-subtree nodes lists named x m at (tree n c r) [] s found = absurd s
 Stands-subtree nodes lists named x m at (tree n c r) (k ∷ ks) s found =
-    let tells : name_eq n.name m.name ≡ eqb k x = same_name nodes named k x n m s.0 at in
+    let tells : name_eq n.name m.name ≡ eqb k x = same_name named k x s.0 at in
     elim (eqb_tells k x) [
       | inl e ↦ rw (tells, e.0) (subst (λ (j : ℕ). Stands nodes lists (tree n c none) (j ∷ [])) e.1 (s.0, s.1, tt))
       | inr e ↦
@@ -134,7 +131,7 @@ pub inclusive_ancestors-from : (nodes : List Node) (lists : List (List ℕ)) →
 inclusive_ancestors-from nodes lists named forest x m at none ks up s above found = absurd (true≢false (sym found))
 inclusive_ancestors-from nodes lists named forest x m at (tree n c r) [] up s above found = absurd s
 inclusive_ancestors-from nodes lists named forest x m at (tree n c r) (k ∷ ks) up s above found =
-    let tells : name_eq n.name m.name ≡ eqb k x = same_name nodes named k x n m s.0 at in
+    let tells : name_eq n.name m.name ≡ eqb k x = same_name named k x s.0 at in
     elim (eqb_tells k x) [
       | inl e ↦ rw (tells, e.0) ([], refl, ap (map (name_of_key nodes)) (sym (above k (contains-head k ks)) ∙ ap (ancestors_of lists) e.1))
       | inr e ↦
@@ -184,7 +181,7 @@ pub find-reached : (nodes : List Node) (lists : List (List ℕ)) → IsNamed nod
 find-reached nodes lists named x m at none ks s found = absurd (true≢false (sym found))
 find-reached nodes lists named x m at (tree n c r) [] s found = absurd s
 find-reached nodes lists named x m at (tree n c r) (k ∷ ks) s found =
-    let tells : name_eq n.name m.name ≡ eqb k x = same_name nodes named k x n m s.0 at in
+    let tells : name_eq n.name m.name ≡ eqb k x = same_name named k x s.0 at in
     elim (eqb_tells k x) [
       | inl e ↦ rw (tells, e.0) (sym s.0 ∙ (ap (slice_get nodes) e.1 ∙ at))
       | inr e ↦

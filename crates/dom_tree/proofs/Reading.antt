@@ -27,10 +27,10 @@ is_none_from None e = refl
 is_none_from (Some x) e = absurd (true≢false (sym e))
 
 -- names of keys tell them apart
-pub name_of_key-eq : (nodes : List Node) (lists : List (List ℕ)) → IsWhole nodes lists → (j k : ℕ) → j < length lists → k < length lists →
+pub name_of_key-eq : {nodes : List Node} {lists : List (List ℕ)} → IsWhole nodes lists → (j k : ℕ) → j < length lists → k < length lists →
     name_eq (name_of_key nodes j) (name_of_key nodes k) ≡ eqb j k
-name_of_key-eq nodes lists whole j k at_j at_k =
-    same_name nodes whole.named j k (node_at nodes j) (node_at nodes k) (node_here nodes lists whole j at_j) (node_here nodes lists whole k at_k)
+name_of_key-eq {nodes} {lists} whole j k at_j at_k =
+    same_name whole.named j k (node_here nodes lists whole j at_j) (node_here nodes lists whole k at_k)
 
 -- ---- lists of names
 
@@ -91,9 +91,9 @@ last_in-at nodes lists whole x node = ap last_of (children_in-at nodes lists who
 -- ---- siblings
 
 -- the siblings of a node: the children of its parent, or itself alone
-pub siblings-child : (nodes : List Node) (lists : List (List ℕ)) → IsWhole nodes lists → (x p : ℕ) → x < length lists →
+pub siblings-child : {nodes : List Node} {lists : List (List ℕ)} → IsWhole nodes lists → (x : ℕ) {p : ℕ} → x < length lists →
     parent_of lists x ≡ Some p → siblings (trees_of nodes lists) (name_of_key nodes x) ≡ map (name_of_key nodes) (children_of lists p)
-siblings-child nodes lists whole x p node e =
+siblings-child {nodes} {lists} whole x {p} node e =
     ap (λ o. option_map_or (children_in (trees_of nodes lists)) o (name_of_key nodes x ∷ []))
     (parent_in-at nodes lists whole x node ∙ ap (option_map (name_of_key nodes)) e)
     ∙ children_in-at nodes lists whole p (parent_within lists p x (contains-parent lists x p e))
@@ -137,7 +137,7 @@ last_or-items_before f x before (k ∷ ks) tells found =
 pub tells-children : (nodes : List Node) (lists : List (List ℕ)) → IsWhole nodes lists → (x p : ℕ) → x < length lists →
     Tells (name_of_key nodes) x (children_of lists p)
 tells-children nodes lists whole x p node k found =
-    name_of_key-eq nodes lists whole x k node (whole.forest.nodes p k found) ∙ turned (eqb_tells x k)
+    name_of_key-eq whole x k node (whole.forest.nodes p k found) ∙ turned (eqb_tells x k)
   where
     turned : ((eqb x k ≡ true) × (x ≡ k)) ⊎ ((eqb x k ≡ false) × (x ≢ k)) → eqb x k ≡ eqb k x
     turned (inl h) = h.0 ∙ sym (eq-eqb k x (sym h.1))
@@ -150,7 +150,7 @@ next_in-at nodes lists whole x node = elim (cases_Option (parent_of lists x)) [
       ap (λ ys. first_of (items_after name_eq (name_of_key nodes x) ys)) (siblings-root nodes lists whole x node e)
       ∙ rw (name_eq-same (name_of_key nodes x), e) refl
   | inr w ↦
-      ap (λ ys. first_of (items_after name_eq (name_of_key nodes x) ys)) (siblings-child nodes lists whole x w.0 node w.1)
+      ap (λ ys. first_of (items_after name_eq (name_of_key nodes x) ys)) (siblings-child whole x node w.1)
       ∙ (first_of-items_after (name_of_key nodes) x (children_of lists w.0) (tells-children nodes lists whole x w.0 node)
       ∙ sym (ap (λ o. option_map (name_of_key nodes) (option_and_then (λ p. next_in (children_of lists p) x) o)) w.1))
 ]
@@ -162,7 +162,7 @@ prev_in-at nodes lists whole x node = elim (cases_Option (parent_of lists x)) [
       ap (λ ys. last_of (items_before name_eq (name_of_key nodes x) ys)) (siblings-root nodes lists whole x node e)
       ∙ rw (name_eq-same (name_of_key nodes x), e) refl
   | inr w ↦
-      ap (λ ys. last_of (items_before name_eq (name_of_key nodes x) ys)) (siblings-child nodes lists whole x w.0 node w.1)
+      ap (λ ys. last_of (items_before name_eq (name_of_key nodes x) ys)) (siblings-child whole x node w.1)
       ∙ (last_or-items_before (name_of_key nodes) x None (children_of lists w.0) (tells-children nodes lists whole x w.0 node) (contains-parent lists x w.0 w.1)
       ∙ sym (ap (λ o. option_map (name_of_key nodes) (option_and_then (λ p. prev_in (children_of lists p) x) o)) w.1))
 ]

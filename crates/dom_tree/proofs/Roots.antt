@@ -220,9 +220,10 @@ passing-more nodes named p q n c paired within out into same =
         both_ways _ absent.0 (ap (contains front) is ∙ in_front_k)
 
 -- and leaves again
-pub without-passing : (nodes : List Node) → IsNamed nodes → (p q : ℕ → Bool) (n c : ℕ) → length nodes ≡ n → c < n → q c ≡ false → ((k : ℕ) → k ≢ c → p k ≡ q k)
+pub without-passing : {nodes : List Node} → IsNamed nodes → {p q : ℕ → Bool} {n : ℕ} (c : ℕ) → length nodes ≡ n → c < n → q c ≡ false → ((k : ℕ) → k ≢ c →
+    p k ≡ q k)
     → without c (passing nodes p n) ≡ passing nodes q n
-without-passing nodes named p q n c paired within out same = elim (cases_Bool (p c)) [
+without-passing {nodes} named {p} {q} {n} c paired within out same = elim (cases_Bool (p c)) [
   | inl e ↦ ap (without c) (passing-more nodes named q p n c paired within out e same) ∙ without-put_key nodes c (passing nodes q n) lost
   | inr e ↦ ap (without c) (passing-same nodes p q n (agree e)) ∙ without-absent c (passing nodes q n) lost
 ]

@@ -29,9 +29,9 @@ pub record IsNamed (nodes : List Node) : Type 0 where
   pub distinct : (j k : ℕ) (m n : Node) → slice_get nodes j ≡ Some m → slice_get nodes k ≡ Some n → m.name ≡ n.name → j ≡ k
 
 -- names tell keys apart
-pub same_name : (nodes : List Node) → IsNamed nodes → (j k : ℕ) (m n : Node) → slice_get nodes j ≡ Some m → slice_get nodes k ≡ Some n →
+pub same_name : {nodes : List Node} → IsNamed nodes → (j k : ℕ) {m n : Node} → slice_get nodes j ≡ Some m → slice_get nodes k ≡ Some n →
     name_eq m.name n.name ≡ eqb j k
-same_name nodes named j k m n at_j at_k = by (eqb_tells j k)
+same_name {nodes} named j k {m} {n} at_j at_k = by (eqb_tells j k)
   where
     by : ((eqb j k ≡ true) × (j ≡ k)) ⊎ ((eqb j k ≡ false) × (j ≢ k)) → name_eq m.name n.name ≡ eqb j k
     by (inl h) = let e : m ≡ n = same_Some m n (sym at_j ∙ (ap (slice_get nodes) h.1 ∙ at_k)) in
@@ -40,16 +40,17 @@ same_name nodes named j k m n at_j at_k = by (eqb_tells j k)
 
 -- ---- at most one list of trees stands for a list of keys
 
-pub Stands-one : (nodes : List Node) (lists : List (List ℕ)) (ts us : Trees) (ks : List ℕ) → Stands nodes lists ts ks → Stands nodes lists us ks → ts ≡ us
-Stands-one nodes lists none none ks s t = refl
-Stands-one nodes lists none (tree m d q) [] s t = absurd t
-Stands-one nodes lists none (tree m d q) (k ∷ ks) s t = absurd s
-Stands-one nodes lists (tree n c r) us [] s t = absurd s
-Stands-one nodes lists (tree n c r) none (k ∷ ks) s t = absurd t
-Stands-one nodes lists (tree n c r) (tree m d q) (k ∷ ks) s t =
+pub Stands-one : (nodes : List Node) (lists : List (List ℕ)) (ts : Trees) {us : Trees} (ks : List ℕ) → Stands nodes lists ts ks → Stands nodes lists us ks →
+    ts ≡ us
+Stands-one nodes lists none {us = none} ks s t = refl
+Stands-one nodes lists none {us = tree m d q} [] s t = absurd t
+Stands-one nodes lists none {us = tree m d q} (k ∷ ks) s t = absurd s
+Stands-one nodes lists (tree n c r) [] s t = absurd s
+Stands-one nodes lists (tree n c r) {us = none} (k ∷ ks) s t = absurd t
+Stands-one nodes lists (tree n c r) {us = tree m d q} (k ∷ ks) s t =
     let root : n ≡ m = same_Some n m (sym s.0 ∙ t.0) in
-    let below = Stands-one nodes lists c d (children_of lists k) s.1 t.1 in
-    let rest = Stands-one nodes lists r q ks s.2 t.2 in
+    let below = Stands-one nodes lists c (children_of lists k) s.1 t.1 in
+    let rest = Stands-one nodes lists r ks s.2 t.2 in
     cc
 
 -- ---- where the lists make a forest, the trees that the view makes stand for their keys
@@ -91,79 +92,81 @@ Stands-trees_on nodes lists forest paired ks within =
 
 -- ---- changes
 
--- trees stand for the same keys where nothing changes at these and below them
-pub Stands-kept : (nodes others : List Node) (lists changed : List (List ℕ)) (P : ℕ → Type 0)
-    → ((k : ℕ) (n : Node) → P k → slice_get nodes k ≡ Some n → slice_get others k ≡ Some n)
-    → ((k : ℕ) → P k → children_of changed k ≡ children_of lists k)
-    → ((k j : ℕ) → P k → contains (children_of lists k) j ≡ true → P j)
-    → (ts : Trees) (ks : List ℕ) → Each P ks → Stands nodes lists ts ks → Stands others changed ts ks
-Stands-kept nodes others lists changed P node list down none [] each s = tt
-Stands-kept nodes others lists changed P node list down none (k ∷ ks) each s = absurd s
-Stands-kept nodes others lists changed P node list down (tree n c r) [] each s = absurd s
-Stands-kept nodes others lists changed P node list down (tree n c r) (k ∷ ks) each s =
-    let here = each k (contains-head k ks) in (
-      node k n here s.0,
-      subst (λ (js : List ℕ). Stands others changed c js) (sym (list k here))
-          (Stands-kept nodes others lists changed P node list down c (children_of lists k) (λ j found. down k j here found) s.1),
-      Stands-kept nodes others lists changed P node list down r ks (Each-tail P k ks each) s.2,
-    )
+module _ (nodes others : List Node) (lists : List (List ℕ)) where
+  -- trees stand for the same keys where nothing changes at these and below them
+  pub Stands-kept : (changed : List (List ℕ)) (P : ℕ → Type 0)
+      → ((k : ℕ) (n : Node) → P k → slice_get nodes k ≡ Some n → slice_get others k ≡ Some n)
+      → ((k : ℕ) → P k → children_of changed k ≡ children_of lists k)
+      → ((k j : ℕ) → P k → contains (children_of lists k) j ≡ true → P j)
+      → (ts : Trees) (ks : List ℕ) → Each P ks → Stands nodes lists ts ks → Stands others changed ts ks
+  Stands-kept changed P node list down none [] each s = tt
+  Stands-kept changed P node list down none (k ∷ ks) each s = absurd s
+  Stands-kept changed P node list down (tree n c r) [] each s = absurd s
+  Stands-kept changed P node list down (tree n c r) (k ∷ ks) each s =
+      let here = each k (contains-head k ks) in (
+        node k n here s.0,
+        subst (λ (js : List ℕ). Stands others changed c js) (sym (list k here))
+            (Stands-kept changed P node list down c (children_of lists k) (λ j found. down k j here found) s.1),
+        Stands-kept changed P node list down r ks (Each-tail P k ks each) s.2,
+      )
 
--- each node is given other contents
-pub Stands-map_nodes : (nodes others : List Node) (lists : List (List ℕ)) (f : Node → Node)
-    → ((k : ℕ) (n : Node) → slice_get nodes k ≡ Some n → slice_get others k ≡ Some (f n))
-    → (ts : Trees) (ks : List ℕ) → Stands nodes lists ts ks → Stands others lists (map_nodes f ts) ks
-Stands-map_nodes nodes others lists f node none [] s = tt
-Stands-map_nodes nodes others lists f node none (k ∷ ks) s = absurd s
-Stands-map_nodes nodes others lists f node (tree n c r) [] s = absurd s
-Stands-map_nodes nodes others lists f node (tree n c r) (k ∷ ks) s =
-    (node k n s.0, Stands-map_nodes nodes others lists f node c (children_of lists k) s.1, Stands-map_nodes nodes others lists f node r ks s.2)
+  -- each node is given other contents
+  pub Stands-map_nodes : (f : Node → Node)
+      → ((k : ℕ) (n : Node) → slice_get nodes k ≡ Some n → slice_get others k ≡ Some (f n))
+      → (ts : Trees) (ks : List ℕ) → Stands nodes lists ts ks → Stands others lists (map_nodes f ts) ks
+  Stands-map_nodes f node none [] s = tt
+  Stands-map_nodes f node none (k ∷ ks) s = absurd s
+  Stands-map_nodes f node (tree n c r) [] s = absurd s
+  Stands-map_nodes f node (tree n c r) (k ∷ ks) s =
+      (node k n s.0, Stands-map_nodes f node c (children_of lists k) s.1, Stands-map_nodes f node r ks s.2)
 
--- one key leaves all lists
-pub Stands-without : (nodes : List Node) (lists : List (List ℕ)) → IsNamed nodes → (x : ℕ) (m : Node) → slice_get nodes x ≡ Some m
-    → (ts : Trees) (ks : List ℕ) → Stands nodes lists ts ks → Stands nodes (map (without_key x) lists) (without m.name ts) (without_key x ks)
-Stands-without nodes lists named x m at none [] s = tt
-Stands-without nodes lists named x m at none (k ∷ ks) s = absurd s
-Stands-without nodes lists named x m at (tree n c r) [] s = absurd s
-Stands-without nodes lists named x m at (tree n c r) (k ∷ ks) s =
-    let rest = Stands-without nodes lists named x m at r ks s.2 in
-    let below : Stands nodes (map (without_key x) lists) (without m.name c) (children_of (map (without_key x) lists) k) =
-    subst (λ (js : List ℕ). Stands nodes (map (without_key x) lists) (without m.name c) js) (sym (children_of-without lists x k))
-    (Stands-without nodes lists named x m at c (children_of lists k) s.1) in
-    let tells : name_eq n.name m.name ≡ eqb k x = same_name nodes named k x n m s.0 at in
-    elim (cases_Bool (eqb k x)) [
-      | inl e ↦ rw (tells, e) rest
-      | inr e ↦ rw (tells, e) (s.0, below, rest)
-    ]
+module _ (nodes : List Node) (lists : List (List ℕ)) where
+  -- one key leaves all lists
+  pub Stands-without : IsNamed nodes → (x : ℕ) (m : Node) → slice_get nodes x ≡ Some m
+      → (ts : Trees) (ks : List ℕ) → Stands nodes lists ts ks → Stands nodes (map (without_key x) lists) (without m.name ts) (without_key x ks)
+  Stands-without named x m at none [] s = tt
+  Stands-without named x m at none (k ∷ ks) s = absurd s
+  Stands-without named x m at (tree n c r) [] s = absurd s
+  Stands-without named x m at (tree n c r) (k ∷ ks) s =
+      let rest = Stands-without named x m at r ks s.2 in
+      let below : Stands nodes (map (without_key x) lists) (without m.name c) (children_of (map (without_key x) lists) k) =
+      subst (λ (js : List ℕ). Stands nodes (map (without_key x) lists) (without m.name c) js) (sym (children_of-without lists x k))
+      (Stands-without named x m at c (children_of lists k) s.1) in
+      let tells : name_eq n.name m.name ≡ eqb k x = same_name named k x s.0 at in
+      elim (cases_Bool (eqb k x)) [
+        | inl e ↦ rw (tells, e) rest
+        | inr e ↦ rw (tells, e) (s.0, below, rest)
+      ]
 
--- two lists of trees, one after the other
-pub Stands-followed_by : (nodes : List Node) (lists : List (List ℕ)) (ts us : Trees) (ks js : List ℕ) → Stands nodes lists ts ks →
-    Stands nodes lists us js → Stands nodes lists (followed_by ts us) (ks ++ js)
-Stands-followed_by nodes lists none us [] js s t = t
-Stands-followed_by nodes lists none us (k ∷ ks) js s t = absurd s
-Stands-followed_by nodes lists (tree n c r) us [] js s t = absurd s
-Stands-followed_by nodes lists (tree n c r) us (k ∷ ks) js s t = (s.0, s.1, Stands-followed_by nodes lists r us ks js s.2 t)
+  -- two lists of trees, one after the other
+  pub Stands-followed_by : (ts us : Trees) (ks js : List ℕ) → Stands nodes lists ts ks →
+      Stands nodes lists us js → Stands nodes lists (followed_by ts us) (ks ++ js)
+  Stands-followed_by none us [] js s t = t
+  Stands-followed_by none us (k ∷ ks) js s t = absurd s
+  Stands-followed_by (tree n c r) us [] js s t = absurd s
+  Stands-followed_by (tree n c r) us (k ∷ ks) js s t = (s.0, s.1, Stands-followed_by r us ks js s.2 t)
 
--- a tree put into a list
-pub Stands-put_last : (nodes : List Node) (lists : List (List ℕ)) (new : Trees) (x : ℕ) → Stands nodes lists new (x ∷ [])
-    → (ts : Trees) (ks : List ℕ) → Stands nodes lists ts ks → Stands nodes lists (put_before None new ts) (ks ++ x ∷ [])
-Stands-put_last nodes lists new x alone none [] s = alone
-Stands-put_last nodes lists new x alone none (k ∷ ks) s = absurd s
-Stands-put_last nodes lists new x alone (tree n c r) [] s = absurd s
-Stands-put_last nodes lists new x alone (tree n c r) (k ∷ ks) s = (s.0, s.1, Stands-put_last nodes lists new x alone r ks s.2)
+  -- a tree put into a list
+  pub Stands-put_last : (new : Trees) (x : ℕ) → Stands nodes lists new (x ∷ [])
+      → (ts : Trees) (ks : List ℕ) → Stands nodes lists ts ks → Stands nodes lists (put_before None new ts) (ks ++ x ∷ [])
+  Stands-put_last new x alone none [] s = alone
+  Stands-put_last new x alone none (k ∷ ks) s = absurd s
+  Stands-put_last new x alone (tree n c r) [] s = absurd s
+  Stands-put_last new x alone (tree n c r) (k ∷ ks) s = (s.0, s.1, Stands-put_last new x alone r ks s.2)
 
-pub Stands-put_before : (nodes : List Node) (lists : List (List ℕ)) → IsNamed nodes → (new : Trees) (x : ℕ) → Stands nodes lists new (x ∷ [])
-    → (b : ℕ) (m : Node) → slice_get nodes b ≡ Some m
-    → (ts : Trees) (ks : List ℕ) → Stands nodes lists ts ks → Stands nodes lists (put_before (Some m.name) new ts) (put_key_before ks x b)
-Stands-put_before nodes lists named new x alone b m at none [] s = alone
-Stands-put_before nodes lists named new x alone b m at none (k ∷ ks) s = absurd s
-Stands-put_before nodes lists named new x alone b m at (tree n c r) [] s = absurd s
-Stands-put_before nodes lists named new x alone b m at (tree n c r) (k ∷ ks) s =
-    let rest = Stands-put_before nodes lists named new x alone b m at r ks s.2 in
-    let tells : name_eq n.name m.name ≡ eqb k b = same_name nodes named k b n m s.0 at in
-    elim (cases_Bool (eqb k b)) [
-      | inl e ↦ rw (tells, e) (Stands-followed_by nodes lists new (tree n c r) (x ∷ []) (k ∷ ks) alone s)
-      | inr e ↦ rw (tells, e) (s.0, s.1, rest)
-    ]
+  pub Stands-put_before : IsNamed nodes → (new : Trees) (x : ℕ) → Stands nodes lists new (x ∷ [])
+      → (b : ℕ) (m : Node) → slice_get nodes b ≡ Some m
+      → (ts : Trees) (ks : List ℕ) → Stands nodes lists ts ks → Stands nodes lists (put_before (Some m.name) new ts) (put_key_before ks x b)
+  Stands-put_before named new x alone b m at none [] s = alone
+  Stands-put_before named new x alone b m at none (k ∷ ks) s = absurd s
+  Stands-put_before named new x alone b m at (tree n c r) [] s = absurd s
+  Stands-put_before named new x alone b m at (tree n c r) (k ∷ ks) s =
+      let rest = Stands-put_before named new x alone b m at r ks s.2 in
+      let tells : name_eq n.name m.name ≡ eqb k b = same_name named k b s.0 at in
+      elim (cases_Bool (eqb k b)) [
+        | inl e ↦ rw (tells, e) (Stands-followed_by new (tree n c r) (x ∷ []) (k ∷ ks) alone s)
+        | inr e ↦ rw (tells, e) (s.0, s.1, rest)
+      ]
 
 abbrev pub name_of_key : List Node → ℕ → NodeName
 name_of_key nodes k = (node_at nodes k).name
@@ -192,7 +195,7 @@ Stands-put_below nodes lists changed named new x alone before within p m at here
     let below = Stands-put_below nodes lists changed named new x alone before within p m at here there c (children_of lists k) s.1 in
     let given = option_map (name_of_key nodes) before in
     let more : Trees = put_below m.name given new c in
-    let tells : name_eq n.name m.name ≡ eqb k p = same_name nodes named k p n m s.0 at in
+    let tells : name_eq n.name m.name ≡ eqb k p = same_name named k p s.0 at in
     elim (eqb_tells k p) [
       | inl h ↦
           let list : children_of changed k ≡ insert_before (children_of lists k) x before =

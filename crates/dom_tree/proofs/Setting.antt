@@ -40,10 +40,10 @@ stored_names-set (u ∷ ps) zero s t at same = ap (λ n. n ∷ stored_names ps) 
 stored_names-set (u ∷ ps) (suc x) s t at same = ap (λ ns. u.name ∷ ns) (stored_names-set ps x s t at same)
 
 -- what holds of all nodes still holds
-pub IsKept-set : {ps : List Stored} {lists : List (List ℕ)} {keys : Owner → List ℕ} → IsKept ps lists keys → (x : ℕ) (s t : Stored) →
+pub IsKept-set : {ps : List Stored} {lists : List (List ℕ)} {keys : Owner → List ℕ} → IsKept ps lists keys → (x : ℕ) {s : Stored} (t : Stored) →
     slice_get ps x ≡ Some s → t.name ≡ s.name
     → ((d : ℕ) → t.node.document ≡ Some d → d < length ps) → IsKept (set ps x t) lists keys
-IsKept-set {ps = ps} kept x s t at same document = record {
+IsKept-set {ps = ps} kept x {s} t at same document = record {
   paired = length-set ps x t ∙ kept.paired;
   forest = kept.forest;
   few = let fits = kept.few in let same_length = length-set ps x t in omega arith;
@@ -65,15 +65,15 @@ IsKept-set {ps = ps} kept x s t at same document = record {
     documents_at u k d at_k e (inr h) = omega (arith, kept.documents u k d (sym (slice_get-set_other ps x k t h.1) ∙ at_k) e, length-set ps x t)
 
 -- the invariant stays where a node is set under the node document that it had
-pub IsKept-set_same : {ps : List Stored} {lists : List (List ℕ)} {keys : Owner → List ℕ} → IsKept ps lists keys → (x : ℕ) (s t : Stored) →
+pub IsKept-set_same : {ps : List Stored} {lists : List (List ℕ)} {keys : Owner → List ℕ} → IsKept ps lists keys → (x : ℕ) {s : Stored} (t : Stored) →
     slice_get ps x ≡ Some s → t.name ≡ s.name
     → t.node.document ≡ s.node.document → IsKept (set ps x t) lists keys
-IsKept-set_same kept x s t at same document = IsKept-set kept x s t at same (λ d e. kept.documents s x d at (sym document ∙ e))
+IsKept-set_same kept x {s} t at same document = IsKept-set kept x t at same (λ d e. kept.documents s x d at (sym document ∙ e))
 
 -- what is seen of it
 pub set_names : {f : NamedTrees} {ps : List Stored} {lists : List (List ℕ)} {keys : Owner → List ℕ} → seen ps lists ≡ f → IsKept ps lists keys
-    → (x : ℕ) (s t : Stored) → slice_get ps x ≡ Some s → t.name ≡ s.name → stored_names (set ps x t) ≡ f.names
-set_names {ps = ps} is kept x s t at same = stored_names-set ps x s t at same ∙ ap (λ (g : NamedTrees). g.names) is
+    → (x : ℕ) {s : Stored} (t : Stored) → slice_get ps x ≡ Some s → t.name ≡ s.name → stored_names (set ps x t) ≡ f.names
+set_names {ps = ps} is kept x {s} t at same = stored_names-set ps x s t at same ∙ ap (λ (g : NamedTrees). g.names) is
 
 -- a change of what is stored is that change of the node
 pub set_done : {f : NamedTrees} {ps : List Stored} {lists : List (List ℕ)} {keys : Owner → List ℕ} → seen ps lists ≡ f → IsKept ps lists keys
@@ -84,7 +84,7 @@ set_done {f = f} {ps = ps} {lists = lists} {keys = keys} is kept x s t h at same
     subst (λ (g : NamedTrees). seen (set ps x t) lists ≡ record g { trees = change_node h (name_at g.names x) g.trees }) is
     (ap (λ ns. record { names = ns; trees = trees_of (nodes_with ns (set ps x t)) lists }) names
     ∙ ap (λ ts. record { names = stored_names ps; trees = ts })
-    (trees_of-map (nodes_of ps) others lists (λ n. cond (name_eq n.name (name_at (stored_names ps) x)) (h n) n) whole as_long keeps_all each))
+    (trees_of-map others whole as_long keeps_all each))
   where
     names : stored_names (set ps x t) ≡ stored_names ps
     names = stored_names-set ps x s t at same
@@ -125,7 +125,7 @@ set_done {f = f} {ps = ps} {lists = lists} {keys = keys} is kept x s t h at same
           ap (slice_get others) e.1 ∙ (new_here ∙ (ap (λ z. Some (h z)) (sym is_y) ∙ ap (λ b. Some (cond b (h y) y)) (sym named)))
       | inr e ↦
           let apart : name_eq y.name (name_at (stored_names ps) x) ≡ false =
-          ap (name_eq y.name) (sym own_name) ∙ (same_name (nodes_of ps) whole.named k x y (node_with (stored_names ps) s.name s.node) at_k here ∙ e.0) in
+          ap (name_eq y.name) (sym own_name) ∙ (same_name whole.named k x at_k here ∙ e.0) in
           slice_get-map (λ u. node_with (stored_names ps) u.name u.node) (set ps x t) k
           ∙ (ap (option_map (λ u. node_with (stored_names ps) u.name u.node)) (slice_get-set_other ps x k t e.1)
           ∙ (sym (slice_get-map (λ u. node_with (stored_names ps) u.name u.node) ps k) ∙ (at_k ∙ ap (λ b. Some (cond b (h y) y)) (sym apart))))

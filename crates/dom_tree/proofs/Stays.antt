@@ -77,7 +77,7 @@ above_nodes : {ps : List Stored} {lists : List (List ℕ)} {keys : Owner → Lis
     contains (y ∷ ancestors_of lists y) a ≡ true → a < length ps
 above_nodes {ps = ps} {lists = lists} kept y a node found = elim (or_cases (eqb y a) _ found) [
   | inl h ↦ subst (λ (j : ℕ). j < length ps) (eqb-true y a h) node
-  | inr h ↦ let there = ancestors_nodes lists kept.forest (length (ancestors_of lists y)) y a (omega arith) h in omega (arith, kept.paired)
+  | inr h ↦ let there = ancestors_nodes kept.forest (length (ancestors_of lists y)) y a (omega arith) h in omega (arith, kept.paired)
 ]
 
 path_stays : {ps qs : List Stored} {lists others : List (List ℕ)} {keys more : Owner → List ℕ} → IsKept ps lists keys → IsKept qs others more →
@@ -102,7 +102,7 @@ off_from : {f : NamedTrees} {ps : List Stored} {lists : List (List ℕ)} {keys :
 off_from {f = f} {ps = ps} {lists = lists} is kept a x at_a at_x off =
     let inside_a = within is kept a at_a in
     let inside_x = within is kept x at_x in
-    sym (above-at (nodes_of ps) lists (IsWhole-kept kept) a x (omega (arith, kept.paired)) (omega (arith, kept.paired)))
+    sym (above-at (IsWhole-kept kept) a x (omega (arith, kept.paired)) (omega (arith, kept.paired)))
     ∙ (ap (λ y. is_inclusive_ancestor (trees_of (nodes_of ps) lists) y (name_of_key (nodes_of ps) x)) (sym (name_at-same (stored_names ps) ps a))
     ∙ (ap (is_inclusive_ancestor (trees_of (nodes_of ps) lists) (name_at (stored_names ps) a)) (sym (name_at-same (stored_names ps) ps x))
     ∙ (ap (λ (g : NamedTrees). is_inclusive_ancestor g.trees (name_at g.names a) (name_at g.names x)) is ∙ off)))
@@ -201,39 +201,39 @@ added_named {a = a} s is kept e k node =
     ap (λ (d : Nodes Stored). name_at (stored_names d.payloads) k) e
     ∙ (names_pushed a.payloads s k (within is kept k node) ∙ ap (λ (g : NamedTrees). name_at g.names k) is)
 
-pub added_above : {f : NamedTrees} {a b : Nodes Stored} {keys more : Owner → List ℕ} (s : Stored) → seen a.payloads a.children ≡ f →
-    IsKept a.payloads a.children keys → IsKept b.payloads b.children more → IsAdded a b s → (k : ℕ) → k < length f.names →
-    inclusive_ancestors (trees_of (nodes_of b.payloads) b.children) (name_at f.names k) ≡ inclusive_ancestors f.trees (name_at f.names k)
-added_above {f = f} {a = a} {b = b} s is kept after e k node =
-    subst (λ (g : NamedTrees). inclusive_ancestors (trees_of (nodes_of b.payloads) b.children) (name_at g.names k) ≡
-    inclusive_ancestors g.trees (name_at g.names k)) is
-    (path_stays kept after (λ j inside. ap (λ (d : Nodes Stored). name_at (stored_names d.payloads) j) e ∙ names_pushed a.payloads s j inside)
-    (let long = ap (λ (d : Nodes Stored). length d.payloads) e in let more = length_push a.payloads s in omega arith) (length a.payloads)
-    (subst (λ (ks : List (List ℕ)). AreSameBut (length a.payloads) a.children ks) (ap (λ (d : Nodes Stored). d.children) (sym e))
-    (pushed_apart a.children (length a.payloads)))
-    k (within is kept k node) (new_apart kept k (within is kept k node)))
+module _ {f : NamedTrees} {a b : Nodes Stored} {keys more : Owner → List ℕ} (s : Stored) (is : seen a.payloads a.children ≡ f)
+    (kept : IsKept a.payloads a.children keys) (after : IsKept b.payloads b.children more) (e : IsAdded a b s) where
+  pub added_above : (k : ℕ) → k < length f.names →
+      inclusive_ancestors (trees_of (nodes_of b.payloads) b.children) (name_at f.names k) ≡ inclusive_ancestors f.trees (name_at f.names k)
+  added_above k node =
+      subst (λ (g : NamedTrees). inclusive_ancestors (trees_of (nodes_of b.payloads) b.children) (name_at g.names k) ≡
+      inclusive_ancestors g.trees (name_at g.names k)) is
+      (path_stays kept after (λ j inside. ap (λ (d : Nodes Stored). name_at (stored_names d.payloads) j) e ∙ names_pushed a.payloads s j inside)
+      (let long = ap (λ (d : Nodes Stored). length d.payloads) e in let more = length_push a.payloads s in omega arith) (length a.payloads)
+      (subst (λ (ks : List (List ℕ)). AreSameBut (length a.payloads) a.children ks) (ap (λ (d : Nodes Stored). d.children) (sym e))
+      (pushed_apart a.children (length a.payloads)))
+      k (within is kept k node) (new_apart kept k (within is kept k node)))
 
-pub added_above_none : {f : NamedTrees} {a b : Nodes Stored} {keys more : Owner → List ℕ} (s : Stored) → seen a.payloads a.children ≡ f →
-    IsKept a.payloads a.children keys → IsKept b.payloads b.children more → IsAdded a b s → (c : ℕ) → c ≡ length a.payloads →
-    (k : ℕ) → k < length f.names →
-    is_inclusive_ancestor (trees_of (nodes_of b.payloads) b.children) (name_at (stored_names b.payloads) c) (name_at (stored_names b.payloads) k) ≡ false
-added_above_none {a = a} {b = b} s is kept after e c at_c k node =
-    ap (λ x. is_inclusive_ancestor ts x (name_at (stored_names b.payloads) k)) (name_at-same (stored_names b.payloads) b.payloads c)
-    ∙ (ap (is_inclusive_ancestor ts (name_of_key (nodes_of b.payloads) c)) (name_at-same (stored_names b.payloads) b.payloads k)
-    ∙ (above-at (nodes_of b.payloads) b.children (IsWhole-kept after) c k (omega (arith, after.paired, long, at_c)) (omega (arith, after.paired, long, inside))
-    ∙ (ap (λ ks. contains (k ∷ ks) c) same ∙ (ap (contains (k ∷ ancestors_of a.children k)) at_c ∙ new_apart kept k inside))))
-  where
-    ts : Trees
-    ts = trees_of (nodes_of b.payloads) b.children
+  pub added_above_none : (c : ℕ) → c ≡ length a.payloads →
+      (k : ℕ) → k < length f.names →
+      is_inclusive_ancestor (trees_of (nodes_of b.payloads) b.children) (name_at (stored_names b.payloads) c) (name_at (stored_names b.payloads) k) ≡ false
+  added_above_none c at_c k node =
+      ap (λ x. is_inclusive_ancestor ts x (name_at (stored_names b.payloads) k)) (name_at-same (stored_names b.payloads) b.payloads c)
+      ∙ (ap (is_inclusive_ancestor ts (name_of_key (nodes_of b.payloads) c)) (name_at-same (stored_names b.payloads) b.payloads k)
+      ∙ (above-at (IsWhole-kept after) c k (omega (arith, after.paired, long, at_c)) (omega (arith, after.paired, long, inside))
+      ∙ (ap (λ ks. contains (k ∷ ks) c) same ∙ (ap (contains (k ∷ ancestors_of a.children k)) at_c ∙ new_apart kept k inside))))
+    where
+      ts : Trees
+      ts = trees_of (nodes_of b.payloads) b.children
 
-    inside : k < length a.payloads
-    inside = within is kept k node
+      inside : k < length a.payloads
+      inside = within is kept k node
 
-    long : length b.payloads ≡ suc (length a.payloads)
-    long = ap (λ (d : Nodes Stored). length d.payloads) e ∙ (length_push a.payloads s ∙ omega arith)
+      long : length b.payloads ≡ suc (length a.payloads)
+      long = ap (λ (d : Nodes Stored). length d.payloads) e ∙ (length_push a.payloads s ∙ omega arith)
 
-    same : ancestors_of b.children k ≡ ancestors_of a.children k
-    same = ancestors_apart a.children b.children kept.forest after.forest (length a.payloads)
-        (subst (λ (ks : List (List ℕ)). AreSameBut (length a.payloads) a.children ks) (ap (λ (d : Nodes Stored). d.children) (sym e))
-        (pushed_apart a.children (length a.payloads)))
-        (length (ancestors_of a.children k)) k (omega arith) (new_apart kept k inside)
+      same : ancestors_of b.children k ≡ ancestors_of a.children k
+      same = ancestors_apart a.children b.children kept.forest after.forest (length a.payloads)
+          (subst (λ (ks : List (List ℕ)). AreSameBut (length a.payloads) a.children ks) (ap (λ (d : Nodes Stored). d.children) (sym e))
+          (pushed_apart a.children (length a.payloads)))
+          (length (ancestors_of a.children k)) k (omega arith) (new_apart kept k inside)

@@ -54,10 +54,10 @@ root_of-at nodes lists whole x node =
 pub above_from : List (List ℕ) → ℕ → Option ℕ → Bool
 above_from lists a at = option_map_or (λ k. contains (k ∷ ancestors_of lists k) a) at false
 
-pub above_from-up : (lists : List (List ℕ)) → IsForest lists → (a k : ℕ) (up : Option ℕ) → (k ≡ a → ⊥) → up ≡ parent_of lists k →
+pub above_from-up : {lists : List (List ℕ)} → IsForest lists → {a k : ℕ} {up : Option ℕ} → (k ≡ a → ⊥) → up ≡ parent_of lists k →
     above_from lists a up ≡ above_from lists a (Some k)
 unfolding above_from
-above_from-up lists forest a k up other is =
+above_from-up {lists} forest {a} {k} other is =
     ap (λ o. option_map_or (λ j. contains (j ∷ ancestors_of lists j) a) o false) is ∙
     (by (cases_Option (parent_of lists k)) ∙ sym (ap (λ b. b || contains (ancestors_of lists k) a) (ne_eqb k a other)))
   where
@@ -91,7 +91,7 @@ shows_above {f = f} {ps = ps} {lists = lists} {keys = keys} is kept a x at_a at_
     let inside_a = within is kept a at_a in
     let inside_x = within is kept x at_x in
     subst (λ (g : NamedTrees). contains (x ∷ ancestors_of lists x) a ≡ is_inclusive_ancestor g.trees (name_at g.names a) (name_at g.names x)) is
-    (sym (above-at (nodes_of ps) lists (IsWhole-kept kept) a x (omega (arith, kept.paired)) (omega (arith, kept.paired)))
+    (sym (above-at (IsWhole-kept kept) a x (omega (arith, kept.paired)) (omega (arith, kept.paired)))
     ∙ (ap (λ y. is_inclusive_ancestor (trees_of (nodes_of ps) lists) y (name_of_key (nodes_of ps) x)) (sym (name_at-same (stored_names ps) ps a))
     ∙ ap (is_inclusive_ancestor (trees_of (nodes_of ps) lists) (name_at (stored_names ps) a)) (sym (name_at-same (stored_names ps) ps x))))
 
@@ -109,9 +109,9 @@ pub record InTree (ps : List Stored) (lists : List (List ℕ)) (top x : ℕ) : T
   pub whole : IsWhole (nodes_of ps) lists
 
 pub in_tree : {f : NamedTrees} {ps : List Stored} {lists : List (List ℕ)} {keys : Owner → List ℕ} → seen ps lists ≡ f → IsKept ps lists keys
-    → (top x : ℕ) → top < length f.names → x < length f.names → is_inclusive_ancestor f.trees (name_at f.names top) (name_at f.names x) ≡ true →
+    → {top x : ℕ} → top < length f.names → x < length f.names → is_inclusive_ancestor f.trees (name_at f.names top) (name_at f.names x) ≡ true →
     InTree ps lists top x
-in_tree is kept top x at_top at_x above = record {
+in_tree is kept {top} {x} at_top at_x above = record {
   above = asked_above is kept top x at_top at_x above;
   top_is_node = let inside = within is kept top at_top in omega (arith, kept.paired);
   whole = IsWhole-kept kept;
@@ -224,7 +224,7 @@ index_of-at nodes lists whole x node = elim (cases_Option (parent_of lists x)) [
       ap (λ ys. length (items_before name_eq (name_of_key nodes x) ys)) (siblings-root nodes lists whole x node e)
       ∙ (rw (name_eq-same (name_of_key nodes x)) refl ∙ sym (place_of-root lists x e))
   | inr w ↦
-      ap (λ ys. length (items_before name_eq (name_of_key nodes x) ys)) (siblings-child nodes lists whole x w.0 node w.1)
+      ap (λ ys. length (items_before name_eq (name_of_key nodes x) ys)) (siblings-child whole x node w.1)
       ∙ (length-items_before (name_of_key nodes) x (children_of lists w.0) (tells-children nodes lists whole x w.0 node) (contains-parent lists x w.0 w.1)
       ∙ sym (place_of-child lists x w.0 w.1))
 ]
@@ -274,18 +274,18 @@ next_place (x ∷ xs) k once found = elim (cases_Bool (eqb x k)) [
         let apart : eqb x s ≡ false = false_from_ne_true _ (λ same. both_ways _ once.0 (ap (contains xs) (eqb-true x s same) ∙ contains-next_in xs k s e)) in
         rw apart (omega arith)
 
-pub children_left-next : (lists : List (List ℕ)) → IsForest lists → (p k : ℕ) (r : Option ℕ) → contains (children_of lists p) k ≡ true → r ≡ next_of lists k
+pub children_left-next : {lists : List (List ℕ)} → IsForest lists → (p k : ℕ) {r : Option ℕ} → contains (children_of lists p) k ≡ true → r ≡ next_of lists k
     → suc (children_left (children_of lists p) r) ≡ children_left (children_of lists p) (Some k)
 unfolding children_left
-children_left-next lists forest p k r child is =
+children_left-next {lists} forest p k {r} child is =
     let e : r ≡ next_in (children_of lists p) k =
     is ∙ ap (option_and_then (λ q. next_in (children_of lists q) k)) (parent_of_is lists forest.one_list p k child) in
     ap (λ o. suc (option_map_or (λ j. length (children_of lists p) - place_in (children_of lists p) j) o 0)) e ∙
     next_place (children_of lists p) k (forest.once p) child
 
-pub among-next : (lists : List (List ℕ)) → IsForest lists → (p k s : ℕ) (r : Option ℕ) → contains (children_of lists p) k ≡ true →
+pub among-next : {lists : List (List ℕ)} → IsForest lists → (p k : ℕ) {s : ℕ} {r : Option ℕ} → contains (children_of lists p) k ≡ true →
     r ≡ next_of lists k → r ≡ Some s → contains (children_of lists p) s ≡ true
-among-next lists forest p k s r child is e =
+among-next {lists} forest p k {s} child is e =
     contains-next_in (children_of lists p) k s
     (sym (is ∙ ap (option_and_then (λ q. next_in (children_of lists q) k)) (parent_of_is lists forest.one_list p k child)) ∙ e)
 

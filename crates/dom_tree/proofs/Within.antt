@@ -16,7 +16,7 @@ use Rattle.node_arena.proofs.Forests.{cases_Option, contains-parent, parent_with
 use Rattle.node_arena.proofs.Lists.{contains-head}
 use Rattle.dom_tree.specs.Contents.{Stored}
 use Rattle.dom_tree.specs.Rows.{node_at, trees_of}
-use Rattle.dom_tree.specs.Forest.{NamedTrees, IsKept, stored_names, nodes_of, name_at}
+use Rattle.dom_tree.specs.Forest.{NamedTrees, IsKept, stored_names, name_at}
 use Rattle.dom_tree.proofs.Rows.{Stands, same_name, name_of_key}
 use Rattle.dom_tree.proofs.Reach.{reaches, has_node-reaches, reaches-root, reaches-child}
 use Rattle.dom_tree.proofs.Changes.{IsWhole, node_here, subtree_here, above_up}
@@ -34,12 +34,12 @@ has_root nodes lists whole y m at none ks s found = absurd (true≢false (sym fo
 has_root nodes lists whole y m at (tree n c r) [] s found = absurd s
 has_root nodes lists whole y m at (tree n c r) (k ∷ ks) s found = elim (or_cases (name_eq n.name m.name) _ found) [
   | inl h ↦
-      let is = eqb-true k y (sym (same_name nodes whole.named k y n m s.0 at) ∙ h) in
+      let is = eqb-true k y (sym (same_name whole.named k y s.0 at) ∙ h) in
       (k, contains-head k ks, ap (contains (y ∷ ancestors_of lists y)) is ∙ contains-head y (ancestors_of lists y))
   | inr h ↦ elim (or_cases (reaches c m.name) (reaches r m.name) h) [
     | inl i ↦
         let below = has_root nodes lists whole y m at c (children_of lists k) s.1 i in
-        (k, contains-head k ks, above_up lists whole.forest y below.0 k below.1 below.2)
+        (k, contains-head k ks, above_up whole.forest y below.0 k below.1 below.2)
     | inr i ↦
         let later = has_root nodes lists whole y m at r ks s.2 i in
         (later.0, or_right (eqb k later.0) _ later.1, later.2)
@@ -81,10 +81,10 @@ reaches-below nodes lists whole top node ts stands d y at_y deep above = elim (o
     ]
 
 -- so the tree of a node has the nodes that it is above
-reaches-alone : (nodes : List Node) (lists : List (List ℕ)) → IsWhole nodes lists → (top y : ℕ) → top < length lists → y < length lists
+reaches-alone : {nodes : List Node} {lists : List (List ℕ)} → IsWhole nodes lists → (top y : ℕ) → top < length lists → y < length lists
     → reaches (subtree (trees_of nodes lists) (name_of_key nodes top)) (name_of_key nodes y) ≡ contains (y ∷ ancestors_of lists y) top
 unfolding HasRoot
-reaches-alone nodes lists whole top y node at_y = elim (cases_Bool (contains (y ∷ ancestors_of lists y) top)) [
+reaches-alone {nodes} {lists} whole top y node at_y = elim (cases_Bool (contains (y ∷ ancestors_of lists y) top)) [
   | inl e ↦ reaches-below nodes lists whole top node alone stands (length (ancestors_of lists y)) y at_y (omega arith) e ∙ sym e
   | inr e ↦ false_from_ne_true _ (λ found. both_ways _ e
       (below (has_root nodes lists whole y (node_at nodes y) (node_here nodes lists whole y at_y) alone (top ∷ []) stands found))) ∙ sym e
@@ -103,12 +103,12 @@ reaches-alone nodes lists whole top y node at_y = elim (cases_Bool (contains (y 
     ]
 
 -- the nodes of a tree are those that have its root among their inclusive ancestors, by names
-below-at : (nodes : List Node) (lists : List (List ℕ)) → IsWhole nodes lists → (top y : ℕ) → top < length lists → y < length lists
+below-at : {nodes : List Node} {lists : List (List ℕ)} → IsWhole nodes lists → (top y : ℕ) → top < length lists → y < length lists
     → is_in name_eq (name_of_key nodes y) (inclusive_descendants (trees_of nodes lists) (name_of_key nodes top)) ≡ is_inclusive_ancestor
     (trees_of nodes lists) (name_of_key nodes top) (name_of_key nodes y)
-below-at nodes lists whole top y node at_y =
+below-at {nodes} {lists} whole top y node at_y =
     has_node-reaches (subtree (trees_of nodes lists) (name_of_key nodes top)) (name_of_key nodes y)
-    ∙ (reaches-alone nodes lists whole top y node at_y ∙ sym (above-at nodes lists whole top y node at_y))
+    ∙ (reaches-alone whole top y node at_y ∙ sym (above-at whole top y node at_y))
 
 -- ---- the answers
 
@@ -124,7 +124,7 @@ shows_below {f = f} {ps = ps} {lists = lists} {keys = keys} is kept j k at_j at_
     subst (λ (g : NamedTrees). is_in name_eq (name_at g.names k) (inclusive_descendants g.trees (name_at g.names j)) ≡ is_inclusive_ancestor
     g.trees (name_at g.names j) (name_at g.names k)) is
     (rw (name_at-same (stored_names ps) ps j, name_at-same (stored_names ps) ps k)
-    (below-at (nodes_of ps) lists (IsWhole-kept kept) j k (omega arith) (omega arith)))
+    (below-at (IsWhole-kept kept) j k (omega arith) (omega arith)))
 
 -- the first name behind another one is in the list
 first_in : (x z : NodeName) (xs : List NodeName) → first_of (items_after name_eq x xs) ≡ Some z → is_in name_eq z xs ≡ true
@@ -159,26 +159,25 @@ last_in x z xs e = from (items_before name_eq x xs) None e (λ y none. absurd (n
         (λ w is. all w (or_left (name_eq w y) _ (ap (name_eq w) (same_Some y w is) ∙ name_eq-same w)))
         (λ w found. all w (or_right (name_eq w y) _ found))
 
--- what is found in the tree of a node is below it
-found_within : {f : NamedTrees} {ps : List Stored} {lists : List (List ℕ)} {keys : Owner → List ℕ} → seen ps lists ≡ f → IsKept ps lists keys
-    → (top : ℕ) (r : Option ℕ) → top < length f.names → ForSome r (λ k. k < length ps)
-    → ((z : NodeName) → option_map (name_at f.names) r ≡ Some z → is_in name_eq z (inclusive_descendants f.trees (name_at f.names top)) ≡ true)
-    → ForSome r (λ k. is_inclusive_ancestor f.trees (name_at f.names top) (name_at f.names k) ≡ true)
-found_within {f = f} is kept top r at_top nodes found = λ k e.
-    sym (shows_below is kept top k at_top (within_names is kept k (nodes k e))) ∙ found (name_at f.names k) (ap (option_map (name_at f.names)) e)
+module _ {f : NamedTrees} {ps : List Stored} {lists : List (List ℕ)} {keys : Owner → List ℕ} (is : seen ps lists ≡ f) (kept : IsKept ps lists keys)
+    (top : ℕ) where
+  -- what is found in the tree of a node is below it
+  found_within : (r : Option ℕ) → top < length f.names → ForSome r (λ k. k < length ps)
+      → ((z : NodeName) → option_map (name_at f.names) r ≡ Some z → is_in name_eq z (inclusive_descendants f.trees (name_at f.names top)) ≡ true)
+      → ForSome r (λ k. is_inclusive_ancestor f.trees (name_at f.names top) (name_at f.names k) ≡ true)
+  found_within r at_top nodes found = λ k e.
+      sym (shows_below is kept top k at_top (within_names is kept k (nodes k e))) ∙ found (name_at f.names k) (ap (option_map (name_at f.names)) e)
 
--- the node just behind one in the tree of another node is below that one
-pub following_within : {f : NamedTrees} {ps : List Stored} {lists : List (List ℕ)} {keys : Owner → List ℕ} → seen ps lists ≡ f → IsKept ps lists keys
-    → (top x : ℕ) (r : Option ℕ) → top < length f.names → ForSome r (λ k. k < length ps)
-    → option_map (name_at f.names) r ≡ first_of (items_after name_eq (name_at f.names x) (inclusive_descendants f.trees (name_at f.names top)))
-    → ForSome r (λ k. is_inclusive_ancestor f.trees (name_at f.names top) (name_at f.names k) ≡ true)
-following_within {f = f} is kept top x r at_top nodes value = found_within is kept top r at_top nodes (λ z e. first_in (name_at f.names x) z _ (sym value ∙ e))
+  -- the node just behind one in the tree of another node is below that one
+  pub following_within : (x : ℕ) (r : Option ℕ) → top < length f.names → ForSome r (λ k. k < length ps)
+      → option_map (name_at f.names) r ≡ first_of (items_after name_eq (name_at f.names x) (inclusive_descendants f.trees (name_at f.names top)))
+      → ForSome r (λ k. is_inclusive_ancestor f.trees (name_at f.names top) (name_at f.names k) ≡ true)
+  following_within x r at_top nodes value = found_within r at_top nodes (λ z e. first_in (name_at f.names x) z _ (sym value ∙ e))
 
--- and so is the node just before it
-pub preceding_within : {f : NamedTrees} {ps : List Stored} {lists : List (List ℕ)} {keys : Owner → List ℕ} → seen ps lists ≡ f → IsKept ps lists keys
-    → (top x y : ℕ) → top < length f.names → y < length ps
-    → Some (name_at f.names y) ≡ last_of (items_before name_eq (name_at f.names x) (inclusive_descendants f.trees (name_at f.names top)))
-    → ForSome (Some y) (λ k. is_inclusive_ancestor f.trees (name_at f.names top) (name_at f.names k) ≡ true)
-preceding_within {f = f} {ps = ps} is kept top x y at_top node value =
-    found_within is kept top (Some y) at_top (λ k e. subst (λ (j : ℕ). j < length ps) (same_Some y k e) node)
-    (λ z e. last_in (name_at f.names x) z _ (sym value ∙ e))
+  -- and so is the node just before it
+  pub preceding_within : (x y : ℕ) → top < length f.names → y < length ps
+      → Some (name_at f.names y) ≡ last_of (items_before name_eq (name_at f.names x) (inclusive_descendants f.trees (name_at f.names top)))
+      → ForSome (Some y) (λ k. is_inclusive_ancestor f.trees (name_at f.names top) (name_at f.names k) ≡ true)
+  preceding_within x y at_top node value =
+      found_within (Some y) at_top (λ k e. subst (λ (j : ℕ). j < length ps) (same_Some y k e) node)
+      (λ z e. last_in (name_at f.names x) z _ (sym value ∙ e))

@@ -10,7 +10,7 @@ returns-in-Some c =
     let others = c.self.inside.others in
     ap Some c.as_slice.ensures.value
     ∙ (found-value string_bytes (λ v. v.items) c.args.name.now others few c.in-Some.place c.index.result.now
-    (place-at (named string_bytes (λ v. v.items) c.args.name.now others) few c.deref.result.now c.in-Some.place c.place_of.result c.place_of.ensures
+    (place-at (named string_bytes (λ v. v.items) c.args.name.now others) c.place_of.ensures
     c.deref.ensures.value c.in-Some.is) c.index.ensures ∙ ap (value_among c.args.name.now) c.self.view_is)
 
 pub returns-in-None : goal.returns-in-None

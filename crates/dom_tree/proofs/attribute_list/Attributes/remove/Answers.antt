@@ -11,7 +11,7 @@ returns-in-Some-clause-value c =
     let few = c.self.inside.few.items in
     let others = c.self.inside.others in
     found-value string_bytes (λ v. v.items) c.args.name.now others few c.in-Some.place c.remove-name.result
-    (place-at (named string_bytes (λ v. v.items) c.args.name.now others) few c.deref.result.now c.in-Some.place c.place_of.result c.place_of.ensures
+    (place-at (named string_bytes (λ v. v.items) c.args.name.now others) c.place_of.ensures
     c.deref.ensures.value c.in-Some.is) c.remove-name.ensures.value ∙ ap (value_among c.args.name.now) c.self.view_is
 
 pub invariant_of-self : goal.invariant_of-self
@@ -21,7 +21,7 @@ invariant_of-self c =
     subst HaveOwnNames
     (sym (ap (λ es. attributes_from es ++ others) c.remove-name.ensures.items
     ∙ found-without string_bytes (λ v. v.items) c.args.name.now others few c.in-Some.place
-    (place-at (named string_bytes (λ v. v.items) c.args.name.now others) few c.deref.result.now c.in-Some.place c.place_of.result c.place_of.ensures
+    (place-at (named string_bytes (λ v. v.items) c.args.name.now others) c.place_of.ensures
     c.deref.ensures.value c.in-Some.is)))
     (own-without c.args.name.now (attributes_from few ++ others) c.self.invariant)
 
@@ -31,7 +31,7 @@ returns-in-Some-clause-without c =
     let others = c.self.inside.others in
     ap (λ es. attributes_from es ++ others) c.remove-name.ensures.items
     ∙ (found-without string_bytes (λ v. v.items) c.args.name.now others few c.in-Some.place
-    (place-at (named string_bytes (λ v. v.items) c.args.name.now others) few c.deref.result.now c.in-Some.place c.place_of.result c.place_of.ensures
+    (place-at (named string_bytes (λ v. v.items) c.args.name.now others) c.place_of.ensures
     c.deref.ensures.value c.in-Some.is) ∙ ap (attributes_without c.args.name.now) c.self.view_is)
 
 pub invariant_of-self-in-None : goal.invariant_of-self-in-None

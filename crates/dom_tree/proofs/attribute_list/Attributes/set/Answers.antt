@@ -20,7 +20,7 @@ replaced c =
     let others = c.self.inside.others in
     let a = c.as_str.result.now in
     found-set string_bytes (λ v. v.items) a others few c.in-Some.place c.index_mut.result.now c.args.value
-    (place-at (named string_bytes (λ v. v.items) a others) few c.deref.result.now c.in-Some.place c.place_of.result c.place_of.ensures
+    (place-at (named string_bytes (λ v. v.items) a others) c.place_of.ensures
     c.deref.ensures.value c.in-Some.is) c.index_mut.ensures.value
     ∙ ap (λ n. attributes_with n c.args.value.items (attributes_from few ++ others)) c.as_str.ensures.value
 

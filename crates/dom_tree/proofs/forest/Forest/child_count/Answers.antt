@@ -1,6 +1,6 @@
 use Rattle.std.proofs.Common.{◌≡◌, ◌+◌, length, ap, sym, ◌∙◌, arith, refl}
 use Rattle.std.proofs.lemmas.List.{length-map}
-use Rattle.node_arena.specs.Nodes.{children_of, next_of}
+use Rattle.node_arena.specs.Nodes.{children_of}
 use Rattle.node_arena.proofs.Lists.{contains-head_of}
 use Rattle.dom_tree.specs.Forest.{name_at}
 use Rattle.dom_tree.proofs.Walks.{children_left, children_left-none, children_left-head, children_left-next, among-next, few_children, shows_children}
@@ -22,15 +22,15 @@ overflow_add-count c =
     let paired = c.self.invariant.paired in
     let below = few_children c.self.inside.arena.children c.self.invariant.forest c.args.key (omega arith) in
     let child = c.loop-at.invariant.1 c.in-Some.child c.in-Some.is in
-    let next = children_left-next c.self.inside.arena.children c.self.invariant.forest c.args.key c.in-Some.child
-    (next_of c.self.inside.arena.children c.in-Some.child) child refl in
+    let next = children_left-next c.self.invariant.forest c.args.key c.in-Some.child
+    child refl in
     let here = ap (children_left (children_of c.self.inside.arena.children c.args.key)) c.in-Some.is in
     omega (arith, c.loop-at.invariant.2)
 
 pub loop-at-smaller : goal.loop-at-smaller
 loop-at-smaller c =
     let child = c.loop-at.invariant.1 c.in-Some.child c.in-Some.is in
-    let next = children_left-next c.self.inside.arena.children c.self.invariant.forest c.args.key c.in-Some.child c.next-at.result child
+    let next = children_left-next c.self.invariant.forest c.args.key c.in-Some.child child
     c.next-at.ensures.value in
     let here = ap (children_left (children_of c.self.inside.arena.children c.args.key)) c.in-Some.is in
     omega arith
@@ -38,11 +38,11 @@ loop-at-smaller c =
 pub loop-at-preserved : goal.loop-at-preserved
 loop-at-preserved c =
     let child = c.loop-at.invariant.1 c.in-Some.child c.in-Some.is in
-    let next = children_left-next c.self.inside.arena.children c.self.invariant.forest c.args.key c.in-Some.child c.next-at.result child
+    let next = children_left-next c.self.invariant.forest c.args.key c.in-Some.child child
     c.next-at.ensures.value in
     let here = ap (children_left (children_of c.self.inside.arena.children c.args.key)) c.in-Some.is in (
       c.next-at.ensures.node,
-      (λ s e. among-next c.self.inside.arena.children c.self.invariant.forest c.args.key c.in-Some.child s c.next-at.result
+      (λ s e. among-next c.self.invariant.forest c.args.key c.in-Some.child
           child c.next-at.ensures.value e),
       omega (arith, c.loop-at.invariant.2),
     )

@@ -27,8 +27,8 @@ overflow_add-count c =
     let below = few_children c.self.inside.arena.children c.self.invariant.forest c.args.key (omega arith) in
     let child = c.loop-at.invariant.1 c.in-Some.child c.in-Some.is in
     let node = within_names c.self.view_is c.self.invariant c.in-Some.child (c.loop-at.invariant.0 c.in-Some.child c.in-Some.is) in
-    let rest = rest_of-next c.self.inside.arena.children c.self.invariant.forest c.args.key c.in-Some.child
-    (next_of c.self.inside.arena.children c.in-Some.child) child refl in
+    let rest = rest_of-next c.self.invariant.forest c.args.key c.in-Some.child
+    child refl in
     let was = ap (tally (is_counted (nodes_of c.self.inside.arena.payloads) c.args.apart))
     (ap (rest_of (children_of c.self.inside.arena.children c.args.key)) c.in-Some.is ∙ rest) in
     let on : (is_counted (nodes_of c.self.inside.arena.payloads) c.args.apart) c.in-Some.child ≡ true =
@@ -47,7 +47,7 @@ overflow_add-count c =
 pub loop-at-smaller : goal.loop-at-smaller
 loop-at-smaller c =
     let child = c.loop-at.invariant.1 c.in-Some.child c.in-Some.is in
-    let next = children_left-next c.self.inside.arena.children c.self.invariant.forest c.args.key c.in-Some.child c.next-at.result child
+    let next = children_left-next c.self.invariant.forest c.args.key c.in-Some.child child
     c.next-at.ensures.value in
     let here = ap (children_left (children_of c.self.inside.arena.children c.args.key)) c.in-Some.is in
     omega arith
@@ -56,12 +56,12 @@ pub loop-at-preserved : goal.loop-at-preserved
 loop-at-preserved c =
     let child = c.loop-at.invariant.1 c.in-Some.child c.in-Some.is in
     let node = within_names c.self.view_is c.self.invariant c.in-Some.child (c.loop-at.invariant.0 c.in-Some.child c.in-Some.is) in
-    let rest = rest_of-next c.self.inside.arena.children c.self.invariant.forest c.args.key c.in-Some.child c.next-at.result child c.next-at.ensures.value in
+    let rest = rest_of-next c.self.invariant.forest c.args.key c.in-Some.child child c.next-at.ensures.value in
     let was = ap (tally (is_counted (nodes_of c.self.inside.arena.payloads) c.args.apart))
     (ap (rest_of (children_of c.self.inside.arena.children c.args.key)) c.in-Some.is ∙ rest) in
     let split = is_counted-split c.self.view_is c.self.invariant c.in-Some.child c.args.apart node c.requires.apart_is_node in (
       c.next-at.ensures.node,
-      (λ s e. among-next c.self.inside.arena.children c.self.invariant.forest c.args.key c.in-Some.child s c.next-at.result child c.next-at.ensures.value e),
+      (λ s e. among-next c.self.invariant.forest c.args.key c.in-Some.child child c.next-at.ensures.value e),
       elim c.if-is_element.branch [
         | then-is_element+then-ne w ↦
             let on : (is_counted (nodes_of c.self.inside.arena.payloads) c.args.apart) c.in-Some.child ≡ true =

@@ -11,7 +11,7 @@ use Rattle.dom_tree.proofs.forest.Forest.following.Goals as goal
 
 pub returns-then-is_some-clause-value : goal.returns-then-is_some-clause-value
 returns-then-is_some-clause-value c =
-    let walk = in_tree c.self.view_is c.self.invariant c.args.top c.args.key c.requires.top_is_node c.requires.key_is_node c.requires.within in
+    let walk = in_tree c.self.view_is c.self.invariant c.requires.top_is_node c.requires.key_is_node c.requires.within in
     shows_following c.self.view_is c.self.invariant c.args.top c.args.key c.first-first.result c.requires.top_is_node c.requires.key_is_node walk.above
     (head_or-here (children_of c.self.inside.arena.children c.args.key)
     (behind_in (nodes_of c.self.inside.arena.payloads) c.self.inside.arena.children c.args.top c.args.key) c.first-first.result
@@ -26,9 +26,8 @@ loop-self-init c = (
 
 pub returns-then-is_some-2-clause-value : goal.returns-then-is_some-2-clause-value
 returns-then-is_some-2-clause-value c =
-    let walk = in_tree c.self.view_is c.self.invariant c.args.top c.args.key c.requires.top_is_node c.requires.key_is_node c.requires.within in
-    let here = behind_in-here (nodes_of c.self.inside.arena.payloads) c.self.inside.arena.children walk.whole c.args.top c.loop-self.at
-    c.next-next.result walk.top_is_node
+    let walk = in_tree c.self.view_is c.self.invariant c.requires.top_is_node c.requires.key_is_node c.requires.within in
+    let here = behind_in-here walk.whole walk.top_is_node
     (told_apart c.loop-self.at c.args.top c.loop-self-test.ensures) c.loop-self.invariant.1 c.next-next.ensures.value c.if-is_some-2.ensures in
     shows_following c.self.view_is c.self.invariant c.args.top c.args.key c.next-next.result c.requires.top_is_node c.requires.key_is_node walk.above
     (here ∙ (c.loop-self.invariant.2 ∙ sym
@@ -49,20 +48,19 @@ loop-self-smaller c =
 
 pub loop-self-preserved : goal.loop-self-preserved
 loop-self-preserved c =
-    let walk = in_tree c.self.view_is c.self.invariant c.args.top c.args.key c.requires.top_is_node c.requires.key_is_node c.requires.within in
+    let walk = in_tree c.self.view_is c.self.invariant c.requires.top_is_node c.requires.key_is_node c.requires.within in
     let other = told_apart c.loop-self.at c.args.top c.loop-self-test.ensures in
-    let above = behind_in-parent (nodes_of c.self.inside.arena.payloads) c.self.inside.arena.children walk.whole c.args.top c.loop-self.at
-    c.in-Some.parent walk.top_is_node
+    let above = behind_in-parent walk.whole walk.top_is_node
     other c.loop-self.invariant.1 (sym c.next-next.ensures.value ∙ lacks c.next-next.result c.if-is_some-2.ensures) (sym c.in-Some.ensures.value) in (
       c.in-Some.ensures.node c.in-Some.parent refl,
-      still_below c.self.inside.arena.children c.self.invariant.forest c.args.top c.loop-self.at c.in-Some.parent other c.loop-self.invariant.1
+      still_below c.self.invariant.forest other c.loop-self.invariant.1
           (sym c.in-Some.ensures.value),
       sym above ∙ c.loop-self.invariant.2,
     )
 
 pub returns-clause-value : goal.returns-clause-value
 returns-clause-value c =
-    let walk = in_tree c.self.view_is c.self.invariant c.args.top c.args.key c.requires.top_is_node c.requires.key_is_node c.requires.within in
+    let walk = in_tree c.self.view_is c.self.invariant c.requires.top_is_node c.requires.key_is_node c.requires.within in
     let ends = ap (behind_in (nodes_of c.self.inside.arena.payloads) c.self.inside.arena.children c.args.top)
     (told_same c.loop-self.at c.args.top c.loop-self-test.ensures) ∙ behind_in-top (nodes_of c.self.inside.arena.payloads)
     c.self.inside.arena.children walk.whole c.args.top walk.top_is_node in

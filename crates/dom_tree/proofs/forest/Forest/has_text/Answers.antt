@@ -22,8 +22,8 @@ returns-then-is_text c =
     let child = c.loop-at.invariant.1 c.in-Some.child c.in-Some.is in
     let node = within_names c.self.view_is c.self.invariant c.in-Some.child (c.loop-at.invariant.0 c.in-Some.child c.in-Some.is) in
     let here = sym (shows_text c.self.view_is c.self.invariant c.in-Some.child node) ∙ sym c.if-is_text.ensures in
-    let rest = rest_of-next c.self.inside.arena.children c.self.invariant.forest c.args.key c.in-Some.child
-    (next_of c.self.inside.arena.children c.in-Some.child) child refl in
+    let rest = rest_of-next c.self.invariant.forest c.args.key c.in-Some.child
+    child refl in
     sym (sym c.loop-at.invariant.2 ∙ (ap
     (λ o. any_of (is_text_key (nodes_of c.self.inside.arena.payloads)) (rest_of (children_of c.self.inside.arena.children c.args.key) o))
     c.in-Some.is ∙ (ap (any_of (is_text_key (nodes_of c.self.inside.arena.payloads))) rest ∙
@@ -34,7 +34,7 @@ returns-then-is_text c =
 pub loop-at-smaller : goal.loop-at-smaller
 loop-at-smaller c =
     let child = c.loop-at.invariant.1 c.in-Some.child c.in-Some.is in
-    let next = children_left-next c.self.inside.arena.children c.self.invariant.forest c.args.key c.in-Some.child c.next-at.result child
+    let next = children_left-next c.self.invariant.forest c.args.key c.in-Some.child child
     c.next-at.ensures.value in
     let here = ap (children_left (children_of c.self.inside.arena.children c.args.key)) c.in-Some.is in
     omega arith
@@ -44,9 +44,9 @@ loop-at-preserved c =
     let child = c.loop-at.invariant.1 c.in-Some.child c.in-Some.is in
     let node = within_names c.self.view_is c.self.invariant c.in-Some.child (c.loop-at.invariant.0 c.in-Some.child c.in-Some.is) in
     let here = sym (shows_text c.self.view_is c.self.invariant c.in-Some.child node) ∙ sym c.if-is_text.ensures in
-    let rest = rest_of-next c.self.inside.arena.children c.self.invariant.forest c.args.key c.in-Some.child c.next-at.result child c.next-at.ensures.value in (
+    let rest = rest_of-next c.self.invariant.forest c.args.key c.in-Some.child child c.next-at.ensures.value in (
       c.next-at.ensures.node,
-      (λ s e. among-next c.self.inside.arena.children c.self.invariant.forest c.args.key c.in-Some.child s c.next-at.result child c.next-at.ensures.value e),
+      (λ s e. among-next c.self.invariant.forest c.args.key c.in-Some.child child c.next-at.ensures.value e),
       sym (ap (λ b. b || any_of (is_text_key (nodes_of c.self.inside.arena.payloads))
           (rest_of (children_of c.self.inside.arena.children c.args.key) c.next-at.result)) here) ∙
           (sym (any_of-cons (is_text_key (nodes_of c.self.inside.arena.payloads)) c.in-Some.child

@@ -27,7 +27,7 @@ pub loop-at-preserved : goal.loop-at-preserved
 loop-at-preserved c =
     let other = eqb-false c.in-Some.node c.args.above (sym c.if-eq.ensures) in (
       c.parent-at.ensures.node,
-      above_from-up c.self.inside.arena.children c.self.invariant.forest c.args.above c.in-Some.node c.parent-at.result other c.parent-at.ensures.value
+      above_from-up c.self.invariant.forest other c.parent-at.ensures.value
           ∙ (ap (above_from c.self.inside.arena.children c.args.above) (sym c.in-Some.is) ∙ c.loop-at.invariant.1),
     )
 

@@ -9,7 +9,7 @@ use Rattle.dom_tree.proofs.forest.Forest.link_before.Goals as goal
 
 pub link_before-requires-clause-unlinked : goal.link_before-requires-clause-unlinked
 link_before-requires-clause-unlinked c =
-    (link_asked c.args.self.now c.self.inside.arena _ c.self.view_is c.self.invariant c.args.parent c.args.child c.args.before
+    (link_asked c.self.inside.arena c.self.view_is c.self.invariant
     (record {
       parent_is_node = c.requires.parent_is_node;
       child_is_node = c.requires.child_is_node;
@@ -21,8 +21,7 @@ link_before-requires-clause-unlinked c =
 
 pub link_before-requires-clause-not_above : goal.link_before-requires-clause-not_above
 link_before-requires-clause-not_above c =
-    λ found. both_ways _ (link_asked c.args.self.now c.self.inside.arena _ c.self.view_is c.self.invariant c.args.parent c.args.child
-    c.args.before (record {
+    λ found. both_ways _ (link_asked c.self.inside.arena c.self.view_is c.self.invariant (record {
       parent_is_node = c.requires.parent_is_node;
       child_is_node = c.requires.child_is_node;
       unlinked = c.requires.unlinked;
@@ -33,7 +32,7 @@ link_before-requires-clause-not_above c =
 
 pub link_before-requires-clause-before_is_child : goal.link_before-requires-clause-before_is_child
 link_before-requires-clause-before_is_child c =
-    (link_asked c.args.self.now c.self.inside.arena _ c.self.view_is c.self.invariant c.args.parent c.args.child c.args.before
+    (link_asked c.self.inside.arena c.self.view_is c.self.invariant
     (record {
       parent_is_node = c.requires.parent_is_node;
       child_is_node = c.requires.child_is_node;
@@ -49,8 +48,7 @@ invariant_of-self c = kept_with c.self.inside.arena c.link_before.new.self _ c.s
 
 pub returns-clause-trees : goal.returns-clause-trees
 returns-clause-trees c = ap (λ g. g.trees)
-    (link_done c.args.self.now c.self.inside.arena c.link_before.new.self _ c.self.view_is c.self.invariant c.args.parent c.args.child
-    c.args.before (record {
+    (link_done c.self.inside.arena c.self.view_is c.self.invariant (record {
       parent_is_node = c.requires.parent_is_node;
       child_is_node = c.requires.child_is_node;
       unlinked = c.requires.unlinked;

@@ -8,7 +8,7 @@ use Rattle.dom_tree.proofs.Setting.{IsKept-set_same, set_names, set_done}
 use Rattle.dom_tree.proofs.forest.Forest.remove_attr.Goals as goal
 
 pub invariant_of-self : goal.invariant_of-self
-invariant_of-self c = IsKept-set_same c.self.invariant c.args.key c.payload_mut.result.now _ c.payload_mut.ensures.value
+invariant_of-self c = IsKept-set_same c.self.invariant c.args.key _ c.payload_mut.ensures.value
     (ap (λ (s : Stored). s.name) c.remove_attribute.ensures.without) (ap (λ (s : Stored). s.node.document) c.remove_attribute.ensures.without)
 
 pub returns-clause-value : goal.returns-clause-value
@@ -16,7 +16,7 @@ returns-clause-value c = c.remove_attribute.ensures.value ∙
     ap (λ n. attribute_value n c.args.name.now) (sym (shows_node c.self.view_is c.self.invariant c.args.key _ c.requires c.payload_mut.ensures.value))
 
 pub returns-clause-names : goal.returns-clause-names
-returns-clause-names c = set_names c.self.view_is c.self.invariant c.args.key c.payload_mut.result.now _ c.payload_mut.ensures.value
+returns-clause-names c = set_names c.self.view_is c.self.invariant c.args.key _ c.payload_mut.ensures.value
     (ap (λ (s : Stored). s.name) c.remove_attribute.ensures.without)
 
 pub returns-clause-trees : goal.returns-clause-trees

@@ -8,15 +8,15 @@ use Rattle.dom_tree.proofs.Attributes.{holding, set_same}
 use Rattle.dom_tree.proofs.forest.Forest.set_attr.Goals as goal
 
 pub invariant_of-self : goal.invariant_of-self
-invariant_of-self c = IsKept-set_same c.self.invariant c.args.key c.payload_mut.result.now _ c.payload_mut.ensures.value
+invariant_of-self c = IsKept-set_same c.self.invariant c.args.key _ c.payload_mut.ensures.value
     (ap (λ (s : Stored). s.name) c.in_err-set_attribute.ensures.err) (ap (λ (s : Stored). s.node.document) c.in_err-set_attribute.ensures.err)
 
 pub invariant_of-self-2 : goal.invariant_of-self-2
-invariant_of-self-2 c = IsKept-set_same c.self.invariant c.args.key c.payload_mut.result.now _ c.payload_mut.ensures.value
+invariant_of-self-2 c = IsKept-set_same c.self.invariant c.args.key _ c.payload_mut.ensures.value
     (ap (λ (s : Stored). s.name) c.in_ok-set_attribute.ensures.ok) (ap (λ (s : Stored). s.node.document) c.in_ok-set_attribute.ensures.ok)
 
 pub returns-in_err-set_attribute-clause-names : goal.returns-in_err-set_attribute-clause-names
-returns-in_err-set_attribute-clause-names c = set_names c.self.view_is c.self.invariant c.args.key c.payload_mut.result.now _ c.payload_mut.ensures.value
+returns-in_err-set_attribute-clause-names c = set_names c.self.view_is c.self.invariant c.args.key _ c.payload_mut.ensures.value
     (ap (λ (s : Stored). s.name) c.in_err-set_attribute.ensures.err)
 
 pub returns-in_err-set_attribute-clause-err : goal.returns-in_err-set_attribute-clause-err
@@ -30,7 +30,7 @@ returns-in_err-set_attribute-clause-err c = on_any c.from_residual-in_err-set_at
     on_any (Err e) p = p
 
 pub returns-clause-names : goal.returns-clause-names
-returns-clause-names c = set_names c.self.view_is c.self.invariant c.args.key c.payload_mut.result.now _ c.payload_mut.ensures.value
+returns-clause-names c = set_names c.self.view_is c.self.invariant c.args.key _ c.payload_mut.ensures.value
     (ap (λ (s : Stored). s.name) c.in_ok-set_attribute.ensures.ok)
 
 pub returns-clause-ok : goal.returns-clause-ok

@@ -6,11 +6,11 @@ use Rattle.dom_tree.proofs.Setting.{IsKept-set_same, set_names, set_done}
 use Rattle.dom_tree.proofs.forest.Forest.set_data.Goals as goal
 
 pub invariant_of-self : goal.invariant_of-self
-invariant_of-self c = IsKept-set_same c.self.invariant c.args.key c.payload_mut.result.now _ c.payload_mut.ensures.value
+invariant_of-self c = IsKept-set_same c.self.invariant c.args.key _ c.payload_mut.ensures.value
     (ap (λ (s : Stored). s.name) c.set_text.ensures) (ap (λ (s : Stored). s.node.document) c.set_text.ensures)
 
 pub returns-clause-names : goal.returns-clause-names
-returns-clause-names c = set_names c.self.view_is c.self.invariant c.args.key c.payload_mut.result.now _ c.payload_mut.ensures.value
+returns-clause-names c = set_names c.self.view_is c.self.invariant c.args.key _ c.payload_mut.ensures.value
     (ap (λ (s : Stored). s.name) c.set_text.ensures)
 
 pub returns-clause-trees : goal.returns-clause-trees

@@ -8,13 +8,13 @@ use Rattle.dom_tree.proofs.Setting.{IsKept-set, set_names, set_done}
 use Rattle.dom_tree.proofs.forest.Forest.set_document.Goals as goal
 
 pub invariant_of-self : goal.invariant_of-self
-invariant_of-self c = IsKept-set c.self.invariant c.args.key c.payload_mut.result.now _ c.payload_mut.ensures.value
+invariant_of-self c = IsKept-set c.self.invariant c.args.key _ c.payload_mut.ensures.value
     (ap (λ (s : Stored). s.name) c.set_document.ensures)
     (λ d e. within c.self.view_is c.self.invariant d
     (c.requires.document_is_node d (ap (λ (s : Stored). s.node.document) (sym c.set_document.ensures) ∙ e)))
 
 pub returns-clause-names : goal.returns-clause-names
-returns-clause-names c = set_names c.self.view_is c.self.invariant c.args.key c.payload_mut.result.now _ c.payload_mut.ensures.value
+returns-clause-names c = set_names c.self.view_is c.self.invariant c.args.key _ c.payload_mut.ensures.value
     (ap (λ (s : Stored). s.name) c.set_document.ensures)
 
 pub returns-clause-trees : goal.returns-clause-trees

@@ -10,7 +10,7 @@ invariant_of-self c = kept_with c.self.inside.arena c.unlink.new.self _ c.self.i
 
 pub returns-clause-trees : goal.returns-clause-trees
 returns-clause-trees c = ap (λ g. g.trees)
-    (unlink_done c.args.self.now c.self.inside.arena c.unlink.new.self _ c.self.view_is c.self.invariant c.args.key c.requires
+    (unlink_done c.self.inside.arena c.self.view_is c.self.invariant c.args.key c.requires
     c.unlink.ensures.unlinked)
 
 pub returns-clause-unlinked : goal.returns-clause-unlinked

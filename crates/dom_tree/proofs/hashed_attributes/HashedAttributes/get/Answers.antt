@@ -12,13 +12,13 @@ returns-in_err-value c =
     ap (option_map (λ v. v.now)) c.from_residual-in_err-value.ensures
     ∙ (ap (option_map (λ v. v.items)) c.in_err-value.ensures.value
     ∙ (lookup-attributes string_bytes (λ v. v.items) c.args.name.now c.deref.result.now.entries
-    ∙ ap (value_among c.args.name.now) (boxed_shows (λ b. b.value) (λ m. attributes_from m.entries) c.self.inside.boxed [] c.args.self.now
-    c.in_ok-as_ref.field-0.now c.deref.result.now c.self.view_is c.in_ok-as_ref.ensures.value c.deref.ensures)))
+    ∙ ap (value_among c.args.name.now) (boxed_shows (λ b. b.value) (λ m. attributes_from m.entries) []
+    c.self.view_is c.in_ok-as_ref.ensures.value c.deref.ensures)))
 
 pub returns : goal.returns
 returns c =
     ap Some c.as_slice.ensures.value
     ∙ (ap (option_map (λ v. v.items)) c.in_ok-value.ensures.value
     ∙ (lookup-attributes string_bytes (λ v. v.items) c.args.name.now c.deref.result.now.entries
-    ∙ ap (value_among c.args.name.now) (boxed_shows (λ b. b.value) (λ m. attributes_from m.entries) c.self.inside.boxed [] c.args.self.now
-    c.in_ok-as_ref.field-0.now c.deref.result.now c.self.view_is c.in_ok-as_ref.ensures.value c.deref.ensures)))
+    ∙ ap (value_among c.args.name.now) (boxed_shows (λ b. b.value) (λ m. attributes_from m.entries) []
+    c.self.view_is c.in_ok-as_ref.ensures.value c.deref.ensures)))

@@ -8,6 +8,6 @@ use Rattle.dom_tree.proofs.hashed_attributes.HashedAttributes.law_have_own_names
 
 pub returns-in-Some : goal.returns-in-Some
 returns-in-Some c = subst HaveOwnNames
-    (boxed_shows (λ b. b.value) (λ m. attributes_from m.entries) c.self.inside.boxed [] c.args.self.now c.in-Some.attributes c.deref.result.now
+    (boxed_shows (λ b. b.value) (λ m. attributes_from m.entries) []
     c.self.view_is (sym c.in-Some.is) c.deref.ensures)
     (own_names string_bytes (λ v. v.items) string_eq (λ x y. refl) c.deref.result.now.entries c.len-count.ensures.unique)

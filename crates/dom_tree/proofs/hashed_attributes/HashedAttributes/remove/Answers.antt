@@ -10,8 +10,7 @@ use Rattle.dom_tree.proofs.hashed_attributes.HashedAttributes.remove.Goals as go
 
 -- the map's attributes are the list's
 shows : (c : goal.After-self-2-1) → attributes_from c.deref_mut.result.now.entries ≡ c.args.self.now
-shows c = boxed_shows (λ b. b.value) (λ m. attributes_from m.entries) c.self.inside.boxed [] c.args.self.now c.in_ok-as_mut.field-0.now
-    c.deref_mut.result.now c.self.view_is c.in_ok-as_mut.ensures.value c.deref_mut.ensures.value
+shows c = boxed_shows (λ b. b.value) (λ m. attributes_from m.entries) [] c.self.view_is c.in_ok-as_mut.ensures.value c.deref_mut.ensures.value
 
 pub returns-clause-value : goal.returns-clause-value
 returns-clause-value c =

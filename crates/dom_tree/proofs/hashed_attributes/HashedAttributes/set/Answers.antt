@@ -11,5 +11,5 @@ returns-in-Some-clause-ok c =
     ap (attributes_in string_bytes (λ v. v.items)) c.in_ok-insert.ensures.entries
     ∙ (insert-attributes string_bytes (λ v. v.items) string_eq (λ x y. refl) c.args.name c.args.value c.deref_mut.result.now.entries
     ∙ ap (attributes_with (string_bytes c.args.name) c.args.value.items)
-    (boxed_shows (λ b. b.value) (λ m. attributes_from m.entries) c.self.inside.boxed [] c.args.self.now c.in-Some.attributes c.deref_mut.result.now
+    (boxed_shows (λ b. b.value) (λ m. attributes_from m.entries) []
     c.self.view_is (sym c.in-Some.is) c.deref_mut.ensures.value))
