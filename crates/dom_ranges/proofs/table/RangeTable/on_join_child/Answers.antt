@@ -11,7 +11,6 @@ use Rattle.dom_ranges.proofs.table.RangeTable.on_join_child.Goals as goal
 pub on_join-requires : goal.on_join-requires
 on_join-requires c =
     λ o k r e.
-    let index = index_of c.args.forest.now.trees (name_at c.args.forest.now.names c.args.next) in
     let near = c.index_among-index.ensures o k r e in
     let fits = c.requires.fits o k r e in (
       subst Fits (sym (join-near c.args.first c.args.size c.args.next r.start near.0)) fits.0,
