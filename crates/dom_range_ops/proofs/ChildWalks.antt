@@ -21,9 +21,9 @@ pub kid-first : (ts : Trees) (p : NodeName) (index : ℕ) (at : Option NodeName)
 kid-first ts p index at e = record { front = []; back = children_of ts p; kids = refl; first = e; goal = refl }
 
 -- the next one
-pub kid-next : (ts : Trees) (p x : NodeName) (index left : ℕ) (next : Option NodeName) → Once ts → Has ts p →
+pub kid-next : {ts : Trees} {p x : NodeName} {index left : ℕ} {next : Option NodeName} → Once ts → Has ts p →
     IsAtKid ts p index (suc left) (Some x) → next ≡ next_sibling ts x → IsAtKid ts p index left next
-kid-next ts p x index left next once h k e =
+kid-next {ts} {p} {x} {left} once h k e =
     let s = first_split k.back x (sym k.first) in
     let whole : children_of ts p ≡ k.front ++ x ∷ s.0 = k.kids ∙ ap (λ xs. k.front ++ xs) s.1 in
     let up = parent-of_child ts p x once h (subst (In x) (sym whole) (In-right x k.front (x ∷ s.0) (inl refl))) in

@@ -135,7 +135,7 @@ module _ (f : NamedTrees) (once : StandOnce f) (only : StandAlone f) (owned : Ar
       let p = part_of d.world o in
       let found = was_some (range_at p k) known in
       let same : found.0 ≡ range_at_points d.names points =
-      read-points p p k found.0 (at (name_in d points.start.0) points.start.1) (at (name_in d points.end.0) points.end.1) found.1 read in
+      read-points p k found.1 read in
       let there : range_at p k ≡ Some (range_at_points d.names points) = found.1 ∙ ap Some same in
       let own_ends = ends (range_at_points d.names points) there in
       let by_forest = ap (λ ns. range_at_points ns points) (sym names_is) in

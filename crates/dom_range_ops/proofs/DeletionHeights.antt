@@ -77,9 +77,9 @@ module _ (ts : Trees) (once : Once ts) where
       sym same
 
   -- so are two nodes above one
-  level-same : (a b x : NodeName) → Has ts x → In a (inclusive_ancestors ts x) → In b (inclusive_ancestors ts x) →
+  level-same : {a b : NodeName} (x : NodeName) → Has ts x → In a (inclusive_ancestors ts x) → In b (inclusive_ancestors ts x) →
       length (inclusive_ancestors ts a) ≡ length (inclusive_ancestors ts b) → a ≡ b
-  level-same a b x h i j level = elim (above-chain ts a b x once h i j) [
+  level-same {a} {b} x h i j level = elim (above-chain ts a b x once h i j) [
     | inl k ↦ level-above a b (Has-above ts b x once h j) k level
     | inr k ↦ sym (level-above b a (Has-above ts a x once h i) k (sym level))
   ]
@@ -121,7 +121,7 @@ module _ (f : NamedTrees) (once : StandOnce f) (only : StandAlone f) where
   level-apart k j x at_x above level other =
       let path = inclusive_ancestors f.trees (name_at f.names x) in
       false_from_ne_true (is_inclusive_ancestor f.trees (name_at f.names k) (name_at f.names x))
-      (λ t. other (level-same f.trees (Once-forest f once only) (name_at f.names k) (name_at f.names j) (name_at f.names x)
+      (λ t. other (level-same f.trees (Once-forest f once only) (name_at f.names x)
       (Has-forest f once x at_x) (In-from (name_at f.names k) path t) (In-from (name_at f.names j) path above) level))
 
   -- what is above x as deep as x, or deeper than y, is not above y, where x is not

@@ -175,15 +175,15 @@ module _ (f : NamedTrees) (once : StandOnce f) (only : StandAlone f) (distinct :
       -- before it stops a node is between
       goes : IsBetween f.trees r x × Leads f.trees r xs
       goes = go-on f.trees r bounded x xs (subst (Leads f.trees r) here_is h.leads)
-          (λ first. off (key-found f distinct stop key (λ k there. (stop_stands k there).node) stands_here.node
+          (λ first. off (key-found f distinct stop (λ k there. (stop_stands k there).node) stands_here.node
           (stop-is f once only points bounds top root_is stop stop_is_first ∙ sym first)))
 
       -- a node above the end is passed
-      pub finds-pass : partial ≡ Some key → (new : List ℕ) (next_partial : Option ℕ) → others ≡ new ++ option_to_list next_partial →
+      pub finds-pass : partial ≡ Some key → {new : List ℕ} {next_partial : Option ℕ} → others ≡ new ++ option_to_list next_partial →
           (next_partial ≡ None → length others ≡ 0)
-          → (next : Option ℕ) → option_map (name_at f.names) next ≡ first_of xs → ForSome next (λ k. k < length f.names) →
+          → {next : Option ℕ} → option_map (name_at f.names) next ≡ first_of xs → ForSome next (λ k. k < length f.names) →
           Finds f r top next found next_partial new × (length (left_at f top next) < length (left_at f top o))
-      finds-pass expected new next_partial popped none next next_is node = by h.path.keys h.path.named h.path.begins h.path.rest h.path.nodes
+      finds-pass expected {new} {next_partial} popped none {next} next_is node = by h.path.keys h.path.named h.path.begins h.path.rest h.path.nodes
         where
           step : (behind f.trees (name_at f.names top) x ≡ left_at f top next) × ForSome next (StandsIn f top)
           step = following_step f once only top key next stands_here next_is node

@@ -28,7 +28,7 @@ use Rattle.dom_range_ops.proofs.DeletionOrder.{is_outermost}
 -- the outermost contained nodes are in the range's tree
 outermost-tree : (ts : Trees) (r : Range NodeName) → HasOneTree ts r → outermost_contained ts r ≡ filter (is_outermost ts r) (nodes_around ts r)
 outermost-tree ts r ends =
-    filter-tree ts (root_of ts r.start.node) (is_outermost ts r) ends.once
+    filter-tree ts ends.once
     (Has-above ts (root_of ts r.start.node) r.start.node ends.once ends.start (root-above ts r.start.node ends.start))
     (root-root ts r.start.node ends.once ends.start)
     (λ y h t. contained-root ts r ends y h (and_parts (is_contained ts r y) _ t).0)

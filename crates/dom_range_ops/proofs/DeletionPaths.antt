@@ -176,7 +176,7 @@ module _ (ts : Trees) (r : Range NodeName) (bounded : IsBounded ts r) where
       ∙ (sym (ap (λ xs. xs ++ filter both back) (filter-none both front (λ y i. off y i)))
       ∙ (sym (filter-append both front back)
       ∙ (sym (ap (filter both) (point-splits ts top r.start (start-within ts r bounded)))
-      ∙ (sym (filter-tree ts top both bounded.ends.once up (root-root ts r.start.node bounded.ends.once bounded.ends.start)
+      ∙ (sym (filter-tree ts bounded.ends.once up (root-root ts r.start.node bounded.ends.once bounded.ends.start)
       (λ y h t. one y (and_parts (to_end y) (not_start y) t).0))
       ∙ (filter-both to_end not_start (names_of (nodes ts)) ∙
       (ap (filter not_start) (path-order ts r.end.node bounded.ends.once bounded.ends.end) ∙

@@ -120,10 +120,10 @@ module _ (ts : Trees) (once : Once ts) where
       subst (λ t. In p (inclusive_descendants ts t)) root (In-names _ p (below-from_above ts (root_of ts p) p once k (root-above ts p k)))
 
   -- and no Text and no Comment, where these have no children, if it is a parent
-  pub parent-holds : (r : Range NodeName) (x p : NodeName) →
+  pub parent-holds : (r : Range NodeName) (x : NodeName) {p : NodeName} →
       ((y : NodeName) → is_in name_eq y (nodes_around ts r) ≡ true → has_data (kind_of ts y) ≡ true → children_of ts y ≡ []) →
       Has ts r.start.node → is_inclusive_ancestor ts x r.start.node ≡ true → parent_of ts x ≡ Some p → has_data (kind_of ts p) ≡ false
-  parent-holds r x p leaves h up e =
+  parent-holds r x {p} leaves h up e =
       let path = inclusive_ancestors ts r.start.node in
       let i = In-from x path up in
       let k = Has-above ts x r.start.node once h i in

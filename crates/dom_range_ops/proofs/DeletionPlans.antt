@@ -202,10 +202,10 @@ contents-made h =
     open h use {last_part_is as cut2, keys_are as found, start_cut_is as e1, removed_is as e2, end_cut_is as e3}
 
 -- and then the range's ends
-pub deletion-made : (o : Owner) (k : ℕ) (w : World) (r s : Range NodeName) → IsAlone w o → range_at (part_of w o) k ≡ Some r →
+pub deletion-made : {o : Owner} (k : ℕ) {w : World} {r s : Range NodeName} → IsAlone w o → range_at (part_of w o) k ≡ Some r →
     is_collapsed name_eq r ≡ false → s ≡ both_at (new_place (part_of w o).trees r)
     → world_after o (made o (deleting_contents (part_of w o).trees r) w) (set_range k s ∷ []) ≡ made o (λ p. plan_of_range p k (deleting k)) w
-deletion-made o k w r s alone there wide ends =
+deletion-made {o} k {w} {r} alone there wide ends =
     let p = part_of w o in
     let contents = deleting_contents p.trees r in
     let setting = doing (set_range k (both_at (new_place p.trees r))) in
@@ -252,7 +252,7 @@ deletion-done h =
     ap (λ (e : DocState). e.world) e2
     ∙ (ap (λ n. world_after n d1.world (set_range k s ∷ [])) (sym own)
     ∙ (ap (λ (e : DocState). world_after q e.world (set_range k s ∷ [])) e1
-    ∙ (deletion-made q k d.world r s alone (ap (λ n. range_at (part_of d.world n) k) own ∙ there) wide ends ∙
+    ∙ (deletion-made k alone (ap (λ n. range_at (part_of d.world n) k) own ∙ there) wide ends ∙
     ap (λ n. made n (λ p. plan_of_range p k (deleting k)) d.world) own)))
   where
     open h use {number as k, before as d, deleted as d1, first_node as first, range as r, new_start as a, new_end as b, spot, is_own as own, alone}

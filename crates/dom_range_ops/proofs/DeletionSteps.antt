@@ -43,12 +43,12 @@ pub record GoesUp (ts : Trees) (x y : NodeName) : Type 0 where
   pub above : In parent (inclusive_ancestors ts below)
 
 -- by how deep it is
-beyond-up : (ts : Trees) (n : ℕ) (top x y : NodeName) → IsWithin ts top x → length (inclusive_ancestors ts x) ≤ n →
+beyond-up : {ts : Trees} (n : ℕ) (top : NodeName) {x y : NodeName} → IsWithin ts top x → length (inclusive_ancestors ts x) ≤ n →
     first_of (beyond ts top x) ≡ Some y → GoesUp ts x y
-beyond-up ts zero top x y w le e = let long = ap (length {A = NodeName}) (above-present ts x (stands_in ts top x w)).1 in absurd (omega (arith, long, le))
-beyond-up ts (suc n) top x y w le e = elim (same_or_not x top) [
+beyond-up {ts} zero top {x} w le e = let long = ap (length {A = NodeName}) (above-present ts x (stands_in ts top x w)).1 in absurd (omega (arith, long, le))
+beyond-up {ts} (suc n) top {x} {y} w le e = elim (same_or_not x top) [
   | inl same ↦ absurd (none-some y (sym (ap first_of (ap (beyond ts top) same ∙ (top_places ts top (subst (IsWithin ts top) same w)).1)) ∙ e))
-  | inr other ↦ by other (λ p inside less first. beyond-up ts n top p y inside less first) (parent_of ts x) refl (next_sibling ts x) refl
+  | inr other ↦ by other (λ p inside less first. beyond-up n top inside less first) (parent_of ts x) refl (next_sibling ts x) refl
 ]
   where
     by : (x ≡ top → ⊥) → ((p : NodeName) → IsWithin ts top p → length (inclusive_ancestors ts p) ≤ n → first_of (beyond ts top p) ≡ Some y →
@@ -80,7 +80,7 @@ beyond-up ts (suc n) top x y w le e = elim (same_or_not x top) [
 
 -- the walk goes up where the first of the nodes beyond a tree is found
 goes-up : (ts : Trees) (top x y : NodeName) → IsWithin ts top x → first_of (beyond ts top x) ≡ Some y → GoesUp ts x y
-goes-up ts top x y w e = beyond-up ts (length (inclusive_ancestors ts x)) top x y w (omega arith) e
+goes-up ts top x y w e = beyond-up (length (inclusive_ancestors ts x)) top w (omega arith) e
 
 module _ (ts : Trees) (r : Range NodeName) (bounded : IsBounded ts r) (leaves : HasLeaves ts r) where
   -- the walk begins where nothing above is contained
@@ -96,9 +96,9 @@ module _ (ts : Trees) (r : Range NodeName) (bounded : IsBounded ts r) (leaves : 
   -- ---- parents are not contained
 
   -- nor what is above them
-  clear-above : (x p a : NodeName) → In x (nodes_around ts r) → Clear x → parent_of ts x ≡ Some p → In a (inclusive_ancestors ts p) →
+  clear-above : (x : NodeName) {p : NodeName} (a : NodeName) → In x (nodes_around ts r) → Clear x → parent_of ts x ≡ Some p → In a (inclusive_ancestors ts p) →
       is_contained ts r a ≡ false
-  clear-above x p a i clear e j =
+  clear-above x {p} a i clear e j =
       let w = member-within ts r bounded x i in
       let path = above-parent ts x p bounded.ends.once (stands_in ts top x w) e in
       let k : In p (inclusive_ancestors ts x) = subst (In p) (sym path.0) (inr (subst (In p) (sym (above-present ts p path.1).1) (inl refl))) in
@@ -110,7 +110,7 @@ module _ (ts : Trees) (r : Range NodeName) (bounded : IsBounded ts r) (leaves : 
   clear-beyond x y i clear e p up =
       let g = goes-up ts top x y (member-within ts r bounded x i) e in
       let same : g.parent ≡ p = same_Some g.parent p (sym g.up ∙ up) in
-      subst (λ z. is_contained ts r z ≡ false) same (clear-above x g.below g.parent i clear g.below_up g.above)
+      subst (λ z. is_contained ts r z ≡ false) same (clear-above x g.parent i clear g.below_up g.above)
 
   -- behind one that is not contained
   pub clear-behind : (x y : NodeName) → In x (nodes_around ts r) → Clear x → is_contained ts r x ≡ false → first_of (behind ts top x) ≡ Some y → Clear y
@@ -188,7 +188,7 @@ module _ (ts : Trees) (r : Range NodeName) (bounded : IsBounded ts r) (leaves : 
       let up = Has-above ts top r.start.node bounded.ends.once bounded.ends.start (root-above ts r.start.node bounded.ends.start) in
       let front = nodes_before ts top r.start (start-within ts r bounded) in
       let back = nodes_after ts top r.start in
-      filter-tree ts top outermost bounded.ends.once up (root-root ts r.start.node bounded.ends.once bounded.ends.start)
+      filter-tree ts bounded.ends.once up (root-root ts r.start.node bounded.ends.once bounded.ends.start)
       (λ y h t. contained-root ts r bounded.ends y h (and_parts (is_contained ts r y) _ t).0)
       ∙ (ap (filter outermost) (point-splits ts top r.start (start-within ts r bounded))
       ∙ (filter-append outermost front back

@@ -47,9 +47,9 @@ within-at p k r h there = subst (EndsWithin p.trees) there (each p.ranges k h.ra
     each (r ∷ rs) (suc k) g = each rs k g.1
 
 -- a range is what its ends are answered to be
-pub read-points : (p q : Part) (k : ℕ) (r : Range NodeName) (b c : Boundary NodeName) → range_at p k ≡ Some r →
+pub read-points : (p : Part) {q : Part} (k : ℕ) {r : Range NodeName} {b c : Boundary NodeName} → range_at p k ≡ Some r →
     effect p (Command.range_get k) ≡ Effect.tables q [] (boundaries b c) → r ≡ from_to b c
-read-points p q k r b c there is =
+read-points p {q} k {r} {b} {c} there is =
     let e : Effect.tables p [] (boundaries r.start r.end) ≡ Effect.tables q [] (boundaries b c) =
     sym (ap (λ o. option_map_or (λ (range : Range NodeName). Effect.tables p [] (boundaries range.start range.end)) o
     (Effect.tables p [] nothing)) there) ∙ is in

@@ -28,10 +28,10 @@ module _ (d e : DocState) (o : Owner) (f : Plan) (alone : IsAlone d.world o) (ow
       (subst (λ w. P (part_of e.world w).trees (name_in d k)) (sym owner) h)
 
   -- a node without data has none
-  pub open-kept : (spot : Option NodeName) → Changed spot p (after p (f p)) → (k : ℕ) → name_in e k ≡ name_in d k → owner_in d k ≡ o →
+  pub open-kept : {spot : Option NodeName} → Changed spot p (after p (f p)) → (k : ℕ) → name_in e k ≡ name_in d k → owner_in d k ≡ o →
       has_node p.trees (name_in d k) ≡ true → has_data (kind_of p.trees (name_in d k)) ≡ false
       → has_data (kind_of (trees_in e k) (name_in e k)) ≡ false
-  open-kept spot changed k name owner there plain =
+  open-kept changed k name owner there plain =
       now-at (λ ts x. has_data (kind_of ts x) ≡ false) k name owner
       (ap (λ (q : Part). has_data (kind_of q.trees (name_in d k))) part-now ∙
       ap has_data (changed.kinds (name_in d k) (has_node-times p.trees (name_in d k) there)) ∙ plain)

@@ -43,12 +43,12 @@ module _ (d : DocState) (o : Owner) (k : ℕ) (parent node : ℕ) (alone : IsAlo
   ts = (part_of d.world o).trees
 
   -- an insertion before a reference, in the state e, and then an end, in f
-  pub inserted-before : (e f : DocState) (reference : Option ℕ) (offset : ℕ) → ForSome reference (λ b. name_eq (name_in d node) (name_in d b) ≡ false)
+  pub inserted-before : {e f : DocState} (reference : Option ℕ) {offset : ℕ} → ForSome reference (λ b. name_eq (name_in d node) (name_in d b) ≡ false)
       → offset ≡ offset_behind (trees_in d parent) (name_in d parent) (name_in d node) (option_map (name_in d) reference)
       → e ≡ planned (owner_in d parent) (inserting observed (name_in d node) (name_in d parent) (option_map (name_in d) reference)) d
       → f ≡ planned o (ending_at k (at (name_in e parent) offset)) e
       → f ≡ planned o (inserting_before k (name_in d node) (name_in d parent) (option_map (name_in d) reference)) d
-  inserted-before e f reference offset apart behind inserted ended =
+  inserted-before {e} reference {offset} apart behind inserted ended =
       let before = option_map (name_in d) reference in
       let put : Plan = inserting observed x y before in
       let is : e ≡ planned o put d = inserted ∙ ap (λ w. planned w put d) own in
@@ -61,12 +61,12 @@ module _ (d : DocState) (o : Owner) (k : ℕ) (parent node : ℕ) (alone : IsAlo
       ∙ ap (λ b. planned o (inserting observed x y b and_then end n) d) (sym (kept-reference ts x (name_in d) reference apart))
 
   -- a removal, in the state e, and then an insertion before the reference, in f
-  pub inserted-at : (e f : DocState) (child reference : Option ℕ) →
+  pub inserted-at : {e f : DocState} (child reference : Option ℕ) →
       option_map (name_in d) reference ≡ reference_for (trees_in d parent) (name_in d node) (option_map (name_in d) child)
       → e ≡ planned (owner_in d node) (removing observed (name_in d node)) d
       → f ≡ planned o (inserting_before k (name_in e node) (name_in e parent) (option_map (name_in e) reference)) e
       → f ≡ planned o (inserting_at k (name_in d node) (name_in d parent) (option_map (name_in d) child)) d
-  inserted-at e f child reference referred removed inserted =
+  inserted-at {e} child reference referred removed inserted =
       let gone : Plan = removing observed x in
       let is : e ≡ planned o gone d = removed ∙ ap (λ w. planned w gone d) node_own in
       inserted ∙ ap (λ (ns : List NodeName). planned o

@@ -34,9 +34,9 @@ module _ (d : DocState) (k : ℕ) (o : Owner) (plan : Plan) (now : World) (laws 
       (steps_there (part_of d.world o) (plan (part_of d.world o)) j h)
 
 -- after a plan of its owner
-pub range-kept : (o : Owner) (f : Plan) (v w : World) → IsAlone v o → PlansOwn o f → w ≡ made o f v → (k : ℕ) →
+pub range-kept : {o : Owner} (f : Plan) {v w : World} → IsAlone v o → PlansOwn o f → w ≡ made o f v → (k : ℕ) →
     is_some (range_at (part_of v o) k) ≡ true → is_some (range_at (part_of w o) k) ≡ true
-range-kept o f v w alone own is k h =
+range-kept {o} f {v} alone own is k h =
     subst (λ (u : World). is_some (range_at (part_of u o) k) ≡ true) (sym is)
     (subst (λ (p : Part). is_some (range_at p k) ≡ true) (sym (plan_alone o f v alone own)) (steps_there (part_of v o) (f (part_of v o)) k h))
 

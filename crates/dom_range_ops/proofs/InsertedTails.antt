@@ -80,7 +80,7 @@ module _ (d e : DocState) (o : Owner) (start offset parent node tail : ℕ) (alo
 
   -- the parent has no data
   pub split-open : has_node p.trees y ≡ true → has_data (kind_of p.trees y) ≡ false → has_data (kind_of (trees_in e parent) (name_in e parent)) ≡ false
-  split-open there plain = open-kept d e o f alone (plans_splitting o x offset) world (Some y) changed parent (split-name parent parent_is)
+  split-open there plain = open-kept d e o f alone (plans_splitting o x offset) world changed parent (split-name parent parent_is)
       parent_own there plain
 
   -- what was not above the parent is not
@@ -115,10 +115,10 @@ module _ (d e : DocState) (o : Owner) (start offset parent node tail : ℕ) (alo
   split-bounds there text bounds = subst HasBounds (sym now) (split-keeps x offset p part there text bounds)
 
   -- and then the node is inserted before the tail
-  pub split-whole : node < length d.names → (g : DocState) (k : ℕ) (r : Range NodeName) → r.start.node ≡ x → r.start.offset ≡ offset →
+  pub split-whole : node < length d.names → {g : DocState} (k : ℕ) (r : Range NodeName) → r.start.node ≡ x → r.start.offset ≡ offset →
       g ≡ planned o (inserting_at k (name_in e node) (name_in e parent) (Some (name_in e tail))) e
       → g.world ≡ made o (inserting_before_tail k r (name_in d parent) (name_in d node)) d.world
-  split-whole node_is g k r at_node at_offset is =
+  split-whole node_is k r at_node at_offset is =
       let put : Plan = inserting_at k (name_in d node) y (Some (next_name p)) in
       ap (λ (s : DocState). s.world) is
       ∙ ap (λ z. made o (inserting_at k z (name_in e parent) (Some (name_in e tail))) e.world) (split-name node node_is)

@@ -22,10 +22,10 @@ use Rattle.dom_range_ops.proofs.Between.{IsBounded, IsBetween, Leads, start-with
 use Rattle.dom_range_ops.proofs.Sides.{after-yes}
 
 -- a key is found by its name
-pub key-found : (f : NamedTrees) → TellApart f.names → (o : Option ℕ) (k : ℕ) → ForSome o (λ j. j < length f.names) → k < length f.names →
+pub key-found : (f : NamedTrees) → TellApart f.names → (o : Option ℕ) {k : ℕ} → ForSome o (λ j. j < length f.names) → k < length f.names →
     option_map (name_at f.names) o ≡ Some (name_at f.names k) → o ≡ Some k
-key-found f distinct None k node at e = cc
-key-found f distinct (Some j) k node at e = ap Some (distinct j k (node j refl) at (same_Some (name_at f.names j) (name_at f.names k) e))
+key-found f distinct None node at e = cc
+key-found f distinct (Some j) {k} node at e = ap Some (distinct j k (node j refl) at (same_Some (name_at f.names j) (name_at f.names k) e))
 
 module _ (ts : Trees) (r : Range NodeName) (bounded : IsBounded ts r) where
   abbrev root : NodeName

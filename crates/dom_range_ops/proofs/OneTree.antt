@@ -66,11 +66,11 @@ root-root ts x once h = root-path ts (root_of ts x) x once h (root-above ts x h)
 -- ---- the nodes of one tree among all
 
 -- a test that only nodes of one tree pass leaves the same of all nodes as of those of that tree
-pub filter-tree : (ts : Trees) (top : NodeName) (p : NodeName → Bool) → Once ts → Has ts top → root_of ts top ≡ top →
+pub filter-tree : (ts : Trees) {top : NodeName} {p : NodeName → Bool} → Once ts → Has ts top → root_of ts top ≡ top →
     ((y : NodeName) → Has ts y → p y ≡ true → root_of ts y ≡ top)
     → filter p (names_of (nodes ts)) ≡ filter p (inclusive_descendants ts top)
-filter-tree none top p once h e only = absurd h
-filter-tree (tree n c r) top p once (inl here) e only =
+filter-tree none once h e only = absurd h
+filter-tree (tree n c r) {top} {p} once (inl here) e only =
     ap (filter p) (names-tree n c r)
     ∙ (filter-append p (n.name ∷ names_of (nodes c)) (names_of (nodes r))
     ∙ (ap (λ xs. filter p (n.name ∷ names_of (nodes c)) ++ xs) (filter-none p (names_of (nodes r)) (λ y i. off y (Has-names r y i)))
@@ -84,12 +84,12 @@ filter-tree (tree n c r) top p once (inl here) e only =
           (subst (Has r) (sym (root-beside n c r once y h)) (Has-above r (root_of r y) y once.4 h (root-above r y h)))))
       | inr f ↦ f
     ]
-filter-tree (tree n c r) top p once (inr (inl h)) e only = absurd (once.0 (subst (Has c) (sym e ∙ root-inside n c r once top h) h))
-filter-tree (tree n c r) top p once (inr (inr h)) e only =
+filter-tree (tree n c r) {top} once (inr (inl h)) e only = absurd (once.0 (subst (Has c) (sym e ∙ root-inside n c r once top h) h))
+filter-tree (tree n c r) {top} {p} once (inr (inr h)) e only =
     ap (filter p) (names-tree n c r)
     ∙ (filter-append p (n.name ∷ names_of (nodes c)) (names_of (nodes r))
     ∙ (ap (λ xs. xs ++ filter p (names_of (nodes r))) (filter-none p (n.name ∷ names_of (nodes c)) off)
-    ∙ (filter-tree r top p once.4 h (sym (root-beside n c r once top h) ∙ e) (λ y g t. sym (root-beside n c r once y g) ∙ only y (inr (inr g)) t)
+    ∙ (filter-tree r once.4 h (sym (root-beside n c r once top h) ∙ e) (λ y g t. sym (root-beside n c r once y g) ∙ only y (inr (inr g)) t)
     ∙ ap (λ (us : Trees). filter p (names_of (nodes us))) (sym (subtree-beside n c r top once h)))))
   where
     other : (y : NodeName) → Has (tree n c r) y → root_of (tree n c r) y ≡ n.name → p y ≡ false
@@ -142,7 +142,7 @@ module _ (ts : Trees) (r : Range NodeName) (ends : HasOneTree ts r) where
   pub text-tree : range_text_of ts r ≡ text_among ts r (nodes_around ts r)
   text-tree =
       ap (λ xs. whole (flat_map (text_part ts r) xs))
-      (filter-tree ts (root_of ts r.start.node) (is_contained ts r) ends.once
+      (filter-tree ts ends.once
       (Has-above ts (root_of ts r.start.node) r.start.node ends.once ends.start (root-above ts r.start.node ends.start))
       (root-root ts r.start.node ends.once ends.start) contained-root)
     where

@@ -110,9 +110,9 @@ module _ (ts : Trees) (once : Once ts) where
       (r.0, r.1 ∙ (ap (λ path. path ++ r.0) (kid-place p s h front back e) ∙ append_assoc (place_of ts p) (length front ∷ []) r.0))
 
   -- beyond a node stands what is behind it
-  beyond-parted : (n : ℕ) (top x y : NodeName) → IsWithin ts top x → length (inclusive_ancestors ts x) ≤ n → In y (beyond ts top x) → Parted ts x y
-  beyond-parted zero top x y w le i = absurd (deep top x w le)
-  beyond-parted (suc n) top x y w le i = elim (same_or_not x top) [
+  beyond-parted : (n : ℕ) {top x : NodeName} (y : NodeName) → IsWithin ts top x → length (inclusive_ancestors ts x) ≤ n → In y (beyond ts top x) → Parted ts x y
+  beyond-parted zero {top} {x} y w le i = absurd (deep top x w le)
+  beyond-parted (suc n) {top} {x} y w le i = elim (same_or_not x top) [
     | inl same ↦ absurd (subst (In y) (ap (beyond ts top) same ∙ (top_places ts top (subst (IsWithin ts top) same w)).1) i)
     | inr other ↦
         let h = has-place top x w other in
@@ -139,7 +139,7 @@ module _ (ts : Trees) (once : Once ts) where
                 less = omega (arith, longer);
               }
           | inr j ↦
-              let k = beyond-parted n top h.parent y h.within (shallower n top x h le) j in
+              let k = beyond-parted n y h.within (shallower n top x h le) j in
               record {
                 common = k.common;
                 first = k.first;
@@ -155,10 +155,10 @@ module _ (ts : Trees) (once : Once ts) where
   ]
 
   -- before a node stands what is before it, or above it
-  ahead-parted : (n : ℕ) (top x y : NodeName) → IsWithin ts top x → length (inclusive_ancestors ts x) ≤ n → In y (ahead_of ts top x) →
+  ahead-parted : (n : ℕ) {top x : NodeName} (y : NodeName) → IsWithin ts top x → length (inclusive_ancestors ts x) ≤ n → In y (ahead_of ts top x) →
       Parted ts y x ⊎ Under ts y x
-  ahead-parted zero top x y w le i = absurd (deep top x w le)
-  ahead-parted (suc n) top x y w le i = elim (same_or_not x top) [
+  ahead-parted zero {top} {x} y w le i = absurd (deep top x w le)
+  ahead-parted (suc n) {top} {x} y w le i = elim (same_or_not x top) [
     | inl same ↦ absurd (subst (In y) (ap (ahead_of ts top) same ∙ (top_places ts top (subst (IsWithin ts top) same w)).0) i)
     | inr other ↦
         let h = has-place top x w other in
@@ -166,7 +166,7 @@ module _ (ts : Trees) (once : Once ts) where
         let mine = kid-place h.parent x at h.front h.back h.kids in
         elim (In-parts y (ahead_of ts top h.parent) (h.parent ∷ joined ts h.front)
         (subst (In y) (child_places ts top h.parent x h.front h.back h.within h.kids).1 i)) [
-          | inl j ↦ elim (ahead-parted n top h.parent y h.within (shallower n top x h le) j) [
+          | inl j ↦ elim (ahead-parted n y h.within (shallower n top x h le) j) [
             | inl k ↦ inl record {
               common = k.common;
               first = k.first;
@@ -210,7 +210,7 @@ module _ (ts : Trees) (once : Once ts) where
 
   -- each node behind a tree is parted from the node in it
   pub behind-apart : (top x y : NodeName) → IsWithin ts top x → In y (beyond ts top x) → Parted ts x y
-  behind-apart top x y w i = beyond-parted (length (inclusive_ancestors ts x)) top x y w (omega arith) i
+  behind-apart top x y w i = beyond-parted (length (inclusive_ancestors ts x)) y w (omega arith) i
 
   pub ahead-apart : (top x y : NodeName) → IsWithin ts top x → In y (ahead_of ts top x) → Parted ts y x ⊎ Under ts y x
-  ahead-apart top x y w i = ahead-parted (length (inclusive_ancestors ts x)) top x y w (omega arith) i
+  ahead-apart top x y w i = ahead-parted (length (inclusive_ancestors ts x)) y w (omega arith) i

@@ -40,13 +40,13 @@ top-is : (n m : Node) (c d : Trees) → tree n c none ≡ tree m d none → n �
 top-is n m c d e = cc
 
 -- the root of a node's tree is a node of the trees
-node-there : (ts : Trees) (x : NodeName) (n : Node) (c : Trees) → Once ts → Has ts x → subtree ts x ≡ tree n c none → InNodes n (nodes ts)
-node-there none x n c once h is = absurd h
-node-there (tree m d s) x n c once (inl e) is = inl (top-is n m c d (sym is ∙ subtree-here m d s x e))
-node-there (tree m d s) x n c once (inr (inl h)) is =
-    inr (in_left n (nodes d) (nodes s) (node-there d x n c once.3 h (sym (subtree-below m d s x once h) ∙ is)))
-node-there (tree m d s) x n c once (inr (inr h)) is =
-    inr (in_right n (nodes d) (nodes s) (node-there s x n c once.4 h (sym (subtree-beside m d s x once h) ∙ is)))
+node-there : (ts : Trees) (x : NodeName) {n : Node} {c : Trees} → Once ts → Has ts x → subtree ts x ≡ tree n c none → InNodes n (nodes ts)
+node-there none x once h is = absurd h
+node-there (tree m d s) x {n} {c} once (inl e) is = inl (top-is n m c d (sym is ∙ subtree-here m d s x e))
+node-there (tree m d s) x {n} once (inr (inl h)) is =
+    inr (in_left n (nodes d) (nodes s) (node-there d x once.3 h (sym (subtree-below m d s x once h) ∙ is)))
+node-there (tree m d s) x {n} once (inr (inr h)) is =
+    inr (in_right n (nodes d) (nodes s) (node-there s x once.4 h (sym (subtree-beside m d s x once h) ∙ is)))
 
 module _ (ts : Trees) (p : NodeName) (once : Once ts) (h : Has ts p) where
   -- what is below a node stands once
@@ -128,7 +128,7 @@ module _ (ts : Trees) (x : NodeName) (taken : NodeName → Bool) (from to : ℕ)
     items-at =
         let w = subtree-present ts y h in
         let kind : has_data w.0.kind ≡ has_data (kind_of ts y) =
-        ap (λ (m : Node). has_data m.kind) (sym (node_in-self ts once w.0 (node-there ts y w.0 w.1 once h w.2))) ∙
+        ap (λ (m : Node). has_data m.kind) (sym (node_in-self ts once w.0 (node-there ts y once h w.2))) ∙
         ap (λ (z : NodeName). has_data (kind_of ts z)) w.3 in
         let all = λ (z : NodeName) (b : Bool) (xs : List Item). items_with (is_inclusive_ancestor ts z x) (taken z) b z xs in
         ap along w.2

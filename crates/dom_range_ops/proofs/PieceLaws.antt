@@ -45,12 +45,12 @@ module _ (ts : Trees) (r : Range NodeName) (is : IsRange ts r) (c : NodeName) (r
 
   -- the last node of the start's path is not above the end
   start-apart : (y : NodeName) → In y (children_of ts c) → last_of start_path ≡ Some y → is_inclusive_ancestor ts y r.end.node ≡ false
-  start-apart y i last = kid-off ts is.once c rest parts.there r.end end_path (end_course ts r is c rest start_path end_path parts) is.end y i
+  start-apart y i last = kid-off ts is.once c rest parts.there (end_course ts r is c rest start_path end_path parts) is.end i
       (parts.apart y last)
 
   -- nor is that of the end's above the start
   end-apart : (y : NodeName) → In y (children_of ts c) → last_of end_path ≡ Some y → is_inclusive_ancestor ts y r.start.node ≡ false
-  end-apart y i last = kid-off ts is.once c rest parts.there r.start start_path (start_course ts r is c rest start_path end_path parts) is.start y
+  end-apart y i last = kid-off ts is.once c rest parts.there (start_course ts r is c rest start_path end_path parts) is.start
       i (λ same. parts.apart y same last)
 
   -- no node of the start's path is above the end
@@ -83,7 +83,7 @@ module _ (ts : Trees) (r : Range NodeName) (is : IsRange ts r) (c : NodeName) (r
       let whole : children_of ts c ≡ (s.front ++ s.middle) ++ s.back = s.kids ∙ sym (append_assoc s.front s.middle s.back) in
       let single = Single-right (s.front ++ s.middle) s.back (subst Single whole (children-single ts c is.once parts.there)) in
       ap (up_to (first_from ts r.end end_path))
-      (from-kids ts is.once c parts.there (s.front ++ s.middle) s.back whole (first_behind ts r.start start_path)
+      (from-kids ts is.once c parts.there (s.front ++ s.middle) s.back whole
       (begins ts is.once c rest parts.there r.start start_path (start_course ts r is c rest start_path end_path parts)) ∙ o.back)
       ∙ (up-to-first o.between (e.middle ++ e.back) (subst Single o.back single) (first_from ts r.end end_path)
       (stops ts is.once c rest parts.there r.end end_path (end_course ts r is c rest start_path end_path parts))

@@ -69,10 +69,10 @@ module _ (ts : Trees) (owned : AreOwned ts) (o : Owner) (r : Range NodeName) (en
 
   -- pieces along the path to a node, where the same nodes are above it and pass the test
   along-own : (x : NodeName) → ((y : NodeName) → is_inclusive_ancestor ts y x ≡ is_inclusive_ancestor own y x) →
-      (p q : NodeName → Bool) (from to : ℕ) (d : Trees) → ((y : NodeName) → Has d y → p y ≡ q y) →
+      {p q : NodeName → Bool} (from to : ℕ) (d : Trees) → ((y : NodeName) → Has d y → p y ≡ q y) →
       pieces_along ts x p from to d ≡ pieces_along own x q from to d
-  along-own x above p q from to none same = refl
-  along-own x above p q from to (tree n c rest) same =
+  along-own x above from to none same = refl
+  along-own x above {p} {q} from to (tree n c rest) same =
       let pieces = λ (over passes : Bool) (inside others : Pieces).
       (if over then (if has_data n.kind then cut n.name from to others else clone n.name inside others) else
       (if passes then whole n.name others else others)) in
@@ -81,22 +81,21 @@ module _ (ts : Trees) (owned : AreOwned ts) (o : Owner) (r : Range NodeName) (en
       let others = pieces_along ts x p from to rest in
       ap (λ b. pieces b (p n.name) inside others) (above n.name)
       ∙ (ap (λ b. pieces over b inside others) (same n.name (inl refl))
-      ∙ (ap (λ i. pieces over (q n.name) i others) (along-own x above p q from to c (λ y h. same y (inr (inl h))))
-      ∙ ap (pieces over (q n.name) (pieces_along own x q from to c)) (along-own x above p q from to rest (λ y h. same y (inr (inr h))))))
+      ∙ (ap (λ i. pieces over (q n.name) i others) (along-own x above from to c (λ y h. same y (inr (inl h))))
+      ∙ ap (pieces over (q n.name) (pieces_along own x q from to c)) (along-own x above from to rest (λ y h. same y (inr (inr h))))))
 
   -- what is behind the start in trees of such nodes
   start-own : (d : Trees) → ((x : NodeName) → Has d x → IsNear x) → pieces_behind ts r.start d ≡ pieces_behind own r.start d
   start-own d near =
-      let p = λ (x : NodeName). is_before ts r.start (at x 0) in
       let q = λ (x : NodeName). is_before own r.start (at x 0) in
-      along-own r.start.node starts-own p q r.start.offset (length_of ts r.start.node) d
+      along-own r.start.node starts-own r.start.offset (length_of ts r.start.node) d
       (λ y h. let w = near y h in behind-own ts owned o r ends start end y w.there w.root w.owner)
       ∙ ap (λ k. pieces_along own r.start.node q r.start.offset k d) (read_own ts owned o r.start.node start).size
 
   -- and in front of the end
   end-own : (d : Trees) → ((x : NodeName) → Has d x → IsNear x) → pieces_in_front ts r.end d ≡ pieces_in_front own r.end d
   end-own d near =
-      along-own r.end.node ends-own (λ x. is_before ts (at x (length_of ts x)) r.end) (λ x. is_before own (at x (length_of own x)) r.end) 0 r.end.offset d
+      along-own r.end.node ends-own 0 r.end.offset d
       (λ y h. let w = near y h in in_front-own ts owned o r ends start end y w.there w.root w.owner)
 
   -- the tree that holds one end alone

@@ -139,9 +139,9 @@ module _ (ts : Trees) (once : Once ts) (c : NodeName) (rest : List NodeName) whe
       is-behind i = in-back ts once c there b l z z i (self-in ts once z (kid-stands z (back-kid i)))
 
     -- no other child than the last of the path is above the end
-    pub kid-off : (b : Boundary NodeName) (path : List NodeName) → Course b path → Has ts b.node → (z : NodeName) → In z kids →
+    pub kid-off : {b : Boundary NodeName} {path : List NodeName} → Course b path → Has ts b.node → {z : NodeName} → In z kids →
         (last_of path ≡ Some z → ⊥) → is_inclusive_ancestor ts z b.node ≡ false
-    kid-off b path w h z i other =
+    kid-off {b} {path} w h {z} i other =
         let l = level b path w in
         elim (In-parts z l.front (l.middle ++ l.back) (subst (In z) l.kids i)) [
           | inl j ↦ ahead-off ts once b z (kid-stands z i) h (is-ahead b l z j)
@@ -193,7 +193,7 @@ module _ (ts : Trees) (once : Once ts) (c : NodeName) (rest : List NodeName) whe
           by : Course b path → along (tree_holding ts b.node other below_c) ≡ side_items ts b behind path
           by (at_top empty same) =
               ap along (none-held ts b.node other below_c
-              (λ z i. kid-off b path (at_top empty same) h z i (λ last. none-some z (ap last_of (sym empty) ∙ last)))) ∙
+              (λ z i. kid-off {b = b} (at_top empty same) h i (λ last. none-some z (ap last_of (sym empty) ∙ last)))) ∙
               ap (side_items ts b behind) (sym empty)
           by (inside y more whole last among below) =
               let above : is_inclusive_ancestor ts y b.node ≡ true =
@@ -205,7 +205,7 @@ module _ (ts : Trees) (once : Once ts) (c : NodeName) (rest : List NodeName) whe
                 | inl e ↦ e
                 | inr off ↦ absurd (true≢false
                     (sym t ∙ holds-not ts b.node other z
-                    (kid-off b path (inside y more whole last among below) h z i (λ l. off (same_Some z y (sym l ∙ last))))))
+                    (kid-off {b = b} (inside y more whole last among below) h i (λ l. off (same_Some z y (sym l ∙ last))))))
               ] in
               ap along (one-held ts b.node other below_c (once-below ts c once there) y among hold only ∙ child-tree ts c once there y among)
               ∙ (side-is ts once b behind h y (kid-stands y among) (leaves y among) more (c ∷ rest) (up ∙ ap (λ xs. xs ++ c ∷ rest) whole)

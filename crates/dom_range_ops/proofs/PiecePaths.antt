@@ -81,8 +81,8 @@ module _ (f : NamedTrees) (once : StandOnce f) (only : StandAlone f) (distinct :
 
   pub paths-part : named first ≡ above points.start.0 → named second ≡ above points.end.0 → AllByRecursion (λ k. k < length f.names) first →
       AllByRecursion (λ k. k < length f.names) second
-      → (m n : ℕ) → EndAlike first second m n → ArePaths f points (take m first) (take n second)
-  paths-part start end start_nodes end_nodes m n a = by (drop m first) refl
+      → {m n : ℕ} → EndAlike first second m n → ArePaths f points (take m first) (take n second)
+  paths-part start end start_nodes end_nodes {m} {n} a = by (drop m first) refl
     where
       -- just before the parting the keys differ, so do their names
       differ : 0 < m → 0 < n → name_at f.names (get_or first (m - 1) 0) ≡ name_at f.names (get_or second (n - 1) 0) → ⊥
@@ -141,5 +141,5 @@ module _ (f : NamedTrees) (once : StandOnce f) (only : StandAlone f) (distinct :
       }
 
 -- lists that are the same end alike as others do
-pub alike : (xs ys us vs : List ℕ) (m n : ℕ) → xs ≡ us → ys ≡ vs → EndAlike xs ys m n → EndAlike us vs m n
-alike xs ys us vs m n e g a = subst (λ ws. EndAlike us ws m n) g (subst (λ ws. EndAlike ws ys m n) e a)
+pub alike : {xs ys us vs : List ℕ} {m n : ℕ} → xs ≡ us → ys ≡ vs → EndAlike xs ys m n → EndAlike us vs m n
+alike {ys} {us} {m} {n} e g a = subst (λ ws. EndAlike us ws m n) g (subst (λ ws. EndAlike ws ys m n) e a)

@@ -33,8 +33,8 @@ module _ (names : List NodeName) where
   adds-none a xs w = subst (AreItems names a) (sym (append-nil xs)) w
 
   -- some are, and then others
-  pub adds-on : (a b c : List Piece) (us vs : List Item) → Adds names a b us → Adds names b c vs → Adds names a c (us ++ vs)
-  adds-on a b c us vs f g xs w = subst (AreItems names c) (append_assoc xs us vs) (g (xs ++ us) (f xs w))
+  pub adds-on : {a b c : List Piece} (us vs : List Item) → Adds names a b us → Adds names b c vs → Adds names a c (us ++ vs)
+  adds-on {c} us vs f g xs w = subst (AreItems names c) (append_assoc xs us vs) (g (xs ++ us) (f xs w))
 
   -- one is
   pub adds-one : (a b : List Piece) (p : Piece) → b ≡ a ++ p ∷ [] → IsPieceIn (length names) p → Adds names a b (item_in names p ∷ [])
@@ -75,10 +75,10 @@ module _ (ts : Trees) (once : Once ts) where
               (sym (parent-of_child ts q y once at_q (among y refl)).0)
 
   -- children from the first of them on
-  pub from-kids : (p : NodeName) → Has ts p → (front xs : List NodeName) → children_of ts p ≡ front ++ xs → (o : Option NodeName) →
+  pub from-kids : (p : NodeName) → Has ts p → (front xs : List NodeName) → children_of ts p ≡ front ++ xs → {o : Option NodeName} →
       o ≡ first_of xs → from_sibling ts o ≡ xs
-  from-kids p h front [] e o is = ap (from_sibling ts) is
-  from-kids p h front (x ∷ xs) e o is =
+  from-kids p h front [] e is = ap (from_sibling ts) is
+  from-kids p h front (x ∷ xs) e is =
       let among = subst (In x) (sym e) (In-right x front (x ∷ xs) (inl refl)) in
       let up = (parent-of_child ts p x once h among).0 in
       let apart : In x front → ⊥ = λ i. Single-apart x front (x ∷ xs) (subst Single e (children-single ts p once h)) i (inl refl) in
@@ -134,7 +134,7 @@ module _ (f : NamedTrees) (once : StandOnce f) (only : StandAlone f) (distinct :
         let u = option_map (name_at f.names) until in
         let rest = from_sibling f.trees (option_map (name_at f.names) next) in
         let apart = λ (y : NodeName) (there : u ≡ Some y) (same : x ≡ y). off
-        (key-found f distinct until key stop (p.node key is) (there ∙ ap Some (sym same))) in
+        (key-found f distinct until stop (p.node key is) (there ∙ ap Some (sym same))) in
         let step : up_to u (from_sibling f.trees (option_map (name_at f.names) at)) ≡ x ∷ up_to u rest =
         ap (λ o. up_to u (from_sibling f.trees (option_map (name_at f.names) o))) is ∙
         (up-to-more u x (items_after name_eq x (siblings f.trees x)) apart ∙ ap (λ ys. x ∷ up_to u ys) others) in
@@ -143,7 +143,7 @@ module _ (f : NamedTrees) (once : StandOnce f) (only : StandAlone f) (distinct :
           whole = p.whole ∙ (ap (λ ys. p.done ++ ys) step ∙ sym (append_assoc p.done (x ∷ []) (up_to u rest)));
           node = node;
           added = subst (Adds f.names old then) (sym (map_push whole_item p.done x))
-              (adds-on f.names old new then (map whole_item p.done) (whole_item x ∷ []) p.added
+              (adds-on f.names (map whole_item p.done) (whole_item x ∷ []) p.added
               (adds-one f.names new then (Whole key) grown (p.node key is)));
         }
 
@@ -170,13 +170,13 @@ module _ (ts : Trees) (once : Once ts) (p : NodeName) (h : Has ts p) (offset : �
   run-before from until first stop =
       let kids = children_of ts p in
       let parts = take-append-drop offset kids in
-      ap (up_to until) (from-kids ts once p h [] kids refl from first ∙ sym parts) ∙ up-to-first (take offset kids) (drop offset kids)
+      ap (up_to until) (from-kids ts once p h [] kids refl first ∙ sym parts) ∙ up-to-first (take offset kids) (drop offset kids)
       (subst Single (sym parts) (children-single ts p once h)) until stop
 
   -- and those from it on
   pub run-behind : (from : Option NodeName) → from ≡ first_of (drop offset (children_of ts p)) → from_sibling ts from ≡ drop offset (children_of ts p)
   run-behind from first = from-kids ts once p h (take offset (children_of ts p)) (drop offset (children_of ts p))
-      (sym (take-append-drop offset (children_of ts p))) from first
+      (sym (take-append-drop offset (children_of ts p))) first
 
 -- ---- items that are added one after the other
 
@@ -191,15 +191,15 @@ pub partway-first : (names : List NodeName) (old : List Piece) (all : List Item)
 partway-first names old all = record { done = []; whole = refl; added = adds-none names old }
 
 -- some more are added
-pub partway-more : (names : List NodeName) (old new then : List Piece) (all left some less : List Item) → Partway names old new all left →
+pub partway-more : {names : List NodeName} {old new then : List Piece} {all left : List Item} (some less : List Item) → Partway names old new all left →
     Adds names new then some → left ≡ some ++ less → Partway names old then all less
-partway-more names old new then all left some less p more e =
+partway-more {names} some less p more e =
     record {
       done = p.done ++ some;
       whole = p.whole ∙ (ap (λ xs. p.done ++ xs) e ∙ sym (append_assoc p.done some less));
-      added = adds-on names old new then p.done some p.added more;
+      added = adds-on names p.done some p.added more;
     }
 
 -- none are left
-pub partway-all : (names : List NodeName) (old new : List Piece) (all left : List Item) → Partway names old new all left → left ≡ [] → Adds names old new all
-partway-all names old new all left p e = subst (Adds names old new) (sym (p.whole ∙ (ap (λ xs. p.done ++ xs) e ∙ append-nil p.done))) p.added
+pub partway-all : {names : List NodeName} {old new : List Piece} {all left : List Item} → Partway names old new all left → left ≡ [] → Adds names old new all
+partway-all {names} {old} {new} p e = subst (Adds names old new) (sym (p.whole ∙ (ap (λ xs. p.done ++ xs) e ∙ append-nil p.done))) p.added

@@ -45,19 +45,19 @@ module _ (ts : Trees) (names : List NodeName) (path : List ℕ) where
       sym (append_assoc taken (end_item ∷ []) (tails ts behind (from (suc i)))))
 
   -- a turn of the loop in front of the first child, by the keys that were read
-  pub heads-keys : (before : Bool) (i j node child : ℕ) → suc i < length path → suc i ≡ j → node ≡ get_or path j 0 → child ≡ get_or path i 0
+  pub heads-keys : (before : Bool) {i j node child : ℕ} → suc i < length path → suc i ≡ j → node ≡ get_or path j 0 → child ≡ get_or path i 0
       → heads ts before (from j) ++ (clone_item (name_at names node) ∷ wholes_if before
       (items_before name_eq (name_at names child) (children_of ts (name_at names node)))) ≡ heads ts before (from i)
-  heads-keys before i j node child l up node_is child_is =
+  heads-keys before {i} {j} {child} l up node_is child_is =
       let all = λ (k n m : ℕ). heads ts before (from k) ++
       (clone_item (name_at names n) ∷ wholes_if before (items_before name_eq (name_at names m) (children_of ts (name_at names n)))) in
       ap (λ n. all j n child) node_is ∙ (ap (all j (get_or path j 0)) child_is ∙
       (ap (λ k. all k (get_or path k 0) (get_or path i 0)) (sym up) ∙ sym (heads-step before i l)))
 
-  pub tails-keys : (behind : Bool) (i j child : ℕ) → suc i < length path → suc i ≡ j → child ≡ get_or path i 0
+  pub tails-keys : (behind : Bool) {i j child : ℕ} → suc i < length path → suc i ≡ j → child ≡ get_or path i 0
       → tails ts behind (from i) ≡ (wholes_if behind (items_after name_eq (name_at names child) (siblings ts (name_at names child))) ++
       end_item ∷ []) ++ tails ts behind (from j)
-  tails-keys behind i j child l up child_is =
+  tails-keys behind {i} {child} l up child_is =
       let all = λ (k m : ℕ). (wholes_if behind (items_after name_eq (name_at names m) (siblings ts (name_at names m))) ++ end_item ∷ []) ++
       tails ts behind (from k) in
       tails-step behind i l ∙ (ap (all (suc i)) (sym child_is) ∙ ap (λ k. all k child) up)

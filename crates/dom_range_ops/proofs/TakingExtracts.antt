@@ -115,8 +115,8 @@ module _ (d e : DocState) (o : Owner) (into : ℕ) (n : Node) (alone : IsAlone d
     -- a range that was there is there
     pub range-then : (k : ℕ) → is_some (range_at (part_of d.world o) k) ≡ true → is_some (range_at (part_of f.world o) k) ≡ true
     range-then k h =
-        range-kept o (taking_items (next_name p) [] items) e.world f.world alone-then own-items taken-world k
-        (range-kept o (doing (make n)) d.world e.world alone (λ q own. (tt, tt)) world k h)
+        range-kept (taking_items (next_name p) [] items) alone-then own-items taken-world k
+        (range-kept (doing (make n)) alone (λ q own. (tt, tt)) world k h)
 
     -- and the range is put at its new place
     pub extracted : (g : DocState) (k : ℕ) (r : Range NodeName) → g ≡ stepped o (set_range k r) f →

@@ -163,7 +163,7 @@ module _ (d : DocState) (into : ℕ) (here : into < length d.names) (pieces : Li
     progress-next =
         let new = new_names o p.node_count (made_by (item ∷ [])) in
         let few : x.number ≤ p.node_count = let n = part.numbered x (has_node-times p.trees x g.may.takers.0.there) in omega arith in
-        let on = takes-on x (names_in e ks) p item rest part few g.may in
+        let on = takes-on part few g.may in
         let count : (part_of f.world o).node_count ≡ p.node_count + made_by (item ∷ []) = ap (λ (q : Part). q.node_count) part-then ∙ count-item top p item in
         record {
           more = g.more ++ new;

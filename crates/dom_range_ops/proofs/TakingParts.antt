@@ -83,8 +83,8 @@ record IsPutBelow (into top : NodeName) (p : Part) (n : Node) : Type 0 where
   there : HasNode (after p (making_below top n p)) (next_name p)
   kind : kind_of (after p (making_below top n p)).trees (next_name p) ≡ n.kind
 
-put-below : (into top : NodeName) (p : Part) (n : Node) → n.name ≡ next_name p → IsPart p → HasBounds p → IsTaker into p.trees top → IsPutBelow into top p n
-put-below into top p n e i h t =
+put-below : {into top : NodeName} {p : Part} (n : Node) → n.name ≡ next_name p → IsPart p → HasBounds p → IsTaker into p.trees top → IsPutBelow into top p n
+put-below {into} {top} {p} n e i h t =
     let there = has_node-times p.trees top t.there in
     let q = part_step p (make n) in
     let first = leads-one p (make n) i tt in
@@ -104,10 +104,10 @@ put-below into top p n e i h t =
     }
 
 -- each item
-item-leaves : (into : NodeName) (clones : List NodeName) (p : Part) → IsPart p → HasBounds p →
+item-leaves : {into : NodeName} {clones : List NodeName} {p : Part} → IsPart p → HasBounds p →
     AllByRecursion (IsTaker into p.trees) (into ∷ clones) → into.number ≤ p.node_count → (item : Item) → MayBeTaken into p.trees item →
     Leaves into clones p (taking_item (top_of into clones) item p) item
-item-leaves into clones p i h t le (whole_item x) m =
+item-leaves {into} {clones} {p} i h t le (whole_item x) m =
     let top = top_of into clones in
     let taker = top-takes into p.trees clones t in
     let may = old-may into.number p x top i (old-of into p x i m) (has_node-times p.trees top taker.there) taker.new in
@@ -118,10 +118,10 @@ item-leaves into clones p i h t le (whole_item x) m =
       bounds = insertion-keeps observed x top None p i m.there taker.there (m.apart top taker.new) taker.no_data h;
       takers = all-then (IsTaker into p.trees) (IsTaker into q.trees) (taker-still into p q l.changed) (into ∷ clones) t;
     }
-item-leaves into clones p i h t le (cut_item x from to) m =
+item-leaves {into} {clones} {p} i h t le (cut_item x from to) m =
     let top = top_of into clones in
     let n = clone_part (next_name p) from to (node_in p.trees x) in
-    let put = put-below into top p n refl i h (top-takes into p.trees clones t) in
+    let put = put-below n refl i h (top-takes into p.trees clones t) in
     let one = making_below top n p in
     let q = after p one in
     let two = replacing_data x from (to - from) [] q in
@@ -135,10 +135,10 @@ item-leaves into clones p i h t le (cut_item x from to) m =
       bounds = subst HasBounds (sym same) (data-keeps x from (to - from) [] q put.leads.changed.part units put.bounds);
       takers = all-then (IsTaker into p.trees) (IsTaker into r.trees) (taker-still into p r both.changed) (into ∷ clones) t;
     }
-item-leaves into clones p i h t le (clone_item x) m =
+item-leaves {into} {clones} {p} i h t le (clone_item x) m =
     let top = top_of into clones in
     let n = with_name (next_name p) (node_in p.trees x) in
-    let put = put-below into top p n refl i h (top-takes into p.trees clones t) in
+    let put = put-below n refl i h (top-takes into p.trees clones t) in
     let q = after p (making_below top n p) in
     let kept = all-then (IsTaker into p.trees) (IsTaker into q.trees) (taker-still into p q put.leads.changed) (into ∷ clones) t in
     record {
@@ -146,7 +146,7 @@ item-leaves into clones p i h t le (clone_item x) m =
       bounds = put.bounds;
       takers = (kept.0, (record { there = times-has_node q.trees (next_name p) put.there; no_data = ap has_data put.kind ∙ m.1; new = le }, kept.1));
     }
-item-leaves into clones p i h t le end_item m =
+item-leaves {into} {clones} {p} i h t le end_item m =
     record { leads = leads-nothing (Some (top_of into clones)) p i; bounds = h; takers = (t.0, dropped clones t.1) }
   where
     dropped : (xs : List NodeName) → AllByRecursion (IsTaker into p.trees) xs → AllByRecursion (IsTaker into p.trees) (drop 1 xs)
@@ -172,12 +172,12 @@ made-more (clone_item x) items = omega arith
 made-more end_item items = omega arith
 
 -- so the others may be taken then
-pub takes-on : (into : NodeName) (clones : List NodeName) (p : Part) (item : Item) (items : List Item) → IsPart p → into.number ≤ p.node_count →
+pub takes-on : {into : NodeName} {clones : List NodeName} {p : Part} {item : Item} {items : List Item} → IsPart p → into.number ≤ p.node_count →
     MayTake p into clones (item ∷ items) →
     MayTake (after p (taking_item (top_of into clones) item p)) into (clones_after (next_name p) item clones) items
-takes-on into clones p item items i le m =
+takes-on {into} {clones} {p} {item} {items} i le m =
     let top = top_of into clones in
-    let left = item-leaves into clones p i m.bounds m.takers le item m.taken.0 in
+    let left = item-leaves i m.bounds m.takers le item m.taken.0 in
     let q = after p (taking_item top item p) in
     record {
       bounds = left.bounds;

@@ -36,9 +36,9 @@ loop-at-smaller-then-is_node-2 c =
     c.loop-at.at c.in-Some.key c.loop-at.found.items c.loop-at.partial c.loop-at.path.items c.in-Some.is c.loop-at.invariant
     c.node_after-stop.result c.node_after-stop.ensures.value c.node_after-stop.ensures.stands
     (λ stop. true≢false (sym (c.is_node.ensures.1 stop) ∙ c.if-is_node.false)) (c.is_node-in-Some.ensures.0 c.if-is_node-2.true)
-    c.pop-partial-then-is_node-2.new.self.items c.pop-partial-then-is_node-2.result c.pop-partial-then-is_node-2.ensures.items
+    c.pop-partial-then-is_node-2.ensures.items
     (λ none. let is = (rw none at c.pop-partial-then-is_node-2.ensures.cases).0 in let ok = c.loop-at.path.ok in omega (arith, is, ok))
-    c.following-at.result c.following-at.ensures.value c.following-at.ensures.node).1
+    c.following-at.ensures.value c.following-at.ensures.node).1
 
 pub loop-at-preserved-then-is_node-2 : goal.loop-at-preserved-then-is_node-2
 loop-at-preserved-then-is_node-2 c =
@@ -48,9 +48,9 @@ loop-at-preserved-then-is_node-2 c =
     c.loop-at.at c.in-Some.key c.loop-at.found.items c.loop-at.partial c.loop-at.path.items c.in-Some.is c.loop-at.invariant
     c.node_after-stop.result c.node_after-stop.ensures.value c.node_after-stop.ensures.stands
     (λ stop. true≢false (sym (c.is_node.ensures.1 stop) ∙ c.if-is_node.false)) (c.is_node-in-Some.ensures.0 c.if-is_node-2.true)
-    c.pop-partial-then-is_node-2.new.self.items c.pop-partial-then-is_node-2.result c.pop-partial-then-is_node-2.ensures.items
+    c.pop-partial-then-is_node-2.ensures.items
     (λ none. let is = (rw none at c.pop-partial-then-is_node-2.ensures.cases).0 in let ok = c.loop-at.path.ok in omega (arith, is, ok))
-    c.following-at.result c.following-at.ensures.value c.following-at.ensures.node).0
+    c.following-at.ensures.value c.following-at.ensures.node).0
 
 pub loop-at-smaller : goal.loop-at-smaller
 loop-at-smaller c =

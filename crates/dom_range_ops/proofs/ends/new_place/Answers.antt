@@ -13,7 +13,7 @@ pub behind_node-requires-clause-below_no_data : goal.behind_node-requires-clause
 behind_node-requires-clause-below_no_data c p up =
     let f = c.args.forest.now in
     let e = c.law_nodes_stand_once.ensures in
-    parent-holds f.trees (Once-forest f e.once e.only) (range_at_points f.names c.args.points.now) (name_at f.names c.outermost_apart.result) p
+    parent-holds f.trees (Once-forest f e.once e.only) (range_at_points f.names c.args.points.now) (name_at f.names c.outermost_apart.result)
     c.requires.leaves (Has-forest f e.once c.args.points.now.start.0 c.requires.ends.start) c.outermost_apart.ensures.above up
 
 pub returns-clause-value : goal.returns-clause-value

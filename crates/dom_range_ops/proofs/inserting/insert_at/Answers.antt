@@ -23,7 +23,7 @@ insert_before-requires-clause-open c =
     let own = c.requires.parent_own in
     open-kept d c.remove.new.self o (removing observed x)
     (subst (IsAlone d.world) own (c.laws.ensures.alone c.args.parent c.requires.parent_is_node)) (plans_removing o observed x)
-    (c.in_ok-remove.ensures.world ∙ ap (λ w. made w (removing observed x) d.world) c.requires.node_own) _
+    (c.in_ok-remove.ensures.world ∙ ap (λ w. made w (removing observed x) d.world) c.requires.node_own)
     (leads-removing observed x (part_of d.world o) (c.laws.ensures.parts o)).changed c.args.parent
     (ap (λ (ns : List NodeName). name_at ns c.args.parent) c.in_ok-remove.ensures.names) own
     (ap (λ w. has_node (part_of d.world w).trees (name_in d c.args.parent)) (sym own) ∙ c.laws.ensures.stand c.args.parent c.requires.parent_is_node)
@@ -72,7 +72,6 @@ returns c =
     on_ok_weaker c.insert_before.result
     (inserted-at d c.args.owner c.args.number c.args.parent c.args.node
     (subst (IsAlone d.world) c.requires.parent_own (c.laws.ensures.alone c.args.parent c.requires.parent_is_node)) c.requires.parent_own
-    c.requires.node_own e
-    c.insert_before.new.doc c.args.child c.reference_for-reference.result c.reference_for-reference.ensures.value
+    c.requires.node_own c.args.child c.reference_for-reference.result c.reference_for-reference.ensures.value
     (state-is d e (owner_in d c.args.node) (removing observed x) c.in_ok-remove.ensures.names c.in_ok-remove.ensures.world))
     c.insert_before.ensures

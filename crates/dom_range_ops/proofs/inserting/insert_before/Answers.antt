@@ -11,7 +11,7 @@ pub end_at-requires-clause-there : goal.end_at-requires-clause-there
 end_at-requires-clause-there c =
     let d = c.args.doc.now in
     let put = inserting observed (name_in d c.args.node) (name_in d c.args.parent) (option_map (name_in d) c.args.reference) in
-    range-kept c.args.owner put d.world c.insert_before.new.self.world
+    range-kept put
     (subst (IsAlone d.world) c.requires.parent_own (c.laws.ensures.alone c.args.parent c.requires.parent_is_node))
     (plans_inserting c.args.owner observed (name_in d c.args.node) (name_in d c.args.parent) (option_map (name_in d) c.args.reference)
     (c.requires.may_move.owner ∙ c.requires.parent_own))
@@ -22,5 +22,5 @@ returns c =
     let d = c.args.doc.now in
     inserted-before d c.args.owner c.args.number c.args.parent c.args.node
     (subst (IsAlone d.world) c.requires.parent_own (c.laws.ensures.alone c.args.parent c.requires.parent_is_node)) c.requires.parent_own
-    (c.requires.may_move.owner ∙ c.requires.parent_own) c.insert_before.new.self c.end_at.new.doc c.args.reference c.offset_behind-offset.result
+    (c.requires.may_move.owner ∙ c.requires.parent_own) c.args.reference
     c.requires.may_move.apart c.offset_behind-offset.ensures c.in_ok-insert_before.ensures.state c.end_at.ensures

@@ -17,7 +17,7 @@ insert_at-requires-clause-there c =
     let o = c.args.owner in
     let own = c.requires.start_is_child.owner ∙ c.requires.parent_own in
     let f = splitting (name_in d c.args.points.now.start.0) c.args.points.now.start.1 in
-    range-kept o f d.world c.split.new.self.world
+    range-kept f
     (subst (IsAlone d.world) c.requires.parent_own (c.laws.ensures.alone c.args.parent c.requires.parent_is_node))
     (plans_splitting o (name_in d c.args.points.now.start.0) c.args.points.now.start.1)
     (c.in_ok-tail.ensures.world ∙ ap (λ w. made w f d.world) own) c.args.number c.requires.there
@@ -84,4 +84,4 @@ returns-clause-world c =
     (c.in_ok-tail.ensures.names ∙ ap (λ w. d.names ++ next_name (part_of d.world w) ∷ []) own)
     (c.in_ok-tail.ensures.world ∙ ap (λ w. made w (splitting (name_in d c.args.points.now.start.0) c.args.points.now.start.1) d.world) own)
     c.in_ok-tail.ensures.key c.requires.start_is_child c.requires.parent_is_node c.requires.parent_own
-    c.requires.node_is_node c.insert_at.new.doc c.args.number (range_at_points d.names c.args.points.now) refl refl c.in_ok-insert_at.ensures
+    c.requires.node_is_node c.args.number (range_at_points d.names c.args.points.now) refl refl c.in_ok-insert_at.ensures

@@ -32,7 +32,7 @@ returns-in-Err-clause-tested c q e =
     let r = range_at_points d.names c.range_points-points.result in
     let some = was_some (range_at p c.args.number) c.requires.there in
     let there : range_at p c.args.number ≡ Some r =
-    some.1 ∙ ap (λ a. Some a) (read-points p _ c.args.number some.0 _ _ some.1 c.range_points-points.ensures.value.0) in
+    some.1 ∙ ap (λ a. Some a) (read-points p c.args.number some.1 c.range_points-points.ensures.value.0) in
     let test : insert_node_refusal p.trees r x ≡ Some c.in-Err.refusal =
     sym (c.check.ensures ∙ ap (λ w. insert_node_refusal (part_of d.world w).trees r x) c.range_points-points.ensures.own_start) ∙
     ap err_of c.in-Err.is in
@@ -49,7 +49,7 @@ returns-in-Err-clause-stopped c q e =
     let r = range_at_points d.names c.range_points-points.result in
     let some = was_some (range_at p c.args.number) c.requires.there in
     let there : range_at p c.args.number ≡ Some r =
-    some.1 ∙ ap (λ a. Some a) (read-points p _ c.args.number some.0 _ _ some.1 c.range_points-points.ensures.value.0) in
+    some.1 ∙ ap (λ a. Some a) (read-points p c.args.number some.1 c.range_points-points.ensures.value.0) in
     let test : insert_node_refusal p.trees r x ≡ Some c.in-Err.refusal =
     sym (c.check.ensures ∙ ap (λ w. insert_node_refusal (part_of d.world w).trees r x) c.range_points-points.ensures.own_start) ∙
     ap err_of c.in-Err.is in
@@ -68,7 +68,7 @@ insert_tested-requires-clause-within c =
     let r = range_at_points d.names c.range_points-points.result in
     let some = was_some (range_at p c.args.number) c.requires.there in
     let there : range_at p c.args.number ≡ Some r =
-    some.1 ∙ ap (λ a. Some a) (read-points p _ c.args.number some.0 _ _ some.1 c.range_points-points.ensures.value.0) in
+    some.1 ∙ ap (λ a. Some a) (read-points p c.args.number some.1 c.range_points-points.ensures.value.0) in
     (within-at p c.args.number r c.requires.bounds there).0
 
 pub returns-clause-world : goal.returns-clause-world
@@ -80,7 +80,7 @@ returns-clause-world c =
     let r = range_at_points d.names c.range_points-points.result in
     let some = was_some (range_at p c.args.number) c.requires.there in
     let there : range_at p c.args.number ≡ Some r =
-    some.1 ∙ ap (λ a. Some a) (read-points p _ c.args.number some.0 _ _ some.1 c.range_points-points.ensures.value.0) in
+    some.1 ∙ ap (λ a. Some a) (read-points p c.args.number some.1 c.range_points-points.ensures.value.0) in
     let more : c.insert_tested.new.doc.world ≡ made o (inserting_into_range c.args.number r x) d.world →
     c.insert_tested.new.doc.world ≡ made o (inserting_node c.args.number x) d.world = λ h. h ∙ steps-at o d.world c.args.number r x there in
     on_ok_weaker c.insert_tested.result more c.insert_tested.ensures.world
@@ -94,7 +94,7 @@ returns-clause-stopped c q e =
     let r = range_at_points d.names c.range_points-points.result in
     let some = was_some (range_at p c.args.number) c.requires.there in
     let there : range_at p c.args.number ≡ Some r =
-    some.1 ∙ ap (λ a. Some a) (read-points p _ c.args.number some.0 _ _ some.1 c.range_points-points.ensures.value.0) in
+    some.1 ∙ ap (λ a. Some a) (read-points p c.args.number some.1 c.range_points-points.ensures.value.0) in
     let none : insert_node_refusal p.trees r x ≡ None =
     sym (c.check.ensures ∙ ap (λ w. insert_node_refusal (part_of d.world w).trees r x) c.range_points-points.ensures.own_start) ∙
     ap err_of c.in_default.is in
@@ -111,7 +111,7 @@ returns-clause-ready c h =
     let k = c.range_points-points.ensures in
     let r = range_at_points d.names c.range_points-points.result in
     let some = was_some (range_at p n) c.requires.there in
-    let there : range_at p n ≡ Some r = some.1 ∙ ap (λ a. Some a) (read-points p _ n some.0 _ _ some.1 k.value.0) in
+    let there : range_at p n ≡ Some r = some.1 ∙ ap (λ a. Some a) (read-points p n some.1 k.value.0) in
     let none : insert_node_refusal p.trees r x ≡ None =
     sym (c.check.ensures ∙ ap (λ w. insert_node_refusal (part_of d.world w).trees r x) k.own_start) ∙ ap err_of c.in_default.is in
     let shown : HasLaws d = record { alone = c.laws.ensures.alone; parts = c.laws.ensures.parts; stand = c.laws.ensures.stand } in
@@ -133,7 +133,7 @@ returns-clause-there c h =
     let k = c.range_points-points.ensures in
     let r = range_at_points d.names c.range_points-points.result in
     let some = was_some (range_at p n) c.requires.there in
-    let there : range_at p n ≡ Some r = some.1 ∙ ap (λ a. Some a) (read-points p _ n some.0 _ _ some.1 k.value.0) in
+    let there : range_at p n ≡ Some r = some.1 ∙ ap (λ a. Some a) (read-points p n some.1 k.value.0) in
     let none : insert_node_refusal p.trees r x ≡ None =
     sym (c.check.ensures ∙ ap (λ w. insert_node_refusal (part_of d.world w).trees r x) k.own_start) ∙ ap err_of c.in_default.is in
     let shown : HasLaws d = record { alone = c.laws.ensures.alone; parts = c.laws.ensures.parts; stand = c.laws.ensures.stand } in

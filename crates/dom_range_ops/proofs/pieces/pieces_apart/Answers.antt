@@ -18,9 +18,8 @@ push_pieces-requires-clause-paths c =
     let second = c.deref-2.ensures.value ∙ sym end in
     paths-part f e.once e.only e.distinct points c.requires.ends c.deref-3.result.now c.deref-4.result.now
     (ap (map (name_at f.names)) start ∙ c.in_ok-start_path.ensures.names) (ap (map (name_at f.names)) end ∙ c.in_ok-end_path.ensures.names)
-    (subst node (sym start) c.in_ok-start_path.ensures.nodes) (subst node (sym end) c.in_ok-end_path.ensures.nodes) c.parting-first.result.0
-    c.parting-first.result.1
-    (alike c.deref.result.now c.deref-2.result.now c.deref-3.result.now c.deref-4.result.now c.parting-first.result.0 c.parting-first.result.1
+    (subst node (sym start) c.in_ok-start_path.ensures.nodes) (subst node (sym end) c.in_ok-end_path.ensures.nodes)
+    (alike
     first second c.parting-first.ensures)
 
 pub returns : goal.returns

@@ -30,7 +30,7 @@ loop-left-preserved c =
     let more : c.loop-left.left ≡ suc (c.loop-left.left - 1) = omega arith in
     record {
       node = c.next-at.ensures.node;
-      kid = kid-next f.trees (name_at f.names c.args.node) (name_at f.names c.in_ok-at.field-0) c.args.index (c.loop-left.left - 1) _
+      kid = kid-next
           (Once-forest f e.once e.only) (Has-forest f e.once c.args.node c.requires)
           (subst (λ n. IsAtKid f.trees (name_at f.names c.args.node) c.args.index n (Some (name_at f.names c.in_ok-at.field-0))) more
           (subst (λ (o : Option NodeName). IsAtKid f.trees (name_at f.names c.args.node) c.args.index c.loop-left.left o)

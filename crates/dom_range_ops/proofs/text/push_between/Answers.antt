@@ -79,7 +79,7 @@ loop-at-preserved c =
     let is = ap (λ o. from_node f.trees (name_at f.names c.root-top.result) (option_map (name_at f.names) o)) c.in-Some.is in
     let left : old ++ contained_text f.trees r (x ∷ xs) ≡ all = ap (λ ys. old ++ contained_text f.trees r ys) (sym is) ∙ c.loop-at.invariant.left in
     let off : Some x ≡ first_of (nodes_after f.trees (root_of f.trees r.start.node) r.end) → ⊥ = λ first.
-    let found = key-found f e.distinct c.node_after-stop.result c.in-Some.key (λ k there. (c.node_after-stop.ensures.stands k there).node) stands.node
+    let found = key-found f e.distinct c.node_after-stop.result (λ k there. (c.node_after-stop.ensures.stands k there).node) stands.node
     (stop-is f e.once e.only points c.requires.bounded c.root-top.result c.root-top.ensures.value c.node_after-stop.result
     c.node_after-stop.ensures.value ∙ sym first) in
     true≢false (sym (c.is_node.ensures.1 found) ∙ c.if-is_node.false) in

@@ -17,7 +17,7 @@ text_between-requires c =
     let node = λ (k : ℕ) (l : k < length c.args.doc.now.names). subst (λ (ns : List NodeName). k < length ns) names l in
     let r = was_some (range_at p c.args.number) c.requires.there in
     let is : r.0 ≡ range_at_points f.names points =
-    read-points p _ c.args.number r.0 _ _ r.1 c.range_points-points.ensures.value.0 ∙
+    read-points p c.args.number r.1 c.range_points-points.ensures.value.0 ∙
     ap (λ (ns : List NodeName). range_at_points ns points) names in
     are-bounded f e.once e.only c.forest-forest.ensures.owned c.args.owner p.trees (c.forest-forest.ensures.trees c.args.owner) points r.0 is
     (c.requires.ends r.0 r.1)
@@ -34,7 +34,7 @@ returns c =
     if-ok c.text_between.result
     (λ text is r there.
     let same : r ≡ range_at_points f.names points =
-    read-points p _ c.args.number r _ _ there c.range_points-points.ensures.value.0 ∙
+    read-points p c.args.number there c.range_points-points.ensures.value.0 ∙
     ap (λ (ns : List NodeName). range_at_points ns points) names in
     is ∙ text-points f e.once e.only c.forest-forest.ensures.owned c.args.owner p.trees (c.forest-forest.ensures.trees c.args.owner) points r same
     (c.requires.ends r there))

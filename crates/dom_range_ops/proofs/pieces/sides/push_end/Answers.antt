@@ -20,7 +20,7 @@ returns c =
     let old = c.args.pieces.now.items in
     subst (Adds f.names old c.push-3.new.self.items)
     (sym (cond-false (has_data (kind_of f.trees x)) (part ∷ []) (clone_item x ∷ (taken ++ end_item ∷ [])) (sym c.if-has_data.ensures)))
-    (adds-on f.names old c.push-2.new.self.items c.push-3.new.self.items (clone_item x ∷ []) (taken ++ end_item ∷ [])
+    (adds-on f.names (clone_item x ∷ []) (taken ++ end_item ∷ [])
     (adds-one f.names old c.push-2.new.self.items (Clone c.args.side.point.0) c.in_ok-push-2.ensures.items c.requires)
-    (adds-on f.names c.push-2.new.self.items c.push_children.new.pieces.items c.push-3.new.self.items taken (end_item ∷ []) c.in_ok-push_children.ensures
+    (adds-on f.names taken (end_item ∷ []) c.in_ok-push_children.ensures
     (adds-one f.names c.push_children.new.pieces.items c.push-3.new.self.items End c.in_ok-push-3.ensures.items tt)))

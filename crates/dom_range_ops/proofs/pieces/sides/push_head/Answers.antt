@@ -1,5 +1,4 @@
 use Rattle.std.proofs.Common.{[], ◌∷◌, Some, refl, sym, ap, subst, ◌∙◌, map}
-use Rattle.std.specs.Option.{option_map}
 use Rattle.dom_model.specs.Names.{name_eq, items_before}
 use Rattle.dom_model.specs.Tree.{children_of}
 use Rattle.dom_tree.specs.Forest.{name_at}
@@ -18,9 +17,9 @@ returns-in_ok-push_siblings c =
     let kids = children_of f.trees p in
     let run = ap (λ xs. map whole_item (up_to (Some x) xs))
     (from-kids f.trees (Once-forest f e.once e.only) p (Has-forest f e.once c.args.node c.requires.node) [] kids refl
-    (option_map (name_at f.names) c.first.result) c.first.ensures.value)
+    c.first.ensures.value)
     ∙ ap (λ b. wholes_if b (items_before name_eq x kids)) (sym c.if-before.true) in
     subst (λ ys. Adds f.names c.args.pieces.now.items c.push_siblings.new.pieces.items (clone_item p ∷ ys)) run
-    (adds-on f.names c.args.pieces.now.items c.push.new.self.items c.push_siblings.new.pieces.items (clone_item p ∷ []) _
+    (adds-on f.names (clone_item p ∷ []) _
     (adds-one f.names c.args.pieces.now.items c.push.new.self.items (Clone c.args.node) c.in_ok-push.ensures.items c.requires.node)
     c.in_ok-push_siblings.ensures)

@@ -30,10 +30,10 @@ loop-at-preserved c =
     record {
       within = omega (arith, le);
       added = subst (Adds f.names c.args.pieces.now.items c.push_head.new.pieces.items)
-          (heads-keys f.trees f.names path c.args.before i j c.index-path-at.result c.index-path-at-in-loop-at.result (omega (arith, at_node, up)) up
+          (heads-keys f.trees f.names path c.args.before (omega (arith, at_node, up)) up
           (c.index-path-at.is ∙ get_or_default_zero path j c.index-path-at.result at_node)
           (c.index-path-at-in-loop-at.is ∙ get_or_default_zero path i c.index-path-at-in-loop-at.result at_child))
-          (adds-on f.names c.args.pieces.now.items c.loop-at.pieces.items c.push_head.new.pieces.items
+          (adds-on f.names
           (heads f.trees c.args.before (map (name_at f.names) (drop j path))) _ c.loop-at.invariant.added c.in_ok-push_head.ensures);
     }
 

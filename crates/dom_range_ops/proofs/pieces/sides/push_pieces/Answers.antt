@@ -26,7 +26,7 @@ returns c =
     let contained = map whole_item (filter (is_contained f.trees r) (children_of f.trees (common_ancestor f.trees r))) in
     on_ok_weaker c.push_side-2.result
     (λ h. subst (Adds f.names old c.push_side-2.new.pieces.items) (sym all)
-    (adds-on f.names old c.push_side.new.pieces.items c.push_side-2.new.pieces.items (side_items f.trees r.start true start_path) _ c.in_ok-push_side.ensures
-    (adds-on f.names c.push_side.new.pieces.items c.push_between.new.pieces.items c.push_side-2.new.pieces.items contained
+    (adds-on f.names (side_items f.trees r.start true start_path) _ c.in_ok-push_side.ensures
+    (adds-on f.names contained
     (side_items f.trees r.end false end_path) c.in_ok-push_between.ensures h)))
     c.push_side-2.ensures

@@ -19,7 +19,7 @@ returns c =
     let off = λ (none : length path ≡ 0). true≢false (sym (eq-eqb (length path) 0 none) ∙ sym c.if-is_empty.ensures) in
     on_ok_weaker c.push_tails.result
     (λ h. subst (Adds f.names old c.push_tails.new.pieces.items) (sym (side-some f.trees b behind f.names path (omega (arith, off))))
-    (adds-on f.names old c.push_heads.new.pieces.items c.push_tails.new.pieces.items (heads f.trees (not behind) xs) _ c.in_ok-push_heads.ensures
-    (adds-on f.names c.push_heads.new.pieces.items c.push_end.new.pieces.items c.push_tails.new.pieces.items (end_items f.trees b behind)
+    (adds-on f.names (heads f.trees (not behind) xs) _ c.in_ok-push_heads.ensures
+    (adds-on f.names (end_items f.trees b behind)
     (tails f.trees behind xs) c.in_ok-push_end.ensures h)))
     c.push_tails.ensures

@@ -28,5 +28,5 @@ returns c =
           adds-same f.names old old c.if-behind.pieces.items (wholes_if c.args.behind later) (ap (λ v. v.items) w.pieces-is)
           (subst (Adds f.names old old) (ap (λ b. wholes_if b later) (sym w.if-behind.false)) (adds-none f.names old))
     ] in
-    adds-on f.names old c.if-behind.pieces.items c.push.new.self.items (wholes_if c.args.behind later) (end_item ∷ []) taken
+    adds-on f.names (wholes_if c.args.behind later) (end_item ∷ []) taken
     (adds-one f.names c.if-behind.pieces.items c.push.new.self.items End c.in_ok-push.ensures.items tt)

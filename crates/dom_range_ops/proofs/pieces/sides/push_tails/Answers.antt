@@ -21,10 +21,9 @@ loop-at-preserved c =
     let less = c.loop-at-test.true in
     let up : suc i ≡ j = omega (arith, one) in
     let at_child : i < length path = omega (arith, one, less) in
-    partway-more f.names c.args.pieces.now.items c.loop-at.pieces.items c.push_tail.new.pieces.items
-    (tails f.trees c.args.behind (map (name_at f.names) path)) (tails f.trees c.args.behind (map (name_at f.names) (drop i path))) _
+    partway-more _
     (tails f.trees c.args.behind (map (name_at f.names) (drop j path))) c.loop-at.invariant c.in_ok-push_tail.ensures
-    (tails-keys f.trees f.names path c.args.behind i j c.index-path-at.result (omega (arith, one, less)) up
+    (tails-keys f.trees f.names path c.args.behind (omega (arith, one, less)) up
     (c.index-path-at.is ∙ get_or_default_zero path i c.index-path-at.result at_child))
 
 pub returns : goal.returns
@@ -33,6 +32,5 @@ returns c =
     let path = c.args.path.now in
     let i = c.loop-at.at - 1 in
     let over = c.loop-at-test.false in
-    partway-all f.names c.args.pieces.now.items c.loop-at.pieces.items (tails f.trees c.args.behind (map (name_at f.names) path))
-    (tails f.trees c.args.behind (map (name_at f.names) (drop i path))) c.loop-at.invariant
+    partway-all c.loop-at.invariant
     (tails-last f.trees f.names path c.args.behind i (omega (arith, over)))
