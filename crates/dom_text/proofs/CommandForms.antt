@@ -228,12 +228,12 @@ listen_end_complete n l bytes s =
     let after_capture = flag l.once (codes "once") after_once in
     let is_once = word_by_test (codes "once") refl refl in
     let is_passive = word_by_test (codes "passive") refl refl in
-    let f₁ = flag_complete (codes "capture") l.capture after_capture bytes (word_by_test (codes "capture") refl refl)
+    let f₁ = flag_complete l.capture after_capture bytes (word_by_test (codes "capture") refl refl)
     (λ q. avoids_flag l.once (codes "once") is_once refl
     (avoids_flag l.passive (codes "passive") is_passive refl (avoids_nothing (codes "capture")))) s in
-    let f₂ = flag_complete (codes "once") l.once after_once f₁.0 is_once
+    let f₂ = flag_complete l.once after_once f₁.0 is_once
     (λ q. avoids_flag l.passive (codes "passive") is_passive refl (avoids_nothing (codes "once"))) f₁.2 in
-    let f₃ = flag_complete (codes "passive") l.passive [] f₂.0 is_passive (λ q. avoids_nothing (codes "passive")) f₂.2 in
+    let f₃ = flag_complete l.passive [] f₂.0 is_passive (λ q. avoids_nothing (codes "passive")) f₂.2 in
     rw (f₁.1, f₂.1, f₃.1, f₃.2) refl
 
 pub listen_sound : (o : Owner) (bytes : List ℕ) (c : Command) → listen_at o bytes ≡ Some c → IsBehind keyword.Listen o bytes c
@@ -299,14 +299,14 @@ unlisten_sound o bytes c e =
       ),
     )
 
-pub unlisten_complete : (o : Owner) (n : NodeWord) (event l : Word) (capture : Bool) (bytes : List ℕ) →
+pub unlisten_complete : (o : Owner) {n : NodeWord} {event l : Word} {capture : Bool} (bytes : List ℕ) →
     Spells (node o n ∷ label event ∷ label l ∷ flag capture (codes "capture") []) bytes → unlisten_at o bytes ≡ Some (unlisten n event l capture)
-unlisten_complete o n event l capture bytes s =
+unlisten_complete o {n} {event} {l} {capture} bytes s =
     let flags = flag capture (codes "capture") [] in
     let e₁ : node_at o bytes ≡ Some (n, s.1) = rw (s.4) ((node_reads o).complete s.0 s.1 n s.2 (Spells-ends (label event ∷ label l ∷ flags) s.1 s.3)) in
     let t = s.3 in
     let e₂ : label_at s.1 ≡ Some (event, t.1) = rw (t.4) (label_reads.complete t.0 t.1 event t.2 (Spells-ends (label l ∷ flags) t.1 t.3)) in
     let u = t.3 in
     let e₃ : label_at t.1 ≡ Some (l, u.1) = rw (u.4) (label_reads.complete u.0 u.1 l u.2 (Spells-ends flags u.1 u.3)) in
-    let f = flag_complete (codes "capture") capture [] u.1 (word_by_test (codes "capture") refl refl) (λ q. avoids_nothing (codes "capture")) u.3 in
+    let f = flag_complete capture [] u.1 (word_by_test (codes "capture") refl refl) (λ q. avoids_nothing (codes "capture")) u.3 in
     rw (e₁, e₂, e₃, f.1, f.2) refl

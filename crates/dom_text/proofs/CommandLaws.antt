@@ -181,7 +181,7 @@ command_complete o (iterator_new n f) said u s = at keyword.IterNew o (others o 
 command_complete o (walker_new n f) said u s = at keyword.WalkNew o (others o (walker_new n f)) said s ∙ cursor_complete o walker_new s.1 n f s.3
 command_complete o (listen n l) said u s = at keyword.Listen o (others o (listen n l)) said s ∙ listen_complete o n l s.1 s.3
 command_complete o (unlisten n event l capture) said u s =
-    at keyword.Unlisten o (others o (unlisten n event l capture)) said s ∙ unlisten_complete o n event l capture s.1 s.3
+    at keyword.Unlisten o (others o (unlisten n event l capture)) said s ∙ unlisten_complete o s.1 s.3
 command_complete o (dispatch n e r) said u s = at keyword.Dispatch o (others o (dispatch n e r)) said s ∙ dispatch_complete o n e r s.1 s.3
 command_complete o (observe k n w) said u s = at keyword.Observe o (others o (observe k n w)) said s ∙ observe_complete o k n w s.1 s.3
 -- a keyword and a node

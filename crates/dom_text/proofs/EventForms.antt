@@ -36,10 +36,10 @@ related_sound o bytes r e = go (flag_at (codes "related") bytes) e (λ behind s.
 pub related_complete : (o : Owner) (r : Option NodeWord) (bytes : List ℕ) → Spells (related_parts o r) bytes →
     related_at o (flag_at (codes "related") bytes).0 (flag_at (codes "related") bytes).1 ≡ Some r
 related_complete o None bytes s =
-    let f = flag_complete (codes "related") false [] bytes (word_by_test (codes "related") refl refl) (λ q. avoids_nothing (codes "related")) s in
+    let f = flag_complete false [] bytes (word_by_test (codes "related") refl refl) (λ q. avoids_nothing (codes "related")) s in
     rw (f.1, f.2) refl
 related_complete o (Some n) bytes s =
-    let f = flag_complete (codes "related") true (node o n ∷ []) bytes (word_by_test (codes "related") refl refl)
+    let f = flag_complete true (node o n ∷ []) bytes (word_by_test (codes "related") refl refl)
     (λ q. absurd cc) s in
     rw (f.1) ((one_part (node_reads o) Some).complete f.0 (n, tt) f.2)
 
@@ -76,12 +76,12 @@ dispatch_end_complete o n e r bytes s =
     let after_bubbles = flag e.cancelable (codes "cancelable") after_cancelable in
     let is_cancelable = word_by_test (codes "cancelable") refl refl in
     let is_composed = word_by_test (codes "composed") refl refl in
-    let f₁ = flag_complete (codes "bubbles") e.bubbles after_bubbles bytes (word_by_test (codes "bubbles") refl refl)
+    let f₁ = flag_complete e.bubbles after_bubbles bytes (word_by_test (codes "bubbles") refl refl)
     (λ q. avoids_flag e.cancelable (codes "cancelable") is_cancelable refl
     (avoids_flag e.composed (codes "composed") is_composed refl (avoids_related (codes "bubbles") o r refl))) s in
-    let f₂ = flag_complete (codes "cancelable") e.cancelable after_cancelable f₁.0 is_cancelable
+    let f₂ = flag_complete e.cancelable after_cancelable f₁.0 is_cancelable
     (λ q. avoids_flag e.composed (codes "composed") is_composed refl (avoids_related (codes "cancelable") o r refl)) f₁.2 in
-    let f₃ = flag_complete (codes "composed") e.composed after_composed f₂.0 is_composed (λ q. avoids_related (codes "composed") o r refl) f₂.2 in
+    let f₃ = flag_complete e.composed after_composed f₂.0 is_composed (λ q. avoids_related (codes "composed") o r refl) f₂.2 in
     let last = related_complete o r f₃.0 f₃.2 in
     rw (f₁.1, f₂.1, f₃.1, last) refl
 
@@ -178,32 +178,32 @@ observe_end_complete k n w bytes s =
     let is3 = word_by_test (codes "subtree") refl refl in
     let is4 = word_by_test (codes "attributeOldValue") refl refl in
     let is5 = word_by_test (codes "characterDataOldValue") refl refl in
-    let f0 = flag_complete (codes "childList") w.child_list behind0 bytes is0
+    let f0 = flag_complete w.child_list behind0 bytes is0
     (λ q. avoids_flag w.attributes (codes "attributes") is1 refl
     (avoids_flag w.character_data (codes "characterData") is2 refl
     (avoids_flag w.subtree (codes "subtree") is3 refl
     (avoids_flag w.attribute_old_value (codes "attributeOldValue") is4 refl
     (avoids_flag w.character_data_old_value (codes "characterDataOldValue") is5 refl
     (avoids_attribute_filter (codes "childList") w.filter (λ e. omega arith))))))) s in
-    let f1 = flag_complete (codes "attributes") w.attributes behind1 f0.0 is1
+    let f1 = flag_complete w.attributes behind1 f0.0 is1
     (λ q. avoids_flag w.character_data (codes "characterData") is2 refl
     (avoids_flag w.subtree (codes "subtree") is3 refl
     (avoids_flag w.attribute_old_value (codes "attributeOldValue") is4 refl
     (avoids_flag w.character_data_old_value (codes "characterDataOldValue") is5 refl
     (avoids_attribute_filter (codes "attributes") w.filter (λ e. omega arith)))))) f0.2 in
-    let f2 = flag_complete (codes "characterData") w.character_data behind2 f1.0 is2
+    let f2 = flag_complete w.character_data behind2 f1.0 is2
     (λ q. avoids_flag w.subtree (codes "subtree") is3 refl
     (avoids_flag w.attribute_old_value (codes "attributeOldValue") is4 refl
     (avoids_flag w.character_data_old_value (codes "characterDataOldValue") is5 refl
     (avoids_attribute_filter (codes "characterData") w.filter (λ e. omega arith))))) f1.2 in
-    let f3 = flag_complete (codes "subtree") w.subtree behind3 f2.0 is3
+    let f3 = flag_complete w.subtree behind3 f2.0 is3
     (λ q. avoids_flag w.attribute_old_value (codes "attributeOldValue") is4 refl
     (avoids_flag w.character_data_old_value (codes "characterDataOldValue") is5 refl
     (avoids_attribute_filter (codes "subtree") w.filter (λ e. omega arith)))) f2.2 in
-    let f4 = flag_complete (codes "attributeOldValue") w.attribute_old_value behind4 f3.0 is4
+    let f4 = flag_complete w.attribute_old_value behind4 f3.0 is4
     (λ q. avoids_flag w.character_data_old_value (codes "characterDataOldValue") is5 refl
     (avoids_attribute_filter (codes "attributeOldValue") w.filter (λ e. omega arith))) f3.2 in
-    let f5 = flag_complete (codes "characterDataOldValue") w.character_data_old_value behind5 f4.0 is5
+    let f5 = flag_complete w.character_data_old_value behind5 f4.0 is5
     (λ q. avoids_attribute_filter (codes "characterDataOldValue") w.filter (λ e. omega arith)) f4.2 in
     let last = last_complete attribute_filter_of attribute_filter_reads f5.0 w.filter f5.2 in
     rw (f0.1, f1.1, f2.1, f3.1, f4.1, f5.1, last) refl
