@@ -140,12 +140,12 @@ module _ (d : DocState) (node : ℕ) (alone : IsAlone d.world (owner_in d node))
       taken ∙ ap (λ js. planned o (in_turn (removing suppressed) (map (name_in d) js)) d) nil ∙ cleared [] [] ∙
       ap (λ old. all old (told_of old)) (ap (map (name_in d)) (sym nil) ∙ listed)
 
-  pub cleared_some : (e g : DocState) (ks : List ℕ) → is_empty ks ≡ false → map (name_in d) ks ≡ children_of (trees_in d node) x →
+  pub cleared_some : {e g : DocState} (ks : List ℕ) → is_empty ks ≡ false → map (name_in d) ks ≡ children_of (trees_in d node) x →
       e ≡ planned o (in_turn (removing suppressed) (map (name_in d) ks)) d
       → g ≡ stepped (owner_in e node) (queue_record (child_list (name_in e node) [] (map (name_in e) ks) None None)) e →
       g ≡ planned o (replacing_children x []) d
-  cleared_some e g [] some listed taken told = cc
-  cleared_some e g (k ∷ ks) some listed taken told =
+  cleared_some [] some listed taken told = cc
+  cleared_some (k ∷ ks) some listed taken told =
       let tell : DocState → DocState = λ s. stepped (owner_in s node) (queue_record (child_list (name_in s node) [] (map (name_in s) (k ∷ ks)) None None)) s in
       told ∙ ap tell taken ∙ cleared (map (name_in d) (k ∷ ks)) (queue_record (child_list x [] (map (name_in d) (k ∷ ks)) None None) ∷ []) ∙
       ap (λ old. all old (told_of old)) listed

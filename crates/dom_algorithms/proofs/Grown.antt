@@ -137,11 +137,11 @@ module _ (d e : DocState) (node new : ℕ) (doc : Option NodeName) (text : DomSt
     same_children = ap (λ t. children_of t x) grown_trees ∙ ap (λ t. names_of (roots (trees_below t))) (subtree_beside n y x ts apart)
 
     -- what a split makes
-    pub split_whole : (f : DocState) (offset count : ℕ) → count ≡ length (node_in ts x).text - offset → doc ≡ (node_in ts x).document →
+    pub split_whole : {f : DocState} (offset : ℕ) {count : ℕ} → count ≡ length (node_in ts x).text - offset → doc ≡ (node_in ts x).document →
         text ≡ drop offset (node_in ts x).text
         → f ≡ planned (owner_in e node) (cutting_tail (name_in e node) offset count (name_in e new)) e
         → f.world ≡ made o (splitting x offset) d.world
-    split_whole f offset count counts documented tailed is =
+    split_whole offset {count} counts documented tailed is =
         let tail_own = λ (up : Option NodeName). plans_tail o x offset y up (owner-part_of d.world o) in
         let old = node_in ts x in
         let behind = λ (up : Option NodeName). made o (placing_tail x offset y up) in

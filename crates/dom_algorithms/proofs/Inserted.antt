@@ -114,7 +114,7 @@ module _ (d : DocState) (counted : Counted d) (parent fragment : ℕ) (before : 
       Lacks z (inclusive_ancestors all_trees (name_in d b))
   inside_child z there b is =
       below_lacks all_trees (once_in d counted (owner_in d parent)) (name_in d fragment) (name_in d b)
-      (before_lacks d counted parent fragment before may child b is) z there
+      (before_lacks counted may child is) z there
 
   own_trees : trees_in d fragment ≡ all_trees
   own_trees = ap (λ o. (part_of d.world o).trees) may.owner

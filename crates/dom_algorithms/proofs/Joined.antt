@@ -136,11 +136,11 @@ follows_first d counted node at found near = record {
 }
 
 -- a step of it
-pub follows_next : (d : DocState) → Counted d → (node : ℕ) (keys : List ℕ) (at next : Option ℕ) (k : ℕ) → at ≡ Some k → Follows d node keys at
+pub follows_next : {d : DocState} → Counted d → {node : ℕ} {keys : List ℕ} {at : Option ℕ} (next : Option ℕ) {k : ℕ} → at ≡ Some k → Follows d node keys at
     → option_map (name_in d) next ≡ first_of (texts_after (trees_in d k) (name_in d k)) → ForSome next (IsOwnNode d k)
     → Follows d node (keys ++ k ∷ []) next ×
     (rest_length (trees_in d node) (option_map (name_in d) next) < rest_length (trees_in d node) (option_map (name_in d) at))
-follows_next d counted node keys at next k is follows found near =
+follows_next {d} counted {node} {keys} next {k} is follows found near =
     let ts = trees_in d node in
     let y = name_in d k in
     let here = follows.here k is in
@@ -257,11 +257,11 @@ module _ (d : DocState) (node : ℕ) where
       ap (λ ys. after_steps (steps_if false (Some q) ys)) (sym lone) ∙ ap (λ a. after_steps (steps_if false a (texts_after ts x))) (sym up) ∙
       ap (λ b. after_steps (steps_if b (parent_of ts x) (texts_after ts x))) (sym h)
 
-  pub normal_joined : (e : DocState) (q : NodeName) (ks : List ℕ) → (length_of ts x == 0) ≡ false → parent_of ts x ≡ Some q →
+  pub normal_joined : {e : DocState} {q : NodeName} (ks : List ℕ) → (length_of ts x == 0) ≡ false → parent_of ts x ≡ Some q →
       map (name_in d) ks ≡ texts_after ts x → is_empty ks ≡ false
       → e ≡ planned o (joining x q (map (name_in d) ks)) d → e ≡ planned o (normalizing_text x) d
-  normal_joined e q [] h up listed some is = cc
-  normal_joined e q (k ∷ ks) h up listed some is =
+  normal_joined [] h up listed some is = cc
+  normal_joined {q} (k ∷ ks) h up listed some is =
       is ∙ ap (λ ys. after_steps (steps_if false (Some q) ys)) listed ∙ ap (λ a. after_steps (steps_if false a (texts_after ts x))) (sym up) ∙
       ap (λ b. after_steps (steps_if b (parent_of ts x) (texts_after ts x))) (sym h)
 
@@ -303,10 +303,10 @@ below_once d counted top = names_once (subtree (trees_in d top) (name_in d top))
     (once_subtree (trees_in d top) (name_in d top) (once_in d counted (owner_in d top)))
 
 -- at the first one
-pub gathers_first : (d : DocState) → Counted d → (top : ℕ) (at : Option ℕ) → is_inclusive_ancestor (trees_in d top) (name_in d top) (name_in d top) ≡ true
+pub gathers_first : {d : DocState} → Counted d → {top : ℕ} {at : Option ℕ} → is_inclusive_ancestor (trees_in d top) (name_in d top) (name_in d top) ≡ true
     → option_map (name_in d) at ≡ first_of (items_after name_eq (name_in d top) (below_of d top)) → ForSome at (IsOwnNode d top)
     → ForSome at (λ k. is_inclusive_ancestor (trees_in d top) (name_in d top) (name_in d k) ≡ true) → Gathers d top [] at
-gathers_first d counted top at there found near inside =
+gathers_first {d} counted {top} {at} there found near inside =
     let x = name_in d top in
     let xs = below_of d top in
     let first = first_own (trees_in d top) x there in

@@ -51,12 +51,12 @@ each_in P (x ∷ xs) h y e = elim (Rattle.std.proofs.lemmas.Bool.cases_Bool (nam
 
 -- The children of a node.
 module _ (d : DocState) (counted : Counted d) (node : ℕ) where
-  pub lists_next : (keys : List ℕ) (at next : Option ℕ) (k : ℕ) → at ≡ Some k → Lists d node keys at → option_map (name_in d) next
+  pub lists_next : {keys : List ℕ} {at : Option ℕ} (next : Option ℕ) {k : ℕ} → at ≡ Some k → Lists d node keys at → option_map (name_in d) next
       ≡ next_sibling (trees_in d k) (name_in d k) → ForSome next (λ j. j < length d.names) → ForSome next (λ j. owner_in d j ≡ owner_in d k) →
       Lists d node (keys ++ k ∷ []) next
       × (left (children_of (trees_in d node) (name_in d node)) (option_map (name_in d) next) < left (children_of (trees_in d node) (name_in d node))
       (option_map (name_in d) at))
-  lists_next keys at next k is lists found near own =
+  lists_next {keys} next {k} is lists found near own =
       let ts = trees_in d node in
       let once = once_in d counted (owner_in d node) in
       let xs = children_of ts (name_in d node) in

@@ -68,16 +68,16 @@ pub record Normalizes (top : ℕ) (all : List ℕ) (d : DocState) (rest : List �
   pub state : planned (owner_in d top) (in_turn normalizing_text (map (name_in d) rest)) e ≡ planned (owner_in d top)
       (in_turn normalizing_text (map (name_in d) all)) d
 
-pub normalizes_first : (top : ℕ) (all : List ℕ) (d : DocState) → IsAlone d.world (owner_in d top) → IsPart (part_of d.world (owner_in d top)) →
+pub normalizes_first : {top : ℕ} {all : List ℕ} {d : DocState} → IsAlone d.world (owner_in d top) → IsPart (part_of d.world (owner_in d top)) →
     HasBounds (part_of d.world (owner_in d top))
     → AllByRecursion (λ k. IsTextOf (part_of d.world (owner_in d top)) (name_in d k)) all → Normalizes top all d all d
-normalizes_first top all d alone part bounds texts = record { names = refl; alone = alone; part = part; bounds = bounds; texts = texts; state = refl }
+normalizes_first alone part bounds texts = record { names = refl; alone = alone; part = part; bounds = bounds; texts = texts; state = refl }
 
 -- the next one is asked for
-pub normalizes_here : (top : ℕ) (all : List ℕ) (d : DocState) (i k : ℕ) (e : DocState) → i < length all → k ≡ get_or all i k →
+pub normalizes_here : {top : ℕ} {all : List ℕ} {d : DocState} (i : ℕ) {k : ℕ} {e : DocState} → i < length all → k ≡ get_or all i k →
     AllByRecursion (IsOwnNode d top) all → Normalizes top all d (drop i all) e
     → (is_text (kind_of (trees_in e k) (name_in e k)) ≡ true) × HasBounds (part_of e.world (owner_in e k))
-normalizes_here top all d i k e i< is nodes turn =
+normalizes_here {top} {all} {d} i {k} {e} i< is nodes turn =
     let now : drop i all ≡ k ∷ drop (suc i) all = drop-cons all i k i< ∙ ap (λ j. j ∷ drop (suc i) all) (sym is) in
     let here = (subst (AllByRecursion (IsOwnNode d top)) now (all_drop (IsOwnNode d top) i all nodes)).0 in
     let text = (subst (AllByRecursion (λ k. IsTextOf (part_of e.world (owner_in d top)) (name_in d k))) now turn.texts).0 in
@@ -88,19 +88,19 @@ normalizes_here top all d i k e i< is nodes turn =
     )
 
 -- the Texts that are left stay
-texts_left : (p : Part) → IsPart p → (x : NodeName) → IsTextOf p x → (d : DocState) (ks : List ℕ) →
+texts_left : {p : Part} → IsPart p → {x : NodeName} → IsTextOf p x → (d : DocState) (ks : List ℕ) →
     AllByRecursion (λ k. IsTextOf p (name_in d k)) ks → AllByRecursion (λ k. IsTextOf (after p (normalizing_text x p)) (name_in d k)) ks
-texts_left p part x is d [] h = tt
-texts_left p part x is d (k ∷ ks) h =
+texts_left part is d [] h = tt
+texts_left {p} part {x} is d (k ∷ ks) h =
     let left = normalized_text-leaves x (name_in d k) p part is.there h.0.there h.0.text in
-    (record { there = left.0; text = left.1 }, texts_left p part x is d ks h.1)
+    (record { there = left.0; text = left.1 }, texts_left part is d ks h.1)
 
 -- Texts below a node that are normalized one after another, from the state d.
 module _ (top : ℕ) (all : List ℕ) (d : DocState) where
   -- a step of it
-  pub normalizes_on : (i k : ℕ) (e f : DocState) → i < length all → k ≡ get_or all i k → AllByRecursion (IsOwnNode d top) all →
+  pub normalizes_on : (i : ℕ) {k : ℕ} {e f : DocState} → i < length all → k ≡ get_or all i k → AllByRecursion (IsOwnNode d top) all →
       Normalizes top all d (drop i all) e → f ≡ planned (owner_in e k) (normalizing_text (name_in e k)) e → Normalizes top all d (drop (i + 1) all) f
-  normalizes_on i k e f i< is nodes turn made =
+  normalizes_on i {k} {e} {f} i< is nodes turn made =
       let now : drop i all ≡ k ∷ drop (suc i) all = drop-cons all i k i< ∙ ap (λ j. j ∷ drop (suc i) all) (sym is) in
       let here = (subst (AllByRecursion (IsOwnNode d top)) now (all_drop (IsOwnNode d top) i all nodes)).0 in
       let state = subst (λ ks. planned (owner_in d top) (in_turn normalizing_text (map (name_in d) ks)) e ≡ planned (owner_in d top)
@@ -121,7 +121,7 @@ module _ (top : ℕ) (all : List ℕ) (d : DocState) where
         part = subst IsPart (sym after_it) (leads-normalizing_text p x turn.part (has_node-times p.trees x texts.0.there)).changed.part;
         bounds = subst HasBounds (sym after_it) (normalized_text-keeps x p turn.part texts.0.there texts.0.text turn.bounds);
         texts = subst (λ q. AllByRecursion (λ k. IsTextOf q (name_in d k)) (drop (suc i) all)) (sym after_it)
-            (texts_left p turn.part x texts.0 d (drop (suc i) all) texts.1);
+            (texts_left turn.part texts.0 d (drop (suc i) all) texts.1);
         state = ap (planned o (in_turn normalizing_text (map (name_in d) (drop (suc i) all)))) at ∙
             planned_turn o normalizing_text x (map (name_in d) (drop (suc i) all)) e turn.alone (plans_normalizing_text o x) ∙ state;
       })

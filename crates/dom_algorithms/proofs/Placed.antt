@@ -47,10 +47,10 @@ removed_parent : (x : NodeName) (ts us : Trees) → Removed x ts us → parent_o
 removed_parent x ts us (inl h) = ap (λ t. parent_of t x) h.1 ∙ h.0
 removed_parent x ts us (inr h) = ap (λ t. parent_of t x) h ∙ parent_taken ts x
 
-removed_path : (x : NodeName) (ts us : Trees) → IsOnce ts → Removed x ts us → (y : NodeName) → Lacks x (inclusive_ancestors ts y) →
+removed_path : (x : NodeName) {ts us : Trees} → IsOnce ts → Removed x ts us → (y : NodeName) → Lacks x (inclusive_ancestors ts y) →
     inclusive_ancestors us y ≡ inclusive_ancestors ts y
-removed_path x ts us once (inl h) y lacks = ap (λ t. inclusive_ancestors t y) h.1
-removed_path x ts us once (inr h) y lacks = ap (λ t. inclusive_ancestors t y) h ∙ path_taken ts once x y lacks
+removed_path x once (inl h) y lacks = ap (λ t. inclusive_ancestors t y) h.1
+removed_path x {ts} once (inr h) y lacks = ap (λ t. inclusive_ancestors t y) h ∙ path_taken ts once x y lacks
 
 -- another node document
 path_documented : (d x : NodeName) (ts : Trees) (y : NodeName) → inclusive_ancestors (change_subtree (with_document d) x ts) y ≡ inclusive_ancestors ts y
@@ -79,7 +79,7 @@ module _ (d x : NodeName) (p : Part) where
   adopted_path : IsOnce p.trees → (y : NodeName) → Lacks x (inclusive_ancestors p.trees y) →
       inclusive_ancestors (after p (adopting d x p)).trees y ≡ inclusive_ancestors p.trees y
   adopted_path once y lacks = ap (λ t. inclusive_ancestors t y) adopted_is ∙ documented_path d x moved y ∙
-      removed_path x p.trees moved.trees once (removed_trees observed x p) y lacks
+      removed_path x once (removed_trees observed x p) y lacks
 
   adopted_parent : parent_of (after p (adopting d x p)).trees x ≡ None
   adopted_parent =
@@ -101,7 +101,7 @@ module _ (o : Owner) (d : DocState) (alone : IsAlone d.world o) where
       → inclusive_ancestors (part_of (planned o (removing how x) d).world o).trees y ≡ inclusive_ancestors (part_of d.world o).trees y
   path_removed once how x y lacks =
       ap (λ t. inclusive_ancestors t y) (trees_after o (removing how x) d alone (plans_removing o how x))
-      ∙ removed_path x (part_of d.world o).trees (after (part_of d.world o) (removing how x (part_of d.world o))).trees once
+      ∙ removed_path x once
       (removed_trees how x (part_of d.world o)) y lacks
 
   pub path_stepped : IsOnce (part_of d.world o).trees → (x parent : NodeName) (before : Option NodeName) (y : NodeName) →
@@ -121,10 +121,10 @@ pub once_in : (d : DocState) → Counted d → (o : Owner) → IsOnce (part_of d
 once_in d counted o = once_counted (part_of d.world o).trees (counted o)
 
 -- a node that may move is not above what it is put before
-pub before_lacks : (d : DocState) → Counted d → (parent node : ℕ) (before : Option ℕ) → MayMove d parent before node →
-    ForSome before (IsChild d parent) → (b : ℕ) → before ≡ Some b
+pub before_lacks : {d : DocState} → Counted d → {parent node : ℕ} {before : Option ℕ} → MayMove d parent before node →
+    ForSome before (IsChild d parent) → {b : ℕ} → before ≡ Some b
     → Lacks (name_in d node) (inclusive_ancestors (trees_in d parent) (name_in d b))
-before_lacks d counted parent node before may child b is =
+before_lacks {d} counted {parent} {node} may child {b} is =
     subst (Lacks (name_in d node)) (sym (parent_path (trees_in d parent) (once_in d counted (owner_in d parent)) (name_in d b) (name_in d parent)
     (child b is).child))
     (may.apart b is, lacks_from (name_in d node) (inclusive_ancestors (trees_in d parent) (name_in d parent)) may.not_above)
@@ -166,7 +166,7 @@ module _ (d e : DocState) (counted : Counted d) (parent node : ℕ) (before : Op
       subst (λ (ns : List NodeName). (name_at ns b).owner ≡ (name_at ns parent).owner) (sym same_names) (child b at).owner in
       ap (λ o. parent_of (part_of e.world o).trees (name_in e b)) owner
       ∙ subst (λ (ns : List NodeName). parent_of (trees_in e parent) (name_at ns b) ≡ Some (name_at ns parent)) (sym same_names)
-      (ap (λ path. first_of (drop 1 path)) (kept (name_in d b) (before_lacks d counted parent node before may child b at)) ∙ (child b at).child)
+      (ap (λ path. first_of (drop 1 path)) (kept (name_in d b) (before_lacks counted may child at)) ∙ (child b at).child)
 
   alone_now : IsAlone e.world (owner_in e parent)
   alone_now =

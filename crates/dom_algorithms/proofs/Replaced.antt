@@ -58,10 +58,10 @@ lacks_after x z (y ∷ ys) h = elim (cases_Bool (name_eq z y)) [
 ]
 
 -- what comes after the next one is another one
-after_next : (x z y : NodeName) (xs : List NodeName) → NoTwice xs → first_of (items_after name_eq x xs) ≡ Some z →
+after_next : (x : NodeName) {z y : NodeName} (xs : List NodeName) → NoTwice xs → first_of (items_after name_eq x xs) ≡ Some z →
     first_of (items_after name_eq z xs) ≡ Some y → name_eq x y ≡ false
-after_next x z y [] once e f = cc
-after_next x z y (w ∷ ws) once e f = elim (cases_Bool (name_eq x w)) [
+after_next x [] once e f = cc
+after_next x {z} {y} (w ∷ ws) once e f = elim (cases_Bool (name_eq x w)) [
   | inl h ↦
       let found : first_of ws ≡ Some z = rw h at e in
       let off = swapped w z (first_lacks w ws once.0 z found) in
@@ -72,13 +72,13 @@ after_next x z y (w ∷ ws) once e f = elim (cases_Bool (name_eq x w)) [
       let found : first_of (items_after name_eq x ws) ≡ Some z = rw h at e in
       let off = swapped w z (first_lacks w (items_after name_eq x ws) (lacks_after w x ws once.0) z found) in
       let then : first_of (items_after name_eq z ws) ≡ Some y = rw off at f in
-      after_next x z y ws once.1 found then
+      after_next x ws once.1 found then
 ]
 
 -- the reference of a replacement is not the child that gives way
-pub reference_apart : (ts : Trees) → IsOnce ts → (x p node y : NodeName) → parent_of ts x ≡ Some p →
+pub reference_apart : (ts : Trees) → IsOnce ts → (x : NodeName) {p : NodeName} (node : NodeName) {y : NodeName} → parent_of ts x ≡ Some p →
     reference_for ts node (next_sibling ts x) ≡ Some y → name_eq x y ≡ false
-reference_apart ts once x p node y up e = by_next (next_sibling ts x) refl e
+reference_apart ts once x {p} node {y} up e = by_next (next_sibling ts x) refl e
   where
     by_next : (o : Option NodeName) → next_sibling ts x ≡ o → reference_for ts node o ≡ Some y → name_eq x y ≡ false
     by_next None is e = cc
@@ -87,7 +87,7 @@ reference_apart ts once x p node y up e = by_next (next_sibling ts x) refl e
           let found : next_sibling ts z ≡ Some y =
           ap (next_sibling ts) (name_eq-true z node h) ∙ sym (cond-true (name_eq z node) (next_sibling ts node) (Some z) h) ∙ e in
           let both = next_child ts once x p z up is in
-          after_next x z y (children_of ts p) (children_once ts p once) (sym (next_walked ts once x p up) ∙ is) (sym (next_walked ts once z p both.0) ∙ found)
+          after_next x (children_of ts p) (children_once ts p once) (sym (next_walked ts once x p up) ∙ is) (sym (next_walked ts once z p both.0) ∙ found)
       | inr h ↦
           let same : Some z ≡ Some y = sym (cond-false (name_eq z node) (next_sibling ts node) (Some z) h) ∙ e in
           let at : z ≡ y = cc in
@@ -95,11 +95,11 @@ reference_apart ts once x p node y up e = by_next (next_sibling ts x) refl e
     ]
 
 -- the next sibling of a child is a child
-pub next_is_near : (d : DocState) → Counted d → (parent child : ℕ) (next : Option ℕ) → IsChild d parent child
+pub next_is_near : {d : DocState} → Counted d → {parent child : ℕ} (next : Option ℕ) → IsChild d parent child
     → option_map (name_in d) next ≡ next_sibling (trees_in d child) (name_in d child) → ForSome next (λ k. k < length d.names) →
     ForSome next (λ k. owner_in d k ≡ owner_in d child)
     → ForSome next (IsChild d parent)
-next_is_near d counted parent child next child_is found near own b is =
+next_is_near {d} counted {parent} {child} next child_is found near own b is =
     (Rattle.dom_algorithms.proofs.Placed.next_is_child d counted parent child child next child_is refl found near own b is).0
 
 -- the state e after the child is taken out
@@ -110,8 +110,8 @@ module _ (d e : DocState) (counted : Counted d) (alone : (k : ℕ) → k < lengt
     (removed : e ≡ planned (owner_in d child) (removing suppressed (name_in d child)) d) where
   off : (b : ℕ) → reference ≡ Some b → name_eq (name_in d child) (name_in d b) ≡ false
   off b is =
-      reference_apart (trees_in d parent) (once_in d counted (owner_in d parent)) (name_in d child) (name_in d parent) (name_in d node)
-      (name_in d b) child_is.child
+      reference_apart (trees_in d parent) (once_in d counted (owner_in d parent)) (name_in d child) (name_in d node)
+      child_is.child
       (ap (reference_for (trees_in d parent) (name_in d node))
       (ap (λ o. next_sibling (part_of d.world o).trees (name_in d child)) (sym child_is.owner) ∙ sym found) ∙ sym referred ∙
       ap (option_map (name_in d)) is)

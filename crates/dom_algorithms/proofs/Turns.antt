@@ -67,12 +67,12 @@ places_first parent before all d alone = record { stays = stays_same parent befo
 
 module _ (parent : ℕ) (before : Option ℕ) (all : List ℕ) (d : DocState) where
   -- a step of it
-  pub places_next : (k : ℕ) (rest : List ℕ) (e f : DocState)
+  pub places_next : {k : ℕ} {rest : List ℕ} {e f : DocState}
       → Places parent before all d (k ∷ rest) e → MayMove d parent before k →
       ForSome before (λ b. is_inclusive_ancestor (trees_in d parent) (name_in d k) (name_in d b) ≡ false)
       → f ≡ planned (owner_in e parent) (placing (name_in e parent) (option_map (name_in e) before) (name_in e k)) e → KeepsPaths parent (name_in e k) e f
       → Places parent before all d rest f
-  places_next k rest e f places may off is keeps =
+  places_next {k} {rest} {e} {f} places may off is keeps =
       let o = owner_in d parent in
       let turn : NodeName → Plan = placing (name_in d parent) (option_map (name_in d) before) in
       let at : f ≡ planned (owner_in d parent) (turn (name_in d k)) e =
@@ -96,16 +96,16 @@ module _ (parent : ℕ) (before : Option ℕ) (all : List ℕ) (d : DocState) wh
   -- nodes that may be placed
   module _ (counted : Counted d) (may : AllByRecursion (MayMove d parent before) all) (child : ForSome before (IsChild d parent)) where
     -- a step of it, by its index
-    pub places_on : (i k : ℕ) (e f : DocState) → i < length all → k ≡ get_or all i k → Places parent before all d (drop i all) e
+    pub places_on : (i : ℕ) {k : ℕ} {e f : DocState} → i < length all → k ≡ get_or all i k → Places parent before all d (drop i all) e
         → f ≡ planned (owner_in e parent) (placing (name_in e parent) (option_map (name_in e) before) (name_in e k)) e → KeepsPaths parent (name_in e k) e f
         → Places parent before all d (drop (i + 1) all) f
-    places_on i k e f i< is places made keeps =
+    places_on i {k} {e} {f} i< is places made keeps =
         let now : drop i all ≡ k ∷ drop (suc i) all = drop-cons all i k i< ∙ ap (λ j. j ∷ drop (suc i) all) (sym is) in
         let here = (subst (AllByRecursion (MayMove d parent before)) now (all_drop (MayMove d parent before) i all may)).0 in
         subst (λ j. Places parent before all d (drop j all) f) (sym (add-one i))
-        (places_next k (drop (suc i) all) e f (subst (λ ks. Places parent before all d ks e) now places) here
+        (places_next (subst (λ ks. Places parent before all d ks e) now places) here
         (λ b at. lacks_to (name_in d k) (inclusive_ancestors (trees_in d parent) (name_in d b))
-        (before_lacks d counted parent k before here child b at)) made keeps)
+        (before_lacks counted here child at)) made keeps)
 
 -- ---- taking out
 
@@ -123,10 +123,10 @@ empties_first how top all d alone = record { names = refl; alone = alone; state 
 
 module _ (how : Observing) (top : ℕ) (all : List ℕ) (d : DocState) where
   -- a step of it
-  pub empties_next : (k : ℕ) (rest : List ℕ) (e f : DocState) → owner_in d k ≡ owner_in d top
+  pub empties_next : {k : ℕ} {rest : List ℕ} {e f : DocState} → owner_in d k ≡ owner_in d top
       → Empties how top all d (k ∷ rest) e → f ≡ planned (owner_in e k) (removing how (name_in e k)) e → KeepsPaths k (name_in e k) e f →
       Empties how top all d rest f
-  empties_next k rest e f owner empties is keeps =
+  empties_next {k} {rest} {e} {f} owner empties is keeps =
       let own : owner_in e k ≡ owner_in d top = ap (λ (ns : List NodeName). (name_at ns k).owner) empties.names ∙ owner in
       let at : f ≡ planned (owner_in d top) (removing how (name_in d k)) e =
       is ∙ ap (λ o. planned o (removing how (name_in e k)) e) own ∙
@@ -160,6 +160,6 @@ module _ (how : Observing) (top : ℕ) (all : List ℕ) (d : DocState) where
       let here = (subst (AllByRecursion (λ j. (j < length d.names) × (owner_in d j ≡ owner_in d top))) now
       (all_drop (λ j. (j < length d.names) × (owner_in d j ≡ owner_in d top)) i all nodes)).0 in
       subst (λ j. Empties how top all d (drop j all) f) (sym (add-one i))
-      (empties_next k (drop (suc i) all) e f here.1 (subst (λ ks. Empties how top all d ks e) now empties) made
+      (empties_next here.1 (subst (λ ks. Empties how top all d ks e) now empties) made
       (removal_keeps e f counted k (subst (IsAlone e.world) (sym (ap (λ (ns : List NodeName). (name_at ns k).owner) empties.names ∙ here.1))
       empties.alone) how made))

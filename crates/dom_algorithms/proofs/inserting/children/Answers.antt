@@ -9,13 +9,13 @@ loop-at-init c =
 
 pub loop-at-smaller : goal.loop-at-smaller
 loop-at-smaller c =
-    (lists_next c.args.parts.now c.laws.ensures.once c.args.node c.loop-at.keys.items c.loop-at.at c.next-at.result c.in-Some.child c.in-Some.is
+    (lists_next c.args.parts.now c.laws.ensures.once c.args.node c.next-at.result c.in-Some.is
     c.loop-at.invariant
     c.next-at.ensures.value c.next-at.ensures.node c.next-at.ensures.owner).1
 
 pub loop-at-preserved : goal.loop-at-preserved
 loop-at-preserved c =
     subst (λ (ks : List ℕ). Lists c.args.parts.now c.args.node ks c.next-at.result) (sym c.in_ok-push.ensures.items)
-    (lists_next c.args.parts.now c.laws.ensures.once c.args.node c.loop-at.keys.items c.loop-at.at c.next-at.result c.in-Some.child c.in-Some.is
+    (lists_next c.args.parts.now c.laws.ensures.once c.args.node c.next-at.result c.in-Some.is
     c.loop-at.invariant
     c.next-at.ensures.value c.next-at.ensures.node c.next-at.ensures.owner).0

@@ -7,5 +7,5 @@ loop-node-init c = places_first c.args.parent c.args.before c.args.moved.now c.a
 pub loop-node-preserved : goal.loop-node-preserved
 loop-node-preserved c =
     places_on c.args.parent c.args.before c.args.moved.now c.args.parts.now c.laws.ensures.once c.requires.may_move c.requires.before_is_child
-    c.loop-node.node-index c.node-item.result c.loop-node.parts c.placing.new.parts c.loop-node-test.true c.node-item.is c.loop-node.invariant
+    c.loop-node.node-index c.loop-node-test.true c.node-item.is c.loop-node.invariant
     c.in_ok-placing.ensures.state c.in_ok-placing.ensures.paths

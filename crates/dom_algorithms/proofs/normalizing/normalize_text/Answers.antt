@@ -11,7 +11,7 @@ use Rattle.dom_algorithms.proofs.normalizing.normalize_text.Goals as goal
 pub returns : goal.returns
 returns c =
     let d = c.args.parts.now in
-    on_ok_weaker c.joining.result (λ is. normal_joined d c.args.node c.joining.new.parts (name_in d c.in-Some.parent) c.as_slice-2.result.now
+    on_ok_weaker c.joining.result (λ is. normal_joined d c.args.node c.as_slice-2.result.now
     (subst (λ (n : ℕ). (n == 0) ≡ false) c.length.ensures (false_from_ne_true _ (λ h. c.if-length-eq0.false (eqb-true c.length.result 0 h))))
     (sym c.in-Some.ensures.value)
     (ap (map (name_in d)) c.as_slice-2.ensures.value ∙ c.in_ok-nexts.ensures.names)

@@ -6,7 +6,7 @@ use Rattle.dom_algorithms.proofs.normalizing.texts_below.Goals as goal
 pub loop-at-init : goal.loop-at-init
 loop-at-init c =
     subst (λ (ks : List ℕ). Gathers c.args.parts.now c.args.top ks c.following-at.result) (sym c.new-keys.ensures.items)
-    (gathers_first c.args.parts.now c.laws.ensures.once c.args.top c.following-at.result c.stands.ensures c.following-at.ensures.value
+    (gathers_first c.laws.ensures.once c.stands.ensures c.following-at.ensures.value
     c.following-at.ensures.node c.following-at.ensures.within)
 
 pub loop-at-smaller : goal.loop-at-smaller

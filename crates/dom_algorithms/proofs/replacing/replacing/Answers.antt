@@ -12,7 +12,7 @@ use Rattle.dom_algorithms.proofs.replacing.replacing.Goals as goal
 
 pub reference_for-reference-requires-clause-child_is_child : goal.reference_for-reference-requires-clause-child_is_child
 reference_for-reference-requires-clause-child_is_child c =
-    next_is_near c.args.parts.now c.laws.ensures.once c.args.parent c.args.child c.next-next.result c.requires.child_is_child
+    next_is_near c.laws.ensures.once c.next-next.result c.requires.child_is_child
     c.next-next.ensures.value c.next-next.ensures.node c.next-next.ensures.owner
 
 pub inserting-requires-clause-may_move : goal.inserting-requires-clause-may_move

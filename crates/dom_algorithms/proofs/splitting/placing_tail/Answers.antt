@@ -12,12 +12,12 @@ pub inserting-requires-clause-may_move : goal.inserting-requires-clause-may_move
 inserting-requires-clause-may_move c =
     tail_may c.args.parts.now c.laws.ensures.once c.args.parent c.args.node c.args.new c.next-next.result c.requires.node_is_child
     c.requires.new_is_node c.requires.one_owner c.requires.unlinked c.requires.not_above
-    (next_is_near c.args.parts.now c.laws.ensures.once c.args.parent c.args.node c.next-next.result c.requires.node_is_child
+    (next_is_near c.laws.ensures.once c.next-next.result c.requires.node_is_child
     c.next-next.ensures.value c.next-next.ensures.node c.next-next.ensures.owner)
 
 pub inserting-requires-clause-before_is_child : goal.inserting-requires-clause-before_is_child
 inserting-requires-clause-before_is_child c =
-    next_is_near c.args.parts.now c.laws.ensures.once c.args.parent c.args.node c.next-next.result c.requires.node_is_child
+    next_is_near c.laws.ensures.once c.next-next.result c.requires.node_is_child
     c.next-next.ensures.value c.next-next.ensures.node c.next-next.ensures.owner
 
 pub returns : goal.returns

@@ -39,7 +39,7 @@ returns-clause-world c =
     split_whole c.args.parts.now c.make_text.new.parts c.args.node c.in_ok-new.new
     (option_map (name_in c.args.parts.now) c.document-document.result) c.in_ok-tail.tail.items c.in_ok-new.ensures.names
     c.in_ok-new.ensures.world c.in_ok-new.ensures.key c.requires.node_is_node (c.laws.ensures.alone c.args.node c.requires.node_is_node)
-    c.laws-2.ensures.distinct c.laws-2.ensures.once c.cut_tail.new.parts c.args.offset c.saturating_sub-count.result counts
+    c.laws-2.ensures.distinct c.laws-2.ensures.once c.args.offset counts
     c.document-document.ensures.value c.in_ok-tail.ensures c.in_ok-cut_tail.ensures
 
 pub cut_tail-requires-clause-bounds : goal.cut_tail-requires-clause-bounds
