@@ -19,7 +19,8 @@ returns-then-bytes-others-clause-text c =
 pub returns-then-bytes-index-clause-text : goal.returns-then-bytes-index-clause-text
 returns-then-bytes-index-clause-text c =
     differ c.args.text.now c.args.other.now
-    (λ e. c.if-bytes-index.true (ap (λ xs. slice_index_or xs c.loop-index.index 0) (c.as_bytes-bytes.ensures.value ∙ (e ∙ sym c.as_bytes-others.ensures.value))))
+    (λ e. c.if-bytes-index.true (ap (λ xs. slice_index_or xs c.loop-index.index 0)
+    (c.as_bytes-bytes.ensures.value ∙ (e ∙ sym c.as_bytes-others.ensures.value))))
 
 pub returns-clause-bytes : goal.returns-clause-bytes
 returns-clause-bytes c =
