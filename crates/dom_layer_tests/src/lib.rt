@@ -7,8 +7,4 @@ mod arena;
 #[cfg(test)]
 mod callers;
 #[cfg(test)]
-mod paths;
-#[cfg(test)]
 mod refusals;
-#[cfg(test)]
-mod tasks;
