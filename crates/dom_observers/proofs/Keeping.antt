@@ -1,11 +1,9 @@
 -- What is kept beside an owner's registrations, where some come or go.
 use Rattle.std.proofs.Common.{◌≡◌, ℕ, ◌+◌, ◌≤◌, true, not, eqb, List, ◌++◌, length, map, filter, Some, sym, ap, ◌∙◌, subst, arith}
-use Rattle.std.specs.Prelude.{is_some}
 use Rattle.std.proofs.lemmas.List.{length-append, length-map}
 use Rattle.std.proofs.lemmas.List.Elements.{filter_map-append}
 use Rattle.dom_model.specs.Names.{is_in}
 use Rattle.dom_model.specs.Observers.{Registration}
-use Rattle.dom_observers.specs.declared.owned.Owned.{Owned}
 use Rattle.dom_observers.specs.declared.registered.Registered.{Registered}
 use Rattle.dom_observers.specs.declared.removal.Removal.{Removal}
 use Rattle.dom_observers.specs.declared.watched.Watched.{Watched}
@@ -46,7 +44,7 @@ kept-left {rs = rs} {ss = ss} {removal = removal} kept left all noted = record {
   once = subst AreOnce (sym all) (once-filter (λ t. not (goes removal t)) (those_there rs) kept.once);
 }
 
--- Where all are noted, those that go were looked for in the places among which they are, and places of some that have gone were dropped.
+-- Where all are noted, those that go were looked for in the places among which they are.
 module _ {u w : Watched} {gone went : ℕ} {rs ss : List Registered} {removal : Removal} {places : List ℕ} (kept : AreKept u gone rs)
     (noted : AreNoted w rs) (all : length rs ≤ w.noted) (is : places ≡ among w.owned removal) (left : HaveLeft removal places went rs ss) where
   found : (i : ℕ) (t : Registration ℕ) → there_in rs i ≡ Some t → goes removal t ≡ true → is_in eqb i places ≡ true
@@ -56,9 +54,10 @@ module _ {u w : Watched} {gone went : ℕ} {rs ss : List Registered} {removal : 
   pub removed-all : those_there ss ≡ filter (λ t. not (goes removal t)) (those_there rs)
   removed-all = left-all left found
 
+  -- what is noted stays so
+  pub removed-noted : AreNoted w ss
+  removed-noted = noted-left noted ss left.same left.fewer
+
   -- and what is kept beside them
-  pub removed-kept : (o : Owned)
-      → ((r : Removal) (i : ℕ) → is_in eqb i (among w.owned r) ≡ true → is_some (there_in ss i) ≡ true → is_in eqb i (among o r) ≡ true)
-      → AreKept (record w { owned = o }) (gone + went) ss
-  removed-kept o stay =
-      kept-left {w = u} {v = record w { owned = o }} kept left removed-all (noted-left noted o ss left.same left.fewer stay)
+  pub removed-kept : {v : Watched} → AreNoted v ss → AreKept v (gone + went) ss
+  removed-kept now = kept-left {w = u} kept left removed-all now

@@ -4,6 +4,7 @@ mod Tables
 mod Leaving
 mod Once
 mod Keeping
+mod Thinning
 mod Renewing
 mod Lookups
 pub mod Ascending

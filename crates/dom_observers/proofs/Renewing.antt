@@ -1,7 +1,7 @@
 -- A registration that gets new options.
 use Rattle.std.proofs.Common.{◌≡◌, ℕ, zero, suc, ◌+◌, ◌<◌, ◌≤◌, Bool, true, false, not, ◌&&◌, cond, eqb, List, [], ◌∷◌, ◌++◌, length, map, set}
 use Rattle.std.proofs.Common.{Option, Some, None, take, refl, sym, ap, ◌∙◌, subst, arith}
-use Rattle.std.specs.Prelude.{slice_get}
+use Rattle.std.specs.Prelude.{slice_get, is_some}
 use Rattle.std.specs.List.{list_any, filter, cons_option}
 use Rattle.std.specs.Option.{option_map_or}
 use Rattle.std.proofs.lemmas.Bool.{cond-true, cond-false, eqb-true, or_parts, or_from, or_left, or_right, and_left, and_right}
@@ -18,9 +18,10 @@ use Rattle.dom_observers.specs.declared.removal.Removal.TheVariants.{Of, Transie
 use Rattle.dom_observers.specs.declared.watched.Watched.{Watched}
 use Rattle.dom_observers.specs.Views.{registration_of, unless_gone, those_there, there_in}
 use Rattle.dom_observers.specs.Removals.{goes}
-use Rattle.dom_observers.specs.Watching.{places_from, is_above, among, AreNoted, AreKept}
+use Rattle.dom_observers.specs.Watching.{places_at, places_from, is_above, among, AreThinned, AreNoted, AreKept}
 use Rattle.dom_observers.proofs.Leaving.{IsThere, IsParted, parted, parted-set, unless-there, there-got, there-set}
 use Rattle.dom_observers.proofs.Watching.{second}
+use Rattle.dom_observers.proofs.Thinning.{thinned-left}
 use Rattle.dom_observers.proofs.Once.{AreOnce, once-options, one_if, asked, asked-next, asked-append}
 
 -- none gets other options where none is asked for
@@ -158,7 +159,8 @@ noted-options : {k x i : ℕ} {rs : List Registered} {r s : Registered} {o : Obs
     → (o.subtree ≡ true → is_in eqb x w.above.keys ≡ true) → AreNoted w (set rs i s)
 noted-options {k = k} {x = z} {i = i} {rs = rs} {r = r} {s = s} {o = o} {w = w} n noted covered = record {
   within = let same = length-set rs i s in omega (arith, same, noted.within);
-  places = λ x. noted.places x ∙ sym (places-set x r s node rs i w.noted 0 n.one.at);
+  places = λ x. subst (λ ps. AreThinned (set rs i s) ps (places_at w x)) (sym (places-set x r s node rs i w.noted 0 n.one.at))
+      (thinned-left (noted.places x) (λ j in_it is. still_there j (eqb j i) refl (ap is_some (sym (there-set rs i r s n.one.at j)) ∙ is)));
   above = λ x off. above-set x r s node (not_above x off) rs i w.noted n.one.at (noted.above x off);
   found = λ removal j t below e is. by removal j t below is (eqb j i) refl (sym (there-set rs i r s n.one.at j) ∙ e);
 }
@@ -168,6 +170,10 @@ noted-options {k = k} {x = z} {i = i} {rs = rs} {r = r} {s = s} {o = o} {w = w} 
 
     on : s.node ≡ z
     on = node ∙ eqb-true r.node z (second (eqb r.observer k) (eqb r.node z) (not (is_transient (registration_of r).source)) n.one.passes)
+
+    still_there : (j : ℕ) (b : Bool) → eqb j i ≡ b → is_some (cond b (unless_gone s) (there_in rs j)) ≡ true → is_some (there_in rs j) ≡ true
+    still_there j true e is = ap is_some (ap (there_in rs) (eqb-true j i e) ∙ (there-got rs i r n.one.at ∙ unless-there r n.one.there))
+    still_there j false e is = is
 
     not_above : (x : ℕ) → is_in eqb x w.above.keys ≡ false → is_above x (registration_of s) ≡ false
     not_above x off = both (eqb s.node x) refl o.subtree refl

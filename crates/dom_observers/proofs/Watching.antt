@@ -17,8 +17,8 @@ use Rattle.dom_model.specs.Output.{Change}
 use Rattle.dom_model.specs.Observers.{Registration, registrations_on, asks_for, fits, fitting, transients_for, target_of, is_asked_for, is_transient}
 use Rattle.dom_tree.specs.Forest.{NamedTrees, name_at}
 use Rattle.dom_tree.specs.Apart.{TellApart}
+use Rattle.dom_traversal.proofs.Climbing.{was_some}
 use Rattle.dom_traversal.proofs.Counts.{StandOnce, StandAlone}
-use Rattle.dom_observers.specs.declared.owned.Owned.{Owned}
 use Rattle.dom_observers.specs.declared.places.Places.{Places}
 use Rattle.dom_observers.specs.declared.registered.Registered.{Registered}
 use Rattle.dom_observers.specs.declared.removal.Removal.{Removal}
@@ -28,29 +28,14 @@ use Rattle.dom_observers.specs.Removals.{goes}
 use Rattle.dom_observers.specs.Naming.{IsKey}
 use Rattle.dom_observers.specs.Paths.{path_keys}
 use Rattle.dom_observers.specs.Taking.{transient_copy, picked, copied_at}
-use Rattle.dom_observers.specs.Watching.{places_in, places_or, places_at, places_from, is_above, among, AreNoted, IsPlaceOf}
+use Rattle.dom_observers.specs.Watching.{places_in, places_or, places_at, places_from, is_above, among, AreThinned, AreNoted, IsPlaceOf}
 use Rattle.dom_observers.proofs.Ascending.{HasClimbed, climbs-first, climbs-more, climbs-all, climbs-through}
 use Rattle.dom_observers.proofs.Folds.{is_in-append_once, filter-filter, fold-append, eqb-turned}
 use Rattle.dom_observers.proofs.Gathering.{walk-copies}
 use Rattle.dom_observers.proofs.Leaving.{there-got, there-raw, there-within, there-append, any-there}
+use Rattle.dom_observers.proofs.Thinning.{thinned-again, thinned-behind, thinned-left, thinned-stays, picked-thinned, places-within, places-more}
 
 -- ---- the places of a node's registrations
-
--- with one registration more
-places-more : (x n : ℕ) (rs : List (Registration ℕ)) (r : Registration ℕ)
-    → places_from x n (rs ++ r ∷ []) ≡ (if eqb r.node x then places_from x n rs ++ (n + length rs) ∷ [] else places_from x n rs)
-places-more x n [] r = ap (λ m. cond (eqb r.node x) (m ∷ []) []) (omega arith)
-places-more x n (s ∷ rs) r = by (eqb s.node x) (eqb r.node x) (places-more x (n + 1) rs r)
-  where
-    by : (here last : Bool)
-        → places_from x (n + 1) (rs ++ r ∷ []) ≡ cond last (places_from x (n + 1) rs ++ ((n + 1) + length rs) ∷ []) (places_from x (n + 1) rs)
-        → cond here (n ∷ places_from x (n + 1) (rs ++ r ∷ [])) (places_from x (n + 1) (rs ++ r ∷ []))
-        ≡ cond last (cond here (n ∷ places_from x (n + 1) rs) (places_from x (n + 1) rs) ++ (n + length (s ∷ rs)) ∷ [])
-        (cond here (n ∷ places_from x (n + 1) rs) (places_from x (n + 1) rs))
-    by true true rest = ap (λ ps. n ∷ ps) rest ∙ ap (λ m. n ∷ places_from x (n + 1) rs ++ m ∷ []) (omega arith)
-    by true false rest = ap (λ ps. n ∷ ps) rest
-    by false true rest = rest ∙ ap (λ m. places_from x (n + 1) rs ++ m ∷ []) (omega arith)
-    by false false rest = rest
 
 -- what stands behind others
 get-seam : {X : Type 0} (xs : List X) (y : X) (ys : List X) → slice_get (xs ++ y ∷ ys) (length xs) ≡ Some y
@@ -217,15 +202,28 @@ module _ {w : Watched} {rs : List Registered} (noted : AreNoted w rs) where
     is_next i t same e =
         same_Some t r (sym (there-raw rs i t e) ∙ (ap (slice_get raw) same ∙ (slice_get-get_or raw w.noted r short_raw ∙ ap Some there)))
 
+    -- the places of a node's registrations with its
+    places_next : (x : ℕ)
+        → places_from x 0 (take v.noted raw)
+        ≡ (if eqb r.node x then places_from x 0 (take w.noted raw) ++ w.noted ∷ [] else places_from x 0 (take w.noted raw))
+    places_next x =
+        ap (places_from x 0) one_more ∙ (places-more x 0 (take w.noted raw) r
+        ∙ ap (λ n. cond (eqb r.node x) (places_from x 0 (take w.noted raw) ++ n ∷ []) (places_from x 0 (take w.noted raw)))
+        (let long = length-take-le w.noted raw (omega (arith, short_raw)) in omega (arith, long)))
+
+    -- and those that are noted
+    thinned_next : (x : ℕ) (b : Bool)
+        → AreThinned rs (cond b (places_from x 0 (take w.noted raw) ++ w.noted ∷ []) (places_from x 0 (take w.noted raw)))
+        (cond b (places_at w x ++ w.noted ∷ []) (places_at w x))
+    thinned_next x true = thinned-behind (noted.places x) (w.noted ∷ [])
+    thinned_next x false = noted.places x
+
     pub noted-next : AreNoted v rs
     noted-next = record {
       within = omega (arith, next.noted, short);
-      places = λ x.
-          next.places x
-          ∙ (ap (λ ps. cond (eqb r.node x) (ps ++ w.noted ∷ []) ps) (noted.places x)
-          ∙ (ap (λ n. cond (eqb r.node x) (places_from x 0 (take w.noted raw) ++ n ∷ []) (places_from x 0 (take w.noted raw)))
-          (let long = length-take-le w.noted raw (omega (arith, short_raw)) in omega (arith, long))
-          ∙ (sym (places-more x 0 (take w.noted raw) r) ∙ ap (places_from x 0) (sym one_more))));
+      places = λ x. subst (AreThinned rs (places_from x 0 (take v.noted raw))) (sym (next.places x))
+          (subst (λ ps. AreThinned rs ps (cond (eqb r.node x) (places_at w x ++ w.noted ∷ []) (places_at w x))) (sym (places_next x))
+          (thinned_next x (eqb r.node x)));
       above = λ x off.
           let parts = off_above x off in
           ap (list_any (is_above x)) one_more
@@ -239,6 +237,14 @@ module _ {w : Watched} {rs : List Registered} (noted : AreNoted w rs) where
       ];
     }
 
+  -- the places of a node's registrations are places of the list
+  inside : (x i : ℕ) → is_in eqb i (places_from x 0 (take w.noted raw)) ≡ true → i < length rs
+  inside x i in_it =
+      let short = places-within x 0 (take w.noted raw) i in_it in
+      let same = length-map rs registration_of in
+      let long = length-take-le w.noted raw (omega (arith, same, noted.within)) in
+      omega (arith, short, long, noted.within)
+
   -- others stand behind
   pub noted-append : (more : List Registered) → AreNoted w (rs ++ more)
   noted-append more =
@@ -248,25 +254,37 @@ module _ {w : Watched} {rs : List Registered} (noted : AreNoted w rs) where
       ∙ take-append-le w.noted raw (map registration_of more) (omega (arith, same, noted.within)) in
       record {
         within = let long = length-append rs more in omega (arith, long, noted.within);
-        places = λ x. noted.places x ∙ ap (places_from x 0) (sym front);
+        places = λ x. subst (λ ts. AreThinned (rs ++ more) (places_from x 0 ts) (places_at w x)) (sym front)
+            (thinned-left (noted.places x) (λ i in_it is. ap is_some (sym (there-append rs more i (inside x i in_it))) ∙ is));
         above = λ x off. ap (list_any (is_above x)) front ∙ noted.above x off;
         found = λ removal i t below e is. noted.found removal i t below (sym (there-append rs more i (omega (arith, below, noted.within))) ∙ e) is;
       }
 
   -- some have gone
-  pub noted-left : (o : Owned) (ss : List Registered) → map registration_of ss ≡ raw
-      → ((i : ℕ) (t : Registration ℕ) → there_in ss i ≡ Some t → there_in rs i ≡ Some t)
-      → ((removal : Removal) (i : ℕ) → is_in eqb i (among w.owned removal) ≡ true → is_some (there_in ss i) ≡ true → is_in eqb i (among o removal) ≡ true)
-      → AreNoted (record w { owned = o }) ss
-  noted-left o ss same fewer stay = record {
+  pub noted-left : (ss : List Registered) → map registration_of ss ≡ raw
+      → ((i : ℕ) (t : Registration ℕ) → there_in ss i ≡ Some t → there_in rs i ≡ Some t) → AreNoted w ss
+  noted-left ss same fewer = record {
     within =
         let long = length-map rs registration_of in
         let short = length-map ss registration_of in
         let even = ap (length {A = Registration ℕ}) same in
         omega (arith, noted.within, long, short, even);
-    places = λ x. noted.places x ∙ ap (λ ts. places_from x 0 (take w.noted ts)) (sym same);
+    places = λ x. subst (λ ts. AreThinned ss (places_from x 0 (take w.noted ts)) (places_at w x)) (sym same)
+        (thinned-left (noted.places x) (λ i in_it is. let t = was_some (there_in ss i) is in ap is_some (fewer i t.0 t.1)));
     above = λ x off. ap (λ ts. list_any (is_above x) (take w.noted ts)) same ∙ noted.above x off;
-    found = λ removal i t below e is. stay removal i (noted.found removal i t below (fewer i t e) is) (ap is_some e);
+    found = λ removal i t below e is. noted.found removal i t below (fewer i t e) is;
+  }
+
+  -- places of some that have gone were dropped
+  pub noted-thinned : {v : Watched} → ((x : ℕ) → AreThinned rs (places_at w x) (places_at v x))
+      → ((removal : Removal) → AreThinned rs (among w.owned removal) (among v.owned removal)) → v.above.keys ≡ w.above.keys → v.noted ≡ w.noted → AreNoted v rs
+  noted-thinned {v = v} places owned above same = record {
+    within = omega (arith, same, noted.within);
+    places = λ x. thinned-again (subst (λ n. AreThinned rs (places_from x 0 (take n raw)) (places_at w x)) (sym same) (noted.places x)) (places x);
+    above = λ x off.
+        ap (λ n. list_any (is_above x) (take n raw)) same ∙ noted.above x (ap (is_in eqb x) (sym above) ∙ off);
+    found = λ removal i t below e is.
+        thinned-stays (owned removal) i (noted.found removal i t (omega (arith, below, same)) e is) (ap is_some e);
   }
 
   -- ---- where all are noted
@@ -276,7 +294,7 @@ module _ {w : Watched} {rs : List Registered} (noted : AreNoted w rs) where
 
     -- those found by a node's places are those on the node
     pub picked-on : (x : ℕ) → picked rs (places_at w x) ≡ filter (λ r. eqb r.node x) (those_there rs)
-    picked-on x = ap (picked rs) (noted.places x ∙ ap (places_from x 0) whole) ∙ picked-behind x [] rs
+    picked-on x = picked-thinned (noted.places x) ∙ (ap (λ ts. picked rs (places_from x 0 ts)) whole ∙ picked-behind x [] rs)
 
     -- all that go are found
     pub found-all : (removal : Removal) (i : ℕ) (t : Registration ℕ) → there_in rs i ≡ Some t → goes removal t ≡ true →

@@ -1,9 +1,9 @@
 //! Whose the registrations are, and which are transient.
-ghost use Rattle.std.specs.Prelude.{◌≡◌, ℕ, nat_eq, true, is_some, OnOk};
+ghost use Rattle.std.specs.Prelude.{◌≡◌, ℕ, nat_eq, true, OnOk};
 ghost use Rattle.dom_model.specs.Names.{is_in};
-ghost use Rattle.dom_observers.specs.Views.{registration_of, there_in};
+ghost use Rattle.dom_observers.specs.Views.{registration_of};
 ghost use Rattle.dom_observers.specs.Removals.{goes};
-ghost use Rattle.dom_observers.specs.Watching.{among};
+ghost use Rattle.dom_observers.specs.Watching.{among, AreThinned};
 
 use crate::places::{Places, put};
 use crate::registered::Registered;
@@ -24,7 +24,10 @@ impl Owned {
     pub(crate) fn new(alloc: Global) -> Self {
         Owned {
             observers: IndexMap::new(alloc),
-            transients: Places::More(Vec::new(alloc)),
+            transients: Places::More {
+                list: Vec::new(alloc),
+                gone: 0,
+            },
             alloc,
         }
     }
@@ -58,8 +61,7 @@ impl Owned {
 
     /// Drops places of registrations that have gone, of those among which a removal finds its own.
     pub(crate) fn drop_gone(&mut self, registrations: &[Registered], removal: &Removal)
-        ensures { (r : Removal) (i : ℕ) → is_in nat_eq i (among self.old r) ≡ true → is_some (there_in registrations.now i) ≡ true
-            → is_in nat_eq i (among self.new r) ≡ true }
+        ensures { (r : Removal) → AreThinned registrations.now (among self.old r) (among self.new r) }
     {
         match removal {
             Removal::Of(observer) => {

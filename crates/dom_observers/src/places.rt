@@ -1,20 +1,18 @@
 //! Where a node's or an observer's registrations stand in a list.
-ghost use Rattle.std.specs.Prelude.{◌≡◌, ℕ, ◌++◌, ◌∷◌, [], nat_eq, true, is_some, OnOk, OnErr, if◌then◌else◌};
+ghost use Rattle.std.specs.Prelude.{◌≡◌, ℕ, ◌++◌, ◌∷◌, [], nat_eq, OnOk, OnErr, if◌then◌else◌};
 ghost use Rattle.indexmap.specs.IndexMap.{get};
-ghost use Rattle.dom_model.specs.Names.{is_in};
-ghost use Rattle.dom_observers.specs.Views.{there_in};
-ghost use Rattle.dom_observers.specs.Watching.{places_in, places_or};
+ghost use Rattle.dom_observers.specs.Watching.{places_in, places_or, AreThinned};
 
 use crate::registered::{Registered, is_there};
 use indexmap::IndexMap;
 use std::alloc::{AllocError, Global};
 use std::slice;
 
-/// The places of some registrations in a list, in order. One alone takes no memory.
+/// The places of some registrations in a list, in order, and how many of them were said to have gone. One place takes no memory.
 #[derive(Drop)]
 pub enum Places {
     One(usize),
-    More(Vec<usize>),
+    More { list: Vec<usize>, gone: usize },
 }
 
 impl Places {
@@ -24,7 +22,7 @@ impl Places {
     {
         match self {
             Places::One(place) => slice::from_ref(place),
-            Places::More(list) => list.as_slice(),
+            Places::More { list, .. } => list.as_slice(),
         }
     }
 
@@ -34,24 +32,41 @@ impl Places {
         ensures err { OnErr result (places_in self.new ≡ places_in self.old) }
     {
         let both = match self {
-            Places::More(list) => {
+            Places::More { list, .. } => {
                 list.push(place)?;
                 return Ok(());
             }
             Places::One(first) => Vec::from_slice(alloc, &[*first, place])?,
         };
-        *self = Places::More(both);
+        *self = Places::More {
+            list: both,
+            gone: 0,
+        };
         Ok(())
     }
 
     /// Drops the places of a list's registrations that have gone. One alone may stay.
     pub(crate) fn drop_gone(&mut self, registrations: &[Registered])
-        ensures { (i : ℕ) → is_in nat_eq i (places_in self.old) ≡ true → is_some (there_in registrations.now i) ≡ true
-            → is_in nat_eq i (places_in self.new) ≡ true }
+        ensures { AreThinned registrations.now (places_in self.old) (places_in self.new) }
     {
-        if let Places::More(list) = self {
+        if let Places::More { list, gone } = self {
             list.retain(|place| is_there(registrations, *place));
+            *gone = 0;
         }
+    }
+
+    /// Counts one more of a list's registrations here as gone. Where that is half of them, the places of those that have gone are
+    /// dropped, so that two places are looked at for each that goes.
+    fn count_gone(&mut self, registrations: &[Registered])
+        ensures { AreThinned registrations.now (places_in self.old) (places_in self.new) }
+    {
+        if let Places::More { list, gone } = self {
+            if *gone < list.len() / 2 {
+                *gone += 1;
+                return;
+            }
+        }
+        self.drop_gone(registrations);
     }
 }
 
@@ -73,4 +88,17 @@ pub(crate) fn put(
         }
     }
     Ok(())
+}
+
+/// Counts one more of the registrations of a node with a number as gone, if places of some are listed.
+pub(crate) fn count_gone(
+    lists: &mut IndexMap<usize, Places>,
+    registrations: &[Registered],
+    number: usize,
+)
+    ensures { (x : ℕ) → AreThinned registrations.now (places_or (get nat_eq lists.old x)) (places_or (get nat_eq lists.new x)) }
+{
+    if let Some(places) = lists.get_mut(&number) {
+        places.count_gone(registrations);
+    }
 }

@@ -149,10 +149,10 @@ impl Registrations {
             self.close_up(removal);
             return;
         }
-        let places = self.watched.owned.among(removal);
+        let places = self.watched.among(removal);
         let went = removal.take_in(&mut self.list, places);
         self.gone += went;
-        self.watched.owned.drop_gone(self.list.as_slice(), removal);
+        self.watched.drop_gone(self.list.as_slice(), removal);
         if self.gone > MANY && self.gone > self.list.len() / 2 {
             self.close_up(removal);
         }

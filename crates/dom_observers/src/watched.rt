@@ -1,29 +1,32 @@
 //! The nodes that observers watch.
 ghost use Rattle.std.specs.Prelude.{◌≡◌, ℕ, ◌≤◌, ◌++◌, ◌∷◌, [], List, nat_eq, length, true, false, IfOk, OnOk, OnErr, if◌then◌else◌};
 ghost use Rattle.std.specs.List.{list_any};
+ghost use Rattle.indexmap.specs.IndexMap.{get};
 ghost use Rattle.dom_model.specs.Names.{is_in, append_once};
 ghost use Rattle.dom_model.specs.Observers.{is_asked_for};
 ghost use Rattle.dom_observers.specs.Paths.{path_keys};
 ghost use Rattle.dom_observers.specs.Taking.{picked};
 ghost use Rattle.dom_observers.specs.Views.{those_there};
-ghost use Rattle.dom_observers.specs.Watching.{places_at, AreNoted, IsPlaceOf};
+ghost use Rattle.dom_observers.specs.Watching.{places_or, places_at, among, AreThinned, AreNoted, IsPlaceOf};
 ghost use Rattle.dom_tree.specs.Forest.{IsNode};
 
 use crate::owned::Owned;
-use crate::places::{Places, put};
+use crate::places::{Places, count_gone, put};
 use crate::registered::{Registered, there_at};
+use crate::removal::Removal;
 use dom_tree::Forest;
 use indexmap::{IndexMap, IndexSet};
 use node_arena::Key;
 use std::alloc::{AllocError, Global};
 
-/// For each node the places of its registrations in an owner's list, of as many from the first on as are noted, those that have gone
-/// too; nodes among which are all that have a noted one that observes what is below them; and whose the noted ones are (own rule).
+/// For each node the places of its registrations in an owner's list, of as many from the first on as are noted, among which some of
+/// those that have gone may still be; nodes among which are all that have a noted one that observes what is below them; and whose the
+/// noted ones are (own rule).
 #[derive(Drop)]
 pub struct Watched {
     places: IndexMap<usize, Places>,
     above: IndexSet<Key>,
-    pub(crate) owned: Owned,
+    owned: Owned,
     noted: usize,
     alloc: Global,
 }
@@ -104,6 +107,22 @@ impl Watched {
         }
     }
 
+    /// The noted places among which are those of the registrations that go.
+    pub(crate) fn among(&self, removal: &Removal) -> &[usize]
+        ensures { result.now ≡ among self.now.owned removal.now }
+    {
+        self.owned.among(removal)
+    }
+
+    /// Drops the places of registrations that have gone, of those among which a removal finds its own; and of the nodes of these,
+    /// where they are many.
+    pub(crate) fn drop_gone(&mut self, registrations: &[Registered], removal: &Removal)
+        ensures { AreNoted self.old registrations.now → AreNoted self.new registrations.now }
+    {
+        count_gone_in(&mut self.places, registrations, self.owned.among(removal));
+        self.owned.drop_gone(registrations, removal);
+    }
+
     /// Whether a node is among those with registrations that observe what is below.
     fn has_above(&self, node: Key) -> bool
         ensures { result ≡ is_in nat_eq node self.now.above.keys }
@@ -126,6 +145,23 @@ impl Watched {
             at = forest.parent(node);
         }
         false
+    }
+}
+
+/// Counts the registrations in some places that have gone, each at its node, and drops places of such ones at nodes where they are many.
+fn count_gone_in(
+    lists: &mut IndexMap<usize, Places>,
+    registrations: &[Registered],
+    places: &[usize],
+)
+    ensures { (x : ℕ) → AreThinned registrations.now (places_or (get nat_eq lists.old x)) (places_or (get nat_eq lists.new x)) }
+{
+    for place in places {
+        if let Some(registered) = registrations.get(*place) {
+            if registered.has_gone {
+                count_gone(lists, registrations, registered.node.index());
+            }
+        }
     }
 }
 
