@@ -8,7 +8,7 @@ use indexmap::IndexMap;
 use std::alloc::{AllocError, Global};
 use std::slice;
 
-/// The places of some registrations in a list, in order, and how many of them were said to have gone. One place takes no memory.
+/// The places of some registrations in a list, in order, and how many of them are counted as gone. One place takes no memory.
 #[derive(Drop)]
 pub enum Places {
     One(usize),
@@ -55,8 +55,8 @@ impl Places {
         }
     }
 
-    /// Counts one more of a list's registrations here as gone. Where that is half of them, the places of those that have gone are
-    /// dropped, so that two places are looked at for each that goes.
+    /// Counts one more of a list's registrations here as gone. Where half of them are counted so already, the places of those that
+    /// have gone are dropped. So at most two places are looked at for each that goes.
     fn count_gone(&mut self, registrations: &[Registered])
         ensures { AreThinned registrations.now (places_in self.old) (places_in self.new) }
     {
@@ -90,7 +90,7 @@ pub(crate) fn put(
     Ok(())
 }
 
-/// Counts one more of the registrations of a node with a number as gone, if places of some are listed.
+/// Counts one more of the registrations on a node with a number as gone, if it has places.
 pub(crate) fn count_gone(
     lists: &mut IndexMap<usize, Places>,
     registrations: &[Registered],

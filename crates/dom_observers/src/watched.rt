@@ -114,8 +114,8 @@ impl Watched {
         self.owned.among(removal)
     }
 
-    /// Drops the places of registrations that have gone, of those among which a removal finds its own; and of the nodes of these,
-    /// where they are many.
+    /// Drops places of registrations that have gone: of those among which a removal finds its own, and of the nodes on which these
+    /// were, where half of a node's have gone.
     pub(crate) fn drop_gone(&mut self, registrations: &[Registered], removal: &Removal)
         ensures { AreNoted self.old registrations.now → AreNoted self.new registrations.now }
     {
@@ -148,7 +148,7 @@ impl Watched {
     }
 }
 
-/// Counts the registrations in some places that have gone, each at its node, and drops places of such ones at nodes where they are many.
+/// Counts the registrations in some places that have gone, each at its node, which drops the places of its own where these are many.
 fn count_gone_in(
     lists: &mut IndexMap<usize, Places>,
     registrations: &[Registered],
