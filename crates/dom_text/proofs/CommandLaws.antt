@@ -101,13 +101,18 @@ at_kind k behind bytes s found =
     rw (s.4) (kind_reads.complete s.0 s.1 k (s.2, ap (named kind_word new_kinds) s.2 ∙ found) (Spells-ends behind s.1 s.3)) in
     ap (λ (x : Option (Kind × List ℕ)). x >>= λ kind. new_of kind.0 kind.1) read
 
+-- a keyword that one node stands behind: its name, and the command that the two make
+record TakesNode (k : Keyword) (makes : NodeWord → Command) (name : List ℕ) (o : Owner) : Type 0 where
+  found : keyword_of name ≡ Some k
+  behind : (bytes : List ℕ) → command_behind k o bytes ≡ one (node_at o) makes bytes
+
 -- a line with a keyword and a node in front is read to its end
-node_complete : {k : Keyword} (makes : NodeWord → Command) (name : List ℕ) (o : Owner) (n : NodeWord) (said : List ℕ) → keyword_of name ≡ Some k →
-    ((bytes : List ℕ) → command_behind k o bytes ≡ one (node_at o) makes bytes) → Spells (key name ∷ node o n ∷ []) said → command_at o said ≡ Some (makes n)
-node_complete {k} makes name o n said found is s =
+node_complete : {k : Keyword} {makes : NodeWord → Command} {name : List ℕ} (o : Owner) (n : NodeWord) (said : List ℕ) → TakesNode k makes name o →
+    Spells (key name ∷ node o n ∷ []) said → command_at o said ≡ Some (makes n)
+node_complete {k} {makes} {name} o n said takes s =
     let spelled : Spells (key (keyword_word k) ∷ node o n ∷ []) said =
-    subst (λ w. Spells (key w ∷ node o n ∷ []) said) (keyword_says.sound name k found) s in
-    at k o (node o n ∷ []) said spelled ∙ is spelled.1 ∙ (a_node o makes).complete spelled.1 (n, tt) spelled.3
+    subst (λ w. Spells (key w ∷ node o n ∷ []) said) (keyword_says.sound name k takes.found) s in
+    at k o (node o n ∷ []) said spelled ∙ takes.behind spelled.1 ∙ (a_node o makes).complete spelled.1 (n, tt) spelled.3
 
 pub command_complete : (o : Owner) (c : Command) (said : List ℕ) → MayUse c o → Spells (parts o c) said → command_at o said ≡ Some c
 unfolding keyword_of
@@ -185,4 +190,4 @@ command_complete o (unlisten n event l capture) said u s =
 command_complete o (dispatch n e r) said u s = at keyword.Dispatch o (others o (dispatch n e r)) said s ∙ dispatch_complete o n e r s.1 s.3
 command_complete o (observe k n w) said u s = at keyword.Observe o (others o (observe k n w)) said s ∙ observe_complete o k n w s.1 s.3
 -- a keyword and a node
-command_complete o c said u s = node_complete _ _ o _ said refl (λ bytes. refl) s
+command_complete o c said u s = node_complete o _ said (record { found = refl; behind = λ bytes. refl }) s

@@ -128,8 +128,8 @@ same_commands {p} {said'} {c} same e f =
     cc
 
 -- A line has at most one owner and at most one command.
-pub one_command : (line : List ℕ) (o p : Owner) (c d : Command) → IsLine line o c → IsLine line p d → command o c ≡ command p d
-one_command line o p c d h k =
+pub one_command : (line : List ℕ) (o p : Owner) {c d : Command} → IsLine line o c → IsLine line p d → command o c ≡ command p d
+one_command line o p {c} {d} h k =
     let at = line_at line o c h in
     let at' = line_at line p d k in
     same_commands (some_pair_parts o p at.0 at'.0 (sym at.1 ∙ at'.1)) at.2 at'.2
@@ -147,7 +147,7 @@ says_one line (command o c) no_owner h k = absurd (k o (line_belongs line o c h)
 says_one line (command o c) (no_command p) h k =
     let same = belongs_one line o p (line_belongs line o c h) k.0 in
     absurd (k.1 c (subst (λ (x : Owner). IsLine line x c) same h))
-says_one line (command o c) (command p d) h k = one_command line o p c d h k
+says_one line (command o c) (command p d) h k = one_command line o p h k
 
 -- What the line says is what is computed of it.
 pub says_decode : (line : List ℕ) (l : Line) → Says line l → l ≡ decode line
@@ -178,18 +178,18 @@ take_belongs n line o h =
     (h.0, h.1 ++ drop n line, h.2, sym (take-append-drop n line) ∙ ap (λ (x : List ℕ). x ++ drop n line) h.3 ∙ append_assoc h.0 (32 ∷ h.1) (drop n line))
 
 -- what a line that is too long says, its front says too
-says_take : (n : ℕ) (line : List ℕ) (l : Line) → max_line < n → n ≤ length line → 82 ≤ n → Says line l → Says (take n line) l
-says_take n line no_owner long fits m h = λ o k. h o (take_belongs n line o k)
-says_take n line (no_command o) long fits m h = (belongs_take n line o m h.0, λ c k. let short = k.fits in absurd (omega (arith, length-take n line)))
-says_take n line (command o c) long fits m h = absurd (let short = h.fits in omega arith)
+says_take : (n : ℕ) (line : List ℕ) (l : Line) → max_line < n → n ≤ length line → Says line l → Says (take n line) l
+says_take n line no_owner long fits h = λ o k. h o (take_belongs n line o k)
+says_take n line (no_command o) long fits h = (belongs_take n line o (omega (arith, long)) h.0, λ c k. let short = k.fits in absurd (omega (arith, length-take n line)))
+says_take n line (command o c) long fits h = absurd (let short = h.fits in omega arith)
 
 -- What is kept of a line says what the line says.
 pub decode-kept : (line : List ℕ) → decode (kept_line line) ≡ decode line
 unfolding kept_line
-decode-kept line = kept (max_line + 1) line (omega arith) (omega arith)
+decode-kept line = kept (max_line + 1) line (omega arith)
   where
-    kept : (n : ℕ) (bytes : List ℕ) → max_line < n → 82 ≤ n → decode (take n bytes) ≡ decode bytes
-    kept n bytes long m = elim (cases_lt (length bytes) n) [
+    kept : (n : ℕ) (bytes : List ℕ) → max_line < n → decode (take n bytes) ≡ decode bytes
+    kept n bytes long = elim (cases_lt (length bytes) n) [
       | inl lt ↦ ap decode (take_all n bytes (omega arith))
-      | inr le ↦ sym (says_decode (take n bytes) (decode bytes) (says_take n bytes (decode bytes) long le m (decode_says bytes)))
+      | inr le ↦ sym (says_decode (take n bytes) (decode bytes) (says_take n bytes (decode bytes) long le (decode_says bytes)))
     ]

@@ -160,19 +160,22 @@ pub descendants_covered : (d : NodeName) (done : List NodeName) (ts : Trees) (x 
     inclusive_descendants (covered d done ts) x ≡ inclusive_descendants ts x
 descendants_covered d done ts x = descendants_mapped (λ n. cond (is_in name_eq n.name done) (with_document d n) n) (covered_keeps d done) ts x
 
--- what stands in a tree has the tree's root above it
-pub above_inside : (ts : Trees) → IsOnce ts → (x y : NodeName) → is_in name_eq y (inclusive_descendants ts x) ≡ true → is_inclusive_ancestor ts x y ≡ true
-above_inside ts once x y h = elim (cases_Bool (is_inclusive_ancestor ts x y)) [
-  | inl e ↦ e
-  | inr e ↦
-      let gone = path_gone (subtree ts x) y (path_below_none ts once x y (lacks_from x (inclusive_ancestors ts y) e)) in
-      absurd (true≢false (sym h ∙ lacks_to y (inclusive_descendants ts x) (names_lack (subtree ts x) y gone)))
-]
+-- Of trees in which each name stands once.
+module _ (ts : Trees) (once : IsOnce ts) where
+  -- what stands in a tree has the tree's root above it
+  pub above_inside : (x y : NodeName) → is_in name_eq y (inclusive_descendants ts x) ≡ true → is_inclusive_ancestor ts x y ≡ true
+  above_inside x y h = elim (cases_Bool (is_inclusive_ancestor ts x y)) [
+    | inl e ↦ e
+    | inr e ↦
+        let gone = path_gone (subtree ts x) y (path_below_none ts once x y (lacks_from x (inclusive_ancestors ts y) e)) in
+        absurd (true≢false (sym h ∙ lacks_to y (inclusive_descendants ts x) (names_lack (subtree ts x) y gone)))
+  ]
 
-pub above_covered : (d : NodeName) (done : List NodeName) (ts : Trees) → IsOnce ts → (x y : NodeName) →
-    is_in name_eq y (inclusive_descendants ts x) ≡ true → is_inclusive_ancestor (covered d done ts) x y ≡ true
-above_covered d done ts once x y h = ap (is_in name_eq x)
-    (path_mapped (λ n. cond (is_in name_eq n.name done) (with_document d n) n) (covered_keeps d done) ts y) ∙ above_inside ts once x y h
+  -- also where the documents of some are set
+  pub above_covered : (d : NodeName) (done : List NodeName) (x y : NodeName) → is_in name_eq y (inclusive_descendants ts x) ≡ true →
+      is_inclusive_ancestor (covered d done ts) x y ≡ true
+  above_covered d done x y h = ap (is_in name_eq x)
+      (path_mapped (λ n. cond (is_in name_eq n.name done) (with_document d n) n) (covered_keeps d done) ts y) ∙ above_inside x y h
 
 -- a node that is there is the first in its tree
 pub first_inside : (ts : Trees) (x : NodeName) → 1 ≤ times_in ts x → (xs : List NodeName) × (inclusive_descendants ts x ≡ x ∷ xs)
@@ -250,7 +253,7 @@ sets_above names d top was now new once k sets changed =
     let y = name_at names k in
     ap (λ t. is_inclusive_ancestor t top y)
     (changed ∙ ap (change_node (under_document (Some d)) y) sets.trees ∙ covered_more d y (items_before name_eq y xs) was)
-    ∙ above_covered d (items_before name_eq y xs ++ y ∷ []) was once top y sets.stands
+    ∙ above_covered was once d (items_before name_eq y xs ++ y ∷ []) top y sets.stands
 
 -- such a step, told by a forest before and after it
 pub record SetsOneIn (g h : NamedTrees) (top d k : ℕ) (next : Option ℕ) : Type 0 where

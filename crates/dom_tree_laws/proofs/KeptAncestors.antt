@@ -54,22 +54,6 @@ above_added n ts a y other h = ap (is_in name_eq a) (above-put_others n.name n n
 
 -- ---- a tree placed
 
--- a tree among others: above a node of its own
-above-put_before : (before : Option NodeName) (m : Node) (d ts : Trees) (y : NodeName) → Has (tree m d none) y → (Has ts y → ⊥)
-    → inclusive_ancestors (put_before before (tree m d none) ts) y ≡ inclusive_ancestors (tree m d none) y
-above-put_before before m d none y h off = refl
-above-put_before before m d (tree n c r) y h off = elim (cases_Bool (is_given before n.name)) [
-  | inl e ↦ rw e (above-in_first m d (tree n c r) y h)
-  | inr e ↦ rw e (later (name_eq-other n.name y (λ same. off (inl same))) (above-absent c y (λ i. off (inr (inl i)))) ∙
-      above-put_before before m d r y h (λ i. off (inr (inr i))))
-]
-  where
-    later : name_eq n.name y ≡ false → inclusive_ancestors c y ≡ [] →
-        inclusive_ancestors (tree n c (put_before before (tree m d none) r)) y ≡ inclusive_ancestors (put_before before (tree m d none) r) y
-    later no_n empty =
-        ap (λ b. cond b (y ∷ []) (on_top (inclusive_ancestors c y) n.name (inclusive_ancestors (put_before before (tree m d none) r) y))) no_n
-        ∙ ap (λ path. on_top path n.name (inclusive_ancestors (put_before before (tree m d none) r) y)) empty
-
 -- above a node of the others
 above-put_before_others : (before : Option NodeName) (m : Node) (d ts : Trees) (y : NodeName) → (Has (tree m d none) y → ⊥) →
     inclusive_ancestors (put_before before (tree m d none) ts) y ≡ inclusive_ancestors ts y
@@ -93,40 +77,63 @@ In-on_top : (a top : NodeName) (path others : List NodeName) → In a path → I
 In-on_top a top [] others h = absurd h
 In-on_top a top (p ∷ path) others h = In-left a (p ∷ path) (top ∷ []) h
 
--- what is above a node of a tree is above it where that tree was put
-above-put_below : (parent : NodeName) (before : Option NodeName) (m : Node) (d ts : Trees) (a y : NodeName) → Once ts → Has ts parent →
-    Has (tree m d none) y → (Has ts y → ⊥)
-    → In a (inclusive_ancestors (tree m d none) y) → In a (inclusive_ancestors (put_below parent before (tree m d none) ts) y)
-above-put_below parent before m d none a y once at h off i = absurd at
-above-put_below parent before m d (tree n c r) a y once at h off i = elim (same_or_not n.name parent) [
-  | inl e ↦ here e
-  | inr other ↦ rw (name_eq-other n.name parent other) (rw (name_eq-other n.name y (λ same. off (inl same))) (elim at [
-    | inl e ↦ absurd (other e)
-    | inr g ↦ elim g [
-      | inl in_c ↦ In-on_top a n.name (inclusive_ancestors (put_below parent before (tree m d none) c) y) _
-          (above-put_below parent before m d c a y once.3 in_c h (λ j. off (inr (inl j))) i)
-      | inr in_r ↦ beside (put_below-absent parent before (tree m d none) c (λ j. once.2 parent j in_r))
-          (above-put_below parent before m d r a y once.4 in_r h (λ j. off (inr (inr j))) i)
-    ]
-  ]))
-]
-  where
-    here : n.name ≡ parent → In a (inclusive_ancestors (put_below parent before (tree m d none) (tree n c r)) y)
-    here e =
-        let same : put_below parent before (tree m d none) c ≡ c = put_below-absent parent before (tree m d none) c (λ j. once.0 (subst (Has c) (sym e) j)) in
-        let own : inclusive_ancestors (put_before before (tree m d none) (put_below parent before (tree m d none) c)) y ≡ inclusive_ancestors
-        (tree m d none) y =
-        ap (λ us. inclusive_ancestors (put_before before (tree m d none) us) y) same ∙ above-put_before before m d c y h (λ j. off (inr (inl j))) in
-        rw (name_eq-from n.name parent e)
-        (rw (name_eq-other n.name y (λ same. off (inl same)))
-        (In-on_top a n.name (inclusive_ancestors (put_before before (tree m d none) (put_below parent before (tree m d none) c)) y) _
-        (subst (In a) (sym own) i)))
+-- trees in which each name stands once, a parent among them, and y not
+record Hosts (ts : Trees) (parent y : NodeName) : Type 0 where
+  once : Once ts
+  parent_there : Has ts parent
+  gone : Has ts y → ⊥
 
-    beside : put_below parent before (tree m d none) c ≡ c → In a (inclusive_ancestors (put_below parent before (tree m d none) r) y)
-        → In a (on_top (inclusive_ancestors (put_below parent before (tree m d none) c) y) n.name
-        (inclusive_ancestors (put_below parent before (tree m d none) r) y))
-    beside same j = subst (λ path. In a (on_top path n.name (inclusive_ancestors (put_below parent before (tree m d none) r) y)))
-        (sym (ap (λ us. inclusive_ancestors us y) same ∙ above-absent c y (λ k. off (inr (inl k))))) j
+-- A tree that is put among others, and a node y in it.
+module _ (before : Option NodeName) (m : Node) (d : Trees) (y : NodeName) (h : Has (tree m d none) y) where
+  -- a tree among others: above a node of its own
+  above-put_before : (ts : Trees) → (Has ts y → ⊥) →
+      inclusive_ancestors (put_before before (tree m d none) ts) y ≡ inclusive_ancestors (tree m d none) y
+  above-put_before none off = refl
+  above-put_before (tree n c r) off = elim (cases_Bool (is_given before n.name)) [
+    | inl e ↦ rw e (above-in_first m d (tree n c r) y h)
+    | inr e ↦ rw e (later (name_eq-other n.name y (λ same. off (inl same))) (above-absent c y (λ i. off (inr (inl i)))) ∙
+        above-put_before r (λ i. off (inr (inr i))))
+  ]
+    where
+      later : name_eq n.name y ≡ false → inclusive_ancestors c y ≡ [] →
+          inclusive_ancestors (tree n c (put_before before (tree m d none) r)) y ≡ inclusive_ancestors (put_before before (tree m d none) r) y
+      later no_n empty =
+          ap (λ b. cond b (y ∷ []) (on_top (inclusive_ancestors c y) n.name (inclusive_ancestors (put_before before (tree m d none) r) y))) no_n
+          ∙ ap (λ path. on_top path n.name (inclusive_ancestors (put_before before (tree m d none) r) y)) empty
+
+  -- what is above a node of a tree is above it where that tree was put
+  above-put_below : (parent : NodeName) (ts : Trees) (a : NodeName) → Hosts ts parent y →
+      In a (inclusive_ancestors (tree m d none) y) → In a (inclusive_ancestors (put_below parent before (tree m d none) ts) y)
+  above-put_below parent none a o i = absurd o.parent_there
+  above-put_below parent (tree n c r) a o i = elim (same_or_not n.name parent) [
+    | inl e ↦ here e
+    | inr other ↦ rw (name_eq-other n.name parent other) (rw (name_eq-other n.name y (λ same. o.gone (inl same))) (elim o.parent_there [
+      | inl e ↦ absurd (other e)
+      | inr g ↦ elim g [
+        | inl in_c ↦ In-on_top a n.name (inclusive_ancestors (put_below parent before (tree m d none) c) y) _
+            (above-put_below parent c a (record { once = o.once.3; parent_there = in_c; gone = λ j. o.gone (inr (inl j)) }) i)
+        | inr in_r ↦ beside (put_below-absent parent before (tree m d none) c (λ j. o.once.2 parent j in_r))
+            (above-put_below parent r a (record { once = o.once.4; parent_there = in_r; gone = λ j. o.gone (inr (inr j)) }) i)
+      ]
+    ]))
+  ]
+    where
+      here : n.name ≡ parent → In a (inclusive_ancestors (put_below parent before (tree m d none) (tree n c r)) y)
+      here e =
+          let same : put_below parent before (tree m d none) c ≡ c = put_below-absent parent before (tree m d none) c (λ j. o.once.0 (subst (Has c) (sym e) j)) in
+          let own : inclusive_ancestors (put_before before (tree m d none) (put_below parent before (tree m d none) c)) y ≡ inclusive_ancestors
+          (tree m d none) y =
+          ap (λ us. inclusive_ancestors (put_before before (tree m d none) us) y) same ∙ above-put_before c (λ j. o.gone (inr (inl j))) in
+          rw (name_eq-from n.name parent e)
+          (rw (name_eq-other n.name y (λ same. o.gone (inl same)))
+          (In-on_top a n.name (inclusive_ancestors (put_before before (tree m d none) (put_below parent before (tree m d none) c)) y) _
+          (subst (In a) (sym own) i)))
+
+      beside : put_below parent before (tree m d none) c ≡ c → In a (inclusive_ancestors (put_below parent before (tree m d none) r) y)
+          → In a (on_top (inclusive_ancestors (put_below parent before (tree m d none) c) y) n.name
+          (inclusive_ancestors (put_below parent before (tree m d none) r) y))
+      beside same j = subst (λ path. In a (on_top path n.name (inclusive_ancestors (put_below parent before (tree m d none) r) y)))
+          (sym (ap (λ us. inclusive_ancestors us y) same ∙ above-absent c y (λ k. o.gone (inr (inl k))))) j
 
 module _ (ts : Trees) (once : Once ts) (x parent : NodeName) (before : Option NodeName) (at_x : Has ts x) (at_parent : Has ts parent)
     (unlinked : parent_of ts x ≡ None) (apart : is_inclusive_ancestor ts x parent ≡ false) where
@@ -162,8 +169,11 @@ module _ (ts : Trees) (once : Once ts) (x parent : NodeName) (before : Option No
           In a (inclusive_ancestors (placed x parent before ts) y)
       by t y_in there =
           subst (λ us. In a (inclusive_ancestors (put_below parent before us (without x ts)) y)) (sym t.2)
-          (above-put_below parent before t.0 t.1 (without x ts) a y (Once-without ts x once) parent_stays (subst (λ (us : Trees). Has us y) t.2 y_in)
-          (λ g. without-apart ts x y once g y_in) (subst (λ (us : Trees). In a (inclusive_ancestors us y)) t.2 there))
+          (above-put_below before t.0 t.1 y (subst (λ (us : Trees). Has us y) t.2 y_in) parent (without x ts) a (record {
+            once = Once-without ts x once;
+            parent_there = parent_stays;
+            gone = λ g. without-apart ts x y once g y_in;
+          }) (subst (λ (us : Trees). In a (inclusive_ancestors us y)) t.2 there))
 
   pub keeps_placed : IsOnce ts → KeepsAbove ts (placed x parent before ts)
   keeps_placed single a y h = elim (cases_Bool (is_inclusive_ancestor ts x y)) [

@@ -17,17 +17,18 @@ pub none_or_some : (n : ℕ) → (n ≡ 0) ⊎ (1 ≤ n)
 none_or_some zero = inl refl
 none_or_some (suc n) = inr (omega arith)
 
--- a node that is not above y is no root of the tree of y
-not_root : {P : Type 0} (n : Node) (c r : Trees) (x y : NodeName) → Lacks x (inclusive_ancestors (tree n c r) y) → name_eq n.name x ≡ true →
-    name_eq n.name y ≡ true → P
-not_root n c r x y lacks g h =
-    apart_not n.name x g (subst (λ (w : NodeName). name_eq w x ≡ false) (sym (name_eq-true n.name y h))
-    (swapped x y (subst (Lacks x) (path_here n c r y h) lacks).0))
+-- A tree in front of others whose root is x, which is not above y.
+module _ (n : Node) (c r : Trees) (x y : NodeName) (lacks : Lacks x (inclusive_ancestors (tree n c r) y)) (g : name_eq n.name x ≡ true) where
+  -- y is not that root
+  not_root : {P : Type 0} → name_eq n.name y ≡ true → P
+  not_root h =
+      apart_not n.name x g (subst (λ (w : NodeName). name_eq w x ≡ false) (sym (name_eq-true n.name y h))
+      (swapped x y (subst (Lacks x) (path_here n c r y h) lacks).0))
 
-not_above : {P : Type 0} (n : Node) (c r : Trees) (x y a : NodeName) (path : List NodeName) → Lacks x (inclusive_ancestors (tree n c r) y) →
-    name_eq n.name x ≡ true → name_eq n.name y ≡ false → inclusive_ancestors c y ≡ a ∷ path → P
-not_above n c r x y a path lacks g h e =
-    apart_not n.name x g (swapped x n.name (lacks_back x (a ∷ path) (n.name ∷ []) (subst (Lacks x) (path_below n c r y a path h e) lacks)).0)
+  -- nor below it
+  not_above : {P : Type 0} (a : NodeName) (path : List NodeName) → name_eq n.name y ≡ false → inclusive_ancestors c y ≡ a ∷ path → P
+  not_above a path h e =
+      apart_not n.name x g (swapped x n.name (lacks_back x (a ∷ path) (n.name ∷ []) (subst (Lacks x) (path_below n c r y a path h e) lacks)).0)
 
 -- A tree in front of others, and three nodes.
 module _ (n : Node) (c r : Trees) (x y z : NodeName) where
@@ -40,7 +41,7 @@ module _ (n : Node) (c r : Trees) (x y z : NodeName) where
     where
       by_path : (path : List NodeName) → inclusive_ancestors c y ≡ path → name_eq n.name y ≡ false → Lacks z (inclusive_ancestors (tree n c r) y)
       by_path [] e h = subst (Lacks z) (sym (path_after n c r y h e)) (path_lacks r y z gone)
-      by_path (a ∷ path) e h = not_above n c r x y a path lacks g h e
+      by_path (a ∷ path) e h = not_above n c r x y lacks g a path h e
 
   -- the node is below the first root, or behind it
   below_other : name_eq n.name z ≡ false → Lacks x (inclusive_ancestors (tree n c r) y) →
@@ -145,15 +146,17 @@ path_put_below parent before new (tree n c r) y e =
 
 -- ---- the steps
 
--- a node leaves its parent: what it is not above stays
-pub path_taken : (ts : Trees) → IsOnce ts → (x y : NodeName) → Lacks x (inclusive_ancestors ts y) →
-    inclusive_ancestors (taken_out x ts) y ≡ inclusive_ancestors ts y
-path_taken ts once x y lacks = path_put_root x (subtree ts x) (without x ts) y (path_below_none ts once x y lacks) ∙ path_without ts x y lacks
+-- Of a node x: what it is not above stays.
+module _ (ts : Trees) (once : IsOnce ts) (x : NodeName) where
+  -- it leaves its parent
+  pub path_taken : (y : NodeName) → Lacks x (inclusive_ancestors ts y) → inclusive_ancestors (taken_out x ts) y ≡ inclusive_ancestors ts y
+  path_taken y lacks = path_put_root x (subtree ts x) (without x ts) y (path_below_none ts once x y lacks) ∙ path_without ts x y lacks
 
-pub path_placed : (ts : Trees) → IsOnce ts → (x parent : NodeName) (before : Option NodeName) (y : NodeName) →
-    Lacks x (inclusive_ancestors ts y) → inclusive_ancestors (placed x parent before ts) y ≡ inclusive_ancestors ts y
-path_placed ts once x parent before y lacks =
-    path_put_below parent before (subtree ts x) (without x ts) y (path_below_none ts once x y lacks) ∙ path_without ts x y lacks
+  -- it is placed
+  pub path_placed : (parent : NodeName) (before : Option NodeName) (y : NodeName) → Lacks x (inclusive_ancestors ts y) →
+      inclusive_ancestors (placed x parent before ts) y ≡ inclusive_ancestors ts y
+  path_placed parent before y lacks =
+      path_put_below parent before (subtree ts x) (without x ts) y (path_below_none ts once x y lacks) ∙ path_without ts x y lacks
 
 -- it has no parent any more
 times_without : (ts : Trees) (x : NodeName) → times_in (without x ts) x ≡ 0

@@ -81,20 +81,22 @@ times_none n c r x e =
 
 -- ---- the inclusive ancestors
 
-pub path_here : (n : Node) (c r : Trees) (x : NodeName) → name_eq n.name x ≡ true → inclusive_ancestors (tree n c r) x ≡ x ∷ []
-path_here n c r x e = cond-true (name_eq n.name x) (x ∷ []) (on_top (inclusive_ancestors c x) n.name (inclusive_ancestors r x)) e
+-- A tree in front of others, and a name.
+module _ (n : Node) (c r : Trees) (x : NodeName) where
+  pub path_here : name_eq n.name x ≡ true → inclusive_ancestors (tree n c r) x ≡ x ∷ []
+  path_here e = cond-true (name_eq n.name x) (x ∷ []) (on_top (inclusive_ancestors c x) n.name (inclusive_ancestors r x)) e
 
-pub path_beside : (n : Node) (c r : Trees) (x : NodeName) → name_eq n.name x ≡ false →
-    inclusive_ancestors (tree n c r) x ≡ on_top (inclusive_ancestors c x) n.name (inclusive_ancestors r x)
-path_beside n c r x e = cond-false (name_eq n.name x) (x ∷ []) (on_top (inclusive_ancestors c x) n.name (inclusive_ancestors r x)) e
+  pub path_beside : name_eq n.name x ≡ false →
+      inclusive_ancestors (tree n c r) x ≡ on_top (inclusive_ancestors c x) n.name (inclusive_ancestors r x)
+  path_beside e = cond-false (name_eq n.name x) (x ∷ []) (on_top (inclusive_ancestors c x) n.name (inclusive_ancestors r x)) e
 
-pub path_after : (n : Node) (c r : Trees) (x : NodeName) → name_eq n.name x ≡ false → inclusive_ancestors c x ≡ [] →
-    inclusive_ancestors (tree n c r) x ≡ inclusive_ancestors r x
-path_after n c r x e none_below = path_beside n c r x e ∙ ap (λ path. on_top path n.name (inclusive_ancestors r x)) none_below
+  pub path_after : name_eq n.name x ≡ false → inclusive_ancestors c x ≡ [] →
+      inclusive_ancestors (tree n c r) x ≡ inclusive_ancestors r x
+  path_after e none_below = path_beside e ∙ ap (λ path. on_top path n.name (inclusive_ancestors r x)) none_below
 
-pub path_below : (n : Node) (c r : Trees) (x a : NodeName) (path : List NodeName) → name_eq n.name x ≡ false →
-    inclusive_ancestors c x ≡ a ∷ path → inclusive_ancestors (tree n c r) x ≡ (a ∷ path) ++ n.name ∷ []
-path_below n c r x a path e is = path_beside n c r x e ∙ ap (λ path. on_top path n.name (inclusive_ancestors r x)) is
+  pub path_below : (a : NodeName) (path : List NodeName) → name_eq n.name x ≡ false →
+      inclusive_ancestors c x ≡ a ∷ path → inclusive_ancestors (tree n c r) x ≡ (a ∷ path) ++ n.name ∷ []
+  path_below a path e is = path_beside e ∙ ap (λ path. on_top path n.name (inclusive_ancestors r x)) is
 
 -- a name that is not there has none
 pub path_none : (ts : Trees) (x : NodeName) → times_in ts x ≡ 0 → inclusive_ancestors ts x ≡ []

@@ -188,15 +188,19 @@ pub first_lacks : (x : NodeName) (xs : List NodeName) → Lacks x xs → (y : No
 first_lacks x [] h y e = cc
 first_lacks x (z ∷ zs) h y e = let same : z ≡ y = cc in subst (λ w. name_eq x w ≡ false) same h.0
 
--- the next sibling of a child is another child
-pub next_child : (ts : Trees) → IsOnce ts → (x p y : NodeName) → parent_of ts x ≡ Some p → next_sibling ts x ≡ Some y →
-    (parent_of ts y ≡ Some p) × (name_eq x y ≡ false)
-next_child ts once x p y up next =
-    let is = ap (λ o. first_of (items_after name_eq x (Rattle.std.specs.Option.option_map_or (children_of ts) o (x ∷ [])))) up in
-    let e : first_of (items_after name_eq x (children_of ts p)) ≡ Some y = sym is ∙ next in (
-      first_all (HasParent ts p) (items_after name_eq x (children_of ts p)) (behind_all (HasParent ts p) x (children_of ts p) (children_parent ts once p)) y e,
-      first_lacks x (items_after name_eq x (children_of ts p)) (behind_others x (children_of ts p) (children_once ts p once)) y e,
-    )
+-- Of trees in which each name stands once.
+module _ (ts : Trees) (once : IsOnce ts) where
+  -- a walk from a child to its next sibling
+  pub next_walked : (x p : NodeName) → parent_of ts x ≡ Some p → next_sibling ts x ≡ first_of (items_after name_eq x (children_of ts p))
+  next_walked x p up = ap (λ o. first_of (items_after name_eq x (Rattle.std.specs.Option.option_map_or (children_of ts) o (x ∷ [])))) up
+
+  -- the next sibling of a child is another child
+  pub next_child : (x p y : NodeName) → parent_of ts x ≡ Some p → next_sibling ts x ≡ Some y → (parent_of ts y ≡ Some p) × (name_eq x y ≡ false)
+  next_child x p y up next =
+      let e : first_of (items_after name_eq x (children_of ts p)) ≡ Some y = sym (next_walked x p up) ∙ next in (
+        first_all (HasParent ts p) (items_after name_eq x (children_of ts p)) (behind_all (HasParent ts p) x (children_of ts p) (children_parent ts once p)) y e,
+        first_lacks x (items_after name_eq x (children_of ts p)) (behind_others x (children_of ts p) (children_once ts p once)) y e,
+      )
 
 -- ---- other contents
 
@@ -205,8 +209,3 @@ pub path_mapped : (f : Node → Node) → ((n : Node) → (f n).name ≡ n.name)
     inclusive_ancestors (map_nodes f ts) x ≡ inclusive_ancestors ts x
 path_mapped f keeps none x = refl
 path_mapped f keeps (tree n c r) x = rw (keeps n, path_mapped f keeps c x, path_mapped f keeps r x) refl
-
--- a walk from a child to its next sibling
-pub next_walked : (ts : Trees) → IsOnce ts → (x p : NodeName) → parent_of ts x ≡ Some p →
-    next_sibling ts x ≡ first_of (items_after name_eq x (children_of ts p))
-next_walked ts once x p up = ap (λ o. first_of (items_after name_eq x (Rattle.std.specs.Option.option_map_or (children_of ts) o (x ∷ [])))) up

@@ -23,4 +23,4 @@ loop-i-preserved c =
     ]
 
 pub returns : goal.returns
-returns c = at_no_byte c.loop-i.units.items c.args.bytes.now (place_view c.loop-i.place) c.loop-i.i _ c.loop-i-test.false c.loop-i.invariant.0
+returns c = at_no_byte c.loop-i.units.items c.args.bytes.now (place_view c.loop-i.place) c.loop-i.i c.loop-i-test.false c.loop-i.invariant.0
