@@ -11,28 +11,29 @@ use Rattle.dom_printer.proofs.KeepLaws.{keeps_front}
 abbrev pub Puts : {X E : Type 0} → Result X E → List ℕ → List ℕ → List ℕ → Type 0
 Puts result old text new = record { ok : OnOk result (new ≡ old ++ text); err : OnErr result (Keeps old new) }
 
--- two texts one behind the other
-pub both : (old first mid second new : List ℕ) → mid ≡ old ++ first → new ≡ mid ++ second → new ≡ old ++ (first ++ second)
-both old first mid second new e f = f ∙ ap (λ (x : List ℕ). x ++ second) e ∙ append_assoc old first second
-
--- what keeps more keeps less
-kept : (old first mid new : List ℕ) → mid ≡ old ++ first → Keeps mid new → Keeps old new
-kept old first mid new e h = keeps_front old first new (subst (λ (x : List ℕ). Keeps x new) e h)
-
 -- what is there is kept where nothing changed
 pub same : (old new : List ℕ) → new ≡ old → Keeps old new
 same old new e = ap (take (length old)) e ∙ take_all (length old) old (omega arith)
 
--- a put behind others, whatever comes of it
-pub last_put : {X E : Type 0} (r : Result X E) (old first mid second new : List ℕ) → mid ≡ old ++ first → Puts r mid second new
-    → Puts r old (first ++ second) new
-last_put (Ok x) old first mid second new e put = record { ok = both old first mid second new e put.ok; err = tt }
-last_put (Err x) old first mid second new e put = record { ok = tt; err = kept old first mid new e put.err }
+-- Behind a first text that was put.
+module _ (old first : List ℕ) {mid : List ℕ} (e : mid ≡ old ++ first) where
+  -- a second text
+  pub both : {new : List ℕ} (second : List ℕ) → new ≡ mid ++ second → new ≡ old ++ (first ++ second)
+  both second f = f ∙ ap (λ (x : List ℕ). x ++ second) e ∙ append_assoc old first second
 
--- a put behind others that was refused memory
-pub failed_put : {X E : Type 0} (r : Result X E) (old first mid text new : List ℕ) → IsErr r → mid ≡ old ++ first → Keeps mid new → Puts r old text new
-failed_put (Ok x) old first mid text new h e keeps = absurd cc
-failed_put (Err x) old first mid text new h e keeps = record { ok = tt; err = kept old first mid new e keeps }
+  -- what keeps more keeps less
+  kept : (new : List ℕ) → Keeps mid new → Keeps old new
+  kept new h = keeps_front old first new (subst (λ (x : List ℕ). Keeps x new) e h)
+
+  -- a put, whatever comes of it
+  pub last_put : {X E : Type 0} (r : Result X E) (second new : List ℕ) → Puts r mid second new → Puts r old (first ++ second) new
+  last_put (Ok x) second new put = record { ok = both second put.ok; err = tt }
+  last_put (Err x) second new put = record { ok = tt; err = kept new put.err }
+
+  -- a put that was refused memory
+  pub failed_put : {X E : Type 0} (r : Result X E) (text new : List ℕ) → IsErr r → Keeps mid new → Puts r old text new
+  failed_put (Ok x) text new h keeps = absurd cc
+  failed_put (Err x) text new h keeps = record { ok = tt; err = kept new keeps }
 
 -- a first put that was refused memory
 pub failed : {X E : Type 0} (r : Result X E) (old text new : List ℕ) → IsErr r → Keeps old new → Puts r old text new
@@ -44,11 +45,17 @@ pub bytes_put : {X E : Type 0} (r : Result X E) (old bytes new : List ℕ) → n
 bytes_put (Ok x) old bytes new e = record { ok = e; err = tt }
 bytes_put (Err x) old bytes new e = record { ok = tt; err = same old new e }
 
+-- a round of a loop that puts the text of each of some things: what the buffer has before all rounds, before this one and after it
+pub record PutsNext {X : Type 0} (f : X → List ℕ) (xs : List X) (i : ℕ) (d : X) (old mid new : List ℕ) : Type 0 where
+  pub inside : i < length xs
+  pub so_far : mid ≡ old ++ flat_map f (take i xs)
+  pub put : new ≡ mid ++ f (get_or xs i d)
+
 -- texts of things one behind the other, and one more
-pub one_more : {X : Type 0} (f : X → List ℕ) (xs : List X) (i : ℕ) (d : X) (old mid new : List ℕ) → i < length xs
-    → mid ≡ old ++ flat_map f (take i xs) → new ≡ mid ++ f (get_or xs i d) → new ≡ old ++ flat_map f (take (i + 1) xs)
-one_more {X = X} f xs i d old mid new inside so_far put =
-    put
-    ∙ ap (λ (x : List ℕ). x ++ f (get_or xs i d)) so_far
+pub one_more : {X : Type 0} (f : X → List ℕ) (xs : List X) (i : ℕ) (d : X) (old : List ℕ) {mid new : List ℕ} → PutsNext f xs i d old mid new
+    → new ≡ old ++ flat_map f (take (i + 1) xs)
+one_more {X = X} f xs i d old h =
+    h.put
+    ∙ ap (λ (x : List ℕ). x ++ f (get_or xs i d)) h.so_far
     ∙ flat_map_more f old (take i xs) (get_or xs i d)
-    ∙ ap (λ (ys : List X). old ++ flat_map f ys) (sym (take_more xs i d inside))
+    ∙ ap (λ (ys : List X). old ++ flat_map f ys) (sym (take_more xs i d h.inside))

@@ -11,7 +11,7 @@ returns-in_err-extend_from_slice c =
     let r = c.from_residual in
     let before = c.loop-number.out.items in
     let after = c.extend_from_slice.new.self.items in
-    failed_put r.result _ _ before _ after r.ensures.0 c.loop-number.invariant (same before after c.in_err-extend_from_slice.ensures.items)
+    failed_put _ _ c.loop-number.invariant r.result _ _ r.ensures.0 (same before after c.in_err-extend_from_slice.ensures.items)
 
 pub returns-in_err-put_number : goal.returns-in_err-put_number
 returns-in_err-put_number c =
@@ -19,5 +19,4 @@ returns-in_err-put_number c =
     let before = c.loop-number.out.items in
     let dot : c.extend_from_slice.new.self.items ≡ before ++ codes "." = c.in_ok-extend_from_slice.ensures.items in
     let numbers = flat_map next_number_text (take c.loop-number.number-index c.args.numbers.now) in
-    failed_put r.result _ (numbers ++ codes ".") c.extend_from_slice.new.self.items _ c.put_number.new.out.items r.ensures.0
-    (both _ numbers before (codes ".") _ c.loop-number.invariant dot) c.in_err-put_number.ensures.err
+    failed_put _ (numbers ++ codes ".") (both _ numbers c.loop-number.invariant (codes ".") dot) r.result _ _ r.ensures.0 c.in_err-put_number.ensures.err

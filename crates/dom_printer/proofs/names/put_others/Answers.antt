@@ -11,7 +11,7 @@ returns-in_err-extend_from_slice c =
     let r = c.from_residual in
     let before = c.loop-node.out.items in
     let after = c.extend_from_slice.new.self.items in
-    failed_put r.result _ _ before _ after r.ensures.0 c.loop-node.invariant (same before after c.in_err-extend_from_slice.ensures.items)
+    failed_put _ _ c.loop-node.invariant r.result _ _ r.ensures.0 (same before after c.in_err-extend_from_slice.ensures.items)
 
 pub returns-in_err-put_node : goal.returns-in_err-put_node
 returns-in_err-put_node c =
@@ -19,5 +19,4 @@ returns-in_err-put_node c =
     let before = c.loop-node.out.items in
     let comma : c.extend_from_slice.new.self.items ≡ before ++ codes "," = c.in_ok-extend_from_slice.ensures.items in
     let nodes = flat_map (next_node_text c.args.viewer) (take c.loop-node.node-index c.args.nodes.now) in
-    failed_put r.result _ (nodes ++ codes ",") c.extend_from_slice.new.self.items _ c.put_node.new.out.items r.ensures.0
-    (both _ nodes before (codes ",") _ c.loop-node.invariant comma) c.in_err-put_node.ensures.err
+    failed_put _ (nodes ++ codes ",") (both _ nodes c.loop-node.invariant (codes ",") comma) r.result _ _ r.ensures.0 c.in_err-put_node.ensures.err

@@ -11,7 +11,7 @@ returns-in_err-put_unit c =
     let old = c.args.out.now.items in
     let units = flat_map unit_text (take c.loop-unit.unit-index c.args.units.now) in
     let so_far = c.loop-unit.invariant ∙ append_assoc old (34 ∷ []) units in
-    failed_put r.result old (34 ∷ units) c.loop-unit.out.items _ c.put_unit.new.out.items r.ensures.0 so_far c.in_err-put_unit.ensures.err
+    failed_put old (34 ∷ units) so_far r.result _ _ r.ensures.0 c.in_err-put_unit.ensures.err
 
 pub returns-in_err-push-2 : goal.returns-in_err-push-2
 returns-in_err-push-2 c =
@@ -21,9 +21,12 @@ returns-in_err-push-2 c =
     let after = c.push-2.new.self.items in
     let units = flat_map unit_text (take c.loop-unit.unit-index c.args.units.now) in
     let so_far = c.loop-unit.invariant ∙ append_assoc old (34 ∷ []) units in
-    failed_put r.result old (34 ∷ units) before _ after r.ensures.0 so_far (same before after c.in_err-push-2.ensures.items)
+    failed_put old (34 ∷ units) so_far r.result _ _ r.ensures.0 (same before after c.in_err-push-2.ensures.items)
 
 pub loop-unit-preserved : goal.loop-unit-preserved
 loop-unit-preserved c =
-    one_more unit_text c.args.units.now c.loop-unit.unit-index _ (c.args.out.now.items ++ 34 ∷ []) c.loop-unit.out.items c.put_unit.new.out.items
-    c.loop-unit-test.true c.loop-unit.invariant c.in_ok-put_unit.ensures.ok
+    one_more unit_text c.args.units.now c.loop-unit.unit-index _ (c.args.out.now.items ++ 34 ∷ []) (record {
+      inside = c.loop-unit-test.true;
+      so_far = c.loop-unit.invariant;
+      put = c.in_ok-put_unit.ensures.ok;
+    })

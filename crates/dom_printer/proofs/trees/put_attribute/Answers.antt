@@ -14,7 +14,7 @@ returns-in_err-extend_from_slice-2 c =
     let r = c.from_residual-in_err-extend_from_slice-2 in
     let before = c.extend_from_slice.new.self.items in
     let space : before ≡ c.args.out.now.items ++ codes " " = c.in_ok-extend_from_slice.ensures.items in
-    failed_put r.result _ _ before _ _ r.ensures.0 space (same before c.extend_from_slice-2.new.self.items c.in_err-extend_from_slice-2.ensures.items)
+    failed_put _ _ space r.result _ _ r.ensures.0 (same before c.extend_from_slice-2.new.self.items c.in_err-extend_from_slice-2.ensures.items)
 
 pub returns-in_err-extend_from_slice-3 : goal.returns-in_err-extend_from_slice-3
 returns-in_err-extend_from_slice-3 c =
@@ -22,8 +22,7 @@ returns-in_err-extend_from_slice-3 c =
     let before = c.extend_from_slice-2.new.self.items in
     let space : c.extend_from_slice.new.self.items ≡ c.args.out.now.items ++ codes " " = c.in_ok-extend_from_slice.ensures.items in
     let name : before ≡ c.extend_from_slice.new.self.items ++ c.as_bytes.result.now = c.in_ok-extend_from_slice-2.ensures.items in
-    failed_put r.result _ _ before _ _ r.ensures.0 (both _ (codes " ") _ _ _ space name)
-    (same before c.extend_from_slice-3.new.self.items c.in_err-extend_from_slice-3.ensures.items)
+    failed_put _ _ (both _ (codes " ") space _ name) r.result _ _ r.ensures.0 (same before c.extend_from_slice-3.new.self.items c.in_err-extend_from_slice-3.ensures.items)
 
 pub returns : goal.returns
 returns c =
@@ -33,5 +32,5 @@ returns c =
     let name : c.extend_from_slice-2.new.self.items ≡ c.extend_from_slice.new.self.items ++ words =
     rw (← c.as_bytes.ensures.value) c.in_ok-extend_from_slice-2.ensures.items in
     let sign : c.extend_from_slice-3.new.self.items ≡ c.extend_from_slice-2.new.self.items ++ codes "=" = c.in_ok-extend_from_slice-3.ensures.items in
-    let named = both old (codes " ") _ words _ space name in
-    last_put c.put_units.result old ((codes " " ++ words) ++ codes "=") _ _ _ (both old (codes " " ++ words) _ (codes "=") _ named sign) c.put_units.ensures
+    let named = both old (codes " ") space words name in
+    last_put old ((codes " " ++ words) ++ codes "=") (both old (codes " " ++ words) named (codes "=") sign) c.put_units.result _ _ c.put_units.ensures

@@ -5,4 +5,4 @@ use Rattle.dom_printer.proofs.trees.put_attributes.Goals as goal
 pub returns-in_err-put_attribute : goal.returns-in_err-put_attribute
 returns-in_err-put_attribute c =
     let r = c.from_residual in
-    failed_put r.result _ _ c.loop-attribute.out.items _ c.put_attribute.new.out.items r.ensures.0 c.loop-attribute.invariant c.in_err-put_attribute.ensures.err
+    failed_put _ _ c.loop-attribute.invariant r.result _ _ r.ensures.0 c.in_err-put_attribute.ensures.err

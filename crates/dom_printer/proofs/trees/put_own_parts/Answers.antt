@@ -18,7 +18,7 @@ returns-in_ok-extend_from_slice-in-Text c =
     let before = c.extend_from_slice-in-Text.new.self.items in
     let space : before ≡ old ++ codes " " = c.in_ok-extend_from_slice-in-Text.ensures.items in
     let units = string_text (data_in c.args.opening.now.words) in
-    let put = last_put c.put_units.result old (codes " ") before units c.put_units.new.out.items space (rw (← c.units.ensures) c.put_units.ensures) in
+    let put = last_put old (codes " ") space c.put_units.result units _ (rw (← c.units.ensures) c.put_units.ensures) in
     elim c.in-Text.is [ inl e ↦ rw e put | inr e ↦ rw e put ]
 
 pub returns-in_err-extend_from_slice-in-Element : goal.returns-in_err-extend_from_slice-in-Element
@@ -31,8 +31,7 @@ returns-in_err-extend_from_slice-in-Element-2 c =
     let r = c.from_residual-in_err-extend_from_slice-in-Element-2 in
     let before = c.extend_from_slice.new.self.items in
     let space : before ≡ c.args.out.now.items ++ codes " " = c.in_ok-extend_from_slice-in-Element.ensures.items in
-    failed_put r.result c.args.out.now.items (codes " ") before _ _ r.ensures.0 space
-    (same before c.extend_from_slice-in-Element.new.self.items c.in_err-extend_from_slice-in-Element-2.ensures.items)
+    failed_put c.args.out.now.items (codes " ") space r.result _ _ r.ensures.0 (same before c.extend_from_slice-in-Element.new.self.items c.in_err-extend_from_slice-in-Element-2.ensures.items)
 
 pub returns-in_ok-extend_from_slice-in-Element-2 : goal.returns-in_ok-extend_from_slice-in-Element-2
 returns-in_ok-extend_from_slice-in-Element-2 c =
@@ -43,7 +42,7 @@ returns-in_ok-extend_from_slice-in-Element-2 c =
     let space : first ≡ old ++ codes " " = c.in_ok-extend_from_slice-in-Element.ensures.items in
     let name : second ≡ first ++ name_in words = rw (← c.name.ensures, ← c.as_bytes.ensures.value) c.in_ok-extend_from_slice-in-Element-2.ensures.items in
     let attributes = flat_map attribute_text (attributes_in words) in
-    let named = both old (codes " ") first (name_in words) second space name in
+    let named = both old (codes " ") space (name_in words) name in
     let put = c.put_attributes in
     rw c.in-Element.is
-    (last_put put.result old (codes " " ++ name_in words) second attributes put.new.out.items named (rw (← c.attributes.ensures) put.ensures))
+    (last_put old (codes " " ++ name_in words) named put.result attributes _ (rw (← c.attributes.ensures) put.ensures))

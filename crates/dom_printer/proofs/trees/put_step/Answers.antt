@@ -10,7 +10,7 @@ pub returns-in_err-put_node-in-Opens : goal.returns-in_err-put_node-in-Opens
 returns-in_err-put_node-in-Opens c =
     let r = c.from_residual-in_err-put_node-in-Opens in
     let parens : c.extend_from_slice-in-Opens.new.self.items ≡ c.args.out.now.items ++ codes " (" = c.in_ok-extend_from_slice-in-Opens.ensures.items in
-    failed_put r.result _ (codes " (") _ _ c.put_node.new.out.items r.ensures.0 parens c.in_err-put_node-in-Opens.ensures.err
+    failed_put _ (codes " (") parens r.result _ _ r.ensures.0 c.in_err-put_node-in-Opens.ensures.err
 
 pub returns-in_err-extend_from_slice-in-Opens-2 : goal.returns-in_err-extend_from_slice-in-Opens-2
 returns-in_err-extend_from_slice-in-Opens-2 c =
@@ -18,9 +18,8 @@ returns-in_err-extend_from_slice-in-Opens-2 c =
     let old = c.args.out.now.items in
     let node = node_text c.args.viewer c.in-Opens.opening.name in
     let parens : c.extend_from_slice-in-Opens.new.self.items ≡ old ++ codes " (" = c.in_ok-extend_from_slice-in-Opens.ensures.items in
-    let named = both old (codes " (") _ node c.put_node.new.out.items parens c.in_ok-put_node-in-Opens.ensures.ok in
-    failed_put r.result old (codes " (" ++ node) _ _ _ r.ensures.0 named
-    (same c.put_node.new.out.items c.extend_from_slice-in-Opens-2.new.self.items c.in_err-extend_from_slice-in-Opens-2.ensures.items)
+    let named = both old (codes " (") parens node c.in_ok-put_node-in-Opens.ensures.ok in
+    failed_put old (codes " (" ++ node) named r.result _ _ r.ensures.0 (same c.put_node.new.out.items c.extend_from_slice-in-Opens-2.new.self.items c.in_err-extend_from_slice-in-Opens-2.ensures.items)
 
 pub returns-in_ok-extend_from_slice-in-Opens-3 : goal.returns-in_ok-extend_from_slice-in-Opens-3
 returns-in_ok-extend_from_slice-in-Opens-3 c =
@@ -34,7 +33,7 @@ returns-in_ok-extend_from_slice-in-Opens-3 c =
     let parens : first ≡ old ++ codes " (" = c.in_ok-extend_from_slice-in-Opens.ensures.items in
     let space : second ≡ c.put_node.new.out.items ++ codes " " = c.in_ok-extend_from_slice-in-Opens-2.ensures.items in
     let word : third ≡ second ++ kind = rw (← c.kind_name.ensures, ← c.as_bytes.ensures.value) c.in_ok-extend_from_slice-in-Opens-3.ensures.items in
-    let named = both old (codes " (") first node c.put_node.new.out.items parens c.in_ok-put_node-in-Opens.ensures.ok in
-    let spaced = both old (codes " (" ++ node) _ (codes " ") second named space in
-    let kinded = both old ((codes " (" ++ node) ++ codes " ") _ kind third spaced word in
-    rw c.in-Opens.is (last_put c.put_own_parts.result old (((codes " (" ++ node) ++ codes " ") ++ kind) third _ _ kinded c.put_own_parts.ensures)
+    let named = both old (codes " (") parens node c.in_ok-put_node-in-Opens.ensures.ok in
+    let spaced = both old (codes " (" ++ node) named (codes " ") space in
+    let kinded = both old ((codes " (" ++ node) ++ codes " ") spaced kind word in
+    rw c.in-Opens.is (last_put old (((codes " (" ++ node) ++ codes " ") ++ kind) kinded c.put_own_parts.result _ _ c.put_own_parts.ensures)

@@ -12,16 +12,14 @@ pub returns-in_err-extend_from_slice : goal.returns-in_err-extend_from_slice
 returns-in_err-extend_from_slice c =
     let r = c.from_residual-in_err-extend_from_slice in
     let before = c.put_owner.new.out.items in
-    failed_put r.result _ (owner_word c.args.owner) before _ _ r.ensures.0 c.in_ok-put_owner.ensures.ok
-    (same before c.extend_from_slice.new.self.items c.in_err-extend_from_slice.ensures.items)
+    failed_put _ (owner_word c.args.owner) c.in_ok-put_owner.ensures.ok r.result _ _ r.ensures.0 (same before c.extend_from_slice.new.self.items c.in_err-extend_from_slice.ensures.items)
 
 pub returns-in_err-put_steps : goal.returns-in_err-put_steps
 returns-in_err-put_steps c =
     let r = c.from_residual-in_err-put_steps in
     let owner = owner_word c.args.owner in
     let ok : c.extend_from_slice.new.self.items ≡ c.put_owner.new.out.items ++ codes " ok" = c.in_ok-extend_from_slice.ensures.items in
-    failed_put r.result c.args.out.now.items (owner ++ codes " ok") c.extend_from_slice.new.self.items _ c.put_steps.new.out.items r.ensures.0
-    (both _ owner _ (codes " ok") _ c.in_ok-put_owner.ensures.ok ok) c.in_err-put_steps.ensures.err
+    failed_put c.args.out.now.items (owner ++ codes " ok") (both _ owner c.in_ok-put_owner.ensures.ok (codes " ok") ok) r.result _ _ r.ensures.0 c.in_err-put_steps.ensures.err
 
 pub returns : goal.returns
 returns c =
@@ -29,8 +27,8 @@ returns c =
     let owner = owner_word c.args.owner in
     let steps = steps_text c.args.owner (steps_view c.args.steps.now) in
     let ok : c.extend_from_slice.new.self.items ≡ c.put_owner.new.out.items ++ codes " ok" = c.in_ok-extend_from_slice.ensures.items in
-    let begun : c.extend_from_slice.new.self.items ≡ old ++ (owner ++ codes " ok") = both old owner _ (codes " ok") _ c.in_ok-put_owner.ensures.ok ok in
-    let shown = both old (owner ++ codes " ok") _ steps c.put_steps.new.out.items begun c.in_ok-put_steps.ensures.ok in
+    let begun : c.extend_from_slice.new.self.items ≡ old ++ (owner ++ codes " ok") = both old owner c.in_ok-put_owner.ensures.ok (codes " ok") ok in
+    let shown = both old (owner ++ codes " ok") begun steps c.in_ok-put_steps.ensures.ok in
     let last = c.extend_from_slice-2 in
     subst (λ (text : List ℕ). Puts last.result old (text ++ 10 ∷ []) last.new.self.items) (tree_row owner (codes " ") (codes "ok") steps)
-    (last_put last.result old _ _ (10 ∷ []) _ shown (bytes_put last.result _ (10 ∷ []) _ last.ensures.items))
+    (last_put old _ shown last.result (10 ∷ []) _ (bytes_put last.result _ (10 ∷ []) _ last.ensures.items))
