@@ -10,10 +10,10 @@ use Rattle.dom_reader.specs.Streams.{IsKept, kept_cut, fed, after_lines, IsFedPa
 use Rattle.dom_reader.proofs.StreamLaws.{kept_line-none, cut_of-front, cut_of-one_line, one_line-append, fed-none, fed-pieces, fed-is_kept}
 
 -- what is left when bytes were kept, or nothing was done
-pub grown : {X E : Type 0} (r : Result X E) (new old part : List ℕ) (want : List ℕ) → new ≡ (if is_ok r then old ++ part else old) →
+pub grown : {X E : Type 0} (r : Result X E) (new old part : List ℕ) {want : List ℕ} → new ≡ (if is_ok r then old ++ part else old) →
     old ++ part ≡ want → OnOk r (new ≡ want)
-grown (Ok x) new old part want e f = e ∙ f
-grown (Err x) new old part want e f = tt
+grown (Ok x) new old part e f = e ∙ f
+grown (Err x) new old part e f = tt
 
 -- a front of the piece was fed: these are its lines, and these bytes are kept
 pub record IsFedUpTo (old piece rest : List ℕ) (lines : List (List ℕ)) (kept : List ℕ) : Type 0 where
@@ -83,9 +83,9 @@ module _ {old piece rest : List ℕ} {lines : List (List ℕ)} {kept : List ℕ}
 -- ---- calls
 
 -- a line that was put behind the others
-pub line_put : {X : Type 0} (bytes_of : X → List ℕ) (lines after : List X) (line : X) (bytes : List ℕ) → after ≡ lines ++ line ∷ [] → bytes_of line ≡ bytes
+pub line_put : {X : Type 0} {after : List X} (bytes_of : X → List ℕ) (lines : List X) (line : X) (bytes : List ℕ) → after ≡ lines ++ line ∷ [] → bytes_of line ≡ bytes
     → map bytes_of after ≡ map bytes_of lines ++ bytes ∷ []
-line_put bytes_of lines after line bytes e f = ap (map bytes_of) e ∙ map-append bytes_of lines (line ∷ []) ∙ ap (λ (x : List ℕ). map bytes_of lines ++ x ∷ []) f
+line_put bytes_of lines line bytes e f = ap (map bytes_of) e ∙ map-append bytes_of lines (line ∷ []) ∙ ap (λ (x : List ℕ). map bytes_of lines ++ x ∷ []) f
 
 -- a fact of a call that failed
 pub on_err : {X E : Type 0} (r : Result X E) (P : Type 0) → P → OnErr r P

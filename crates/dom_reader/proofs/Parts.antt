@@ -43,18 +43,18 @@ names_without (first ∷ texts) text others h = none (is_name first) (names_with
     none false e = refl
 
 -- the first part that is left is a name: one name more
-pub one_named : (texts : List (List ℕ)) (first bytes : List ℕ) (others parts : List (List ℕ)) → only_if (is_name first) first ≡ Some bytes →
+pub one_named : {bytes : List ℕ} {parts : List (List ℕ)} (texts : List (List ℕ)) (first : List ℕ) (others : List (List ℕ)) → only_if (is_name first) first ≡ Some bytes →
     texts ++ first ∷ others ≡ parts → list_all is_name texts ≡ true
     → ((texts ++ bytes ∷ []) ++ others ≡ parts) × (list_all is_name (texts ++ bytes ∷ []) ≡ true)
-one_named texts first bytes others parts named all names =
+one_named {bytes} texts first others named all names =
     let found = passed (is_name first) first bytes named in (
       append_assoc texts (bytes ∷ []) others ∙ ap (λ (x : List ℕ). texts ++ x ∷ others) (sym found.1) ∙ all,
       names_and texts bytes names (ap is_name (sym found.1) ∙ found.0),
     )
 
 -- it is none: they are not all names
-pub not_named : (e : NotRead) (texts left others parts : List (List ℕ)) (first : List ℕ)
+pub not_named : {left others parts : List (List ℕ)} {first : List ℕ} (e : NotRead) (texts : List (List ℕ))
     → left ≡ first ∷ others → texts ++ left ≡ parts → Fails e (only_if (is_name first) first) → Fails e (only_if (list_all is_name parts) parts)
-not_named Syntax texts left others parts first front all h =
+not_named {others = others} {first = first} Syntax texts front all h =
     rw (← all, front, names_without texts first others (not_passed (is_name first) first h)) refl
-not_named Memory texts left others parts first front all h = tt
+not_named Memory texts front all h = tt

@@ -26,7 +26,7 @@ loop-end-preserved c =
     let empty : c.replace-line.new.dest.items ≡ [] = rw c.replace-line.ensures.after c.new.ensures.items in
     fed_same (fed_step c.loop-end.invariant end c.in-Some.ensures) _ _ _
     (take_all (length rest - (end + 1)) (drop (end + 1) rest) (omega (arith, length-drop (end + 1) rest)))
-    (line_put _ c.loop-end.lines.items c.push.new.self.items c.replace-line.result (kept_line (c.loop-end.kept.items ++ take end rest))
+    (line_put _ c.loop-end.lines.items c.replace-line.result (kept_line (c.loop-end.kept.items ++ take end rest))
     c.in_ok-push.ensures.items (rw c.replace-line.ensures.value c.in_ok-keep.ensures.ok))
     empty
 

@@ -10,5 +10,5 @@ pub returns-clause-ok : goal.returns-clause-ok
 returns-clause-ok c =
     let kept = c.args.kept.now.items in
     let bytes = c.args.bytes.now in
-    grown c.extend_from_slice.result _ kept (take c.min-taken.result bytes) (kept_line (kept ++ bytes)) c.extend_from_slice.ensures.items
+    grown c.extend_from_slice.result _ kept (take c.min-taken.result bytes) c.extend_from_slice.ensures.items
     (kept_line-room kept bytes c.min-taken.result c.requires.short (grind (arith, common_steps)))

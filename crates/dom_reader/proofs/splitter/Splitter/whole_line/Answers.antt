@@ -14,4 +14,4 @@ returns-clause-some c =
     let kept = c.self.inside.kept in
     let empty : kept.len ≡ 0 = eqb-true kept.len 0 (sym c.is_empty.ensures ∙ c.if-not-is_empty.false) in
     let none : c.args.self.now ≡ [] = sym c.self.view_is ∙ nil_from_length kept.items (omega (arith, kept.ok.0, empty)) in
-    rw behind (whole_line-at c.args.self.now bytes end c.min-taken.result none c.in_ok-end.ensures c.min-taken.ensures)
+    rw behind (whole_line-at bytes end none c.in_ok-end.ensures c.min-taken.ensures)
