@@ -340,30 +340,32 @@ room-replace {e} {p} x offset most new k w =
           (λ t. kids-map_nodes f named ts y ∙ w.room.leaves y (sym (ap (λ (n : Node). has_data n.kind) (same y t) ∙ ap has_data (kept (node_in ts y)).1) ∙ g));
     }
 
--- A split: what is past the offset is in the new node, which stands behind.
-pub room-split : {p : Part} (x : NodeName) (offset : ℕ) (new parent : NodeName) (index : ℕ) → length_of p.trees x ≤ offset + length_of p.trees new →
-    index + 2 ≤ length_of p.trees parent → HasRoom nowhere p → HasRoom nowhere (part_step p (split_at x offset new parent index))
-room-split {p} x offset new parent index a b h =
-    record {
-      bounds = ranges-moved (reach nowhere p) (reach nowhere p) (after_split name_eq x offset new parent index)
-          (λ c u. which_way (Under (reach nowhere p)) (name_eq c.node x && nat_lt offset c.offset) (at new (c.offset - offset))
-          (if boundary_eq name_eq c (at parent (index + 1)) then at parent (index + 2) else c)
-          (λ t. let both = and_parts (name_eq c.node x) (nat_lt offset c.offset) t in let l = ap (reach nowhere p)
-          (name_eq-true c.node x both.0) in omega arith)
-          (λ t. either_way (Under (reach nowhere p)) (boundary_eq name_eq c (at parent (index + 1))) (at parent (index + 2)) c (omega arith) u))
-          p.ranges h.bounds;
-      leaves = h.leaves;
-    }
+-- Below a parent, at a place among its children.
+module _ {p : Part} (h : HasRoom nowhere p) (parent : NodeName) (index : ℕ) where
+  -- a split: what is past the offset is in the new node, which stands behind
+  pub room-split : (x : NodeName) (offset : ℕ) (new : NodeName) → length_of p.trees x ≤ offset + length_of p.trees new →
+      index + 2 ≤ length_of p.trees parent → HasRoom nowhere (part_step p (split_at x offset new parent index))
+  room-split x offset new a b =
+      record {
+        bounds = ranges-moved (reach nowhere p) (reach nowhere p) (after_split name_eq x offset new parent index)
+            (λ c u. which_way (Under (reach nowhere p)) (name_eq c.node x && nat_lt offset c.offset) (at new (c.offset - offset))
+            (if boundary_eq name_eq c (at parent (index + 1)) then at parent (index + 2) else c)
+            (λ t. let both = and_parts (name_eq c.node x) (nat_lt offset c.offset) t in let l = ap (reach nowhere p)
+            (name_eq-true c.node x both.0) in omega arith)
+            (λ t. either_way (Under (reach nowhere p)) (boundary_eq name_eq c (at parent (index + 1))) (at parent (index + 2)) c (omega arith) u))
+            p.ranges h.bounds;
+        leaves = h.leaves;
+      }
 
--- A join: the first Text has room for what was in the next one.
-pub room-join : {p : Part} (first : NodeName) (size : ℕ) (next parent : NodeName) (index : ℕ) → size + length_of p.trees next ≤ length_of p.trees first →
-    HasRoom nowhere p → HasRoom nowhere (part_step p (join_at first size next parent index))
-room-join {p} first size next parent index a h =
-    record {
-      bounds = ranges-moved (reach nowhere p) (reach nowhere p) (after_join name_eq first size next parent index)
-          (λ c u. which_way (Under (reach nowhere p)) (name_eq c.node next) (at first (c.offset + size))
-          (if boundary_eq name_eq c (at parent index) then at first size else c)
-          (λ t. let l = ap (reach nowhere p) (name_eq-true c.node next t) in omega arith)
-          (λ t. either_way (Under (reach nowhere p)) (boundary_eq name_eq c (at parent index)) (at first size) c (omega arith) u)) p.ranges h.bounds;
-      leaves = h.leaves;
-    }
+  -- a join: the first Text has room for what was in the next one
+  pub room-join : (first : NodeName) (size : ℕ) (next : NodeName) → size + length_of p.trees next ≤ length_of p.trees first →
+      HasRoom nowhere (part_step p (join_at first size next parent index))
+  room-join first size next a =
+      record {
+        bounds = ranges-moved (reach nowhere p) (reach nowhere p) (after_join name_eq first size next parent index)
+            (λ c u. which_way (Under (reach nowhere p)) (name_eq c.node next) (at first (c.offset + size))
+            (if boundary_eq name_eq c (at parent index) then at first size else c)
+            (λ t. let l = ap (reach nowhere p) (name_eq-true c.node next t) in omega arith)
+            (λ t. either_way (Under (reach nowhere p)) (boundary_eq name_eq c (at parent index)) (at first size) c (omega arith) u)) p.ranges h.bounds;
+        leaves = h.leaves;
+      }

@@ -75,17 +75,6 @@ childs-where test new (tree n c r) x y =
 childs-put_root : (z : NodeName) (new ts : Trees) (x y : NodeName) → childs (put_root z new ts) x y ≡ childs new x y + childs ts x y
 childs-put_root z new ts x y = ap (λ t. childs t x y) (put_root-where z new ts) ∙ childs-where (Rattle.dom_model.specs.Names.name_before z) new ts x y
 
--- before the node given
-childs-put_before : (before : Option NodeName) (new ts : Trees) (x y : NodeName) →
-    (childs (put_before before new ts) x y ≡ childs new x y + childs ts x y) ×
-    (root_times (put_before before new ts) x ≡ root_times new x + root_times ts x)
-childs-put_before before new ts x y =
-    let is = Rattle.dom_model.specs.TreeChanges.is_given before in (
-      ap (λ t. childs t x y) (put_before-where before new ts) ∙ childs-where is new ts x y,
-      ap (λ t. root_times t x)
-          (put_before-where before new ts) ∙ roots-where is new ts x,
-    )
-
 -- Another node that is taken out leaves children and roots.
 roots-without : (ts : Trees) (z x : NodeName) → name_eq z x ≡ false → root_times (without z ts) x ≡ root_times ts x
 roots-without none z x d = refl
@@ -126,53 +115,66 @@ childs-parted (tree n c r) z x y u d =
 pub childs-taken_out : (ts : Trees) (z x y : NodeName) → IsUnique ts → name_eq z x ≡ false → childs (taken_out z ts) x y ≡ childs ts x y
 childs-taken_out ts z x y u d = let p = childs-put_root z (subtree ts z) (without z ts) x y in let q = childs-parted ts z x y u d in omega arith
 
--- what is put below a node
-childs-put_below : (parent : NodeName) (before : Option NodeName) (new ts : Trees) (x y : NodeName) → times_in ts parent ≡ 1 →
-    (childs new x y + childs ts x y + (if name_eq parent y then root_times new x else 0) ≤ childs (put_below parent before new ts) x y) ×
-    (root_times (put_below parent before new ts) x ≡ root_times ts x)
-childs-put_below parent before new none x y h = absurd (omega arith)
-childs-put_below parent before new (tree n c r) x y h =
-    by_cases (name_eq n.name parent)
-    (λ e. let s = put_below-here parent before new n c r e in
-    let g = times-here n c r parent e in
-    let dc = put_below-absent parent before new c (omega arith) in
-    let dr = put_below-absent parent before new r (omega arith) in
-    let all = ap (λ t. childs t x y) (s ∙ ap (λ t. tree n (put_before before new t) (put_below parent before new r)) dc ∙
-    ap (tree n (put_before before new c)) dr) in
-    let tops = ap (λ t. root_times t x) (s ∙ ap (λ t. tree n (put_before before new t) (put_below parent before new r)) dc ∙
-    ap (tree n (put_before before new c)) dr) in
-    let b = childs-put_before before new c x y in let b0 = b.0 in let b1 = b.1 in
-    let same = name_eq-true n.name parent e in (
-      by_cases (name_eq n.name y)
-          (λ k. let i = childs-here n c r x y k in let j = childs-here n (put_before before new c) r x y k in
-          let l : (if name_eq parent y then root_times new x else 0) ≡ root_times new x =
-          cond-true (name_eq parent y) (root_times new x) 0 (sym (ap (λ z. name_eq z y) same) ∙ k) in omega arith)
-          (λ k. let i = childs-elsewhere n c r x y k in let j = childs-elsewhere n (put_before before new c) r x y k in
-          let l : (if name_eq parent y then root_times new x else 0) ≡ 0 =
-          cond-false (name_eq parent y) (root_times new x) 0 (sym (ap (λ z. name_eq z y) same) ∙ k) in omega arith),
-      tops,
-    ))
-    (λ e. let s = put_below-elsewhere parent before new n c r e in
-    let g = times-elsewhere n c r parent e in
-    by_times (times_in c parent)
-    (λ t. let dc = put_below-absent parent before new c t in
-    let b = childs-put_below parent before new r x y (omega arith) in let b0 = b.0 in let b1 = b.1 in
-    let all = ap (λ t. childs t x y) (s ∙ ap (λ t. tree n t (put_below parent before new r)) dc) in
-    let tops = ap (λ t. root_times t x) (s ∙ ap (λ t. tree n t (put_below parent before new r)) dc) in (
-      by_cases (name_eq n.name y)
-          (λ k. let i = childs-here n c r x y k in let j = childs-here n c (put_below parent before new r) x y k in omega arith)
-          (λ k. let i = childs-elsewhere n c r x y k in let j = childs-elsewhere n c (put_below parent before new r) x y k in omega arith),
-      (omega arith),
-    ))
-    (λ t. let dr = put_below-absent parent before new r (omega arith) in
-    let b = childs-put_below parent before new c x y (omega arith) in let b0 = b.0 in let b1 = b.1 in
-    let all = ap (λ t. childs t x y) (s ∙ ap (tree n (put_below parent before new c)) dr) in
-    let tops = ap (λ t. root_times t x) (s ∙ ap (tree n (put_below parent before new c)) dr) in (
-      by_cases (name_eq n.name y)
-          (λ k. let i = childs-here n c r x y k in let j = childs-here n (put_below parent before new c) r x y k in omega arith)
-          (λ k. let i = childs-elsewhere n c r x y k in let j = childs-elsewhere n (put_below parent before new c) r x y k in omega arith),
-      (omega arith),
-    )))
+-- Trees that are put among others: how often x is a child of y, and a root.
+module _ (before : Option NodeName) (new : Trees) (x y : NodeName) where
+  -- before the node given
+  childs-put_before : (ts : Trees) →
+      (childs (put_before before new ts) x y ≡ childs new x y + childs ts x y) ×
+      (root_times (put_before before new ts) x ≡ root_times new x + root_times ts x)
+  childs-put_before ts =
+      let is = Rattle.dom_model.specs.TreeChanges.is_given before in (
+        ap (λ t. childs t x y) (put_before-where before new ts) ∙ childs-where is new ts x y,
+        ap (λ t. root_times t x)
+            (put_before-where before new ts) ∙ roots-where is new ts x,
+      )
+
+  -- what is put below a node
+  childs-put_below : (parent : NodeName) (ts : Trees) → times_in ts parent ≡ 1 →
+      (childs new x y + childs ts x y + (if name_eq parent y then root_times new x else 0) ≤ childs (put_below parent before new ts) x y) ×
+      (root_times (put_below parent before new ts) x ≡ root_times ts x)
+  childs-put_below parent none h = absurd (omega arith)
+  childs-put_below parent (tree n c r) h =
+      by_cases (name_eq n.name parent)
+      (λ e. let s = put_below-here parent before new n c r e in
+      let g = times-here n c r parent e in
+      let dc = put_below-absent parent before new c (omega arith) in
+      let dr = put_below-absent parent before new r (omega arith) in
+      let all = ap (λ t. childs t x y) (s ∙ ap (λ t. tree n (put_before before new t) (put_below parent before new r)) dc ∙
+      ap (tree n (put_before before new c)) dr) in
+      let tops = ap (λ t. root_times t x) (s ∙ ap (λ t. tree n (put_before before new t) (put_below parent before new r)) dc ∙
+      ap (tree n (put_before before new c)) dr) in
+      let b = childs-put_before c in let b0 = b.0 in let b1 = b.1 in
+      let same = name_eq-true n.name parent e in (
+        by_cases (name_eq n.name y)
+            (λ k. let i = childs-here n c r x y k in let j = childs-here n (put_before before new c) r x y k in
+            let l : (if name_eq parent y then root_times new x else 0) ≡ root_times new x =
+            cond-true (name_eq parent y) (root_times new x) 0 (sym (ap (λ z. name_eq z y) same) ∙ k) in omega arith)
+            (λ k. let i = childs-elsewhere n c r x y k in let j = childs-elsewhere n (put_before before new c) r x y k in
+            let l : (if name_eq parent y then root_times new x else 0) ≡ 0 =
+            cond-false (name_eq parent y) (root_times new x) 0 (sym (ap (λ z. name_eq z y) same) ∙ k) in omega arith),
+        tops,
+      ))
+      (λ e. let s = put_below-elsewhere parent before new n c r e in
+      let g = times-elsewhere n c r parent e in
+      by_times (times_in c parent)
+      (λ t. let dc = put_below-absent parent before new c t in
+      let b = childs-put_below parent r (omega arith) in let b0 = b.0 in let b1 = b.1 in
+      let all = ap (λ t. childs t x y) (s ∙ ap (λ t. tree n t (put_below parent before new r)) dc) in
+      let tops = ap (λ t. root_times t x) (s ∙ ap (λ t. tree n t (put_below parent before new r)) dc) in (
+        by_cases (name_eq n.name y)
+            (λ k. let i = childs-here n c r x y k in let j = childs-here n c (put_below parent before new r) x y k in omega arith)
+            (λ k. let i = childs-elsewhere n c r x y k in let j = childs-elsewhere n c (put_below parent before new r) x y k in omega arith),
+        (omega arith),
+      ))
+      (λ t. let dr = put_below-absent parent before new r (omega arith) in
+      let b = childs-put_below parent c (omega arith) in let b0 = b.0 in let b1 = b.1 in
+      let all = ap (λ t. childs t x y) (s ∙ ap (tree n (put_below parent before new c)) dr) in
+      let tops = ap (λ t. root_times t x) (s ∙ ap (tree n (put_below parent before new c)) dr) in (
+        by_cases (name_eq n.name y)
+            (λ k. let i = childs-here n c r x y k in let j = childs-here n (put_below parent before new c) r x y k in omega arith)
+            (λ k. let i = childs-elsewhere n c r x y k in let j = childs-elsewhere n (put_below parent before new c) r x y k in omega arith),
+        (omega arith),
+      )))
 
 -- A node that is placed below a parent.
 module _ {ts : Trees} {z parent : NodeName} (before : Option NodeName) (place : CanPlace ts z parent) where
@@ -183,7 +185,7 @@ module _ {ts : Trees} {z parent : NodeName} (before : Option NodeName) (place : 
       let once = u parent in
       let s = times-inside ts z parent in
       let w = times-parted ts z parent u in
-      let p = (childs-put_below parent before (subtree ts z) (without z ts) x y (omega arith)).0 in
+      let p = (childs-put_below before (subtree ts z) x y parent (without z ts) (omega arith)).0 in
       let q = childs-parted ts z x y u d in omega arith
 
   -- and it is a child then
@@ -193,7 +195,7 @@ module _ {ts : Trees} {z parent : NodeName} (before : Option NodeName) (place : 
       let once = u parent in
       let s = times-inside ts z parent in
       let w = times-parted ts z parent u in
-      let p = (childs-put_below parent before (subtree ts z) (without z ts) z parent (omega arith)).0 in
+      let p = (childs-put_below before (subtree ts z) z parent parent (without z ts) (omega arith)).0 in
       let one : (if name_eq parent parent then root_times (subtree ts z) z else 0) ≡ root_times (subtree ts z) z =
       cond-true (name_eq parent parent) (root_times (subtree ts z) z) 0 (name_eq-same parent) in
       let top = root-counted (subtree ts z) z (Rattle.dom_worlds.proofs.TreeChangeLaws.root-subtree ts z k) in omega arith

@@ -35,23 +35,23 @@ place-absent k (tree n c r) x h =
     ∙ ap (λ o. option_or (option_map (λ path. k ∷ path) o) (place_from (k + 1) r x)) (place-absent 0 c x (omega arith)) ∙
     place-absent (k + 1) r x (omega arith))
 
--- at the first root, below it and behind it
-place-here : (k : ℕ) (n : Node) (c r : Trees) (x : NodeName) → name_eq n.name x ≡ true → place_from k (tree n c r) x ≡ Some (k ∷ [])
-place-here k n c r x e = cond-true (name_eq n.name x) (Some (k ∷ [])) (option_or (option_map (λ path. k ∷ path) (place_from 0 c x)) (place_from (k + 1) r x)) e
+-- Places in a first tree with others behind it.
+module _ (n : Node) (c r : Trees) (x : NodeName) where
+  -- at the first root
+  place-here : (k : ℕ) → name_eq n.name x ≡ true → place_from k (tree n c r) x ≡ Some (k ∷ [])
+  place-here k e = cond-true (name_eq n.name x) (Some (k ∷ [])) (option_or (option_map (λ path. k ∷ path) (place_from 0 c x)) (place_from (k + 1) r x)) e
 
--- below
-place-below : {path : List ℕ} {k : ℕ} (n : Node) (c r : Trees) (x : NodeName) → name_eq n.name x ≡ false → place_from 0 c x ≡ Some path →
-    place_from k (tree n c r) x ≡ Some (k ∷ path)
-place-below {path} {k} n c r x e h =
-    cond-false (name_eq n.name x) (Some (k ∷ [])) (option_or (option_map (λ path. k ∷ path) (place_from 0 c x)) (place_from (k + 1) r x)) e
-    ∙ ap (λ o. option_or (option_map (λ path. k ∷ path) o) (place_from (k + 1) r x)) h
+  -- below it
+  place-below : {path : List ℕ} {k : ℕ} → name_eq n.name x ≡ false → place_from 0 c x ≡ Some path → place_from k (tree n c r) x ≡ Some (k ∷ path)
+  place-below {path} {k} e h =
+      cond-false (name_eq n.name x) (Some (k ∷ [])) (option_or (option_map (λ path. k ∷ path) (place_from 0 c x)) (place_from (k + 1) r x)) e
+      ∙ ap (λ o. option_or (option_map (λ path. k ∷ path) o) (place_from (k + 1) r x)) h
 
--- behind
-place-behind : (k : ℕ) (n : Node) (c r : Trees) (x : NodeName) → name_eq n.name x ≡ false → times_in c x ≡ 0 →
-    place_from k (tree n c r) x ≡ place_from (k + 1) r x
-place-behind k n c r x e z =
-    cond-false (name_eq n.name x) (Some (k ∷ [])) (option_or (option_map (λ path. k ∷ path) (place_from 0 c x)) (place_from (k + 1) r x)) e
-    ∙ ap (λ o. option_or (option_map (λ path. k ∷ path) o) (place_from (k + 1) r x)) (place-absent 0 c x z)
+  -- behind it
+  place-behind : (k : ℕ) → name_eq n.name x ≡ false → times_in c x ≡ 0 → place_from k (tree n c r) x ≡ place_from (k + 1) r x
+  place-behind k e z =
+      cond-false (name_eq n.name x) (Some (k ∷ [])) (option_or (option_map (λ path. k ∷ path) (place_from 0 c x)) (place_from (k + 1) r x)) e
+      ∙ ap (λ o. option_or (option_map (λ path. k ∷ path) o) (place_from (k + 1) r x)) (place-absent 0 c x z)
 
 -- what has a place is there
 has-place : (k : ℕ) (ts : Trees) (x : NodeName) (path : List ℕ) → place_from k ts x ≡ Some path → 1 ≤ times_in ts x
@@ -61,16 +61,23 @@ has-place k ts x path p = by_times (times_in ts x) (λ z. let none_there : None 
 place-there : (k : ℕ) (ts : Trees) (x : NodeName) → 1 ≤ times_in ts x → (path : List ℕ) × (place_from k ts x ≡ Some path)
 place-there k none x h = absurd (omega arith)
 place-there k (tree n c r) x h =
-    by_cases (name_eq n.name x) (λ e. (k ∷ [], place-here k n c r x e))
+    by_cases (name_eq n.name x) (λ e. (k ∷ [], place-here n c r x k e))
     (λ e. let g = times-elsewhere n c r x e in
-    by_times (times_in c x) (λ z. let at = place-there (k + 1) r x (omega arith) in (at.0, place-behind k n c r x e z ∙ at.1))
+    by_times (times_in c x) (λ z. let at = place-there (k + 1) r x (omega arith) in (at.0, place-behind n c r x k e z ∙ at.1))
     (λ z. let at = place-there 0 c x z in (k ∷ at.0, place-below n c r x e at.1)))
 
+-- the places of a node, and of another one among the trees below it
+record AreNested (k : ℕ) (ts : Trees) (a z : NodeName) (path rest : List ℕ) : Type 0 where
+  outer : place_from k ts a ≡ Some path
+  inner : place_from 0 (trees_below (subtree ts a)) z ≡ Some rest
+
 -- the place of a node below another one
-place-nested : (k : ℕ) (ts : Trees) (a z : NodeName) {path rest : List ℕ} → IsUnique ts → place_from k ts a ≡ Some path →
-    place_from 0 (trees_below (subtree ts a)) z ≡ Some rest → place_from k ts z ≡ Some (path ++ rest)
-place-nested k none a z u p q = cc
-place-nested k (tree n c r) a z {path} {rest} u p q =
+place-nested : (k : ℕ) (ts : Trees) (a z : NodeName) {path rest : List ℕ} → IsUnique ts → AreNested k ts a z path rest →
+    place_from k ts z ≡ Some (path ++ rest)
+place-nested k none a z u at = let p = at.outer in cc
+place-nested k (tree n c r) a z {path} {rest} u places =
+    let p = places.outer in
+    let q = places.inner in
     let t = has-place k (tree n c r) a path p in
     let b = has-place 0 (trees_below (subtree (tree n c r) a)) z rest q in
     let once = u a in
@@ -81,7 +88,7 @@ place-nested k (tree n c r) a z {path} {rest} u p q =
     (λ e. let same = ap trees_below (subtree-here n c r a e) in
     let inner = subst (λ us. 1 ≤ times_in us z) same b in
     let at = subst (λ us. place_from 0 us z ≡ Some rest) same q in
-    let one : Some (k ∷ []) ≡ Some path = sym (place-here k n c r a e) ∙ p in
+    let one : Some (k ∷ []) ≡ Some path = sym (place-here n c r a k e) ∙ p in
     let is : k ∷ [] ≡ path = cc in
     let other : name_eq n.name z ≡ false = by_cases (name_eq n.name z) (λ f. absurd (let g = times-here n c r z f in omega arith)) (λ f. f) in
     place-below n c r z other at ∙ ap (λ xs. Some (xs ++ rest)) is)
@@ -93,7 +100,7 @@ place-nested k (tree n c r) a z {path} {rest} u p q =
     let there : 1 ≤ times_in r z = let s = times-below (subtree r a) z in let t = times-subtree r a z in omega arith in
     let other : name_eq n.name z ≡ false = by_cases (name_eq n.name z) (λ f. absurd (let g = times-here n c r z f in omega arith)) (λ f. f) in
     let gz = times-elsewhere n c r z other in
-    place-behind k n c r z other (omega arith) ∙ place-nested (k + 1) r a z ur (sym (place-behind k n c r a e y) ∙ p) at)
+    place-behind n c r z k other (omega arith) ∙ place-nested (k + 1) r a z ur (record { outer = sym (place-behind n c r a k e y) ∙ p; inner = at }))
     (λ y. let same = ap trees_below (subtree-elsewhere n c r a e ∙ ap (or_else (subtree c a)) (subtree-absent r a (omega arith)) ∙
     or_else-none (subtree c a)) in
     let inner = subst (λ us. 1 ≤ times_in us z) same b in
@@ -103,7 +110,7 @@ place-nested k (tree n c r) a z {path} {rest} u p q =
     let own = place-there 0 c a y in
     let one : Some (k ∷ own.0) ≡ Some path = sym (place-below n c r a e own.1) ∙ p in
     let is : k ∷ own.0 ≡ path = cc in
-    place-below n c r z other (place-nested 0 c a z uc own.1 at) ∙ ap (λ xs. Some (xs ++ rest)) is))
+    place-below n c r z other (place-nested 0 c a z uc (record { outer = own.1; inner = at })) ∙ ap (λ xs. Some (xs ++ rest)) is))
 
 -- Roots of a list, by their numbers: those before a number, and those up to one of them.
 record IsRootAt (k : ℕ) (us : Trees) (bound : ℕ) (x : NodeName) : Type 0 where
@@ -125,7 +132,7 @@ later-root {r} k n c u x h =
     record {
       there = omega arith;
       index = suc h.index;
-      place = place-behind k n c r x other (omega arith) ∙ h.place ∙ ap (λ i. Some (i ∷ [])) number;
+      place = place-behind n c r x k other (omega arith) ∙ h.place ∙ ap (λ i. Some (i ∷ [])) number;
       below = let b = h.below in omega arith;
     }
 
@@ -134,7 +141,7 @@ first-root : (k : ℕ) (n : Node) (c r : Trees) (bound : ℕ) → IsRootAt k (tr
 first-root k n c r bound =
     let g = times-here n c r n.name (name_eq-same n.name) in
     let number : k ≡ k + 0 = omega arith in
-    record { there = omega arith; index = 0; place = place-here k n c r n.name (name_eq-same n.name) ∙ ap (λ i. Some (i ∷ [])) number; below = omega arith }
+    record { there = omega arith; index = 0; place = place-here n c r n.name k (name_eq-same n.name) ∙ ap (λ i. Some (i ∷ [])) number; below = omega arith }
 
 -- the first roots
 roots-taken : (k : ℕ) (us : Trees) (m : ℕ) → IsUnique us → AllByRecursion (IsRootAt k us m) (take (suc m) (names_of (roots us)))
@@ -156,7 +163,7 @@ roots-up_to k (tree n c r) a u h =
     (λ e. let same = name_eq-true a n.name e in
     let number : k ≡ k + 0 = omega arith in (
       0,
-      place-here k n c r a (name_eq-turned n.name a ∙ e) ∙ ap (λ i. Some (i ∷ [])) number,
+      place-here n c r a k (name_eq-turned n.name a ∙ e) ∙ ap (λ i. Some (i ∷ [])) number,
       subst (λ xs. AllByRecursion (IsRootAt k (tree n c r) 0) (xs ++ a ∷ []))
           (sym (cond-true (name_eq a n.name) [] (n.name ∷ items_before name_eq a rest) e))
           (subst (IsRootAt k (tree n c r) 0) (sym same) (first-root k n c r 0), tt),
@@ -169,7 +176,7 @@ roots-up_to k (tree n c r) a u h =
     let q = times-elsewhere n c r a other in
     let number : (k + 1) + more.0 ≡ k + suc more.0 = omega arith in (
       suc more.0,
-      place-behind k n c r a other (omega arith) ∙ more.1 ∙ ap (λ i. Some (i ∷ [])) number,
+      place-behind n c r a k other (omega arith) ∙ more.1 ∙ ap (λ i. Some (i ∷ [])) number,
       subst (λ xs. AllByRecursion (IsRootAt k (tree n c r) (suc more.0)) (xs ++ a ∷ []))
           (sym (cond-false (name_eq a n.name) [] (n.name ∷ items_before name_eq a rest) e)) (
             first-root k n c r (suc more.0),
@@ -249,7 +256,7 @@ child-place : {path : List ℕ} (ts : Trees) (q : NodeName) → IsUnique ts → 
     IsRootAt 0 (trees_below (subtree ts q)) bound x → (i : ℕ) × (place_from 0 ts x ≡ Some (path ++ i ∷ [])) × (i ≤ bound)
 child-place {path} ts q u t p {x} h =
     let zero_first : 0 + h.index ≡ h.index = omega arith in
-    (h.index, place-nested 0 ts q x u p (h.place ∙ ap (λ i. Some (i ∷ [])) zero_first), h.below)
+    (h.index, place-nested 0 ts q x u (record { outer = p; inner = h.place ∙ ap (λ i. Some (i ∷ [])) zero_first }), h.below)
 
 -- The first children of the start node.
 pub spared-first : (ts : Trees) (r : Range NodeName) → IsUnique ts → 1 ≤ times_in ts r.start.node →
@@ -312,7 +319,7 @@ spared-up_to {q} ts r a u e above =
     let j = up.0 in
     let zero_first : 0 + j ≡ j = omega arith in
     let there = root-there below a (root-below ts a q u e) in
-    let at_a : place_from 0 ts a ≡ Some (path ++ j ∷ []) = place-nested 0 ts q a u at_q.1 (up.1 ∙ ap (λ i. Some (i ∷ [])) zero_first) in
+    let at_a : place_from 0 ts a ≡ Some (path ++ j ∷ []) = place-nested 0 ts q a u (record { outer = at_q.1; inner = up.1 ∙ ap (λ i. Some (i ∷ [])) zero_first }) in
     let tail = start-place t j path at_a in
     let rest = tail.0 in
     let begins : boundary_place ts r.start ≡ map odd path ++ (odd j ∷ rest) = tail.1 in
@@ -357,7 +364,7 @@ spared-up_to {q} ts r a u e above =
         let b = below-rest ts a r.start.node k in
         let there : 1 ≤ times_in (trees_below (subtree ts a)) r.start.node = omega arith in
         let at_s = place-there 0 (trees_below (subtree ts a)) r.start.node there in
-        let whole = place-nested 0 ts a r.start.node u h at_s.1 in (
+        let whole = place-nested 0 ts a r.start.node u (record { outer = h; inner = at_s.1 }) in (
           map odd at_s.0 ++ o ∷ [],
           place-is ts r.start.node ((path ++ j ∷ []) ++ at_s.0) r.start.offset whole ∙
               map-two (path ++ j ∷ []) at_s.0 (o ∷ []) ∙ map-two path (j ∷ []) (map odd at_s.0 ++ o ∷ []),

@@ -81,56 +81,58 @@ inside-parted (tree n c r) y a z u h =
     let t = ap (λ t. inside t a z) (subtree-elsewhere n c r y e ∙ ap (λ t. or_else t (subtree r y)) (subtree-absent c y (omega arith))) in
     let behind = inside-parted r y a z (λ k. let o = u k in let m = times-more n c r k in omega arith) later in omega arith)
 
--- what is put below a node that is there
-inside-put_below_all : (parent : NodeName) (before : Option NodeName) (new ts : Trees) (a z : NodeName) → times_in ts parent ≡ 1 →
-    inside new a z + inside ts a z ≤ inside (put_below parent before new ts) a z
-inside-put_below_all parent before new none a z h = absurd (omega arith)
-inside-put_below_all parent before new (tree n c r) a z h =
-    let small = inside-times new a z in
-    by_cases (name_eq n.name parent)
-    (λ e. let s = ap (λ t. inside t a z) (put_below-here parent before new n c r e) in
-    let g = times-here n c r parent e in
-    let dc = put_below-absent parent before new c (omega arith) in
-    let d = ap (λ t. inside (put_before before new t) a z) dc in
-    let dt = ap (λ t. times_in (put_before before new t) z) dc in
-    let f = ap (λ t. inside t a z) (put_below-absent parent before new r (omega arith)) in
-    let b = inside-put_before before new c a z in
-    let bt = times-put_before before new c z in
-    by_cases (name_eq n.name a)
-    (λ k. let i = inside-here n c r a z k in let j = inside-here n (put_before before new (put_below parent before new c))
-    (put_below parent before new r) a z k in
-    let p = times-parts n c none z in let q = times-parts n (put_before before new (put_below parent before new c)) none z in omega arith)
-    (λ k. let i = inside-elsewhere n c r a z k in let j = inside-elsewhere n (put_before before new (put_below parent before new c))
-    (put_below parent before new r) a z k in omega arith))
-    (λ e. let s = ap (λ t. inside t a z) (put_below-elsewhere parent before new n c r e) in
-    let g = times-elsewhere n c r parent e in
-    by_times (times_in c parent)
-    (λ t. let dc = put_below-absent parent before new c t in
-    let d = ap (λ t. inside t a z) dc in let dt = ap (λ t. times_in (tree n t none) z) dc in
-    let behind = inside-put_below_all parent before new r a z (omega arith) in
-    by_cases (name_eq n.name a)
-    (λ k. let i = inside-here n c r a z k in let j = inside-here n (put_below parent before new c) (put_below parent before new r) a z k in omega arith)
-    (λ k. let i = inside-elsewhere n c r a z k in let j = inside-elsewhere n (put_below parent before new c) (put_below parent before new r) a z
-    k in omega arith))
-    (λ t. let d = ap (λ t. inside t a z) (put_below-absent parent before new r (omega arith)) in
-    let below = inside-put_below_all parent before new c a z (omega arith) in
-    let all = times-put_below_all parent before new c z (omega arith) in
-    by_cases (name_eq n.name a)
-    (λ k. let i = inside-here n c r a z k in let j = inside-here n (put_below parent before new c) (put_below parent before new r) a z k in
-    let p = times-parts n c none z in let q = times-parts n (put_below parent before new c) none z in omega arith)
-    (λ k. let i = inside-elsewhere n c r a z k in let j = inside-elsewhere n (put_below parent before new c) (put_below parent before new r) a z
-    k in omega arith)))
+-- What stands in the tree of a stays there.
+module _ (before : Option NodeName) (a z : NodeName) where
+  -- what is put below a node that is there
+  inside-put_below_all : (parent : NodeName) (new ts : Trees) → times_in ts parent ≡ 1 →
+      inside new a z + inside ts a z ≤ inside (put_below parent before new ts) a z
+  inside-put_below_all parent new none h = absurd (omega arith)
+  inside-put_below_all parent new (tree n c r) h =
+      let small = inside-times new a z in
+      by_cases (name_eq n.name parent)
+      (λ e. let s = ap (λ t. inside t a z) (put_below-here parent before new n c r e) in
+      let g = times-here n c r parent e in
+      let dc = put_below-absent parent before new c (omega arith) in
+      let d = ap (λ t. inside (put_before before new t) a z) dc in
+      let dt = ap (λ t. times_in (put_before before new t) z) dc in
+      let f = ap (λ t. inside t a z) (put_below-absent parent before new r (omega arith)) in
+      let b = inside-put_before before new a z c in
+      let bt = times-put_before before new c z in
+      by_cases (name_eq n.name a)
+      (λ k. let i = inside-here n c r a z k in let j = inside-here n (put_before before new (put_below parent before new c))
+      (put_below parent before new r) a z k in
+      let p = times-parts n c none z in let q = times-parts n (put_before before new (put_below parent before new c)) none z in omega arith)
+      (λ k. let i = inside-elsewhere n c r a z k in let j = inside-elsewhere n (put_before before new (put_below parent before new c))
+      (put_below parent before new r) a z k in omega arith))
+      (λ e. let s = ap (λ t. inside t a z) (put_below-elsewhere parent before new n c r e) in
+      let g = times-elsewhere n c r parent e in
+      by_times (times_in c parent)
+      (λ t. let dc = put_below-absent parent before new c t in
+      let d = ap (λ t. inside t a z) dc in let dt = ap (λ t. times_in (tree n t none) z) dc in
+      let behind = inside-put_below_all parent new r (omega arith) in
+      by_cases (name_eq n.name a)
+      (λ k. let i = inside-here n c r a z k in let j = inside-here n (put_below parent before new c) (put_below parent before new r) a z k in omega arith)
+      (λ k. let i = inside-elsewhere n c r a z k in let j = inside-elsewhere n (put_below parent before new c) (put_below parent before new r) a z
+      k in omega arith))
+      (λ t. let d = ap (λ t. inside t a z) (put_below-absent parent before new r (omega arith)) in
+      let below = inside-put_below_all parent new c (omega arith) in
+      let all = times-put_below_all parent before new c z (omega arith) in
+      by_cases (name_eq n.name a)
+      (λ k. let i = inside-here n c r a z k in let j = inside-here n (put_below parent before new c) (put_below parent before new r) a z k in
+      let p = times-parts n c none z in let q = times-parts n (put_below parent before new c) none z in omega arith)
+      (λ k. let i = inside-elsewhere n c r a z k in let j = inside-elsewhere n (put_below parent before new c) (put_below parent before new r) a z
+      k in omega arith)))
 
--- a root that is placed
-pub inside-placed_all : {ts : Trees} {y parent : NodeName} (before : Option NodeName) (a z : NodeName) → CanPlace ts y parent → HasRoot ts y →
-    inside ts a z ≤ inside (placed y parent before ts) a z
-inside-placed_all {ts} {y} {parent} before a z c k =
-    let u = c.unique in let t = c.below.there in let h = c.below.apart in
-    let once = u parent in
-    let s = times-inside ts y parent in
-    let w = times-parted ts y parent u in
-    let p = inside-put_below_all parent before (subtree ts y) (without y ts) a z (omega arith) in
-    let q = inside-parted ts y a z u k in omega arith
+  -- a root that is placed
+  pub inside-placed_all : {ts : Trees} {y parent : NodeName} → CanPlace ts y parent → HasRoot ts y →
+      inside ts a z ≤ inside (placed y parent before ts) a z
+  inside-placed_all {ts} {y} {parent} c k =
+      let u = c.unique in let t = c.below.there in let h = c.below.apart in
+      let once = u parent in
+      let s = times-inside ts y parent in
+      let w = times-parted ts y parent u in
+      let p = inside-put_below_all parent (subtree ts y) (without y ts) (omega arith) in
+      let q = inside-parted ts y a z u k in omega arith
 
 -- beside a new node
 pub inside-with_node_all : (n : Node) (ts : Trees) (a z : NodeName) → inside ts a z ≤ inside (with_node n ts) a z
@@ -190,11 +192,19 @@ inside-left (tree n c r) x a z u h =
     let p = times-parts n c none z in let q = times-parts n (without x c) none z in omega arith)
     (λ k. let j = inside-elsewhere n c r a z k in let l = inside-elsewhere n (without x c) (without x r) a z k in omega arith))
 
+-- a node z that stands in the trees of two others, the first of which is not in that of the second
+pub record IsInBoth (ts : Trees) (a x z : NodeName) : Type 0 where
+  pub first : 1 ≤ inside ts a z
+  pub second : 1 ≤ inside ts x z
+  pub apart : inside ts x a ≡ 0
+
 -- of two nodes in whose trees a third one stands, one stands in the tree of the other
-pub inside-comparable : (ts : Trees) (a x z : NodeName) → IsUnique ts → 1 ≤ inside ts a z → 1 ≤ inside ts x z → inside ts x a ≡ 0 →
-    1 ≤ times_in (subtree ts a) x
-inside-comparable none a x z u h g k = absurd (omega arith)
-inside-comparable (tree n c r) a x z u h g k =
+pub inside-comparable : (ts : Trees) (a x z : NodeName) → IsUnique ts → IsInBoth ts a x z → 1 ≤ times_in (subtree ts a) x
+inside-comparable none a x z u both = absurd (let h = both.first in omega arith)
+inside-comparable (tree n c r) a x z u both =
+    let h = both.first in
+    let g = both.second in
+    let k = both.apart in
     let once = u z in
     let once_a = u a in
     let uc : IsUnique c = λ k. let o = u k in let m = times-more n c r k in omega arith in
@@ -227,11 +237,11 @@ inside-comparable (tree n c r) a x z u h g k =
     (λ t. let ca = inside-absent c a z t in
     let same = subtree-elsewhere n c r a e ∙ ap (λ t. or_else t (subtree r a)) (subtree-absent c a t) in
     let s = ap (λ t. times_in t x) same in
-    let behind = inside-comparable r a x z ur (omega arith) (omega arith) (omega arith) in omega arith)
+    let behind = inside-comparable r a x z ur (record { first = omega arith; second = omega arith; apart = omega arith }) in omega arith)
     (λ t. let ra = inside-absent r a z (omega arith) in
     let same = subtree-elsewhere n c r a e ∙ ap (or_else (subtree c a)) (subtree-absent r a (omega arith)) ∙ or_else-none (subtree c a) in
     let s = ap (λ t. times_in t x) same in
-    let below = inside-comparable c a x z uc (omega arith) (omega arith) (omega arith) in omega arith)))
+    let below = inside-comparable c a x z uc (record { first = omega arith; second = omega arith; apart = omega arith }) in omega arith)))
 
 -- What comes before a node in tree order does not stand in its tree.
 before-front : (x : NodeName) (ns ms : List Node) → is_in name_eq x (names_of ns) ≡ true →

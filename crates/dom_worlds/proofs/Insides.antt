@@ -79,11 +79,6 @@ inside-where test new (tree n c r) a z =
 pub inside-put_root : (y : NodeName) (new ts : Trees) (a z : NodeName) → inside (put_root y new ts) a z ≡ inside new a z + inside ts a z
 inside-put_root y new ts a z = ap (λ t. inside t a z) (put_root-where y new ts) ∙ inside-where (Rattle.dom_model.specs.Names.name_before y) new ts a z
 
--- before the node given
-pub inside-put_before : (before : Option NodeName) (new ts : Trees) (a z : NodeName) → inside (put_before before new ts) a z ≡ inside new a z + inside ts a z
-inside-put_before before new ts a z = ap (λ t. inside t a z) (put_before-where before new ts) ∙
-    inside-where (Rattle.dom_model.specs.TreeChanges.is_given before) new ts a z
-
 -- of the first list that is there
 inside-or_else : (ts us : Trees) (a z : NodeName) → inside (or_else ts us) a z ≤ inside ts a z + inside us a z
 inside-or_else none us a z = omega arith
@@ -105,52 +100,60 @@ inside-without (tree n c r) y a z =
     let p = times-parts n c none z in let q = times-parts n (without y c) none z in omega arith)
     (λ f. let k = inside-elsewhere n c r a z f in let l = inside-elsewhere n (without y c) (without y r) a z f in omega arith))
 
--- Elementary changes.
-pub inside-taken_out : (ts : Trees) (y a z : NodeName) → inside (taken_out y ts) a z ≤ inside ts a z
-inside-taken_out ts y a z = let p = inside-put_root y (subtree ts y) (without y ts) a z in let w = inside-without ts y a z in omega arith
+-- Trees that are put among others.
+module _ (before : Option NodeName) (new : Trees) (a z : NodeName) where
+  -- before the node given
+  pub inside-put_before : (ts : Trees) → inside (put_before before new ts) a z ≡ inside new a z + inside ts a z
+  inside-put_before ts = ap (λ t. inside t a z) (put_before-where before new ts) ∙
+      inside-where (Rattle.dom_model.specs.TreeChanges.is_given before) new ts a z
 
--- what is put below a node that does not stand in the tree of a
-inside-put_below : (parent : NodeName) (before : Option NodeName) (new ts : Trees) (a z : NodeName) → times_in ts parent ≤ 1 →
-    inside ts a parent ≡ 0 → inside (put_below parent before new ts) a z ≤ inside new a z + inside ts a z
-inside-put_below parent before new none a z u h = omega arith
-inside-put_below parent before new (tree n c r) a z u h =
-    by_cases (name_eq n.name parent)
-    (λ e. let s = ap (λ t. inside t a z) (put_below-here parent before new n c r e) in
-    let g = times-here n c r parent e in
-    let d = ap (λ t. inside (put_before before new t) a z) (put_below-absent parent before new c (omega arith)) in
-    let f = ap (λ t. inside t a z) (put_below-absent parent before new r (omega arith)) in
-    let b = inside-put_before before new c a z in
-    by_cases (name_eq n.name a)
-    (λ k. absurd (let i = inside-here n c r a parent k in let j = times-here n c none parent e in omega arith))
-    (λ k. let i = inside-elsewhere n c r a z k in let j = inside-elsewhere n (put_before before new (put_below parent before new c))
-    (put_below parent before new r) a z k in omega arith))
-    (λ e. let s = ap (λ t. inside t a z) (put_below-elsewhere parent before new n c r e) in
-    let g = times-elsewhere n c r parent e in
-    by_cases (name_eq n.name a)
-    (λ k. let i = inside-here n c r a parent k in let j = times-more n c none parent in
-    let d = put_below-absent parent before new c (omega arith) in
-    let q = inside-here n (put_below parent before new c) (put_below parent before new r) a z k in
-    let w = ap (λ t. times_in (tree n t none) z) d in
-    let v = inside-here n c r a z k in
-    let behind = inside-put_below parent before new r a z (omega arith) (omega arith) in omega arith)
-    (λ k. let i = inside-elsewhere n c r a parent k in
-    let q = inside-elsewhere n (put_below parent before new c) (put_below parent before new r) a z k in
-    let v = inside-elsewhere n c r a z k in
-    by_times (times_in c parent)
-    (λ t. let d = ap (λ t. inside t a z) (put_below-absent parent before new c t) in let behind = inside-put_below parent before new r a z
-    (omega arith) (omega arith) in omega arith)
-    (λ t. let d = ap (λ t. inside t a z) (put_below-absent parent before new r (omega arith)) in let below = inside-put_below parent before new c
-    a z (omega arith) (omega arith) in omega arith)))
+  -- what is put below a node that does not stand in the tree of a
+  inside-put_below : (parent : NodeName) (ts : Trees) → times_in ts parent ≤ 1 →
+      inside ts a parent ≡ 0 → inside (put_below parent before new ts) a z ≤ inside new a z + inside ts a z
+  inside-put_below parent none u h = omega arith
+  inside-put_below parent (tree n c r) u h =
+      by_cases (name_eq n.name parent)
+      (λ e. let s = ap (λ t. inside t a z) (put_below-here parent before new n c r e) in
+      let g = times-here n c r parent e in
+      let d = ap (λ t. inside (put_before before new t) a z) (put_below-absent parent before new c (omega arith)) in
+      let f = ap (λ t. inside t a z) (put_below-absent parent before new r (omega arith)) in
+      let b = inside-put_before c in
+      by_cases (name_eq n.name a)
+      (λ k. absurd (let i = inside-here n c r a parent k in let j = times-here n c none parent e in omega arith))
+      (λ k. let i = inside-elsewhere n c r a z k in let j = inside-elsewhere n (put_before before new (put_below parent before new c))
+      (put_below parent before new r) a z k in omega arith))
+      (λ e. let s = ap (λ t. inside t a z) (put_below-elsewhere parent before new n c r e) in
+      let g = times-elsewhere n c r parent e in
+      by_cases (name_eq n.name a)
+      (λ k. let i = inside-here n c r a parent k in let j = times-more n c none parent in
+      let d = put_below-absent parent before new c (omega arith) in
+      let q = inside-here n (put_below parent before new c) (put_below parent before new r) a z k in
+      let w = ap (λ t. times_in (tree n t none) z) d in
+      let v = inside-here n c r a z k in
+      let behind = inside-put_below parent r (omega arith) (omega arith) in omega arith)
+      (λ k. let i = inside-elsewhere n c r a parent k in
+      let q = inside-elsewhere n (put_below parent before new c) (put_below parent before new r) a z k in
+      let v = inside-elsewhere n c r a z k in
+      by_times (times_in c parent)
+      (λ t. let d = ap (λ t. inside t a z) (put_below-absent parent before new c t) in let behind = inside-put_below parent r
+      (omega arith) (omega arith) in omega arith)
+      (λ t. let d = ap (λ t. inside t a z) (put_below-absent parent before new r (omega arith)) in let below = inside-put_below parent c (omega arith) (omega arith) in omega arith)))
 
--- a node that is placed
-pub inside-placed : (ts : Trees) (y parent : NodeName) (before : Option NodeName) (a z : NodeName) → IsUnique ts → inside ts a parent ≡ 0 →
-    inside (placed y parent before ts) a z ≤ inside ts a z
-inside-placed ts y parent before a z u h =
-    let once = u parent in
-    let w = times-without ts y parent in
-    let v = inside-without ts y a parent in
-    let p = inside-put_below parent before (subtree ts y) (without y ts) a z (omega arith) (omega arith) in
-    let q = inside-without ts y a z in omega arith
+-- Elementary changes. Of a node y.
+module _ (ts : Trees) (y a z : NodeName) where
+  -- it leaves its parent
+  pub inside-taken_out : inside (taken_out y ts) a z ≤ inside ts a z
+  inside-taken_out = let p = inside-put_root y (subtree ts y) (without y ts) a z in let w = inside-without ts y a z in omega arith
+
+  -- it is placed
+  pub inside-placed : (parent : NodeName) (before : Option NodeName) → IsUnique ts → inside ts a parent ≡ 0 →
+      inside (placed y parent before ts) a z ≤ inside ts a z
+  inside-placed parent before u h =
+      let once = u parent in
+      let w = times-without ts y parent in
+      let v = inside-without ts y a parent in
+      let p = inside-put_below before (subtree ts y) a z parent (without y ts) (omega arith) (omega arith) in
+      let q = inside-without ts y a z in omega arith
 
 -- a new node
 pub inside-with_node : (n : Node) (ts : Trees) (a z : NodeName) → name_eq n.name a ≡ false → inside (with_node n ts) a z ≡ inside ts a z

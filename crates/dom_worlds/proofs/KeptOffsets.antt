@@ -91,7 +91,7 @@ pub join_at-keeps : (p : Part) (first : NodeName) (size : ℕ) (next parent : No
     size + length_of p.trees next ≤ length_of p.trees first → HasBounds p → HasBounds (part_step p (join_at first size next parent index))
 join_at-keeps p first size next parent index i a h =
     bounds-of (part_step p (join_at first size next parent index)) (part-step p (join_at first size next parent index) i)
-    (room-join first size next parent index a (room-of p i h))
+    (room-join (room-of p i h) parent index first size next a)
 
 -- a range that gets ends within their nodes
 pub set_range-keeps : (p : Part) (k : ℕ) (r : Range NodeName) → IsPart p → IsWithin p.trees r.start → IsWithin p.trees r.end → HasBounds p →

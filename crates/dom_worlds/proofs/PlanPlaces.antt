@@ -88,7 +88,7 @@ apart-step {p} (make n) i a z t h e =
     by_cases (name_eq (next_name p) a)
     (λ k. absurd (let b = next-absent p i in let same = ap (times_in p.trees) (name_eq-true (next_name p) a k) in omega arith))
     (λ k. inside-with_node (with_name (next_name p) n) p.trees a z k ∙ e)
-apart-step {p} (place x parent before) i a z t h e = let b = inside-placed p.trees x parent before a z i.unique h in omega arith
+apart-step {p} (place x parent before) i a z t h e = let b = inside-placed p.trees x a z parent before i.unique h in omega arith
 apart-step {p} (take_out x) i a z t h e = from (parent_of p.trees x)
   where
     from : (o : Option NodeName) → inside (option_map_or (leave p x) o p).trees a z ≡ 0

@@ -251,7 +251,7 @@ iterator-left {ts} {i} x u h =
     (λ e. by_cases (here i.reference)
     (λ k. let above = inside-no_ancestor ts x root u e in
     let mine = ancestor-inside ts x i.reference k in
-    let below = inside-comparable ts root x i.reference u held mine above in
+    let below = inside-comparable ts root x i.reference u (record { first = held; second = mine; apart = above }) in
     let at = descend-begins ts root (has_node-times ts root h.root) in
     let other : name_eq x root ≡ false =
     by_cases (name_eq x root) (λ z. absurd

@@ -106,9 +106,8 @@ room-tail {x} {offset} {q} {new} {o = Some parent} e t m =
     let c = (leads-inserting observed new parent before q t.part may).changed in
     let more = kids-plain observed new parent before q t.part may t.root t.plain in
     room-then nowhere q steps (split_at x offset new parent index ∷ [])
-    (room-split x offset new parent index (sizes r steps c may)
-    (let size = lengths r c may opened in omega arith)
-    (room-inserting observed before (record { part = t.part; room = t.room }) (record { go = may; open_parent = opened })))
+    (room-split (room-inserting observed before (record { part = t.part; room = t.room }) (record { go = may; open_parent = opened })) parent index x offset new
+    (sizes r steps c may) (let size = lengths r c may opened in omega arith))
   where
     sizes : (r : Part) (steps : List Step) → Changed (Some parent) q (after q (inserting observed new parent (next_sibling q.trees x) q)) →
         MayGo parent q new → length_of (after q (inserting observed new parent (next_sibling q.trees x) q)).trees x ≤ offset + length_of
@@ -197,7 +196,7 @@ room-joins : (ts : Trees) (x parent : NodeName) (size : ℕ) (ys : List NodeName
 room-joins ts x parent size [] a b h = h
 room-joins ts x parent size (y ∷ ys) {q} a b h =
     room-joins ts x parent (size + length_of ts y) ys (omega arith) b.1
-    (room-join x size y parent (index_of ts y) (let b0 = b.0 in omega arith) h)
+    (room-join h parent (index_of ts y) x size y (let b0 = b.0 in omega arith))
 
 -- a name that is not among some differs from each
 pub none-among : (x : NodeName) (xs : List NodeName) → times_among xs x ≡ 0 → AllByRecursion (λ y. name_eq x y ≡ false) xs
