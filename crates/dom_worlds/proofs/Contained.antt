@@ -324,7 +324,7 @@ spared-up_to {q} ts r a u e above =
     let rest = tail.0 in
     let begins : boundary_place ts r.start ≡ map odd path ++ (odd j ∷ rest) = tail.1 in
     record {
-      above = above-above ts q a start u (parent-above ts a q u e) above;
+      above = above-above ts q a start u (parent-above ts a u e) above;
       parent = ap (λ b. list_before b (boundary_place ts (at q 0))) begins ∙ ap (list_before (map odd path ++ (odd j ∷ rest)))
           (place-is ts q path 0 at_q.1) ∙ before-common path (odd j ∷ rest) (0 ∷ []) ∙ before-zero (odd j) rest;
       children = all-then (IsRootAt 0 below j) (λ x. is_before ts r.start (at x 0) ≡ false)

@@ -107,7 +107,7 @@ module _ (p : Part) (xs : List NodeName) (y : NodeName) (r : Range NodeName) (i 
         all-then (λ x. IsChild x y p) (λ x. IsNot x z)
             (λ x k. by_cases (name_eq z x)
             (λ e. let same = name_eq-true z x e in
-            absurd (not_over (above-parent ts root x i.unique (child-parent p x y i k)
+            absurd (not_over (above-parent ts x i.unique (child-parent p x y i k) root
             (subst (λ a. is_inclusive_ancestor ts root a ≡ true) same h.over) (subst (λ a. name_eq root a ≡ false) same lower))))
             (λ e. e))
             xs c.0,

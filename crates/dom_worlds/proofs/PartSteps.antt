@@ -70,7 +70,7 @@ kept-step p i r (place x parent before) h =
     record {
       times = λ y. times-placed x parent before p.trees y (i.unique parent);
       shadow = nodes-placed (IsShadowAt r) x parent before p.trees;
-      alone = λ d. root-placed x parent before p.trees r d;
+      alone = λ d. root-placed parent before x p.trees r d;
     }
 kept-step p i r (take_out x) h = from (parent_of p.trees x)
   where

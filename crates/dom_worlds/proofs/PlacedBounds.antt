@@ -130,7 +130,7 @@ module _ (parent : NodeName) (before : Option NodeName) (p : Part) (x : NodeName
       let doc = document_below p.trees parent in
       let steps = adopting doc x p in
       subst (λ (q : Part). HasRoot q.trees y) (sym (after-append p steps (place x parent before ∷ [])))
-      (root-placed x parent before (after p steps).trees y e (roots-root_adopted doc x y p i h r))
+      (root-placed parent before x (after p steps).trees y e (roots-root_adopted doc x y p i h r))
 
 -- all of them
 kids-roots_placed : (parent : NodeName) (before : Option NodeName) (xs : List NodeName) {p : Part} → IsPart p → AllByRecursion (MayGo parent p) xs →

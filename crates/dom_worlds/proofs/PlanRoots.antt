@@ -147,10 +147,10 @@ starts-step {y} {p} (replace_data x offset count new) f z a =
     (moves-data us x offset count (length new) b more).1 ∙ keeps b.node y (has_node-times p.trees b.node n) a.there r) a
 starts-step {p} (split_at x offset new parent index) f o a =
     starts-ends (after_split name_eq x offset new parent index)
-    (moves-split p.trees x offset new parent index (times-has_node p.trees new f.0) f.1) a
+    (moves-split p.trees parent index x offset new (times-has_node p.trees new f.0) f.1) a
 starts-step {p} (join_at first size next parent index) f o a =
     starts-ends (after_join name_eq first size next parent index)
-    (moves-join p.trees first size next parent index (times-has_node p.trees first f.0) f.1 f.2) a
+    (moves-join p.trees parent index first size next (times-has_node p.trees first f.0) f.1 f.2) a
 starts-step (set_range j r) f o a = absurd o
 starts-step (queue_record c) f o a = a.starts
 

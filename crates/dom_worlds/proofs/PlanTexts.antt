@@ -170,15 +170,23 @@ leads-splitting x offset p i =
 abbrev pub AreBeside : NodeName → NodeName → List NodeName → Trees → Type 0
 AreBeside x parent ys us = (root_of us x ≡ root_of us parent) × AllByRecursion (λ y. root_of us x ≡ root_of us y) ys
 
+-- a Text of a part, and others that may be joined to it
+pub record CanJoin (x parent : NodeName) (ys : List NodeName) (p : Part) : Type 0 where
+  pub part : IsPart p
+  pub there : HasNode p x
+  pub beside : AreBeside x parent ys p.trees
+
 -- their joins
-pub leads-joins : (ts : Trees) (x parent : NodeName) (size : ℕ) (ys : List NodeName) {p : Part} → IsPart p → HasNode p x → AreBeside x parent ys p.trees →
-    Leads None p (joins ts x parent size ys)
-leads-joins ts x parent size [] {p} i t b = leads-nothing None p i
-leads-joins ts x parent size (y ∷ ys) {p} i t b =
+pub leads-joins : (ts : Trees) (x parent : NodeName) (size : ℕ) (ys : List NodeName) {p : Part} → CanJoin x parent ys p → Leads None p (joins ts x parent size ys)
+leads-joins ts x parent size [] {p} can = leads-nothing None p can.part
+leads-joins ts x parent size (y ∷ ys) {p} can =
+    let i = can.part in
+    let t = can.there in
+    let b = can.beside in
     let s = join_at x size y parent (index_of ts y) in
     let first = leads-one p s i (t, b.1.0, b.0) in
     leads-then None p (s ∷ []) (joins ts x parent (size + length_of ts y) ys) first
-    (leads-joins ts x parent (size + length_of ts y) ys first.changed.part (still first.changed x t) (b.0, b.1.1))
+    (leads-joins ts x parent (size + length_of ts y) ys (record { part = first.changed.part; there = still first.changed x t; beside = (b.0, b.1.1) }))
 
 -- those after a Text are beside it, whatever data it got
 pub texts-beside : {parent : NodeName} {p : Part} (x : NodeName) (size : ℕ) (all : DomString) → IsPart p → parent_of p.trees x ≡ Some parent →
@@ -211,8 +219,7 @@ leads-joining x parent p i t e =
     leads-plan None (replacing_data x size 0 all and_then steps_of (joins p.trees x parent size nexts)) (in_turn (removing observed) nexts) p
     (let first = leads-replacing_data x size 0 all p i in
     leads-then None p (replacing_data x size 0 all p) (joins p.trees x parent size nexts) first
-    (leads-joins p.trees x parent size nexts first.changed.part (still first.changed x t)
-    (texts-beside x size all i e)))
+    (leads-joins p.trees x parent size nexts (record { part = first.changed.part; there = still first.changed x t; beside = texts-beside x size all i e })))
     (λ q c. leads-removals observed nexts q c.part)
 
 -- a Text that is normalized

@@ -88,27 +88,28 @@ removed-roots how (x ∷ xs) p i t =
     subst (λ (s : Part). AllByRecursion (HasRoot s.trees) (x ∷ xs)) (sym (after-append p (removing how x p) (in_turn (removing how) xs q)))
     (root-removals how xs x q (root-removing how x p t.0), removed-roots how xs q c.part (all-then (HasNode p) (HasNode q) (λ y. still c y) xs t.1))
 
--- another parent keeps its children
-kids-removing : {parent : NodeName} {p : Part} (how : Observing) (x y : NodeName) → IsPart p → parent_of p.trees x ≡ Some parent → name_eq parent y ≡ false →
-    kids (after p (removing how x p)).trees y ≡ kids p.trees y
-kids-removing {parent} {p} how x y i e d =
-    let s = ap (λ ts. kids ts y) (trees-removing how x parent p e) in
-    let k = kids-taken_out p.trees x parent y i.unique e in
-    let o : one_at parent y ≡ 0 = cond-false (name_eq parent y) 1 0 d in omega arith
+-- A parent, and another one, which keeps its children.
+module _ (how : Observing) (parent y : NodeName) (apart : name_eq parent y ≡ false) where
+  -- where a child of the one leaves it
+  kids-removing : {p : Part} (x : NodeName) → IsPart p → parent_of p.trees x ≡ Some parent → kids (after p (removing how x p)).trees y ≡ kids p.trees y
+  kids-removing {p} x i e =
+      let s = ap (λ ts. kids ts y) (trees-removing how x parent p e) in
+      let k = kids-taken_out p.trees x parent y i.unique e in
+      let o : one_at parent y ≡ 0 = cond-false (name_eq parent y) 1 0 apart in omega arith
 
--- where all children of one leave it
-kids-removals : (how : Observing) (xs : List NodeName) (parent y : NodeName) {p : Part} → IsPart p → AllByRecursion (λ x. IsChild x parent p) xs → Distinct xs →
-    name_eq parent y ≡ false → kids (after p (in_turn (removing how) xs p)).trees y ≡ kids p.trees y
-kids-removals how [] parent y i c d n = refl
-kids-removals how (x ∷ xs) parent y {p} i c d n =
-    let q = after p (removing how x p) in
-    let j = (leads-removing how x p i).changed.part in
-    let rest = all-then (λ z. IsChild z parent p × (name_eq x z ≡ false)) (λ z. IsChild z parent q)
-    (λ z h. let h0 = h.0 in child-removing how x (record { part = i; child = h.0 }) h.1) xs
-    (all-both (λ z. IsChild z parent p) (λ z. name_eq x z ≡ false) xs c.1 d.0) in
-    let a = kids-removing how x y i (child-parent p x parent i c.0) n in
-    let b = kids-removals how xs parent y j rest d.1 n in
-    let s = ap (λ (r : Part). kids r.trees y) (after-append p (removing how x p) (in_turn (removing how) xs q)) in omega arith
+  -- where all children of one leave it
+  kids-removals : (xs : List NodeName) {p : Part} → IsPart p → AllByRecursion (λ x. IsChild x parent p) xs → Distinct xs →
+      kids (after p (in_turn (removing how) xs p)).trees y ≡ kids p.trees y
+  kids-removals [] i c d = refl
+  kids-removals (x ∷ xs) {p} i c d =
+      let q = after p (removing how x p) in
+      let j = (leads-removing how x p i).changed.part in
+      let rest = all-then (λ z. IsChild z parent p × (name_eq x z ≡ false)) (λ z. IsChild z parent q)
+      (λ z h. let h0 = h.0 in child-removing how x (record { part = i; child = h.0 }) h.1) xs
+      (all-both (λ z. IsChild z parent p) (λ z. name_eq x z ≡ false) xs c.1 d.0) in
+      let a = kids-removing x i (child-parent p x parent i c.0) in
+      let b = kids-removals xs j rest d.1 in
+      let s = ap (λ (r : Part). kids r.trees y) (after-append p (removing how x p) (in_turn (removing how) xs q)) in omega arith
 
 -- An insertion of a fragment: the parent has its children more.
 kids-fragment : {node parent : NodeName} {p : Part} (how : Observing) (before : Option NodeName) → IsPart p → MayGo parent p node →
@@ -131,7 +132,7 @@ kids-fragment {node} {parent} {p} how before i m k =
     let apart : name_eq node parent ≡ false = by_cases (name_eq node parent)
     (λ e. absurd (let a = m.apart in let b = inside-itself ts node m.there in let s = ap (inside ts node) (name_eq-true node parent e) in omega
     arith)) (λ e. e) in
-    let same = kids-removals suppressed moved node parent i children distinct apart in
+    let same = kids-removals suppressed node parent apart moved i children distinct in
     let g = kids-inserted how node parent before p i m (subst (λ us. AllByRecursion (HasRoot us) moved) (sym q_trees) roots) distinct
     (ap (λ us. kids us parent) q_trees ∙ same) in
     let size = ap (λ (xs : List NodeName). length xs) is in omega arith

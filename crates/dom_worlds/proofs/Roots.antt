@@ -67,15 +67,16 @@ ancestors-step (tree n c r) x y u h =
 pub self-above : (ts : Trees) (x : NodeName) → 1 ≤ times_in ts x → is_inclusive_ancestor ts x x ≡ true
 self-above ts x t = let at = ancestors-present ts x t in ap (is_in name_eq x) at.1 ∙ or-first (name_eq x x) (is_in name_eq x at.0) (name_eq-same x)
 
--- a parent is one of its child
-pub parent-above : (ts : Trees) (x y : NodeName) → IsUnique ts → parent_of ts x ≡ Some y → is_inclusive_ancestor ts y x ≡ true
-parent-above ts x y u h = ap (is_in name_eq y) (ancestors-step ts x y u h) ∙ or-second (name_eq y x) (is_inclusive_ancestor ts y y)
-    (self-above ts y (parent-there ts x y h))
+-- A child of a parent.
+module _ {y : NodeName} (ts : Trees) (x : NodeName) (u : IsUnique ts) (h : parent_of ts x ≡ Some y) where
+  -- the parent is an inclusive ancestor of it
+  pub parent-above : is_inclusive_ancestor ts y x ≡ true
+  parent-above = ap (is_in name_eq y) (ancestors-step ts x y u h) ∙ or-second (name_eq y x) (is_inclusive_ancestor ts y y)
+      (self-above ts y (parent-there ts x y h))
 
--- an ancestor of a child is an inclusive ancestor of its parent
-pub above-parent : {y : NodeName} (ts : Trees) (a x : NodeName) → IsUnique ts → parent_of ts x ≡ Some y → is_inclusive_ancestor ts a x ≡ true →
-    name_eq a x ≡ false → is_inclusive_ancestor ts a y ≡ true
-above-parent {y} ts a x u h k d = or-later (name_eq a x) (is_inclusive_ancestor ts a y) d (sym (ap (is_in name_eq a) (ancestors-step ts x y u h)) ∙ k)
+  -- an ancestor of it is an inclusive ancestor of the parent
+  pub above-parent : (a : NodeName) → is_inclusive_ancestor ts a x ≡ true → name_eq a x ≡ false → is_inclusive_ancestor ts a y ≡ true
+  above-parent a k d = or-later (name_eq a x) (is_inclusive_ancestor ts a y) d (sym (ap (is_in name_eq a) (ancestors-step ts x y u h)) ∙ k)
 
 -- a parent does not stand in its child's tree
 pub parent-apart : (ts : Trees) (x y : NodeName) → IsUnique ts → parent_of ts x ≡ Some y → inside ts x y ≡ 0
@@ -122,7 +123,7 @@ root-one ts u a z h = all-in (λ y. root_of ts y ≡ root_of ts z) a (inclusive_
 
 -- so a child has its parent's
 pub root-parent_of : (ts : Trees) → IsUnique ts → (x y : NodeName) → parent_of ts x ≡ Some y → root_of ts y ≡ root_of ts x
-root-parent_of ts u x y h = root-one ts u y x (parent-above ts x y u h)
+root-parent_of ts u x y h = root-one ts u y x (parent-above ts x u h)
 
 -- one root, as the model tests it
 pub roots-equal : (ts : Trees) (a b : NodeName) → same_root ts a b ≡ true → root_of ts a ≡ root_of ts b

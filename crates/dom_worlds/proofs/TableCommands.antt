@@ -79,11 +79,16 @@ exists-third p x y z h =
     let both = and_parts (has_node p.trees (named p x)) more (and_parts (has_node p.trees (named p x) && more) true h).0 in
     has_node-times p.trees (named p z) (and_parts (has_node p.trees (named p z)) true (and_parts (has_node p.trees (named p y)) last both.1).1).0
 
--- What holds in each case holds of what is made of it.
-pub some-holds : {X : Type 0} (P : X → Type 0) (p : Part) (o : Option X) (f : X → Effect) (d : Effect) → IfSome P o →
-    ((x : X) → P x → Holds p (f x)) → Holds p d → Holds p (option_map_or f o d)
-some-holds P p None f d h g k = k
-some-holds P p (Some x) f d h g k = g x h
+-- What is made of something, and where there is nothing, holds.
+pub record HoldsEach {X : Type 0} (P : X → Type 0) (p : Part) (f : X → Effect) (d : Effect) : Type 0 where
+  pub each : (x : X) → P x → Holds p (f x)
+  pub otherwise : Holds p d
+
+-- what holds in each case holds of what is made of it
+pub some-holds : {X : Type 0} {P : X → Type 0} (p : Part) (o : Option X) (f : X → Effect) (d : Effect) → IfSome P o → HoldsEach P p f d →
+    Holds p (option_map_or f o d)
+some-holds p None f d h made = made.otherwise
+some-holds p (Some x) f d h made = made.each x h
 
 -- a range that is written
 pub tables-range : (p : Part) (k : ℕ) (r : Option (Range NodeName)) → HasTables p → EndsIn p.trees r → HasTables (with_range p k r)

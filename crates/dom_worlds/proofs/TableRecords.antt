@@ -44,31 +44,33 @@ all-registered P path rs h = all-flat_map P (λ x. filter (λ (r : Registration 
     (all-from (λ x. AllByRecursion P (filter (λ (r : Registration NodeName). name_eq r.node x) rs))
     (λ x. all-filter P (λ (r : Registration NodeName). name_eq r.node x) rs h) path)
 
--- what a transient copy stems from
-source-copied : (ts : Trees) (k : ℕ) (r : Registration NodeName) → IsRegistrationIn ts k r → IsSourceIn ts (copied_source name_eq r)
-source-copied ts k r h = either_way (IsSourceIn ts) (is_transient r.source) copied_from_transient (copied_from r.node) tt h.node
+-- Registrations of some trees, and the observers below a number.
+module _ (ts : Trees) (k : ℕ) where
+  -- what a transient copy stems from
+  source-copied : (r : Registration NodeName) → IsRegistrationIn ts k r → IsSourceIn ts (copied_source name_eq r)
+  source-copied r h = either_way (IsSourceIn ts) (is_transient r.source) copied_from_transient (copied_from r.node) tt h.node
 
--- the transient copies
-all-transients : (ts : Trees) (k : ℕ) (x : NodeName) (path : List NodeName) (rs : List (Registration NodeName)) → IsNodeIn ts x →
-    AllByRecursion (IsRegistrationIn ts k) rs → AllByRecursion (IsRegistrationIn ts k) (transients_for name_eq x path rs)
-all-transients ts k x path rs g h =
-    let P = IsRegistrationIn ts k in
-    let copy : Registration NodeName → Registration NodeName =
-    λ r. record { node = x; observer = r.observer; options = r.options; source = copied_source name_eq r } in
-    let chosen = filter (λ (r : Registration NodeName). r.options.subtree) (registrations_on name_eq path rs) in
-    all-map P copy chosen (all-then P (λ r. P (copy r)) (λ r i. record { node = g; observer = i.observer; source = source-copied ts k r i }) chosen
-    (all-filter P (λ (r : Registration NodeName). r.options.subtree) (registrations_on name_eq path rs) (all-registered P path rs h)))
+  -- the transient copies
+  all-transients : (x : NodeName) (path : List NodeName) (rs : List (Registration NodeName)) → IsNodeIn ts x →
+      AllByRecursion (IsRegistrationIn ts k) rs → AllByRecursion (IsRegistrationIn ts k) (transients_for name_eq x path rs)
+  all-transients x path rs g h =
+      let P = IsRegistrationIn ts k in
+      let copy : Registration NodeName → Registration NodeName =
+      λ r. record { node = x; observer = r.observer; options = r.options; source = copied_source name_eq r } in
+      let chosen = filter (λ (r : Registration NodeName). r.options.subtree) (registrations_on name_eq path rs) in
+      all-map P copy chosen (all-then P (λ r. P (copy r)) (λ r i. record { node = g; observer = i.observer; source = source-copied r i }) chosen
+      (all-filter P (λ (r : Registration NodeName). r.options.subtree) (registrations_on name_eq path rs) (all-registered P path rs h)))
 
--- the observers that are interested have their queues
-all-interested : (ts : Trees) (k : ℕ) (path : List NodeName) (rs : List (Registration NodeName)) (c : Change NodeName) →
-    AllByRecursion (IsRegistrationIn ts k) rs → AllByRecursion (λ j. j < k) (interested name_eq path rs c)
-all-interested ts k path rs c h =
-    let P = IsRegistrationIn ts k in
-    let fit = fitting name_eq path rs c in
-    all-distinct (λ j. j < k) nat_eq (map (λ (r : Registration NodeName). r.observer) fit)
-    (all-map (λ j. j < k) (λ (r : Registration NodeName). r.observer) fit
-    (all-then P (λ r. r.observer < k) (λ r i. i.observer) fit
-    (all-filter P (fits name_eq c) (registrations_on name_eq path rs) (all-registered P path rs h))))
+  -- the observers that are interested have their queues
+  all-interested : (path : List NodeName) (rs : List (Registration NodeName)) (c : Change NodeName) →
+      AllByRecursion (IsRegistrationIn ts k) rs → AllByRecursion (λ j. j < k) (interested name_eq path rs c)
+  all-interested path rs c h =
+      let P = IsRegistrationIn ts k in
+      let fit = fitting name_eq path rs c in
+      all-distinct (λ j. j < k) nat_eq (map (λ (r : Registration NodeName). r.observer) fit)
+      (all-map (λ j. j < k) (λ (r : Registration NodeName). r.observer) fit
+      (all-then P (λ r. r.observer < k) (λ r i. i.observer) fit
+      (all-filter P (fits name_eq c) (registrations_on name_eq path rs) (all-registered P path rs h))))
 
 -- observers that become pending
 all-appended : (k : ℕ) (new old : List ℕ) → AllByRecursion (λ j. j < k) new → AllByRecursion (λ j. j < k) old →
@@ -209,21 +211,23 @@ adjusted-not : (ts : Trees) (x : NodeName) (i : Iterator) →
     (is_inclusive_ancestor ts x i.root || not (is_inclusive_ancestor ts x i.reference)) ≡ true → adjusted_iterator ts x i ≡ i
 adjusted-not ts x i e = cond-true (is_inclusive_ancestor ts x i.root || not (is_inclusive_ancestor ts x i.reference)) i _ e
 
--- the nodes in the tree of a node, read alone
-pub inside-alone : (ts : Trees) (x y : NodeName) → IsUnique ts → inside ts x y ≤ times_in (subtree ts x) y
-inside-alone ts x y u =
-    by_times (times_in ts x) (λ z. let a = inside-absent ts x y z in omega arith)
-    (λ z. inside-nested ts x x y u (root-there (subtree ts x) x (root-subtree ts x z)))
+-- A node and another one.
+module _ (ts : Trees) (x y : NodeName) where
+  -- the nodes in its tree, read alone
+  pub inside-alone : IsUnique ts → inside ts x y ≤ times_in (subtree ts x) y
+  inside-alone u =
+      by_times (times_in ts x) (λ z. let a = inside-absent ts x y z in omega arith)
+      (λ z. inside-nested ts x x y u (root-there (subtree ts x) x (root-subtree ts x z)))
 
--- an inclusive ancestor of an inclusive ancestor is one
-pub above-above : (ts : Trees) (a y z : NodeName) → IsUnique ts → is_inclusive_ancestor ts a y ≡ true → is_inclusive_ancestor ts y z ≡ true →
-    is_inclusive_ancestor ts a z ≡ true
-above-above ts a y z u h k =
-    let over = ancestor-inside ts a y h in
-    let under = ancestor-inside ts y z k in
-    let alone = inside-alone ts a y u in
-    let nested = inside-nested ts a y z u (omega arith) in
-    let all = times-inside ts a z in inside-ancestor ts a z u (omega arith)
+  -- an inclusive ancestor of an inclusive ancestor is one
+  pub above-above : (z : NodeName) → IsUnique ts → is_inclusive_ancestor ts x y ≡ true → is_inclusive_ancestor ts y z ≡ true →
+      is_inclusive_ancestor ts x z ≡ true
+  above-above z u h k =
+      let over = ancestor-inside ts x y h in
+      let under = ancestor-inside ts y z k in
+      let alone = inside-alone u in
+      let nested = inside-nested ts x y z u (omega arith) in
+      let all = times-inside ts x z in inside-ancestor ts x z u (omega arith)
 
 -- an iterator before the removal of a node, as it is after it
 iterator-left : {ts : Trees} {i : Iterator} (x : NodeName) → IsUnique ts → IsIteratorIn ts i → IsIteratorIn (taken_out x ts) (adjusted_iterator ts x i)
@@ -360,10 +364,10 @@ tables-step p (replace_data x offset count new) i f h =
     (grows-step p (replace_data x offset count new) i f) (ancestors-step p (replace_data x offset count new) i f tt) h)
 tables-step p (split_at x offset new parent index) i f h =
     tables-ends p (after_split name_eq x offset new parent index)
-    (moves-split p.trees x offset new parent index (times-has_node p.trees new f.0) f.1) h
+    (moves-split p.trees parent index x offset new (times-has_node p.trees new f.0) f.1) h
 tables-step p (join_at first size next parent index) i f h =
     tables-ends p (after_join name_eq first size next parent index)
-    (moves-join p.trees first size next parent index (times-has_node p.trees first f.0) f.1 f.2) h
+    (moves-join p.trees parent index first size next (times-has_node p.trees first f.0) f.1 f.2) h
 tables-step p (set_range k r) i f h =
     record {
       hosts = h.hosts;

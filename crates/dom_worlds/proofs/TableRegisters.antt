@@ -70,18 +70,22 @@ tables-listeners p ls h g = record {
   listeners = g;
 }
 
--- Observers.
-all-registered_with : (P : Registration NodeName → Type 0) (k : ℕ) (x : NodeName) (o : ObserveWords) (rs : List (Registration NodeName)) →
-    ((r : Registration NodeName) → P r → P (record r { options = o })) → P (record { node = x; observer = k; options = o; source = asked_for }) →
-    AllByRecursion P rs → AllByRecursion P (with_registration name_eq k x o rs)
-all-registered_with P k x o rs f g h =
+-- Observers. What other options leave as it is, and what holds of a new registration of an observer at a node.
+record HoldsRegistered (P : Registration NodeName → Type 0) (k : ℕ) (x : NodeName) (o : ObserveWords) : Type 0 where
+  changed : (r : Registration NodeName) → P r → P (record r { options = o })
+  made : P (record { node = x; observer = k; options = o; source = asked_for })
+
+-- holds of all
+all-registered_with : {P : Registration NodeName → Type 0} {k : ℕ} {x : NodeName} {o : ObserveWords} (rs : List (Registration NodeName)) →
+    HoldsRegistered P k x o → AllByRecursion P rs → AllByRecursion P (with_registration name_eq k x o rs)
+all-registered_with {P} {k} {x} {o} rs each h =
     let left = filter (λ (r : Registration NodeName). not ((r.observer == k) && stems_from name_eq x r.source)) rs in
     let one : Registration NodeName = record { node = x; observer = k; options = o; source = asked_for } in
     either_way (AllByRecursion P) (list_any (is_asked_for name_eq k x) rs) (map (with_options name_eq k x o) left) (rs ++ one ∷ [])
     (all-map P (with_options name_eq k x o) left
-    (all-then P (λ r. P (with_options name_eq k x o r)) (λ r m. either_way P (is_asked_for name_eq k x r) (record r { options = o }) r (f r m) m)
+    (all-then P (λ r. P (with_options name_eq k x o r)) (λ r m. either_way P (is_asked_for name_eq k x r) (record r { options = o }) r (each.changed r m) m)
     left (all-filter P (λ (r : Registration NodeName). not ((r.observer == k) && stems_from name_eq x r.source)) rs h)))
-    (all-append P rs (one ∷ []) h (g, tt))
+    (all-append P rs (one ∷ []) h (each.made, tt))
 
 -- with other queues and registrations
 tables-observers : {p : Part} (queues : _) (rs : List (Registration NodeName)) (ks : List ℕ) → HasTables p →
@@ -217,11 +221,9 @@ holds-effect p i h f (Command.range_collapse k s) r =
     tables-range p k _ h (ends-mapped p.trees (collapsed_to s) (ends-collapsed p.trees s) (range_at p k) (ends-at p k h))
 holds-effect p i h f (Command.range_drop k) r = tables-range p k None h tt
 holds-effect p i h f (Command.range_get k) r =
-    some-holds (λ x. ⊤) p (range_at p k) (λ (r : Range NodeName). answers p (boundaries r.start r.end)) (answers p nothing)
-    (some-any (range_at p k)) (λ x t. h) h
+    some-holds p (range_at p k) (λ (r : Range NodeName). answers p (boundaries r.start r.end)) (answers p nothing) (some-any (range_at p k)) (record { each = (λ x t. h); otherwise = h })
 holds-effect p i h f (Command.range_text k) r =
-    some-holds (λ x. ⊤) p (range_at p k) (λ (r : Range NodeName). answers p (a_string (range_text_of p.trees r))) (answers p nothing)
-    (some-any (range_at p k)) (λ x t. h) h
+    some-holds p (range_at p k) (λ (r : Range NodeName). answers p (a_string (range_text_of p.trees r))) (answers p nothing) (some-any (range_at p k)) (record { each = (λ x t. h); otherwise = h })
 holds-effect p i h f (Command.extract k) r =
     range-made p k (λ range. extracting k range p) (λ range e. (leads-extracting k range p i (range-ends p k h range e).0).made)
 holds-effect p i h f (Command.delete k) r =
@@ -264,28 +266,19 @@ holds-effect p i h f (Command.walker_new x w) r =
       listeners = h.listeners;
     }
 holds-effect p i h f (Command.iterator_next k) r =
-    some-holds (IsIteratorIn p.trees) p (slice_get p.iterators k) (λ i. moves_iterator p k false i (iterator_next_node p.trees i))
-    (answers p nothing) (all-get (IsIteratorIn p.trees) p.iterators k h.iterators)
-    (λ j g. tables-iterator k false (iterator_next_node p.trees j) h g (iterator-next p.trees j i.unique g)) h
+    some-holds p (slice_get p.iterators k) (λ i. moves_iterator p k false i (iterator_next_node p.trees i)) (answers p nothing) (all-get (IsIteratorIn p.trees) p.iterators k h.iterators) (record { each = (λ j g. tables-iterator k false (iterator_next_node p.trees j) h g (iterator-next p.trees j i.unique g)); otherwise = h })
 holds-effect p i h f (Command.iterator_previous k) r =
-    some-holds (IsIteratorIn p.trees) p (slice_get p.iterators k) (λ i. moves_iterator p k true i (iterator_previous_node p.trees i))
-    (answers p nothing) (all-get (IsIteratorIn p.trees) p.iterators k h.iterators)
-    (λ j g. tables-iterator k true (iterator_previous_node p.trees j) h g (iterator-previous p.trees j i.unique g)) h
+    some-holds p (slice_get p.iterators k) (λ i. moves_iterator p k true i (iterator_previous_node p.trees i)) (answers p nothing) (all-get (IsIteratorIn p.trees) p.iterators k h.iterators) (record { each = (λ j g. tables-iterator k true (iterator_previous_node p.trees j) h g (iterator-previous p.trees j i.unique g)); otherwise = h })
 holds-effect p i h f (Command.iterator_at k) r =
-    some-holds (IsIteratorIn p.trees) p (slice_get p.iterators k) (λ (i : Iterator). answers p (reference i.reference i.before))
-    (answers p nothing) (all-get (IsIteratorIn p.trees) p.iterators k h.iterators) (λ j g. h) h
+    some-holds p (slice_get p.iterators k) (λ (i : Iterator). answers p (reference i.reference i.before)) (answers p nothing) (all-get (IsIteratorIn p.trees) p.iterators k h.iterators) (record { each = (λ j g. h); otherwise = h })
 holds-effect p i h f (Command.walk k m) r =
-    some-holds (IsWalkerIn p.trees) p (slice_get p.walkers k)
-    (λ w. sets_walker p k w (walker_move p.trees w m) (node_or_null (walker_move p.trees w m))) (answers p nothing)
-    (all-get (IsWalkerIn p.trees) p.walkers k h.walkers) (λ w g. tables-walker k (walker_move p.trees w m) _ h g (walker-moved p.trees w m)) h
+    some-holds p (slice_get p.walkers k) (λ w. sets_walker p k w (walker_move p.trees w m) (node_or_null (walker_move p.trees w m))) (answers p nothing) (all-get (IsWalkerIn p.trees) p.walkers k h.walkers) (record { each = (λ w g. tables-walker k (walker_move p.trees w m) _ h g (walker-moved p.trees w m)); otherwise = h })
 holds-effect p i h f (Command.walker_at k) r =
-    some-holds (IsWalkerIn p.trees) p (slice_get p.walkers k) (λ (w : Walker). answers p (a_node w.current)) (answers p nothing)
-    (all-get (IsWalkerIn p.trees) p.walkers k h.walkers) (λ j g. h) h
+    some-holds p (slice_get p.walkers k) (λ (w : Walker). answers p (a_node w.current)) (answers p nothing) (all-get (IsWalkerIn p.trees) p.walkers k h.walkers) (record { each = (λ j g. h); otherwise = h })
 holds-effect p i h f (Command.walker_set k x) r =
     let a = part-accepted p (Command.walker_set k x) r in
     let t = times-has_node p.trees (named p x) (exists-first p x true (is_some (slice_get p.walkers k)) a.exist) in
-    some-holds (IsWalkerIn p.trees) p (slice_get p.walkers k) (λ w. sets_walker p k w (Some (named p x)) nothing) (answers p nothing)
-    (all-get (IsWalkerIn p.trees) p.walkers k h.walkers) (λ w g. tables-walker k (Some (named p x)) nothing h g t) h
+    some-holds p (slice_get p.walkers k) (λ w. sets_walker p k w (Some (named p x)) nothing) (answers p nothing) (all-get (IsWalkerIn p.trees) p.walkers k h.walkers) (record { each = (λ w g. tables-walker k (Some (named p x)) nothing h g t); otherwise = h })
 holds-effect p i h f (Command.listen x w) r =
     let a = part-accepted p (Command.listen x w) r in
     tables-listeners p _ h (all-heard (IsListenerIn p.trees) (named p x) w p.listeners
@@ -302,10 +295,12 @@ holds-effect p i h f (Command.observe k x w) r =
     let t = times-has_node p.trees (named p x) (exists-first p x true (is_some (slice_get p.record_queues k)) a.exist) in
     let below = get-below p.record_queues k (and_parts (has_node p.trees (named p x) && true) (is_some (slice_get p.record_queues k)) a.exist).1 in
     let P = IsRegistrationIn p.trees (length p.record_queues) in
+    let each : HoldsRegistered P k (named p x) (options_of w) = record {
+      changed = λ r m. record { node = m.node; observer = m.observer; source = m.source };
+      made = record { node = t; observer = below; source = tt };
+    } in
     tables-observers p.record_queues (with_registration name_eq k (named p x) (options_of w) p.registrations) p.pending h
-    (all-registered_with P k (named p x) (options_of w) p.registrations
-    (λ r m. record { node = m.node; observer = m.observer; source = m.source }) (record { node = t; observer = below; source = tt })
-    h.registrations) h.pending
+    (all-registered_with p.registrations each h.registrations) h.pending
 holds-effect p i h f (Command.disconnect k) r =
     let same : length p.record_queues ≤ length (slice_set p.record_queues k []) = let e = length-set p.record_queues k [] in omega arith in
     let left = filter (λ (r : Registration NodeName). not (r.observer == k)) p.registrations in

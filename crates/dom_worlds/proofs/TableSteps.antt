@@ -256,25 +256,27 @@ moves-data ts x offset count size b h = from (name_eq b.node x) refl
         (either_way (IsUnder ts b.node) (nat_le b.offset (offset + count)) (at x offset) (at x (b.offset + size - count)) k k)
     from false e = (h, refl)
 
--- at a split
-pub moves-split : (ts : Trees) (x : NodeName) (offset : ℕ) (new parent : NodeName) (index : ℕ) → IsNodeIn ts new → root_of ts new ≡ root_of ts x →
-    MovesIn ts (after_split name_eq x offset new parent index)
-moves-split ts x offset new parent index k e b h =
-    which_way (IsUnder ts b.node) (name_eq b.node x && nat_lt offset b.offset) (at new (b.offset - offset))
-    (if boundary_eq name_eq b (at parent (index + 1)) then at parent (index + 2) else b)
-    (λ t. (k, e ∙ ap (root_of ts) (sym (name_eq-true b.node x (and_parts (name_eq b.node x) (nat_lt offset b.offset) t).0))))
-    (λ t. from (name_eq b.node parent) refl)
-  where
-    from : (t : Bool) → name_eq b.node parent ≡ t → IsUnder ts b.node (if t && nat_eq b.offset (index + 1) then at parent (index + 2) else b)
-    from true e = either_way (IsUnder ts b.node) (nat_eq b.offset (index + 1)) (at parent (index + 2)) b
-        (subst (λ y. IsUnder ts b.node (at y 0)) (name_eq-true b.node parent e) (h, refl)) (h, refl)
-    from false e = (h, refl)
+-- Below a parent, at a place among its children.
+module _ (ts : Trees) (parent : NodeName) (index : ℕ) where
+  -- at a split
+  pub moves-split : (x : NodeName) (offset : ℕ) (new : NodeName) → IsNodeIn ts new → root_of ts new ≡ root_of ts x →
+      MovesIn ts (after_split name_eq x offset new parent index)
+  moves-split x offset new k e b h =
+      which_way (IsUnder ts b.node) (name_eq b.node x && nat_lt offset b.offset) (at new (b.offset - offset))
+      (if boundary_eq name_eq b (at parent (index + 1)) then at parent (index + 2) else b)
+      (λ t. (k, e ∙ ap (root_of ts) (sym (name_eq-true b.node x (and_parts (name_eq b.node x) (nat_lt offset b.offset) t).0))))
+      (λ t. from (name_eq b.node parent) refl)
+    where
+      from : (t : Bool) → name_eq b.node parent ≡ t → IsUnder ts b.node (if t && nat_eq b.offset (index + 1) then at parent (index + 2) else b)
+      from true e = either_way (IsUnder ts b.node) (nat_eq b.offset (index + 1)) (at parent (index + 2)) b
+          (subst (λ y. IsUnder ts b.node (at y 0)) (name_eq-true b.node parent e) (h, refl)) (h, refl)
+      from false e = (h, refl)
 
--- at a join
-pub moves-join : (ts : Trees) (first : NodeName) (size : ℕ) (next parent : NodeName) (index : ℕ) → IsNodeIn ts first →
-    root_of ts first ≡ root_of ts next → root_of ts first ≡ root_of ts parent → MovesIn ts (after_join name_eq first size next parent index)
-moves-join ts first size next parent index k e f b h =
-    which_way (IsUnder ts b.node) (name_eq b.node next) (at first (b.offset + size)) (if boundary_eq name_eq b (at parent index) then at first size else b)
-    (λ t. (k, e ∙ ap (root_of ts) (sym (name_eq-true b.node next t))))
-    (λ t. which_way (IsUnder ts b.node) (boundary_eq name_eq b (at parent index)) (at first size) b
-    (λ s. (k, f ∙ ap (root_of ts) (sym (name_eq-true b.node parent (and_parts (name_eq b.node parent) (nat_eq b.offset index) s).0)))) (λ s. (h, refl)))
+  -- at a join
+  pub moves-join : (first : NodeName) (size : ℕ) (next : NodeName) → IsNodeIn ts first →
+      root_of ts first ≡ root_of ts next → root_of ts first ≡ root_of ts parent → MovesIn ts (after_join name_eq first size next parent index)
+  moves-join first size next k e f b h =
+      which_way (IsUnder ts b.node) (name_eq b.node next) (at first (b.offset + size)) (if boundary_eq name_eq b (at parent index) then at first size else b)
+      (λ t. (k, e ∙ ap (root_of ts) (sym (name_eq-true b.node next t))))
+      (λ t. which_way (IsUnder ts b.node) (boundary_eq name_eq b (at parent index)) (at first size) b
+      (λ s. (k, f ∙ ap (root_of ts) (sym (name_eq-true b.node parent (and_parts (name_eq b.node parent) (nat_eq b.offset index) s).0)))) (λ s. (h, refl)))

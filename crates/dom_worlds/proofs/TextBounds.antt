@@ -190,13 +190,25 @@ total-texts ts (y ∷ ys) h =
     let a = length-append (node_in ts y).text (flat_map (λ y. (node_in ts y).text) ys) in let b = length-data ts y h.0 in let c =
     total-texts ts ys h.1 in omega arith
 
--- joins into a Text that is long enough
-room-joins : (ts : Trees) (x parent : NodeName) (size : ℕ) (ys : List NodeName) {q : Part} → size + total ts ys ≤ length_of q.trees x →
-    AllByRecursion (λ y. length_of q.trees y ≡ length_of ts y) ys → HasRoom nowhere q → HasRoom nowhere (after q (joins ts x parent size ys))
-room-joins ts x parent size [] a b h = h
-room-joins ts x parent size (y ∷ ys) {q} a b h =
-    room-joins ts x parent (size + length_of ts y) ys (omega arith) b.1
-    (room-join h parent (index_of ts y) x size y (let b0 = b.0 in omega arith))
+-- a Text that has room for what comes behind its first units, in others that are as long as they were in some trees
+record HoldsJoined (ts : Trees) (x : NodeName) (size : ℕ) (ys : List NodeName) (q : Part) : Type 0 where
+  long : size + total ts ys ≤ length_of q.trees x
+  same : AllByRecursion (λ y. length_of q.trees y ≡ length_of ts y) ys
+  room : HasRoom nowhere q
+
+-- joins into it
+room-joins : (ts : Trees) (x parent : NodeName) (size : ℕ) (ys : List NodeName) {q : Part} → HoldsJoined ts x size ys q →
+    HasRoom nowhere (after q (joins ts x parent size ys))
+room-joins ts x parent size [] holds = holds.room
+room-joins ts x parent size (y ∷ ys) {q} holds =
+    let a = holds.long in
+    let b = holds.same in
+    let b0 = b.0 in
+    room-joins ts x parent (size + length_of ts y) ys (record {
+      long = omega arith;
+      same = b.1;
+      room = room-join holds.room parent (index_of ts y) x size y (omega arith);
+    })
 
 -- a name that is not among some differs from each
 pub none-among : (x : NodeName) (xs : List NodeName) → times_among xs x ≡ 0 → AllByRecursion (λ y. name_eq x y ≡ false) xs
@@ -287,10 +299,13 @@ module _ (x parent : NodeName) (p : Part) (i : IsPart p) (t : HasNode p x) (k : 
       let fits = joining-fits in
       room-plan (replacing_data x size 0 all and_then steps_of (joins ts x parent size nexts)) (in_turn (removing observed) nexts)
       (leads-then None p (replacing_data x size 0 all p) (joins ts x parent size nexts) (leads-replacing_data x size 0 all p i)
-      (leads-joins ts x parent size nexts (leads-replacing_data x size 0 all p i).changed.part
-      (still (leads-replacing_data x size 0 all p i).changed x t) (texts-beside x size all i e)))
+      (leads-joins ts x parent size nexts (record { part = (leads-replacing_data x size 0 all p i).changed.part; there = (still (leads-replacing_data x size 0 all p i).changed x t); beside = (texts-beside x size all i e) })))
       (room-then nowhere p (replacing_data x size 0 all p) (joins ts x parent size nexts)
-      (room-joins ts x parent size nexts fits.0 fits.1 (room-replacing_data x size 0 all (record { part = i; room = h }) k)))
+      (room-joins ts x parent size nexts (record {
+        long = fits.0;
+        same = fits.1;
+        room = room-replacing_data x size 0 all (record { part = i; room = h }) k;
+      })))
       (λ r c g. room-removals nowhere observed nexts r c.part g)
 
 -- Plans for items that lead on, each of which keeps room.

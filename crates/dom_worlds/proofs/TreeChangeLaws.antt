@@ -244,17 +244,19 @@ nodes-named P (tree n c r) f =
 abbrev pub HasRoot : Trees → NodeName → Type 0
 HasRoot ts x = is_in name_eq x (names_of (roots ts)) ≡ true
 
--- of a first root and others, one that is there is the first or one of the others
-pub root-cases : {P : Type 0} (n : Node) (c r : Trees) (x : NodeName) → HasRoot (tree n c r) x → (name_eq x n.name ≡ true → P) → (HasRoot r x → P) → P
-root-cases n c r x h f g = by_cases (name_eq x n.name) f (λ e. g (or-later (name_eq x n.name) (is_in name_eq x (names_of (roots r))) e h))
+-- Of a first root and others.
+module _ (n : Node) (c r : Trees) (x : NodeName) where
+  -- one that is there is the first or one of the others
+  pub root-cases : {P : Type 0} → HasRoot (tree n c r) x → (name_eq x n.name ≡ true → P) → (HasRoot r x → P) → P
+  root-cases h f g = by_cases (name_eq x n.name) f (λ e. g (or-later (name_eq x n.name) (is_in name_eq x (names_of (roots r))) e h))
 
--- the first root
-pub root-first : (n : Node) (c r : Trees) (x : NodeName) → name_eq x n.name ≡ true → HasRoot (tree n c r) x
-root-first n c r x e = or-first (name_eq x n.name) (is_in name_eq x (names_of (roots r))) e
+  -- the first root
+  pub root-first : name_eq x n.name ≡ true → HasRoot (tree n c r) x
+  root-first e = or-first (name_eq x n.name) (is_in name_eq x (names_of (roots r))) e
 
--- a root behind it
-pub root-second : (n : Node) (c r : Trees) (x : NodeName) → HasRoot r x → HasRoot (tree n c r) x
-root-second n c r x e = or-second (name_eq x n.name) (is_in name_eq x (names_of (roots r))) e
+  -- a root behind it
+  pub root-second : HasRoot r x → HasRoot (tree n c r) x
+  root-second e = or-second (name_eq x n.name) (is_in name_eq x (names_of (roots r))) e
 
 -- a root of the first list
 root-followed_left : (a b : Trees) (x : NodeName) → HasRoot a x → HasRoot (followed_by a b) x
@@ -327,19 +329,21 @@ root-taken_out y ts x h =
     root-put_root_new y (subtree ts y) (without y ts) x (subst (λ z. HasRoot (subtree ts z) x) (sym same) (root-subtree ts x (root-there ts x h))))
     (λ e. root-put_root_old y (subtree ts y) (without y ts) x (root-without ts y x e h))
 
--- a root stays where trees are put below a node
-root-put_below : (parent : NodeName) (before : Option NodeName) (new ts : Trees) (x : NodeName) → HasRoot ts x → HasRoot (put_below parent before new ts) x
-root-put_below parent before new none x h = h
-root-put_below parent before new (tree n c r) x h =
-    let below = put_below parent before new c in
-    let behind = put_below parent before new r in
-    root-cases n c r x h (λ f. root-first n (if name_eq n.name parent then put_before before new below else below) behind x f)
-    (λ g. root-second n (if name_eq n.name parent then put_before before new below else below) behind x (root-put_below parent before new r x g))
+-- A root stays one where something goes below a node.
+module _ (parent : NodeName) (before : Option NodeName) where
+  -- where trees are put
+  root-put_below : (new ts : Trees) (x : NodeName) → HasRoot ts x → HasRoot (put_below parent before new ts) x
+  root-put_below new none x h = h
+  root-put_below new (tree n c r) x h =
+      let below = put_below parent before new c in
+      let behind = put_below parent before new r in
+      root-cases n c r x h (λ f. root-first n (if name_eq n.name parent then put_before before new below else below) behind x f)
+      (λ g. root-second n (if name_eq n.name parent then put_before before new below else below) behind x (root-put_below new r x g))
 
--- beside another node that is placed
-pub root-placed : (y parent : NodeName) (before : Option NodeName) (ts : Trees) (x : NodeName) → name_eq y x ≡ false → HasRoot ts x →
-    HasRoot (placed y parent before ts) x
-root-placed y parent before ts x d h = root-put_below parent before (subtree ts y) (without y ts) x (root-without ts y x d h)
+  -- beside another node that is placed
+  pub root-placed : (y : NodeName) (ts : Trees) (x : NodeName) → name_eq y x ≡ false → HasRoot ts x →
+      HasRoot (placed y parent before ts) x
+  root-placed y ts x d h = root-put_below (subtree ts y) (without y ts) x (root-without ts y x d h)
 
 -- of nodes with other contents
 pub root-map_nodes : (f : Node → Node) → ((n : Node) → (f n).name ≡ n.name) → (ts : Trees) (x : NodeName) → HasRoot ts x → HasRoot (map_nodes f ts) x

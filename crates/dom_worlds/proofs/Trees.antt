@@ -80,10 +80,10 @@ ancestors-present (tree n c r) x h =
     (λ z. let at = ancestors-present c x z in (at.0 ++ n.name ∷ [], ancestors-elsewhere n c r x e ∙ ap (λ p. on_top p n.name (inclusive_ancestors r x)) at.1)))
 
 -- each ancestor is there
-all-on_top : (P : NodeName → Type 0) (path : List NodeName) (a : NodeName) (others : List NodeName) → AllByRecursion P path → P a →
-    AllByRecursion P others → AllByRecursion P (on_top path a others)
-all-on_top P [] a others h g k = k
-all-on_top P (x ∷ path) a others h g k = all-append P (x ∷ path) (a ∷ []) h (g, tt)
+all-on_top : (P : NodeName → Type 0) (path : List NodeName) (a : NodeName) (others : List NodeName) → AllByRecursion P path →
+    AllByRecursion P (a ∷ others) → AllByRecursion P (on_top path a others)
+all-on_top P [] a others h k = k.1
+all-on_top P (x ∷ path) a others h k = all-append P (x ∷ path) (a ∷ []) h (k.0, tt)
 
 -- all of them
 pub ancestors-there : (ts : Trees) (x : NodeName) → AllByRecursion (λ y. 1 ≤ times_in ts y) (inclusive_ancestors ts x)
@@ -96,7 +96,7 @@ ancestors-there (tree n c r) x =
     let below = all-then (λ y. 1 ≤ times_in c y) P (λ y h. let g = times-more n c r y in omega arith) (inclusive_ancestors c x) (ancestors-there c x) in
     let beside = all-then (λ y. 1 ≤ times_in r y) P (λ y h. let g = times-more n c r y in omega arith) (inclusive_ancestors r x) (ancestors-there r x) in
     subst (AllByRecursion P) (sym (ancestors-elsewhere n c r x e))
-    (all-on_top P (inclusive_ancestors c x) n.name (inclusive_ancestors r x) below top beside))
+    (all-on_top P (inclusive_ancestors c x) n.name (inclusive_ancestors r x) below (top, beside)))
 
 -- Roots.
 pub last-push : (o : Option NodeName) (xs : List NodeName) (x : NodeName) → last_or o (xs ++ x ∷ []) ≡ Some x
