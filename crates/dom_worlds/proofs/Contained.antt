@@ -319,7 +319,10 @@ spared-up_to {q} ts r a u e above =
     let j = up.0 in
     let zero_first : 0 + j ≡ j = omega arith in
     let there = root-there below a (root-below ts a q u e) in
-    let at_a : place_from 0 ts a ≡ Some (path ++ j ∷ []) = place-nested 0 ts q a u (record { outer = at_q.1; inner = up.1 ∙ ap (λ i. Some (i ∷ [])) zero_first }) in
+    let at_a : place_from 0 ts a ≡ Some (path ++ j ∷ []) = place-nested 0 ts q a u (record {
+      outer = at_q.1;
+      inner = up.1 ∙ ap (λ i. Some (i ∷ [])) zero_first;
+    }) in
     let tail = start-place t j path at_a in
     let rest = tail.0 in
     let begins : boundary_place ts r.start ≡ map odd path ++ (odd j ∷ rest) = tail.1 in

@@ -147,14 +147,21 @@ length-made p n x i k =
     length-data (part_step p (make n)).trees x (ap (λ (m : Node). has_data m.kind) same ∙ k) ∙ ap (λ (m : Node). length m.text) same ∙
     sym (length-data p.trees x k)
 
+-- a new node, and the one that it goes below
+record MakesBelow (n : Node) (into : NodeName) (p : Part) : Type 0 where
+  named : n.name ≡ next_name p
+  part : IsPart p
+  there : HasNode p into
+
 -- and where that went below another one
-length-below : {p : Part} (n : Node) (into x : NodeName) → n.name ≡ next_name p → IsPart p → HasNode p into → has_data (kind_of p.trees x) ≡ true →
+length-below : {p : Part} (n : Node) (into x : NodeName) → MakesBelow n into p → has_data (kind_of p.trees x) ≡ true →
     length_of (after p (making_below into n p)).trees x ≡ length_of p.trees x
-length-below {p} n into x e i t k =
+length-below {p} n into x makes k =
+    let i = makes.part in
     let q = part_step p (make n) in
     let first = leads-one p (make n) i tt in
     let there = bounds.data-there p.trees x k in
-    let may : MayGo into q n.name = subst (MayGo into q) (sym e) (new-may p n into i t) in
+    let may : MayGo into q n.name = subst (MayGo into q) (sym makes.named) (new-may p n into i makes.there) in
     let put = leads-inserting observed n.name into None q first.changed.part may in
     let texts = texts-inserting observed None first.changed.part may x (still first.changed x there) in
     let kq : has_data (kind_of q.trees x) ≡ true = ap has_data (first.changed.kinds x there) ∙ k in
@@ -247,7 +254,7 @@ room-extracting k r p i g h =
         let below = making_below (next_name p) m q in
         let s = after q below in
         let lm = leads-making_below (next_name p) m q refl c.part (new-there p n) in
-        let ls = length-below m (next_name p) x refl c.part (new-there p n) kq in
+        let ls = length-below m (next_name p) x (record { named = refl; part = c.part; there = new-there p n }) kq in
         let ks : has_data (kind_of s.trees x) ≡ true = ap has_data (lm.changed.kinds x (still c x g.start)) ∙ kq in
         let count = r.end.offset - r.start.offset in
         let left = data-left s x r.start.offset count ks (omega arith) in

@@ -93,11 +93,17 @@ get-push [] x (suc k) h f g = absurd (true≢false (sym h))
 get-push (y ∷ xs) x zero h f g = g refl
 get-push (y ∷ xs) x (suc k) h f g = get-push xs x k h (λ e. f (ap suc e)) g
 
+-- what holds of one owner, of another one and of all others
+pub record HoldsOfTwo (P : Owner → Type 0) (o c : Owner) : Type 0 where
+  pub first : P o
+  pub second : P c
+  pub others : (a : Owner) → a ≢ o → c ≢ a → P a
+
 -- by whether an owner is the one or the other of two, or a third
-pub by_owner : (P : Owner → Type 0) (o c : Owner) → P o → P c → ((a : Owner) → a ≢ o → c ≢ a → P a) → (a : Owner) → P a
-by_owner P o c f g h a =
-    by_cases (owner_eq o a) (λ e. subst P (owner_eq-true o a e) f)
-    (λ e. by_cases (owner_eq c a) (λ k. subst P (owner_eq-true c a k) g) (λ k. h a (λ s. owner_eq-false o a e (sym s)) (owner_eq-false c a k)))
+pub by_owner : (P : Owner → Type 0) (o c : Owner) → HoldsOfTwo P o c → (a : Owner) → P a
+by_owner P o c h a =
+    by_cases (owner_eq o a) (λ e. subst P (owner_eq-true o a e) h.first)
+    (λ e. by_cases (owner_eq c a) (λ k. subst P (owner_eq-true c a k) h.second) (λ k. h.others a (λ s. owner_eq-false o a e (sym s)) (owner_eq-false c a k)))
 
 -- a new shadow root
 root-new : (o : Owner) (d : Option NodeName) → IsRoot (part_with_root o Shadow d).trees (shadow_root_of o)
@@ -149,14 +155,16 @@ module _ (w : World) (o : Owner) (x : NodeName) (may : MayAttach o) where
           let c = component_made o (length (part_of w o).attached) in
           let got : is_some (slice_get (part_of (attaching w o x).0 k.maker).attached k.number) ≡ true = ap is_some k.found in
           let was : is_some (slice_get (part_of w k.maker).attached k.number) ≡ true =
-          by_owner (λ m. k.maker ≡ m → is_some (slice_get (part_of w m).attached k.number) ≡ true) o c
-          (λ s. get-push (part_of w o).attached x k.number (subst (λ (hs : List NodeName). is_some (slice_get hs k.number) ≡ true)
-          (ap (λ m. (part_of (attaching w o x).0 m).attached) s ∙ ap (λ (q : Part). q.attached) attached-maker) got)
-          (λ last. absurd (g (ap (component_made o) (sym last) ∙ ap (λ m. component_made m k.number) (sym s) ∙ made_by-is a k.maker k.number k.named)))
-          (λ r. r))
-          (λ s. absurd (true≢false (sym got ∙ ap (λ (hs : List NodeName). is_some (slice_get hs k.number))
-          (ap (λ m. (part_of (attaching w o x).0 m).attached) s ∙ ap (λ (q : Part). q.attached) attached-new))))
-          (λ m f n s. sym (ap (λ (q : Part). is_some (slice_get q.attached k.number)) (ap (part_of (attaching w o x).0) s ∙ attached-other m f n)) ∙ got)
+          by_owner (λ m. k.maker ≡ m → is_some (slice_get (part_of w m).attached k.number) ≡ true) o c (record {
+            first = λ s. get-push (part_of w o).attached x k.number (subst (λ (hs : List NodeName). is_some (slice_get hs k.number) ≡ true)
+                (ap (λ m. (part_of (attaching w o x).0 m).attached) s ∙ ap (λ (q : Part). q.attached) attached-maker) got)
+                (λ last. absurd (g (ap (component_made o) (sym last) ∙ ap (λ m. component_made m k.number) (sym s) ∙ made_by-is a k.maker k.number k.named)))
+                (λ r. r);
+            second = λ s. absurd (true≢false (sym got ∙ ap (λ (hs : List NodeName). is_some (slice_get hs k.number))
+                (ap (λ m. (part_of (attaching w o x).0 m).attached) s ∙ ap (λ (q : Part). q.attached) attached-new)));
+            others = λ m f n s. sym (ap (λ (q : Part). is_some (slice_get q.attached k.number))
+                (ap (part_of (attaching w o x).0) s ∙ attached-other m f n)) ∙ got;
+          })
           k.maker refl in
           ap is_some (ap (option_and_then (λ (m : Owner × ℕ). slice_get (part_of w m.0).attached m.1)) k.named) ∙ was
 
@@ -176,27 +184,33 @@ module _ {only_log : Bool} where
       record {
         world = record {
           page = attached-there w o x may Page i.page;
-          parts = by_owner (λ a. IsPart (part_of v a)) o c
-              (subst IsPart (sym mine) (record { unique = (i.parts o).unique; owned = (i.parts o).owned; numbered = (i.parts o).numbered }))
-              (subst IsPart (sym new) (part-root c Shadow d))
-              (λ a f g. subst IsPart (sym (other a f g)) (i.parts a));
-          hosts = by_owner (λ a. AllByRecursion (IsOf a) (part_of v a).attached) o c
-              (subst (λ (q : Part). AllByRecursion (IsOf o) q.attached) (sym mine) (all-append (IsOf o) p.attached (x ∷ []) (i.hosts o) (h, tt)))
-              (subst (λ (q : Part). AllByRecursion (IsOf c) q.attached) (sym new) tt)
-              (λ a f g. subst (λ (q : Part). AllByRecursion (IsOf a) q.attached) (sym (other a f g)) (i.hosts a));
-          makers = by_owner (λ a. 0 < length (part_of v a).attached → MayAttach a) o c (λ e. may)
-              (λ e. let none_at = ap (λ (q : Part). length q.attached) new in absurd (omega (arith, e, none_at)))
-              (λ a f g e. i.makers a (subst (λ (q : Part). 0 < length q.attached) (other a f g) e));
-          shadow_roots = by_owner (λ a. IsTrue (is_some (host_of v a)) → IsRoot (part_of v a).trees (shadow_root_of a)) o c
-              (λ e. subst (λ (q : Part). IsRoot q.trees (shadow_root_of o)) (sym mine)
-              (i.shadow_roots o (older o (component_made-other o (length p.attached)) e)))
-              (λ e. subst (λ (q : Part). IsRoot q.trees (shadow_root_of c)) (sym new) (root-new c d))
-              (λ a f g e. subst (λ (q : Part). IsRoot q.trees (shadow_root_of a)) (sym (other a f g)) (i.shadow_roots a (older a g e)));
+          parts = by_owner (λ a. IsPart (part_of v a)) o c (record {
+            first = subst IsPart (sym mine) (record { unique = (i.parts o).unique; owned = (i.parts o).owned; numbered = (i.parts o).numbered });
+            second = subst IsPart (sym new) (part-root c Shadow d);
+            others = λ a f g. subst IsPart (sym (other a f g)) (i.parts a);
+          });
+          hosts = by_owner (λ a. AllByRecursion (IsOf a) (part_of v a).attached) o c (record {
+            first = subst (λ (q : Part). AllByRecursion (IsOf o) q.attached) (sym mine) (all-append (IsOf o) p.attached (x ∷ []) (i.hosts o) (h, tt));
+            second = subst (λ (q : Part). AllByRecursion (IsOf c) q.attached) (sym new) tt;
+            others = λ a f g. subst (λ (q : Part). AllByRecursion (IsOf a) q.attached) (sym (other a f g)) (i.hosts a);
+          });
+          makers = by_owner (λ a. 0 < length (part_of v a).attached → MayAttach a) o c (record {
+            first = λ e. may;
+            second = λ e. let none_at = ap (λ (q : Part). length q.attached) new in absurd (omega (arith, e, none_at));
+            others = λ a f g e. i.makers a (subst (λ (q : Part). 0 < length q.attached) (other a f g) e);
+          });
+          shadow_roots = by_owner (λ a. IsTrue (is_some (host_of v a)) → IsRoot (part_of v a).trees (shadow_root_of a)) o c (record {
+            first = λ e. subst (λ (q : Part). IsRoot q.trees (shadow_root_of o)) (sym mine)
+                (i.shadow_roots o (older o (component_made-other o (length p.attached)) e));
+            second = λ e. subst (λ (q : Part). IsRoot q.trees (shadow_root_of c)) (sym new) (root-new c d);
+            others = λ a f g e. subst (λ (q : Part). IsRoot q.trees (shadow_root_of a)) (sym (other a f g)) (i.shadow_roots a (older a g e));
+          });
           signalled = i.signalled;
           tasks = i.tasks;
         };
-        logs = λ y. by_owner (λ a. a ≢ Page → AllByRecursion OnlyLogs (part_of v a).listeners) o c
-            (λ f. subst (λ (q : Part). AllByRecursion OnlyLogs q.listeners) (sym mine) (q.logs y o f))
-            (λ f. subst (λ (q : Part). AllByRecursion OnlyLogs q.listeners) (sym new) tt)
-            (λ a f g n. subst (λ (q : Part). AllByRecursion OnlyLogs q.listeners) (sym (other a f g)) (q.logs y a n));
+        logs = λ y. by_owner (λ a. a ≢ Page → AllByRecursion OnlyLogs (part_of v a).listeners) o c (record {
+          first = λ f. subst (λ (q : Part). AllByRecursion OnlyLogs q.listeners) (sym mine) (q.logs y o f);
+          second = λ f. subst (λ (q : Part). AllByRecursion OnlyLogs q.listeners) (sym new) tt;
+          others = λ a f g n. subst (λ (q : Part). AllByRecursion OnlyLogs q.listeners) (sym (other a f g)) (q.logs y a n);
+        });
       }

@@ -46,17 +46,23 @@ module _ (W C K : NodeName → Type 0) where
   fit-followed (cut x from to rest) others h g = (h.0, fit-followed rest others h.1 g)
   fit-followed (clone x inner rest) others h g = (h.0, h.1, fit-followed rest others h.2 g)
 
+  -- trees on the path down to a node and beside it: what of them is cut or cloned, and what is taken whole
+  record FitsAlong (ts : Trees) (x : NodeName) (taken : NodeName → Bool) (us : Trees) : Type 0 where
+    clonable : AllNodes (IsClonable C K) us
+    beside : AllNodes (λ n. is_inclusive_ancestor ts n.name x ≡ false → taken n.name ≡ true → W n.name) us
+
   -- those along the path down to a node
-  fit-along : (ts : Trees) (x : NodeName) (taken : NodeName → Bool) (from to : ℕ) (us : Trees) → AllNodes (IsClonable C K) us →
-      AllNodes (λ n. is_inclusive_ancestor ts n.name x ≡ false → taken n.name ≡ true → W n.name) us →
+  fit-along : {us : Trees} (ts : Trees) (x : NodeName) (taken : NodeName → Bool) (from to : ℕ) → FitsAlong ts x taken us →
       AreFit W C K (pieces_along ts x taken from to us)
-  fit-along ts x taken from to none h g = tt
-  fit-along ts x taken from to (tree n c r) h g =
+  fit-along {us = none} ts x taken from to fits = tt
+  fit-along {us = tree n c r} ts x taken from to fits =
+      let h = fits.clonable in
+      let g = fits.beside in
       let P = AreFit W C K in
       let rest = pieces_along ts x taken from to r in
       let inner = pieces_along ts x taken from to c in
-      let others = fit-along ts x taken from to r h.2 g.2 in
-      let within = fit-along ts x taken from to c h.1 g.1 in
+      let others = fit-along {us = r} ts x taken from to (record { clonable = h.2; beside = g.2 }) in
+      let within = fit-along {us = c} ts x taken from to (record { clonable = h.1; beside = g.1 }) in
       which_way P (is_inclusive_ancestor ts n.name x) (if has_data n.kind then cut n.name from to rest else clone n.name inner rest)
       (if taken n.name then whole n.name rest else rest)
       (λ k. which_way P (has_data n.kind) (cut n.name from to rest) (clone n.name inner rest) (λ d. (h.0.0 d, others)) (λ d. (h.0.1 d, within, others)))
@@ -82,15 +88,18 @@ module _ (W C K : NodeName → Type 0) where
       let back = tree_holding ts r.end.node r.start.node below in
       let starts = λ (x : NodeName). is_before ts r.start (at x 0) in
       let ends = λ (x : NodeName). is_before ts (at x (length_of ts x)) r.end in
-      let first_child = fit-along ts r.start.node starts r.start.offset (length_of ts r.start.node) front
-      (nodes-holding (IsClonable C K) ts r.start.node r.end.node below clonable)
-      (nodes-then Early (λ n. is_inclusive_ancestor ts n.name r.start.node ≡ false → starts n.name ≡ true → W n.name) (λ n h k. h) front
-      (nodes-holding Early ts r.start.node r.end.node below early)) in
+      let first_child = fit-along {us = front} ts r.start.node starts r.start.offset (length_of ts r.start.node) (record {
+        clonable = nodes-holding (IsClonable C K) ts r.start.node r.end.node below clonable;
+        beside = nodes-then Early (λ n. is_inclusive_ancestor ts n.name r.start.node ≡ false → starts n.name ≡ true → W n.name) (λ n h k. h) front
+            (nodes-holding Early ts r.start.node r.end.node below early);
+      }) in
       let contained = fit-roots (is_contained ts r) below
       (nodes-then Early (λ n. is_contained ts r n.name ≡ true → W n.name) (λ n h k. h (and_parts (starts n.name) (ends n.name) k).0) below
       early) in
-      let last_child = fit-along ts r.end.node ends 0 r.end.offset back (nodes-holding (IsClonable C K) ts r.end.node r.start.node below clonable)
-      (nodes-then Last (λ n. is_inclusive_ancestor ts n.name r.end.node ≡ false → ends n.name ≡ true → W n.name) (λ n h k t. h k) back last) in
+      let last_child = fit-along {us = back} ts r.end.node ends 0 r.end.offset (record {
+        clonable = nodes-holding (IsClonable C K) ts r.end.node r.start.node below clonable;
+        beside = nodes-then Last (λ n. is_inclusive_ancestor ts n.name r.end.node ≡ false → ends n.name ≡ true → W n.name) (λ n h k t. h k) back last;
+      }) in
       fit-followed (pieces_behind ts r.start front)
       (all_whole (filter (is_contained ts r) (names_of (roots below))) followed_by pieces_in_front ts r.end back) first_child
       (fit-followed (all_whole (filter (is_contained ts r) (names_of (roots below)))) (pieces_in_front ts r.end back) contained last_child)

@@ -53,7 +53,7 @@ module _ {only_log : Bool} (w : World) (r : IsReached only_log w) where
       let on = climbs h first depth (omega (arith, d, deep)) there refl in (
         way.0 ++ host ∷ on.0,
         ap (flat_map (way_up w)) (chain-below w x host b) ∙ ap (λ xs. xs ++ flat_map (way_up w) (host_chain w host)) way.1 ∙ ap (λ ys. (x ∷ way.0) ++ ys) on.1,
-        runs-join (event_parent w true first) x way.0 host on.0 None way.2 on.2,
+        runs-join (event_parent w true first) x way.0 (record { node = host; others = on.0; end = None; runs = on.2 }) way.2,
       )
 
   -- An event that is not composed: deeper shadow roots let it out, and that of its target's tree does not.

@@ -37,11 +37,18 @@ abbrev pub Runs : (NodeName → Option NodeName) → NodeName → List NodeName 
 Runs up x [] e = up x ≡ e
 Runs up x (y ∷ ys) e = (up x ≡ Some y) × Runs up y ys e
 
+-- such a node, with those after it and the end
+pub record Run (up : NodeName → Option NodeName) : Type 0 where
+  pub node : NodeName
+  pub others : List NodeName
+  pub end : Option NodeName
+  pub runs : Runs up node others end
+
 -- one after another
-pub runs-join : (up : NodeName → Option NodeName) (x : NodeName) (xs : List NodeName) (y : NodeName) (ys : List NodeName) (e : Option NodeName) →
-    Runs up x xs (Some y) → Runs up y ys e → Runs up x (xs ++ y ∷ ys) e
-runs-join up x [] y ys e h g = (h, g)
-runs-join up x (z ∷ xs) y ys e h g = (h.0, runs-join up z xs y ys e h.1 g)
+pub runs-join : (up : NodeName → Option NodeName) (x : NodeName) (xs : List NodeName) (later : Run up) → Runs up x xs (Some later.node) →
+    Runs up x (xs ++ later.node ∷ later.others) later.end
+runs-join up x [] later h = (h, later.runs)
+runs-join up x (z ∷ xs) later h = (h.0, runs-join up z xs later h.1)
 
 -- by another function that agrees
 runs-change : {e : Option NodeName} {up to : NodeName → Option NodeName} {Q : NodeName → Type 0} → ((y z : NodeName) → Q y → up y ≡ Some z → to y ≡ Some z) →
@@ -201,9 +208,12 @@ module _ {only_log : Bool} (w : World) (r : IsReached only_log w) (composed : Bo
   all-ways depth x [] e h g = subst (λ ys. Runs up_from x ys e) (sym (append-nil (slot_way depth w x))) (subst (Runs up_from x (slot_way depth w x)) g h.0)
   all-ways depth x (y ∷ path) e h g =
       subst (λ ys. Runs up_from x (slot_way depth w x ++ ys) e) (sym (slots-first depth w y path))
-      (runs-join up_from x (slot_way depth w x) y (slot_way depth w y ++ flat_map (with_slots depth w) path) e
-      (subst (Runs up_from x (slot_way depth w x)) g.0 h.0)
-      (all-ways depth y path e h.1 g.1))
+      (runs-join up_from x (slot_way depth w x) (record {
+        node = y;
+        others = slot_way depth w y ++ flat_map (with_slots depth w) path;
+        end = e;
+        runs = all-ways depth y path e h.1 g.1;
+      }) (subst (Runs up_from x (slot_way depth w x)) g.0 h.0))
 
   -- Shadow roots deeper than this let the event out.
   module _ (least : ℕ) (opens : (c : Owner) → least < owner_depth c → (composed || not (name_eq (shadow_root_of c) (root_at w first))) ≡ true) where

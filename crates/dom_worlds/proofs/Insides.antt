@@ -137,7 +137,8 @@ module _ (before : Option NodeName) (new : Trees) (a z : NodeName) where
       by_times (times_in c parent)
       (λ t. let d = ap (λ t. inside t a z) (put_below-absent parent before new c t) in let behind = inside-put_below parent r
       (omega arith) (omega arith) in omega arith)
-      (λ t. let d = ap (λ t. inside t a z) (put_below-absent parent before new r (omega arith)) in let below = inside-put_below parent c (omega arith) (omega arith) in omega arith)))
+      (λ t. let d = ap (λ t. inside t a z) (put_below-absent parent before new r (omega arith)) in
+      let below = inside-put_below parent c (omega arith) (omega arith) in omega arith)))
 
 -- Elementary changes. Of a node y.
 module _ (ts : Trees) (y a z : NodeName) where

@@ -78,30 +78,32 @@ may-go {p} x parent i s t a =
     let there = has_node-times p.trees x s in
     record { there = there; owner = i.owned x there; below = has_node-times p.trees parent t; apart = inside-no_ancestor p.trees x parent i.unique a }
 
--- Steps. A new node is made.
-pub make-keeps : (p : Part) (n : Node) → IsPart p → HasBounds p → HasBounds (part_step p (make n))
-make-keeps p n i h = bounds-of (part_step p (make n)) (part-step p (make n) i) (room-make nowhere p n i (room-of p i h))
+-- Steps of a part.
+module _ (p : Part) where
+  -- a new node is made
+  pub make-keeps : (n : Node) → IsPart p → HasBounds p → HasBounds (part_step p (make n))
+  make-keeps n i h = bounds-of (part_step p (make n)) (part-step p (make n) i) (room-make nowhere p n i (room-of p i h))
 
--- a node document
-pub set_document-keeps : (p : Part) (x d : NodeName) → IsPart p → HasBounds p → HasBounds (part_step p (set_document x d))
-set_document-keeps p x d i h = bounds-of (part_step p (set_document x d)) (part-step p (set_document x d) i) (room-document nowhere p x d i (room-of p i h))
+  -- a node document
+  pub set_document-keeps : (x d : NodeName) → IsPart p → HasBounds p → HasBounds (part_step p (set_document x d))
+  set_document-keeps x d i h = bounds-of (part_step p (set_document x d)) (part-step p (set_document x d) i) (room-document nowhere p x d i (room-of p i h))
 
--- a join, where the first Text has the data of both
-pub join_at-keeps : (p : Part) (first : NodeName) (size : ℕ) (next parent : NodeName) (index : ℕ) → IsPart p →
-    size + length_of p.trees next ≤ length_of p.trees first → HasBounds p → HasBounds (part_step p (join_at first size next parent index))
-join_at-keeps p first size next parent index i a h =
-    bounds-of (part_step p (join_at first size next parent index)) (part-step p (join_at first size next parent index) i)
-    (room-join (room-of p i h) parent index first size next a)
+  -- a join, where the first Text has the data of both
+  pub join_at-keeps : (first : NodeName) (size : ℕ) (next parent : NodeName) (index : ℕ) → IsPart p →
+      size + length_of p.trees next ≤ length_of p.trees first → HasBounds p → HasBounds (part_step p (join_at first size next parent index))
+  join_at-keeps first size next parent index i a h =
+      bounds-of (part_step p (join_at first size next parent index)) (part-step p (join_at first size next parent index) i)
+      (room-join (room-of p i h) parent index first size next a)
 
--- a range that gets ends within their nodes
-pub set_range-keeps : (p : Part) (k : ℕ) (r : Range NodeName) → IsPart p → IsWithin p.trees r.start → IsWithin p.trees r.end → HasBounds p →
-    HasBounds (part_step p (set_range k r))
-set_range-keeps p k r i a b h =
-    bounds-of (part_step p (set_range k r)) (part-step p (set_range k r) i) (room-set k r (omega arith) (omega arith) (room-of p i h))
+  -- a range that gets ends within their nodes
+  pub set_range-keeps : (k : ℕ) (r : Range NodeName) → IsPart p → IsWithin p.trees r.start → IsWithin p.trees r.end → HasBounds p →
+      HasBounds (part_step p (set_range k r))
+  set_range-keeps k r i a b h =
+      bounds-of (part_step p (set_range k r)) (part-step p (set_range k r) i) (room-set k r (omega arith) (omega arith) (room-of p i h))
 
--- a record
-pub queue_record-keeps : (p : Part) (c : Change NodeName) → IsPart p → HasBounds p → HasBounds (part_step p (queue_record c))
-queue_record-keeps p c i h = bounds-of (part_step p (queue_record c)) (part-step p (queue_record c) i) (room-record nowhere p c (room-of p i h))
+  -- a record
+  pub queue_record-keeps : (c : Change NodeName) → IsPart p → HasBounds p → HasBounds (part_step p (queue_record c))
+  queue_record-keeps c i h = bounds-of (part_step p (queue_record c)) (part-step p (queue_record c) i) (room-record nowhere p c (room-of p i h))
 
 -- Plans. A removal.
 pub removal-keeps : (how : Observing) (x : NodeName) (p : Part) → IsPart p → HasBounds p → HasBounds (after p (removing how x p))
@@ -141,19 +143,21 @@ pub attribute_removal-keeps : (x : NodeName) (a : Word) (p : Part) → IsPart p 
 attribute_removal-keeps x a p i h = bounds-of (after p (unsetting_attribute x a p)) (leads-unsetting_attribute x a p i).changed.part
     (room-unsetting_attribute x a p i (room-of p i h))
 
--- data of a Text or a Comment
-pub data-keeps : (x : NodeName) (offset count : ℕ) (new : DomString) (p : Part) → IsPart p → has_data (kind_of p.trees x) ≡ true → HasBounds p →
-    HasBounds (after p (replacing_data x offset count new p))
-data-keeps x offset count new p i k h =
-    bounds-of (after p (replacing_data x offset count new p)) (leads-replacing_data x offset count new p i).changed.part
-    (room-replacing_data x offset count new (record { part = i; room = room-of p i h }) k)
+-- A Text or a Comment, at an offset.
+module _ (x : NodeName) (offset : ℕ) where
+  -- its data there
+  pub data-keeps : (count : ℕ) (new : DomString) (p : Part) → IsPart p → has_data (kind_of p.trees x) ≡ true → HasBounds p →
+      HasBounds (after p (replacing_data x offset count new p))
+  data-keeps count new p i k h =
+      bounds-of (after p (replacing_data x offset count new p)) (leads-replacing_data x offset count new p i).changed.part
+      (room-replacing_data x offset count new (record { part = i; room = room-of p i h }) k)
 
--- a split of a Text
-pub split-keeps : (x : NodeName) (offset : ℕ) (p : Part) → IsPart p → IsTrue (has_node p.trees x) → is_text (kind_of p.trees x) ≡ true →
-    HasBounds p → HasBounds (after p (splitting x offset p))
-split-keeps x offset p i t k h =
-    bounds-of (after p (splitting x offset p)) (leads-splitting x offset p i).changed.part
-    (room-splitting x offset (record { part = i; room = room-of p i h }) (has_node-times p.trees x t) (text-data (kind_of p.trees x) k))
+  -- its split there
+  pub split-keeps : (p : Part) → IsPart p → IsTrue (has_node p.trees x) → is_text (kind_of p.trees x) ≡ true →
+      HasBounds p → HasBounds (after p (splitting x offset p))
+  split-keeps p i t k h =
+      bounds-of (after p (splitting x offset p)) (leads-splitting x offset p i).changed.part
+      (room-splitting x offset (record { part = i; room = room-of p i h }) (has_node-times p.trees x t) (text-data (kind_of p.trees x) k))
 
 -- normalize()
 pub normalization-keeps : (x : NodeName) (p : Part) → IsPart p → HasBounds p → HasBounds (after p (normalizing x p))

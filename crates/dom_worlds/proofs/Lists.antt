@@ -96,25 +96,27 @@ module _ {X : Type 0} where
   take_while_all p [] h = refl
   take_while_all p (x ∷ xs) h = take_while-yes p x xs h.0 ∙ ap (λ ys. x ∷ ys) (take_while_all p xs h.1)
 
-  -- all of a front
-  pub all-take_while : (P : X → Type 0) (p : X → Bool) (xs : List X) → AllByRecursion P xs → AllByRecursion P (take_while p xs)
-  all-take_while P p [] h = tt
-  all-take_while P p (x ∷ xs) h =
-      by_cases (p x) (λ e. subst (AllByRecursion P) (sym (take_while-yes p x xs e)) (h.0, all-take_while P p xs h.1))
-      (λ e. subst (AllByRecursion P) (sym (take_while-no p x xs e)) tt)
-
   -- all but the first
   pub all-dropped : (P : X → Type 0) (xs : List X) → AllByRecursion P xs → AllByRecursion P (drop 1 xs)
   all-dropped P [] h = tt
   all-dropped P (x ∷ xs) h = h.1
 
-  -- what stands before an item that fails
-  pub all-before : (P : X → Type 0) (p : X → Bool) (xs : List X) (y : X) (ys : List X) → p y ≡ false → AllByRecursion P xs →
-      AllByRecursion P (take_while p (xs ++ y ∷ ys))
-  all-before P p [] y ys e h = subst (AllByRecursion P) (sym (take_while-no p y ys e)) tt
-  all-before P p (x ∷ xs) y ys e h =
-      by_cases (p x) (λ t. subst (AllByRecursion P) (sym (take_while-yes p x (xs ++ y ∷ ys) t)) (h.0, all-before P p xs y ys e h.1))
-      (λ t. subst (AllByRecursion P) (sym (take_while-no p x (xs ++ y ∷ ys) t)) tt)
+  -- Of what holds of each item, and a test.
+  module _ (P : X → Type 0) (p : X → Bool) where
+    -- all of a front
+    pub all-take_while : (xs : List X) → AllByRecursion P xs → AllByRecursion P (take_while p xs)
+    all-take_while [] h = tt
+    all-take_while (x ∷ xs) h =
+        by_cases (p x) (λ e. subst (AllByRecursion P) (sym (take_while-yes p x xs e)) (h.0, all-take_while xs h.1))
+        (λ e. subst (AllByRecursion P) (sym (take_while-no p x xs e)) tt)
+
+    -- what stands before an item that fails
+    pub all-before : (xs : List X) (y : X) (ys : List X) → p y ≡ false → AllByRecursion P xs →
+        AllByRecursion P (take_while p (xs ++ y ∷ ys))
+    all-before [] y ys e h = subst (AllByRecursion P) (sym (take_while-no p y ys e)) tt
+    all-before (x ∷ xs) y ys e h =
+        by_cases (p x) (λ t. subst (AllByRecursion P) (sym (take_while-yes p x (xs ++ y ∷ ys) t)) (h.0, all-before xs y ys e h.1))
+        (λ t. subst (AllByRecursion P) (sym (take_while-no p x (xs ++ y ∷ ys) t)) tt)
 
 -- all of what is made of each item
 pub all-flat_map : {X Y : Type 0} (P : Y → Type 0) (f : X → List Y) (xs : List X) → AllByRecursion (λ x. AllByRecursion P (f x)) xs →

@@ -49,13 +49,17 @@ peopled-first =
     none_made Page = refl
     none_made (Component k) = refl
 
+-- a component that an owner made is added to the owners of a world
+record AddsOwner (w v : World) (c o : Owner) (n : ℕ) : Type 0 where
+  named : made_by c ≡ Some (o, n)
+  owners : owners_in v ≡ owners_in w ++ c ∷ []
+
 -- where one is added that another owner made, an owner's components stay
-none-more : {w : World} {o : Owner} {n : ℕ} (v : World) (c : Owner) → made_by c ≡ Some (o, n) → owners_in v ≡ owners_in w ++ c ∷ [] → HasOwners w →
-    (a : Owner) → a ≢ o → (part_of v a).attached ≡ (part_of w a).attached →
+none-more : {w v : World} {c o : Owner} {n : ℕ} → AddsOwner w v c o n → HasOwners w → (a : Owner) → a ≢ o → (part_of v a).attached ≡ (part_of w a).attached →
     filter (is_made_by a) (owners_in v) ≡ components_of a (length (part_of v a).attached)
-none-more {w} {o} v c named owners i a f same =
-    let other : is_made_by a c ≡ false = ap (λ x. option_map_or (λ (m : Owner × ℕ). owner_eq m.0 a) x false) named ∙ ne-owner_eq o a (λ e. f (sym e)) in
-    ap (filter (is_made_by a)) owners ∙ filter-append (is_made_by a) (owners_in w) (c ∷ [])
+none-more {w} {v} {c} {o} adds i a f same =
+    let other : is_made_by a c ≡ false = ap (λ x. option_map_or (λ (m : Owner × ℕ). owner_eq m.0 a) x false) adds.named ∙ ne-owner_eq o a (λ e. f (sym e)) in
+    ap (filter (is_made_by a)) adds.owners ∙ filter-append (is_made_by a) (owners_in w) (c ∷ [])
     ∙ ap (λ os. filter (is_made_by a) (owners_in w) ++ os) (cond-false (is_made_by a c) (c ∷ []) [] other)
     ∙ append-nil (filter (is_made_by a) (owners_in w)) ∙ i.made a ∙ sym (ap (λ (hs : List NodeName). components_of a (length hs)) same)
 
@@ -75,6 +79,7 @@ peopled-attaching {w} {o} x may h k q =
     let owners : owners_in v ≡ owners_in w ++ c ∷ [] =
     owners-put_new marked.parts (part_with_root c Shadow (node_in p.trees x).document) off ∙ ap (λ os. os ++ c ∷ []) marked_owners in
     let named : made_by c ≡ Some (o, n) = made_by-made o n may in
+    let adds : AddsOwner w v c o n = record { named = named; owners = owners } in
     let filtered : (f : Owner → Bool) → filter f (owners_in v) ≡ filter f (owners_in w) ++ filter f (c ∷ []) =
     λ f. ap (filter f) owners ∙ filter-append f (owners_in w) (c ∷ []) in
     let stays : (a : Owner) → IsThere w a → IsThere v a = attached-there w o x may in
@@ -83,15 +88,16 @@ peopled-attaching {w} {o} x may h k q =
         first = ap first_of owners ∙ first-more (owners_in w) (c ∷ []) k.people.owners.first;
         unmade = filtered is_unmade ∙ ap (λ os. os ++ filter is_unmade (c ∷ [])) k.people.owners.unmade
             ∙ ap (λ os. Page ∷ os) (cond-false (is_unmade c) (c ∷ []) [] (ap is_none named));
-        made = by_owner (λ a. filter (is_made_by a) (owners_in v) ≡ components_of a (length (part_of v a).attached)) o c
-            (let longer = length-append p.attached (x ∷ []) in
-            let count : length (part_of v o).attached ≡ suc n = ap (λ (q : Part). length q.attached) (attached-maker w o x may) ∙ omega (arith, longer) in
-            filtered (is_made_by o) ∙ ap (λ os. os ++ filter (is_made_by o) (c ∷ [])) (k.people.owners.made o)
-            ∙ ap (λ os. components_of o n ++ os) (cond-true (is_made_by o c) (c ∷ []) [] (made_by-told c o n named))
-            ∙ sym (ap (components_of o) count))
-            (none-more v c named owners k.people.owners c (component_made-other o n)
-            (ap (λ (q : Part). q.attached) (attached-new w o x may) ∙ sym (ap (λ (q : Part). q.attached) (absent-part w c absent))))
-            (λ a f g. none-more v c named owners k.people.owners a f (ap (λ (q : Part). q.attached) (attached-other w o x may a f g)));
+        made = by_owner (λ a. filter (is_made_by a) (owners_in v) ≡ components_of a (length (part_of v a).attached)) o c (record {
+          first = let longer = length-append p.attached (x ∷ []) in
+              let count : length (part_of v o).attached ≡ suc n = ap (λ (q : Part). length q.attached) (attached-maker w o x may) ∙ omega (arith, longer) in
+              filtered (is_made_by o) ∙ ap (λ os. os ++ filter (is_made_by o) (c ∷ [])) (k.people.owners.made o)
+              ∙ ap (λ os. components_of o n ++ os) (cond-true (is_made_by o c) (c ∷ []) [] (made_by-told c o n named))
+              ∙ sym (ap (components_of o) count);
+          second = none-more adds k.people.owners c (component_made-other o n)
+              (ap (λ (q : Part). q.attached) (attached-new w o x may) ∙ sym (ap (λ (q : Part). q.attached) (absent-part w c absent)));
+          others = λ a f g. none-more adds k.people.owners a f (ap (λ (q : Part). q.attached) (attached-other w o x may a f g));
+        });
         turn = all-then (IsThere w) (IsThere v) stays (option_to_list w.turn) k.people.owners.turn;
         tasks = all-then (λ t. IsThere w (task_owner t)) (λ t. IsThere v (task_owner t)) (λ t. stays (task_owner t)) w.tasks k.people.owners.tasks;
         signalled = all-then (λ (s : NodeName). IsThere w s.owner) (λ s. IsThere v s.owner) (λ s. stays s.owner) w.signalled k.people.owners.signalled;

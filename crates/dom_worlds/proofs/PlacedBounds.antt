@@ -79,74 +79,76 @@ root-parent p x i h = ap (λ path. Rattle.dom_model.specs.Names.first_of (drop 1
 root-stays : (how : Observing) (x : NodeName) (p : Part) → IsPart p → HasRoot p.trees x → removing how x p ≡ []
 root-stays how x p i h = ap (λ o. option_map_or (removing_from how x p.trees) o []) (root-parent p x i h)
 
--- the adoption of a root leaves children and roots
-root-adopted : {p : Part} (d x : NodeName) → IsPart p → HasRoot p.trees x → (P : Trees → Type 0) → P p.trees → P (part_step p (set_document x d)).trees →
-    P (after p (adopting d x p)).trees
-root-adopted {p} d x i h P a b =
-    let steps = removing observed x p in
-    let none_made = root-stays observed x p i h in
-    let q = after p steps in
-    let same : q ≡ p = ap (after p) none_made in
-    subst (λ (r : Part). P r.trees) (sym (after-append p steps (changing_document d x q)))
-    (documented d x q P (subst (λ (r : Part). P r.trees) (sym same) a)
-    (subst (λ (r : Part). P (part_step r (set_document x d)).trees) (sym same) b))
-
 -- The adoption of a root.
-module _ (d x y : NodeName) (p : Part) (i : IsPart p) (h : HasRoot p.trees x) where
+module _ (d x : NodeName) (p : Part) (i : IsPart p) (h : HasRoot p.trees x) where
+  -- it leaves what a new document leaves
+  root-adopted : (P : Trees → Type 0) → P p.trees → P (part_step p (set_document x d)).trees →
+      P (after p (adopting d x p)).trees
+  root-adopted P a b =
+      let steps = removing observed x p in
+      let none_made = root-stays observed x p i h in
+      let q = after p steps in
+      let same : q ≡ p = ap (after p) none_made in
+      subst (λ (r : Part). P r.trees) (sym (after-append p steps (changing_document d x q)))
+      (documented d x q P (subst (λ (r : Part). P r.trees) (sym same) a)
+      (subst (λ (r : Part). P (part_step r (set_document x d)).trees) (sym same) b))
+
   -- children
-  kids-root_adopted : kids (after p (adopting d x p)).trees y ≡ kids p.trees y
-  kids-root_adopted =
-      root-adopted d x i h (λ ts. kids ts y ≡ kids p.trees y) refl
+  kids-root_adopted : (y : NodeName) → kids (after p (adopting d x p)).trees y ≡ kids p.trees y
+  kids-root_adopted y =
+      root-adopted (λ ts. kids ts y ≡ kids p.trees y) refl
       (kids-map_nodes (λ n. if is_in name_eq n.name (inclusive_descendants p.trees x) then with_document d n else n)
       (λ n. (some-keeps (λ (n : Node). is_in name_eq n.name (inclusive_descendants p.trees x)) (with_document d) (λ n. (refl, refl)) n).0)
       p.trees y)
 
   -- other roots
-  roots-root_adopted : HasRoot p.trees y → HasRoot (after p (adopting d x p)).trees y
-  roots-root_adopted r =
-      root-adopted d x i h (λ ts. HasRoot ts y) r
+  roots-root_adopted : (y : NodeName) → HasRoot p.trees y → HasRoot (after p (adopting d x p)).trees y
+  roots-root_adopted y r =
+      root-adopted (λ ts. HasRoot ts y) r
       (root-map_nodes (λ n. if is_in name_eq n.name (inclusive_descendants p.trees x) then with_document d n else n)
       (λ n. (some-keeps (λ (n : Node). is_in name_eq n.name (inclusive_descendants p.trees x)) (with_document d) (λ n. (refl, refl)) n).0)
       p.trees y r)
 
--- The placing of a node.
-module _ (parent : NodeName) (before : Option NodeName) (p : Part) (x : NodeName) (i : IsPart p) where
-  -- a root that is placed
-  kids-root_placed : MayGo parent p x → HasRoot p.trees x → (y : NodeName) → kids (after p (placing parent before x p)).trees y
-      ≡ kids p.trees y + one_at parent y
-  kids-root_placed m h y =
-      let doc = document_below p.trees parent in
-      let steps = adopting doc x p in
+-- The placing of nodes below a parent.
+module _ (parent : NodeName) (before : Option NodeName) where
+  -- of one
+  module _ (p : Part) (x : NodeName) (i : IsPart p) where
+    -- a root that is placed
+    kids-root_placed : MayGo parent p x → HasRoot p.trees x → (y : NodeName) → kids (after p (placing parent before x p)).trees y
+        ≡ kids p.trees y + one_at parent y
+    kids-root_placed m h y =
+        let doc = document_below p.trees parent in
+        let steps = adopting doc x p in
+        let q = after p steps in
+        let first = leads-eased (Some parent) p steps (leads-adopting doc x p i m.owner) in
+        let n = may-still parent p q x first.changed m in
+        let a = kids-root_adopted doc x p i h y in
+        let b = kids-placed before y (may-place first.changed.part n) (root-adopting doc x p m.there) in
+        let c = ap (λ (r : Part). kids r.trees y) (after-append p steps (place x parent before ∷ [])) in omega arith
+
+    -- leaves other roots
+    roots-root_placed : HasRoot p.trees x → (y : NodeName) → name_eq x y ≡ false → HasRoot p.trees y → HasRoot (after p (placing parent before x p)).trees y
+    roots-root_placed h y e r =
+        let doc = document_below p.trees parent in
+        let steps = adopting doc x p in
+        subst (λ (q : Part). HasRoot q.trees y) (sym (after-append p steps (place x parent before ∷ [])))
+        (root-placed parent before x (after p steps).trees y e (roots-root_adopted doc x p i h y r))
+
+  -- all of them
+  kids-roots_placed : (xs : List NodeName) {p : Part} → IsPart p → AllByRecursion (MayGo parent p) xs →
+      AllByRecursion (HasRoot p.trees) xs → Distinct xs → kids (after p (in_turn (placing parent before) xs p)).trees parent ≡ kids p.trees parent + length xs
+  kids-roots_placed [] i m r d = omega arith
+  kids-roots_placed (x ∷ xs) {p} i m r d =
+      let steps = placing parent before x p in
       let q = after p steps in
-      let first = leads-eased (Some parent) p steps (leads-adopting doc x p i m.owner) in
-      let n = may-still parent p q x first.changed m in
-      let a = kids-root_adopted doc x y p i h in
-      let b = kids-placed before y (may-place first.changed.part n) (root-adopting doc x p m.there) in
-      let c = ap (λ (r : Part). kids r.trees y) (after-append p steps (place x parent before ∷ [])) in omega arith
-
-  -- leaves other roots
-  roots-root_placed : HasRoot p.trees x → (y : NodeName) → name_eq x y ≡ false → HasRoot p.trees y → HasRoot (after p (placing parent before x p)).trees y
-  roots-root_placed h y e r =
-      let doc = document_below p.trees parent in
-      let steps = adopting doc x p in
-      subst (λ (q : Part). HasRoot q.trees y) (sym (after-append p steps (place x parent before ∷ [])))
-      (root-placed parent before x (after p steps).trees y e (roots-root_adopted doc x y p i h r))
-
--- all of them
-kids-roots_placed : (parent : NodeName) (before : Option NodeName) (xs : List NodeName) {p : Part} → IsPart p → AllByRecursion (MayGo parent p) xs →
-    AllByRecursion (HasRoot p.trees) xs → Distinct xs → kids (after p (in_turn (placing parent before) xs p)).trees parent ≡ kids p.trees parent + length xs
-kids-roots_placed parent before [] i m r d = omega arith
-kids-roots_placed parent before (x ∷ xs) {p} i m r d =
-    let steps = placing parent before x p in
-    let q = after p steps in
-    let c = (leads-placing parent before p x i m.0).changed in
-    let a = kids-root_placed parent before p x i m.0 r.0 parent in
-    let o : one_at parent parent ≡ 1 = cond-true (name_eq parent parent) 1 0 (name_eq-same parent) in
-    let b = kids-roots_placed parent before xs c.part (all-then (MayGo parent p) (MayGo parent q) (λ y. may-still parent p q y c) xs m.1)
-    (all-then (λ y. HasRoot p.trees y × (name_eq x y ≡ false)) (HasRoot q.trees)
-    (λ y h. let h1 = h.1 in roots-root_placed parent before p x i r.0 y h.1 h.0) xs
-    (all-both (HasRoot p.trees) (λ y. name_eq x y ≡ false) xs r.1 d.0)) d.1 in
-    let e = ap (λ (s : Part). kids s.trees parent) (after-append p steps (in_turn (placing parent before) xs q)) in omega arith
+      let c = (leads-placing parent before p x i m.0).changed in
+      let a = kids-root_placed p x i m.0 r.0 parent in
+      let o : one_at parent parent ≡ 1 = cond-true (name_eq parent parent) 1 0 (name_eq-same parent) in
+      let b = kids-roots_placed xs c.part (all-then (MayGo parent p) (MayGo parent q) (λ y. may-still parent p q y c) xs m.1)
+      (all-then (λ y. HasRoot p.trees y × (name_eq x y ≡ false)) (HasRoot q.trees)
+      (λ y h. let h1 = h.1 in roots-root_placed p x i r.0 y h.1 h.0) xs
+      (all-both (HasRoot p.trees) (λ y. name_eq x y ≡ false) xs r.1 d.0)) d.1 in
+      let e = ap (λ (s : Part). kids s.trees parent) (after-append p steps (in_turn (placing parent before) xs q)) in omega arith
 
 -- The insertion of a node that may go below the parent.
 module _ (how : Observing) (node parent : NodeName) (before : Option NodeName) (p : Part) (i : IsPart p) (m : MayGo parent p node) where

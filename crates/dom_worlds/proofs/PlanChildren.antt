@@ -161,18 +161,20 @@ child-inserting {x} {y} {node} {parent} {p} how before i m other =
     emptied true moved others = child-then x y p (in_turn (removing suppressed) moved p) (queue_record (child_list node [] moved None None) ∷ [])
         (child-removals suppressed moved (record { part = i; child = other.child }) others)
 
--- data
-pub child-replacing_data : (x y z : NodeName) (offset count : ℕ) (new : DomString) (p : Part) → IsChild x y p →
-    IsChild x y (after p (replacing_data z offset count new p))
-child-replacing_data x y z offset count new p h =
-    let few = min count (length (node_in p.trees z).text - offset) in
-    let s = childs-map_nodes (λ n. if name_eq n.name z then with_data_replaced offset few new n else n)
-    (λ n. (some-keeps (λ (n : Node). name_eq n.name z) (with_data_replaced offset few new) (λ n. (refl, refl)) n).0) p.trees x y in omega
-    arith
+-- A child stays one.
+module _ (x y : NodeName) where
+  -- beside other data
+  pub child-replacing_data : (z : NodeName) (offset count : ℕ) (new : DomString) (p : Part) → IsChild x y p →
+      IsChild x y (after p (replacing_data z offset count new p))
+  child-replacing_data z offset count new p h =
+      let few = min count (length (node_in p.trees z).text - offset) in
+      let s = childs-map_nodes (λ n. if name_eq n.name z then with_data_replaced offset few new n else n)
+      (λ n. (some-keeps (λ (n : Node). name_eq n.name z) (with_data_replaced offset few new) (λ n. (refl, refl)) n).0) p.trees x y in omega
+      arith
 
--- a new node
-pub child-make : (x y : NodeName) (n : Node) (p : Part) → IsChild x y p → IsChild x y (part_step p (make n))
-child-make x y n p h = let s = childs-with_node (with_name (next_name p) n) p.trees x y in omega arith
+  -- beside a new node
+  pub child-make : (n : Node) (p : Part) → IsChild x y p → IsChild x y (part_step p (make n))
+  child-make n p h = let s = childs-with_node (with_name (next_name p) n) p.trees x y in omega arith
 
 -- A child, by its parent.
 pub parent-child : (p : Part) (x y : NodeName) → IsPart p → parent_of p.trees x ≡ Some y → IsChild x y p

@@ -81,29 +81,38 @@ spot_of s = None
 mapped-apart : (f : Node → Node) → KeepsNames f → (ts : Trees) (a z : NodeName) → inside ts a z ≡ 0 → inside (map_nodes f ts) a z ≡ 0
 mapped-apart f h ts a z e = inside-map_nodes f (λ n. (h n).0) ts a z ∙ e
 
+-- a node of a part in whose tree another one does not stand, and nothing is placed
+record StandsApart (spot : Option NodeName) (p : Part) (a z : NodeName) : Type 0 where
+  there : HasNode p a
+  free : ApartFrom spot p a
+  apart : inside p.trees a z ≡ 0
+
 -- a step
-apart-step : {p : Part} (s : Step) → IsPart p → (a z : NodeName) → HasNode p a → ApartFrom (spot_of s) p a → inside p.trees a z ≡ 0 →
+apart-step : {p : Part} (s : Step) → IsPart p → (a z : NodeName) → StandsApart (spot_of s) p a z →
     inside (part_step p s).trees a z ≡ 0
-apart-step {p} (make n) i a z t h e =
+apart-step {p} (make n) i a z h =
+    let t = h.there in
     by_cases (name_eq (next_name p) a)
     (λ k. absurd (let b = next-absent p i in let same = ap (times_in p.trees) (name_eq-true (next_name p) a k) in omega arith))
-    (λ k. inside-with_node (with_name (next_name p) n) p.trees a z k ∙ e)
-apart-step {p} (place x parent before) i a z t h e = let b = inside-placed p.trees x a z parent before i.unique h in omega arith
-apart-step {p} (take_out x) i a z t h e = from (parent_of p.trees x)
+    (λ k. inside-with_node (with_name (next_name p) n) p.trees a z k ∙ h.apart)
+apart-step {p} (place x parent before) i a z h =
+    let e = h.apart in
+    let b = inside-placed p.trees x a z parent before i.unique h.free in omega arith
+apart-step {p} (take_out x) i a z h = from (parent_of p.trees x)
   where
     from : (o : Option NodeName) → inside (option_map_or (leave p x) o p).trees a z ≡ 0
-    from None = e
-    from (Some parent) = let b = inside-taken_out p.trees x a z in omega arith
-apart-step {p} (set_document x d) i a z t h e =
+    from None = h.apart
+    from (Some parent) = let e = h.apart in let b = inside-taken_out p.trees x a z in omega arith
+apart-step {p} (set_document x d) i a z h =
     mapped-apart (λ n. if is_in name_eq n.name (inclusive_descendants p.trees x) then with_document d n else n)
-    (some-keeps (λ (n : Node). is_in name_eq n.name (inclusive_descendants p.trees x)) (with_document d) (λ n. (refl, refl))) p.trees a z e
-apart-step {p} (set_attribute x b v) i a z t h e =
+    (some-keeps (λ (n : Node). is_in name_eq n.name (inclusive_descendants p.trees x)) (with_document d) (λ n. (refl, refl))) p.trees a z h.apart
+apart-step {p} (set_attribute x b v) i a z h =
     mapped-apart (λ n. if name_eq n.name x then with_attribute b v n else n)
-    (some-keeps (λ (n : Node). name_eq n.name x) (with_attribute b v) (attribute-keeps b v)) p.trees a z e
-apart-step {p} (replace_data x offset count new) i a z t h e =
+    (some-keeps (λ (n : Node). name_eq n.name x) (with_attribute b v) (attribute-keeps b v)) p.trees a z h.apart
+apart-step {p} (replace_data x offset count new) i a z h =
     mapped-apart (λ n. if name_eq n.name x then with_data_replaced offset count new n else n)
-    (some-keeps (λ (n : Node). name_eq n.name x) (with_data_replaced offset count new) (λ n. (refl, refl))) p.trees a z e
-apart-step s i a z t h e = e
+    (some-keeps (λ (n : Node). name_eq n.name x) (with_data_replaced offset count new) (λ n. (refl, refl))) p.trees a z h.apart
+apart-step s i a z h = h.apart
 
 -- kinds stay
 mapped-kind : (f : Node → Node) → KeepsNames f → (ts : Trees) (y : NodeName) → 1 ≤ times_in ts y → kind_of (map_nodes f ts) y ≡ kind_of ts y
@@ -140,7 +149,7 @@ changed-step p s i f =
       part = part-step p s i;
       count = count-grows p s;
       there = stays-step p s i f;
-      apart = apart-step s i;
+      apart = λ a z t h e. apart-step s i a z (record { there = t; free = h; apart = e });
       kinds = kind-step p s i f;
     }
 

@@ -177,7 +177,8 @@ pub record CanJoin (x parent : NodeName) (ys : List NodeName) (p : Part) : Type 
   pub beside : AreBeside x parent ys p.trees
 
 -- their joins
-pub leads-joins : (ts : Trees) (x parent : NodeName) (size : ℕ) (ys : List NodeName) {p : Part} → CanJoin x parent ys p → Leads None p (joins ts x parent size ys)
+pub leads-joins : (ts : Trees) (x parent : NodeName) (size : ℕ) (ys : List NodeName) {p : Part} → CanJoin x parent ys p →
+    Leads None p (joins ts x parent size ys)
 leads-joins ts x parent size [] {p} can = leads-nothing None p can.part
 leads-joins ts x parent size (y ∷ ys) {p} can =
     let i = can.part in

@@ -84,7 +84,11 @@ tells-joining x parent p i t e =
     let q = after p one in
     let two = joins p.trees x parent size nexts in
     tells-plan (replacing_data x size 0 all and_then steps_of two) (in_turn (removing observed) nexts)
-    (leads-then None p one two first (leads-joins p.trees x parent size nexts (record { part = first.changed.part; there = (still first.changed x t); beside = (texts-beside x size all i e) })))
+    (leads-then None p one two first (leads-joins p.trees x parent size nexts (record {
+      part = first.changed.part;
+      there = still first.changed x t;
+      beside = texts-beside x size all i e;
+    })))
     (tells-append p one two (tells-replacing_data x size 0 all p t) (tells-joins p.trees x parent size nexts q)) (λ r c. tells-removals observed nexts r c.part)
 
 -- a Text that is normalized

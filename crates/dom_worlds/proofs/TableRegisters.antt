@@ -221,9 +221,15 @@ holds-effect p i h f (Command.range_collapse k s) r =
     tables-range p k _ h (ends-mapped p.trees (collapsed_to s) (ends-collapsed p.trees s) (range_at p k) (ends-at p k h))
 holds-effect p i h f (Command.range_drop k) r = tables-range p k None h tt
 holds-effect p i h f (Command.range_get k) r =
-    some-holds p (range_at p k) (λ (r : Range NodeName). answers p (boundaries r.start r.end)) (answers p nothing) (some-any (range_at p k)) (record { each = (λ x t. h); otherwise = h })
+    some-holds p (range_at p k) (λ (r : Range NodeName). answers p (boundaries r.start r.end)) (answers p nothing) (some-any (range_at p k)) (record {
+      each = λ x t. h;
+      otherwise = h;
+    })
 holds-effect p i h f (Command.range_text k) r =
-    some-holds p (range_at p k) (λ (r : Range NodeName). answers p (a_string (range_text_of p.trees r))) (answers p nothing) (some-any (range_at p k)) (record { each = (λ x t. h); otherwise = h })
+    some-holds p (range_at p k) (λ (r : Range NodeName). answers p (a_string (range_text_of p.trees r))) (answers p nothing) (some-any (range_at p k)) (record {
+      each = λ x t. h;
+      otherwise = h;
+    })
 holds-effect p i h f (Command.extract k) r =
     range-made p k (λ range. extracting k range p) (λ range e. (leads-extracting k range p i (range-ends p k h range e).0).made)
 holds-effect p i h f (Command.delete k) r =
@@ -266,19 +272,43 @@ holds-effect p i h f (Command.walker_new x w) r =
       listeners = h.listeners;
     }
 holds-effect p i h f (Command.iterator_next k) r =
-    some-holds p (slice_get p.iterators k) (λ i. moves_iterator p k false i (iterator_next_node p.trees i)) (answers p nothing) (all-get (IsIteratorIn p.trees) p.iterators k h.iterators) (record { each = (λ j g. tables-iterator k false (iterator_next_node p.trees j) h g (iterator-next p.trees j i.unique g)); otherwise = h })
+    some-holds p (slice_get p.iterators k) (λ i. moves_iterator p k false i (iterator_next_node p.trees i)) (answers p nothing)
+    (all-get (IsIteratorIn p.trees) p.iterators k h.iterators) (record {
+      each = λ j g. tables-iterator k false (iterator_next_node p.trees j) h g (iterator-next p.trees j i.unique g);
+      otherwise = h;
+    })
 holds-effect p i h f (Command.iterator_previous k) r =
-    some-holds p (slice_get p.iterators k) (λ i. moves_iterator p k true i (iterator_previous_node p.trees i)) (answers p nothing) (all-get (IsIteratorIn p.trees) p.iterators k h.iterators) (record { each = (λ j g. tables-iterator k true (iterator_previous_node p.trees j) h g (iterator-previous p.trees j i.unique g)); otherwise = h })
+    some-holds p (slice_get p.iterators k) (λ i. moves_iterator p k true i (iterator_previous_node p.trees i)) (answers p nothing)
+    (all-get (IsIteratorIn p.trees) p.iterators k h.iterators) (record {
+      each = λ j g. tables-iterator k true (iterator_previous_node p.trees j) h g (iterator-previous p.trees j i.unique g);
+      otherwise = h;
+    })
 holds-effect p i h f (Command.iterator_at k) r =
-    some-holds p (slice_get p.iterators k) (λ (i : Iterator). answers p (reference i.reference i.before)) (answers p nothing) (all-get (IsIteratorIn p.trees) p.iterators k h.iterators) (record { each = (λ j g. h); otherwise = h })
+    some-holds p (slice_get p.iterators k) (λ (i : Iterator). answers p (reference i.reference i.before)) (answers p nothing)
+    (all-get (IsIteratorIn p.trees) p.iterators k h.iterators) (record {
+      each = λ j g. h;
+      otherwise = h;
+    })
 holds-effect p i h f (Command.walk k m) r =
-    some-holds p (slice_get p.walkers k) (λ w. sets_walker p k w (walker_move p.trees w m) (node_or_null (walker_move p.trees w m))) (answers p nothing) (all-get (IsWalkerIn p.trees) p.walkers k h.walkers) (record { each = (λ w g. tables-walker k (walker_move p.trees w m) _ h g (walker-moved p.trees w m)); otherwise = h })
+    some-holds p (slice_get p.walkers k) (λ w. sets_walker p k w (walker_move p.trees w m) (node_or_null (walker_move p.trees w m))) (answers p nothing)
+    (all-get (IsWalkerIn p.trees) p.walkers k h.walkers) (record {
+      each = λ w g. tables-walker k (walker_move p.trees w m) _ h g (walker-moved p.trees w m);
+      otherwise = h;
+    })
 holds-effect p i h f (Command.walker_at k) r =
-    some-holds p (slice_get p.walkers k) (λ (w : Walker). answers p (a_node w.current)) (answers p nothing) (all-get (IsWalkerIn p.trees) p.walkers k h.walkers) (record { each = (λ j g. h); otherwise = h })
+    some-holds p (slice_get p.walkers k) (λ (w : Walker). answers p (a_node w.current)) (answers p nothing)
+    (all-get (IsWalkerIn p.trees) p.walkers k h.walkers) (record {
+      each = λ j g. h;
+      otherwise = h;
+    })
 holds-effect p i h f (Command.walker_set k x) r =
     let a = part-accepted p (Command.walker_set k x) r in
     let t = times-has_node p.trees (named p x) (exists-first p x true (is_some (slice_get p.walkers k)) a.exist) in
-    some-holds p (slice_get p.walkers k) (λ w. sets_walker p k w (Some (named p x)) nothing) (answers p nothing) (all-get (IsWalkerIn p.trees) p.walkers k h.walkers) (record { each = (λ w g. tables-walker k (Some (named p x)) nothing h g t); otherwise = h })
+    some-holds p (slice_get p.walkers k) (λ w. sets_walker p k w (Some (named p x)) nothing) (answers p nothing)
+    (all-get (IsWalkerIn p.trees) p.walkers k h.walkers) (record {
+      each = λ w g. tables-walker k (Some (named p x)) nothing h g t;
+      otherwise = h;
+    })
 holds-effect p i h f (Command.listen x w) r =
     let a = part-accepted p (Command.listen x w) r in
     tables-listeners p _ h (all-heard (IsListenerIn p.trees) (named p x) w p.listeners

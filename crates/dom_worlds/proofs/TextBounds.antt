@@ -201,14 +201,9 @@ room-joins : (ts : Trees) (x parent : NodeName) (size : ℕ) (ys : List NodeName
     HasRoom nowhere (after q (joins ts x parent size ys))
 room-joins ts x parent size [] holds = holds.room
 room-joins ts x parent size (y ∷ ys) {q} holds =
-    let a = holds.long in
-    let b = holds.same in
-    let b0 = b.0 in
-    room-joins ts x parent (size + length_of ts y) ys (record {
-      long = omega arith;
-      same = b.1;
-      room = room-join holds.room parent (index_of ts y) x size y (omega arith);
-    })
+    let a = holds.long in let b = holds.same.0 in
+    let room = room-join holds.room parent (index_of ts y) x size y (omega arith) in
+    room-joins ts x parent (size + length_of ts y) ys (record { long = omega arith; same = holds.same.1; room = room })
 
 -- a name that is not among some differs from each
 pub none-among : (x : NodeName) (xs : List NodeName) → times_among xs x ≡ 0 → AllByRecursion (λ y. name_eq x y ≡ false) xs
@@ -297,15 +292,12 @@ module _ (x parent : NodeName) (p : Part) (i : IsPart p) (t : HasNode p x) (k : 
       let size = length_of ts x in
       let all = flat_map (λ y. (node_in ts y).text) nexts in
       let fits = joining-fits in
+      let first = leads-replacing_data x size 0 all p i in
       room-plan (replacing_data x size 0 all and_then steps_of (joins ts x parent size nexts)) (in_turn (removing observed) nexts)
-      (leads-then None p (replacing_data x size 0 all p) (joins ts x parent size nexts) (leads-replacing_data x size 0 all p i)
-      (leads-joins ts x parent size nexts (record { part = (leads-replacing_data x size 0 all p i).changed.part; there = (still (leads-replacing_data x size 0 all p i).changed x t); beside = (texts-beside x size all i e) })))
+      (leads-then None p (replacing_data x size 0 all p) (joins ts x parent size nexts) first
+      (leads-joins ts x parent size nexts (record { part = first.changed.part; there = still first.changed x t; beside = texts-beside x size all i e })))
       (room-then nowhere p (replacing_data x size 0 all p) (joins ts x parent size nexts)
-      (room-joins ts x parent size nexts (record {
-        long = fits.0;
-        same = fits.1;
-        room = room-replacing_data x size 0 all (record { part = i; room = h }) k;
-      })))
+      (room-joins ts x parent size nexts (record { long = fits.0; same = fits.1; room = room-replacing_data x size 0 all (record { part = i; room = h }) k })))
       (λ r c g. room-removals nowhere observed nexts r c.part g)
 
 -- Plans for items that lead on, each of which keeps room.
