@@ -169,11 +169,17 @@ module _ (g : Owner → Bool) (closed : KeepsFamilies g) where
       from (Some Page) t = cond-true (g Page) (Some Page) None closed.page
       from (Some (Component k)) t = cond-true (g (Component k)) (Some (Component k)) None (same-owner (Component k) t)
 
+  -- an owner of the group, whose turn may be opened in two worlds
+  pub record MayOpen (w v : World) (o : Owner) : Type 0 where
+    pub mine : g o ≡ true
+    pub first : has_other_turn w o ≡ false
+    pub second : has_other_turn v o ≡ false
+
   -- a turn that a line of the group opens
-  pub opening-in : (w v : World) → group_world g w ≡ group_world g v → (o : Owner) → g o ≡ true → has_other_turn w o ≡ false → has_other_turn v o ≡ false →
+  pub opening-in : (w v : World) → group_world g w ≡ group_world g v → (o : Owner) → MayOpen w v o →
       group_world g (opening_turn w o) ≡ group_world g (opening_turn v o)
-  opening-in w v same o h a b =
-      let turns : w.turn ≡ v.turn = sym (turn-own w o h a) ∙ ap (λ (u : World). u.turn) same ∙ turn-own v o h b in
+  opening-in w v same o may =
+      let turns : w.turn ≡ v.turn = sym (turn-own w o may.mine may.first) ∙ ap (λ (u : World). u.turn) same ∙ turn-own v o may.mine may.second in
       by_cases (is_some w.turn)
       (λ e. ap (group_world g) (cond-true (is_some w.turn) w (record w { turn = Some o }) e) ∙ same
       ∙ sym (ap (group_world g) (cond-true (is_some v.turn) v (record v { turn = Some o }) (ap is_some (sym turns) ∙ e))))

@@ -101,16 +101,19 @@ module _ (g : Owner → Bool) (closed : KeepsFamilies g) where
       ∙ ap (λ (p : Part). is_document (kind_of p.trees last))
       (part-in g w last.owner (last-all (In g closed w i) None (shadow_including_ancestors w x) x (including-inside g closed w i x h) h))
 
+  -- a target and a related node of the group
+  record AreOfGroup (x : NodeName) (r : Option NodeName) : Type 0 where
+    target : in_node g x ≡ true
+    related : AllByRecursion (λ y. in_node g y ≡ true) (option_to_list r)
+
   -- a dispatch with its answer
-  dispatched-in : {w v : World} → IsSameView g w v → (o : Owner) →
-      (x : NodeName) (r : Option NodeName) (e : EventWords) →
-      in_node g x ≡ true → AllByRecursion (λ y. in_node g y ≡ true) (option_to_list r) →
+  dispatched-in : {w v : World} → IsSameView g w v → (o : Owner) → (x : NodeName) (r : Option NodeName) (e : EventWords) → AreOfGroup x r →
       group_run g (run_then (dispatch_in w x r e).run (answering o (a_truth (dispatch_in w x r e).answer)))
       ≡ group_run g (run_then (dispatch_in v x r e).run (answering o (a_truth (dispatch_in v x r e).answer)))
-  dispatched-in {w} {v} s o x r e h k =
+  dispatched-in {w} {v} s o x r e mine =
       let d = dispatch_in w x r e in
       let b = dispatch_in v x r e in
-      let shown = dispatch-in g closed s x r e h k in
+      let shown = dispatch-in g closed s x r e mine.target mine.related in
       runs-then g closed d.run b.run (answering o (a_truth d.answer)) (answering o (a_truth b.answer))
       (ap (λ (d : Dispatched World). d.run) shown)
       (ap (λ (d : Dispatched World). (d.run.0, group_outputs g (says o (replied (a_truth d.answer)) ∷ []))) shown)
@@ -148,7 +151,7 @@ module _ (g : Owner → Bool) (closed : KeepsFamilies g) where
       let x = part_of w o in
       let mine : (s : NodeWord) → in_node g (named x s) ≡ true = λ s. ap g (owner-named x s ∙ owner-part_of w o) ∙ h in
       let done : Part → Run World = λ y. let d = dispatch_in v (named y a) (option_map (named y) r) e in run_then d.run (answering o (a_truth d.answer)) in
-      dispatched-in k o (named x a) (option_map (named x) r) e (mine a) (near mine r)
+      dispatched-in k o (named x a) (option_map (named x) r) e (record { target = mine a; related = near mine r })
       ∙ ap (λ y. group_run g (done y)) (same-part g closed w v k.same o h)
     where
       near : ((s : NodeWord) → in_node g (named (part_of w o) s) ≡ true) → (r : Option NodeWord) →
@@ -171,7 +174,11 @@ module _ (g : Owner → Bool) (closed : KeepsFamilies g) where
     opened : (c : Command) → group_run g (perform (opening_turn w o) o c) ≡ group_run g (perform (opening_turn v o) o c)
     opened c =
         perform-in (opening_turn w o) (opening_turn v o)
-        (record { first = opened-quiet w s.first o; second = opened-quiet v s.second o; same = opening-in g closed w v s.same o h a b }) o h c
+        (record {
+          first = opened-quiet w s.first o;
+          second = opened-quiet v s.second o;
+          same = opening-in g closed w v s.same o (record { mine = h; first = a; second = b });
+        }) o h c
 
     -- `.` apart, which opens none
     accepted-in : (c : Command) → group_run g (accepted w o c) ≡ group_run g (accepted v o c)

@@ -85,8 +85,8 @@ module _ (g : Owner → Bool) (closed : KeepsFamilies g) where
   pub dispatch-in : {w v : World} → IsSameView g w v → (x : NodeName) (r : Option NodeName) (e : EventWords) → in_node g x ≡ true →
       AllByRecursion (λ y. in_node g y ≡ true) (option_to_list r) → group_dispatched g (dispatch_in w x r e) ≡ group_dispatched g (dispatch_in v x r e)
   dispatch-in {w} {v} s x r e h k =
-      let seen = views-in g closed w s.first.world x r e.composed h k ∙ ap (λ u. views u x r e.composed) s.same ∙ sym
-      (views-in g closed v s.second.world x r e.composed h k) in
+      let seen = views-in g closed w s.first.world x r h k e.composed ∙ ap (λ u. views u x r e.composed) s.same ∙ sym
+      (views-in g closed v s.second.world x r h k e.composed) in
       dispatch-shown g closed w x r e (s.first.logs refl) ∙ ap (λ u. shown_by g closed u e (filter (in_view g) (views w x r e.composed))) s.same
       ∙ ap (shown_by g closed (group_world g v) e) seen ∙ sym (dispatch-shown g closed v x r e (s.second.logs refl))
 

@@ -38,7 +38,7 @@ step-agrees g closed o h w i s = step-in g closed o h w (ground-of w i) s
 
 -- views
 pub views-agree : ViewsAgree
-views-agree g closed w i x related composed h k = views-in g closed w i x related composed h k
+views-agree g closed w i x related composed h k = views-in g closed w i x related h k composed
 
 -- a node with an outermost host is in a shadow tree
 hosted-in_tree : (w : World) (x host : NodeName) → outermost_host w x ≡ Some host → is_in_shadow_tree w x ≡ true
@@ -58,7 +58,7 @@ outward_views-agree g closed w i x host h e =
     (λ p. let found : Some k.last ≡ Some host = sym (at ∙ ap (λ b. if b then Some k.last else None) p) ∙ e in
     let same : k.last ≡ host = cc in
     let page = owner_eq-true k.last.owner Page p in
-    views-exit g closed w i x k page ∙ views-in g closed w i k.last None true (ap g page ∙ closed.page) tt
+    views-exit g closed w i x k page ∙ views-in g closed w i k.last None (ap g page ∙ closed.page) tt true
     ∙ ap (λ y. views (group_world g w) y None true) same)
     (λ p. let both : None ≡ Some host = sym (at ∙ ap (λ b. if b then Some k.last else None) p) ∙ e in cc)
 
@@ -71,7 +71,7 @@ dispatch-agrees g closed w v q p same x related e h k =
 -- of a component outside
 pub other_dispatch-agrees : OtherDispatchAgrees
 other_dispatch-agrees g closed w Page h q x e related r = absurd (true≢false (sym closed.page ∙ h))
-other_dispatch-agrees g closed w (Component k) h q x e related r = dispatched-out g closed k q h x e related r
+other_dispatch-agrees g closed w (Component k) h q x e related r = dispatched-out g closed k (record { quiet = q; outside = h }) x e related r
 
 -- the ending of a turn
 pub ending-agrees : EndingAgrees

@@ -104,7 +104,7 @@ module _ (g : Owner → Bool) (closed : KeepsFamilies g) where
       let same = ap (λ (r : Run World). r.0) first in
       let e = outward_command u o c in
       quiet-then g closed (ending_other_turn w o) w (run_command o c) (outward_run w e) first
-      (command-out g closed j p h (calm-ended g closed w calm o) (no_other-ended w o) c
+      (command-out g closed j (record { quiet = p; outside = h }) (calm-ended g closed w calm o) (no_other-ended w o) c
       (fits u (ending-keeps_reached true w o r) (ending-keeps_whole true w o r k) o c)
       ∙ outward-in g closed u w (record { first = p; second = q; same = same }) e (command_event-page u o c))
 

@@ -159,30 +159,9 @@ module _ (g : Owner → Bool) (closed : KeepsFamilies g) where
   abbrev IsOut : World → ℕ → Type 0
   IsOut w depth = (x : NodeName) → in_node g x ≡ false → filter g (components_below depth w x) ≡ []
 
-  -- one component with those below it
-  out-each : {w : World} → IsGround w → (depth : ℕ) → IsOut w depth → (o : Owner) → g o ≡ false → (ys : List NodeName) → AllByRecursion (IsOf o) ys →
-      filter g (trees_of w depth (filter_map (component_at w) ys)) ≡ []
-  out-each i depth deeper o out [] h = refl
-  out-each {w} i depth deeper o out (y ∷ ys) h = one (component_at w y) refl (out-each i depth deeper o out ys h.1)
-    where
-      rest : List Owner
-      rest = filter_map (component_at w) ys
-
-      one : (m : Option Owner) → component_at w y ≡ m → filter g (trees_of w depth rest) ≡ [] → filter g (trees_of w depth (cons_option m rest)) ≡ []
-      one None e later = later
-      one (Some c) e later =
-          let out_c = component-outside g closed w i y c e (ap g h.0 ∙ out) in
-          filter-append g (c ∷ components_below depth w (shadow_root_of c)) (trees_of w depth rest)
-          ∙ ap (λ cs. cs ++ filter g (trees_of w depth rest))
-          (filter-away g c (components_below depth w (shadow_root_of c)) out_c ∙ deeper (shadow_root_of c) out_c)
-          ∙ later
-
-  -- at any depth
-  pub below-outside : (depth : ℕ) (w : World) → IsGround w → IsOut w depth
-  below-outside zero w i x out = refl
-  below-outside (suc depth) w i x out =
-      out-each i depth (below-outside depth w i) x.owner out (inclusive_descendants (trees_with w x) x)
-      (all-map (IsOf x.owner) (λ (m : Node). m.name) (nodes (subtree (trees_with w x) x)) (nodes-of w i x.owner x))
+  -- and those of a node of the group are the same, of the group.
+  abbrev IsSame : World → ℕ → Type 0
+  IsSame w depth = (x : NodeName) → in_node g x ≡ true → filter g (components_below depth (group_world g w) x) ≡ filter g (components_below depth w x)
 
   -- in what the group has there are none
   below-none : (depth : ℕ) (w : World) (x : NodeName) → in_node g x ≡ false → components_below depth (group_world g w) x ≡ []
@@ -191,52 +170,75 @@ module _ (g : Owner → Bool) (closed : KeepsFamilies g) where
       ap (λ (p : Part). flat_map (λ c. c ∷ components_below depth (group_world g w) (shadow_root_of c))
       (filter_map (component_at (group_world g w)) (inclusive_descendants p.trees x))) (part-out g w x.owner out)
 
-  -- and those of a node of the group are the same, of the group.
-  abbrev IsSame : World → ℕ → Type 0
-  IsSame w depth = (x : NodeName) → in_node g x ≡ true → filter g (components_below depth (group_world g w) x) ≡ filter g (components_below depth w x)
+  -- The components of nodes of one owner, with those below them.
+  module _ (w : World) (depth : ℕ) (out : IsOut w depth) (o : Owner) where
+    -- where it is outside
+    out-each : IsGround w → g o ≡ false → (ys : List NodeName) → AllByRecursion (IsOf o) ys →
+        filter g (trees_of w depth (filter_map (component_at w) ys)) ≡ []
+    out-each i other [] h = refl
+    out-each i other (y ∷ ys) h = one (component_at w y) refl (out-each i other ys h.1)
+      where
+        rest : List Owner
+        rest = filter_map (component_at w) ys
 
-  -- one component with those below it
-  in-each : (w : World) → (depth : ℕ) → IsOut w depth → IsSame w depth → (o : Owner) → g o ≡ true → (ys : List NodeName) →
-      AllByRecursion (IsOf o) ys →
-      filter g (trees_of (group_world g w) depth (filter_map (component_at (group_world g w)) ys)) ≡ filter g (trees_of w depth (filter_map
-      (component_at w) ys))
-  in-each w depth out same o h [] k = refl
-  in-each w depth out same o h (y ∷ ys) k =
-      ap (λ (p : Part). filter g (trees_of v depth (cons_option (option_map (component_made y.owner) (position (name_eq y) p.attached))
-      (filter_map (component_at v) ys)))) (part-in g w y.owner (ap g k.0 ∙ h))
-      ∙ one (component_at w y) (in-each w depth out same o h ys k.1)
-    where
-      v : World
-      v = group_world g w
+        one : (m : Option Owner) → component_at w y ≡ m → filter g (trees_of w depth rest) ≡ [] → filter g (trees_of w depth (cons_option m rest)) ≡ []
+        one None e later = later
+        one (Some c) e later =
+            let out_c = component-outside g closed w i y c e (ap g h.0 ∙ other) in
+            filter-append g (c ∷ components_below depth w (shadow_root_of c)) (trees_of w depth rest)
+            ∙ ap (λ cs. cs ++ filter g (trees_of w depth rest))
+            (filter-away g c (components_below depth w (shadow_root_of c)) out_c ∙ out (shadow_root_of c) out_c)
+            ∙ later
 
-      one_more : World → List Owner → Option Owner → List Owner
-      one_more u rest m = filter g (trees_of u depth (cons_option m rest))
+    -- where it is of the group
+    in-each : IsSame w depth → g o ≡ true → (ys : List NodeName) →
+        AllByRecursion (IsOf o) ys →
+        filter g (trees_of (group_world g w) depth (filter_map (component_at (group_world g w)) ys)) ≡ filter g (trees_of w depth (filter_map
+        (component_at w) ys))
+    in-each same h [] k = refl
+    in-each same h (y ∷ ys) k =
+        ap (λ (p : Part). filter g (trees_of v depth (cons_option (option_map (component_made y.owner) (position (name_eq y) p.attached))
+        (filter_map (component_at v) ys)))) (part-in g w y.owner (ap g k.0 ∙ h))
+        ∙ one (component_at w y) (in-each same h ys k.1)
+      where
+        v : World
+        v = group_world g w
 
-      one : (m : Option Owner) →
-          filter g (trees_of v depth (filter_map (component_at v) ys)) ≡ filter g (trees_of w depth (filter_map (component_at w) ys)) →
-          one_more v (filter_map (component_at v) ys) m ≡ one_more w (filter_map (component_at w) ys) m
-      one None later = later
-      one (Some c) later =
-          filter-append g (c ∷ components_below depth v (shadow_root_of c)) (trees_of v depth (filter_map (component_at v) ys))
-          ∙ ap (λ cs. filter g (c ∷ components_below depth v (shadow_root_of c)) ++ cs) later
-          ∙ ap (λ cs. cs ++ filter g (trees_of w depth (filter_map (component_at w) ys))) below
-          ∙ sym (filter-append g (c ∷ components_below depth w (shadow_root_of c)) (trees_of w depth (filter_map (component_at w) ys)))
-        where
-          below : filter g (c ∷ components_below depth v (shadow_root_of c)) ≡ filter g (c ∷ components_below depth w (shadow_root_of c))
-          below = by_cases (g c)
-              (λ t. filter-here g c (components_below depth v (shadow_root_of c)) t ∙ ap (λ cs. c ∷ cs) (same (shadow_root_of c) t)
-              ∙ sym (filter-here g c (components_below depth w (shadow_root_of c)) t))
-              (λ t. filter-away g c (components_below depth v (shadow_root_of c)) t
-              ∙ ap (filter g) (below-none depth w (shadow_root_of c) t) ∙ sym (out (shadow_root_of c) t)
-              ∙ sym (filter-away g c (components_below depth w (shadow_root_of c)) t))
+        one_more : World → List Owner → Option Owner → List Owner
+        one_more u rest m = filter g (trees_of u depth (cons_option m rest))
 
-  -- at any depth
+        one : (m : Option Owner) →
+            filter g (trees_of v depth (filter_map (component_at v) ys)) ≡ filter g (trees_of w depth (filter_map (component_at w) ys)) →
+            one_more v (filter_map (component_at v) ys) m ≡ one_more w (filter_map (component_at w) ys) m
+        one None later = later
+        one (Some c) later =
+            filter-append g (c ∷ components_below depth v (shadow_root_of c)) (trees_of v depth (filter_map (component_at v) ys))
+            ∙ ap (λ cs. filter g (c ∷ components_below depth v (shadow_root_of c)) ++ cs) later
+            ∙ ap (λ cs. cs ++ filter g (trees_of w depth (filter_map (component_at w) ys))) below
+            ∙ sym (filter-append g (c ∷ components_below depth w (shadow_root_of c)) (trees_of w depth (filter_map (component_at w) ys)))
+          where
+            below : filter g (c ∷ components_below depth v (shadow_root_of c)) ≡ filter g (c ∷ components_below depth w (shadow_root_of c))
+            below = by_cases (g c)
+                (λ t. filter-here g c (components_below depth v (shadow_root_of c)) t ∙ ap (λ cs. c ∷ cs) (same (shadow_root_of c) t)
+                ∙ sym (filter-here g c (components_below depth w (shadow_root_of c)) t))
+                (λ t. filter-away g c (components_below depth v (shadow_root_of c)) t
+                ∙ ap (filter g) (below-none depth w (shadow_root_of c) t) ∙ sym (out (shadow_root_of c) t)
+                ∙ sym (filter-away g c (components_below depth w (shadow_root_of c)) t))
+
+  -- at any depth, outside
+  pub below-outside : (depth : ℕ) (w : World) → IsGround w → IsOut w depth
+  below-outside zero w i x out = refl
+  below-outside (suc depth) w i x out =
+      out-each w depth (below-outside depth w i) x.owner i out (inclusive_descendants (trees_with w x) x)
+      (all-map (IsOf x.owner) (λ (m : Node). m.name) (nodes (subtree (trees_with w x) x)) (nodes-of w i x.owner x))
+
+  -- and in the group
   pub below-in : (depth : ℕ) (w : World) → IsGround w → IsSame w depth
   below-in zero w i x h = refl
   below-in (suc depth) w i x h =
       ap (λ (p : Part). filter g (trees_of (group_world g w) depth (filter_map (component_at (group_world g w)) (inclusive_descendants p.trees x))))
       (part-in g w x.owner h)
-      ∙ in-each w depth (below-outside depth w i) (below-in depth w i) x.owner h (inclusive_descendants (trees_with w x) x)
+      ∙ in-each w depth (below-outside depth w i) x.owner (below-in depth w i) h (inclusive_descendants (trees_with w x) x)
       (all-map (IsOf x.owner) (λ (m : Node). m.name) (nodes (subtree (trees_with w x) x)) (nodes-of w i x.owner x))
 
   -- of any node

@@ -286,51 +286,53 @@ module _ (g : Owner → Bool) (closed : KeepsFamilies g) where
       none_bare false b = refl
       none_bare true b = ap (λ t. if t && (is_in_shadow_tree v around && is_empty (assigned v around)) then around ∷ [] else []) (b refl)
 
-  -- of a node outside
-  signals-out : (o : Owner) → g o ≡ false → {w : World} → IsGround w → (s : Step) (x around : NodeName) (is_move : Bool) → (is_move ≡ true → around.owner ≡ o) →
-      group_world g (with_signals w (stepped o w s) x around is_move) ≡ group_world g w
-  signals-out o h {w} i s x around is_move near =
-      let v = group_world g w in
-      with_signals-group i (stepped-ground o w s i) x around is_move
-      ∙ ap (λ now. with_signals v now x around is_move) (stepped-out g o h w s)
-      ∙ ap (fold with_signal v) (no_signals v x around is_move
-      (λ m. ap (λ (p : Part). is_slot_element (node_in p.trees around)) (part-out g w around.owner (ap g (near m) ∙ h))))
+  -- An owner outside.
+  module _ (o : Owner) (h : g o ≡ false) where
+    -- of a node outside
+    signals-out : {w : World} → IsGround w → (s : Step) (x around : NodeName) (is_move : Bool) → (is_move ≡ true → around.owner ≡ o) →
+        group_world g (with_signals w (stepped o w s) x around is_move) ≡ group_world g w
+    signals-out {w} i s x around is_move near =
+        let v = group_world g w in
+        with_signals-group i (stepped-ground o w s i) x around is_move
+        ∙ ap (λ now. with_signals v now x around is_move) (stepped-out g o h w s)
+        ∙ ap (fold with_signal v) (no_signals v x around is_move
+        (λ m. ap (λ (p : Part). is_slot_element (node_in p.trees around)) (part-out g w around.owner (ap g (near m) ∙ h))))
 
-  -- A step of another owner is none.
-  pub step-out : (o : Owner) → g o ≡ false → (w : World) → IsGround w → (s : Step) → Fits (part_of w o) s →
-      group_world g (world_step o w s) ≡ group_world g w
-  step-out o h w i (place x parent before) f =
-      signals-out o h i (place x parent before) x parent true (λ m. owned-by w i o parent f.0)
-  step-out o h w i (take_out x) f = from (parent_of (part_of w o).trees x) refl
-    where
-      from : (p : Option NodeName) → parent_of (part_of w o).trees x ≡ p →
-          group_world g (with_removal_signals w (stepped o w (take_out x)) x p) ≡ group_world g w
-      from None e = stepped-out g o h w (take_out x)
-      from (Some parent) e = signals-out o h i (take_out x) x parent true (λ m. parent-in w i o x parent e)
-  step-out o h w i (set_attribute x a v) f = signals-out o h i (set_attribute x a v) x x false (λ m. absurd (true≢false (sym m)))
-  step-out o h w i (set_document x d) f =
-      let s = set_document x d in
-      documents-group g d (components_below max_depth w x) (stepped o w s)
-      ∙ ap (fold (with_shadow_document d) (group_world g (stepped o w s)))
-      (below-outside g closed max_depth w i x (ap g (f ∙ owner-part_of w o) ∙ h))
-      ∙ stepped-out g o h w s
-  step-out o h w i (queue_record c) f = notify (is_taken (part_of w o) c) (stepped o w (queue_record c)) ∙ stepped-out g o h w (queue_record c)
-    where
-      notify : (b : Bool) (u : World) → group_world g (with_notify_if b o u) ≡ group_world g u
-      notify true u = with_notify-out g o h u
-      notify false u = refl
-  step-out o h w i (make n) f = stepped-out g o h w (make n)
-  step-out o h w i (make_room parent index count) f = stepped-out g o h w (make_room parent index count)
-  step-out o h w i (replace_data x offset count new) f = stepped-out g o h w (replace_data x offset count new)
-  step-out o h w i (split_at x offset new parent index) f = stepped-out g o h w (split_at x offset new parent index)
-  step-out o h w i (join_at first size next parent index) f = stepped-out g o h w (join_at first size next parent index)
-  step-out o h w i (set_range k r) f = stepped-out g o h w (set_range k r)
+    -- A step of another owner is none.
+    pub step-out : (w : World) → IsGround w → (s : Step) → Fits (part_of w o) s →
+        group_world g (world_step o w s) ≡ group_world g w
+    step-out w i (place x parent before) f =
+        signals-out i (place x parent before) x parent true (λ m. owned-by w i o parent f.0)
+    step-out w i (take_out x) f = from (parent_of (part_of w o).trees x) refl
+      where
+        from : (p : Option NodeName) → parent_of (part_of w o).trees x ≡ p →
+            group_world g (with_removal_signals w (stepped o w (take_out x)) x p) ≡ group_world g w
+        from None e = stepped-out g o h w (take_out x)
+        from (Some parent) e = signals-out i (take_out x) x parent true (λ m. parent-in w i o x parent e)
+    step-out w i (set_attribute x a v) f = signals-out i (set_attribute x a v) x x false (λ m. absurd (true≢false (sym m)))
+    step-out w i (set_document x d) f =
+        let s = set_document x d in
+        documents-group g d (components_below max_depth w x) (stepped o w s)
+        ∙ ap (fold (with_shadow_document d) (group_world g (stepped o w s)))
+        (below-outside g closed max_depth w i x (ap g (f ∙ owner-part_of w o) ∙ h))
+        ∙ stepped-out g o h w s
+    step-out w i (queue_record c) f = notify (is_taken (part_of w o) c) (stepped o w (queue_record c)) ∙ stepped-out g o h w (queue_record c)
+      where
+        notify : (b : Bool) (u : World) → group_world g (with_notify_if b o u) ≡ group_world g u
+        notify true u = with_notify-out g o h u
+        notify false u = refl
+    step-out w i (make n) f = stepped-out g o h w (make n)
+    step-out w i (make_room parent index count) f = stepped-out g o h w (make_room parent index count)
+    step-out w i (replace_data x offset count new) f = stepped-out g o h w (replace_data x offset count new)
+    step-out w i (split_at x offset new parent index) f = stepped-out g o h w (split_at x offset new parent index)
+    step-out w i (join_at first size next parent index) f = stepped-out g o h w (join_at first size next parent index)
+    step-out w i (set_range k r) f = stepped-out g o h w (set_range k r)
 
-  -- nor are many
-  pub steps-out : (o : Owner) → g o ≡ false → (steps : List Step) (w : World) → IsGround w → MadeIn (part_of w o) steps →
-      group_world g (world_after o w steps) ≡ group_world g w
-  steps-out o h [] w i m = refl
-  steps-out o h (s ∷ steps) w i m =
-      steps-out o h steps (world_step o w s) (world_step-ground o w s i)
-      (subst (λ p. MadeIn p steps) (sym (part-own_step o w s (base w i) m.0)) m.1)
-      ∙ step-out o h w i s m.0
+    -- nor are many
+    pub steps-out : (steps : List Step) (w : World) → IsGround w → MadeIn (part_of w o) steps →
+        group_world g (world_after o w steps) ≡ group_world g w
+    steps-out [] w i m = refl
+    steps-out (s ∷ steps) w i m =
+        steps-out steps (world_step o w s) (world_step-ground o w s i)
+        (subst (λ p. MadeIn p steps) (sym (part-own_step o w s (base w i) m.0)) m.1)
+        ∙ step-out w i s m.0

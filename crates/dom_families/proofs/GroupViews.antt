@@ -101,30 +101,32 @@ module _ (g : Owner → Bool) (closed : KeepsFamilies g) (w : World) (i : IsWorl
   pub veiled-hidden : (x : NodeName) → Inside x → (y : NodeName) → IsVeiled y → Outside y → not (is_hidden_from w x y) ≡ false
   veiled-hidden x h y s o = let t = s o in ap not (hidden-outside g closed w ground t.0 x y h o t.1)
 
-  -- What is shown at a node of the group.
-  view-in : (x y : NodeName) (r : Option NodeName) (path : List NodeName) → Inside x → IsNear r → Inside y → AllByRecursion IsVeiled path →
-      view_at w x r path y ≡ view_at (group_world g w) x r (filter (in_node g) path) y
-  view-in x y r path h k j s =
-      let v = group_world g w in
-      let shown : NodeName → Option NodeName → List NodeName → View NodeName =
-      λ t q p. record { node = y; target = t; related = q; path = p } in
-      let near = filter (λ z. not (is_hidden_from w y z)) path in
-      ap (λ t. shown t (retarget_related w r y) near) (sym (retarget-in g closed w ground x y h j))
-      ∙ ap (λ q. shown (retarget v x y) q near) (sym (related-in g closed w ground r y k j))
-      ∙ ap (shown (retarget v x y) (retarget_related v r y))
-      (filter-within (in_node g) (λ z. not (is_hidden_from w y z)) (λ z. not (is_hidden_from v y z)) (λ z e. ap not (sym
-      (hidden-in g closed w ground y z j e))) path
-      (all-then IsVeiled (λ z. Outside z → not (is_hidden_from w y z) ≡ false) (λ z t. veiled-hidden y j z t) path s))
+  -- What is shown of an event of a target of the group.
+  module _ (x : NodeName) (r : Option NodeName) (h : Inside x) (k : IsNear r) where
+    -- at a node of the group
+    view-in : (y : NodeName) (path : List NodeName) → Inside y → AllByRecursion IsVeiled path →
+        view_at w x r path y ≡ view_at (group_world g w) x r (filter (in_node g) path) y
+    view-in y path j s =
+        let v = group_world g w in
+        let shown : NodeName → Option NodeName → List NodeName → View NodeName =
+        λ t q p. record { node = y; target = t; related = q; path = p } in
+        let near = filter (λ z. not (is_hidden_from w y z)) path in
+        ap (λ t. shown t (retarget_related w r y) near) (sym (retarget-in g closed w ground x y h j))
+        ∙ ap (λ q. shown (retarget v x y) q near) (sym (related-in g closed w ground r y k j))
+        ∙ ap (shown (retarget v x y) (retarget_related v r y))
+        (filter-within (in_node g) (λ z. not (is_hidden_from w y z)) (λ z. not (is_hidden_from v y z)) (λ z e. ap not (sym
+        (hidden-in g closed w ground y z j e))) path
+        (all-then IsVeiled (λ z. Outside z → not (is_hidden_from w y z) ≡ false) (λ z t. veiled-hidden y j z t) path s))
 
-  -- The views.
-  pub views-in : (x : NodeName) (r : Option NodeName) (composed : Bool) → Inside x → IsNear r →
-      filter (in_view g) (views w x r composed) ≡ views (group_world g w) x r composed
-  views-in x r composed h k =
-      let v = group_world g w in
-      let path = event_path w x r composed in
-      let mine = filter (in_node g) path in
-      filter-map (in_view g) (view_at w x r path) path
-      ∙ map_same (view_at w x r path) (view_at v x r mine) mine
-      (all-then Inside (λ y. view_at w x r path y ≡ view_at v x r mine y) (λ y j. view-in x y r path h k j (path-veiled x r composed h)) mine
-      (all-passed Inside (in_node g) (λ y j. j) path))
-      ∙ ap (λ p. map (view_at v x r p) p) (event_path-in x r composed h k)
+    -- at all of them
+    pub views-in : (composed : Bool) →
+        filter (in_view g) (views w x r composed) ≡ views (group_world g w) x r composed
+    views-in composed =
+        let v = group_world g w in
+        let path = event_path w x r composed in
+        let mine = filter (in_node g) path in
+        filter-map (in_view g) (view_at w x r path) path
+        ∙ map_same (view_at w x r path) (view_at v x r mine) mine
+        (all-then Inside (λ y. view_at w x r path y ≡ view_at v x r mine y) (λ y j. view-in y path j (path-veiled x r composed h)) mine
+        (all-passed Inside (in_node g) (λ y j. j) path))
+        ∙ ap (λ p. map (view_at v x r p) p) (event_path-in x r composed h k)

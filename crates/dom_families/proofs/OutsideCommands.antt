@@ -118,16 +118,21 @@ module _ (g : Owner → Bool) (closed : KeepsFamilies g) where
   abbrev pub Shows : World → Run World → Option OutwardEvent → Type 0
   Shows w r e = group_run g r ≡ group_run g (outward_run w e)
 
+  -- a component outside, in a quiet world
+  pub record StandsOutside (w : World) (k : ComponentName) : Type 0 where
+    pub quiet : IsQuiet w
+    pub outside : g (Component k) ≡ false
+
   -- A dispatch.
-  pub dispatched-out : {w : World} (k : ComponentName) → IsQuiet w → g (Component k) ≡ false → (x : NodeWord) (e : EventWords) (r : Option NodeWord) →
+  pub dispatched-out : {w : World} (k : ComponentName) → StandsOutside w k → (x : NodeWord) (e : EventWords) (r : Option NodeWord) →
       part_refusal (part_of w (Component k)) (Command.dispatch x e r) ≡ None →
       Shows w (perform w (Component k) (Command.dispatch x e r)) (outward_dispatch w (Component k) (Command.dispatch x e r))
-  dispatched-out {w} k q h x e r a =
+  dispatched-out {w} k stands x e r a =
       let o = Component k in
       let p = part_of w o in
       let d = dispatch_in w (named p x) (option_map (named p) r) e in
-      let shown = dispatch-out g closed q (named p x) (option_map (named p) r) e
-      (ap g (owner-named p x ∙ owner-part_of w o) ∙ h) (related-same_root w k x e r a) in
+      let shown = dispatch-out g closed stands.quiet (named p x) (option_map (named p) r) e
+      (ap g (owner-named p x ∙ owner-part_of w o) ∙ stands.outside) (related-same_root w k x e r a) in
       after_reply d.run (outward_run w (outward_at w (named p x) e (option_map (named p) r))) (a_truth d.answer) shown
       ∙ ap (λ v. group_run g (outward_run w v)) (outward-same w k x e r)
     where
@@ -136,7 +141,7 @@ module _ (g : Owner → Bool) (closed : KeepsFamilies g) where
           let test : Output → Bool = λ l. is_of g (owner_of_output l) in
           ap (λ ls. (group_world g u.0, ls))
           (filter-append test u.1 (says (Component k) (replied v) ∷ [])
-          ∙ ap (λ ls. group_outputs g u.1 ++ ls) (filter-away test (says (Component k) (replied v)) [] h) ∙ append-nil (group_outputs g u.1))
+          ∙ ap (λ ls. group_outputs g u.1 ++ ls) (filter-away test (says (Component k) (replied v)) [] stands.outside) ∙ append-nil (group_outputs g u.1))
           ∙ same
 
   -- Any accepted command.
@@ -147,7 +152,7 @@ module _ (g : Owner → Bool) (closed : KeepsFamilies g) where
       (closed.made o (length (part_of w o).attached) (attach-may w o a out.passes) (λ e. Component-IsNoPage k e) ∙ out.outside)
   perform-out w k (Command.connected a) out = answered-out (Component k) out.outside _ w w refl
   perform-out w k (Command.assigned a) out = answered-out (Component k) out.outside _ w w refl
-  perform-out w k (Command.dispatch a b c) out = dispatched-out k out.quiet out.outside a b c out.passes
+  perform-out w k (Command.dispatch a b c) out = dispatched-out k (record { quiet = out.quiet; outside = out.outside }) a b c out.passes
   perform-out w k (Command.micro a) out =
       let u : World = record w { tasks = w.tasks ++ micro_task (Component k) a ∷ [] } in
       answered-out (Component k) out.outside nothing w u
@@ -205,25 +210,25 @@ module _ (g : Owner → Bool) (closed : KeepsFamilies g) where
   accepted-out w k c a out = opened w k c a out
 
   -- A command, refused or accepted. What it does fits where it is accepted.
-  pub command-out : {w : World} (k : ComponentName) → IsQuiet w → g (Component k) ≡ false → IsCalm g w → has_other_turn w (Component k) ≡ false →
+  pub command-out : {w : World} (k : ComponentName) → StandsOutside w k → IsCalm g w → has_other_turn w (Component k) ≡ false →
       (c : Command) → (refusal w (Component k) c ≡ None → Holds (part_of w (Component k)) (effect (part_of w (Component k)) c)) →
       Shows w (run_command (Component k) c w) (outward_command w (Component k) c)
-  command-out {w} k q h calm a c f = from (refusal w (Component k) c) refl
+  command-out {w} k stands calm a c f = from (refusal w (Component k) c) refl
     where
       from : (r : Option Refusal) → refusal w (Component k) c ≡ r →
           Shows w (unless_refused (Component k) (refusal w (Component k) c) w (accepted w (Component k) c))
           (if is_none (refusal w (Component k) c) then outward_dispatch w (Component k) c else None)
       from (Some r) e =
           ap (λ o. group_run g (unless_refused (Component k) o w (accepted w (Component k) c))) e
-          ∙ ap (λ ls. (group_world g w, ls)) (filter-away (λ l. is_of g (owner_of_output l)) (says (Component k) (refused r)) [] h)
+          ∙ ap (λ ls. (group_world g w, ls)) (filter-away (λ l. is_of g (owner_of_output l)) (says (Component k) (refused r)) [] stands.outside)
           ∙ sym (ap (λ o. group_run g (outward_run w (if is_none o then outward_dispatch w (Component k) c else None))) e)
       from None e =
           let known = accepted-facts w (Component k) c e in
           let out : PassesOutside g w k c = record {
-            quiet = q;
-            outside = h;
+            quiet = stands.quiet;
+            outside = stands.outside;
             calm = calm;
-            other_turn = turn-out w k h a (and-true_false (is_page_turn w.turn) known.calm);
+            other_turn = turn-out w k stands.outside a (and-true_false (is_page_turn w.turn) known.calm);
             passes = known.part;
             fits = f e;
           } in

@@ -26,18 +26,12 @@ use Rattle.dom_worlds.proofs.Makers.{hosted, hosted-owned, hosted-maker}
 use Rattle.dom_isolation.proofs.PagePaths.{IsInSome, slot_way-in_some, uncut}
 use Rattle.dom_worlds.proofs.ShadowTrees.{slot_way, slots-behind, slots-first}
 use Rattle.dom_worlds.proofs.Tests.{by_cases, either_way}
-use Rattle.dom_worlds.proofs.Trees.{by_times, ancestors-absent, ancestors-present, last-push}
+use Rattle.dom_worlds.proofs.Trees.{by_times, all-both, ancestors-absent, ancestors-present, last-push}
 use Rattle.std.proofs.lemmas.List.Elements.{filter-append}
 use Rattle.dom_families.proofs.GroupParts.{in_node}
 use Rattle.dom_families.proofs.GroupVisits.{in_view}
 use Rattle.dom_families.proofs.GroupPaths.{hidden-outside, way-outside}
 use Rattle.dom_families.proofs.GroupViews.{ground, Inside, Outside, veiled-hidden}
-
--- what follows of each item from two things
-all-both-then : (P Q R : NodeName → Type 0) → ((x : NodeName) → P x → Q x → R x) → (xs : List NodeName) → AllByRecursion P xs → AllByRecursion Q xs →
-    AllByRecursion R xs
-all-both-then P Q R f [] a b = tt
-all-both-then P Q R f (x ∷ xs) a b = (f x a.0 b.0, all-both-then P Q R f xs a.1 b.1)
 
 module _ (g : Owner → Bool) (closed : KeepsFamilies g) (w : World) (i : IsWorld w) where
   -- nodes outside
@@ -242,8 +236,8 @@ module _ (g : Owner → Bool) (closed : KeepsFamilies g) (w : World) (i : IsWorl
       λ y h. filter-append (λ z. not (is_hidden_from w y z)) inner outer
       ∙ ap (λ xs. xs ++ filter (λ z. not (is_hidden_from w y z)) outer)
       (filter_none (λ z. not (is_hidden_from w y z)) inner
-      (all-both-then Away (IsInSome w) (λ z. not (is_hidden_from w y z) ≡ false) (λ z o s. veiled-hidden g closed w i y h z (λ q. s) o) inner
-      (inner-away x k) (inner-veiled x k))) in
+      (all-then (λ z. Away z × IsInSome w z) (λ z. not (is_hidden_from w y z) ≡ false) (λ z both. veiled-hidden g closed w i y h z (λ q. both.1) both.0) inner
+      (all-both Away (IsInSome w) inner (inner-away x k) (inner-veiled x k)))) in
       let shown : NodeName → NodeName → List NodeName → View NodeName = λ y t q. record { node = y; target = t; related = None; path = q } in
       let at : (y : NodeName) → Inside g closed w i y → view_at w x None (inner ++ outer) y ≡ view_at w k.last None outer y =
       λ y h. ap (λ t. shown y t (filter (λ z. not (is_hidden_from w y z)) (inner ++ outer)))

@@ -58,7 +58,7 @@ outward-event : {w : World} {x : NodeName} (e : EventWords) → IsQuiet w → e.
 outward-event {w} {x} e q c {host} u =
     let as_outward : e ≡ record { event = e.event; bubbles = e.bubbles; cancelable = e.cancelable; composed = true } = ap (λ b. record e { composed = b }) c in
     let seen = subst (λ b. filter is_page_view (views w x None b) ≡ plain_views (part_of w Page).trees host None) (sym c) (views-outward w q.world x host u) in
-    ap (λ (d : Dispatched PageState). d.run) (dispatch-page w x host None None e (q.logs refl) seen)
+    ap (λ (d : Dispatched PageState). d.run) (dispatch-page w x None e (q.logs refl) host None seen)
     ∙ ap (λ e. (page_dispatch (page_of w) host None e).run) as_outward
 
 -- The outward event of a dispatch in the words of its parts: the target, and whether there is a related node.

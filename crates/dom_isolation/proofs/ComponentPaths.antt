@@ -159,9 +159,12 @@ views-outward w i x host u =
     ∙ way-pages w i max_depth up owned in
     let seen = all-append (IsSeen w) inner outer (all-then (IsInSome w) (IsSeen w) (seen-in_some w i) inner inside) (way-seen w i max_depth up owned) in
     let at : (y : NodeName) → y.owner ≡ Page → view_at w x None (inner ++ outer) y ≡ plain_view host None up y =
-    λ y e. view_at-page w x (inner ++ outer) y (retarget-under i y u e) refl
-    (filter_same (λ z. not (is_hidden_from w y z)) is_page_node (inner ++ outer)
-    (all-then (IsSeen w) (λ z. not (is_hidden_from w y z) ≡ is_page_node z) (λ z s. s y e) (inner ++ outer) seen) ∙ pages) in
+    λ y e. view_at-page w x (inner ++ outer) y (record {
+      target_seen = retarget-under i y u e;
+      related_seen = refl;
+      path_seen = filter_same (λ z. not (is_hidden_from w y z)) is_page_node (inner ++ outer)
+          (all-then (IsSeen w) (λ z. not (is_hidden_from w y z) ≡ is_page_node z) (λ z s. s y e) (inner ++ outer) seen) ∙ pages;
+    }) in
     ap (λ path. filter is_page_view (map (view_at w x None path) path)) (event_path-outward w x host u)
     ∙ filter-map is_page_view (view_at w x None (inner ++ outer)) (inner ++ outer) ∙ ap (map (view_at w x None (inner ++ outer))) pages
     ∙ map_same (view_at w x None (inner ++ outer)) (plain_view host None up) up

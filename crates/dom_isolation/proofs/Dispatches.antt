@@ -86,18 +86,20 @@ dispatch-seen w target related e logs =
     }) (outputs_for-event_lines end.1.lines) in
     first ∙ ap (page_end (page_of w)) seen_end
 
--- the page machine's dispatch, where the views at page nodes are its own
-pub dispatch-page : (w : World) (target x : NodeName) (related near : Option NodeName) (e : EventWords) → ComponentsOnlyLog w →
-    filter is_page_view (views w target related e.composed) ≡ plain_views (part_of w Page).trees x near →
-    page_dispatched (dispatch_in w target related e) ≡ page_dispatch (page_of w) x near e
-dispatch-page w target x related near e logs h =
-    dispatch-seen w target related e logs ∙
-    ap (λ vs. page_end (page_of w) (fold (visited name_eq e) (begun (part_of w Page).listeners) (visits_of name_eq e.bubbles vs))) h
+-- What the page has of a dispatch.
+module _ (w : World) (target : NodeName) (related : Option NodeName) (e : EventWords) (logs : ComponentsOnlyLog w) where
+  -- the page machine's dispatch, where the views at page nodes are its own
+  pub dispatch-page : (x : NodeName) (near : Option NodeName) →
+      filter is_page_view (views w target related e.composed) ≡ plain_views (part_of w Page).trees x near →
+      page_dispatched (dispatch_in w target related e) ≡ page_dispatch (page_of w) x near e
+  dispatch-page x near h =
+      dispatch-seen w target related e logs ∙
+      ap (λ vs. page_end (page_of w) (fold (visited name_eq e) (begun (part_of w Page).listeners) (visits_of name_eq e.bubbles vs))) h
 
--- nothing, where no view is at a page node
-pub dispatch-nothing : (w : World) (target : NodeName) (related : Option NodeName) (e : EventWords) → ComponentsOnlyLog w →
-    filter is_page_view (views w target related e.composed) ≡ [] → page_run (dispatch_in w target related e).run ≡ quiet (page_of w)
-dispatch-nothing w target related e logs h =
-    ap (λ (d : Dispatched PageState). d.run)
-    (dispatch-seen w target related e logs ∙
-    ap (λ vs. page_end (page_of w) (fold (visited name_eq e) (begun (part_of w Page).listeners) (visits_of name_eq e.bubbles vs))) h)
+  -- nothing, where no view is at a page node
+  pub dispatch-nothing :
+      filter is_page_view (views w target related e.composed) ≡ [] → page_run (dispatch_in w target related e).run ≡ quiet (page_of w)
+  dispatch-nothing h =
+      ap (λ (d : Dispatched PageState). d.run)
+      (dispatch-seen w target related e logs ∙
+      ap (λ vs. page_end (page_of w) (fold (visited name_eq e) (begun (part_of w Page).listeners) (visits_of name_eq e.bubbles vs))) h)

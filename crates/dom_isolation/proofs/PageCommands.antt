@@ -112,7 +112,7 @@ pub dispatched-page : (w : World) → IsQuiet w → (x : NodeWord) (e : EventWor
 dispatched-page w q x e related =
     let p = part_of w Page in
     let d = dispatch_in w (named p x) (option_map (named p) related) e in
-    let same = dispatch-page w (named p x) (named p x) (option_map (named p) related) (option_map (named p) related) e (q.logs refl)
+    let same = dispatch-page w (named p x) (option_map (named p) related) e (q.logs refl) (named p x) (option_map (named p) related)
     (views-page q.world (named p x) (option_map (named p) related) e.composed (page_named w x) (page_related w related)) in
     run_then-square d.run (answering Page (a_truth d.answer)) (answering Page (a_truth d.answer)) refl
     ∙ ap (λ (f : Dispatched PageState). run_then f.run (answering Page (a_truth f.answer))) same

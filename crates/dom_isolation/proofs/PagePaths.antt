@@ -130,14 +130,21 @@ event_path-page w target related composed h g =
     chain true = host_chain-page w target h
     chain false = refl
 
+-- How a node sees an event: the target as another node, the related node as it is, and some nodes of the path.
+pub record IsSeenAs (w : World) (target : NodeName) (related : Option NodeName) (path : List NodeName) (x near : NodeName) (pages : List NodeName)
+    : Type 0 where
+  pub target_seen : retarget w target x ≡ near
+  pub related_seen : retarget_related w related x ≡ related
+  pub path_seen : filter (λ y. not (is_hidden_from w x y)) path ≡ pages
+
 -- The views at page nodes are those of the page alone.
 pub view_at-page : {near : NodeName} {related : Option NodeName} {pages : List NodeName} (w : World) (target : NodeName) (path : List NodeName) (x : NodeName) →
-    retarget w target x ≡ near → retarget_related w related x ≡ related → filter (λ y. not (is_hidden_from w x y)) path ≡ pages →
+    IsSeenAs w target related path x near pages →
     view_at w target related path x ≡ plain_view near related pages x
-view_at-page {near} {related} w target path x a b c =
-    ap (λ t. record { node = x; target = t; related = retarget_related w related x; path = filter (λ y. not (is_hidden_from w x y)) path }) a
-    ∙ ap (λ r. record { node = x; target = near; related = r; path = filter (λ y. not (is_hidden_from w x y)) path }) b
-    ∙ ap (λ p. record { node = x; target = near; related = related; path = p }) c
+view_at-page {near} {related} w target path x seen =
+    ap (λ t. record { node = x; target = t; related = retarget_related w related x; path = filter (λ y. not (is_hidden_from w x y)) path }) seen.target_seen
+    ∙ ap (λ r. record { node = x; target = near; related = r; path = filter (λ y. not (is_hidden_from w x y)) path }) seen.related_seen
+    ∙ ap (λ p. record { node = x; target = near; related = related; path = p }) seen.path_seen
 
 -- the views at its page nodes are the page machine's
 pub views-page : {w : World} → IsWorld w → (target : NodeName) (related : Option NodeName) (composed : Bool) → target.owner ≡ Page →
@@ -150,9 +157,12 @@ views-page {w} i target related composed h g =
     let pages = way-pages w i max_depth up owned in
     let path_is = event_path-page w target related composed h g in
     let at : (x : NodeName) → x.owner ≡ Page → view_at w target related way x ≡ plain_view target related up x =
-    λ x e. view_at-page w target way x (retarget-page w target x h) (retarget_related-page w related x g)
-    (filter_same (λ y. not (is_hidden_from w x y)) is_page_node way (all-then (IsSeen w) (λ y. not (is_hidden_from w x y) ≡ is_page_node y)
-    (λ y s. s x e) way (way-seen w i max_depth up owned)) ∙ pages) in
+    λ x e. view_at-page w target way x (record {
+      target_seen = retarget-page w target x h;
+      related_seen = retarget_related-page w related x g;
+      path_seen = filter_same (λ y. not (is_hidden_from w x y)) is_page_node way
+          (all-then (IsSeen w) (λ y. not (is_hidden_from w x y) ≡ is_page_node y) (λ y s. s x e) way (way-seen w i max_depth up owned)) ∙ pages;
+    }) in
     ap (λ path. filter is_page_view (map (view_at w target related path) path)) path_is
     ∙ filter-map is_page_view (view_at w target related way) way ∙ ap (map (view_at w target related way)) pages
     ∙ map_same (view_at w target related way) (plain_view target related up) up

@@ -60,11 +60,6 @@ plain-some : {X : Type 0} (o : Option X) (f : X → Effect) (d : Effect) → ((x
 plain-some None f d h g = g
 plain-some (Some x) f d h g = h x
 
--- a walker that is set
-plain-walker : (p : Part) (k : ℕ) (w : Walker) (o : Option NodeName) (v : Value) → IsPlainPart p → IsPlainValue v → IsPlainEffect (sets_walker p k w o v)
-plain-walker p k w None v i h = (i, tt, h)
-plain-walker p k w (Some x) v i h = (i, tt, h)
-
 -- one more listener
 plain-listened : (x : NodeName) (w : ListenerWords) (ls : List (Listener NodeName)) → AllByRecursion IsPlainListener ls → HasNoFeed w.event ×
     HasNoFeed w.label → AllByRecursion IsPlainListener (listened name_eq x w ls)
@@ -73,62 +68,69 @@ plain-listened x w ls h g =
     either_way (AllByRecursion IsPlainListener) (list_any (is_listener name_eq x w.event w.label w.capture) ls) ls more h
     (all-append IsPlainListener ls (record { node = x; words = w } ∷ []) h (g, tt))
 
--- every effect
-plain-effect : (p : Part) → IsPlainPart p → (c : Command) → HasPlainWords c → IsPlainEffect (effect p c)
-plain-effect p i (Command.new_element a) h = tt
-plain-effect p i (Command.new_text a) h = tt
-plain-effect p i (Command.new_comment a) h = tt
-plain-effect p i Command.new_fragment h = tt
-plain-effect p i Command.new_document h = tt
-plain-effect p i (Command.append a b) h = tt
-plain-effect p i (Command.insert a b c) h = tt
-plain-effect p i (Command.replace a b c) h = tt
-plain-effect p i (Command.remove a) h = tt
-plain-effect p i (Command.adopt a b) h = tt
-plain-effect p i (Command.normalize a) h = tt
-plain-effect p i (Command.set_attribute a b c) h = tt
-plain-effect p i (Command.unset_attribute a b) h = tt
-plain-effect p i (Command.set_data a b) h = tt
-plain-effect p i (Command.replace_data a b c d) h = tt
-plain-effect p i (Command.split a b) h = tt
-plain-effect p i (Command.set_text a b) h = tt
-plain-effect p i (Command.extract a) h = tt
-plain-effect p i (Command.delete a) h = tt
-plain-effect p i (Command.insert_node a b) h = tt
-plain-effect p i (Command.tree a) h = (i, tt, nodes-subtree IsPlainNode p.trees (named p a) i.0)
-plain-effect p i (Command.range_get a) h =
-    plain-some (range_at p a) (λ (r : Range NodeName). answers p (boundaries r.start r.end)) (answers p nothing) (λ r. (i, tt, tt)) (i, tt, tt)
-plain-effect p i (Command.range_text a) h =
-    plain-some (range_at p a) (λ (r : Range NodeName). answers p (a_string (range_text_of p.trees r))) (answers p nothing) (λ r. (i, tt, tt))
-    (i, tt, tt)
-plain-effect p i (Command.iterator_next a) h =
-    plain-some (slice_get p.iterators a) (λ k. moves_iterator p a false k (iterator_next_node p.trees k)) (answers p nothing)
-    (λ k. (i, tt, plain-node_or_null (iterator_next_node p.trees k))) (i, tt, tt)
-plain-effect p i (Command.iterator_previous a) h =
-    plain-some (slice_get p.iterators a) (λ k. moves_iterator p a true k (iterator_previous_node p.trees k)) (answers p nothing)
-    (λ k. (i, tt, plain-node_or_null (iterator_previous_node p.trees k))) (i, tt, tt)
-plain-effect p i (Command.iterator_at a) h =
-    plain-some (slice_get p.iterators a) (λ (k : Iterator). answers p (reference k.reference k.before)) (answers p nothing) (λ k. (i, tt, tt))
-    (i, tt, tt)
-plain-effect p i (Command.walk a b) h =
-    plain-some (slice_get p.walkers a) (λ w. sets_walker p a w (walker_move p.trees w b) (node_or_null (walker_move p.trees w b))) (answers p nothing)
-    (λ w. plain-walker p a w (walker_move p.trees w b) (node_or_null (walker_move p.trees w b)) i (plain-node_or_null (walker_move p.trees w b))) (i, tt, tt)
-plain-effect p i (Command.walker_at a) h =
-    plain-some (slice_get p.walkers a) (λ (w : Walker). answers p (a_node w.current)) (answers p nothing) (λ w. (i, tt, tt)) (i, tt, tt)
-plain-effect p i (Command.walker_set a b) h =
-    plain-some (slice_get p.walkers a) (λ w. sets_walker p a w (Some (named p b)) nothing) (answers p nothing) (λ w. (i, tt, tt)) (i, tt, tt)
-plain-effect p i (Command.listen a b) h = ((i.0, plain-listened (named p a) b p.listeners i.1 h, i.2), tt, tt)
-plain-effect p i (Command.unlisten a b c d) h =
-    ((i.0, all-filter IsPlainListener (λ l. not (is_listener name_eq (named p a) b c d l)) p.listeners i.1, i.2), tt, tt)
-plain-effect p i Command.observer h = ((i.0, i.1, all-append IsPlainQueue p.record_queues ([] ∷ []) i.2 (tt, tt)), tt, tt)
-plain-effect p i (Command.disconnect a) h = ((i.0, i.1, plain-queue_set p.record_queues a [] i.2 tt), tt, tt)
-plain-effect p i (Command.take a) h = (
-  (i.0, i.1, plain-queue_set p.record_queues a [] i.2 tt),
-  all-map IsPlainSaid (recorded a)
-      (queue_of p.record_queues a) (plain-queue p.record_queues a i.2),
-  tt,
-)
-plain-effect p i c h = (i, tt, search (plain-node_or_null, plain-string_or_null, plain-nothing))
+-- Of a plain part.
+module _ (p : Part) (i : IsPlainPart p) where
+  -- a walker that is set
+  plain-walker : (k : ℕ) (w : Walker) (o : Option NodeName) (v : Value) → IsPlainValue v → IsPlainEffect (sets_walker p k w o v)
+  plain-walker k w None v h = (i, tt, h)
+  plain-walker k w (Some x) v h = (i, tt, h)
+
+  -- every effect
+  plain-effect : (c : Command) → HasPlainWords c → IsPlainEffect (effect p c)
+  plain-effect (Command.new_element a) h = tt
+  plain-effect (Command.new_text a) h = tt
+  plain-effect (Command.new_comment a) h = tt
+  plain-effect Command.new_fragment h = tt
+  plain-effect Command.new_document h = tt
+  plain-effect (Command.append a b) h = tt
+  plain-effect (Command.insert a b c) h = tt
+  plain-effect (Command.replace a b c) h = tt
+  plain-effect (Command.remove a) h = tt
+  plain-effect (Command.adopt a b) h = tt
+  plain-effect (Command.normalize a) h = tt
+  plain-effect (Command.set_attribute a b c) h = tt
+  plain-effect (Command.unset_attribute a b) h = tt
+  plain-effect (Command.set_data a b) h = tt
+  plain-effect (Command.replace_data a b c d) h = tt
+  plain-effect (Command.split a b) h = tt
+  plain-effect (Command.set_text a b) h = tt
+  plain-effect (Command.extract a) h = tt
+  plain-effect (Command.delete a) h = tt
+  plain-effect (Command.insert_node a b) h = tt
+  plain-effect (Command.tree a) h = (i, tt, nodes-subtree IsPlainNode p.trees (named p a) i.0)
+  plain-effect (Command.range_get a) h =
+      plain-some (range_at p a) (λ (r : Range NodeName). answers p (boundaries r.start r.end)) (answers p nothing) (λ r. (i, tt, tt)) (i, tt, tt)
+  plain-effect (Command.range_text a) h =
+      plain-some (range_at p a) (λ (r : Range NodeName). answers p (a_string (range_text_of p.trees r))) (answers p nothing) (λ r. (i, tt, tt))
+      (i, tt, tt)
+  plain-effect (Command.iterator_next a) h =
+      plain-some (slice_get p.iterators a) (λ k. moves_iterator p a false k (iterator_next_node p.trees k)) (answers p nothing)
+      (λ k. (i, tt, plain-node_or_null (iterator_next_node p.trees k))) (i, tt, tt)
+  plain-effect (Command.iterator_previous a) h =
+      plain-some (slice_get p.iterators a) (λ k. moves_iterator p a true k (iterator_previous_node p.trees k)) (answers p nothing)
+      (λ k. (i, tt, plain-node_or_null (iterator_previous_node p.trees k))) (i, tt, tt)
+  plain-effect (Command.iterator_at a) h =
+      plain-some (slice_get p.iterators a) (λ (k : Iterator). answers p (reference k.reference k.before)) (answers p nothing) (λ k. (i, tt, tt))
+      (i, tt, tt)
+  plain-effect (Command.walk a b) h =
+      plain-some (slice_get p.walkers a) (λ w. sets_walker p a w (walker_move p.trees w b) (node_or_null (walker_move p.trees w b))) (answers p nothing)
+      (λ w. plain-walker a w (walker_move p.trees w b) (node_or_null (walker_move p.trees w b)) (plain-node_or_null (walker_move p.trees w b))) (i, tt, tt)
+  plain-effect (Command.walker_at a) h =
+      plain-some (slice_get p.walkers a) (λ (w : Walker). answers p (a_node w.current)) (answers p nothing) (λ w. (i, tt, tt)) (i, tt, tt)
+  plain-effect (Command.walker_set a b) h =
+      plain-some (slice_get p.walkers a) (λ w. sets_walker p a w (Some (named p b)) nothing) (answers p nothing) (λ w. (i, tt, tt)) (i, tt, tt)
+  plain-effect (Command.listen a b) h = ((i.0, plain-listened (named p a) b p.listeners i.1 h, i.2), tt, tt)
+  plain-effect (Command.unlisten a b c d) h =
+      ((i.0, all-filter IsPlainListener (λ l. not (is_listener name_eq (named p a) b c d l)) p.listeners i.1, i.2), tt, tt)
+  plain-effect Command.observer h = ((i.0, i.1, all-append IsPlainQueue p.record_queues ([] ∷ []) i.2 (tt, tt)), tt, tt)
+  plain-effect (Command.disconnect a) h = ((i.0, i.1, plain-queue_set p.record_queues a [] i.2 tt), tt, tt)
+  plain-effect (Command.take a) h = (
+    (i.0, i.1, plain-queue_set p.record_queues a [] i.2 tt),
+    all-map IsPlainSaid (recorded a)
+        (queue_of p.record_queues a) (plain-queue p.record_queues a i.2),
+    tt,
+  )
+  plain-effect c h = (i, tt, search (plain-node_or_null, plain-string_or_null, plain-nothing))
 
 -- what it makes, and the attributes that it names
 plain-may_do : (p : Part) (c : Command) → HasPlainWords c → MayDo IsPlainStep (λ x. ⊤) p c

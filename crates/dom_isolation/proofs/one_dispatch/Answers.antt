@@ -16,7 +16,7 @@ pub returns-clause-outward_visits : goal.returns-clause-outward_visits
 returns-clause-outward_visits c = outward_visits-agree
 
 pub returns-clause-page : goal.returns-clause-page
-returns-clause-page c = λ w q x related e h g. dispatch-page w x x related related e (q.logs refl) (views-page q.world x related e.composed h g)
+returns-clause-page c = λ w q x related e h g. dispatch-page w x related e (q.logs refl) x related (views-page q.world x related e.composed h g)
 
 pub returns-clause-component : goal.returns-clause-component
 returns-clause-component c = component_dispatch-agrees
