@@ -36,18 +36,24 @@ counting-few since i (x ∷ xs) = by (nat_le (since x.owner) i) (counting-few si
     by true few = omega (arith, few)
     by false few = omega (arith, few)
 
+-- a slot where an owner's slots are taken: whether it is the owner's, whether it counts now, and whether it counted before
+record SlotTaken (p : NodeName → Bool) (x : NodeName) (mine counts counted : Bool) : Type 0 where
+  here : p x ≡ not mine
+  gone : mine ≡ true → counts ≡ false
+  stays : mine ≡ false → counts ≡ counted
+
 -- one place of a log, where the slots behind it are filtered: it goes where it is an owner's, and counts as before where not
-taken_at : (p : NodeName → Bool) (x : NodeName) (now was : List NodeName) → now ≡ filter p was → (mine b c : Bool) → p x ≡ not mine →
-    (mine ≡ true → b ≡ false) → (mine ≡ false → b ≡ c) → (if b then x ∷ now else now) ≡ filter p (if c then x ∷ was else was)
-taken_at p x now was e true b c here gone stays = ap (λ t. if t then x ∷ now else now) (gone refl) ∙ (e ∙ by c)
+taken_at : {p : NodeName → Bool} {x : NodeName} {now : List NodeName} {b c : Bool} (was : List NodeName) → now ≡ filter p was →
+    (mine : Bool) → SlotTaken p x mine b c → (if b then x ∷ now else now) ≡ filter p (if c then x ∷ was else was)
+taken_at {p} {x} {now} {b} {c} was e true slot = ap (λ t. if t then x ∷ now else now) (slot.gone refl) ∙ (e ∙ by c)
   where
     by : (t : Bool) → filter p was ≡ filter p (if t then x ∷ was else was)
-    by true = sym (ap (λ u. if u then x ∷ filter p was else filter p was) here)
+    by true = sym (ap (λ u. if u then x ∷ filter p was else filter p was) slot.here)
     by false = refl
-taken_at p x now was e false b c here gone stays = ap (λ t. if t then x ∷ now else now) (stays refl) ∙ by c
+taken_at {p} {x} {now} {b} {c} was e false slot = ap (λ t. if t then x ∷ now else now) (slot.stays refl) ∙ by c
   where
     by : (t : Bool) → (if t then x ∷ now else now) ≡ filter p (if t then x ∷ was else was)
-    by true = ap (λ ys. x ∷ ys) e ∙ sym (ap (λ u. if u then x ∷ filter p was else filter p was) here)
+    by true = ap (λ ys. x ∷ ys) e ∙ sym (ap (λ u. if u then x ∷ filter p was else filter p was) slot.here)
     by false = e
 
 -- where the signals of an owner are taken, those that count are those of all others
@@ -55,8 +61,10 @@ pub counting-taken : (since : Owner → ℕ) (o : Owner) (n i : ℕ) (xs : List 
     counting (λ p. if owner_eq o p then n else since p) i xs ≡ filter (λ x. not (is_owned_by o x)) (counting since i xs)
 counting-taken since o n i [] late = refl
 counting-taken since o n i (x ∷ xs) late =
-    taken_at (λ y. not (is_owned_by o y)) x (counting (λ p. if owner_eq o p then n else since p) (suc i) xs) (counting since (suc i) xs)
-    (counting-taken since o n (suc i) xs (omega (arith, late))) (owner_eq x.owner o) (nat_le (if owner_eq o x.owner then n else since x.owner) i)
-    (nat_le (since x.owner) i) refl
-    (λ mine. ap (λ b. nat_le (if b then n else since x.owner) i) (owner_turned x.owner o true mine) ∙ lt-leb n i (omega (arith, late)))
-    (λ other. ap (λ b. nat_le (if b then n else since x.owner) i) (owner_turned x.owner o false other))
+    let counts = nat_le (if owner_eq o x.owner then n else since x.owner) i in
+    let slot : SlotTaken (λ y. not (is_owned_by o y)) x (owner_eq x.owner o) counts (nat_le (since x.owner) i) = record {
+      here = refl;
+      gone = λ mine. ap (λ b. nat_le (if b then n else since x.owner) i) (owner_turned x.owner o true mine) ∙ lt-leb n i (omega (arith, late));
+      stays = λ other. ap (λ b. nat_le (if b then n else since x.owner) i) (owner_turned x.owner o false other);
+    } in
+    taken_at (counting since (suc i) xs) (counting-taken since o n (suc i) xs (omega (arith, late))) (owner_eq x.owner o) slot

@@ -83,8 +83,8 @@ module _ {old piece rest : List ℕ} {lines : List (List ℕ)} {kept : List ℕ}
 -- ---- calls
 
 -- a line that was put behind the others
-pub line_put : {X : Type 0} {after : List X} (bytes_of : X → List ℕ) (lines : List X) (line : X) (bytes : List ℕ) → after ≡ lines ++ line ∷ [] → bytes_of line ≡ bytes
-    → map bytes_of after ≡ map bytes_of lines ++ bytes ∷ []
+pub line_put : {X : Type 0} {after : List X} (bytes_of : X → List ℕ) (lines : List X) (line : X) (bytes : List ℕ) → after ≡ lines ++ line ∷ [] →
+    bytes_of line ≡ bytes → map bytes_of after ≡ map bytes_of lines ++ bytes ∷ []
 line_put bytes_of lines line bytes e f = ap (map bytes_of) e ∙ map-append bytes_of lines (line ∷ []) ∙ ap (λ (x : List ℕ). map bytes_of lines ++ x ∷ []) f
 
 -- a fact of a call that failed

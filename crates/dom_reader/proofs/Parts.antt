@@ -43,8 +43,8 @@ names_without (first ∷ texts) text others h = none (is_name first) (names_with
     none false e = refl
 
 -- the first part that is left is a name: one name more
-pub one_named : {bytes : List ℕ} {parts : List (List ℕ)} (texts : List (List ℕ)) (first : List ℕ) (others : List (List ℕ)) → only_if (is_name first) first ≡ Some bytes →
-    texts ++ first ∷ others ≡ parts → list_all is_name texts ≡ true
+pub one_named : {bytes : List ℕ} {parts : List (List ℕ)} (texts : List (List ℕ)) (first : List ℕ) (others : List (List ℕ)) →
+    only_if (is_name first) first ≡ Some bytes → texts ++ first ∷ others ≡ parts → list_all is_name texts ≡ true
     → ((texts ++ bytes ∷ []) ++ others ≡ parts) × (list_all is_name (texts ++ bytes ∷ []) ≡ true)
 one_named {bytes} texts first others named all names =
     let found = passed (is_name first) first bytes named in (

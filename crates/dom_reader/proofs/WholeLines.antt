@@ -8,7 +8,8 @@ use Rattle.dom_reader.proofs.StreamLaws.{kept_line-room}
 use Rattle.dom_reader.proofs.FedPieces.{line_fed}
 
 -- where nothing is kept, the first line feed ends a whole line
-pub whole_line-at : {kept : List ℕ} {n : ℕ} (bytes : List ℕ) (k : ℕ) → kept ≡ [] → NoneBefore (Passes (is_byte 10) bytes) 0 (length bytes) k × Passes (is_byte 10) bytes k
+pub whole_line-at : {kept : List ℕ} {n : ℕ} (bytes : List ℕ) (k : ℕ) → kept ≡ [] →
+    NoneBefore (Passes (is_byte 10) bytes) 0 (length bytes) k × Passes (is_byte 10) bytes k
     → n ≡ min (length (take k bytes)) (max_line + 1) → IsWholeLine kept bytes (take n (take k bytes)) (drop (k + 1) bytes)
 whole_line-at {n = n} bytes k none at few =
     let cut = cut_at_first 10 bytes k at in

@@ -180,7 +180,8 @@ take_belongs n line o h =
 -- what a line that is too long says, its front says too
 says_take : (n : ℕ) (line : List ℕ) (l : Line) → max_line < n → n ≤ length line → Says line l → Says (take n line) l
 says_take n line no_owner long fits h = λ o k. h o (take_belongs n line o k)
-says_take n line (no_command o) long fits h = (belongs_take n line o (omega (arith, long)) h.0, λ c k. let short = k.fits in absurd (omega (arith, length-take n line)))
+says_take n line (no_command o) long fits h =
+    (belongs_take n line o (omega (arith, long)) h.0, λ c k. let short = k.fits in absurd (omega (arith, length-take n line)))
 says_take n line (command o c) long fits h = absurd (let short = h.fits in omega arith)
 
 -- What is kept of a line says what the line says.

@@ -120,7 +120,8 @@ module _ (before : Option NodeName) (m : Node) (d : Trees) (y : NodeName) (h : H
     where
       here : n.name ≡ parent → In a (inclusive_ancestors (put_below parent before (tree m d none) (tree n c r)) y)
       here e =
-          let same : put_below parent before (tree m d none) c ≡ c = put_below-absent parent before (tree m d none) c (λ j. o.once.0 (subst (Has c) (sym e) j)) in
+          let same : put_below parent before (tree m d none) c ≡ c =
+          put_below-absent parent before (tree m d none) c (λ j. o.once.0 (subst (Has c) (sym e) j)) in
           let own : inclusive_ancestors (put_before before (tree m d none) (put_below parent before (tree m d none) c)) y ≡ inclusive_ancestors
           (tree m d none) y =
           ap (λ us. inclusive_ancestors (put_before before (tree m d none) us) y) same ∙ above-put_before c (λ j. o.gone (inr (inl j))) in

@@ -198,7 +198,8 @@ module _ (ts : Trees) (once : IsOnce ts) where
   pub next_child : (x p y : NodeName) → parent_of ts x ≡ Some p → next_sibling ts x ≡ Some y → (parent_of ts y ≡ Some p) × (name_eq x y ≡ false)
   next_child x p y up next =
       let e : first_of (items_after name_eq x (children_of ts p)) ≡ Some y = sym (next_walked x p up) ∙ next in (
-        first_all (HasParent ts p) (items_after name_eq x (children_of ts p)) (behind_all (HasParent ts p) x (children_of ts p) (children_parent ts once p)) y e,
+        first_all (HasParent ts p) (items_after name_eq x (children_of ts p))
+            (behind_all (HasParent ts p) x (children_of ts p) (children_parent ts once p)) y e,
         first_lacks x (items_after name_eq x (children_of ts p)) (behind_others x (children_of ts p) (children_once ts p once)) y e,
       )
 

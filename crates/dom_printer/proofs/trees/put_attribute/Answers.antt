@@ -22,7 +22,8 @@ returns-in_err-extend_from_slice-3 c =
     let before = c.extend_from_slice-2.new.self.items in
     let space : c.extend_from_slice.new.self.items ≡ c.args.out.now.items ++ codes " " = c.in_ok-extend_from_slice.ensures.items in
     let name : before ≡ c.extend_from_slice.new.self.items ++ c.as_bytes.result.now = c.in_ok-extend_from_slice-2.ensures.items in
-    failed_put _ _ (both _ (codes " ") space _ name) r.result _ _ r.ensures.0 (same before c.extend_from_slice-3.new.self.items c.in_err-extend_from_slice-3.ensures.items)
+    failed_put _ _ (both _ (codes " ") space _ name) r.result _ _ r.ensures.0
+    (same before c.extend_from_slice-3.new.self.items c.in_err-extend_from_slice-3.ensures.items)
 
 pub returns : goal.returns
 returns c =

@@ -31,7 +31,8 @@ returns-in_err-extend_from_slice-in-Element-2 c =
     let r = c.from_residual-in_err-extend_from_slice-in-Element-2 in
     let before = c.extend_from_slice.new.self.items in
     let space : before ≡ c.args.out.now.items ++ codes " " = c.in_ok-extend_from_slice-in-Element.ensures.items in
-    failed_put c.args.out.now.items (codes " ") space r.result _ _ r.ensures.0 (same before c.extend_from_slice-in-Element.new.self.items c.in_err-extend_from_slice-in-Element-2.ensures.items)
+    failed_put c.args.out.now.items (codes " ") space r.result _ _ r.ensures.0
+    (same before c.extend_from_slice-in-Element.new.self.items c.in_err-extend_from_slice-in-Element-2.ensures.items)
 
 pub returns-in_ok-extend_from_slice-in-Element-2 : goal.returns-in_ok-extend_from_slice-in-Element-2
 returns-in_ok-extend_from_slice-in-Element-2 c =

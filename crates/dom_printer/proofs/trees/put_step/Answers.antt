@@ -19,7 +19,8 @@ returns-in_err-extend_from_slice-in-Opens-2 c =
     let node = node_text c.args.viewer c.in-Opens.opening.name in
     let parens : c.extend_from_slice-in-Opens.new.self.items ≡ old ++ codes " (" = c.in_ok-extend_from_slice-in-Opens.ensures.items in
     let named = both old (codes " (") parens node c.in_ok-put_node-in-Opens.ensures.ok in
-    failed_put old (codes " (" ++ node) named r.result _ _ r.ensures.0 (same c.put_node.new.out.items c.extend_from_slice-in-Opens-2.new.self.items c.in_err-extend_from_slice-in-Opens-2.ensures.items)
+    failed_put old (codes " (" ++ node) named r.result _ _ r.ensures.0
+    (same c.put_node.new.out.items c.extend_from_slice-in-Opens-2.new.self.items c.in_err-extend_from_slice-in-Opens-2.ensures.items)
 
 pub returns-in_ok-extend_from_slice-in-Opens-3 : goal.returns-in_ok-extend_from_slice-in-Opens-3
 returns-in_ok-extend_from_slice-in-Opens-3 c =

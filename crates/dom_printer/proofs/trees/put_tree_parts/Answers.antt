@@ -12,14 +12,16 @@ pub returns-in_err-extend_from_slice : goal.returns-in_err-extend_from_slice
 returns-in_err-extend_from_slice c =
     let r = c.from_residual-in_err-extend_from_slice in
     let before = c.put_owner.new.out.items in
-    failed_put _ (owner_word c.args.owner) c.in_ok-put_owner.ensures.ok r.result _ _ r.ensures.0 (same before c.extend_from_slice.new.self.items c.in_err-extend_from_slice.ensures.items)
+    failed_put _ (owner_word c.args.owner) c.in_ok-put_owner.ensures.ok r.result _ _ r.ensures.0
+    (same before c.extend_from_slice.new.self.items c.in_err-extend_from_slice.ensures.items)
 
 pub returns-in_err-put_steps : goal.returns-in_err-put_steps
 returns-in_err-put_steps c =
     let r = c.from_residual-in_err-put_steps in
     let owner = owner_word c.args.owner in
     let ok : c.extend_from_slice.new.self.items ≡ c.put_owner.new.out.items ++ codes " ok" = c.in_ok-extend_from_slice.ensures.items in
-    failed_put c.args.out.now.items (owner ++ codes " ok") (both _ owner c.in_ok-put_owner.ensures.ok (codes " ok") ok) r.result _ _ r.ensures.0 c.in_err-put_steps.ensures.err
+    failed_put c.args.out.now.items (owner ++ codes " ok") (both _ owner c.in_ok-put_owner.ensures.ok (codes " ok") ok) r.result _ _ r.ensures.0
+    c.in_err-put_steps.ensures.err
 
 pub returns : goal.returns
 returns c =
