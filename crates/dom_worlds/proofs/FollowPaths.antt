@@ -38,14 +38,14 @@ Runs up x [] e = up x ≡ e
 Runs up x (y ∷ ys) e = (up x ≡ Some y) × Runs up y ys e
 
 -- such a node, with those after it and the end
-pub record Run (up : NodeName → Option NodeName) : Type 0 where
+pub record LaterRun (up : NodeName → Option NodeName) : Type 0 where
   pub node : NodeName
   pub others : List NodeName
   pub end : Option NodeName
   pub runs : Runs up node others end
 
 -- one after another
-pub runs-join : (up : NodeName → Option NodeName) (x : NodeName) (xs : List NodeName) (later : Run up) → Runs up x xs (Some later.node) →
+pub runs-join : (up : NodeName → Option NodeName) (x : NodeName) (xs : List NodeName) (later : LaterRun up) → Runs up x xs (Some later.node) →
     Runs up x (xs ++ later.node ∷ later.others) later.end
 runs-join up x [] later h = (h, later.runs)
 runs-join up x (z ∷ xs) later h = (h.0, runs-join up z xs later h.1)
