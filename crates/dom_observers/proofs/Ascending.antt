@@ -45,15 +45,6 @@ pub record HasClimbed (f : NamedTrees) (key : ℕ) (path : List ℕ) (at : Optio
   pub next : ForSome at (IsKey f.names)
   pub whole : map (name_at f.names) path ++ above f at ≡ inclusive_ancestors f.trees (name_at f.names key)
 
--- a node and those above its parent
-climbs : (f : NamedTrees) → StandOnce f → StandAlone f → (k : ℕ) (next : Option ℕ) → k < length f.names →
-    option_map (name_at f.names) next ≡ parent_of f.trees (name_at f.names k)
-    → above f (Some k) ≡ name_at f.names k ∷ above f next
-unfolding above
-climbs f once only k None node is = above-root f.trees (name_at f.names k) (Has-forest f once k node) (sym is)
-climbs f once only k (Some p) node is = (above-parent f.trees (name_at f.names k) (name_at f.names p) (Once-forest f once only)
-    (Has-forest f once k node) (sym is)).0
-
 -- one item more
 AreAll-push : {M : Type 0} (P : M → Type 0) (xs : List M) (x : M) → AreAll P xs → P x → AreAll P (xs ++ x ∷ [])
 AreAll-push P [] x all one = (one, tt)
@@ -65,25 +56,34 @@ unfolding above
 climbs-first f key node =
     record { nodes = tt; next = λ k e. (let same : key ≡ k = cc in subst (IsKey f.names) same node); whole = refl }
 
--- a step
-pub climbs-more : (f : NamedTrees) → StandOnce f → StandAlone f → (key k : ℕ) (path : List ℕ) (next : Option ℕ) → HasClimbed f key path (Some k) →
-    k < length f.names
-    → option_map (name_at f.names) next ≡ parent_of f.trees (name_at f.names k) → ForSome next (IsKey f.names) → HasClimbed f key (path ++ k ∷ []) next
-climbs-more f once only key k path next done node is nodes =
-    record {
-      nodes = AreAll-push (IsKey f.names) path k done.nodes node;
-      next = nodes;
-      whole =
-          ap (λ names. names ++ above f next) (map_push (name_at f.names) path k)
-          ∙ (append_assoc (map (name_at f.names) path) (name_at f.names k ∷ []) (above f next)
-          ∙ (ap (λ names. map (name_at f.names) path ++ names) (sym (climbs f once only k next node is)) ∙ done.whole));
-    }
+-- One step of the walk, in a forest in which each node stands once.
+module _ (f : NamedTrees) (once : StandOnce f) (only : StandAlone f) where
+  -- a node and those above its parent
+  climbs : (k : ℕ) (next : Option ℕ) → k < length f.names → option_map (name_at f.names) next ≡ parent_of f.trees (name_at f.names k)
+      → above f (Some k) ≡ name_at f.names k ∷ above f next
+  unfolding above
+  climbs k None node is = above-root f.trees (name_at f.names k) (Has-forest f once k node) (sym is)
+  climbs k (Some p) node is = (above-parent f.trees (name_at f.names k) (name_at f.names p) (Once-forest f once only) (Has-forest f once k node) (sym is)).0
 
--- fewer are left above
-pub climbs-fewer : (f : NamedTrees) → StandOnce f → StandAlone f → (k : ℕ) (next : Option ℕ) → k < length f.names →
-    option_map (name_at f.names) next ≡ parent_of f.trees (name_at f.names k)
-    → length (above f next) < length (above f (Some k))
-climbs-fewer f once only k next node is = let longer = ap (length {A = NodeName}) (climbs f once only k next node is) in omega (arith, longer)
+  -- a step
+  pub climbs-more : {key k : ℕ} {path : List ℕ} (next : Option ℕ) → HasClimbed f key path (Some k) →
+      option_map (name_at f.names) next ≡ parent_of f.trees (name_at f.names k)
+      → ForSome next (IsKey f.names) → HasClimbed f key (path ++ k ∷ []) next
+  climbs-more {k = k} {path = path} next done is nodes =
+      let node = done.next k refl in
+      record {
+        nodes = AreAll-push (IsKey f.names) path k done.nodes node;
+        next = nodes;
+        whole =
+            ap (λ names. names ++ above f next) (map_push (name_at f.names) path k)
+            ∙ (append_assoc (map (name_at f.names) path) (name_at f.names k ∷ []) (above f next)
+            ∙ (ap (λ names. map (name_at f.names) path ++ names) (sym (climbs k next node is)) ∙ done.whole));
+      }
+
+  -- fewer are left above
+  pub climbs-fewer : (k : ℕ) (next : Option ℕ) → k < length f.names → option_map (name_at f.names) next ≡ parent_of f.trees (name_at f.names k)
+      → length (above f next) < length (above f (Some k))
+  climbs-fewer k next node is = let longer = ap (length {A = NodeName}) (climbs k next node is) in omega (arith, longer)
 
 -- the end
 pub climbs-all : (f : NamedTrees) → TellApart f.names → (key : ℕ) (path : List ℕ) → HasClimbed f key path None → path ≡ path_keys f key

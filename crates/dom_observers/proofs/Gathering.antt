@@ -9,24 +9,26 @@ use Rattle.dom_model.specs.Observers.{Registration, registrations_on, fits, fitt
 use Rattle.dom_observers.specs.Taking.{Found, none_found, and_found, found_by, transient_copy, copied_by}
 use Rattle.dom_observers.proofs.Folds.{fold-flat_map, or_no, eqb-turned, is_in-append_once, fold-distinct}
 
--- a fold that passes over what a test rejects
-fold-passing : {A B : Type 0} (f g : B → A → B) (p : A → Bool) → ((b : B) (x : A) → p x ≡ true → f b x ≡ g b x) → ((b : B) (x : A) → p x ≡ false → f b x ≡ b)
-    → (b : B) (xs : List A) → fold f b xs ≡ fold g b (filter p xs)
-fold-passing f g p takes stays b [] = refl
-fold-passing {B = B} f g p takes stays b (x ∷ xs) = by (p x) refl (λ c. fold-passing f g p takes stays c xs)
-  where
-    by : (c : Bool) → p x ≡ c → ((d : B) → fold f d xs ≡ fold g d (filter p xs)) → fold f b (x ∷ xs) ≡ fold g b (filter p (x ∷ xs))
-    by true e rest =
-        ap (λ d. fold f d xs) (takes b x e) ∙ rest (g b x)
-        ∙ sym (ap (fold g b) (cond-true (p x) (x ∷ filter p xs) (filter p xs) e))
-    by false e rest =
-        ap (λ d. fold f d xs) (stays b x e) ∙ rest b
-        ∙ sym (ap (fold g b) (cond-false (p x) (x ∷ filter p xs) (filter p xs) e))
+-- Two folds over one list.
+module _ {A B : Type 0} (f g : B → A → B) where
+  -- a fold that passes over what a test rejects
+  fold-passing : (p : A → Bool) → ((b : B) (x : A) → p x ≡ true → f b x ≡ g b x) → ((b : B) (x : A) → p x ≡ false → f b x ≡ b)
+      → (b : B) (xs : List A) → fold f b xs ≡ fold g b (filter p xs)
+  fold-passing p takes stays b [] = refl
+  fold-passing p takes stays b (x ∷ xs) = by (p x) refl (λ c. fold-passing p takes stays c xs)
+    where
+      by : (c : Bool) → p x ≡ c → ((d : B) → fold f d xs ≡ fold g d (filter p xs)) → fold f b (x ∷ xs) ≡ fold g b (filter p (x ∷ xs))
+      by true e rest =
+          ap (λ d. fold f d xs) (takes b x e) ∙ rest (g b x)
+          ∙ sym (ap (fold g b) (cond-true (p x) (x ∷ filter p xs) (filter p xs) e))
+      by false e rest =
+          ap (λ d. fold f d xs) (stays b x e) ∙ rest b
+          ∙ sym (ap (fold g b) (cond-false (p x) (x ∷ filter p xs) (filter p xs) e))
 
--- two folds whose steps agree
-pub fold-agree : {A B : Type 0} (f g : B → A → B) → ((b : B) (x : A) → f b x ≡ g b x) → (b : B) (xs : List A) → fold f b xs ≡ fold g b xs
-fold-agree f g same b [] = refl
-fold-agree f g same b (x ∷ xs) = ap (λ c. fold f c xs) (same b x) ∙ fold-agree f g same (g b x) xs
+  -- two folds whose steps agree
+  pub fold-agree : ((b : B) (x : A) → f b x ≡ g b x) → (b : B) (xs : List A) → fold f b xs ≡ fold g b xs
+  fold-agree same b [] = refl
+  fold-agree same b (x ∷ xs) = ap (λ c. fold f c xs) (same b x) ∙ fold-agree same (g b x) xs
 
 -- what a fitting registration adds
 abbrev adds : Change ℕ → Found → Registration ℕ → Found

@@ -65,27 +65,35 @@ written q r o t at p = by (OwnerImpl.ghosts.eq o p) refl
         ∙ (sym (tables_of-get q p)
         ∙ sym (cond-false (owner_eq o p) (table_of t) (tables_of (all_tables q) p) (sym (same_owner o p) ∙ e))))
 
--- tables under another name
-pub changes-same : (o : Owner) (t u : TablesOf ℕ) (old new : TablesByOwner) → t ≡ u → ChangesTables o t old new → ChangesTables o u old new
-changes-same o t u old new e h = subst (λ (v : TablesOf ℕ). ChangesTables o v old new) e h
+-- What one owner's tables become.
+module _ (o : Owner) where
+  -- tables under another name
+  changes-same : {t u : TablesOf ℕ} (old new : TablesByOwner) → t ≡ u → ChangesTables o t old new → ChangesTables o u old new
+  changes-same old new e h = subst (λ (v : TablesOf ℕ). ChangesTables o v old new) e h
 
--- tables that stay as they are
-pub kept-changes : (o : Owner) (old new : TablesByOwner) → KeepsTables old new → ChangesTables o (tables_of old o) old new
-kept-changes o old new kept p = by (owner_eq o p) refl
-  where
-    by : (b : Bool) → owner_eq o p ≡ b → tables_of new p ≡ cond (owner_eq o p) (tables_of old o) (tables_of old p)
-    by true e =
-        kept p
-        ∙ (ap (tables_of old) (sym (owner_eq-true o p e)) ∙ sym (cond-true (owner_eq o p) (tables_of old o) (tables_of old p) e))
-    by false e = kept p ∙ sym (cond-false (owner_eq o p) (tables_of old o) (tables_of old p) e)
+  -- tables that stay as they are
+  pub kept-changes : (old new : TablesByOwner) → KeepsTables old new → ChangesTables o (tables_of old o) old new
+  kept-changes old new kept p = by (owner_eq o p) refl
+    where
+      by : (b : Bool) → owner_eq o p ≡ b → tables_of new p ≡ cond (owner_eq o p) (tables_of old o) (tables_of old p)
+      by true e =
+          kept p
+          ∙ (ap (tables_of old) (sym (owner_eq-true o p e)) ∙ sym (cond-true (owner_eq o p) (tables_of old o) (tables_of old p) e))
+      by false e = kept p ∙ sym (cond-false (owner_eq o p) (tables_of old o) (tables_of old p) e)
 
--- and where what is written is what was there
-pub changes-kept : (o : Owner) (old new : TablesByOwner) → ChangesTables o (tables_of old o) old new → KeepsTables old new
-changes-kept o old new changes p = by (owner_eq o p) refl
-  where
-    by : (b : Bool) → owner_eq o p ≡ b → tables_of new p ≡ tables_of old p
-    by true e = changes p ∙ (cond-true (owner_eq o p) (tables_of old o) (tables_of old p) e ∙ ap (tables_of old) (owner_eq-true o p e))
-    by false e = changes p ∙ cond-false (owner_eq o p) (tables_of old o) (tables_of old p) e
+  -- and where what is written is what was there
+  pub changes-kept : (old new : TablesByOwner) → ChangesTables o (tables_of old o) old new → KeepsTables old new
+  changes-kept old new changes p = by (owner_eq o p) refl
+    where
+      by : (b : Bool) → owner_eq o p ≡ b → tables_of new p ≡ tables_of old p
+      by true e = changes p ∙ (cond-true (owner_eq o p) (tables_of old o) (tables_of old p) e ∙ ap (tables_of old) (owner_eq-true o p e))
+      by false e = changes p ∙ cond-false (owner_eq o p) (tables_of old o) (tables_of old p) e
+
+  -- what changes after a call that keeps all changes what was there before it
+  pub changes-before : (f : TablesOf ℕ → TablesOf ℕ) (old mid new : TablesByOwner) → KeepsTables old mid →
+      ChangesTables o (f (tables_of mid o)) mid new → ChangesTables o (f (tables_of old o)) old new
+  changes-before f old mid new kept h p =
+      h p ∙ (ap (λ t. cond (owner_eq o p) (f t) (tables_of mid p)) (kept o) ∙ ap (cond (owner_eq o p) (f (tables_of old o))) (kept p))
 
 -- ---- the map q before a call, by the value that it had
 
@@ -96,14 +104,13 @@ module _ (q : Inside) {all : TablesByOwner} (view : all_tables q ≡ all) where
 
   module _ (o : Owner) where
     -- what a call on an owner's table does to all, where the owner has a table
-    pub rewritten : (r : Inside) (t w : Table) (f : TablesOf ℕ → TablesOf ℕ) → Some t ≡ get OwnerImpl.ghosts.eq q.tables o
+    pub rewritten : (r : Inside) {t : Table} (w : Table) (f : TablesOf ℕ → TablesOf ℕ) → Some t ≡ get OwnerImpl.ghosts.eq q.tables o
         → (IsSome (get OwnerImpl.ghosts.eq q.tables o) → (p : Owner) →
         get OwnerImpl.ghosts.eq r.tables p ≡ cond (OwnerImpl.ghosts.eq o p) (Some w) (get OwnerImpl.ghosts.eq q.tables p))
         → table_of w ≡ f (table_of t) → ChangesTables o (f (tables_of all o)) all (all_tables r)
-    rewritten r t w f there at e =
+    rewritten r {t = t} w f there at e =
         subst (λ (old : TablesByOwner). ChangesTables o (f (tables_of old o)) old (all_tables r)) view
-        (changes-same o (table_of w) (f (tables_of (all_tables q) o)) (all_tables q) (all_tables r)
-        (e ∙ ap f (sym (tables_of-some q o t (sym there))))
+        (changes-same o (all_tables q) (all_tables r) (e ∙ ap f (sym (tables_of-some q o t (sym there))))
         (written q r o w (at (subst IsSome there refl))))
 
     -- what is read of the owner's table
@@ -118,7 +125,7 @@ module _ (q : Inside) {all : TablesByOwner} (view : all_tables q ≡ all) where
         f no_tables ≡ no_tables → ChangesTables o (f (tables_of all o)) all (all_tables r)
     untouched-changes r f off e stays =
         let none = had-none off in
-        changes-same o (tables_of all o) (f (tables_of all o)) all (all_tables r) (none ∙ sym (ap f none ∙ stays))
+        changes-same o all (all_tables r) (none ∙ sym (ap f none ∙ stays))
         (kept-changes o all (all_tables r) (untouched r e))
 
     -- a new table says nothing new
@@ -128,7 +135,7 @@ module _ (q : Inside) {all : TablesByOwner} (view : all_tables q ≡ all) where
     written-none r t off new at =
         subst (λ (old : TablesByOwner). KeepsTables old (all_tables r)) view
         (changes-kept o (all_tables q) (all_tables r)
-        (changes-same o (table_of t) (tables_of (all_tables q) o) (all_tables q) (all_tables r)
+        (changes-same o (all_tables q) (all_tables r)
         (new ∙ sym (tables_of-none q o (none_from (get OwnerImpl.ghosts.eq q.tables o) off))) (written q r o t at)))
 
 -- an owner that is there has an entry
@@ -140,9 +147,3 @@ lookup-get q o =
 -- no number is below 0
 pub below_none : (k : ℕ) → ltb k 0 ≡ false
 below_none k = false_from_ne_true (ltb k 0) (λ e. let h = ltb-true k 0 e in omega arith)
-
--- what changes after a call that keeps all changes what was there before it
-pub changes-before : (o : Owner) (f : TablesOf ℕ → TablesOf ℕ) (old mid new : TablesByOwner) → KeepsTables old mid →
-    ChangesTables o (f (tables_of mid o)) mid new → ChangesTables o (f (tables_of old o)) old new
-changes-before o f old mid new kept h p =
-    h p ∙ (ap (λ t. cond (owner_eq o p) (f t) (tables_of mid p)) (kept o) ∙ ap (cond (owner_eq o p) (f (tables_of old o))) (kept p))

@@ -96,28 +96,11 @@ fits-named names apart (attributes x a old) r target at =
 fits-named names apart (character_data x old) r target at =
     ap (λ b. asks_for r.options (character_data x old) && (b || r.options.subtree)) (same_key names apart r.node x at target)
 
--- those that fit
-fitting-named : (names : List NodeName) → TellApart names → (path : List ℕ) (rs : List (Registration ℕ)) (c : Change ℕ) →
-    AreRegistered (IsKey names) rs → AreAll (IsKey names) path → IsKey names (target_of c)
-    → map (named_registration (name_at names)) (fitting eqb path rs c) ≡ fitting name_eq (map (name_at names) path)
-    (map (named_registration (name_at names)) rs) (named_change (name_at names) c)
-fitting-named names apart path rs c all nodes target =
-    filter-named names (fits eqb c) (fits name_eq (named_change (name_at names) c)) (registrations_on eqb path rs)
-    (AreRegistered-on names path rs all) (λ r at from. fits-named names apart c r target at)
-    ∙ ap (filter (fits name_eq (named_change (name_at names) c))) (on-named names apart path rs all nodes)
-
 -- their observers are the same
 observers-named : (names : List NodeName) (rs : List (Registration ℕ)) →
     map (λ r. r.observer) (map (named_registration (name_at names)) rs) ≡ map (λ r. r.observer) rs
 observers-named names [] = refl
 observers-named names (r ∷ rs) = ap (λ ks. r.observer ∷ ks) (observers-named names rs)
-
-interested-named : (names : List NodeName) → TellApart names → (path : List ℕ) (rs : List (Registration ℕ)) (c : Change ℕ) →
-    AreRegistered (IsKey names) rs → AreAll (IsKey names) path → IsKey names (target_of c)
-    → interested name_eq (map (name_at names) path) (map (named_registration (name_at names)) rs) (named_change (name_at names) c) ≡ interested eqb path rs c
-interested-named names apart path rs c all nodes target =
-    ap (λ list. distinct eqb (map (λ r. r.observer) list)) (sym (fitting-named names apart path rs c all nodes target))
-    ∙ ap (distinct eqb) (observers-named names (fitting eqb path rs c))
 
 -- so are those who asked for the old value
 old-named : (names : List NodeName) (c : Change ℕ) (k : ℕ) (rs : List (Registration ℕ))
@@ -140,15 +123,32 @@ chosen-named names (child_list x added removed before after) false = refl
 chosen-named names (attributes x a old) false = refl
 chosen-named names (character_data x old) false = refl
 
-record-named : (names : List NodeName) → TellApart names → (path : List ℕ) (rs : List (Registration ℕ)) (c : Change ℕ) →
-    AreRegistered (IsKey names) rs → AreAll (IsKey names) path → IsKey names (target_of c) → (k : ℕ)
-    → named_change (name_at names) (record_for eqb path rs c k) ≡ record_for name_eq (map (name_at names) path)
-    (map (named_registration (name_at names)) rs) (named_change (name_at names) c) k
-record-named names apart path rs c all nodes target k =
-    chosen-named names c (list_any (λ r. eqb r.observer k && asks_for_old r.options c) (fitting eqb path rs c))
-    ∙ ap (λ b. cond b (named_change (name_at names) c) (without_old (named_change (name_at names) c)))
-    (sym (old-named names c k (fitting eqb path rs c))
-    ∙ ap (list_any (λ r. eqb r.observer k && asks_for_old r.options (named_change (name_at names) c))) (fitting-named names apart path rs c all nodes target))
+-- What a change says to registrations on a path.
+module _ (names : List NodeName) (apart : TellApart names) (path : List ℕ) (rs : List (Registration ℕ)) (c : Change ℕ)
+    (all : AreRegistered (IsKey names) rs) (nodes : AreAll (IsKey names) path) (target : IsKey names (target_of c)) where
+  -- those that fit
+  fitting-named : map (named_registration (name_at names)) (fitting eqb path rs c) ≡ fitting name_eq (map (name_at names) path)
+      (map (named_registration (name_at names)) rs) (named_change (name_at names) c)
+  fitting-named =
+      filter-named names (fits eqb c) (fits name_eq (named_change (name_at names) c)) (registrations_on eqb path rs)
+      (AreRegistered-on names path rs all) (λ r at from. fits-named names apart c r target at)
+      ∙ ap (filter (fits name_eq (named_change (name_at names) c))) (on-named names apart path rs all nodes)
+
+  -- their observers
+  interested-named : interested name_eq (map (name_at names) path) (map (named_registration (name_at names)) rs) (named_change (name_at names) c)
+      ≡ interested eqb path rs c
+  interested-named =
+      ap (λ list. distinct eqb (map (λ r. r.observer) list)) (sym fitting-named)
+      ∙ ap (distinct eqb) (observers-named names (fitting eqb path rs c))
+
+  -- the record for each
+  record-named : (k : ℕ) → named_change (name_at names) (record_for eqb path rs c k) ≡ record_for name_eq (map (name_at names) path)
+      (map (named_registration (name_at names)) rs) (named_change (name_at names) c) k
+  record-named k =
+      chosen-named names c (list_any (λ r. eqb r.observer k && asks_for_old r.options c) (fitting eqb path rs c))
+      ∙ ap (λ b. cond b (named_change (name_at names) c) (without_old (named_change (name_at names) c)))
+      (sym (old-named names c k (fitting eqb path rs c))
+      ∙ ap (list_any (λ r. eqb r.observer k && asks_for_old r.options (named_change (name_at names) c))) fitting-named)
 
 -- ---- queues
 
@@ -309,48 +309,50 @@ notices_law names t = notice-named names t.record_queues t.pending
 
 -- ---- observe()
 
--- the registration that was asked for
-asked-named : (names : List NodeName) → TellApart names → (k x : ℕ) → IsKey names x → (r : Registration ℕ) → IsKey names r.node
-    → is_asked_for name_eq k (name_at names x) (named_registration (name_at names) r) ≡ is_asked_for eqb k x r
-asked-named names apart k x node r at =
-    ap (λ b. eqb r.observer k && (b && not (is_transient (named_source (name_at names) r.source)))) (same_key names apart r.node x at node)
-    ∙ ap (λ b. eqb r.observer k && (eqb r.node x && not b)) (transient-named names r.source)
-
--- and its copies
+-- the copies of the registration that was asked for
 stems-named : (names : List NodeName) → TellApart names → (x : ℕ) → IsKey names x → (s : Source ℕ) → IsSourceOf (IsKey names) s →
     stems_from name_eq (name_at names x) (named_source (name_at names) s) ≡ stems_from eqb x s
 stems-named names apart x node asked_for from = refl
 stems-named names apart x node (copied_from y) from = same_key names apart x y node from
 stems-named names apart x node copied_from_transient from = refl
 
--- whether it is there
-any-named : (names : List NodeName) → TellApart names → (k x : ℕ) → IsKey names x → (rs : List (Registration ℕ)) → AreRegistered (IsKey names) rs
-    → list_any (is_asked_for name_eq k (name_at names x)) (map (named_registration (name_at names)) rs) ≡ list_any (is_asked_for eqb k x) rs
-any-named names apart k x node [] all = refl
-any-named names apart k x node (r ∷ rs) all =
-    ap (λ b. b || list_any (is_asked_for name_eq k (name_at names x)) (map (named_registration (name_at names)) rs)) (asked-named names apart k x node r all.0)
-    ∙ ap (λ b. is_asked_for eqb k x r || b) (any-named names apart k x node rs all.2)
-
 -- other options
 abbrev with_words : {N : Type 0} → ObserveWords → Registration N → Registration N
 with_words o r = record r { options = o }
 
-options-named : (names : List NodeName) → TellApart names → (k x : ℕ) (o : ObserveWords) → IsKey names x → (rs : List (Registration ℕ)) →
-    AreRegistered (IsKey names) rs
-    → map (named_registration (name_at names)) (map (with_options eqb k x o) rs) ≡ map (with_options name_eq k (name_at names x) o)
-    (map (named_registration (name_at names)) rs)
-options-named names apart k x o node [] all = refl
-options-named names apart k x o node (r ∷ rs) all =
-    let f = named_registration (name_at names) in
-    let rest = map f (map (with_options eqb k x o) rs) in
-    ap (λ (y : Registration NodeName). y ∷ rest)
-    (chosen (is_asked_for eqb k x r) ∙ ap (λ b. cond b (with_words o (f r)) (f r)) (sym (asked-named names apart k x node r all.0)))
-    ∙ ap (λ list. with_options name_eq k (name_at names x) o (f r) ∷ list) (options-named names apart k x o node rs all.2)
-  where
-    chosen : (b : Bool) → named_registration (name_at names) (cond b (with_words o r) r) ≡ cond b
-        (with_words o (named_registration (name_at names) r)) (named_registration (name_at names) r)
-    chosen true = refl
-    chosen false = refl
+-- What an observer asked for on a node.
+module _ (names : List NodeName) (apart : TellApart names) (k x : ℕ) (node : IsKey names x) where
+  -- the registration that was asked for
+  asked-named : (r : Registration ℕ) → IsKey names r.node
+      → is_asked_for name_eq k (name_at names x) (named_registration (name_at names) r) ≡ is_asked_for eqb k x r
+  asked-named r at =
+      ap (λ b. eqb r.observer k && (b && not (is_transient (named_source (name_at names) r.source)))) (same_key names apart r.node x at node)
+      ∙ ap (λ b. eqb r.observer k && (eqb r.node x && not b)) (transient-named names r.source)
+
+  -- whether it is there
+  any-named : (rs : List (Registration ℕ)) → AreRegistered (IsKey names) rs
+      → list_any (is_asked_for name_eq k (name_at names x)) (map (named_registration (name_at names)) rs) ≡ list_any (is_asked_for eqb k x) rs
+  any-named [] all = refl
+  any-named (r ∷ rs) all =
+      ap (λ b. b || list_any (is_asked_for name_eq k (name_at names x)) (map (named_registration (name_at names)) rs)) (asked-named r all.0)
+      ∙ ap (λ b. is_asked_for eqb k x r || b) (any-named rs all.2)
+
+  -- it gets other options
+  options-named : (o : ObserveWords) (rs : List (Registration ℕ)) → AreRegistered (IsKey names) rs
+      → map (named_registration (name_at names)) (map (with_options eqb k x o) rs) ≡ map (with_options name_eq k (name_at names x) o)
+      (map (named_registration (name_at names)) rs)
+  options-named o [] all = refl
+  options-named o (r ∷ rs) all =
+      let f = named_registration (name_at names) in
+      let rest = map f (map (with_options eqb k x o) rs) in
+      ap (λ (y : Registration NodeName). y ∷ rest)
+      (chosen (is_asked_for eqb k x r) ∙ ap (λ b. cond b (with_words o (f r)) (f r)) (sym (asked-named r all.0)))
+      ∙ ap (λ list. with_options name_eq k (name_at names x) o (f r) ∷ list) (options-named o rs all.2)
+    where
+      chosen : (b : Bool) → named_registration (name_at names) (cond b (with_words o r) r) ≡ cond b
+          (with_words o (named_registration (name_at names) r)) (named_registration (name_at names) r)
+      chosen true = refl
+      chosen false = refl
 
 pub observing_law : ObservingLaw
 observing_law names apart t k x w all node =
@@ -359,22 +361,22 @@ observing_law names apart t k x w all node =
     let s : TablesOf NodeName = named_tables (name_at names) t in
     let kept = filter (λ r. not (eqb r.observer k && stems_from eqb x r.source)) t.registrations in
     let fresh : Registration ℕ = record { node = x; observer = k; options = o; source = asked_for } in
-    let more = options-named names apart k x o node kept
+    let more = options-named names apart k x node o kept
     (AreRegistered-filter names (λ r. not (eqb r.observer k && stems_from eqb x r.source)) t.registrations all)
     ∙ ap (map (with_options name_eq k (name_at names x) o))
     (filter-named names (λ r. not (eqb r.observer k && stems_from eqb x r.source))
     (λ r. not (eqb r.observer k && stems_from name_eq (name_at names x) r.source)) t.registrations all
     (λ r at from. ap (λ b. not (eqb r.observer k && b)) (stems-named names apart x node r.source from))) in
     ap (λ (list : List (Registration NodeName)). record s { registrations = list })
-    (split (list_any (is_asked_for eqb k x) t.registrations) (map (with_options eqb k x o) kept) (t.registrations ++ fresh ∷ []) _ _ more
+    (split (list_any (is_asked_for eqb k x) t.registrations) (map (with_options eqb k x o) kept) (t.registrations ++ fresh ∷ []) more
     (map-append f t.registrations (fresh ∷ []))
     ∙ ap (λ b. cond b (map (with_options name_eq k (name_at names x) o)
     (filter (λ r. not (eqb r.observer k && stems_from name_eq (name_at names x) r.source)) (map f t.registrations)))
     (map f t.registrations ++ f fresh ∷ []))
     (sym (any-named names apart k x node t.registrations all)))
   where
-    split : (b : Bool) (xs ys : List (Registration ℕ)) (us vs : List (Registration NodeName)) → map (named_registration (name_at names)) xs ≡ us →
+    split : (b : Bool) (xs ys : List (Registration ℕ)) {us vs : List (Registration NodeName)} → map (named_registration (name_at names)) xs ≡ us →
         map (named_registration (name_at names)) ys ≡ vs
         → map (named_registration (name_at names)) (cond b xs ys) ≡ cond b us vs
-    split true xs ys us vs e g = e
-    split false xs ys us vs e g = g
+    split true xs ys e g = e
+    split false xs ys e g = g

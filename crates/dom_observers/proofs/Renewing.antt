@@ -1,5 +1,5 @@
 -- A registration that gets new options.
-use Rattle.std.proofs.Common.{◌≡◌, ℕ, zero, suc, ◌+◌, ◌<◌, ◌≤◌, Bool, true, false, not, ◌&&◌, cond, eqb, List, [], ◌∷◌, ◌++◌, length, map, set}
+use Rattle.std.proofs.Common.{◌≡◌, ℕ, zero, suc, ◌+◌, ◌≤◌, Bool, true, false, not, ◌&&◌, cond, eqb, List, [], ◌∷◌, ◌++◌, length, map, set}
 use Rattle.std.proofs.Common.{Option, Some, None, take, refl, sym, ap, ◌∙◌, subst, arith}
 use Rattle.std.specs.Prelude.{slice_get, is_some}
 use Rattle.std.specs.List.{list_any, filter, cons_option}
@@ -18,7 +18,7 @@ use Rattle.dom_observers.specs.declared.removal.Removal.TheVariants.{Of, Transie
 use Rattle.dom_observers.specs.declared.watched.Watched.{Watched}
 use Rattle.dom_observers.specs.Views.{registration_of, unless_gone, those_there, there_in}
 use Rattle.dom_observers.specs.Removals.{goes}
-use Rattle.dom_observers.specs.Watching.{places_at, places_from, is_above, among, AreThinned, AreNoted, AreKept}
+use Rattle.dom_observers.specs.Watching.{places_at, places_from, is_above, AreThinned, AreNoted, AreKept}
 use Rattle.dom_observers.proofs.Leaving.{IsThere, IsParted, parted, parted-set, unless-there, there-got, there-set}
 use Rattle.dom_observers.proofs.Watching.{second}
 use Rattle.dom_observers.proofs.Thinning.{thinned-left}
@@ -162,7 +162,9 @@ noted-options {k = k} {x = z} {i = i} {rs = rs} {r = r} {s = s} {o = o} {w = w} 
   places = λ x. subst (λ ps. AreThinned (set rs i s) ps (places_at w x)) (sym (places-set x r s node rs i w.noted 0 n.one.at))
       (thinned-left (noted.places x) (λ j in_it is. still_there j (eqb j i) refl (ap is_some (sym (there-set rs i r s n.one.at j)) ∙ is)));
   above = λ x off. above-set x r s node (not_above x off) rs i w.noted n.one.at (noted.above x off);
-  found = λ removal j t below e is. by removal j t below is (eqb j i) refl (sym (there-set rs i r s n.one.at j) ∙ e);
+  found = λ removal j t below e is.
+      let was = went j (eqb j i) refl (sym (there-set rs i r s n.one.at j) ∙ e) removal is in
+      noted.found removal j was.0 below was.1 was.2;
 }
   where
     node : s.node ≡ r.node
@@ -187,14 +189,16 @@ noted-options {k = k} {x = z} {i = i} {rs = rs} {r = r} {s = s} {o = o} {w = w} 
         both true e true g =
             absurd (true≢false (sym (subst (λ y. is_in eqb y w.above.keys ≡ true) (sym on ∙ eqb-true s.node x e) (covered g)) ∙ off))
 
-    by : (removal : Removal) (j : ℕ) (t : Registration ℕ) → j < w.noted → goes removal t ≡ true → (b : Bool) → eqb j i ≡ b
-        → cond b (unless_gone s) (there_in rs j) ≡ Some t → is_in eqb j (among w.owned removal) ≡ true
-    by removal j t below is false g e = noted.found removal j t below e is
-    by removal j t below is true g e =
-        let same : t ≡ record (registration_of r) { options = o } = same_Some t _ (sym e ∙ (unless-there s n.still ∙ ap Some n.new)) in
-        noted.found removal j (registration_of r) below
-        (ap (there_in rs) (eqb-true j i g) ∙ (there-got rs i r n.one.at ∙ unless-there r n.one.there))
-        (sym (goes-options removal (registration_of r) o) ∙ (ap (goes removal) (sym same) ∙ is))
+    -- what goes from a place went from it before
+    went : (j : ℕ) {t : Registration ℕ} (b : Bool) → eqb j i ≡ b → cond b (unless_gone s) (there_in rs j) ≡ Some t
+        → (removal : Removal) → goes removal t ≡ true → (u : Registration ℕ) × (there_in rs j ≡ Some u) × (goes removal u ≡ true)
+    went j {t = t} false g e removal is = (t, e, is)
+    went j {t = t} true g e removal is =
+        let same : t ≡ record (registration_of r) { options = o } = same_Some t _ (sym e ∙ (unless-there s n.still ∙ ap Some n.new)) in (
+          registration_of r,
+          ap (there_in rs) (eqb-true j i g) ∙ (there-got rs i r n.one.at ∙ unless-there r n.one.there),
+          sym (goes-options removal (registration_of r) o) ∙ (ap (goes removal) (sym same) ∙ is),
+        )
 
 -- ---- the one that an observer asked for on a node gets new options
 

@@ -58,28 +58,29 @@ module _ {M : Type 0} (P : M → Type 0) where
       registered_append (filter (λ (r : Registration M). same r.node x) rs) (registrations_on same path rs)
       (registered_filter (λ (r : Registration M). same r.node x) rs all) (registered_on same path rs all)
 
-  -- one with other options
-  renewed : (same : M → M → Bool) (k : ℕ) (x : M) (o : ObserveWords) (rs : List (Registration M)) → AreRegistered P rs →
-      AreRegistered P (map (with_options same k x o) rs)
-  renewed same k x o [] all = tt
-  renewed same k x o (r ∷ rs) all = by (is_asked_for same k x r) (renewed same k x o rs all.2)
-    where
-      by : (b : Bool) → AreRegistered P (map (with_options same k x o) rs) →
-          AreRegistered P ((if b then record r { options = o } else r) ∷ map (with_options same k x o) rs)
-      by true rest = (all.0, all.1, rest)
-      by false rest = (all.0, all.1, rest)
+  -- What an observer asks for on a node.
+  module _ (same : M → M → Bool) (k : ℕ) (x : M) (o : ObserveWords) where
+    -- one with other options
+    renewed : (rs : List (Registration M)) → AreRegistered P rs → AreRegistered P (map (with_options same k x o) rs)
+    renewed [] all = tt
+    renewed (r ∷ rs) all = by (is_asked_for same k x r) (renewed rs all.2)
+      where
+        by : (b : Bool) → AreRegistered P (map (with_options same k x o) rs) →
+            AreRegistered P ((if b then record r { options = o } else r) ∷ map (with_options same k x o) rs)
+        by true rest = (all.0, all.1, rest)
+        by false rest = (all.0, all.1, rest)
 
-  registered_new : (same : M → M → Bool) (k : ℕ) (x : M) (o : ObserveWords) (rs : List (Registration M)) → AreRegistered P rs → P x →
-      AreRegistered P (with_registration same k x o rs)
-  registered_new same k x o rs all one = by (list_any (is_asked_for same k x) rs)
-    where
-      stays : Registration M → Bool
-      stays r = not ((r.observer == k) && stems_from same x r.source)
+    -- its registration, new or with other options
+    registered_new : (rs : List (Registration M)) → AreRegistered P rs → P x → AreRegistered P (with_registration same k x o rs)
+    registered_new rs all one = by (list_any (is_asked_for same k x) rs)
+      where
+        stays : Registration M → Bool
+        stays r = not ((r.observer == k) && stems_from same x r.source)
 
-      by : (b : Bool) → AreRegistered P (if b then map (with_options same k x o) (filter stays rs) else rs ++
-          record { node = x; observer = k; options = o; source = asked_for } ∷ [])
-      by true = renewed same k x o (filter stays rs) (registered_filter stays rs all)
-      by false = registered_append rs (record { node = x; observer = k; options = o; source = asked_for } ∷ []) all (one, tt, tt)
+        by : (b : Bool) → AreRegistered P (if b then map (with_options same k x o) (filter stays rs) else rs ++
+            record { node = x; observer = k; options = o; source = asked_for } ∷ [])
+        by true = renewed (filter stays rs) (registered_filter stays rs all)
+        by false = registered_append rs (record { node = x; observer = k; options = o; source = asked_for } ∷ []) all (one, tt, tt)
 
   -- transient ones
   copies : (same : M → M → Bool) (x : M) (rs : List (Registration M)) → AreRegistered P rs → P x
@@ -137,29 +138,31 @@ module _ {M : Type 0} (P : M → Type 0) where
     records = emptied_all t.pending t.record_queues h.records;
   }
 
-  pub speaks_observing : (same : M → M → Bool) (k : ℕ) (x : M) (w : ObserveWords) (t : TablesOf M) → SpeaksOf P t → P x → SpeaksOf P (observing same k x w t)
-  speaks_observing same k x w t h one = record {
-    registrations = registered_new same k x (options_of w) t.registrations h.registrations one;
-    records = h.records;
-  }
+  -- those that compare nodes
+  module _ (same : M → M → Bool) where
+    pub speaks_observing : (k : ℕ) (x : M) (w : ObserveWords) (t : TablesOf M) → SpeaksOf P t → P x → SpeaksOf P (observing same k x w t)
+    speaks_observing k x w t h one = record {
+      registrations = registered_new same k x (options_of w) t.registrations h.registrations one;
+      records = h.records;
+    }
 
-  pub speaks_left : (same : M → M → Bool) (x : M) (path : List M) (t : TablesOf M) → SpeaksOf P t → P x → SpeaksOf P (left same x path t)
-  speaks_left same x path t h one =
-      let below : Registration M → Bool = λ r. r.options.subtree in
-      let on = registrations_on same path t.registrations in
-      record {
-        registrations = registered_append t.registrations (transients_for same x path t.registrations) h.registrations
-            (copies same x (filter below on) (registered_filter below on (registered_on same path t.registrations h.registrations)) one);
-        records = h.records;
-      }
+    pub speaks_left : (x : M) (path : List M) (t : TablesOf M) → SpeaksOf P t → P x → SpeaksOf P (left same x path t)
+    speaks_left x path t h one =
+        let below : Registration M → Bool = λ r. r.options.subtree in
+        let on = registrations_on same path t.registrations in
+        record {
+          registrations = registered_append t.registrations (transients_for same x path t.registrations) h.registrations
+              (copies same x (filter below on) (registered_filter below on (registered_on same path t.registrations h.registrations)) one);
+          records = h.records;
+        }
 
-  pub speaks_told : (same : M → M → Bool) (path : List M) (c : Change M) (t : TablesOf M) → SpeaksOf P t → IsChangeAt P c → SpeaksOf P (told same path c t)
-  speaks_told same path c t h one = record {
-    registrations = h.registrations;
-    records = given_all (record_for same path t.registrations c)
-        (λ k. record_speaks c one (list_any (λ (r : Registration M). (r.observer == k) && asks_for_old r.options c) (fitting same path t.registrations c)))
-        (interested same path t.registrations c) t.record_queues h.records;
-  }
+    pub speaks_told : (path : List M) (c : Change M) (t : TablesOf M) → SpeaksOf P t → IsChangeAt P c → SpeaksOf P (told same path c t)
+    speaks_told path c t h one = record {
+      registrations = h.registrations;
+      records = given_all (record_for same path t.registrations c)
+          (λ k. record_speaks c one (list_any (λ (r : Registration M). (r.observer == k) && asks_for_old r.options c) (fitting same path t.registrations c)))
+          (interested same path t.registrations c) t.record_queues h.records;
+    }
 
 -- ---- names
 

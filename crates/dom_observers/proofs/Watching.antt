@@ -81,24 +81,26 @@ pub read : (rs : List Registered) (i : ℕ) {r : Option (Bor Registered)} (o : O
     → option_map (λ b. registration_of b.now) r ≡ there_in rs i → there_in rs i ≡ option_map (λ b. registration_of b.now) o
 read rs i o e is = sym is ∙ ap (option_map (λ b. registration_of b.now)) e
 
--- what a walk over places has found after one place more
-pub picked-next : {B : Type 0} (f : B → Registration ℕ → B) (b : B) (rs : List Registered) (places : List ℕ) (i : ℕ) → i < length places
-    → fold f b (picked rs (take (i + 1) places)) ≡ fold f (fold f b (picked rs (take i places))) (cons_option (there_in rs (get_or places i 0)) [])
-picked-next f b rs places i short =
-    ap (λ ps. fold f b (picked rs ps)) (take_more places i 0 short)
-    ∙ (ap (fold f b) (filter_map-append (there_in rs) (take i places) (get_or places i 0 ∷ []))
-    ∙ fold-append f b (picked rs (take i places)) (cons_option (there_in rs (get_or places i 0)) []))
+-- One place more of some places in a list.
+module _ (rs : List Registered) (places : List ℕ) (i : ℕ) (short : i < length places) where
+  -- what a walk over places has found after it
+  pub picked-next : {B : Type 0} (f : B → Registration ℕ → B) (b : B)
+      → fold f b (picked rs (take (i + 1) places)) ≡ fold f (fold f b (picked rs (take i places))) (cons_option (there_in rs (get_or places i 0)) [])
+  picked-next f b =
+      ap (λ ps. fold f b (picked rs ps)) (take_more places i 0 short)
+      ∙ (ap (fold f b) (filter_map-append (there_in rs) (take i places) (get_or places i 0 ∷ []))
+      ∙ fold-append f b (picked rs (take i places)) (cons_option (there_in rs (get_or places i 0)) []))
 
--- where none of some places has what passes a test, and the next has not
-pub none-next : (p : Registration ℕ → Bool) (rs : List Registered) (places : List ℕ) (i : ℕ) (o : Option (Registration ℕ)) → i < length places →
-    there_in rs (get_or places i 0) ≡ o → list_any p (picked rs (take i places)) ≡ false → list_any p (cons_option o []) ≡ false
-    → list_any p (picked rs (take (i + 1) places)) ≡ false
-none-next p rs places i o short at none off =
-    ap (λ ps. list_any p (picked rs ps)) (take_more places i 0 short)
-    ∙ (ap (list_any p) (filter_map-append (there_in rs) (take i places) (get_or places i 0 ∷ []))
-    ∙ (list_any-append p (picked rs (take i places)) (cons_option (there_in rs (get_or places i 0)) [])
-    ∙ or_from (list_any p (picked rs (take i places))) (list_any p (cons_option (there_in rs (get_or places i 0)) [])) none
-    (ap (λ q. list_any p (cons_option q [])) at ∙ off)))
+  -- where none of those before has what passes a test, and it has not
+  pub none-next : (p : Registration ℕ → Bool) {o : Option (Registration ℕ)} → there_in rs (get_or places i 0) ≡ o →
+      list_any p (picked rs (take i places)) ≡ false → list_any p (cons_option o []) ≡ false
+      → list_any p (picked rs (take (i + 1) places)) ≡ false
+  none-next p at none off =
+      ap (λ ps. list_any p (picked rs ps)) (take_more places i 0 short)
+      ∙ (ap (list_any p) (filter_map-append (there_in rs) (take i places) (get_or places i 0 ∷ []))
+      ∙ (list_any-append p (picked rs (take i places)) (cons_option (there_in rs (get_or places i 0)) [])
+      ∙ or_from (list_any p (picked rs (take i places))) (list_any p (cons_option (there_in rs (get_or places i 0)) [])) none
+      (ap (λ q. list_any p (cons_option q [])) at ∙ off)))
 
 -- ---- where nothing passes a test
 
@@ -148,14 +150,19 @@ nothing_fits c x (r ∷ rs) off past =
 
 -- ---- the lists of places
 
+-- What was written of one node's places: what is read of it then is a change of what was read before, and of other nodes all is as it was.
+pub record IsListChange (change : List ℕ → List ℕ) (node : ℕ) (was now : ℕ → Option Places) : Type 0 where
+  pub written : Places
+  pub updated : (x : ℕ) → now x ≡ cond (eqb node x) (Some written) (was x)
+  pub changed : places_in written ≡ change (places_or (was node))
+
 -- the lists after that of one node was changed
-pub list-changed : (change : List ℕ → List ℕ) (node : ℕ) (v : Places) (was now : ℕ → Option Places) →
-    ((x : ℕ) → now x ≡ cond (eqb node x) (Some v) (was x))
-    → places_in v ≡ change (places_or (was node)) → (x : ℕ) → places_or (now x) ≡ cond (eqb node x) (change (places_or (was x))) (places_or (was x))
-list-changed change node v was now updated is x = ap places_or (updated x) ∙ by (eqb node x) refl
+pub list-changed : {change : List ℕ → List ℕ} {node : ℕ} {was now : ℕ → Option Places} → IsListChange change node was now → (x : ℕ)
+    → places_or (now x) ≡ cond (eqb node x) (change (places_or (was x))) (places_or (was x))
+list-changed {change = change} {node = node} {was = was} w x = ap places_or (w.updated x) ∙ by (eqb node x) refl
   where
-    by : (b : Bool) → eqb node x ≡ b → places_or (cond b (Some v) (was x)) ≡ cond b (change (places_or (was x))) (places_or (was x))
-    by true e = is ∙ ap (λ y. change (places_or (was y))) (eqb-true node x e)
+    by : (b : Bool) → eqb node x ≡ b → places_or (cond b (Some w.written) (was x)) ≡ cond b (change (places_or (was x))) (places_or (was x))
+    by true e = w.changed ∙ ap (λ y. change (places_or (was y))) (eqb-true node x e)
     by false e = refl
 
 -- ---- what is noted
@@ -356,34 +363,34 @@ pub record HasPassed (f : NamedTrees) (key : ℕ) (sought : List ℕ) (at : Opti
   pub climbed : HasClimbed f key path at
   pub none : list_any (λ k. is_in eqb k sought) path ≡ false
 
--- the beginning
-pub passes-first : (f : NamedTrees) (key : ℕ) (sought : List ℕ) → key < length f.names → HasPassed f key sought (Some key)
-passes-first f key sought node = record { path = []; climbed = climbs-first f key node; none = refl }
+-- The walk from a node.
+module _ (f : NamedTrees) (key : ℕ) (sought : List ℕ) where
+  -- the beginning
+  pub passes-first : key < length f.names → HasPassed f key sought (Some key)
+  passes-first node = record { path = []; climbed = climbs-first f key node; none = refl }
 
--- a step
-pub passes-more : (f : NamedTrees) → StandOnce f → StandAlone f → (key k : ℕ) (sought : List ℕ) (next : Option ℕ) →
-    HasPassed f key sought (Some k) → is_in eqb k sought ≡ false
-    → option_map (name_at f.names) next ≡ parent_of f.trees (name_at f.names k) → ForSome next (IsKey f.names) → HasPassed f key sought next
-passes-more f once only key k sought next done off is nodes =
-    record {
-      path = done.path ++ k ∷ [];
-      climbed = climbs-more f once only key k done.path next done.climbed (done.climbed.next k refl) is nodes;
-      none =
-          list_any-append (λ j. is_in eqb j sought) done.path (k ∷ [])
-          ∙ or_from (list_any (λ j. is_in eqb j sought) done.path) (is_in eqb k sought || false) done.none (or_from (is_in eqb k sought) false off refl);
-    }
+  -- a step
+  pub passes-more : StandOnce f → StandAlone f → {k : ℕ} {next : Option ℕ} → HasPassed f key sought (Some k) → is_in eqb k sought ≡ false
+      → option_map (name_at f.names) next ≡ parent_of f.trees (name_at f.names k) → ForSome next (IsKey f.names) → HasPassed f key sought next
+  passes-more once only {k = k} {next = next} done off is nodes =
+      record {
+        path = done.path ++ k ∷ [];
+        climbed = climbs-more f once only next done.climbed is nodes;
+        none =
+            list_any-append (λ j. is_in eqb j sought) done.path (k ∷ [])
+            ∙ or_from (list_any (λ j. is_in eqb j sought) done.path) (is_in eqb k sought || false) done.none (or_from (is_in eqb k sought) false off refl);
+      }
 
--- the end: none is
-pub passes-all : (f : NamedTrees) → TellApart f.names → (key : ℕ) (sought : List ℕ) → HasPassed f key sought None →
-    list_any (λ k. is_in eqb k sought) (path_keys f key) ≡ false
-passes-all f apart key sought done = ap (list_any (λ k. is_in eqb k sought)) (sym (climbs-all f apart key done.path done.climbed)) ∙ done.none
+  -- the end: none is
+  pub passes-all : TellApart f.names → HasPassed f key sought None → list_any (λ k. is_in eqb k sought) (path_keys f key) ≡ false
+  passes-all apart done = ap (list_any (λ k. is_in eqb k sought)) (sym (climbs-all f apart key done.path done.climbed)) ∙ done.none
 
--- one is found
-pub passes-to : (f : NamedTrees) → StandOnce f → TellApart f.names → (key k : ℕ) (sought : List ℕ) → HasPassed f key sought (Some k) → is_in eqb k sought ≡ true
-    → list_any (λ j. is_in eqb j sought) (path_keys f key) ≡ true
-passes-to f once apart key k sought done on =
-    let p = λ (j : ℕ). is_in eqb j sought in
-    let way = climbs-through f once apart key k done.path done.climbed in
-    ap (list_any p) way.1
-    ∙ (list_any-append p done.path (k ∷ way.0)
-    ∙ or_right (list_any p done.path) (list_any p (k ∷ way.0)) (or_left (is_in eqb k sought) (list_any p way.0) on))
+  -- one is found
+  pub passes-to : StandOnce f → TellApart f.names → (k : ℕ) → HasPassed f key sought (Some k) → is_in eqb k sought ≡ true
+      → list_any (λ j. is_in eqb j sought) (path_keys f key) ≡ true
+  passes-to once apart k done on =
+      let p = λ (j : ℕ). is_in eqb j sought in
+      let way = climbs-through f once apart key k done.path done.climbed in
+      ap (list_any p) way.1
+      ∙ (list_any-append p done.path (k ∷ way.0)
+      ∙ or_right (list_any p done.path) (list_any p (k ∷ way.0)) (or_left (is_in eqb k sought) (list_any p way.0) on))

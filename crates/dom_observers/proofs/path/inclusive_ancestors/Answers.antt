@@ -13,8 +13,8 @@ loop-at-preserved c =
     let f = c.args.forest.now in
     let done = subst (HasClimbed f c.args.key c.loop-at.path.items) c.in-Some.is c.loop-at.invariant in
     subst (λ path. HasClimbed f c.args.key path c.parent-at.result) (sym c.in_ok-push.ensures.items)
-    (climbs-more f c.law_nodes_stand_once.ensures.once c.law_nodes_stand_once.ensures.only c.args.key c.in-Some.node c.loop-at.path.items
-    c.parent-at.result done (done.next c.in-Some.node refl) c.parent-at.ensures.value c.parent-at.ensures.node)
+    (climbs-more f c.law_nodes_stand_once.ensures.once c.law_nodes_stand_once.ensures.only c.parent-at.result done c.parent-at.ensures.value
+    c.parent-at.ensures.node)
 
 pub loop-at-smaller : goal.loop-at-smaller
 loop-at-smaller c =

@@ -50,5 +50,5 @@ loop-place-preserved c =
       copies =
           here
           ∙ (ap (λ b. fold f b (cons_option (there_in rs (get_or places i 0)) [])) c.loop-place.invariant.copies
-          ∙ sym (picked-next f (map registration_of c.args.copies.now.items) rs places i (omega arith)));
+          ∙ sym (picked-next rs places i (omega arith) f (map registration_of c.args.copies.now.items)));
     }

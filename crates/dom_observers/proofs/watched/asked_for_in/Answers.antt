@@ -25,11 +25,11 @@ loop-place-preserved c =
     let i = c.loop-place.place-index in
     elim c.match-there_at.branch [
       | in-Some+else-is_asked_for w ↦
-          none-next p rs places i (Some (registration_of w.in-Some.registered.now)) (omega arith)
+          none-next rs places i (omega arith) p
           (read rs (get_or places i 0) (Some w.in-Some.registered) w.in-Some.is c.there_at.ensures) c.loop-place.invariant
           (or_from (p (registration_of w.in-Some.registered.now)) false (sym w.is_asked_for.ensures ∙ w.if-is_asked_for.false) refl)
       | in_default w ↦
-          none-next p rs places i None (omega arith) (read rs (get_or places i 0) None w.in_default.is c.there_at.ensures) c.loop-place.invariant refl
+          none-next rs places i (omega arith) p (read rs (get_or places i 0) None w.in_default.is c.there_at.ensures) c.loop-place.invariant refl
     ]
 
 pub returns : goal.returns

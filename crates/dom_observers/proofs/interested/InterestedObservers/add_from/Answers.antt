@@ -38,4 +38,4 @@ loop-place-preserved c =
     ] in
     here
     ∙ (ap (λ b. fold f b (cons_option (there_in rs (get_or places i 0)) [])) c.loop-place.invariant
-    ∙ sym (picked-next f (found_of c.args.self.now) rs places i (omega arith)))
+    ∙ sym (picked-next rs places i (omega arith) f (found_of c.args.self.now)))

@@ -22,7 +22,7 @@ returns c =
     record {
       value = c.disconnect.ensures.value ∙ ap (λ (t : TablesOf ℕ). ltb c.args.observer (length t.record_queues)) (sym there);
       tables =
-          rewritten c.self.inside c.self.view_is c.args.owner r c.in-Some.table.now c.disconnect.new.self
+          rewritten c.self.inside c.self.view_is c.args.owner r c.disconnect.new.self
           (λ t. cond c.disconnect.result (disconnected c.args.observer t) t) c.in-Some.ensures.value
           (λ some. ((c.get_mut.follows.holds c.disconnect.new.self).3 some).0) c.disconnect.ensures.tables;
     }

@@ -45,7 +45,7 @@ returns-clause-tables c =
     let step : table_of c.make.new.self ≡ with_observer (table_of c.in-Some.table.now) →
     ChangesTables c.args.owner (with_observer (tables_of c.args.self.now c.args.owner)) c.args.self.now (all_tables r) =
     λ e. changes-before c.args.owner (λ t. with_observer t) c.args.self.now c.prepare.new.self (all_tables r) c.in_ok-prepare.ensures.keeps
-    (rewritten c.self.inside c.self.view_is c.args.owner r c.in-Some.table.now c.make.new.self (λ t. with_observer t) c.in-Some.ensures.value
+    (rewritten c.self.inside c.self.view_is c.args.owner r c.make.new.self (λ t. with_observer t) c.in-Some.ensures.value
     (λ some. ((c.get_mut.follows.holds c.make.new.self).3 some).0) e) in
     on_ok_weaker c.make.result step c.make.ensures.tables
 
@@ -61,6 +61,6 @@ returns-clause-err c =
     let step : table_of c.make.new.self ≡ table_of c.in-Some.table.now → KeepsTables c.args.self.now (all_tables r) =
     λ e. changes-kept c.args.owner c.args.self.now (all_tables r)
     (changes-before c.args.owner (λ t. t) c.args.self.now c.prepare.new.self (all_tables r) c.in_ok-prepare.ensures.keeps
-    (rewritten c.self.inside c.self.view_is c.args.owner r c.in-Some.table.now c.make.new.self (λ t. t) c.in-Some.ensures.value
+    (rewritten c.self.inside c.self.view_is c.args.owner r c.make.new.self (λ t. t) c.in-Some.ensures.value
     (λ some. ((c.get_mut.follows.holds c.make.new.self).3 some).0) e)) in
     on_err_weaker c.make.result step c.make.ensures.err

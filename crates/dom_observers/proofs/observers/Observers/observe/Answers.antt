@@ -36,7 +36,7 @@ returns-clause-tables c =
     let f = observing nat_eq c.args.observer c.args.node (words_of c.args.options) in
     let step : table_of c.observe.new.self ≡ f (table_of c.in-Some.table.now) →
     ChangesTables c.args.owner (f (tables_of c.args.self.now c.args.owner)) c.args.self.now (all_tables r) =
-    λ e. rewritten c.self.inside c.self.view_is c.args.owner r c.in-Some.table.now c.observe.new.self f c.in-Some.ensures.value
+    λ e. rewritten c.self.inside c.self.view_is c.args.owner r c.observe.new.self f c.in-Some.ensures.value
     (λ some. ((c.get_mut.follows.holds c.observe.new.self).3 some).0) e in
     on_ok_weaker c.observe.result step c.observe.ensures.tables
 
@@ -59,6 +59,6 @@ returns-clause-err c =
     let f = λ (t : TablesOf ℕ). t in
     let step : table_of c.observe.new.self ≡ table_of c.in-Some.table.now → KeepsTables c.args.self.now (all_tables r) =
     λ e. changes-kept c.args.owner c.args.self.now (all_tables r)
-    (rewritten c.self.inside c.self.view_is c.args.owner r c.in-Some.table.now c.observe.new.self f c.in-Some.ensures.value
+    (rewritten c.self.inside c.self.view_is c.args.owner r c.observe.new.self f c.in-Some.ensures.value
     (λ some. ((c.get_mut.follows.holds c.observe.new.self).3 some).0) e) in
     on_err_weaker c.observe.result step c.observe.ensures.err

@@ -18,19 +18,18 @@ use Rattle.dom_observers.proofs.Gathering.{interested-none}
 use Rattle.dom_observers.proofs.observers.Observers.queue_record.Goals as goal
 
 -- what is said of the owner of a target's name
-moved : (Q : Owner → Type 0) (names : List NodeName) (x : NodeName) (k j : ℕ) → name_at names k ≡ x → k ≡ j → Q x.owner → Q (name_at names j).owner
-moved Q names x k j e g q = subst (λ i. Q (name_at names i).owner) g (subst (λ (y : NodeName). Q y.owner) (sym e) q)
+moved : (Q : Owner → Type 0) (names : List NodeName) {x : NodeName} {k j : ℕ} → name_at names k ≡ x → k ≡ j → Q x.owner → Q (name_at names j).owner
+moved Q names e g q = subst (λ i. Q (name_at names i).owner) g (subst (λ (y : NodeName). Q y.owner) (sym e) q)
 
 pub returns-in_default-clause-taken : goal.returns-in_default-clause-taken
 returns-in_default-clause-taken c =
     let names = c.args.forest.now.names in
     let ch = change_of c.args.change in
     let path = path_keys c.args.forest.now (target_of ch) in
-    let k = c.target-target.result in
     let o = c.name-owner.result.owner in
     let all = c.args.self.now in
     let none = ap (λ (t : TablesOf ℕ). is_empty t.registrations) (had-none c.self.inside c.self.view_is o c.in_default.ensures.value) in
-    moved (λ p. false ≡ is_taken nat_eq path (tables_of all p) ch) names c.name-owner.result k (target_of ch) c.name-owner.ensures.at c.target-target.ensures
+    moved (λ p. false ≡ is_taken nat_eq path (tables_of all p) ch) names c.name-owner.ensures.at c.target-target.ensures
     (sym (not_taken path ch (tables_of all o) (interested-none path (tables_of all o).registrations ch none)))
 
 pub returns-in_default-clause-tables : goal.returns-in_default-clause-tables
@@ -38,12 +37,10 @@ returns-in_default-clause-tables c =
     let names = c.args.forest.now.names in
     let ch = change_of c.args.change in
     let path = path_keys c.args.forest.now (target_of ch) in
-    let k = c.target-target.result in
     let o = c.name-owner.result.owner in
     let all = c.args.self.now in
     let r : Inside = record { tables = c.get_mut.follows.lender-at-none; alloc = c.self.inside.alloc } in
-    moved (λ p. ChangesTables p (told nat_eq path ch (tables_of all p)) all (all_tables r)) names c.name-owner.result k (target_of ch)
-    c.name-owner.ensures.at c.target-target.ensures
+    moved (λ p. ChangesTables p (told nat_eq path ch (tables_of all p)) all (all_tables r)) names c.name-owner.ensures.at c.target-target.ensures
     (untouched-changes c.self.inside c.self.view_is o r (told nat_eq path ch) c.in_default.ensures.value c.get_mut.follows.holds-at-none
     (not_told path ch no_tables (interested-none path [] ch refl)))
 
@@ -52,19 +49,16 @@ returns-clause-taken c =
     let names = c.args.forest.now.names in
     let ch = change_of c.args.change in
     let path = path_keys c.args.forest.now (target_of ch) in
-    let k = c.target-target.result in
     let o = c.name-owner.result.owner in
     let all = c.args.self.now in
     let there = had c.self.inside c.self.view_is o c.in-Some.table.now c.in-Some.ensures.value in
-    moved (λ p. IfOk c.queue_record.result (λ taken. taken ≡ is_taken nat_eq path (tables_of all p) ch)) names c.name-owner.result k
-    (target_of ch) c.name-owner.ensures.at c.target-target.ensures
+    moved (λ p. IfOk c.queue_record.result (λ taken. taken ≡ is_taken nat_eq path (tables_of all p) ch)) names c.name-owner.ensures.at c.target-target.ensures
     (subst (λ (t : TablesOf ℕ). IfOk c.queue_record.result (λ taken. taken ≡ is_taken nat_eq path t ch)) (sym there) c.queue_record.ensures.taken)
 
 pub returns-clause-tables : goal.returns-clause-tables
 returns-clause-tables c =
     let names = c.args.forest.now.names in
     let ch = change_of c.args.change in
-    let k = c.target-target.result in
     let o = c.name-owner.result.owner in
     let all = c.args.self.now in
     let rule = told nat_eq (path_keys c.args.forest.now (target_of ch)) ch in
@@ -72,8 +66,7 @@ returns-clause-tables c =
     let r : Inside = record { tables = c.get_mut.follows.lender c.queue_record.new.self; alloc = c.self.inside.alloc } in
     let step : table_of c.queue_record.new.self ≡ rule (table_of t) →
     ChangesTables (name_at names (target_of ch)).owner (rule (tables_of all (name_at names (target_of ch)).owner)) all (all_tables r) =
-    λ e. moved (λ p. ChangesTables p (rule (tables_of all p)) all (all_tables r)) names c.name-owner.result k (target_of ch)
-    c.name-owner.ensures.at c.target-target.ensures
-    (rewritten c.self.inside c.self.view_is o r t c.queue_record.new.self rule c.in-Some.ensures.value
+    λ e. moved (λ p. ChangesTables p (rule (tables_of all p)) all (all_tables r)) names c.name-owner.ensures.at c.target-target.ensures
+    (rewritten c.self.inside c.self.view_is o r c.queue_record.new.self rule c.in-Some.ensures.value
     (λ some. ((c.get_mut.follows.holds c.queue_record.new.self).3 some).0) e) in
     on_ok_weaker c.queue_record.result step c.queue_record.ensures.tables

@@ -37,6 +37,6 @@ returns c =
     let step : table_of c.add_transients.new.self ≡ rule (table_of t) →
     ChangesTables (name_at names node).owner (rule (tables_of all (name_at names node).owner)) all (all_tables r) =
     λ e. subst (λ (x : NodeName). ChangesTables x.owner (rule (tables_of all x.owner)) all (all_tables r)) (sym c.name-owner.ensures.at)
-    (rewritten c.self.inside c.self.view_is o r t c.add_transients.new.self rule c.in-Some.ensures.value
+    (rewritten c.self.inside c.self.view_is o r c.add_transients.new.self rule c.in-Some.ensures.value
     (λ some. ((c.get_mut.follows.holds c.add_transients.new.self).3 some).0) e) in
     on_ok_weaker c.add_transients.result step c.add_transients.ensures

@@ -11,7 +11,7 @@ loop-at-preserved c =
     let f = c.args.forest.now in
     let sought = c.args.self.now.above.keys in
     let done = subst (HasPassed f c.args.key sought) c.in-Some.is c.loop-at.invariant in
-    passes-more f c.law_nodes_stand_once.ensures.once c.law_nodes_stand_once.ensures.only c.args.key c.in-Some.node sought c.parent-at.result done
+    passes-more f c.args.key sought c.law_nodes_stand_once.ensures.once c.law_nodes_stand_once.ensures.only done
     (sym c.if-has_above.ensures) c.parent-at.ensures.value c.parent-at.ensures.node
 
 pub loop-at-smaller : goal.loop-at-smaller
@@ -27,11 +27,11 @@ returns-then-has_above c =
     let f = c.args.forest.now in
     let sought = c.args.self.now.above.keys in
     let done = subst (HasPassed f c.args.key sought) c.in-Some.is c.loop-at.invariant in
-    sym (passes-to f c.law_nodes_stand_once.ensures.once c.law_nodes_stand_once.ensures.distinct c.args.key c.in-Some.node sought done
+    sym (passes-to f c.args.key sought c.law_nodes_stand_once.ensures.once c.law_nodes_stand_once.ensures.distinct c.in-Some.node done
     (sym c.if-has_above.ensures))
 
 pub returns : goal.returns
 returns c =
     let f = c.args.forest.now in
     let sought = c.args.self.now.above.keys in
-    sym (passes-all f c.law_nodes_stand_once.ensures.distinct c.args.key sought (subst (HasPassed f c.args.key sought) c.in_default.is c.loop-at.invariant))
+    sym (passes-all f c.args.key sought c.law_nodes_stand_once.ensures.distinct (subst (HasPassed f c.args.key sought) c.in_default.is c.loop-at.invariant))
