@@ -24,6 +24,15 @@ first-append : (xs ys : List ℕ) → 0 < length xs → first_of (xs ++ ys) ≡ 
 first-append [] ys l = absurd (omega (arith, l))
 first-append (x ∷ xs) ys l = refl
 
+-- two keys' nodes are different children of one node
+pub record AreSiblings (f : NamedTrees) (low other : ℕ) : Type 0 where
+  pub above : ℕ
+  pub low_is_node : low < length f.names
+  pub other_is_node : other < length f.names
+  pub apart : low ≢ other
+  pub low_parent : Some (name_at f.names above) ≡ parent_of f.trees (name_at f.names low)
+  pub other_parent : Some (name_at f.names above) ≡ parent_of f.trees (name_at f.names other)
+
 module _ (f : NamedTrees) (once : StandOnce f) (only : StandAlone f) where
   -- each node has a place
   pub depth-node : (k : ℕ) → k < length f.names → 0 < depth_at f k
@@ -33,14 +42,30 @@ module _ (f : NamedTrees) (once : StandOnce f) (only : StandAlone f) where
       let long : length (path_at f k) ≡ length (w.0 ∷ w.1) = ap (length {A = ℕ}) (known f.trees single (name_at f.names k) (w.0 ∷ w.1) w.2) in
       omega (arith, long)
 
-  -- a child's path
-  pub path-up : (k p : ℕ) → k < length f.names → Some (name_at f.names p) ≡ parent_of f.trees (name_at f.names k) →
-      path_at f k ≡ path_at f p ++ index_of f.trees (name_at f.names k) ∷ []
-  path-up k p node e = path-child f.trees (Once-forest f once only) (name_at f.names k) (name_at f.names p) (Has-forest f once k node) (sym e)
+  -- a node and its parent
+  module _ (k p : ℕ) where
+    -- a child's path
+    pub path-up : k < length f.names → Some (name_at f.names p) ≡ parent_of f.trees (name_at f.names k) →
+        path_at f k ≡ path_at f p ++ index_of f.trees (name_at f.names k) ∷ []
+    path-up node e = path-child f.trees (Once-forest f once only) (name_at f.names k) (name_at f.names p) (Has-forest f once k node) (sym e)
 
-  -- a child is one level deeper
-  pub depth-up : (k p : ℕ) → k < length f.names → Some (name_at f.names p) ≡ parent_of f.trees (name_at f.names k) → depth_at f k ≡ depth_at f p + 1
-  depth-up k p node e = ap (length {A = ℕ}) (path-up k p node e) ∙ length-append (path_at f p) (index_of f.trees (name_at f.names k) ∷ [])
+    -- a child is one level deeper
+    pub depth-up : k < length f.names → Some (name_at f.names p) ≡ parent_of f.trees (name_at f.names k) → depth_at f k ≡ depth_at f p + 1
+    depth-up node e = ap (length {A = ℕ}) (path-up node e) ∙ length-append (path_at f p) (index_of f.trees (name_at f.names k) ∷ [])
+
+    -- a parent of what is above a node is above it
+    pub above-up : (x : ℕ) → k < length f.names → x < length f.names → Some (name_at f.names p) ≡ parent_of f.trees (name_at f.names k)
+        → is_inclusive_ancestor f.trees (name_at f.names k) (name_at f.names x) ≡ true →
+        is_inclusive_ancestor f.trees (name_at f.names p) (name_at f.names x) ≡ true
+    above-up x node at_x e up =
+        let single = Once-forest f once only in
+        let is = above-parent f.trees (name_at f.names k) (name_at f.names p) single (Has-forest f once k node) (sym e) in
+        let i : In (name_at f.names p) (inclusive_ancestors f.trees (name_at f.names k)) =
+        subst (In (name_at f.names p)) (sym is.0)
+        (inr (subst (In (name_at f.names p)) (sym (above-present f.trees (name_at f.names p) is.1).1) (inl refl))) in
+        is_in-from (name_at f.names p) (inclusive_ancestors f.trees (name_at f.names x))
+        (above-along f.trees (name_at f.names p) (name_at f.names k) (name_at f.names x) single (Has-forest f once x at_x) i
+        (In-from (name_at f.names k) (inclusive_ancestors f.trees (name_at f.names x)) up))
 
   -- a root is at the top
   pub depth-root : (k : ℕ) → k < length f.names → None ≡ parent_of f.trees (name_at f.names k) → depth_at f k ≡ 1
@@ -48,57 +73,45 @@ module _ (f : NamedTrees) (once : StandOnce f) (only : StandAlone f) where
       let w = path-root f.trees (Once-forest f once only) (name_at f.names k) (Has-forest f once k node) (sym e) in
       ap (length {A = ℕ}) w.1
 
-  -- a parent of what is above a node is above it
-  pub above-up : (k p x : ℕ) → k < length f.names → x < length f.names → Some (name_at f.names p) ≡ parent_of f.trees (name_at f.names k)
-      → is_inclusive_ancestor f.trees (name_at f.names k) (name_at f.names x) ≡ true →
-      is_inclusive_ancestor f.trees (name_at f.names p) (name_at f.names x) ≡ true
-  above-up k p x node at_x e up =
-      let single = Once-forest f once only in
-      let is = above-parent f.trees (name_at f.names k) (name_at f.names p) single (Has-forest f once k node) (sym e) in
-      let i : In (name_at f.names p) (inclusive_ancestors f.trees (name_at f.names k)) =
-      subst (In (name_at f.names p)) (sym is.0)
-      (inr (subst (In (name_at f.names p)) (sym (above-present f.trees (name_at f.names p) is.1).1) (inl refl))) in
-      is_in-from (name_at f.names p) (inclusive_ancestors f.trees (name_at f.names x))
-      (above-along f.trees (name_at f.names p) (name_at f.names k) (name_at f.names x) single (Has-forest f once x at_x) i
-      (In-from (name_at f.names k) (inclusive_ancestors f.trees (name_at f.names x)) up))
+  -- what is reached by going up from a key's node
+  module _ (key top : ℕ) where
+    -- the path through what is reached
+    pub path-reached : (child : Option ℕ) → Reaches f key top child → (rest : List ℕ) × (path_at f key ≡ path_at f top ++ rest)
+    path-reached None e = ([], ap (path_at f) e ∙ sym (append-nil (path_at f top)))
+    path-reached (Some child) r =
+        let i = index_of f.trees (name_at f.names child) in (
+          i ∷ r.2.0,
+          r.2.1 ∙ (ap (λ path. path ++ r.2.0) (path-up child top r.0 (sym r.1)) ∙ append_assoc (path_at f top) (i ∷ []) r.2.0),
+        )
 
-  -- the path through what is reached
-  pub path-reached : (key top : ℕ) (child : Option ℕ) → Reaches f key top child → (rest : List ℕ) × (path_at f key ≡ path_at f top ++ rest)
-  path-reached key top None e = ([], ap (path_at f) e ∙ sym (append-nil (path_at f top)))
-  path-reached key top (Some child) r =
-      let i = index_of f.trees (name_at f.names child) in (
-        i ∷ r.2.0,
-        r.2.1 ∙ (ap (λ path. path ++ r.2.0) (path-up child top r.0 (sym r.1)) ∙ append_assoc (path_at f top) (i ∷ []) r.2.0),
-      )
+    -- the path through a child of what is reached
+    pub path-through : (child : ℕ) → Reaches f key top (Some child) → (rest : List ℕ) ×
+        (path_at f key ≡ path_at f top ++ index_of f.trees (name_at f.names child) ∷ rest)
+    path-through child r =
+        let i = index_of f.trees (name_at f.names child) in
+        (r.2.0, r.2.1 ∙ (ap (λ path. path ++ r.2.0) (path-up child top r.0 (sym r.1)) ∙ append_assoc (path_at f top) (i ∷ []) r.2.0))
 
-  -- the path through a child of what is reached
-  pub path-through : (key top child : ℕ) → Reaches f key top (Some child) → (rest : List ℕ) ×
-      (path_at f key ≡ path_at f top ++ index_of f.trees (name_at f.names child) ∷ rest)
-  path-through key top child r =
-      let i = index_of f.trees (name_at f.names child) in
-      (r.2.0, r.2.1 ∙ (ap (λ path. path ++ r.2.0) (path-up child top r.0 (sym r.1)) ∙ append_assoc (path_at f top) (i ∷ []) r.2.0))
+    -- what is above by a level is less deep
+    pub reached-deep : (child : ℕ) → Reaches f key top (Some child) → depth_at f top < depth_at f key
+    reached-deep child r =
+        let w = path-through child r in
+        let long = ap (length {A = ℕ}) w.1 ∙ length-append (path_at f top) (index_of f.trees (name_at f.names child) ∷ w.0) in
+        omega (arith, long)
 
-  -- what is above by a level is less deep
-  pub reached-deep : (key top child : ℕ) → Reaches f key top (Some child) → depth_at f top < depth_at f key
-  reached-deep key top child r =
-      let w = path-through key top child r in
-      let long = ap (length {A = ℕ}) w.1 ∙ length-append (path_at f top) (index_of f.trees (name_at f.names child) ∷ w.0) in
-      omega (arith, long)
+    -- what is reached and as deep is the node itself
+    pub reached-here : (child : Option ℕ) → Reaches f key top child → depth_at f key ≡ depth_at f top → key ≡ top
+    reached-here None e level = e
+    reached-here (Some child) r level = absurd (omega (arith, level, reached-deep child r))
 
-  -- what is reached and as deep is the node itself
-  pub reached-here : (key top : ℕ) (child : Option ℕ) → Reaches f key top child → depth_at f key ≡ depth_at f top → key ≡ top
-  reached-here key top None e level = e
-  reached-here key top (Some child) r level = absurd (omega (arith, level, reached-deep key top child r))
+    -- one level more
+    pub reached-up : (above : ℕ) (child : Option ℕ) → top < length f.names →
+        Some (name_at f.names above) ≡ parent_of f.trees (name_at f.names top) → Reaches f key top child → Reaches f key above (Some top)
+    reached-up above child node e r = (node, sym e, path-reached child r)
 
-  -- one level more
-  pub reached-up : (key top above : ℕ) (child : Option ℕ) → top < length f.names →
-      Some (name_at f.names above) ≡ parent_of f.trees (name_at f.names top) → Reaches f key top child → Reaches f key above (Some top)
-  reached-up key top above child node e r = (node, sym e, path-reached key top child r)
-
-  -- the first number of a path is that of all paths through it
-  pub first-through : (key top : ℕ) (rest : List ℕ) → top < length f.names → path_at f key ≡ path_at f top ++ rest →
-      first_of (path_at f key) ≡ first_of (path_at f top)
-  first-through key top rest node e = ap first_of e ∙ first-append (path_at f top) rest (depth-node top node)
+    -- the first number of a path is that of all paths through it
+    pub first-through : (rest : List ℕ) → top < length f.names → path_at f key ≡ path_at f top ++ rest →
+        first_of (path_at f key) ≡ first_of (path_at f top)
+    first-through rest node e = ap first_of e ∙ first-append (path_at f top) rest (depth-node top node)
 
   -- nodes of one tree have paths with one first number
   pub first-same : (j k : ℕ) → j < length f.names → k < length f.names → same_root f.trees (name_at f.names j) (name_at f.names k) ≡ true →
@@ -124,18 +137,20 @@ module _ (f : NamedTrees) (once : StandOnce f) (only : StandAlone f) where
         key-same j k node other (v.1 ∙ (ap (λ m. m ∷ []) n ∙ sym w.1))
 
     -- children of one node stand beside each other
-    pub beside-here : (first second low other above : ℕ) (xs ys : List ℕ) → low < length f.names → other < length f.names → low ≢ other
-        → Some (name_at f.names above) ≡ parent_of f.trees (name_at f.names low) → Some (name_at f.names above) ≡ parent_of f.trees (name_at f.names other)
-        → path_at f first ≡ path_at f low ++ xs → path_at f second ≡ path_at f other ++ ys → AreBeside f first second low other
-    beside-here first second low other above xs ys node other_node apart up over e g =
+    pub beside-here : {low other : ℕ} (first second : ℕ) → AreSiblings f low other → ((xs : List ℕ) × (path_at f first ≡ path_at f low ++ xs))
+        → ((ys : List ℕ) × (path_at f second ≡ path_at f other ++ ys)) → AreBeside f first second low other
+    beside-here {low} {other} first second siblings one two =
         let i = index_of f.trees (name_at f.names low) in
         let j = index_of f.trees (name_at f.names other) in
+        let above = siblings.above in
+        let low_path = path-up low above siblings.low_is_node siblings.low_parent in
+        let other_path = path-up other above siblings.other_is_node siblings.other_parent in
         record {
           path = path_at f above;
-          first_rest = xs;
-          second_rest = ys;
-          first_path = e ∙ (ap (λ path. path ++ xs) (path-up low above node up) ∙ append_assoc (path_at f above) (i ∷ []) xs);
-          second_path = g ∙ (ap (λ path. path ++ ys) (path-up other above other_node over) ∙ append_assoc (path_at f above) (j ∷ []) ys);
-          apart = λ same. apart (key-same low other node other_node
-              (path-up low above node up ∙ (ap (λ n. path_at f above ++ n ∷ []) same ∙ sym (path-up other above other_node over))));
+          first_rest = one.0;
+          second_rest = two.0;
+          first_path = one.1 ∙ (ap (λ path. path ++ one.0) low_path ∙ append_assoc (path_at f above) (i ∷ []) one.0);
+          second_path = two.1 ∙ (ap (λ path. path ++ two.0) other_path ∙ append_assoc (path_at f above) (j ∷ []) two.0);
+          apart = λ same. siblings.apart (key-same low other siblings.low_is_node siblings.other_is_node
+              (low_path ∙ (ap (λ n. path_at f above ++ n ∷ []) same ∙ sym other_path)));
         }

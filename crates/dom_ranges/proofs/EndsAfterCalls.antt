@@ -12,6 +12,7 @@ use Rattle.dom_model.specs.Ranges.{Range, at, from_to, boundary_eq, after_insert
 use Rattle.dom_tree.specs.Forest.{NamedTrees}
 use Rattle.dom_ranges.specs.Rules.{Fits}
 use Rattle.dom_ranges.specs.Settings.{start_set, end_set, have_one_root, is_key_before}
+use Rattle.dom_ranges.specs.Staying.{HasRanges}
 use Rattle.dom_ranges.specs.Tables.{RangeList, RangeLists, EachRange, BothEnds, ranges_of, range_in, with_ranges, collapsed_range}
 use Rattle.dom_ranges.proofs.Lists.{set-at, set-other, append-cases}
 
@@ -73,33 +74,32 @@ module _ (P : Boundary ℕ → Type 0) where
   stand-collapsed true r both = (both.0, both.0)
   stand-collapsed false r both = (both.1, both.1)
 
-  -- a table with another list for one owner
-  pub stand-with : (t : RangeLists) (owner : Owner) (rs : RangeList) → EachRange (BothEnds P) rs →
-      ((o : Owner) → EachRange (BothEnds P) (ranges_of t o)) → (o : Owner) → EachRange (BothEnds P) (with_ranges t owner rs o)
-  stand-with t owner rs each all o = by (owner_eq owner o)
-    where
-      by : (b : Bool) → EachRange (BothEnds P) (cond b rs (ranges_of t o))
-      by true = each
-      by false = all o
+  -- a table after one owner's list changed
+  module _ (t : RangeLists) (owner : Owner) (all : (o : Owner) → EachRange (BothEnds P) (ranges_of t o)) where
+    -- a table with another list for one owner
+    pub stand-with : (rs : RangeList) → EachRange (BothEnds P) rs → (o : Owner) → EachRange (BothEnds P) (with_ranges t owner rs o)
+    stand-with rs each o = by (owner_eq owner o)
+      where
+        by : (b : Bool) → EachRange (BothEnds P) (cond b rs (ranges_of t o))
+        by true = each
+        by false = all o
 
-  -- a table after a range was made
-  pub table-made : (t new : RangeLists) (owner : Owner) (node : ℕ) →
-      ((o : Owner) → ranges_of new o ≡ with_ranges t owner (ranges_of t owner ++ Some (from_to (at node 0) (at node 0)) ∷ []) o) → P (at node 0)
-      → ((o : Owner) → EachRange (BothEnds P) (ranges_of t o)) → (o : Owner) → EachRange (BothEnds P) (ranges_of new o)
-  table-made t new owner node e here all o =
-      subst (EachRange (BothEnds P)) (sym (e o))
-      (stand-with t owner (ranges_of t owner ++ Some (from_to (at node 0) (at node 0)) ∷ [])
-      (stand-made (ranges_of t owner) (from_to (at node 0) (at node 0)) (here, here) (all owner)) all o)
+    -- a table after a range was made
+    pub table-made : (new : RangeLists) (node : ℕ) → HasRanges owner (ranges_of t owner ++ Some (from_to (at node 0) (at node 0)) ∷ []) t new
+        → P (at node 0) → (o : Owner) → EachRange (BothEnds P) (ranges_of new o)
+    table-made new node e here o =
+        subst (EachRange (BothEnds P)) (sym (e o))
+        (stand-with (ranges_of t owner ++ Some (from_to (at node 0) (at node 0)) ∷ [])
+        (stand-made (ranges_of t owner) (from_to (at node 0) (at node 0)) (here, here) (all owner)) o)
 
-  -- a table after a range was rewritten
-  pub table-rewritten : (t new : RangeLists) (owner : Owner) (k : ℕ) (f : Range ℕ → Range ℕ) →
-      ((o : Owner) → ranges_of new o ≡ with_ranges t owner (slice_set (ranges_of t owner) k (option_map f (range_in (ranges_of t owner) k))) o)
-      → ((r : Range ℕ) → BothEnds P r → BothEnds P (f r)) → ((o : Owner) → EachRange (BothEnds P) (ranges_of t o)) → (o : Owner) →
-      EachRange (BothEnds P) (ranges_of new o)
-  table-rewritten t new owner k f e keeps all o =
-      subst (EachRange (BothEnds P)) (sym (e o))
-      (stand-with t owner (slice_set (ranges_of t owner) k (option_map f (range_in (ranges_of t owner) k)))
-      (stand-rewritten f keeps (ranges_of t owner) k (all owner)) all o)
+    -- a table after a range was rewritten
+    pub table-rewritten : (new : RangeLists) (k : ℕ) (f : Range ℕ → Range ℕ) →
+        HasRanges owner (slice_set (ranges_of t owner) k (option_map f (range_in (ranges_of t owner) k))) t new
+        → ((r : Range ℕ) → BothEnds P r → BothEnds P (f r)) → (o : Owner) → EachRange (BothEnds P) (ranges_of new o)
+    table-rewritten new k f e keeps o =
+        subst (EachRange (BothEnds P)) (sym (e o))
+        (stand-with (slice_set (ranges_of t owner) k (option_map f (range_in (ranges_of t owner) k)))
+        (stand-rewritten f keeps (ranges_of t owner) k (all owner)) o)
 
 -- what is weaker holds too
 pub EachRange-weaker : (P Q : Boundary ℕ → Type 0) → ((b : Boundary ℕ) → P b → Q b) → (rs : RangeList) → EachRange (BothEnds P) rs → EachRange (BothEnds Q) rs
@@ -112,27 +112,31 @@ fits-if : (c : Bool) (x y : Boundary ℕ) → Fits x → Fits y → Fits (cond c
 fits-if true x y p q = p
 fits-if false x y p q = q
 
--- where the count can be added
-pub fits-insert : (parent index count : ℕ) (b : Boundary ℕ) → b.offset + count < 2 ^ 64 → Fits (after_insert eqb parent index count b)
-fits-insert parent index count b p = fits-if (eqb b.node parent && nat_lt index b.offset) (at parent (b.offset + count)) b p (omega (arith, p))
+-- at a place among a parent's children
+module _ (parent index : ℕ) where
+  -- where the count can be added
+  pub fits-insert : (count : ℕ) (b : Boundary ℕ) → b.offset + count < 2 ^ 64 → Fits (after_insert eqb parent index count b)
+  fits-insert count b p = fits-if (eqb b.node parent && nat_lt index b.offset) (at parent (b.offset + count)) b p (omega (arith, p))
 
--- where the new length can be added
-pub fits-replace_data : (node offset count size : ℕ) (b : Boundary ℕ) → offset < 2 ^ 64 → b.offset + size < 2 ^ 64 →
-    Fits (after_replace_data eqb node offset count size b)
-fits-replace_data node offset count size b l p =
-    fits-if (not (eqb b.node node) || nat_le b.offset offset) b
-    (cond (nat_le b.offset (offset + count)) (at node offset) (at node (b.offset + size - count))) (omega (arith, p))
-    (fits-if (nat_le b.offset (offset + count)) (at node offset) (at node (b.offset + size - count)) l (omega (arith, p)))
+  -- where the first one's length can be added
+  pub fits-join : (first size next : ℕ) (b : Boundary ℕ) → b.offset + size < 2 ^ 64 → Fits (after_join eqb first size next parent index b)
+  fits-join first size next b p =
+      fits-if (eqb b.node next) (at first (b.offset + size)) (cond (boundary_eq eqb b (at parent index)) (at first size) b) p
+      (fits-if (boundary_eq eqb b (at parent index)) (at first size) b (omega (arith, p)) (omega (arith, p)))
 
--- where one can be added
-pub fits-split : (node offset new parent index : ℕ) (b : Boundary ℕ) → index + 2 < 2 ^ 64 → Fits b → Fits (after_split eqb node offset new parent index b)
-fits-split node offset new parent index b l p =
-    fits-if (eqb b.node node && nat_lt offset b.offset) (at new (b.offset - offset))
-    (cond (boundary_eq eqb b (at parent (index + 1))) (at parent (index + 2)) b) (omega (arith, p))
-    (fits-if (boundary_eq eqb b (at parent (index + 1))) (at parent (index + 2)) b l p)
+-- at an offset in a node
+module _ (node offset : ℕ) where
+  -- where the new length can be added
+  pub fits-replace_data : (count size : ℕ) (b : Boundary ℕ) → offset < 2 ^ 64 → b.offset + size < 2 ^ 64 →
+      Fits (after_replace_data eqb node offset count size b)
+  fits-replace_data count size b l p =
+      fits-if (not (eqb b.node node) || nat_le b.offset offset) b
+      (cond (nat_le b.offset (offset + count)) (at node offset) (at node (b.offset + size - count))) (omega (arith, p))
+      (fits-if (nat_le b.offset (offset + count)) (at node offset) (at node (b.offset + size - count)) l (omega (arith, p)))
 
--- where the first one's length can be added
-pub fits-join : (first size next parent index : ℕ) (b : Boundary ℕ) → b.offset + size < 2 ^ 64 → Fits (after_join eqb first size next parent index b)
-fits-join first size next parent index b p =
-    fits-if (eqb b.node next) (at first (b.offset + size)) (cond (boundary_eq eqb b (at parent index)) (at first size) b) p
-    (fits-if (boundary_eq eqb b (at parent index)) (at first size) b (omega (arith, p)) (omega (arith, p)))
+  -- where one can be added
+  pub fits-split : (new parent index : ℕ) (b : Boundary ℕ) → index + 2 < 2 ^ 64 → Fits b → Fits (after_split eqb node offset new parent index b)
+  fits-split new parent index b l p =
+      fits-if (eqb b.node node && nat_lt offset b.offset) (at new (b.offset - offset))
+      (cond (boundary_eq eqb b (at parent (index + 1))) (at parent (index + 2)) b) (omega (arith, p))
+      (fits-if (boundary_eq eqb b (at parent (index + 1))) (at parent (index + 2)) b l p)

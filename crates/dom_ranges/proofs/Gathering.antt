@@ -15,99 +15,109 @@ use Rattle.dom_model.specs.Place.{Boundary}
 use Rattle.dom_ranges.specs.Listed.{AreAt, AtMostBut, IsFirm, IsOrdered, IsSortedBeside, IsTurned, HasChanged, is_in, point_of}
 use Rattle.dom_ranges.proofs.Orders.{points_same}
 
-module _ (es now : List RangeEnd) (low high node kept i : ℕ) (order : low ≤ kept) (behind : kept ≤ i) (inside : i < high)
-    (within : high ≤ length es) (same : length now ≡ length es)
-    (swapped : SwappedAt es now kept i) (other : (d : RangeEnd) → (get_or es i d).node ≢ node) (sorted : IsSortedBeside es low high node)
-    (gathered : AreAt es kept i node) where
-  -- one end more stands before those at the node
-  pub AreAt-more : AreAt now (kept + 1) (i + 1) node
-  AreAt-more k d from to = elim (cases_eq k i) [
-    | inl e ↦ ap (λ (t : ℕ). (get_or now t d).node) e ∙ (ap (λ (x : RangeEnd). x.node) (swapped.1 d) ∙ gathered kept d (omega arith) (omega (arith, e)))
-    | inr off ↦ ap (λ (x : RangeEnd). x.node) (swapped.2 k d (λ e. omega (arith, e)) off) ∙ gathered k d (omega arith) (omega (arith, off))
+-- an end that is not at the node was put before those that are
+module _ (es now : List RangeEnd) (low node kept i : ℕ) (behind : kept ≤ i) (swapped : SwappedAt es now kept i)
+    (other : (d : RangeEnd) → (get_or es i d).node ≢ node) where
+  -- one end more is not at the node
+  pub others-more : ((k : ℕ) (d : RangeEnd) → low ≤ k → k < kept → (get_or es k d).node ≢ node) → (k : ℕ) (d : RangeEnd) → low ≤ k → k < kept + 1 →
+      (get_or now k d).node ≢ node
+  others-more others k d from to e = elim (cases_eq k kept) [
+    | inl f ↦ other d (sym (ap (λ (x : RangeEnd). x.node) (ap (λ (t : ℕ). get_or now t d) f ∙ swapped.0 d)) ∙ e)
+    | inr off ↦ others k d from (omega (arith, off)) (sym (ap (λ (x : RangeEnd). x.node) (swapped.2 k d off (λ g. omega (arith, g, off)))) ∙ e)
   ]
 
-  -- what stands at a place now stood at another, where it was no end at the node if it is none
-  stood : (k : ℕ) (d : RangeEnd) → IsFirm low high node k (get_or now k d) → ((k ≡ kept) × (get_or now k d ≡ get_or es i d)) ⊎
-      (((k < kept) ⊎ (i < k)) × (get_or now k d ≡ get_or es k d))
-  stood k d firm = elim (cases_eq k kept) [
-    | inl e ↦ inl (e, ap (λ (t : ℕ). get_or now t d) e ∙ swapped.0 d)
-    | inr off ↦ elim (cases_eq k i) [
-      | inl e ↦ absurd (loose kept (ap (λ (t : ℕ). get_or now t d) e ∙ swapped.1 d) (omega arith) (omega (arith, e, off)) (omega (arith, e)) (omega (arith, e)))
-      | inr away ↦ here off away
+  module _ (high : ℕ) (order : low ≤ kept) (inside : i < high) (within : high ≤ length es) (same : length now ≡ length es)
+      (sorted : IsSortedBeside es low high node) (gathered : AreAt es kept i node) where
+    -- one end more stands before those at the node
+    pub AreAt-more : AreAt now (kept + 1) (i + 1) node
+    AreAt-more k d from to = elim (cases_eq k i) [
+      | inl e ↦ ap (λ (t : ℕ). (get_or now t d).node) e ∙ (ap (λ (x : RangeEnd). x.node) (swapped.1 d) ∙ gathered kept d (omega arith) (omega (arith, e)))
+      | inr off ↦ ap (λ (x : RangeEnd). x.node) (swapped.2 k d (λ e. omega (arith, e)) off) ∙ gathered k d (omega arith) (omega (arith, off))
     ]
-  ]
-    where
-      loose : (j : ℕ) → get_or now k d ≡ get_or es j d → kept ≤ j → j < i → low ≤ k → k < high → ⊥
-      loose j e from to above below = elim firm [
-        | inl f ↦ omega (arith, f, above)
-        | inr f ↦ elim f [
-          | inl g ↦ omega (arith, g, below)
-          | inr g ↦ g (ap (λ (x : RangeEnd). x.node) e ∙ gathered j d from to)
-        ]
+
+    -- what stands at a place now stood at another, where it was no end at the node if it is none
+    stood : (k : ℕ) (d : RangeEnd) → IsFirm low high node k (get_or now k d) → ((k ≡ kept) × (get_or now k d ≡ get_or es i d)) ⊎
+        (((k < kept) ⊎ (i < k)) × (get_or now k d ≡ get_or es k d))
+    stood k d firm = elim (cases_eq k kept) [
+      | inl e ↦ inl (e, ap (λ (t : ℕ). get_or now t d) e ∙ swapped.0 d)
+      | inr off ↦ elim (cases_eq k i) [
+        | inl e ↦ absurd (loose kept (ap (λ (t : ℕ). get_or now t d) e ∙ swapped.1 d) (omega arith) (omega (arith, e, off)) (omega (arith, e)) (omega (arith, e)))
+        | inr away ↦ here off away
       ]
-
-      here : k ≢ kept → k ≢ i → ((k ≡ kept) × (get_or now k d ≡ get_or es i d)) ⊎ (((k < kept) ⊎ (i < k)) × (get_or now k d ≡ get_or es k d))
-      here off away = let stays = swapped.2 k d off away in elim (apart k kept off) [
-        | inl l ↦ inr (inl l, stays)
-        | inr l ↦ elim (apart k i away) [
-          | inl m ↦ absurd (loose k stays (omega (arith, l)) m (omega (arith, l)) (omega (arith, m)))
-          | inr m ↦ inr (inr m, stays)
+    ]
+      where
+        loose : (j : ℕ) → get_or now k d ≡ get_or es j d → kept ≤ j → j < i → low ≤ k → k < high → ⊥
+        loose j e from to above below = elim firm [
+          | inl f ↦ omega (arith, f, above)
+          | inr f ↦ elim f [
+            | inl g ↦ omega (arith, g, below)
+            | inr g ↦ g (ap (λ (x : RangeEnd). x.node) e ∙ gathered j d from to)
+          ]
         ]
+
+        here : k ≢ kept → k ≢ i → ((k ≡ kept) × (get_or now k d ≡ get_or es i d)) ⊎ (((k < kept) ⊎ (i < k)) × (get_or now k d ≡ get_or es k d))
+        here off away = let stays = swapped.2 k d off away in elim (apart k kept off) [
+          | inl l ↦ inr (inl l, stays)
+          | inr l ↦ elim (apart k i away) [
+            | inl m ↦ absurd (loose k stays (omega (arith, l)) m (omega (arith, l)) (omega (arith, m)))
+            | inr m ↦ inr (inr m, stays)
+          ]
+        ]
+          where
+            apart : (a b : ℕ) → a ≢ b → (a < b) ⊎ (b < a)
+            apart a b ne = elim (cases_order a b) [ inl e ↦ absurd (ne e) | inr l ↦ l ]
+
+    -- the others are sorted still
+    pub IsSortedBeside-more : IsSortedBeside now low high node
+    IsSortedBeside-more a b d le in_list firm_a firm_b = elim (stood a d firm_a) [
+      | inl p ↦ elim (stood b d firm_b) [
+        | inl q ↦ by p.1 q.1 (omega arith, λ _ _. omega arith)
+        | inr q ↦ by p.1 q.1 (sorted i b d (order_of p.0 q.0) (omega (arith, same)) (inr (inr (other d))) (firm_at b q.1 firm_b))
       ]
-        where
-          apart : (a b : ℕ) → a ≢ b → (a < b) ⊎ (b < a)
-          apart a b ne = elim (cases_order a b) [ inl e ↦ absurd (ne e) | inr l ↦ l ]
-
-  -- the others are sorted still
-  pub IsSortedBeside-more : IsSortedBeside now low high node
-  IsSortedBeside-more a b d le in_list firm_a firm_b = elim (stood a d firm_a) [
-    | inl p ↦ elim (stood b d firm_b) [
-      | inl q ↦ by p.1 q.1 (omega arith, λ _ _. omega arith)
-      | inr q ↦ by p.1 q.1 (sorted i b d (order_of p.0 q.0) (omega (arith, same)) (inr (inr (other d))) (firm_at b q.1 firm_b))
+      | inr p ↦ elim (stood b d firm_b) [
+        | inl q ↦ by p.1 q.1 (sorted a i d (omega (arith, le, q.0)) (omega arith) (firm_at a p.1 firm_a) (inr (inr (other d))))
+        | inr q ↦ by p.1 q.1 (sorted a b d le (omega (arith, same)) (firm_at a p.1 firm_a) (firm_at b q.1 firm_b))
+      ]
     ]
-    | inr p ↦ elim (stood b d firm_b) [
-      | inl q ↦ by p.1 q.1 (sorted a i d (omega (arith, le, q.0)) (omega arith) (firm_at a p.1 firm_a) (inr (inr (other d))))
-      | inr q ↦ by p.1 q.1 (sorted a b d le (omega (arith, same)) (firm_at a p.1 firm_a) (firm_at b q.1 firm_b))
-    ]
-  ]
-    where
-      by : {x y : RangeEnd} → get_or now a d ≡ x → get_or now b d ≡ y → AtMostBut node (point_of x) (point_of y) →
-          AtMostBut node (point_of (get_or now a d)) (point_of (get_or now b d))
-      by e f h = points_same (AtMostBut node) e f h
+      where
+        by : {x y : RangeEnd} → get_or now a d ≡ x → get_or now b d ≡ y → AtMostBut node (point_of x) (point_of y) →
+            AtMostBut node (point_of (get_or now a d)) (point_of (get_or now b d))
+        by e f h = points_same (AtMostBut node) e f h
 
-      order_of : a ≡ kept → (b < kept) ⊎ (i < b) → i ≤ b
-      order_of e f = elim f [ inl l ↦ absurd (omega (arith, e, l, le)) | inr l ↦ omega (arith, l) ]
+        order_of : a ≡ kept → (b < kept) ⊎ (i < b) → i ≤ b
+        order_of e f = elim f [ inl l ↦ absurd (omega (arith, e, l, le)) | inr l ↦ omega (arith, l) ]
 
-      firm_at : (k : ℕ) → get_or now k d ≡ get_or es k d → IsFirm low high node k (get_or now k d) → IsFirm low high node k (get_or es k d)
-      firm_at k e f = subst (IsFirm low high node k) e f
+        firm_at : (k : ℕ) → get_or now k d ≡ get_or es k d → IsFirm low high node k (get_or now k d) → IsFirm low high node k (get_or es k d)
+        firm_at k e f = subst (IsFirm low high node k) e f
 
--- a part of a list that was written
-module _ (es ys : List RangeEnd) (first behind : ℕ) (order : first ≤ behind) (within : behind ≤ length es)
-    (same : length ys ≡ length (mid_of first (behind - first) es)) where
-  pub length-mid : length (mid_of first (behind - first) es) ≡ behind - first
-  length-mid = length-take-le (behind - first) (drop first es) (omega (arith, length-drop first es))
+-- a part of a list
+module _ (es : List RangeEnd) (first behind : ℕ) where
+  -- what the part held
+  pub mid-was : (j i : ℕ) (d : RangeEnd) → first + j ≡ i → j < behind - first → get_or (mid_of first (behind - first) es) j d ≡ get_or es i d
+  mid-was j i d e l = get_or-take (behind - first) (drop first es) j d l ∙ (get_or-drop first es j d ∙ ap (λ (t : ℕ). get_or es t d) e)
 
-  front : length (take first es) ≡ first
-  front = length-take-le first es (omega arith)
+  module _ (order : first ≤ behind) (within : behind ≤ length es) where
+    pub length-mid : length (mid_of first (behind - first) es) ≡ behind - first
+    length-mid = length-take-le (behind - first) (drop first es) (omega (arith, length-drop first es))
 
-  pub mid-outside : (k : ℕ) (d : RangeEnd) → (k < first) ⊎ (behind ≤ k) → get_or (put_mid first (behind - first) es ys) k d ≡ get_or es k d
-  mid-outside k d (inl l) =
-      get_or_append_left (take first es) (ys ++ drop (behind - first) (drop first es)) d k (omega (arith, front, l)) ∙ get_or-take first es k d l
-  mid-outside k d (inr l) =
-      get_or-append_right (take first es) (ys ++ drop (behind - first) (drop first es)) first k d front (omega (arith, l))
-      ∙ (get_or-append_right ys (drop (behind - first) (drop first es)) (behind - first) (k - first) d (same ∙ length-mid) (omega (arith, l))
-      ∙ (get_or-drop (behind - first) (drop first es) (k - first - (behind - first)) d
-      ∙ (get_or-drop first es (behind - first + (k - first - (behind - first))) d ∙ ap (λ (t : ℕ). get_or es t d) (omega (arith, l)))))
+    front : length (take first es) ≡ first
+    front = length-take-le first es (omega arith)
 
-  pub mid-part : (k : ℕ) (d : RangeEnd) → first ≤ k → k < behind → get_or (put_mid first (behind - first) es ys) k d ≡ get_or ys (k - first) d
-  mid-part k d l m =
-      get_or-append_right (take first es) (ys ++ drop (behind - first) (drop first es)) first k d front l
-      ∙ get_or_append_left ys (drop (behind - first) (drop first es)) d (k - first) (omega (arith, same, length-mid, l, m))
+    -- the part was written
+    module _ (ys : List RangeEnd) (same : length ys ≡ length (mid_of first (behind - first) es)) where
+      pub mid-outside : (k : ℕ) (d : RangeEnd) → (k < first) ⊎ (behind ≤ k) → get_or (put_mid first (behind - first) es ys) k d ≡ get_or es k d
+      mid-outside k d (inl l) =
+          get_or_append_left (take first es) (ys ++ drop (behind - first) (drop first es)) d k (omega (arith, front, l)) ∙ get_or-take first es k d l
+      mid-outside k d (inr l) =
+          get_or-append_right (take first es) (ys ++ drop (behind - first) (drop first es)) first k d front (omega (arith, l))
+          ∙ (get_or-append_right ys (drop (behind - first) (drop first es)) (behind - first) (k - first) d (same ∙ length-mid) (omega (arith, l))
+          ∙ (get_or-drop (behind - first) (drop first es) (k - first - (behind - first)) d
+          ∙ (get_or-drop first es (behind - first + (k - first - (behind - first))) d ∙ ap (λ (t : ℕ). get_or es t d) (omega (arith, l)))))
 
--- what the part held
-pub mid-was : (es : List RangeEnd) (first behind j i : ℕ) (d : RangeEnd) → first + j ≡ i → j < behind - first →
-    get_or (mid_of first (behind - first) es) j d ≡ get_or es i d
-mid-was es first behind j i d e l = get_or-take (behind - first) (drop first es) j d l ∙ (get_or-drop first es j d ∙ ap (λ (t : ℕ). get_or es t d) e)
+      pub mid-part : (k : ℕ) (d : RangeEnd) → first ≤ k → k < behind → get_or (put_mid first (behind - first) es ys) k d ≡ get_or ys (k - first) d
+      mid-part k d l m =
+          get_or-append_right (take first es) (ys ++ drop (behind - first) (drop first es)) first k d front l
+          ∙ get_or_append_left ys (drop (behind - first) (drop first es)) d (k - first) (omega (arith, same, length-mid, l, m))
 
 -- a part of a list that was rotated
 pub IsTurned-rotated : {es : List RangeEnd} (ys : List RangeEnd) {first middle behind : ℕ} → first ≤ middle → middle ≤ behind → behind ≤ length es →
@@ -115,18 +125,18 @@ pub IsTurned-rotated : {es : List RangeEnd} (ys : List RangeEnd) {first middle b
     → length ys ≡ length (mid_of first (behind - first) es) → IsTurned es (put_mid first (behind - first) es ys) first middle behind
 IsTurned-rotated {es} ys {first} {middle} {behind} one two within rotated same =
     record {
-      outside = mid-outside es ys first behind (omega arith) within same;
-      second = λ k d l m. mid-part es ys first behind (omega arith) within same k d l (omega (arith, m, one)) ∙
+      outside = mid-outside es first behind (omega arith) within ys same;
+      second = λ k d l m. mid-part es first behind (omega arith) within ys same k d l (omega (arith, m, one)) ∙
           (rotated.0 (k - first) d (omega (arith, size, m, l)) ∙
           mid-was es first behind (k - first + (middle - first)) (k + middle - first) d (omega (arith, l)) (omega (arith, m, l)));
-      first_part = λ k d l m. mid-part es ys first behind (omega arith) within same k d (omega (arith, m, two)) l ∙
+      first_part = λ k d l m. mid-part es first behind (omega arith) within ys same k d (omega (arith, m, two)) l ∙
           (rotated.1 (k - first) d (omega (arith, size, m, two)) (omega (arith, size, l, m, two)) ∙
           mid-was es first behind (k - first + (middle - first) - length (mid_of first (behind - first) es)) (k + middle - behind) d
           (omega (arith, size, l, m)) (omega (arith, size, l, m)));
     }
   where
     size : length (mid_of first (behind - first) es) ≡ behind - first
-    size = length-mid es ys first behind (omega arith) within same
+    size = length-mid es first behind (omega arith) within
 
 -- what stands between two places of a list, as it is turned
 module _ (es now : List RangeEnd) (first middle behind : ℕ) (one : first ≤ middle) (two : middle ≤ behind) (within : behind ≤ length es)
@@ -214,15 +224,6 @@ pub AreAt-grown : (es : List RangeEnd) (kept i node : ℕ) → ((d : RangeEnd) �
 AreAt-grown es kept i node here gathered k d from to = elim (cases_eq k i) [
   | inl e ↦ ap (λ (t : ℕ). (get_or es t d).node) e ∙ here d
   | inr off ↦ gathered k d from (omega (arith, off))
-]
-
--- one end more is not at the node
-pub others-more : (es now : List RangeEnd) (low node kept i : ℕ) → SwappedAt es now kept i → kept ≤ i → ((d : RangeEnd) → (get_or es i d).node ≢ node)
-    → ((k : ℕ) (d : RangeEnd) → low ≤ k → k < kept → (get_or es k d).node ≢ node) → (k : ℕ) (d : RangeEnd) → low ≤ k → k < kept + 1 →
-    (get_or now k d).node ≢ node
-others-more es now low node kept i swapped le other others k d from to e = elim (cases_eq k kept) [
-  | inl f ↦ other d (sym (ap (λ (x : RangeEnd). x.node) (ap (λ (t : ℕ). get_or now t d) f ∙ swapped.0 d)) ∙ e)
-  | inr off ↦ others k d from (omega (arith, off)) (sym (ap (λ (x : RangeEnd). x.node) (swapped.2 k d off (λ g. omega (arith, g, off)))) ∙ e)
 ]
 
 -- an end that was set and then taken out

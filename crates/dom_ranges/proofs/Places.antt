@@ -24,20 +24,19 @@ place-absent (tree n c r) k x off =
 abbrev pub StandsFrom : ℕ → Trees → NodeName → Type 0
 StandsFrom k ts x = (m : ℕ) × (path : List ℕ) × (place_from k ts x ≡ Some (m ∷ path)) × (k ≤ m)
 
--- the place of the first root
-place-here : (n : Node) (c r : Trees) (k : ℕ) (x : NodeName) → n.name ≡ x → place_from k (tree n c r) x ≡ Some (k ∷ [])
-place-here n c r k x e = rw (name_eq-from n.name x e) refl
+-- a first root, what is below it and what is behind it
+module _ (n : Node) (c r : Trees) (k : ℕ) (x : NodeName) where
+  -- the place of the first root
+  place-here : n.name ≡ x → place_from k (tree n c r) x ≡ Some (k ∷ [])
+  place-here e = rw (name_eq-from n.name x e) refl
 
--- that of a node behind its tree
-place-beside : (n : Node) (c r : Trees) (k : ℕ) (x : NodeName) → Once (tree n c r) → Has r x → place_from k (tree n c r) x ≡ place_from (k + 1) r x
-place-beside n c r k x once h =
-    rw (name_eq-other n.name x (λ e. once.1 (subst (Has r) (sym e) h)), place-absent c 0 x (λ i. once.2 x i h)) refl
+  -- that of a node behind its tree
+  place-beside : Once (tree n c r) → Has r x → place_from k (tree n c r) x ≡ place_from (k + 1) r x
+  place-beside once h = rw (name_eq-other n.name x (λ e. once.1 (subst (Has r) (sym e) h)), place-absent c 0 x (λ i. once.2 x i h)) refl
 
--- a node below it, whose place is known
-place-below : (n : Node) (c r : Trees) (k : ℕ) (x : NodeName) (path : List ℕ) → Once (tree n c r) → Has c x → place_from 0 c x ≡ Some path →
-    place_from k (tree n c r) x ≡ Some (k ∷ path)
-place-below n c r k x path once h e =
-    rw (name_eq-other n.name x (λ f. once.0 (subst (Has c) (sym f) h)), e) refl
+  -- a node below it, whose place is known
+  place-below : (path : List ℕ) → Once (tree n c r) → Has c x → place_from 0 c x ≡ Some path → place_from k (tree n c r) x ≡ Some (k ∷ path)
+  place-below path once h e = rw (name_eq-other n.name x (λ f. once.0 (subst (Has c) (sym f) h)), e) refl
 
 -- each node has a place
 pub place-present : (ts : Trees) (k : ℕ) (x : NodeName) → Once ts → Has ts x → StandsFrom k ts x

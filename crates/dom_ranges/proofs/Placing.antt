@@ -187,12 +187,12 @@ module _ (es ys : List RangeEnd) (node : ℕ) (part : Span) (order : part.first 
   size = length_permutation _ _ moved
 
   whole : length (mid_of part.first (part.behind - part.first) es) ≡ part.behind - part.first
-  whole = length-mid es ys part.first part.behind order within size
+  whole = length-mid es part.first part.behind order within
 
   -- what is in the part is at the node
   at-node : (k : ℕ) (d : RangeEnd) → part.first ≤ k → k < part.behind → (get_or now k d).node ≡ node
   at-node k d l m =
-      ap (λ (e : RangeEnd). e.node) (mid-part es ys part.first part.behind order within size k d l m) ∙
+      ap (λ (e : RangeEnd). e.node) (mid-part es part.first part.behind order within ys size k d l m) ∙
       All-permutation (λ (e : RangeEnd). e.node ≡ node) _ _ moved
       (λ j f n. ap (λ (e : RangeEnd). e.node) (mid-was es part.first part.behind j (part.first + j) f refl (omega (arith, n, whole))) ∙
       only (part.first + j) f (omega arith) (omega (arith, n, whole, order))) (k - part.first) d (omega (arith, size, whole, l, m))
@@ -224,8 +224,8 @@ module _ (es ys : List RangeEnd) (node : ℕ) (part : Span) (order : part.first 
         omega (arith, at-node i d p.0 p.1, at-node j d q.0 q.1),
         λ _. omega (
           arith,
-          ap (λ (e : RangeEnd). e.offset) (mid-part es ys part.first part.behind order within size i d p.0 p.1),
-          ap (λ (e : RangeEnd). e.offset) (mid-part es ys part.first part.behind order within size j d q.0 q.1),
+          ap (λ (e : RangeEnd). e.offset) (mid-part es part.first part.behind order within ys size i d p.0 p.1),
+          ap (λ (e : RangeEnd). e.offset) (mid-part es part.first part.behind order within ys size j d q.0 q.1),
           up (i - part.first) (j - part.first) d (omega (arith, le, p.0)) (omega (arith, q.0, q.1, size, whole)),
         ),
       )
@@ -239,7 +239,7 @@ module _ (es ys : List RangeEnd) (node : ℕ) (part : Span) (order : part.first 
       ]
 
       stays : (k : ℕ) → (k < part.first) ⊎ (part.behind ≤ k) → get_or now k d ≡ get_or es k d
-      stays k p = mid-outside es ys part.first part.behind order within size k d p
+      stays k p = mid-outside es part.first part.behind order within ys size k d p
 
       in_list : j < length es
       in_list = omega (arith, l, length_permutation es now (IsPermutation-put_mid part.first _ es ys moved))

@@ -26,15 +26,15 @@ loop-i-preserved c =
             behind = omega (arith, w.kept-is, c.loop-i.invariant.behind);
             same_length = same ∙ c.loop-i.invariant.same_length;
             permutation = IsPermutation-trans _ _ _ c.loop-i.invariant.permutation (subst (IsPermutation es) (sym w.ends-is) w.swap.ensures.permutation);
-            sorted = IsSortedBeside-more es c.if-ne.ends c.args.low c.args.high c.args.node c.loop-i.kept c.loop-i.i c.loop-i.invariant.above
-                c.loop-i.invariant.behind c.loop-i-test.true (omega (arith, c.loop-i.invariant.same_length, c.requires.within)) same swapped other
+            sorted = IsSortedBeside-more es c.if-ne.ends c.args.low c.args.node c.loop-i.kept c.loop-i.i c.loop-i.invariant.behind swapped other
+                c.args.high c.loop-i.invariant.above c.loop-i-test.true (omega (arith, c.loop-i.invariant.same_length, c.requires.within)) same
                 c.loop-i.invariant.sorted c.loop-i.invariant.gathered;
             others = subst (λ t. (k : ℕ) (d : RangeEnd) → c.args.low ≤ k → k < t → (get_or c.if-ne.ends k d).node ≢ c.args.node) (sym w.kept-is)
-                (others-more es c.if-ne.ends c.args.low c.args.node c.loop-i.kept c.loop-i.i swapped c.loop-i.invariant.behind other
+                (others-more es c.if-ne.ends c.args.low c.args.node c.loop-i.kept c.loop-i.i c.loop-i.invariant.behind swapped other
                 c.loop-i.invariant.others);
             gathered = subst (λ t. AreAt c.if-ne.ends t (c.loop-i.i + 1) c.args.node) (sym w.kept-is)
-                (AreAt-more es c.if-ne.ends c.args.low c.args.high c.args.node c.loop-i.kept c.loop-i.i c.loop-i.invariant.above
-                c.loop-i.invariant.behind c.loop-i-test.true (omega (arith, c.loop-i.invariant.same_length, c.requires.within)) same swapped other
+                (AreAt-more es c.if-ne.ends c.args.low c.args.node c.loop-i.kept c.loop-i.i c.loop-i.invariant.behind swapped other
+                c.args.high c.loop-i.invariant.above c.loop-i-test.true (omega (arith, c.loop-i.invariant.same_length, c.requires.within)) same
                 c.loop-i.invariant.sorted c.loop-i.invariant.gathered);
           }
       | else-ne w ↦

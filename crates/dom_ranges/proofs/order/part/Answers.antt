@@ -4,7 +4,7 @@ use Rattle.std.proofs.lemmas.List.{append_assoc}
 use Rattle.dom_model.specs.Tree.{index_of}
 use Rattle.dom_tree.specs.Forest.{name_at}
 use Rattle.dom_ranges.specs.Climbs.{path_at}
-use Rattle.dom_ranges.proofs.Climbing.{depth-up, depth-root, path-up, first-through, roots-same, beside-here}
+use Rattle.dom_ranges.proofs.Climbing.{AreSiblings, depth-up, depth-root, path-up, first-through, roots-same, beside-here}
 use Rattle.dom_ranges.proofs.order.part.Goals as goal
 
 pub returns-in_default-clause-beside : goal.returns-in_default-clause-beside
@@ -27,11 +27,17 @@ pub returns-then-eq-clause-beside : goal.returns-then-eq-clause-beside
 returns-then-eq-clause-beside c =
     let f = c.args.forest.now in
     let same : c.in-Some.above ≡ c.in-Some-parent.beside = eqb-true c.in-Some.above c.in-Some-parent.beside (sym c.if-eq.ensures) in
+    let siblings : AreSiblings f c.up.low c.up.other =
+    (record {
+      above = c.in-Some.above;
+      low_is_node = c.up.invariant.low_is_node;
+      other_is_node = c.up.invariant.other_is_node;
+      apart = c.up.invariant.apart;
+      low_parent = c.in-Some.ensures.value;
+      other_parent = ap (λ k. Some (name_at f.names k)) same ∙ c.in-Some-parent.ensures.value;
+    }) in
     beside-here f c.law_nodes_stand_once.ensures.once c.law_nodes_stand_once.ensures.only c.law_nodes_stand_once.ensures.distinct c.args.first c.args.second
-    c.up.low c.up.other c.in-Some.above
-    c.up.invariant.first_path.0 c.up.invariant.second_path.0 c.up.invariant.low_is_node c.up.invariant.other_is_node c.up.invariant.apart
-    c.in-Some.ensures.value
-    (ap (λ k. Some (name_at f.names k)) same ∙ c.in-Some-parent.ensures.value) c.up.invariant.first_path.1 c.up.invariant.second_path.1
+    siblings c.up.invariant.first_path c.up.invariant.second_path
 
 pub up-smaller : goal.up-smaller
 up-smaller c =

@@ -21,6 +21,6 @@ returns-in-Some c =
     ] in
     let found : get OwnerImpl.ghosts.eq n.components c.args.owner ≡ Some c.in-Some.slots.now = sym c.in-Some.ensures.value in
     let some : IsSome (get OwnerImpl.ghosts.eq n.components c.args.owner) = subst IsSome c.in-Some.ensures.value refl in
-    slots-written n r c.args.owner (λ slots. slice_set slots c.args.number None) other refl
+    slots-written n r refl c.args.owner (λ slots. slice_set slots c.args.number None) other
     (written-by (λ v. v.items) (get OwnerImpl.ghosts.eq n.components) (get OwnerImpl.ghosts.eq r.components) c.args.owner new
     (λ p. ((c.get_mut.follows.holds new).3 some).0 p) c.in-Some.slots.now (λ slots. slice_set slots c.args.number None) found refl)

@@ -21,6 +21,6 @@ returns-in-Some c =
     let some : IsSome (get OwnerImpl.ghosts.eq n.components c.args.owner) = subst IsSome c.in-Some.ensures.value refl in
     let items = of_ok c.push-in-Some.result (c.in-Some.slots.now.items ++ Some c.args.slot ∷ []) c.in-Some.slots.now.items c.push-in-Some.new.self.items
     (c.push-in-Some.ensures.succeeds (room_of n c.args.owner c.in-Some.slots.now other found c.requires)) c.push-in-Some.ensures.items in
-    slots-written n r c.args.owner (λ slots. slots ++ Some c.args.slot ∷ []) other refl
+    slots-written n r refl c.args.owner (λ slots. slots ++ Some c.args.slot ∷ []) other
     (written-by (λ v. v.items) (get OwnerImpl.ghosts.eq n.components) (get OwnerImpl.ghosts.eq r.components) c.args.owner c.push-in-Some.new.self
     (λ p. ((c.get_mut.follows.holds c.push-in-Some.new.self).3 some).0 p) c.in-Some.slots.now (λ slots. slots ++ Some c.args.slot ∷ []) found items)
