@@ -41,7 +41,8 @@ module _ (es now : List RangeEnd) (low node kept i : ℕ) (behind : kept ≤ i) 
     stood k d firm = elim (cases_eq k kept) [
       | inl e ↦ inl (e, ap (λ (t : ℕ). get_or now t d) e ∙ swapped.0 d)
       | inr off ↦ elim (cases_eq k i) [
-        | inl e ↦ absurd (loose kept (ap (λ (t : ℕ). get_or now t d) e ∙ swapped.1 d) (omega arith) (omega (arith, e, off)) (omega (arith, e)) (omega (arith, e)))
+        | inl e ↦ absurd
+            (loose kept (ap (λ (t : ℕ). get_or now t d) e ∙ swapped.1 d) (omega arith) (omega (arith, e, off)) (omega (arith, e)) (omega (arith, e)))
         | inr away ↦ here off away
       ]
     ]

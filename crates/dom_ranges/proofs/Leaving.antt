@@ -31,17 +31,6 @@ OfEach P live = (slot : ℕ) → ForSome (get live slot) (λ p. BothEnds P (rang
 
 -- ---- rules that do the same
 
--- another rule that does the same to each end
-pub moves-alike : (f g : Boundary ℕ → Boundary ℕ) (live after : Slab Points) → Moves f live after → OfEach (λ b. g b ≡ f b) live → Moves g live after
-moves-alike f g live after moved same slot = moved slot ∙ by (get live slot) refl
-  where
-    by : (t : Option Points) → get live slot ≡ t → option_map (λ p. map_ends f (range_from p)) t ≡ option_map (λ p. map_ends g (range_from p)) t
-    by None e = refl
-    by (Some p) e =
-        let h = same slot p e in
-        let r = range_from p in
-        ap Some (both_same (f r.start) (f r.end) (g r.start) (g r.end) (sym h.0) (sym h.1))
-
 -- a rule that moves none
 pub moves-none : (g : Boundary ℕ → Boundary ℕ) (live : Slab Points) → OfEach (λ b. g b ≡ b) live → Moves g live live
 moves-none g live same slot = by (get live slot) refl
@@ -53,21 +42,34 @@ moves-none g live same slot = by (get live slot) refl
         let r = range_from p in
         ap Some (both_same r.start r.end (g r.start) (g r.end) (sym h.0) (sym h.1))
 
--- a rule in two steps
-pub moves-twice : (f g h : Boundary ℕ → Boundary ℕ) (live mid after : Slab Points) → Moves f live mid → Moves g mid after →
-    ((b : Boundary ℕ) → h b ≡ g (f b)) → Moves h live after
-moves-twice f g h live mid after first second both slot =
-    second slot ∙ (through (get mid slot) ∙ (ap (option_map (map_ends g)) (first slot) ∙ whole (get live slot)))
-  where
-    through : (t : Option Points) → option_map (λ p. map_ends g (range_from p)) t ≡ option_map (map_ends g) (option_map range_from t)
-    through None = refl
-    through (Some p) = refl
+-- two rules
+module _ (f g : Boundary ℕ → Boundary ℕ) (live : Slab Points) where
+  -- another rule that does the same to each end
+  pub moves-alike : (after : Slab Points) → Moves f live after → OfEach (λ b. g b ≡ f b) live → Moves g live after
+  moves-alike after moved same slot = moved slot ∙ by (get live slot) refl
+    where
+      by : (t : Option Points) → get live slot ≡ t → option_map (λ p. map_ends f (range_from p)) t ≡ option_map (λ p. map_ends g (range_from p)) t
+      by None e = refl
+      by (Some p) e =
+          let h = same slot p e in
+          let r = range_from p in
+          ap Some (both_same (f r.start) (f r.end) (g r.start) (g r.end) (sym h.0) (sym h.1))
 
-    whole : (t : Option Points) → option_map (map_ends g) (option_map (λ p. map_ends f (range_from p)) t) ≡ option_map (λ p. map_ends h (range_from p)) t
-    whole None = refl
-    whole (Some p) =
-        let r = range_from p in
-        ap Some (both_same (g (f r.start)) (g (f r.end)) (h r.start) (h r.end) (sym (both r.start)) (sym (both r.end)))
+  -- a rule in two steps, these rules
+  pub moves-twice : (h : Boundary ℕ → Boundary ℕ) (mid after : Slab Points) → Moves f live mid → Moves g mid after →
+      ((b : Boundary ℕ) → h b ≡ g (f b)) → Moves h live after
+  moves-twice h mid after first second both slot =
+      second slot ∙ (through (get mid slot) ∙ (ap (option_map (map_ends g)) (first slot) ∙ whole (get live slot)))
+    where
+      through : (t : Option Points) → option_map (λ p. map_ends g (range_from p)) t ≡ option_map (map_ends g) (option_map range_from t)
+      through None = refl
+      through (Some p) = refl
+
+      whole : (t : Option Points) → option_map (map_ends g) (option_map (λ p. map_ends f (range_from p)) t) ≡ option_map (λ p. map_ends h (range_from p)) t
+      whole None = refl
+      whole (Some p) =
+          let r = range_from p in
+          ap Some (both_same (g (f r.start)) (g (f r.end)) (h r.start) (h r.end) (sym (both r.start)) (sym (both r.end)))
 
 -- ---- what holds of each end
 

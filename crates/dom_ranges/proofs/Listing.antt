@@ -113,24 +113,26 @@ module _ (live after : Slab Points) (es now xs ys : List RangeEnd) (listed : IsL
         ]);
       }
 
--- the test reads the slot and which end it is
-pub is_end_of-alike : (slot : ℕ) (is_end : Bool) (x y : RangeEnd) → x.slot ≡ y.slot → x.is_end ≡ y.is_end → is_end_of slot is_end x ≡ is_end_of slot is_end y
-is_end_of-alike slot true x y g h = ap (λ n. eqb n slot && x.is_end) g ∙ ap (λ t. eqb y.slot slot && t) h
-is_end_of-alike slot false x y g h = ap (λ n. eqb n slot && not x.is_end) g ∙ ap (λ t. eqb y.slot slot && not t) h
+-- one end of a slot's range
+module _ (slot : ℕ) where
+  -- the test reads the slot and which end it is
+  pub is_end_of-alike : (is_end : Bool) (x y : RangeEnd) → x.slot ≡ y.slot → x.is_end ≡ y.is_end → is_end_of slot is_end x ≡ is_end_of slot is_end y
+  is_end_of-alike true x y g h = ap (λ n. eqb n slot && x.is_end) g ∙ ap (λ t. eqb y.slot slot && t) h
+  is_end_of-alike false x y g h = ap (λ n. eqb n slot && not x.is_end) g ∙ ap (λ t. eqb y.slot slot && not t) h
 
--- lists of the same ends
-pub times-same : (slot : ℕ) (is_end : Bool) (xs ys : List RangeEnd) → length ys ≡ length xs →
-    ((k : ℕ) (d : RangeEnd) → (get_or ys k d).slot ≡ (get_or xs k d).slot) →
-    ((k : ℕ) (d : RangeEnd) → (get_or ys k d).is_end ≡ (get_or xs k d).is_end)
-    → times slot is_end ys ≡ times slot is_end xs
-times-same slot is_end [] [] l e f = refl
-times-same slot is_end [] (y ∷ ys) l e f = absurd (omega (arith, l))
-times-same slot is_end (x ∷ xs) [] l e f = absurd (omega (arith, l))
-times-same slot is_end (x ∷ xs) (y ∷ ys) l e f =
-    sum_by-cons (one_if slot is_end) y ys
-    ∙ (ap (λ n. n + times slot is_end ys) (ap bit (is_end_of-alike slot is_end y x (e 0 x) (f 0 x)))
-    ∙ (ap (λ n. one_if slot is_end x + n) (times-same slot is_end xs ys (omega (arith, l)) (λ k d. e (suc k) d) (λ k d. f (suc k) d)) ∙
-    sym (sum_by-cons (one_if slot is_end) x xs)))
+  -- lists of the same ends
+  pub times-same : (is_end : Bool) (xs ys : List RangeEnd) → length ys ≡ length xs →
+      ((k : ℕ) (d : RangeEnd) → (get_or ys k d).slot ≡ (get_or xs k d).slot) →
+      ((k : ℕ) (d : RangeEnd) → (get_or ys k d).is_end ≡ (get_or xs k d).is_end)
+      → times slot is_end ys ≡ times slot is_end xs
+  times-same is_end [] [] l e f = refl
+  times-same is_end [] (y ∷ ys) l e f = absurd (omega (arith, l))
+  times-same is_end (x ∷ xs) [] l e f = absurd (omega (arith, l))
+  times-same is_end (x ∷ xs) (y ∷ ys) l e f =
+      sum_by-cons (one_if slot is_end) y ys
+      ∙ (ap (λ n. n + times slot is_end ys) (ap bit (is_end_of-alike is_end y x (e 0 x) (f 0 x)))
+      ∙ (ap (λ n. one_if slot is_end x + n) (times-same is_end xs ys (omega (arith, l)) (λ k d. e (suc k) d) (λ k d. f (suc k) d)) ∙
+      sym (sum_by-cons (one_if slot is_end) x xs)))
 
 -- a list in another order
 pub IsListed-permuted : (live : Slab Points) (es now : List RangeEnd) → IsListed live es → IsPermutation es now → IsListed live now
@@ -169,22 +171,26 @@ pub both-put : (m : Option Points) (p : Points) → IsSome m →
 both-put None p i = absurd (true≢false (sym i))
 both-put (Some q) p i = refl
 
+-- one end of a slot's range is put at a boundary point, and the other slots stay
+pub record IsPut (live after : Slab Points) (slot : ℕ) (is_end : Bool) (b : Boundary ℕ) : Type 0 where
+  pub put : get after slot ≡ option_map (with_end_at is_end b.node b.offset) (get live slot)
+  pub others : (s : ℕ) → s ≢ slot → get after s ≡ get live s
+
 -- one end of a range was put
-pub IsListed-put : (live after : Slab Points) (es now : List RangeEnd) (slot : ℕ) (is_end : Bool) (b : Boundary ℕ) (p : Points) →
-    IsListed live es → get live slot ≡ Some p → get after slot ≡ option_map (with_end_at is_end b.node b.offset) (get live slot)
-    → ((s : ℕ) → s ≢ slot → get after s ≡ get live s) →
+pub IsListed-put : {live after : Slab Points} {es now : List RangeEnd} {slot : ℕ} {is_end : Bool} {b : Boundary ℕ} {p : Points} → IsListed live es →
+    get live slot ≡ Some p → IsPut live after slot is_end b →
     HasChanged es now (end_in slot is_end (end_of is_end p) ∷ []) (end_in slot is_end b ∷ []) → IsListed after now
-IsListed-put live after es now slot is_end b p listed there put others changed =
+IsListed-put {live} {after} {es} {now} {slot} {is_end} {b} {p} listed there step changed =
     IsListed-changed live after es now (end_in slot is_end (end_of is_end p) ∷ []) (end_in slot is_end b ∷ []) listed changed counts points stands
   where
     here : get after slot ≡ Some (with_end_at is_end b.node b.offset p)
-    here = put ∙ ap (option_map (with_end_at is_end b.node b.offset)) there
+    here = step.put ∙ ap (option_map (with_end_at is_end b.node b.offset)) there
 
     held : (s : ℕ) → is_some (get after s) ≡ is_some (get live s)
     held s = elim (cases_eq s slot) [
       | inl e ↦ ap (λ t. is_some (get after t)) e ∙
           (ap is_some here ∙ (sym (ap is_some there) ∙ ap (λ t. is_some (get live t)) (sym e)))
-      | inr off ↦ ap is_some (others s off)
+      | inr off ↦ ap is_some (step.others s off)
     ]
 
     counts : (s : ℕ) (e : Bool) → times s e (end_in slot is_end b ∷ []) + cond (is_some (get live s)) 1 0 ≡ times s e
@@ -203,7 +209,7 @@ IsListed-put live after es now slot is_end b p listed there put others changed =
     points : (s : ℕ) (e : Bool) → times s e (end_in slot is_end (end_of is_end p) ∷ []) ≡ 0 → (point_at after s e ≡ point_at live s e) ⊎
         (get live s ≡ None)
     points s e none = elim (cases_eq s slot) [
-      | inr off ↦ inl (ap (option_map (end_of e)) (others s off))
+      | inr off ↦ inl (ap (option_map (end_of e)) (step.others s off))
       | inl same ↦
           let apart : (e ≡ is_end → ⊥) =
           λ f. one_not_none (is_end_of s e (end_in slot is_end (end_of is_end p))) none
@@ -244,68 +250,68 @@ pair-times slot s n m false = by (eqb slot s)
 other-slot : (slot s : ℕ) → s ≢ slot → eqb slot s ≡ false
 other-slot slot s off = elim (cases_Bool (eqb slot s)) [ inl e ↦ absurd (off (sym (eqb-true slot s e))) | inr e ↦ e ]
 
--- the list after a range was dropped
-pub IsListed-dropped : (live after : Slab Points) (es mid now : List RangeEnd) (slot : ℕ) (n m : Boundary ℕ) → IsListed live es →
-    is_some (get live slot) ≡ true → Updates live after slot None
-    → IsPermutation es (end_in slot false n ∷ mid) → IsPermutation mid (end_in slot true m ∷ now) → IsListed after now
-IsListed-dropped live after es mid now slot n m listed there u one two =
-    IsListed-changed live after es now (end_in slot false n ∷ end_in slot true m ∷ []) [] listed
-    (record {
-      rest = now;
-      before = IsPermutation-trans _ _ _ one (IsPermutation-cons (end_in slot false n) mid (end_in slot true m ∷ now) two);
-      after = IsPermutation-refl now;
-    })
-    (λ s b. elim (cases_eq s slot) [
-      | inl e ↦ omega (
+-- a range's start is taken out of the list
+module _ (live : Slab Points) (es mid : List RangeEnd) (slot : ℕ) (n m : Boundary ℕ) (listed : IsListed live es) (there : is_some (get live slot) ≡ true)
+    (one : IsPermutation es (end_in slot false n ∷ mid)) where
+  -- the other end of the range is still listed
+  pub listed-once-rest : IsListedOnce es (end_in slot true m) → IsListedOnce mid (end_in slot true m)
+  listed-once-rest once =
+      let w = counts-listed slot true mid (omega (
         arith,
-        pair-times slot s n m b,
-        ap bit (eq-eqb slot s (sym e)),
-        ap bit (ap (λ t. is_some (get live t)) e ∙ there),
-        ap bit
-            (ap (λ t. is_some (get after t)) e ∙ ap is_some u.changed),
-      )
-      | inr off ↦ omega (arith, pair-times slot s n m b, ap bit (other-slot slot s off), ap bit (ap is_some (u.others s off)))
-    ])
-    (λ s b none. elim (cases_eq s slot) [
-      | inl e ↦ absurd (omega (arith, none, pair-times slot s n m b, ap bit (eq-eqb slot s (sym e))))
-      | inr off ↦ inl (ap (option_map (end_of b)) (u.others s off))
-    ])
-    (λ k d l. absurd (omega (arith, l)))
+        sum_by-IsPermutation (one_if slot true) es (end_in slot false n ∷ mid) one,
+        sum_by-cons (one_if slot true)
+            (end_in slot false n) mid,
+        listed.counted slot true,
+        ap bit there,
+        ap bit (first (eqb slot slot)),
+      )) in
+      record {
+        place = w.0;
+        within = w.1;
+        there = λ d. let f = is_end_of-true slot true (get_or mid w.0 d) (w.2 d) in apart w.0 d w.1 f.0 f.1;
+        alone = apart;
+      }
+    where
+      first : (e : Bool) → e && false ≡ false
+      first true = refl
+      first false = refl
 
--- the other end of the range is still listed
-pub listed-once-rest : (live : Slab Points) (es mid : List RangeEnd) (slot : ℕ) (n m : Boundary ℕ) → IsListed live es → is_some (get live slot) ≡ true →
-    IsPermutation es (end_in slot false n ∷ mid) → IsListedOnce es (end_in slot true m) → IsListedOnce mid (end_in slot true m)
-listed-once-rest live es mid slot n m listed there one once =
-    let w = counts-listed slot true mid (omega (
-      arith,
-      sum_by-IsPermutation (one_if slot true) es (end_in slot false n ∷ mid) one,
-      sum_by-cons (one_if slot true)
-          (end_in slot false n) mid,
-      listed.counted slot true,
-      ap bit there,
-      ap bit (first (eqb slot slot)),
-    )) in
-    record {
-      place = w.0;
-      within = w.1;
-      there = λ d. let f = is_end_of-true slot true (get_or mid w.0 d) (w.2 d) in apart w.0 d w.1 f.0 f.1;
-      alone = apart;
-    }
-  where
-    first : (e : Bool) → e && false ≡ false
-    first true = refl
-    first false = refl
+      apart : (k : ℕ) (d : RangeEnd) → k < length mid → (get_or mid k d).slot ≡ slot → (get_or mid k d).is_end ≡ true → get_or mid k d ≡ end_in slot true m
+      apart k d l = All-permutation (λ (x : RangeEnd). x.slot ≡ slot → x.is_end ≡ true → x ≡ end_in slot true m) es (end_in slot false n ∷ mid) one
+          once.alone (suc k) d (omega (arith, l))
 
-    apart : (k : ℕ) (d : RangeEnd) → k < length mid → (get_or mid k d).slot ≡ slot → (get_or mid k d).is_end ≡ true → get_or mid k d ≡ end_in slot true m
-    apart k d l = All-permutation (λ (x : RangeEnd). x.slot ≡ slot → x.is_end ≡ true → x ≡ end_in slot true m) es (end_in slot false n ∷ mid) one
-        once.alone (suc k) d (omega (arith, l))
+  -- the list after the range was dropped
+  pub IsListed-dropped : (after : Slab Points) (now : List RangeEnd) → Updates live after slot None → IsPermutation mid (end_in slot true m ∷ now) →
+      IsListed after now
+  IsListed-dropped after now u two =
+      IsListed-changed live after es now (end_in slot false n ∷ end_in slot true m ∷ []) [] listed
+      (record {
+        rest = now;
+        before = IsPermutation-trans _ _ _ one (IsPermutation-cons (end_in slot false n) mid (end_in slot true m ∷ now) two);
+        after = IsPermutation-refl now;
+      })
+      (λ s b. elim (cases_eq s slot) [
+        | inl e ↦ omega (
+          arith,
+          pair-times slot s n m b,
+          ap bit (eq-eqb slot s (sym e)),
+          ap bit (ap (λ t. is_some (get live t)) e ∙ there),
+          ap bit
+              (ap (λ t. is_some (get after t)) e ∙ ap is_some u.changed),
+        )
+        | inr off ↦ omega (arith, pair-times slot s n m b, ap bit (other-slot slot s off), ap bit (ap is_some (u.others s off)))
+      ])
+      (λ s b none. elim (cases_eq s slot) [
+        | inl e ↦ absurd (omega (arith, none, pair-times slot s n m b, ap bit (eq-eqb slot s (sym e))))
+        | inr off ↦ inl (ap (option_map (end_of b)) (u.others s off))
+      ])
+      (λ k d l. absurd (omega (arith, l)))
 
 -- the list after a range came
-pub IsListed-added : (live after : Slab Points) (es now : List RangeEnd) (slot : ℕ) (at_first : Boundary ℕ) (p : Points) → IsListed live es →
-    get live slot ≡ None →
-    Updates live after slot (Some p) → end_of false p ≡ at_first → end_of true p ≡ at_first
+pub IsListed-added : {live after : Slab Points} {es now : List RangeEnd} {slot : ℕ} {at_first : Boundary ℕ} {p : Points} → IsListed live es →
+    get live slot ≡ None → Updates live after slot (Some p) → end_of false p ≡ at_first → end_of true p ≡ at_first
     → IsPermutation (es ++ end_in slot false at_first ∷ end_in slot true at_first ∷ []) now → IsListed after now
-IsListed-added live after es now slot at_first p listed free u start end moved =
+IsListed-added {live} {after} {es} {now} {slot} {at_first} {p} listed free u start end moved =
     IsListed-changed live after es now [] (end_in slot false at_first ∷ end_in slot true at_first ∷ []) listed
     (record {
       rest = es;

@@ -209,19 +209,24 @@ pub collapsed-named : CollapsedNamed
 collapsed-named names true r = refl
 collapsed-named names false r = refl
 
+-- a rule for ranges of keys and one for ranges of names that agree
+pub record RangeRule (names : List NodeName) : Type 0 where
+  pub keyed : Range ℕ → Range ℕ
+  pub named : Range NodeName → Range NodeName
+  pub agrees : (r : Range ℕ) → named_range names (keyed r) ≡ named (named_range names r)
+
 -- the table with one range rewritten, named
-pub with-named : (names : List NodeName) (t : RangeLists) (owner : Owner) (k : ℕ) (f : Range ℕ → Range ℕ) (g : Range NodeName → Range NodeName) →
-    ((r : Range ℕ) → named_range names (f r) ≡ g (named_range names r))
-    → (o : Owner) → named_ranges names (with_ranges t owner (slice_set (ranges_of t owner) k (option_map f (range_in (ranges_of t owner) k))) o) ≡
-    with_named names t owner k g o
-with-named names t owner k f g law o = by (owner_eq owner o) refl
+pub with-named : (names : List NodeName) (t : RangeLists) (owner : Owner) (k : ℕ) (rule : RangeRule names) (o : Owner) →
+    named_ranges names (with_ranges t owner (slice_set (ranges_of t owner) k (option_map rule.keyed (range_in (ranges_of t owner) k))) o) ≡
+    with_named names t owner k rule.named o
+with-named names t owner k rule o = by (owner_eq owner o) refl
   where
     by : (b : Bool) → owner_eq owner o ≡ b
-        → named_ranges names (cond b (slice_set (ranges_of t owner) k (option_map f (range_in (ranges_of t owner) k))) (ranges_of t o))
+        → named_ranges names (cond b (slice_set (ranges_of t owner) k (option_map rule.keyed (range_in (ranges_of t owner) k))) (ranges_of t o))
         ≡ cond b (slice_set (named_ranges names (ranges_of t o)) k
-        (option_map g (option_flatten (slice_get (named_ranges names (ranges_of t o)) k)))) (named_ranges names (ranges_of t o))
+        (option_map rule.named (option_flatten (slice_get (named_ranges names (ranges_of t o)) k)))) (named_ranges names (ranges_of t o))
     by true e =
-        rewritten-named names f g law (ranges_of t owner) k
+        rewritten-named names rule.keyed rule.named rule.agrees (ranges_of t owner) k
         ∙ ap (λ (p : Owner). slice_set (named_ranges names (ranges_of t p)) k
-        (option_map g (option_flatten (slice_get (named_ranges names (ranges_of t p)) k)))) (owner_eq-true owner o e)
+        (option_map rule.named (option_flatten (slice_get (named_ranges names (ranges_of t p)) k)))) (owner_eq-true owner o e)
     by false e = refl

@@ -20,10 +20,10 @@ use Rattle.dom_tree.proofs.Owned.{name_apart, read_own}
 -- ---- places
 
 -- no place among another owner's trees
-place-none : (k : ℕ) (o p : Owner) → owner_eq p o ≡ false → (x : NodeName) → x.owner ≡ o → (ts : Trees) → AreOf p ts → place_from k ts x ≡ None
-place-none k o p apart x own none of = refl
-place-none k o p apart x own (tree n c r) of =
-    rw (name_apart o p apart x n.name own of.0, place-none 0 o p apart x own c of.1) (place-none (k + 1) o p apart x own r of.2)
+place-none : (k : ℕ) (p : Owner) (x : NodeName) → owner_eq p x.owner ≡ false → (ts : Trees) → AreOf p ts → place_from k ts x ≡ None
+place-none k p x apart none of = refl
+place-none k p x apart (tree n c r) of =
+    rw (name_apart x.owner p apart x n.name refl of.0, place-none 0 p x apart c of.1) (place-none (k + 1) p x apart r of.2)
 
 -- the way down from the root is the same
 way-own : (j k : ℕ) {o : Owner} (x : NodeName) → x.owner ≡ o → (ts : Trees) → HaveOwners ts →
@@ -31,7 +31,9 @@ way-own : (j k : ℕ) {o : Owner} (x : NodeName) → x.owner ≡ o → (ts : Tre
 way-own j k x own none have = refl
 way-own j k {o} x own (tree n c r) have = elim (cases_Bool (owner_eq n.name.owner o)) [
   | inl e ↦ rw e (both (name_eq n.name x) (place_from 0 c x) (way-own (j + 1) (k + 1) x own r have.1))
-  | inr e ↦ rw (e, name_apart o n.name.owner e x n.name own refl, place-none 0 o n.name.owner e x own c have.0) (way-own j (k + 1) x own r have.1)
+  | inr e ↦
+      rw (e, name_apart o n.name.owner e x n.name own refl, place-none 0 n.name.owner x (ap (owner_eq n.name.owner) own ∙ e) c have.0)
+      (way-own j (k + 1) x own r have.1)
 ]
   where
     both : (t : Bool) (below : Option (List ℕ)) → option_map (drop 1) (place_from (k + 1) r x) ≡ option_map (drop 1) (place_from (j + 1) (trees_of_owner o r) x)

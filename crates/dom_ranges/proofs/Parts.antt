@@ -12,9 +12,9 @@ use Rattle.dom_model.specs.Place.{Boundary}
 use Rattle.dom_ranges.specs.declared.table.Points.{Points}
 use Rattle.dom_ranges.specs.declared.ends.RangeEnd.{RangeEnd}
 use Rattle.dom_ranges.specs.declared.ends.Span.{Span}
-use Rattle.dom_ranges.specs.Listed.{IsListed, IsMovedPart, HasChanged, Stands, is_in, is_chosen, end_in, end_of, point_of, with_end_at}
+use Rattle.dom_ranges.specs.Listed.{IsListed, IsMovedPart, HasChanged, Stands, is_in, is_chosen, end_in, end_of, point_of}
 use Rattle.dom_ranges.proofs.Gathering.{HasChanged-set}
-use Rattle.dom_ranges.proofs.Listing.{IsListed-put, end-same}
+use Rattle.dom_ranges.proofs.Listing.{IsPut, IsListed-put, end-same}
 
 -- the part up to a place
 abbrev pub up_to : ℕ → ℕ → Span
@@ -129,10 +129,9 @@ module _ (rule : Boundary ℕ → Boundary ℕ) (target : ℕ) (es now : List Ra
         }
 
 -- an end that was put is listed where it stands then
-pub IsListed-set : (live after : Slab Points) (es : List RangeEnd) (i : ℕ) (one : RangeEnd) (b : Boundary ℕ) → IsListed live es → i < length es →
-    ((d : RangeEnd) → get_or es i d ≡ one) → get after one.slot ≡ option_map (with_end_at one.is_end b.node b.offset) (get live one.slot)
-    → ((s : ℕ) → s ≢ one.slot → get after s ≡ get live s) → IsListed after (set es i (end_in one.slot one.is_end b))
-IsListed-set live after es i one b listed within is_one put others =
+pub IsListed-set : {live after : Slab Points} {es : List RangeEnd} (i : ℕ) {one : RangeEnd} {b : Boundary ℕ} → IsListed live es → i < length es →
+    ((d : RangeEnd) → get_or es i d ≡ one) → IsPut live after one.slot one.is_end b → IsListed after (set es i (end_in one.slot one.is_end b))
+IsListed-set {live} {after} {es} i {one} {b} listed within is_one step =
     by (get live one.slot) refl (subst (Stands live) (is_one one) (listed.standing i one within))
   where
     by : (m : Option Points) → get live one.slot ≡ m → option_map (end_of one.is_end) m ≡ Some (point_of one) →
@@ -140,26 +139,26 @@ IsListed-set live after es i one b listed within is_one put others =
     by None e f = cc
     by (Some p) e f =
         let y = end_in one.slot one.is_end b in
-        IsListed-put live after es (set es i y) one.slot one.is_end b p listed e put others
+        IsListed-put {p = p} listed e step
         (subst (λ (x : RangeEnd). HasChanged es (set es i y) (x ∷ []) (y ∷ []))
         (end-same one (end_in one.slot one.is_end (end_of one.is_end p)) refl refl (sym (same_Some _ _ f)))
         (HasChanged-set i within is_one (IsPermutation-refl (set es i y))))
 
--- the part outside which no node changed, after one end more
-pub nodes-more : (es now next : List RangeEnd) (i first behind least : ℕ) → ((k : ℕ) (d : RangeEnd) → k ≢ i → get_or next k d ≡ get_or now k d) →
-    least ≡ min first i → behind ≤ i
-    → ((k : ℕ) (d : RangeEnd) → (k < first) ⊎ (behind ≤ k) → (get_or now k d).node ≡ (get_or es k d).node) → (k : ℕ) (d : RangeEnd) →
-    (k < least) ⊎ (i + 1 ≤ k) → (get_or next k d).node ≡ (get_or es k d).node
-nodes-more es now next i first behind least elsewhere e up nodes k d p = elim p [
-  | inl l ↦ ap (λ (x : RangeEnd). x.node) (elsewhere k d (λ f. omega (arith, f, l, e))) ∙ nodes k d (inl (omega (arith, l, e)))
-  | inr l ↦ ap (λ (x : RangeEnd). x.node) (elsewhere k d (λ f. omega (arith, f, l))) ∙ nodes k d (inr (omega (arith, l, up)))
-]
+-- a list in which one end changed, when no node had changed outside a part
+module _ (es now next : List RangeEnd) (i first behind : ℕ) (elsewhere : (k : ℕ) (d : RangeEnd) → k ≢ i → get_or next k d ≡ get_or now k d)
+    (nodes : (k : ℕ) (d : RangeEnd) → (k < first) ⊎ (behind ≤ k) → (get_or now k d).node ≡ (get_or es k d).node) where
+  -- the part outside which no node changed, after one end more
+  pub nodes-more : (least : ℕ) → least ≡ min first i → behind ≤ i → (k : ℕ) (d : RangeEnd) → (k < least) ⊎ (i + 1 ≤ k) →
+      (get_or next k d).node ≡ (get_or es k d).node
+  nodes-more least e up k d p = elim p [
+    | inl l ↦ ap (λ (x : RangeEnd). x.node) (elsewhere k d (λ f. omega (arith, f, l, e))) ∙ nodes k d (inl (omega (arith, l, e)))
+    | inr l ↦ ap (λ (x : RangeEnd). x.node) (elsewhere k d (λ f. omega (arith, f, l))) ∙ nodes k d (inr (omega (arith, l, up)))
+  ]
 
-pub nodes-same : (es now next : List RangeEnd) (i first behind : ℕ) → ((k : ℕ) (d : RangeEnd) → k ≢ i → get_or next k d ≡ get_or now k d) →
-    ((d : RangeEnd) → (get_or next i d).node ≡ (get_or now i d).node)
-    → ((k : ℕ) (d : RangeEnd) → (k < first) ⊎ (behind ≤ k) → (get_or now k d).node ≡ (get_or es k d).node) → (k : ℕ) (d : RangeEnd) →
-    (k < first) ⊎ (behind ≤ k) → (get_or next k d).node ≡ (get_or es k d).node
-nodes-same es now next i first behind elsewhere here nodes k d p = elim (cases_eq k i) [
-  | inl e ↦ ap (λ t. (get_or next t d).node) e ∙ (here d ∙ (ap (λ t. (get_or now t d).node) (sym e) ∙ nodes k d p))
-  | inr off ↦ ap (λ (x : RangeEnd). x.node) (elsewhere k d off) ∙ nodes k d p
-]
+  -- the same part, where the end's node did not change
+  pub nodes-same : ((d : RangeEnd) → (get_or next i d).node ≡ (get_or now i d).node) → (k : ℕ) (d : RangeEnd) → (k < first) ⊎ (behind ≤ k) →
+      (get_or next k d).node ≡ (get_or es k d).node
+  nodes-same here k d p = elim (cases_eq k i) [
+    | inl e ↦ ap (λ t. (get_or next t d).node) e ∙ (here d ∙ (ap (λ t. (get_or now t d).node) (sym e) ∙ nodes k d p))
+    | inr off ↦ ap (λ (x : RangeEnd). x.node) (elsewhere k d off) ∙ nodes k d p
+  ]

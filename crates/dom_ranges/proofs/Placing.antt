@@ -76,6 +76,10 @@ module _ (R : Boundary ℕ → Boundary ℕ → Type 0) (es now : List RangeEnd)
 
 -- ---- ends at one node, whatever their offsets
 
+-- the end at a place is at this node or a greater one
+abbrev pub IsFrom : ℕ → List RangeEnd → ℕ → Type 0
+IsFrom node es k = (d : RangeEnd) → node ≤ (get_or es k d).node
+
 module _ (es : List RangeEnd) (first high node : ℕ) (order : first ≤ high) (within : high ≤ length es) (gathered : AreAt es first high node)
     (sorted : IsSortedBeside es first high node) where
   pub group-gathered : HasGroup (AtMostBut node) es first high
@@ -96,12 +100,11 @@ module _ (es : List RangeEnd) (first high node : ℕ) (order : first ≤ high) (
   pub behind-node : (i : ℕ) → ((d : RangeEnd) → (get_or es i d).node ≤ node) → IsBehind (AtMostBut node) es first high i
   behind-node i l j d from to = AtMostBut-nodes node _ _ (omega (arith, l d, gathered j d from to)) (λ e. e ∙ gathered j d from to)
 
-  pub ahead-node : (j : ℕ) → ((d : RangeEnd) → node ≤ (get_or es j d).node) → IsAhead (AtMostBut node) es first high j
+  pub ahead-node : (j : ℕ) → IsFrom node es j → IsAhead (AtMostBut node) es first high j
   ahead-node j l i d from to = AtMostBut-nodes node _ _ (omega (arith, l d, gathered i d from to)) (λ _. gathered i d from to)
 
   -- an end behind the group is at no lesser node where one before it is
-  pub past-node : (i j : ℕ) → i < first → high ≤ j → j < length es → ((d : RangeEnd) → node ≤ (get_or es i d).node) →
-      (d : RangeEnd) → node ≤ (get_or es j d).node
+  pub past-node : (i j : ℕ) → i < first → high ≤ j → j < length es → IsFrom node es i → IsFrom node es j
   past-node i j l m n up d = omega (arith, up d, (sorted i j d (omega (arith, l, m, order)) n (inl l) (inr (inl m))).0)
 
 -- ---- one end with another boundary point

@@ -21,43 +21,56 @@ use Rattle.dom_ranges.proofs.Naming.{EachRange-ends}
 
 -- ---- lists of ranges
 
-each_none : (P : Range ℕ → Type 0) → EachRange P []
-each_none P k r e = absurd (none-some _ e)
+-- what holds of each range
+module _ (P : Range ℕ → Type 0) where
+  each_none : EachRange P []
+  each_none k r e = absurd (none-some _ e)
 
-each_push : (P : Range ℕ → Type 0) (rs : RangeList) (r : Range ℕ) → EachRange P rs → P r → EachRange P (rs ++ Some r ∷ [])
-each_push P [] r each here zero s e = subst P (same_Some r s (same_Some _ _ e)) here
-each_push P [] r each here (suc k) s e = absurd (none-some _ e)
-each_push P (q ∷ rs) r each here zero s e = each 0 s e
-each_push P (q ∷ rs) r each here (suc k) s e = each_push P rs r (λ j t f. each (suc j) t f) here k s e
+  each_push : (rs : RangeList) (r : Range ℕ) → EachRange P rs → P r → EachRange P (rs ++ Some r ∷ [])
+  each_push [] r each here zero s e = subst P (same_Some r s (same_Some _ _ e)) here
+  each_push [] r each here (suc k) s e = absurd (none-some _ e)
+  each_push (q ∷ rs) r each here zero s e = each 0 s e
+  each_push (q ∷ rs) r each here (suc k) s e = each_push rs r (λ j t f. each (suc j) t f) here k s e
 
-each_set : (P : Range ℕ → Type 0) (rs : RangeList) (number : ℕ) (o : Option (Range ℕ)) → EachRange P rs → ((r : Range ℕ) → o ≡ Some r → P r) →
-    EachRange P (slice_set rs number o)
-each_set P rs number o each here k r e = elim (slice_get-set rs number k o (Some r) e) [
-  | inl h ↦ here r (sym h.1)
-  | inr h ↦ each k r h
-]
+  each_set : (rs : RangeList) (number : ℕ) (o : Option (Range ℕ)) → EachRange P rs → ((r : Range ℕ) → o ≡ Some r → P r) →
+      EachRange P (slice_set rs number o)
+  each_set rs number o each here k r e = elim (slice_get-set rs number k o (Some r) e) [
+    | inl h ↦ here r (sym h.1)
+    | inr h ↦ each k r h
+  ]
 
--- a range that f rewrites
-each_rewritten : (P : Range ℕ → Type 0) (rs : RangeList) (number : ℕ) (f : Range ℕ → Range ℕ) → EachRange P rs → ((r : Range ℕ) → P r → P (f r)) →
-    EachRange P (slice_set rs number (option_map f (range_in rs number)))
-each_rewritten P rs number f each step =
-    each_set P rs number (option_map f (range_in rs number)) each (by (slice_get rs number) refl)
-  where
-    by : (o : Option (Option (Range ℕ))) → slice_get rs number ≡ o → (r : Range ℕ) → option_map f (option_flatten o) ≡ Some r → P r
-    by None e r g = absurd (none-some r g)
-    by (Some None) e r g = absurd (none-some r g)
-    by (Some (Some q)) e r g = subst P (same_Some (f q) r g) (step q (each number q e))
+  -- a range that f rewrites
+  each_rewritten : (rs : RangeList) (number : ℕ) (f : Range ℕ → Range ℕ) → EachRange P rs → ((r : Range ℕ) → P r → P (f r)) →
+      EachRange P (slice_set rs number (option_map f (range_in rs number)))
+  each_rewritten rs number f each step =
+      each_set rs number (option_map f (range_in rs number)) each (by (slice_get rs number) refl)
+    where
+      by : (o : Option (Option (Range ℕ))) → slice_get rs number ≡ o → (r : Range ℕ) → option_map f (option_flatten o) ≡ Some r → P r
+      by None e r g = absurd (none-some r g)
+      by (Some None) e r g = absurd (none-some r g)
+      by (Some (Some q)) e r g = subst P (same_Some (f q) r g) (step q (each number q e))
+
+  -- of a table
+  abbrev each_of : RangeLists → Type 0
+  each_of t = (o : Owner) → EachRange P (ranges_of t o)
+
+  -- a table in which one owner's list changed
+  module _ (was now : RangeLists) (owner : Owner) (each : each_of was) where
+    each_owner : (rs : RangeList) → HasRanges owner rs was now → EachRange P rs → each_of now
+    each_owner rs is here o =
+        subst (λ (qs : RangeList). EachRange P qs) (sym (is o)) (by (owner_eq owner o))
+      where
+        by : (b : Bool) → EachRange P (cond b rs (ranges_of was o))
+        by true = here
+        by false = each o
+
+    -- f rewrote a range of it
+    owner_rewritten : (number : ℕ) (f : Range ℕ → Range ℕ) →
+        HasRanges owner (slice_set (ranges_of was owner) number (option_map f (range_in (ranges_of was owner) number))) was now →
+        ((r : Range ℕ) → P r → P (f r)) → each_of now
+    owner_rewritten number f is step = each_owner _ is (each_rewritten (ranges_of was owner) number f (each owner) step)
 
 -- ---- tables
-
-each_owner : (P : Range ℕ → Type 0) (was now : RangeLists) (owner : Owner) (rs : RangeList) → HasRanges owner rs was now →
-    ((o : Owner) → EachRange P (ranges_of was o)) → EachRange P rs → (o : Owner) → EachRange P (ranges_of now o)
-each_owner P was now owner rs is each here o =
-    subst (λ (qs : RangeList). EachRange P qs) (sym (is o)) (by (owner_eq owner o))
-  where
-    by : (b : Bool) → EachRange P (cond b rs (ranges_of was o))
-    by true = here
-    by false = each o
 
 brings : (names : List NodeName) (most more : ℕ) (f : Boundary ℕ → Boundary ℕ) →
     ((b : Boundary ℕ) → IsWithin names most b → IsWithin names more (f b)) → Brings names most more f
@@ -97,12 +110,12 @@ within-at_nodes names most t within o k r e = let both = within o k r e in (both
 pub made-within : MadeWithin
 made-within names most was now owner node there is within =
     let here : IsWithin names most (at node 0) = (there, omega arith) in
-    each_owner (BothEnds (IsWithin names most)) was now owner _ is within
+    each_owner (BothEnds (IsWithin names most)) was now owner within _ is
     (each_push (BothEnds (IsWithin names most)) (ranges_of was owner) (from_to (at node 0) (at node 0)) (within owner) (here, here))
 
 pub removed-within : RemovedWithin
 removed-within names most was now owner number is within =
-    each_owner (BothEnds (IsWithin names most)) was now owner _ is within
+    each_owner (BothEnds (IsWithin names most)) was now owner within _ is
     (each_set (BothEnds (IsWithin names most)) (ranges_of was owner) number None (within owner) (λ r e. absurd (none-some r e)))
 
 -- a choice of ranges
@@ -114,24 +127,21 @@ pub start-within : StartWithin
 start-within f most was now owner number node offset there small is within =
     let P = BothEnds (IsWithin f.names most) in
     let b = at node offset in
-    each_owner P was now owner _ is within
-    (each_rewritten P (ranges_of was owner) number (start_set f b) (within owner)
+    owner_rewritten P was now owner within number (start_set f b) is
     (λ r both. both_if P (have_one_root f b r.end && not (is_key_before f r.end b)) (from_to b r.end) (from_to b b) ((there, small), both.1)
-    ((there, small), (there, small))))
+    ((there, small), (there, small)))
 
 pub end-within : EndWithin
 end-within f most was now owner number node offset there small is within =
     let P = BothEnds (IsWithin f.names most) in
     let b = at node offset in
-    each_owner P was now owner _ is within
-    (each_rewritten P (ranges_of was owner) number (end_set f b) (within owner)
+    owner_rewritten P was now owner within number (end_set f b) is
     (λ r both. both_if P (have_one_root f b r.start && not (is_key_before f b r.start)) (from_to r.start b) (from_to b b) (both.0, (there, small))
-    ((there, small), (there, small))))
+    ((there, small), (there, small)))
 
 pub collapsed-within : CollapsedWithin
 collapsed-within names most was now owner number to_start is within =
-    each_owner (BothEnds (IsWithin names most)) was now owner _ is within
-    (each_rewritten (BothEnds (IsWithin names most)) (ranges_of was owner) number (collapsed_range to_start) (within owner) (by to_start))
+    owner_rewritten (BothEnds (IsWithin names most)) was now owner within number (collapsed_range to_start) is (by to_start)
   where
     by : (b : Bool) (r : Range ℕ) → BothEnds (IsWithin names most) r → BothEnds (IsWithin names most) (collapsed_range b r)
     by true r both = (both.0, both.0)

@@ -13,6 +13,7 @@ use Rattle.dom_model.proofs.OwnerLaws.{owner_eq-same, owner_eq-true, owner_eq-fa
 use Rattle.dom_model.specs.Ranges.{Range}
 use Rattle.dom_ranges.specs.declared.numbers.Numbers.{Numbers}
 use Rattle.dom_ranges.specs.declared.table.Points.{Points}
+use Rattle.dom_ranges.specs.Staying.{HasRanges}
 use Rattle.dom_ranges.specs.Tables.{RangeLists, ranges_of, range_in, range_from, with_ranges}
 use Rattle.dom_ranges.specs.RangeSlots.{slots_of, range_kept, shown, StandsUnder, HaveNumbers}
 use Rattle.dom_ranges.proofs.Holding.{ranges_of-shown}
@@ -37,19 +38,6 @@ HaveNumbers-same after m hold same h =
       used = λ slot i. let w = h.used slot ((hold slot).0 i) in (w.0, w.1, ap (λ (ss : List (Option ℕ)). slice_get ss w.1) (same w.0) ∙ w.2);
     }
 
--- a slot that was written holds a range as before
-pub HoldSame-written : (live after : Slab Points) (slot : ℕ) (q : Points) → Updates live after slot (Some q) → IsSome (get live slot) → HoldSame live after
-HoldSame-written live after slot q u here s = elim (cases_eq s slot) [
-  | inl e ↦ (λ _. subst (λ t. IsSome (get live t)) (sym e) here, λ _. subst (λ t. IsSome (get after t)) (sym e) (ap is_some u.changed))
-  | inr off ↦ (subst IsSome (u.others s off), subst IsSome (sym (u.others s off)))
-]
-
--- a slot that is not the one written shows what it did
-shown_other : (live after : Slab Points) (slot : ℕ) → ((s : ℕ) → s ≢ slot → get after s ≡ get live s) → (t : Option ℕ) → (t ≡ Some slot → ⊥) →
-    range_kept after t ≡ range_kept live t
-shown_other live after slot others None off = refl
-shown_other live after slot others (Some s) off = ap (option_map range_from) (others s (λ e. off (ap Some e)))
-
 -- a table of these ranges shows what is in the slots of the lists
 abbrev pub Shows : Slab Points → Numbers → RangeLists → Type 0
 Shows live n v = (o : Owner) → ranges_of v o ≡ map (range_kept live) (slots_of n o)
@@ -58,33 +46,73 @@ Shows live n v = (o : Owner) → ranges_of v o ≡ map (range_kept live) (slots_
 pub Shows-view : (live : Slab Points) (n : Numbers) (v : RangeLists) → shown live n ≡ v → Shows live n v
 Shows-view live n v e o = ap (λ (t : RangeLists). ranges_of t o) (sym e) ∙ ranges_of-shown live n o
 
--- where slots hold the same and lists are the same, the same is shown
-pub Shows-same : (live after : Slab Points) (n m : Numbers) (v : RangeLists) → Shows live n v → ((s : ℕ) → get after s ≡ get live s) →
-    SameLists n m → Shows after m v
-Shows-same live after n m v e same lists o =
-    e o ∙ (map_kept (range_kept after) (range_kept live) (slots_of n o) (λ j t _. by t) ∙ ap (map (range_kept after)) (sym (lists o)))
-  where
-    by : (t : Option ℕ) → range_kept live t ≡ range_kept after t
-    by None = refl
-    by (Some s) = ap (option_map range_from) (sym (same s))
+-- slots before and after a change
+module _ (live after : Slab Points) where
+  -- a slot that was written holds a range as before
+  pub HoldSame-written : (slot : ℕ) (q : Points) → Updates live after slot (Some q) → IsSome (get live slot) → HoldSame live after
+  HoldSame-written slot q u here s = elim (cases_eq s slot) [
+    | inl e ↦ (λ _. subst (λ t. IsSome (get live t)) (sym e) here, λ _. subst (λ t. IsSome (get after t)) (sym e) (ap is_some u.changed))
+    | inr off ↦ (subst IsSome (u.others s off), subst IsSome (sym (u.others s off)))
+  ]
 
--- what is shown is the table
-pub ranges-shown : (live : Slab Points) (n : Numbers) (v : RangeLists) → Shows live n v → (o : Owner) → ranges_of (shown live n) o ≡ ranges_of v o
-ranges-shown live n v e o = ranges_of-shown live n o ∙ sym (e o)
+  -- a slot that is not the one written shows what it did
+  shown_other : (slot : ℕ) → ((s : ℕ) → s ≢ slot → get after s ≡ get live s) → (t : Option ℕ) → (t ≡ Some slot → ⊥) → range_kept after t ≡ range_kept live t
+  shown_other slot others None off = refl
+  shown_other slot others (Some s) off = ap (option_map range_from) (others s (λ e. off (ap Some e)))
 
--- as many ranges as slots
-pub length-ranges : (live : Slab Points) (n : Numbers) (v : RangeLists) → Shows live n v → (o : Owner) → length (slots_of n o) ≡ length (ranges_of v o)
-length-ranges live n v e o = sym (ap (length {A = Option (Range ℕ)}) (e o) ∙ length-map (slots_of n o) (range_kept live))
+  -- where slots hold the same and lists are the same, the same is shown
+  pub Shows-same : (n m : Numbers) (v : RangeLists) → Shows live n v → ((s : ℕ) → get after s ≡ get live s) → SameLists n m → Shows after m v
+  Shows-same n m v e same lists o =
+      e o ∙ (map_kept (range_kept after) (range_kept live) (slots_of n o) (λ j t _. by t) ∙ ap (map (range_kept after)) (sym (lists o)))
+    where
+      by : (t : Option ℕ) → range_kept live t ≡ range_kept after t
+      by None = refl
+      by (Some s) = ap (option_map range_from) (sym (same s))
 
--- the range of a number is the one in its slot
-pub range_in-held : (live : Slab Points) (n : Numbers) (v : RangeLists) → Shows live n v → (o : Owner) (k : ℕ) →
-    range_in (ranges_of v o) k ≡ range_kept live (option_flatten (slice_get (slots_of n o) k))
-range_in-held live n v e o k =
-    ap (λ rs. range_in rs k) (e o) ∙ (ap option_flatten (slice_get-map (range_kept live) (slots_of n o) k) ∙ by (slice_get (slots_of n o) k))
-  where
-    by : (t : Option (Option ℕ)) → option_flatten (option_map (range_kept live) t) ≡ range_kept live (option_flatten t)
-    by None = refl
-    by (Some t) = refl
+-- what a table that shows them says of its lists
+module _ (live : Slab Points) (n : Numbers) (v : RangeLists) (e : Shows live n v) where
+  -- what is shown is the table
+  pub ranges-shown : (o : Owner) → ranges_of (shown live n) o ≡ ranges_of v o
+  ranges-shown o = ranges_of-shown live n o ∙ sym (e o)
+
+  -- as many ranges as slots
+  pub length-ranges : (o : Owner) → length (slots_of n o) ≡ length (ranges_of v o)
+  length-ranges o = sym (ap (length {A = Option (Range ℕ)}) (e o) ∙ length-map (slots_of n o) (range_kept live))
+
+  -- the range of a number is the one in its slot
+  pub range_in-held : (o : Owner) (k : ℕ) → range_in (ranges_of v o) k ≡ range_kept live (option_flatten (slice_get (slots_of n o) k))
+  range_in-held o k =
+      ap (λ rs. range_in rs k) (e o) ∙ (ap option_flatten (slice_get-map (range_kept live) (slots_of n o) k) ∙ by (slice_get (slots_of n o) k))
+    where
+      by : (t : Option (Option ℕ)) → option_flatten (option_map (range_kept live) t) ≡ range_kept live (option_flatten t)
+      by None = refl
+      by (Some t) = refl
+
+  -- a range that is held is the one of its number
+  pub range-standing : (slot k : ℕ) (o : Owner) (p : Points) → StandsUnder n slot o k → get live slot ≡ Some p →
+      slice_get (ranges_of v o) k ≡ Some (Some (range_from p))
+  range-standing slot k o p at here =
+      ap (λ (rs : List (Option (Range ℕ))). slice_get rs k) (e o)
+      ∙ (slice_get-map (range_kept live) (slots_of n o) k
+      ∙ (ap (option_map (range_kept live)) at ∙ ap (λ t. Some (option_map range_from t)) here))
+
+  -- the table after a range was written
+  pub ranges-written : {after : Slab Points} {slot : ℕ} (k : ℕ) (owner : Owner) {q : Points} → HaveNumbers live n → StandsUnder n slot owner k →
+      Updates live after slot (Some q) → HasRanges owner (slice_set (ranges_of v owner) k (Some (range_from q))) v (shown after n)
+  ranges-written {after} {slot} k owner {q} h at u o = ranges_of-shown after n o ∙ by (owner_eq owner o) refl
+    where
+      by : (b : Bool) → owner_eq owner o ≡ b →
+          map (range_kept after) (slots_of n o) ≡ cond b (slice_set (ranges_of v owner) k (Some (range_from q))) (ranges_of v o)
+      by true f =
+          let same = owner_eq-true owner o f in
+          map_set (slots_of n o)
+          (λ t i. ap (range_kept after) (same_Some _ _ (sym i ∙ subst (λ (p : Owner). StandsUnder n slot p k) same at)) ∙ ap (option_map range_from) u.changed)
+          (λ j t off i. shown_other live after slot u.others t (λ g. off (h.apart o owner j k slot (i ∙ ap Some g) at).1))
+          ∙ ap (λ rs. slice_set rs k (Some (range_from q))) (sym (e o) ∙ ap (ranges_of v) (sym same))
+      by false f =
+          map_kept (range_kept live) (range_kept after) (slots_of n o)
+          (λ j t i. shown_other live after slot u.others t (λ g. owner_eq-false owner o f (h.apart owner o k j slot at (i ∙ ap Some g)).0))
+          ∙ sym (e o)
 
 -- the slot that a number finds stands under it
 pub slot-under : (n : Numbers) (o : Owner) (k slot : ℕ) → Some slot ≡ option_flatten (slice_get (slots_of n o) k) → StandsUnder n slot o k
@@ -112,58 +140,32 @@ pub not_there : (v : RangeLists) (owner : Owner) (k : ℕ) → range_in (ranges_
     ranges_of v o ≡ with_ranges v owner (slice_set (ranges_of v owner) k None) o
 not_there v owner k e o = sym (ap (λ rs. with_ranges v owner rs o) (set-absent (ranges_of v owner) k e) ∙ with_ranges-same v owner o)
 
--- the table after a range was written
-pub ranges-written : (live after : Slab Points) (n : Numbers) (v : RangeLists) (slot k : ℕ) (owner : Owner) (q : Points) → Shows live n v →
-    HaveNumbers live n → StandsUnder n slot owner k → Updates live after slot (Some q)
-    → (o : Owner) → ranges_of (shown after n) o ≡ with_ranges v owner (slice_set (ranges_of v owner) k (Some (range_from q))) o
-ranges-written live after n v slot k owner q shows h at u o = ranges_of-shown after n o ∙ by (owner_eq owner o) refl
-  where
-    by : (b : Bool) → owner_eq owner o ≡ b →
-        map (range_kept after) (slots_of n o) ≡ cond b (slice_set (ranges_of v owner) k (Some (range_from q))) (ranges_of v o)
-    by true e =
-        let same = owner_eq-true owner o e in
-        map_set (slots_of n o)
-        (λ t f. ap (range_kept after) (same_Some _ _ (sym f ∙ subst (λ (p : Owner). StandsUnder n slot p k) same at)) ∙ ap (option_map range_from) u.changed)
-        (λ j t off f. shown_other live after slot u.others t (λ g. off (h.apart o owner j k slot (f ∙ ap Some g) at).1))
-        ∙ ap (λ rs. slice_set rs k (Some (range_from q))) (sym (shows o) ∙ ap (ranges_of v) (sym same))
-    by false e =
-        map_kept (range_kept live) (range_kept after) (slots_of n o)
-        (λ j t f. shown_other live after slot u.others t (λ g. owner_eq-false owner o e (h.apart owner o k j slot at (f ∙ ap Some g)).0))
-        ∙ sym (shows o)
+-- slots after all ranges were rewritten
+module _ (f : Range ℕ → Range ℕ) (live after : Slab Points) where
+  -- the table then
+  pub ranges-moved : (n : Numbers) (v : RangeLists) → Shows live n v
+      → ((s : ℕ) → option_map range_from (get after s) ≡ option_map (λ p. f (range_from p)) (get live s)) → (o : Owner) →
+      ranges_of (shown after n) o ≡ map (option_map f) (ranges_of v o)
+  ranges-moved n v e moved o =
+      ranges_of-shown after n o ∙ (map_twice (range_kept live) (option_map f) (range_kept after) (slots_of n o) by ∙ ap (map (option_map f)) (sym (e o)))
+    where
+      through : (t : Option Points) → option_map (λ p. f (range_from p)) t ≡ option_map f (option_map range_from t)
+      through None = refl
+      through (Some p) = refl
 
--- a range that is held is the one of its number
-pub range-standing : (live : Slab Points) (n : Numbers) (v : RangeLists) → Shows live n v → (slot k : ℕ) (o : Owner) (p : Points) →
-    StandsUnder n slot o k → get live slot ≡ Some p → slice_get (ranges_of v o) k ≡ Some (Some (range_from p))
-range-standing live n v e slot k o p at here =
-    ap (λ (rs : List (Option (Range ℕ))). slice_get rs k) (e o)
-    ∙ (slice_get-map (range_kept live) (slots_of n o) k
-    ∙ (ap (option_map (range_kept live)) at ∙ ap (λ t. Some (option_map range_from t)) here))
+      by : (t : Option ℕ) → range_kept after t ≡ option_map f (range_kept live t)
+      by None = refl
+      by (Some s) = moved s ∙ through (get live s)
 
--- the table after all ranges were rewritten
-pub ranges-moved : (f : Range ℕ → Range ℕ) (live after : Slab Points) (n : Numbers) (v : RangeLists) → Shows live n v
-    → ((s : ℕ) → option_map range_from (get after s) ≡ option_map (λ p. f (range_from p)) (get live s)) → (o : Owner) →
-    ranges_of (shown after n) o ≡ map (option_map f) (ranges_of v o)
-ranges-moved f live after n v e moved o =
-    ranges_of-shown after n o ∙ (map_twice (range_kept live) (option_map f) (range_kept after) (slots_of n o) by ∙ ap (map (option_map f)) (sym (e o)))
-  where
-    through : (t : Option Points) → option_map (λ p. f (range_from p)) t ≡ option_map f (option_map range_from t)
-    through None = refl
-    through (Some p) = refl
-
-    by : (t : Option ℕ) → range_kept after t ≡ option_map f (range_kept live t)
-    by None = refl
-    by (Some s) = moved s ∙ through (get live s)
-
--- slots that were rewritten hold ranges as before
-pub HoldSame-moved : (f : Range ℕ → Range ℕ) (live after : Slab Points) →
-    ((s : ℕ) → option_map range_from (get after s) ≡ option_map (λ p. f (range_from p)) (get live s)) → HoldSame live after
-HoldSame-moved f live after moved s = by (get after s) (get live s) (moved s)
-  where
-    by : (a b : Option Points) → option_map range_from a ≡ option_map (λ p. f (range_from p)) b → (IsSome a → IsSome b) × (IsSome b → IsSome a)
-    by None None e = (λ i. i, λ i. i)
-    by None (Some q) e = absurd (none-some _ e)
-    by (Some p) None e = absurd (none-some _ (sym e))
-    by (Some p) (Some q) e = (λ i. refl, λ i. refl)
+  -- they hold ranges as before
+  pub HoldSame-moved : ((s : ℕ) → option_map range_from (get after s) ≡ option_map (λ p. f (range_from p)) (get live s)) → HoldSame live after
+  HoldSame-moved moved s = by (get after s) (get live s) (moved s)
+    where
+      by : (a b : Option Points) → option_map range_from a ≡ option_map (λ p. f (range_from p)) b → (IsSome a → IsSome b) × (IsSome b → IsSome a)
+      by None None e = (λ i. i, λ i. i)
+      by None (Some q) e = absurd (none-some _ e)
+      by (Some p) None e = absurd (none-some _ (sym e))
+      by (Some p) (Some q) e = (λ i. refl, λ i. refl)
 
 -- ---- a slot more
 

@@ -19,6 +19,6 @@ drop_end-requires-in-Some-clause-there c =
 pub returns-in-Some-clause-listed : goal.returns-in-Some-clause-listed
 returns-in-Some-clause-listed c =
     let there : get c.args.live.now c.args.slot ≡ Some c.in-Some.points = sym c.in-Some.ensures.value in
-    IsListed-dropped c.args.live.now c.try_remove.new.self c.args.ends.now.items c.drop_end.new.ends.items c.drop_end-in-Some.new.ends.items
-    c.args.slot (end_of false c.in-Some.points) (end_of true c.in-Some.points) c.requires.listed (ap is_some there) c.try_remove.ensures.updates
-    c.drop_end.ensures.dropped c.drop_end-in-Some.ensures.dropped
+    IsListed-dropped c.args.live.now c.args.ends.now.items c.drop_end.new.ends.items c.args.slot (end_of false c.in-Some.points) (end_of true c.in-Some.points)
+    c.requires.listed (ap is_some there) c.drop_end.ensures.dropped c.try_remove.new.self c.drop_end-in-Some.new.ends.items c.try_remove.ensures.updates
+    c.drop_end-in-Some.ensures.dropped

@@ -6,6 +6,7 @@ use Rattle.dom_ranges.specs.declared.table.Points.{Points}
 use Rattle.dom_ranges.specs.declared.ends.RangeEnd.{RangeEnd}
 use Rattle.dom_ranges.specs.declared.ends.Span.{Span}
 use Rattle.dom_ranges.specs.Listed.{IsListed, IsMovedPart, is_chosen, end_in}
+use Rattle.dom_ranges.proofs.Listing.{IsPut}
 use Rattle.dom_ranges.proofs.Parts.{up_to, here-still, IsMovedPart-skipped, IsMovedPart-more, IsListed-set, nodes-more, nodes-same}
 use Rattle.dom_ranges.proofs.moving.move_part.Goals.{then-not-has+then-ne, then-not-has+else-ne, else-not-has}
 use Rattle.dom_ranges.proofs.moving.move_part.Goals as goal
@@ -25,6 +26,8 @@ loop-i-preserved g c =
           let one = w.index-ends-i.result in
           let b = at w.moved-offset.result.0 w.moved-offset.result.1 in
           let next = set now i (end_in one.slot one.is_end b) in
+          let put : IsPut c.loop-i.live w.put_point.new.live one.slot one.is_end b =
+          record { put = w.put_point.ensures.put; others = w.put_point.ensures.others } in
           let is_now : (d : RangeEnd) → get_or now i d ≡ one = λ d. sym (w.index-ends-i.is ∙ get_or_default now i one d inside) in
           let is_one : (d : RangeEnd) → get_or es i d ≡ one =
           λ d. sym (here-still rule target es now c.args.part.first i c.args.skipped within c.loop-i.auto.i so_far d) ∙ is_now d in
@@ -34,8 +37,7 @@ loop-i-preserved g c =
                 (sym c.has.ensures ∙ w.if-not-has.true) is_one w.moved-offset.ensures.moved w.moved-offset.ensures.goes);
             listed = subst (λ (t : Slab Points). IsListed t c.if-not-has.ends) (sym w.live-is)
                 (subst (IsListed w.put_point.new.live) (sym w.ends-is)
-                (IsListed-set c.loop-i.live w.put_point.new.live now i one b c.loop-i.invariant.listed inside is_now w.put_point.ensures.put
-                w.put_point.ensures.others));
+                (IsListed-set i c.loop-i.invariant.listed inside is_now put));
             start = inr (omega (arith, c.loop-i-test.true));
             up = omega (arith, ap (λ (t : Span). t.behind) w.changed-is);
             within = omega (arith, ap (λ (t : Span). t.behind) w.changed-is, within);
@@ -43,14 +45,16 @@ loop-i-preserved g c =
                 (get_or c.if-not-has.ends k d).node ≡ (get_or es k d).node) (sym w.changed-is)
                 (subst (λ (t : List RangeEnd). (k : ℕ) (d : RangeEnd) → (k < w.min.result) ⊎ (i + 1 ≤ k) → (get_or t k d).node ≡ (get_or es k d).node)
                 (sym w.ends-is)
-                (nodes-more es now next i c.loop-i.changed.first c.loop-i.changed.behind w.min.result
-                (λ k d off. get_or-set_other now i k (end_in one.slot one.is_end b) d off)
-                w.min.ensures c.loop-i.invariant.up c.loop-i.invariant.nodes));
+                (nodes-more es now next i c.loop-i.changed.first c.loop-i.changed.behind
+                (λ k d off. get_or-set_other now i k (end_in one.slot one.is_end b) d off) c.loop-i.invariant.nodes
+                w.min.result w.min.ensures c.loop-i.invariant.up));
           }
       | then-not-has+else-ne w ↦
           let one = w.index-ends-i.result in
           let b = at w.moved-offset.result.0 w.moved-offset.result.1 in
           let next = set now i (end_in one.slot one.is_end b) in
+          let put : IsPut c.loop-i.live w.put_point.new.live one.slot one.is_end b =
+          record { put = w.put_point.ensures.put; others = w.put_point.ensures.others } in
           let is_now : (d : RangeEnd) → get_or now i d ≡ one = λ d. sym (w.index-ends-i.is ∙ get_or_default now i one d inside) in
           let is_one : (d : RangeEnd) → get_or es i d ≡ one =
           λ d. sym (here-still rule target es now c.args.part.first i c.args.skipped within c.loop-i.auto.i so_far d) ∙ is_now d in
@@ -61,8 +65,7 @@ loop-i-preserved g c =
                 (sym c.has.ensures ∙ w.if-not-has.true) is_one w.moved-offset.ensures.moved w.moved-offset.ensures.goes);
             listed = subst (λ (t : Slab Points). IsListed t c.if-not-has.ends) (sym w.live-is)
                 (subst (IsListed w.put_point.new.live) (sym w.ends-is)
-                (IsListed-set c.loop-i.live w.put_point.new.live now i one b c.loop-i.invariant.listed inside is_now w.put_point.ensures.put
-                w.put_point.ensures.others));
+                (IsListed-set i c.loop-i.invariant.listed inside is_now put));
             start = inr (omega (arith, c.loop-i-test.true));
             up = omega (arith, ap (λ (t : Span). t.behind) w.changed-is, c.loop-i.invariant.up);
             within = omega (arith, ap (λ (t : Span). t.behind) w.changed-is, c.loop-i.invariant.within);
@@ -71,10 +74,9 @@ loop-i-preserved g c =
                 (subst (λ (t : List RangeEnd). (k : ℕ) (d : RangeEnd) → (k < c.loop-i.changed.first) ⊎ (c.loop-i.changed.behind ≤ k) →
                 (get_or t k d).node ≡ (get_or es k d).node) (sym w.ends-is)
                 (nodes-same es now next i c.loop-i.changed.first c.loop-i.changed.behind
-                (λ k d off. get_or-set_other now i k (end_in one.slot one.is_end b) d off)
+                (λ k d off. get_or-set_other now i k (end_in one.slot one.is_end b) d off) c.loop-i.invariant.nodes
                 (λ d. ap (λ (x : RangeEnd). x.node) (get_or-set_same now i (end_in one.slot one.is_end b) d inside) ∙
-                (stays ∙ sym (ap (λ (x : RangeEnd). x.node) (is_now d))))
-                c.loop-i.invariant.nodes));
+                (stays ∙ sym (ap (λ (x : RangeEnd). x.node) (is_now d))))));
           }
       | else-not-has w ↦
           record {

@@ -3,7 +3,7 @@ use Rattle.slab.specs.Slab.{get}
 use Rattle.dom_model.specs.Place.{Boundary}
 use Rattle.dom_model.specs.Ranges.{at}
 use Rattle.dom_ranges.specs.Listed.{IsListedOnce, HasChanged, end_in, end_of}
-use Rattle.dom_ranges.proofs.Listing.{IsListed-put, listed-once}
+use Rattle.dom_ranges.proofs.Listing.{IsPut, IsListed-put, listed-once}
 use Rattle.dom_ranges.proofs.moving.put_end.Goals.{then-is_end, else-is_end}
 use Rattle.dom_ranges.proofs.moving.put_end.Goals as goal
 
@@ -24,7 +24,8 @@ returns-after-is_end-clause-listed c =
       | then-is_end w ↦ ap (λ t. at t.0 t.1) w.from-is ∙ sym (ap (λ b. end_of b c.in-Some.points) w.if-is_end.true)
       | else-is_end w ↦ ap (λ t. at t.0 t.1) w.from-is ∙ sym (ap (λ b. end_of b c.in-Some.points) w.if-is_end.false)
     ] in
-    IsListed-put c.args.live.now c.put_point.new.live c.args.ends.now c.bring.new.ends c.args.slot c.args.is_end (at c.args.point.0 c.args.point.1)
-    c.in-Some.points c.requires.listed there c.put_point.ensures.put c.put_point.ensures.others
+    let put : IsPut c.args.live.now c.put_point.new.live c.args.slot c.args.is_end (at c.args.point.0 c.args.point.1) =
+    record { put = c.put_point.ensures.put; others = c.put_point.ensures.others } in
+    IsListed-put c.requires.listed there put
     (subst (λ (b : Boundary _). HasChanged c.args.ends.now c.bring.new.ends (end_in c.args.slot c.args.is_end b ∷ [])
     (end_in c.args.slot c.args.is_end (at c.args.point.0 c.args.point.1) ∷ [])) point_is c.bring.ensures.brought)

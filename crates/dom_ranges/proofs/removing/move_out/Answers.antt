@@ -46,7 +46,7 @@ returns-clause-moved c =
     let index = c.index-index.result in
     let Twice : ℕ → Boundary ℕ → Type 0 = λ i b.
     after_removal nat_eq inside c.args.parent i b ≡ after_closing c.args.parent index (after_leaving inside c.args.parent index b) in
-    moves-twice (after_leaving inside c.args.parent index) (after_closing c.args.parent index)
-    (after_removal nat_eq inside c.args.parent (index_of f.trees (name_at f.names c.args.node))) c.args.live.now c.move_ends.new.live c.close-2.new.live
+    moves-twice (after_leaving inside c.args.parent index) (after_closing c.args.parent index) c.args.live.now
+    (after_removal nat_eq inside c.args.parent (index_of f.trees (name_at f.names c.args.node))) c.move_ends.new.live c.close-2.new.live
     c.move_ends.ensures.moved c.close-2.ensures.moved
     (λ b. subst (λ (i : ℕ). Twice i b) c.index-index.ensures (removal-twice inside c.args.parent index b))

@@ -72,8 +72,7 @@ held-then c =
 pub invariant_of-self-2 : goal.invariant_of-self-2
 invariant_of-self-2 c = (
   held-then c,
-  IsListed-added c.self.inside.live c.insert.new.self c.self.inside.ends.items c.list_range.new.ends.items c.in_ok-slot.slot (at c.args.node 0) _
-      c.self.invariant.1 c.in_ok-slot.ensures.was_vacant c.in_ok-slot.ensures.updates refl refl
+  IsListed-added c.self.invariant.1 c.in_ok-slot.ensures.was_vacant c.in_ok-slot.ensures.updates refl refl
       (subst (λ (xs : List RangeEnd). IsPermutation
       (xs ++ end_in c.in_ok-slot.slot false (at c.args.node 0) ∷ end_in c.in_ok-slot.slot true (at c.args.node 0) ∷ []) c.list_range.new.ends.items)
       c.reserve-2.ensures.items c.list_range.ensures.listed),

@@ -17,5 +17,5 @@ returns-clause-named c =
     (c.write.ensures o
     ∙ ap (λ (r : Option (Range ℕ)). with_ranges c.args.self.now c.args.owner (slice_set (ranges_of c.args.self.now c.args.owner) c.args.number r) o)
     (ap Some c.with_end.ensures ∙ ap (option_map (end_set f b)) (sym c.in_ok-points.ensures.points)))
-    ∙ with-named f.names c.args.self.now c.args.owner c.args.number (end_set f b)
-    (with_end f.trees (at (name_at f.names c.args.node) c.args.offset)) (end-named f b) o
+    ∙ with-named f.names c.args.self.now c.args.owner c.args.number
+    (record { keyed = end_set f b; named = with_end f.trees (at (name_at f.names c.args.node) c.args.offset); agrees = end-named f b }) o

@@ -17,5 +17,5 @@ returns-clause-named c =
     (c.write.ensures o
     ∙ ap (λ (r : Option (Range ℕ)). with_ranges c.args.self.now c.args.owner (slice_set (ranges_of c.args.self.now c.args.owner) c.args.number r) o)
     (ap Some c.with_start.ensures ∙ ap (option_map (start_set f b)) (sym c.in_ok-points.ensures.points)))
-    ∙ with-named f.names c.args.self.now c.args.owner c.args.number (start_set f b)
-    (with_start f.trees (at (name_at f.names c.args.node) c.args.offset)) (start-named f b) o
+    ∙ with-named f.names c.args.self.now c.args.owner c.args.number
+    (record { keyed = start_set f b; named = with_start f.trees (at (name_at f.names c.args.node) c.args.offset); agrees = start-named f b }) o

@@ -20,9 +20,8 @@ returns-in-Some c =
           (slot-under c.self.inside.numbers c.args.owner c.args.number c.in-Some.slot c.in-Some.ensures)));
       others = λ s off. c.put_end-in-Some.ensures.others s off ∙ c.put_end.ensures.others s off;
     }) in
-    ranges-written c.self.inside.live c.put_end-in-Some.new.live c.self.inside.numbers _ c.in-Some.slot c.args.number c.args.owner _
-    (Shows-view c.self.inside.live c.self.inside.numbers _ c.self.view_is)
-    c.self.invariant.0 (slot-under c.self.inside.numbers c.args.owner c.args.number c.in-Some.slot c.in-Some.ensures) u
+    ranges-written c.self.inside.live c.self.inside.numbers _ (Shows-view c.self.inside.live c.self.inside.numbers _ c.self.view_is)
+    c.args.number c.args.owner c.self.invariant.0 (slot-under c.self.inside.numbers c.args.owner c.args.number c.in-Some.slot c.in-Some.ensures) u
 
 pub put_end-requires-clause-held : goal.put_end-requires-clause-held
 put_end-requires-clause-held c = c.self.invariant.0.held c.args.owner c.args.number c.in-Some.slot
