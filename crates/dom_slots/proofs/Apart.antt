@@ -10,7 +10,7 @@ use Rattle.std.proofs.lemmas.Option.{same_Some, none-some}
 use Rattle.dom_base.specs.declared.NodeName.{NodeName}
 use Rattle.dom_model.specs.Names.{name_eq, is_in, is_empty, distinct}
 use Rattle.dom_model.specs.Slots.{is_slot_element, slots_among}
-use Rattle.dom_model.specs.Tree.{Trees, none, tree, Node, node_in, subtree, parent_of, root_of}
+use Rattle.dom_model.specs.Tree.{Trees, node_in, subtree, parent_of, root_of}
 use Rattle.dom_model.specs.TreeChanges.{placed, taken_out, with_attribute}
 use Rattle.dom_tree.specs.Forest.{NamedTrees, name_at}
 use Rattle.dom_tree.specs.Apart.{TellApart}
@@ -28,8 +28,7 @@ use Rattle.dom_slots.specs.declared.step.Step.TheVariants.{Place, Removal, Attri
 use Rattle.dom_slots.proofs.Attributed.{parent-changed, changed-keeps, changed-stays}
 use Rattle.dom_slots.proofs.Choices.{third-fails}
 use Rattle.dom_slots.proofs.Ended.{told-signals, there-was, there-now, both-stand, not-own, none-own, but-for, others-among, renewed-table}
-use Rattle.dom_slots.proofs.PlacedTrees.{Spot, grafted}
-use Rattle.dom_slots.proofs.Moved.{AreBoth, IsAside, Outside, root-aside, moved-keeps}
+use Rattle.dom_slots.proofs.Moved.{IsAside, Outside, root-aside, moved-keeps}
 use Rattle.dom_slots.proofs.OwnSignals.{own-signalled}
 use Rattle.dom_slots.proofs.Settled.{KeepsAssigned, assigned-kept}
 use Rattle.dom_slots.proofs.Signalled.{fold-distinct}
@@ -52,24 +51,19 @@ outside_told names ts hosts (Some q) e p is = subst (λ z. host_named names host
 abbrev AsideKept : List NodeName → List ShadowHost → NodeName → Trees → Trees → Type 0
 AsideKept names hosts x was now = IsAside names hosts x was now → KeepsAssigned names hosts x was now
 
-aside-kept : (names : List NodeName) (hosts : List ShadowHost) (m : Node) (d us : Trees) (p q : Spot) →
-    ((y : NodeName) → Has us y → Has (tree m d none) y → ⊥) → AreBoth names hosts (grafted m d p us) (grafted m d q us)
-    → AsideKept names hosts m.name (grafted m d p us) (grafted m d q us)
-aside-kept names hosts m d us p q apart both aside = moved-keeps names hosts m d us p q apart both aside
-
 module _ (names : List NodeName) (hosts : List ShadowHost) (x : NodeName) (was now : Trees) (aside : IsAside names hosts x was now) (at_was : Has was x) where
   removal_keeps : now ≡ taken_out x was → KeepsAssigned names hosts x was now
-  removal_keeps is = removal-so names hosts (AsideKept names hosts) (aside-kept names hosts) x was now aside.both at_was is aside
+  removal_keeps is = removal-so names hosts (AsideKept names hosts) (moved-keeps names hosts) x was now aside.both at_was is aside
 
   module _ (at_now : Has now x) (parent : NodeName) (before : Option NodeName) (is : now ≡ placed x parent before was) where
     place_keeps : KeepsAssigned names hosts x was now
-    place_keeps = place-so names hosts (AsideKept names hosts) (aside-kept names hosts) x was now aside.both at_was at_now parent before is aside
+    place_keeps = place-so names hosts (AsideKept names hosts) (moved-keeps names hosts) x was now aside.both at_was at_now parent before is aside
 
     -- and the parent is in no shadow tree
     parent_unhosted : Has now parent → host_named names hosts (root_of now parent) ≡ None
     parent_unhosted at =
         ap (host_named names hosts) (sym (place-root x was now aside.both.once_was at_was at_now parent before is aside.both.once_now at)) ∙
-        root-aside names hosts x was now aside at_now
+        root-aside aside at_now
 
 -- who stands in no shadow tree is no slot there
 not_bare : (f : NamedTrees) (hosts : List ShadowHost) (b : Bool) (y : NodeName) → host_named f.names hosts (root_of f.trees y) ≡ None →

@@ -88,7 +88,7 @@ module _ (x : NodeName) (g : Node → Node) (keeps : (n : Node) → (g n).name �
       settled y h = elim (has_or_not (subtree was (root_of was y)) x) [
         | inl i ↦
             let none_was : host_named names hosts (root_of was y) ≡ None =
-            ap (host_named names hosts) (sym (root-within was both.once_was y x h i) ∙ root_same x) ∙ root-aside names hosts x was now aside at_now in
+            ap (host_named names hosts) (sym (root-within was both.once_was y x h i) ∙ root_same x) ∙ root-aside aside at_now in
             inr (none_was, ap (host_named names hosts) (sym (root_same y)) ∙ none_was)
         | inr away ↦ inl (changed-settled y away)
       ]

@@ -10,27 +10,26 @@ use Rattle.dom_model.specs.Tree.{Node, nodes, names_of, node_in, parent_of, root
 use Rattle.dom_model.specs.Slots.{slots_among, slot_in, has_slot_name, slottable_name, is_slot_element}
 use Rattle.dom_model.proofs.OwnerLaws.{name_eq-true}
 use Rattle.dom_tree.specs.Forest.{NamedTrees, name_at}
-use Rattle.dom_tree.specs.Apart.{TellApart}
 use Rattle.dom_traversal.proofs.Lists.{name_eq-from, filter-none}
 use Rattle.dom_slots.specs.Hosts.{ShadowHost, root_named}
 use Rattle.dom_slots.specs.Shadows.{shadows, slot_at, assigned_at, assigned_under, is_assigned_at}
 use Rattle.dom_slots.specs.Tables.{SlotTable, list_of}
 
-module _ (f : NamedTrees) (hosts : List ShadowHost) (apart : TellApart f.names) where
-  -- a list of nodes is entered
-  pub entered_nodes : (s : ℕ) (list : List ℕ) → All (λ j. j < length f.names) list → (mid new : SlotTable) →
-      ((k : ℕ) → list_of new k ≡ (if nat_eq s k then list else list_of mid k))
-      → ((k : ℕ) → All (λ j. j < length f.names) (list_of mid k)) → (k : ℕ) → All (λ j. j < length f.names) (list_of new k)
-  entered_nodes s list here mid new written before k = subst (All (λ j. j < length f.names)) (sym (written k)) (by (nat_eq s k))
+-- a list is entered
+module _ (f : NamedTrees) (s : ℕ) (list : List ℕ) (mid new : SlotTable)
+    (written : (k : ℕ) → list_of new k ≡ (if nat_eq s k then list else list_of mid k)) where
+  -- it is one of nodes
+  pub entered_nodes : All (λ j. j < length f.names) list → ((k : ℕ) → All (λ j. j < length f.names) (list_of mid k)) → (k : ℕ) →
+      All (λ j. j < length f.names) (list_of new k)
+  entered_nodes here before k = subst (All (λ j. j < length f.names)) (sym (written k)) (by (nat_eq s k))
     where
       by : (b : Bool) → All (λ j. j < length f.names) (if b then list else list_of mid k)
       by true = here
       by false = before k
 
   -- what is no node has the list that it had
-  pub entered_beyond : (s : ℕ) → s < length f.names → (list : List ℕ) (mid new : SlotTable) →
-      ((k : ℕ) → list_of new k ≡ (if nat_eq s k then list else list_of mid k)) → (k : ℕ) → length f.names ≤ k → list_of new k ≡ list_of mid k
-  entered_beyond s node list mid new written k far = written k ∙ ap (λ (b : Bool). if b then list else list_of mid k) (ne_eqb s k (λ e. omega arith))
+  pub entered_beyond : s < length f.names → (k : ℕ) → length f.names ≤ k → list_of new k ≡ list_of mid k
+  entered_beyond node k far = written k ∙ ap (λ (b : Bool). if b then list else list_of mid k) (ne_eqb s k (λ e. omega arith))
 
 module _ (f : NamedTrees) (hosts : List ShadowHost) where
   -- no slot of the trees of these hosts has this name
@@ -82,37 +81,39 @@ module _ (f : NamedTrees) (hosts : List ShadowHost) where
           (λ (b : Bool). option_map (λ (g : ShadowHost). name_at f.names g.root)
           (if b then Some h else find (λ (g : ShadowHost). name_eq p (name_at f.names g.host)) hs)) i) ∙ e)
 
-  -- a slot that is found is one of the hosts' trees
-  other_slot : (y z p r : NodeName) (n : Node) → NoneHas y hosts → root_named f.names hosts p ≡ Some r → (o : Option DomString)
-      → option_and_then (λ name. option_map (λ (m : Node). m.name) (find (has_slot_name name) (nodes (subtree f.trees r)))) o ≡ Some z → name_eq y z ≡ false
-  other_slot y z p r n none up None e = cc
-  other_slot y z p r n none up (Some name) e =
-      false_from_ne_true (name_eq y z)
-      (λ same. true≢false (sym (found_among name z (nodes (subtree f.trees r)) e) ∙
-      (ap (λ u. is_in name_eq u (slots_among (subtree f.trees r))) (sym (name_eq-true y z same)) ∙ root_among y p r hosts none up)))
+  -- of such a slot
+  module _ (y : NodeName) (none : NoneHas y hosts) where
+    -- a slot that is found is one of the hosts' trees
+    other_slot : (z p r : NodeName) → root_named f.names hosts p ≡ Some r → (o : Option DomString)
+        → option_and_then (λ name. option_map (λ (m : Node). m.name) (find (has_slot_name name) (nodes (subtree f.trees r)))) o ≡ Some z → name_eq y z ≡ false
+    other_slot z p r up None e = cc
+    other_slot z p r up (Some name) e =
+        false_from_ne_true (name_eq y z)
+        (λ same. true≢false (sym (found_among name z (nodes (subtree f.trees r)) e) ∙
+        (ap (λ u. is_in name_eq u (slots_among (subtree f.trees r))) (sym (name_eq-true y z same)) ∙ root_among y p r hosts none up)))
 
-  from_root : (y z p : NodeName) (n : Node) → NoneHas y hosts → (o : Option NodeName) → root_named f.names hosts p ≡ o →
-      option_and_then (λ r. slot_in (subtree f.trees r) n) o ≡ Some z → name_eq y z ≡ false
-  from_root y z p n none None up e = cc
-  from_root y z p n none (Some r) up e = other_slot y z p r n none up (slottable_name n) e
+    from_root : (z p : NodeName) (n : Node) (o : Option NodeName) → root_named f.names hosts p ≡ o →
+        option_and_then (λ r. slot_in (subtree f.trees r) n) o ≡ Some z → name_eq y z ≡ false
+    from_root z p n None up e = cc
+    from_root z p n (Some r) up e = other_slot z p r up (slottable_name n) e
 
-  from_parent : (y z : NodeName) (n : Node) → NoneHas y hosts → (o : Option NodeName) →
-      option_and_then (λ r. slot_in (subtree f.trees r) n) (option_and_then (root_named f.names hosts) o) ≡ Some z → name_eq y z ≡ false
-  from_parent y z n none None e = cc
-  from_parent y z n none (Some p) e = from_root y z p n none (root_named f.names hosts p) refl e
+    from_parent : (z : NodeName) (n : Node) (o : Option NodeName) →
+        option_and_then (λ r. slot_in (subtree f.trees r) n) (option_and_then (root_named f.names hosts) o) ≡ Some z → name_eq y z ≡ false
+    from_parent z n None e = cc
+    from_parent z n (Some p) e = from_root z p n (root_named f.names hosts p) refl e
 
-  -- nothing is assigned to a node that is no slot of the hosts' trees
-  pub unassigned : (y : NodeName) → NoneHas y hosts → (x : NodeName) → is_assigned_at (shadows f hosts) y x ≡ false
-  unassigned y none x = by (slot_at (shadows f hosts) x) (λ z e. from_parent y z (node_in f.trees x) none (parent_of f.trees x) e)
-    where
-      by : (o : Option NodeName) → ((z : NodeName) → o ≡ Some z → name_eq y z ≡ false) → is_in name_eq y (option_to_list o) ≡ false
-      by None h = refl
-      by (Some z) h = ap (λ b. b || false) (h z refl)
+    -- nothing is assigned to a node that is no slot of the hosts' trees
+    pub unassigned : (x : NodeName) → is_assigned_at (shadows f hosts) y x ≡ false
+    unassigned x = by (slot_at (shadows f hosts) x) (λ z e. from_parent z (node_in f.trees x) (parent_of f.trees x) e)
+      where
+        by : (o : Option NodeName) → ((z : NodeName) → o ≡ Some z → name_eq y z ≡ false) → is_in name_eq y (option_to_list o) ≡ false
+        by None h = refl
+        by (Some z) h = ap (λ b. b || false) (h z refl)
 
-  -- so its list is empty
-  pub unslotted : (y : NodeName) → NoneHas y hosts → [] ≡ assigned_at (shadows f hosts) y
-  unslotted y none = by ((shadows f hosts).host_of (root_of f.trees y))
-    where
-      by : (o : Option NodeName) → [] ≡ option_map_or (assigned_under (shadows f hosts) y) o []
-      by None = refl
-      by (Some h) = sym (filter-none (is_assigned_at (shadows f hosts) y) (children_of f.trees h) (λ x i. unassigned y none x))
+    -- so its list is empty
+    pub unslotted : [] ≡ assigned_at (shadows f hosts) y
+    unslotted = by ((shadows f hosts).host_of (root_of f.trees y))
+      where
+        by : (o : Option NodeName) → [] ≡ option_map_or (assigned_under (shadows f hosts) y) o []
+        by None = refl
+        by (Some h) = sym (filter-none (is_assigned_at (shadows f hosts) y) (children_of f.trees h) (λ x i. unassigned x))

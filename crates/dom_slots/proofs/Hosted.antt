@@ -63,11 +63,11 @@ module _ (names : List NodeName) (distinct : TellApart names) where
         (name_eq-other (name_at names k) (name_at names j) (λ same. both_ways _ e (eq-eqb j k (sym (distinct k j i (h j refl) same))))))
   ]
 
--- a key that has the name of another one is that one
-pub named-key : (names : List NodeName) → TellApart names → (o : Option ℕ) → ForSome o (λ k. k < length names) → (k : ℕ) → k < length names →
-    option_map (name_at names) o ≡ Some (name_at names k) → o ≡ Some k
-named-key names distinct None nodes k within e = absurd (none-some (name_at names k) e)
-named-key names distinct (Some j) nodes k within e = ap Some (distinct j k (nodes j refl) within (same_Some (name_at names j) (name_at names k) e))
+  -- a key that has the name of another one is that one
+  pub named-key : (o : Option ℕ) → ForSome o (λ k. k < length names) → (k : ℕ) → k < length names →
+      option_map (name_at names) o ≡ Some (name_at names k) → o ≡ Some k
+  named-key None nodes k within e = absurd (none-some (name_at names k) e)
+  named-key (Some j) nodes k within e = ap Some (distinct j k (nodes j refl) within (same_Some (name_at names j) (name_at names k) e))
 
 -- a root that is found is a node
 pub root-node : (names : List NodeName) (hosts : List ShadowHost) → HostsAreNodes names hosts → (k r : ℕ) → root_of_host hosts k ≡ Some r → r < length names

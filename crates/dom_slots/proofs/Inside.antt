@@ -294,8 +294,7 @@ module _ (was : Trees) (f : NamedTrees) (s : SlotsNow) (b : BegunStep) (ended : 
       q y = is_other y && not (is_in name_eq y (told_slots around))
 
       late : (others : List ℕ) × AreRenewed f s.hosts q m.0 lefts (filter q lefts) table others
-      late = m.2 q (renewed-anew f s.hosts is_other s.table (told_slots around)
-          (told ++ filter is_other (slots_around f s.hosts b.step (name_at f.names around))) m.0 keys m.1)
+      late = m.2 q (renewed-anew m.1)
 
       early : (k : ℕ) → k < length f.names → is_in name_eq (name_at f.names k) lefts ≡ false → (c : Bool) →
           is_in name_eq (name_at f.names k) (told_slots around) ≡ c → map (name_at f.names) (list_of m.0 k) ≡ assigned_at after (name_at f.names k)

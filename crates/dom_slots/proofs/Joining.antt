@@ -60,34 +60,40 @@ but-between x (z ∷ zs) b off_a off_b =
     ap (λ d. if not d then z ∷ names_but x (zs ++ x ∷ b) else names_but x (zs ++ x ∷ b)) (name_eq-other x z (λ e. off_a (inl e))) ∙
     ap (λ ys. z ∷ ys) (but-between x zs b (λ i. off_a (inr i)) off_b)
 
+-- keys of nodes, with the names of one list and then those of another one
+record AreParted (names : List NodeName) (ks : List ℕ) (a b : List NodeName) : Type 0 where
+  inside : All (λ k. k < length names) ks
+  named : map (name_at names) ks ≡ a ++ b
+
 module _ (names : List NodeName) (distinct : TellApart names) (n : ℕ) where
   -- a key that is put just before another one has its name there
-  put-named : (c : ℕ) → c < length names → (a b : List NodeName) → (In (name_at names c) a → ⊥) → first_of b ≡ Some (name_at names c) →
-      (ks : List ℕ) → All (λ k. k < length names) ks → map (name_at names) ks ≡ a ++ b
-      → map (name_at names) (put_before ks n c) ≡ a ++ name_at names n ∷ b
-  put-named c node [] b off first [] inside is = absurd (none-some (name_at names c) (ap first_of is ∙ first))
-  put-named c node [] b off first (k ∷ ks) inside is =
-      let same : k ≡ c = distinct k c (All-head (λ j. j < length names) k ks inside) node
-      (same_Some (name_at names k) (name_at names c) (ap first_of is ∙ first)) in
-      ap (λ d. map (name_at names) (if d then n ∷ k ∷ ks else k ∷ put_before ks n c)) (eq-eqb k c same) ∙ ap (λ ys. name_at names n ∷ ys) is
-  put-named c node (z ∷ a) b off first [] inside is = absurd (none-some z (ap first_of is))
-  put-named c node (z ∷ a) b off first (k ∷ ks) inside is =
-      let at : name_at names k ≡ z = same_Some (name_at names k) z (ap first_of is) in
+  put-named : {a b : List NodeName} {ks : List ℕ} (c : ℕ) → c < length names → (In (name_at names c) a → ⊥) → first_of b ≡ Some (name_at names c) →
+      AreParted names ks a b → map (name_at names) (put_before ks n c) ≡ a ++ name_at names n ∷ b
+  put-named {a = []} {b} {ks = []} c node off first parted = absurd (none-some (name_at names c) (ap first_of parted.named ∙ first))
+  put-named {a = []} {b} {ks = k ∷ ks} c node off first parted =
+      let same : k ≡ c = distinct k c (All-head (λ j. j < length names) k ks parted.inside) node
+      (same_Some (name_at names k) (name_at names c) (ap first_of parted.named ∙ first)) in
+      ap (λ d. map (name_at names) (if d then n ∷ k ∷ ks else k ∷ put_before ks n c)) (eq-eqb k c same) ∙ ap (λ ys. name_at names n ∷ ys) parted.named
+  put-named {a = z ∷ a} {b} {ks = []} c node off first parted = absurd (none-some z (ap first_of parted.named))
+  put-named {a = z ∷ a} {b} {ks = k ∷ ks} c node off first parted =
+      let at : name_at names k ≡ z = same_Some (name_at names k) z (ap first_of parted.named) in
       let apart : nat_eq k c ≡ false = false_from_ne_true (nat_eq k c) (λ e. off (inl (ap (name_at names) (sym (eqb-true k c e)) ∙ at))) in
+      let rest : AreParted names ks a b =
+      record { inside = All-tail (λ j. j < length names) k ks parted.inside; named = ap (drop 1) parted.named } in
       ap (λ d. map (name_at names) (if d then n ∷ k ∷ ks else k ∷ put_before ks n c)) apart
-      ∙ (ap (λ y. y ∷ map (name_at names) (put_before ks n c)) at
-      ∙ ap (λ ys. z ∷ ys) (put-named c node a b (λ i. off (inr i)) first ks (All-tail (λ j. j < length names) k ks inside) (ap (drop 1) is)))
+      ∙ (ap (λ y. y ∷ map (name_at names) (put_before ks n c)) at ∙ ap (λ ys. z ∷ ys) (put-named c node (λ i. off (inr i)) first rest))
 
   -- one that is put before another one or last, where those behind it begin with that one
-  inserted-named : (before : Option ℕ) → ForSome before (λ k. k < length names) → (a b : List NodeName) → ((y : NodeName) → In y a → In y b → ⊥) →
-      option_map (name_at names) before ≡ first_of b → (ks : List ℕ) → All (λ k. k < length names) ks
-      → map (name_at names) ks ≡ a ++ b → map (name_at names) (insert_before ks n before) ≡ a ++ name_at names n ∷ b
-  inserted-named None node a [] apart first ks inside is = map-append (name_at names) ks (n ∷ []) ∙ ap (λ ys. ys ++ name_at names n ∷ []) (is ∙ append-nil a)
-  inserted-named None node a (y ∷ b) apart first ks inside is = absurd (none-some y first)
-  inserted-named (Some c) node a b apart first ks inside is =
-      put-named c (node c refl) a b
+  inserted-named : {a b : List NodeName} {ks : List ℕ} (before : Option ℕ) → ForSome before (λ k. k < length names) →
+      ((y : NodeName) → In y a → In y b → ⊥) → option_map (name_at names) before ≡ first_of b → AreParted names ks a b
+      → map (name_at names) (insert_before ks n before) ≡ a ++ name_at names n ∷ b
+  inserted-named {a} {b = []} {ks} None node apart first parted =
+      map-append (name_at names) ks (n ∷ []) ∙ ap (λ ys. ys ++ name_at names n ∷ []) (parted.named ∙ append-nil a)
+  inserted-named {a} {b = y ∷ b} {ks} None node apart first parted = absurd (none-some y first)
+  inserted-named {a} {b} {ks} (Some c) node apart first parted =
+      put-named c (node c refl)
       (λ i. let s = first_split b (name_at names c) (sym first) in apart (name_at names c) i (subst (In (name_at names c)) (sym s.1) (inl refl)))
-      (sym first) ks inside is
+      (sym first) parted
 
 -- ---- the list of the slot of a child
 
@@ -173,14 +179,17 @@ module _ (f : NamedTrees) (once : Once f.trees) (distinct : TellApart f.names) (
     parts : map (name_at f.names) list ≡ front ++ rear
     parts = right ∙ (ap (names_but x) assigned-parts ∙ but-between x front rear off_front off_rear)
 
+    parted : AreParted f.names list front rear
+    parted = record { inside = inside; named = parts }
+
     -- with the node at its place the list is that of what is assigned
     pub joined : map (name_at f.names) (insert_before list n before) ≡ assigned_at s y
     joined =
-        inserted-named f.names distinct n before node front rear apart
+        inserted-named f.names distinct n before node apart
         (is ∙ (ap (λ ys. first_of (filter (λ z. looks_for (slot_name (node_in f.trees y)) (node_in f.trees z)) (items_after name_eq x ys)))
         (siblings-children f once x h at up)
         ∙ ap first_of (filter-same (λ z. looks_for (slot_name (node_in f.trees y)) (node_in f.trees z)) mine (items_after name_eq x all) looks)))
-        list inside parts
+        parted
         ∙ sym assigned-parts
 
     -- it was not in the list

@@ -24,15 +24,15 @@ module _ (key value : ShadowHost → ℕ) (h : ShadowHost) where
       by false true e = absurd (true≢false (sym e))
       by false false e = refl
   found-more (g ∷ hosts) new k =
-      by (nat_eq k (key g)) (nat_eq (key h) (key g)) (nat_eq (key h) k) refl refl refl new (λ rest. found-more hosts rest k)
+      by (nat_eq k (key g)) (nat_eq (key h) (key g)) (nat_eq (key h) k)
+      (λ at here. eq-eqb (key h) (key g) (eqb-true (key h) k here ∙ eqb-true k (key g) at)) new (λ rest. found-more hosts rest k)
     where
-      by : (d e c : Bool) → nat_eq k (key g) ≡ d → nat_eq (key h) (key g) ≡ e → nat_eq (key h) k ≡ c →
+      by : (d e c : Bool) → (d ≡ true → c ≡ true → e ≡ true) →
           option_map value (if e then Some g else find (λ f. nat_eq (key h) (key f)) hosts) ≡ None →
           (look (key h) hosts ≡ None → (if c then Some (value h) else look k hosts) ≡ look k (hosts ++ h ∷ [])) →
           (if c then Some (value h) else option_map value (if d then Some g else find (λ f. nat_eq k (key f)) hosts))
           ≡ option_map value (if d then Some g else find (λ f. nat_eq k (key f)) (hosts ++ h ∷ []))
-      by d true c at other here absent rest = absurd (none-some (value g) (sym absent))
-      by true false true at other here absent rest =
-          absurd (true≢false (sym (eq-eqb (key h) (key g) (eqb-true (key h) k here ∙ eqb-true k (key g) at)) ∙ other))
-      by true false false at other here absent rest = refl
-      by false false c at other here absent rest = rest absent
+      by d true c both absent rest = absurd (none-some (value g) (sym absent))
+      by true false true both absent rest = absurd (true≢false (sym (both refl refl)))
+      by true false false both absent rest = refl
+      by false false c both absent rest = rest absent

@@ -186,13 +186,20 @@ module _ (was : ℕ → List ℕ) (slot : ℕ) (nodes : List ℕ) (i n : ℕ) (a
       both false true false false = refl
 
 -- a slot is given another list: it is taken from the nodes of its old list, and given to those of the new one
-pub agree-inserted : (slot : ℕ) (list : List ℕ) (lists new_lists slots mid after : ℕ → List ℕ) → Agree lists slots →
-    ((k : ℕ) → new_lists k ≡ (if nat_eq slot k then list else lists k)) → AreTaken slots slot (lists slot) mid → AreGiven mid slot list after
-    → Agree new_lists after
-agree-inserted slot list lists new_lists slots mid after agree by_slot taken given k s =
-    given k s
-    ∙ (ap (λ m. m || (nat_eq slot s && is_in nat_eq k list)) (taken k s ∙ ap (λ m. m && not (nat_eq slot s && is_in nat_eq k (lists slot))) (agree k s))
-    ∙ (by (nat_eq slot s) refl ∙ sym (ap (is_in nat_eq k) (by_slot s))))
+pub record IsRelisted (slot : ℕ) (list : List ℕ) (lists new_lists slots after : ℕ → List ℕ) : Type 0 where
+  pub mid : ℕ → List ℕ
+  pub by_slot : (k : ℕ) → new_lists k ≡ (if nat_eq slot k then list else lists k)
+  pub taken : AreTaken slots slot (lists slot) mid
+  pub given : AreGiven mid slot list after
+
+-- then the lists of slots and the slots of nodes agree as before
+pub agree-inserted : {slot : ℕ} {list : List ℕ} {lists new_lists slots after : ℕ → List ℕ} → IsRelisted slot list lists new_lists slots after →
+    Agree lists slots → Agree new_lists after
+agree-inserted {slot} {list} {lists} step agree k s =
+    step.given k s
+    ∙ (ap (λ m. m || (nat_eq slot s && is_in nat_eq k list))
+    (step.taken k s ∙ ap (λ m. m && not (nat_eq slot s && is_in nat_eq k (lists slot))) (agree k s))
+    ∙ (by (nat_eq slot s) refl ∙ sym (ap (is_in nat_eq k) (step.by_slot s))))
   where
     here : (m l : Bool) → ((m && not m) || l) ≡ l
     here true l = refl

@@ -32,9 +32,9 @@ pub record IsAside (names : List NodeName) (hosts : List ShadowHost) (x : NodeNa
   pub parent : Outside names hosts now (parent_of now x)
 
 -- the root of x has no host afterwards
-pub root-aside : (names : List NodeName) (hosts : List ShadowHost) (x : NodeName) (was now : Trees) → IsAside names hosts x was now → Has now x →
+pub root-aside : {names : List NodeName} {hosts : List ShadowHost} {x : NodeName} {was now : Trees} → IsAside names hosts x was now → Has now x →
     host_named names hosts (root_of now x) ≡ None
-root-aside names hosts x was now aside at = by (parent_of now x) refl
+root-aside {names} {hosts} {x} {was} {now} aside at = by (parent_of now x) refl
   where
     by : (o : Option NodeName) → parent_of now x ≡ o → host_named names hosts (root_of now x) ≡ None
     by None e = ap (host_named names hosts) (root-alone now x at e) ∙ aside.node
@@ -48,8 +48,8 @@ node-of_tree ts once c h =
     (w.0, w.1, w.2, ap (node_in ts) (sym w.3) ∙ node_in-self ts once w.0 (in_tree ts c w.0 inside))
 
 -- no node stands above its parent
-not-below : (ts : Trees) → Once ts → (x p : NodeName) → Has ts x → parent_of ts x ≡ Some p → Has (subtree ts x) p → ⊥
-not-below ts once x p h e i =
+not-below : (ts : Trees) → Once ts → (x : NodeName) {p : NodeName} → Has ts x → parent_of ts x ≡ Some p → Has (subtree ts x) p → ⊥
+not-below ts once x {p} h e i =
     let up = above-parent ts x p once h e in
     let round = above-split ts x p once up.1 (above-from_below ts x p once h i) in
     let front = items_before name_eq x (inclusive_ancestors ts p) in
@@ -96,9 +96,15 @@ module _ (names : List NodeName) (hosts : List ShadowHost) (m : Node) (d us : Tr
         sym (alike_children (subtree now h) (subtree us h) (ReadAlike-others m d q us h off))
   ]
 
-  alike_roots : (n k : Node) (b c ts : Trees) → ReadAlike m d (tree n b none) ts → ReadAlike m d (tree k c none) ts → n ≡ k
-  alike_roots n k b c none e f = absurd e
-  alike_roots n k b c (tree l a t) e f = e.0 ∙ sym f.0
+  -- the first root of trees, or x where there is none
+  abbrev first_root : Trees → Node
+  first_root none = m
+  first_root (tree n c r) = n
+
+  -- the root of a tree that reads like others is their first one
+  alike_root : (n : Node) (b ts : Trees) → ReadAlike m d (tree n b none) ts → n ≡ first_root ts
+  alike_root n b none e = absurd e
+  alike_root n b (tree l a t) e = e.0
 
   pub contents_same : (y : NodeName) → Has was y → Has now y → node_in was y ≡ node_in now y
   contents_same y h g =
@@ -108,14 +114,10 @@ module _ (names : List NodeName) (hosts : List ShadowHost) (m : Node) (d us : Tr
         | inl i ↦ root_of_both v.0 w.0 v.1 w.1
             (sym v.2 ∙ ((let off : Has us y → ⊥ = λ j. apart y j i in tree-own m d p us y off ∙ sym (tree-own m d q us y off)) ∙ w.2))
         | inr off ↦
-            alike_roots v.0 w.0 v.1 w.1 (subtree us y) (subst (λ (ts : Trees). ReadAlike m d ts (subtree us y)) v.2 (ReadAlike-others m d p us y off))
-            (subst (λ (ts : Trees). ReadAlike m d ts (subtree us y)) w.2 (ReadAlike-others m d q us y off))
+            alike_root v.0 v.1 (subtree us y) (subst (λ (ts : Trees). ReadAlike m d ts (subtree us y)) v.2 (ReadAlike-others m d p us y off))
+            ∙ sym (alike_root w.0 w.1 (subtree us y) (subst (λ (ts : Trees). ReadAlike m d ts (subtree us y)) w.2 (ReadAlike-others m d q us y off)))
       ] ∙ sym w.3)
     where
-      first_root : Trees → Node
-      first_root none = m
-      first_root (tree n c r) = n
-
       root_of_both : (n k : Node) (b c : Trees) → tree n b none ≡ tree k c none → n ≡ k
       root_of_both n k b c e = ap first_root e
 
@@ -156,7 +158,7 @@ module _ (names : List NodeName) (hosts : List ShadowHost) (m : Node) (d us : Tr
           let same : root_of was y ≡ x = sym (root-within was both.once_was y x h i) ∙ root-alone was x (Has-grafted m d p us) e in
           off (subst (λ (ts : Trees). Has ts y) (own_tree p) (subst (λ z. Has (subtree was z) y) same (in-tree_of_root was both.once_was y h)))
       before (Some a) e i =
-          let apart_from : Has (tree m d none) a → ⊥ = λ k. not-below was both.once_was x a (Has-grafted m d p us) e (in_own p a k) in
+          let apart_from : Has (tree m d none) a → ⊥ = λ k. not-below was both.once_was x (Has-grafted m d p us) e (in_own p a k) in
           let same : root_of now y ≡ root_of now a =
           sym (root_same y off) ∙ (sym (root-within was both.once_was y x h i) ∙
           (root-parent was both.once_was x a (Has-grafted m d p us) e ∙ root_same a apart_from)) in
@@ -190,11 +192,11 @@ module _ (names : List NodeName) (hosts : List ShadowHost) (m : Node) (d us : Tr
         by : (o : Option NodeName) → parent_of was x ≡ o → host_named names hosts (root_of was x) ≡ None
         by None e = ap (host_named names hosts) (root-alone was x (Has-grafted m d p us) e) ∙ aside.node
         by (Some a) e =
-            let off : Has (tree m d none) a → ⊥ = λ h. not-below was both.once_was x a (Has-grafted m d p us) e (in_own p a h) in
+            let off : Has (tree m d none) a → ⊥ = λ h. not-below was both.once_was x (Has-grafted m d p us) e (in_own p a h) in
             ap (host_named names hosts) (root-parent was both.once_was x a (Has-grafted m d p us) e ∙ root_same a off) ∙ aside.left a e
 
     root_now : host_named names hosts (root_of now x) ≡ None
-    root_now = root-aside names hosts x was now aside (Has-grafted m d q us)
+    root_now = root-aside aside (Has-grafted m d q us)
 
     -- each node stays in its tree, or it is in no shadow tree
     placed_so : (y : NodeName) → Has was y → Has now y → IsSettled was now y ⊎

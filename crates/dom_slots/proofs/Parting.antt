@@ -60,11 +60,10 @@ module _ (f : NamedTrees) (distinct : TellApart f.names) (hosts : List ShadowHos
         (named-key f.names distinct new_slot new_node k (old_node k was) (own ∙ slot-assigned (shadows f hosts) x (name_at f.names k) i))))
 
     -- when it has left, the list of its new slot has all others
-    pub joins-right : ForSome old_slot (λ k. k < length f.names) →
-        (p : NodeName → Bool) (told : List NodeName) (left : SlotTable) (keys : List ℕ) →
+    pub joins-right : {p : NodeName → Bool} {told : List NodeName} {left : SlotTable} {keys : List ℕ} → ForSome old_slot (λ k. k < length f.names) →
         AreRenewed f hosts p table (Slots old_slot) told left keys → (k : ℕ) → new_slot ≡ Some k
         → map (name_at f.names) (list_of left k) ≡ names_but x (assigned_at (shadows f hosts) (name_at f.names k))
-    joins-right old_node p told left keys r k now =
+    joins-right old_node r k now =
         let within = new_node k now in
         let off : old_slot ≡ Some k → ⊥ = λ was. not-new apart k within was now in
         let out : is_in nat_eq (step_node step) (list_of table k) ≡ false = false_from_ne_true _ (λ i. off (but.listed k within i)) in
@@ -80,15 +79,14 @@ module _ (f : NamedTrees) (distinct : TellApart f.names) (hosts : List ShadowHos
       (subst (λ ys. AreRenewed f hosts p old (Slots old_slot ++ Slots new_slot) ys table keys) (sym (filter-append p (Slots old_slot) (Slots new_slot))) r)
 
   -- a list that is right stays
-  one-stays : (o : Option ℕ) → ForSome o (λ k. k < length f.names) →
-      (p : NodeName → Bool) (old : SlotTable) (done told : List NodeName) (table : SlotTable) (keys : List ℕ) →
-      AreRenewed f hosts p old done told table keys
+  one-stays : {p : NodeName → Bool} {old : SlotTable} {done told : List NodeName} {table : SlotTable} {keys : List ℕ} (o : Option ℕ) →
+      ForSome o (λ k. k < length f.names) → AreRenewed f hosts p old done told table keys
       → ((k : ℕ) → k < length f.names → map (name_at f.names) (list_of table k) ≡ assigned_at (shadows f hosts) (name_at f.names k)) →
       AreRenewed f hosts p old (done ++ Slots o) (told ++ filter p (Slots o)) table keys
-  one-stays None nodes p old done told table keys r right =
+  one-stays {p} {old} {done} {told} {table} {keys} None nodes r right =
       subst (λ ds. AreRenewed f hosts p old ds (told ++ []) table keys) (sym (append-nil done))
       (subst (λ ts. AreRenewed f hosts p old done ts table keys) (sym (append-nil told)) r)
-  one-stays (Some k) nodes p old done told table keys r right =
+  one-stays {p} {old} {done} {told} {table} {keys} (Some k) nodes r right =
       renewed-stays f distinct hosts p old done told table keys r k (nodes k refl) (list_of table k) (right k (nodes k refl)) (r.nodes k)
       (ap (λ b. not b) (list_same (list_of table k))) keys refl
 
@@ -99,5 +97,4 @@ module _ (f : NamedTrees) (distinct : TellApart f.names) (hosts : List ShadowHos
       AreRenewed f hosts p table (own_slots f hosts old_slot step) (filter p (own_slots f hosts old_slot step)) table []
   both-stay old_node p table right start =
       both-slots p table table []
-      (one-stays new_slot new_node p table (Slots old_slot) (filter p (Slots old_slot)) table []
-      (one-stays old_slot old_node p table [] [] table [] start right) right)
+      (one-stays new_slot new_node (one-stays old_slot old_node start right) right)

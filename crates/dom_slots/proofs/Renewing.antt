@@ -115,7 +115,7 @@ module _ (f : NamedTrees) (apart : TellApart f.names) (hosts : List ShadowHost) 
             ∙ sym (again_added told (filter p (x ∷ []))
             (λ y j. let w = passing p y (x ∷ []) j in elim w.0 [ inl same ↦ r.among y (ap (λ z. is_in name_eq z done) same ∙ i) w.1 | inr none ↦ absurd none ]))
         by false i true e =
-            (one_signalled f.names apart told keys next k record { nodes = r.keys_nodes; are = r.keys_are } node
+            (one_signalled f.names apart told keys k record { nodes = r.keys_nodes; are = r.keys_are } node
             (is ∙ ap (λ (b : Bool). if b then append_once nat_eq keys k else keys) (kept-other i ∙ e))).are
             ∙ ap (λ ys. fold (append_once name_eq) [] (told ++ ys)) (sym (filter-yes p x [] e))
         by false i false e = stays (kept-other i ∙ e) ∙
@@ -135,8 +135,8 @@ module _ (f : NamedTrees) (apart : TellApart f.names) (hosts : List ShadowHost) 
       others = r.others;
       renewed = renewed_so;
       kept = kept_so;
-      nodes = entered_nodes f hosts apart k list inside table new lists r.nodes;
-      beyond = λ j far. entered_beyond f hosts apart k node list table new lists j far ∙ r.beyond j far;
+      nodes = entered_nodes f k list table new lists inside r.nodes;
+      beyond = λ j far. entered_beyond f k list table new lists node j far ∙ r.beyond j far;
       keys_nodes = nodes_so is;
       keys_are = keys_so is;
       among = among_so;
@@ -159,10 +159,10 @@ module _ (f : NamedTrees) (apart : TellApart f.names) (hosts : List ShadowHost) 
       by j false h = refl
 
 -- The renewal may be taken up anew: of the table that it left no list that was renewed is another one.
-pub renewed-anew : (f : NamedTrees) (hosts : List ShadowHost) (p : NodeName → Bool) (old : SlotTable) (done told : List NodeName)
-    (table : SlotTable) (keys : List ℕ) → AreRenewed f hosts p old done told table keys
+pub renewed-anew : {f : NamedTrees} {hosts : List ShadowHost} {p : NodeName → Bool} {old : SlotTable} {done told : List NodeName}
+    {table : SlotTable} {keys : List ℕ} → AreRenewed f hosts p old done told table keys
     → AreRenewed f hosts (λ y. p y && not (is_in name_eq y done)) table [] [] table []
-renewed-anew f hosts p old done told table keys r = record {
+renewed-anew {f} {hosts} {p} {old} {done} {told} {table} r = record {
   others = λ k within. by k within (is_in name_eq (name_at f.names k) done) refl;
   renewed = λ k within i. absurd (true≢false (sym i));
   kept = λ k within i. refl;
@@ -202,7 +202,7 @@ module _ {f : NamedTrees} {hosts : List ShadowHost} {p : NodeName → Bool} {old
   pub told-more : TellApart f.names → (next : List ℕ) (k : ℕ) → k < length f.names → next ≡ append_once nat_eq keys k →
       AreRenewed f hosts p old done (told ++ name_at f.names k ∷ []) table next
   told-more apart next k node is =
-      let more = one_signalled f.names apart told keys next k record { nodes = r.keys_nodes; are = r.keys_are } node is in
+      let more = one_signalled f.names apart told keys k record { nodes = r.keys_nodes; are = r.keys_are } node is in
       record {
         others = r.others;
         renewed = r.renewed;

@@ -117,9 +117,9 @@ module _ (names : List NodeName) (hosts : List ShadowHost) (was now : Trees) (on
       is_in name_eq y (option_to_list (slot_in (subtree was r) n)) ≡ is_in name_eq y (option_to_list (slot_in (subtree now r) n)))
       (x : NodeName) (keeps : KeepsHosts names hosts x was now) where
     -- a child of a host but x is assigned to it in both or in neither
-    child_same : (r h c : NodeName) → host_named names hosts r ≡ Some h → In c (children_of was h) → In c (children_of now h) → (c ≡ x → ⊥) →
-        is_assigned_at before y c ≡ is_assigned_at after y c
-    child_same r h c e i j other =
+    child_same : (r : NodeName) {h : NodeName} (c : NodeName) → host_named names hosts r ≡ Some h → In c (children_of was h) →
+        In c (children_of now h) → (c ≡ x → ⊥) → is_assigned_at before y c ≡ is_assigned_at after y c
+    child_same r {h} c e i j other =
         let at = keeps.stands r h e in
         let up_was : parent_of was c ≡ Some h = (parent-of_child was h c once_was at.0 i).0 in
         let up_now : parent_of now c ≡ Some h = (parent-of_child now h c once_now at.1 j).0 in
@@ -146,7 +146,7 @@ module _ (names : List NodeName) (hosts : List ShadowHost) (was now : Trees) (on
             let same = keeps.children (root_of was y) h e in
             filter-others (is_assigned_at before y) x (children_of was h)
             ∙ (filter-same (is_assigned_at before y) (is_assigned_at after y) (others x (children_of was h))
-            (λ c i. let w = others-in x c (children_of was h) i in child_same (root_of was y) h c e w.0
+            (λ c i. let w = others-in x c (children_of was h) i in child_same (root_of was y) c e w.0
             (others-in x c (children_of now h) (subst (In c) same i)).0 w.1)
             ∙ (ap (filter (is_assigned_at after y)) same ∙ sym (filter-others (is_assigned_at after y) x (children_of now h))))
 
@@ -163,7 +163,7 @@ module _ (names : List NodeName) (hosts : List ShadowHost) (was now : Trees) (on
             let same = unmoved (root_of was y) h e in
             filter-same (is_assigned_at before y) (is_assigned_at after y) (children_of was h) (λ c i. elim (same_or_not c x) [
               | inl is ↦ ap (is_assigned_at before y) is ∙ (mine ∙ sym (ap (is_assigned_at after y) is))
-              | inr other ↦ child_same (root_of was y) h c e i (subst (In c) same i) other
+              | inr other ↦ child_same (root_of was y) c e i (subst (In c) same i) other
             ])
             ∙ ap (filter (is_assigned_at after y)) same
 

@@ -111,10 +111,10 @@ module _ (f : NamedTrees) (once : Once f.trees) (x h : NodeName) (at : Has f.tre
       )
 
 -- what is left is less
-pub length-next : (f : NamedTrees) (xs : List NodeName) (k : ℕ) (at next : Option ℕ) → at ≡ Some k →
+pub length-next : (f : NamedTrees) (xs : List NodeName) {k : ℕ} {at : Option ℕ} (next : Option ℕ) → at ≡ Some k →
     items_after name_eq (name_at f.names k) xs ≡ from_item xs (option_map (name_at f.names) next)
     → length (from_item xs (option_map (name_at f.names) next)) < length (from_item xs (option_map (name_at f.names) at))
-length-next f xs k at next is e =
+length-next f xs {k} {at} next is e =
     let longer : length (from_item xs (option_map (name_at f.names) at)) ≡ suc (length (items_after name_eq (name_at f.names k) xs)) =
     ap (λ o. length (from_item xs (option_map (name_at f.names) o))) is in
     omega (arith, longer, ap (length {A = NodeName}) e)

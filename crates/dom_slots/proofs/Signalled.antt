@@ -89,7 +89,7 @@ list_eq-self (x ∷ xs) = rw (name_eq-from x x refl) (list_eq-self xs)
 
 module _ (names : List NodeName) (apart : TellApart names) where
   -- a key is among keys just where its name is among their names
-  is_in-named : (k : ℕ) (ks : List ℕ) → k < length names → All (λ j. j < length names) ks →
+  pub is_in-named : (k : ℕ) (ks : List ℕ) → k < length names → All (λ j. j < length names) ks →
       is_in nat_eq k ks ≡ is_in name_eq (name_at names k) (map (name_at names) ks)
   is_in-named k [] node nodes = refl
   is_in-named k (j ∷ ks) node nodes =
@@ -113,9 +113,9 @@ module _ (names : List NodeName) (apart : TellApart names) where
     pub are : map (name_at names) keys ≡ fold (append_once name_eq) [] xs
 
   -- one more
-  pub one_signalled : (xs : List NodeName) (keys new : List ℕ) (k : ℕ) → AreSignalled xs keys → k < length names →
+  pub one_signalled : (xs : List NodeName) (keys : List ℕ) {new : List ℕ} (k : ℕ) → AreSignalled xs keys → k < length names →
       new ≡ append_once nat_eq keys k → AreSignalled (xs ++ name_at names k ∷ []) new
-  one_signalled xs keys new k s node e = by (is_in nat_eq k keys) refl
+  one_signalled xs keys {new} k s node e = by (is_in nat_eq k keys) refl
     where
       named : is_in nat_eq k keys ≡ is_in name_eq (name_at names k) (fold (append_once name_eq) [] xs)
       named = is_in-named k keys node s.nodes ∙ ap (is_in name_eq (name_at names k)) s.are

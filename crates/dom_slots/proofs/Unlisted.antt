@@ -1,11 +1,9 @@
 -- A node that stands in no list of a table has no slot in the forest of the table, where its parent is the host of a tree of
 -- its own.
-use Rattle.std.proofs.Common.{◌≡◌, inl, inr, ℕ, ◌<◌, true, false, ◌||◌, List, [], ◌∷◌, All, map, length, Option, None, Some, refl, sym, ap, subst}
+use Rattle.std.proofs.Common.{◌≡◌, inl, inr, ℕ, ◌<◌, true, false, ◌||◌, List, [], map, length, Option, None, Some, refl, sym, ap, subst}
 use Rattle.std.proofs.Common.{◌∙◌, true≢false}
 use Rattle.std.specs.Prelude.{nat_eq, option_to_list}
 use Rattle.std.specs.Option.{option_map_or, option_and_then}
-use Rattle.std.proofs.lemmas.Bool.{or_left, or_right}
-use Rattle.std.proofs.lemmas.List.Elements.{All-head, All-tail}
 use Rattle.std.proofs.lemmas.Option.{get_or_from_slice_get, slice_get_within}
 use Rattle.dom_base.specs.declared.NodeName.{NodeName}
 use Rattle.dom_base.specs.declared.Owner.TheVariants.{Page}
@@ -22,19 +20,9 @@ use Rattle.dom_slots.specs.Kept.{StandsOnce}
 use Rattle.dom_slots.specs.Shadows.{ShadowTrees, shadows, slot_at, is_assigned_at, assigned_under, assigned_at}
 use Rattle.dom_slots.specs.Tables.{SlotTable, list_of, IsTableOf}
 use Rattle.dom_slots.proofs.Attaching.{to_filter}
-use Rattle.dom_slots.proofs.Hosted.{key-test}
 use Rattle.dom_slots.proofs.Rooted.{root-alone, root-below}
 use Rattle.dom_slots.proofs.Settled.{slot-outside}
-
--- a node whose name is among those of keys is among these
-in-keys : (names : List NodeName) → TellApart names → (n : ℕ) → n < length names → (ks : List ℕ) → All (λ k. k < length names) ks →
-    In (name_at names n) (map (name_at names) ks) → is_in nat_eq n ks ≡ true
-in-keys names distinct n node [] inside i = absurd i
-in-keys names distinct n node (k ∷ ks) inside (inl same) =
-    or_left (nat_eq n k) _ (key-test names distinct n k node (All-head (λ j. j < length names) k ks inside) ∙
-    name_eq-from (name_at names n) (name_at names k) same)
-in-keys names distinct n node (k ∷ ks) inside (inr i) =
-    or_right (nat_eq n k) _ (in-keys names distinct n node ks (All-tail (λ j. j < length names) k ks inside) i)
+use Rattle.dom_slots.proofs.Signalled.{is_in-named}
 
 module _ (f : NamedTrees) (stands : StandsOnce f) (once : Once f.trees) (distinct : TellApart f.names) (hosts : List ShadowHost)
     (table : SlotTable) (is : IsTableOf f hosts table) (n : ℕ) (node : n < length f.names)
@@ -66,7 +54,8 @@ module _ (f : NamedTrees) (stands : StandsOnce f) (once : Once f.trees) (distinc
         let within = slice_get_within f.names key.0 y key.1 in
         let named : name_at f.names key.0 ≡ y = get_or_from_slice_get f.names key.0 y (node_of Page 0) key.1 in
         let listed : In x (map (name_at f.names) (list_of table key.0)) = subst (In x) (sym (is.lists key.0 within ∙ ap (assigned_at s) named)) among in
-        true≢false (sym (in-keys f.names distinct n node (list_of table key.0) (is.nodes key.0) listed) ∙ unlisted key.0)
+        let named_so = is_in-named f.names distinct n (list_of table key.0) node (is.nodes key.0) in
+        true≢false (sym (named_so ∙ is_in-from x (map (name_at f.names) (list_of table key.0)) listed) ∙ unlisted key.0)
   ]
     where
       it_is : is_assigned_at s y x ≡ true

@@ -50,7 +50,7 @@ behind c =
 
 pub loop-at-smaller : goal.loop-at-smaller
 loop-at-smaller c = length-next c.args.forest.now (siblings c.args.forest.now.trees (name_at c.args.forest.now.names c.args.child))
-    c.in-Some.sibling c.loop-at.at c.next-at-in-Some.result c.in-Some.is (behind c).0
+    c.next-at-in-Some.result c.in-Some.is (behind c).0
 
 pub loop-at-preserved : goal.loop-at-preserved
 loop-at-preserved c =

@@ -48,7 +48,7 @@ loop-at-smaller c =
     let child = c.loop-at.invariant.child k c.in-Some.is in
     let step = next_step f (Once-forest f e.once e.only) h (Has-forest f e.once c.args.host c.requires.host_is_node) k child
     (Has-forest f e.once k child.node) c.next-at.result c.next-at.ensures.value c.next-at.ensures.node in
-    length-next f (children_of f.trees h) k c.loop-at.at c.next-at.result c.in-Some.is step.0
+    length-next f (children_of f.trees h) c.next-at.result c.in-Some.is step.0
 
 pub loop-at-preserved : goal.loop-at-preserved
 loop-at-preserved c =

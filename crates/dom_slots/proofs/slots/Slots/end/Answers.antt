@@ -35,16 +35,22 @@ begun-same : (o : Option Begun) (d : Begun) (b : BegunStep) → o ≡ Some d →
 begun-same o d b is e = same_Some (begun_in d) b (sym (ap (option_map begun_in) is) ∙ e)
 
 -- the test of what is held is that of what is seen
-begun-apart : (f : NamedTrees) (hosts seen : List ShadowHost) (d b : BegunStep) → hosts ≡ seen → d ≡ b
+begun-apart : (f : NamedTrees) {hosts seen : List ShadowHost} {d b : BegunStep} → hosts ≡ seen → d ≡ b
     → true ≡ is_apart (shadows f hosts) (name_at f.names (step_node d.step)) (option_map (name_at f.names) d.left)
     → is_apart (shadows f seen) (name_at f.names (step_node b.step)) (option_map (name_at f.names) b.left) ≡ true
-begun-apart f hosts seen d b are same told =
+begun-apart f are same told =
     sym (told ∙ (λ j. is_apart (shadows f (are j)) (name_at f.names (step_node (same j).step)) (option_map (name_at f.names) (same j).left)))
 
 -- two facts of a value
 both : {X Y : Type 0} (r : Result X Y) (P Q : X → Type 0) → IfOk r P → IfOk r Q → IfOk r (λ x. P x × Q x)
 both (Ok x) P Q p q = (p, q)
 both (Err e) P Q p q = tt
+
+-- the hosts, the table and the step that are held are those that are seen
+record IsSeen (hosts : List ShadowHost) (table : SlotTable) (d : BegunStep) (s : SlotsNow) (b : BegunStep) : Type 0 where
+  hosts_are : hosts ≡ s.hosts
+  table_is : table ≡ s.table
+  same : d ≡ b
 
 -- what is renewed at the end of a step that was begun
 module _ (was : Trees) (f : NamedTrees) (s : SlotsNow) (b : BegunStep) (h : IsEndOf was f s b) (stands : StandsOnce f) {E : Type 0}
@@ -68,15 +74,15 @@ module _ (was : Trees) (f : NamedTrees) (s : SlotsNow) (b : BegunStep) (h : IsEn
 
   -- by what is held
   held : (R : List ShadowHost → SlotTable → BegunStep → Vec ℕ Global → Type 0) (Q : List ShadowHost → SlotTable → BegunStep → Type 0)
-      (hosts : List ShadowHost) (table : SlotTable) (d : BegunStep) → hosts ≡ s.hosts → table ≡ s.table → d ≡ b
+      {hosts : List ShadowHost} {table : SlotTable} {d : BegunStep} → IsSeen hosts table d s b
       → (Q hosts table d → AreRenewed f hosts p table [] [] table [] → IfOk result (R hosts table d)) → Q s.hosts s.table b → IfOk result (R s.hosts s.table b)
-  held R Q hosts table d hosts_are table_is same told given =
-      let known : Q hosts table d = subst (λ hs. Q hs table d) (sym hosts_are)
-      (subst (λ t. Q s.hosts t d) (sym table_is) (subst (Q s.hosts s.table) (sym same) given)) in
-      let start = subst (λ hs. AreRenewed f hs p table [] [] table []) (sym hosts_are)
-      (subst (λ t. AreRenewed f s.hosts p t [] [] t []) (sym table_is) (none-renewed was f s b h stands)) in
-      subst (λ e. IfOk result (R s.hosts s.table e)) same
-      (subst (λ t. IfOk result (R s.hosts t d)) table_is (subst (λ hs. IfOk result (R hs table d)) hosts_are (told known start)))
+  held R Q {hosts} {table} {d} seen told given =
+      let known : Q hosts table d = subst (λ hs. Q hs table d) (sym seen.hosts_are)
+      (subst (λ t. Q s.hosts t d) (sym seen.table_is) (subst (Q s.hosts s.table) (sym seen.same) given)) in
+      let start = subst (λ hs. AreRenewed f hs p table [] [] table []) (sym seen.hosts_are)
+      (subst (λ t. AreRenewed f s.hosts p t [] [] t []) (sym seen.table_is) (none-renewed was f s b h stands)) in
+      subst (λ e. IfOk result (R s.hosts s.table e)) seen.same
+      (subst (λ t. IfOk result (R s.hosts t d)) seen.table_is (subst (λ hs. IfOk result (R hs table d)) seen.hosts_are (told known start)))
 
   -- where the table is that of the trees now, these are its slots
   slots_are : (hosts : List ShadowHost) → hosts ≡ s.hosts → IfOk result (λ keys. IsTableOf f s.hosts new.table) →
@@ -109,15 +115,15 @@ module _ (c : After-moved_signals) where
         (ap (option_map begun_in) c.take.ensures.value ∙ (ap (λ (t : SlotsNow). t.begun) c.self.view_is ∙ h.begun))
 
     apart : is_apart (shadows f s.hosts) (name_at f.names (step_node b.step)) (option_map (name_at f.names) b.left) ≡ true
-    apart = begun-apart f (hosts_in c.self.inside.hosts.items) s.hosts (begun_in c.in-Some.begun) b hosts_are same c.if-is_apart.ensures
+    apart = begun-apart f hosts_are same c.if-is_apart.ensures
 
     renewed : IfOk c.moved_signals.result (Own was f s b h stands c.moved_signals.result c.moved_signals.new.self s.hosts s.table b)
     renewed =
         let result = c.moved_signals.result in
         let new = c.moved_signals.new.self in
-        held was f s b h stands result new (Own was f s b h stands result new) (ButFor was f s b h stands result new)
-        (hosts_in c.self.inside.hosts.items) c.self.inside.table (begun_in c.in-Some.begun) hosts_are
-        (ap (λ (t : SlotsNow). t.table) c.self.view_is) same
+        let seen : IsSeen (hosts_in c.self.inside.hosts.items) c.self.inside.table (begun_in c.in-Some.begun) s b =
+        record { hosts_are = hosts_are; table_is = ap (λ (t : SlotsNow). t.table) c.self.view_is; same = same } in
+        held was f s b h stands result new (Own was f s b h stands result new) (ButFor was f s b h stands result new) seen
         (c.moved_signals.ensures.renewed (is_changed_at (shadow_trees f.names was s.hosts) (shadows f s.hosts)))
         (apart-but-for was f s b h stands apart c.law_nodes_stand_once.ensures.distinct)
 
@@ -160,12 +166,15 @@ module _ (c : After-inside_signals) where
   inside_renewed was b h =
       let result = c.inside_signals.result in
       let new = c.inside_signals.new.self in
+      let seen : IsSeen (hosts_in c.self.inside.hosts.items) c.self.inside.table (begun_in c.in-Some.begun) s_in b =
+      (record {
+        hosts_are = hosts_in_are;
+        table_is = ap (λ (t : SlotsNow). t.table) c.self.view_is;
+        same = begun-same c.take.result c.in-Some.begun b c.in-Some.is
+            (ap (option_map begun_in) c.take.ensures.value ∙ (ap (λ (t : SlotsNow). t.begun) c.self.view_is ∙ h.begun));
+      }) in
       held was f_in s_in b h stands_in result new (Inside was f_in s_in b h stands_in result new)
-      (StillButFor was f_in s_in b h stands_in result new) (hosts_in c.self.inside.hosts.items) c.self.inside.table
-      (begun_in c.in-Some.begun) hosts_in_are
-      (ap (λ (t : SlotsNow). t.table) c.self.view_is)
-      (begun-same c.take.result c.in-Some.begun b c.in-Some.is
-      (ap (option_map begun_in) c.take.ensures.value ∙ (ap (λ (t : SlotsNow). t.begun) c.self.view_is ∙ h.begun)))
+      (StillButFor was f_in s_in b h stands_in result new) seen
       (c.inside_signals.ensures.renewed (is_changed_at (shadow_trees f_in.names was s_in.hosts) (shadows f_in s_in.hosts)))
       (inside-but-for was f_in s_in b h stands_in c.law_nodes_stand_once.ensures.distinct)
 

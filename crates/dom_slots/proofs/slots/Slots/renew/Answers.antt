@@ -15,11 +15,11 @@ module _ (f : NamedTrees) (hosts : List ShadowHost) (p : NodeName → Bool) (old
       (subst (λ ts. AreRenewed f hosts p old done ts table keys) (sym (append-nil told)) r)
 
   -- one more
-  one_more : (slots : List ℕ) (i s : ℕ) → s ≡ get_or slots i s → i < length slots → (table : SlotTable) (keys : List ℕ)
+  one_more : {table : SlotTable} {keys : List ℕ} (slots : List ℕ) (i s : ℕ) → s ≡ get_or slots i s → i < length slots
       → AreRenewed f hosts p old ((done ++ map (name_at f.names) (take i slots)) ++ name_at f.names s ∷ [])
       ((told ++ filter p (map (name_at f.names) (take i slots))) ++ filter p (name_at f.names s ∷ [])) table keys
       → AreRenewed f hosts p old (done ++ map (name_at f.names) (take (i + 1) slots)) (told ++ filter p (map (name_at f.names) (take (i + 1) slots))) table keys
-  one_more slots i s at within table keys r =
+  one_more {table} {keys} slots i s at within r =
       let longer : map (name_at f.names) (take (i + 1) slots) ≡ map (name_at f.names) (take i slots) ++ name_at f.names s ∷ [] =
       ap (map (name_at f.names)) (take_more slots i s within ∙ ap (λ j. take i slots ++ j ∷ []) (sym at)) ∙
       map-append (name_at f.names) (take i slots) (s ∷ []) in
@@ -52,7 +52,6 @@ loop-slot-preserved c =
       begun = c.in_ok-renew_slot.ensures.begun ∙ c.loop-slot.invariant.begun;
       renewed = λ p old done told r.
           one_more f c.args.self.now.hosts p old done told slots i c.slot-item.result c.slot-item.is c.loop-slot-test.true
-          c.renew_slot.new.self.table c.renew_slot.new.signals.items
           (subst (λ hs. AreRenewed f hs p old ((done ++ names) ++ name_at f.names c.slot-item.result ∷ [])
           ((told ++ filter p names) ++ filter p (name_at f.names c.slot-item.result ∷ [])) c.renew_slot.new.self.table
           c.renew_slot.new.signals.items) same
