@@ -55,7 +55,7 @@ module _ (f g : Boundary ℕ → Boundary ℕ) (live : Slab Points) where
           let r = range_from p in
           ap Some (both_same (f r.start) (f r.end) (g r.start) (g r.end) (sym h.0) (sym h.1))
 
-  -- a rule in two steps, these rules
+  -- a rule that does what the first of them does and then what the second one does
   pub moves-twice : (h : Boundary ℕ → Boundary ℕ) (mid after : Slab Points) → Moves f live mid → Moves g mid after →
       ((b : Boundary ℕ) → h b ≡ g (f b)) → Moves h live after
   moves-twice h mid after first second both slot =

@@ -81,7 +81,7 @@ module _ (f : NamedTrees) (hosts : List ShadowHost) where
           (λ (b : Bool). option_map (λ (g : ShadowHost). name_at f.names g.root)
           (if b then Some h else find (λ (g : ShadowHost). name_eq p (name_at f.names g.host)) hs)) i) ∙ e)
 
-  -- of such a slot
+  -- what is found is not a node that is no slot of the hosts' trees
   module _ (y : NodeName) (none : NoneHas y hosts) where
     -- a slot that is found is one of the hosts' trees
     other_slot : (z p r : NodeName) → root_named f.names hosts p ≡ Some r → (o : Option DomString)

@@ -56,8 +56,7 @@ returns-clause-renewed c =
     (subst (AreRenewed f s.hosts p s.table [] [] s.table) (sym c.requires.signals) start) in
     let right : (k : ℕ) → new ≡ Some k → map name (list_of left k) ≡ names_but (name c.node-node.result) (assigned_at (shadows f hs) (name k)) =
     λ k now.
-    joins-right f distinct s.hosts step node slot new c.slot_now-slot.ensures.node own s.table but start.nodes apart c.requires.slot
-    first k now
+    joins-right f distinct s.hosts step node slot new c.slot_now-slot.ensures.node own s.table but start.nodes apart c.requires.slot first k now
     ∙ (ap (λ n. names_but (name n) (assigned_at (shadows f s.hosts) (name k))) (sym node_is) ∙
     ap (λ hosts. names_but (name c.node-node.result) (assigned_at (shadows f hosts) (name k))) (sym same)) in
     let second = c.in_ok-join.ensures.renewed p s.table mine (filter p mine) right
