@@ -59,26 +59,34 @@ module _ (o : Owner) (d : DocState) (alone : IsAlone d.world o) (part : IsPart (
 
   -- before Texts are joined
   pub bounds_grown : (x : NodeName) (offset count : ℕ) (new : DomString) → has_data (kind_of (part_of d.world o).trees x) ≡ true →
-      (e : DocState) → e ≡ planned o (replacing_data x offset count new) d → HasBounds (part_of e.world o)
-  bounds_grown x offset count new has = bounds_after (replacing_data x offset count new) (plans_data o x offset count new)
-      (data-keeps x offset count new (part_of d.world o) part has bounds)
+      {e : DocState} → e ≡ planned o (replacing_data x offset count new) d → HasBounds (part_of e.world o)
+  bounds_grown x offset count new has {e} = bounds_after (replacing_data x offset count new) (plans_data o x offset count new)
+      (data-keeps x offset count new (part_of d.world o) part has bounds) e
 
 -- ---- for a node's owner
 
--- where the names stay
-pub bounds_at : (d e : DocState) (k : ℕ) → e.names ≡ d.names → HasBounds (part_of e.world (owner_in d k)) → HasBounds (part_of e.world (owner_in e k))
-bounds_at d e k names h = subst (λ (ns : List NodeName). HasBounds (part_of e.world (name_at ns k).owner)) (sym names) h
+-- a node that is there, whose owner stands alone and has a part with bounds
+pub record HasBoundedPart (d : DocState) (k : ℕ) : Type 0 where
+  pub here : k < length d.names
+  pub alone : IsAlone d.world (owner_in d k)
+  pub part : IsPart (part_of d.world (owner_in d k))
+  pub bounds : HasBounds (part_of d.world (owner_in d k))
 
--- where a node was made
-pub bounds_added : (d e : DocState) (k : ℕ) (y : NodeName) (n : Node) → k < length d.names → IsAlone d.world (owner_in d k) →
-    IsPart (part_of d.world (owner_in d k)) → HasBounds (part_of d.world (owner_in d k))
-    → e.names ≡ d.names ++ y ∷ [] → e.world ≡ made (owner_in d k) (doing (make n)) d.world → HasBounds (part_of e.world (owner_in e k))
-bounds_added d e k y n here alone part bounds names world =
-    let o = owner_in d k in
-    let same : owner_in e k ≡ o = ap (λ (ns : List NodeName). (name_at ns k).owner) names ∙
-    ap (λ (x : NodeName). x.owner) (get_or-append d.names (y ∷ []) (node_of Page 0) k here) in
-    subst (λ (p : Owner). HasBounds (part_of e.world p)) (sym same)
-    (subst (λ (w : World). HasBounds (part_of w o)) (sym world) (bounds_made o d alone part bounds n (planned o (doing (make n)) d) refl))
+module _ (d e : DocState) (k : ℕ) where
+  -- where the names stay
+  pub bounds_at : e.names ≡ d.names → HasBounds (part_of e.world (owner_in d k)) → HasBounds (part_of e.world (owner_in e k))
+  bounds_at names h = subst (λ (ns : List NodeName). HasBounds (part_of e.world (name_at ns k).owner)) (sym names) h
+
+  -- where a node was made
+  pub bounds_added : (y : NodeName) (n : Node) → HasBoundedPart d k → e.names ≡ d.names ++ y ∷ [] →
+      e.world ≡ made (owner_in d k) (doing (make n)) d.world → HasBounds (part_of e.world (owner_in e k))
+  bounds_added y n of names world =
+      let o = owner_in d k in
+      let same : owner_in e k ≡ o = ap (λ (ns : List NodeName). (name_at ns k).owner) names ∙
+      ap (λ (x : NodeName). x.owner) (get_or-append d.names (y ∷ []) (node_of Page 0) k of.here) in
+      subst (λ (p : Owner). HasBounds (part_of e.world p)) (sym same)
+      (subst (λ (w : World). HasBounds (part_of w o)) (sym world)
+      (bounds_made o d of.alone of.part of.bounds n (planned o (doing (make n)) d) refl))
 
 -- ---- how many nodes there are
 

@@ -1,7 +1,7 @@
 -- Where a Text gets the data of those directly after it, their indices and lengths stay: so the joins that are made then are
 -- those that were planned before.
 use Rattle.std.proofs.Common.{◌≡◌, ℕ, ◌+◌, Bool, true, false, cond, List, [], ◌∷◌, drop, length, Option, Some, None, refl, ap, ◌∙◌}
-use Rattle.std.specs.Prelude.{IsTrue, flat_map, min, ◌-◌}
+use Rattle.std.specs.Prelude.{flat_map, min, ◌-◌}
 use Rattle.std.specs.List.{AllByRecursion}
 use Rattle.std.specs.Option.{option_map_or}
 use Rattle.dom_base.specs.declared.NodeName.{NodeName}
@@ -9,7 +9,7 @@ use Rattle.dom_model.specs.Names.{name_eq, first_of, items_before}
 use Rattle.dom_model.specs.Part.{Part}
 use Rattle.dom_model.specs.Steps.{join_at, after}
 use Rattle.dom_model.specs.TextChanges.{replacing_data, joins, texts_after}
-use Rattle.dom_model.specs.Tree.{Trees, none, tree, Node, node_in, has_node, is_text, kind_of, names_of, roots, subtree, trees_below, children_of}
+use Rattle.dom_model.specs.Tree.{Trees, none, tree, Node, node_in, kind_of, names_of, roots, subtree, trees_below, children_of}
 use Rattle.dom_model.specs.Tree.{parent_of, index_of, length_of}
 use Rattle.dom_model.specs.TreeChanges.{map_nodes, change_node, with_data_replaced}
 use Rattle.dom_worlds.specs.Worlds.{IsPart}
@@ -17,6 +17,7 @@ use Rattle.dom_worlds.proofs.KindLines.{has_node-times}
 use Rattle.dom_worlds.proofs.TextBounds.{text-data, joining-fits}
 use Rattle.dom_tree_laws.proofs.Covering.{subtree_mapped}
 use Rattle.dom_tree_laws.proofs.Relatives.{path_mapped}
+use Rattle.dom_algorithms.proofs.NormalizedEach.{IsTextOf}
 
 -- ---- children and indices, where nodes get other contents
 
@@ -52,27 +53,25 @@ index_changed f keeps x ts y = index_mapped (λ n. cond (name_eq n.name x) (f n)
 
 -- ---- joins
 
--- the same indices and lengths, the same joins
-pub joins_same : (ts us : Trees) (x parent : NodeName) (size : ℕ) (ys : List NodeName) → ((y : NodeName) → index_of us y ≡ index_of ts y) →
-    AllByRecursion (λ y. length_of us y ≡ length_of ts y) ys
-    → joins us x parent size ys ≡ joins ts x parent size ys
-joins_same ts us x parent size [] index lengths = refl
-joins_same ts us x parent size (y ∷ ys) index lengths =
-    ap (λ i. join_at x size y parent i ∷ joins us x parent (size + length_of us y) ys) (index y)
-    ∙ (ap (λ k. join_at x size y parent (index_of ts y) ∷ joins us x parent (size + k) ys) lengths.0
-    ∙ ap (λ steps. join_at x size y parent (index_of ts y) ∷ steps) (joins_same ts us x parent (size + length_of ts y) ys index lengths.1))
-
--- so those made after the data came are the plan's
-pub joins_after : (x parent q : NodeName) (p : Part) (size : ℕ) → IsPart p → IsTrue (has_node p.trees x) → is_text (kind_of p.trees x) ≡ true →
-    parent_of p.trees x ≡ Some parent →
+-- those made after the data came are the plan's
+pub joins_after : (x q : NodeName) {p : Part} (size : ℕ) → IsPart p → IsTextOf p x → {parent : NodeName} → parent_of p.trees x ≡ Some parent →
     let nexts = texts_after p.trees x in
     let all = flat_map (λ y. (node_in p.trees y).text) nexts in
     joins (after p (replacing_data x (length_of p.trees x) 0 all p)).trees x q size nexts ≡ joins p.trees x q size nexts
-joins_after x parent q p size i there text up =
+joins_after x q {p} size i is {parent} up =
     let nexts = texts_after p.trees x in
     let all = flat_map (λ y. (node_in p.trees y).text) nexts in
     let now = after p (replacing_data x (length_of p.trees x) 0 all p) in
-    let fits = joining-fits x parent p i (has_node-times p.trees x there) (text-data (kind_of p.trees x) text) up in
-    joins_same p.trees now.trees x q size nexts
+    let fits = joining-fits x parent p i (has_node-times p.trees x is.there) (text-data (kind_of p.trees x) is.text) up in
+    joins_same now.trees size nexts
     (λ y. index_changed (with_data_replaced (length_of p.trees x) (min 0 (length (node_in p.trees x).text - length_of p.trees x)) all)
     (λ n. refl) x p.trees y) fits.1
+  where
+    -- the same indices and lengths, the same joins
+    joins_same : (us : Trees) (k : ℕ) (ys : List NodeName) → ((y : NodeName) → index_of us y ≡ index_of p.trees y) →
+        AllByRecursion (λ y. length_of us y ≡ length_of p.trees y) ys → joins us x q k ys ≡ joins p.trees x q k ys
+    joins_same us k [] index lengths = refl
+    joins_same us k (y ∷ ys) index lengths =
+        ap (λ i. join_at x k y q i ∷ joins us x q (k + length_of us y) ys) (index y)
+        ∙ (ap (λ n. join_at x k y q (index_of p.trees y) ∷ joins us x q (k + n) ys) lengths.0
+        ∙ ap (λ steps. join_at x k y q (index_of p.trees y) ∷ steps) (joins_same us (k + length_of p.trees y) ys index lengths.1))

@@ -34,19 +34,6 @@ module _ (o : Owner) (how : Observing) (node parent : NodeName) (before : Option
       emptied and_then making_room parent before (length moved) and_then in_turn (placing parent before) moved and_then steps_of
       (telling how (child_list parent moved [] prev before))
 
-  placed_plan : (moved : List NodeName) (emptied : Plan) (prev : Option NodeName) (d : DocState) → IsAlone d.world o → PlansOwn o emptied →
-      AllByRecursion (λ (x : NodeName). x.owner ≡ o) moved
-      → placed_all how moved parent before prev o (planned o emptied d) ≡ planned o (placing_plan moved emptied prev) d
-  placed_plan moved emptied prev d alone empties own =
-      let told : Plan = steps_of (telling how (child_list parent moved [] prev before)) in
-      let room = making_room parent before (length moved) in
-      let turn = in_turn (placing parent before) moved in
-      let roomed = plans_then o emptied room empties (plans_room o parent before (length moved)) in
-      let turned = plans_turn o (placing parent before) moved (plans_each_own o (placing parent before) (plans_placing o parent before) moved own) in
-      ap (λ e. planned o told (planned o turn e)) (planned_then o emptied room d alone empties)
-      ∙ ap (planned o told) (planned_then o (emptied and_then room) turn d alone roomed)
-      ∙ planned_then o (emptied and_then room and_then turn) told d alone (plans_then o (emptied and_then room) turn roomed turned)
-
   -- the steps of an insertion, by whether the node is a fragment
   abbrev steps_if : Part → Bool → List NodeName → List Step
   steps_if p b moved =
@@ -59,26 +46,40 @@ module _ (o : Owner) (how : Observing) (node parent : NodeName) (before : Option
   abbrev with_steps : DocState → List Step → DocState
   with_steps d steps = record d { world = world_after o d.world steps }
 
-  module _ (d : DocState) (alone : IsAlone d.world o) (own : node.owner ≡ o) where
-    abbrev ts : Trees
-    ts = (part_of d.world o).trees
+  module _ (d : DocState) (alone : IsAlone d.world o) where
+    placed_plan : (moved : List NodeName) (emptied : Plan) (prev : Option NodeName) → PlansOwn o emptied →
+        AllByRecursion (λ (x : NodeName). x.owner ≡ o) moved
+        → placed_all how moved parent before prev o (planned o emptied d) ≡ planned o (placing_plan moved emptied prev) d
+    placed_plan moved emptied prev empties own =
+        let told : Plan = steps_of (telling how (child_list parent moved [] prev before)) in
+        let room = making_room parent before (length moved) in
+        let turn = in_turn (placing parent before) moved in
+        let roomed = plans_then o emptied room empties (plans_room o parent before (length moved)) in
+        let turned = plans_turn o (placing parent before) moved (plans_each_own o (placing parent before) (plans_placing o parent before) moved own) in
+        ap (λ e. planned o told (planned o turn e)) (planned_then o emptied room d alone empties)
+        ∙ ap (planned o told) (planned_then o (emptied and_then room) turn d alone roomed)
+        ∙ planned_then o (emptied and_then room and_then turn) told d alone (plans_then o (emptied and_then room) turn roomed turned)
 
-    -- one node
-    pub inserted_one : is_fragment (kind_of ts node) ≡ false →
-        placed_all how (node ∷ []) parent before (sibling_before ts parent before) o d ≡ planned o (inserting how node parent before) d
-    inserted_one e =
-        placed_plan (node ∷ []) (steps_of []) (sibling_before ts parent before) d alone (λ p h. tt) (own, tt) ∙
-        ap (with_steps d) (sym (steps_as (part_of d.world o) false e))
+    module _ (own : node.owner ≡ o) where
+      abbrev ts : Trees
+      ts = (part_of d.world o).trees
 
-    -- a fragment's children
-    pub inserted_children : is_fragment (kind_of ts node) ≡ true → is_empty (children_of ts node) ≡ false
-        → placed_all how (children_of ts node) parent before (sibling_before ts parent before) o
-        (planned o (emptying node (children_of ts node)) d) ≡ planned o (inserting how node parent before) d
-    inserted_children e some =
-        let moved = children_of ts node in
-        placed_plan moved (emptying node moved) (sibling_before ts parent before) d alone (plans_emptying o node moved) (children_own o ts node alone.own)
-        ∙ ap (with_steps d) (sym (steps_as (part_of d.world o) true e ∙
-        cond-false (is_empty moved) [] (placing_plan moved (emptying node moved) (sibling_before ts parent before) (part_of d.world o)) some))
+      -- one node
+      pub inserted_one : is_fragment (kind_of ts node) ≡ false →
+          placed_all how (node ∷ []) parent before (sibling_before ts parent before) o d ≡ planned o (inserting how node parent before) d
+      inserted_one e =
+          placed_plan (node ∷ []) (steps_of []) (sibling_before ts parent before) (λ p h. tt) (own, tt) ∙
+          ap (with_steps d) (sym (steps_as (part_of d.world o) false e))
+
+      -- a fragment's children
+      pub inserted_children : is_fragment (kind_of ts node) ≡ true → is_empty (children_of ts node) ≡ false
+          → placed_all how (children_of ts node) parent before (sibling_before ts parent before) o
+          (planned o (emptying node (children_of ts node)) d) ≡ planned o (inserting how node parent before) d
+      inserted_children e some =
+          let moved = children_of ts node in
+          placed_plan moved (emptying node moved) (sibling_before ts parent before) (plans_emptying o node moved) (children_own o ts node alone.own)
+          ∙ ap (with_steps d) (sym (steps_as (part_of d.world o) true e ∙
+          cond-false (is_empty moved) [] (placing_plan moved (emptying node moved) (sibling_before ts parent before) (part_of d.world o)) some))
 
 -- ---- a fragment's children may move where it may
 

@@ -59,7 +59,7 @@ module _ (d e : DocState) (node parent size : ℕ) (units : DomString) (ks : Lis
       ∙ subst (λ (ns : List NodeName). joins (after p (replacing_data x (length_of p.trees x) 0 all p)).trees (name_at ns node)
       (name_at ns parent) size (map (name_at ns) ks) ≡ joins p.trees (name_at ns node) (name_at ns parent) size (map (name_at ns) ks)) (sym names)
       (ap (joins (after p (replacing_data x (length_of p.trees x) 0 all p)).trees x (name_in d parent) size) listed
-      ∙ (joins_after x (name_in d parent) (name_in d parent) p size part there text up ∙ ap (joins p.trees x (name_in d parent) size) (sym listed)))
+      ∙ (joins_after x (name_in d parent) size part record { there = there; text = text } up ∙ ap (joins p.trees x (name_in d parent) size) (sym listed)))
 
   pub joining_fits : JoinsFit (trees_in e node) (name_in e node) size (map (name_in e) ks)
   joining_fits =
@@ -68,9 +68,9 @@ module _ (d e : DocState) (node parent size : ℕ) (units : DomString) (ks : Lis
       (map (name_at ns) ks)) (sym names)
       (subst (λ n. JoinsFit (after p (replacing_data x (length_of p.trees x) 0 all p)).trees x n (map (name_in d) ks)) (sym sized)
       (subst (JoinsFit (after p (replacing_data x (length_of p.trees x) 0 all p)).trees x (length_of p.trees x)) (sym listed)
-      (joining-joins_fit x (name_in d parent) p part there text up))))
+      (joining-joins_fit x (name_in d parent) part there text up))))
 
   pub joining_bounds : HasBounds (part_of e.world (owner_in e node))
   joining_bounds =
       subst (λ (ns : List NodeName). HasBounds (part_of e.world (name_at ns node).owner)) (sym names)
-      (bounds_grown (owner_in d node) d alone part bounds x size 0 units (text-data (kind_of p.trees x) text) e made)
+      (bounds_grown (owner_in d node) d alone part bounds x size 0 units (text-data (kind_of p.trees x) text) made)

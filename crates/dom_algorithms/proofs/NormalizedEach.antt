@@ -92,7 +92,7 @@ texts_left : {p : Part} → IsPart p → {x : NodeName} → IsTextOf p x → (d 
     AllByRecursion (λ k. IsTextOf p (name_in d k)) ks → AllByRecursion (λ k. IsTextOf (after p (normalizing_text x p)) (name_in d k)) ks
 texts_left part is d [] h = tt
 texts_left {p} part {x} is d (k ∷ ks) h =
-    let left = normalized_text-leaves x (name_in d k) p part is.there h.0.there h.0.text in
+    let left = normalized_text-leaves x (name_in d k) part is.there h.0.there h.0.text in
     (record { there = left.0; text = left.1 }, texts_left part is d ks h.1)
 
 -- Texts below a node that are normalized one after another, from the state d.

@@ -188,9 +188,9 @@ module _ (d e : DocState) (counted : Counted d) (parent node : ℕ) (before : Op
       (name_in e node) (name_in e parent) (option_map (name_in e) before) y moved ∙ kept y lacks)
 
 -- ---- a removal keeps the paths of others
-pub removal_keeps : (d f : DocState) → Counted d → (k : ℕ) → IsAlone d.world (owner_in d k) → (how : Observing) →
+pub removal_keeps : (d : DocState) {f : DocState} → Counted d → (k : ℕ) → IsAlone d.world (owner_in d k) → (how : Observing) →
     f ≡ planned (owner_in d k) (removing how (name_in d k)) d → KeepsPaths k (name_in d k) d f
-removal_keeps d f counted k alone how is y off =
+removal_keeps d {f} counted k alone how is y off =
     subst (λ (s : DocState). inclusive_ancestors (trees_in s k) y ≡ inclusive_ancestors (trees_in d k) y) (sym is)
     (path_removed (owner_in d k) d alone (once_in d counted (owner_in d k)) how (name_in d k) y
     (lacks_from (name_in d k) (inclusive_ancestors (trees_in d k) y) off))

@@ -131,7 +131,7 @@ module _ (d e : DocState) (counted : Counted d) (alone : (k : ℕ) → k < lengt
       ap (λ o. (part_of e.world o).trees) (sym child_is.owner) ∙ ap (λ (ns : List NodeName). (part_of e.world (name_at ns child).owner).trees)
       (sym same_names) in
       ap (λ t. inclusive_ancestors t y) owned
-      ∙ removal_keeps d e counted child (alone child child_is.node) suppressed removed y
+      ∙ removal_keeps d counted child (alone child child_is.node) suppressed removed y
       (ap (λ t. is_inclusive_ancestor t (name_in d child) y) own ∙ lacks_to (name_in d child) (inclusive_ancestors (trees_in d parent) y) lacks)
       ∙ ap (λ t. inclusive_ancestors t y) own
 

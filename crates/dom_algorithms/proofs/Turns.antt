@@ -109,6 +109,11 @@ module _ (parent : ℕ) (before : Option ℕ) (all : List ℕ) (d : DocState) wh
 
 -- ---- taking out
 
+-- the item of a loop over some keys, and its index
+pub record IsItem (all : List ℕ) (i k : ℕ) : Type 0 where
+  pub below : i < length all
+  pub item : k ≡ get_or all i k
+
 -- how far a loop has come that takes nodes out
 pub record Empties (how : Observing) (top : ℕ) (all : List ℕ) (d : DocState) (rest : List ℕ) (e : DocState) : Type 0 where
   pub names : e.names ≡ d.names
@@ -151,15 +156,15 @@ module _ (how : Observing) (top : ℕ) (all : List ℕ) (d : DocState) where
       }
 
   -- a step of it, by its index
-  pub empties_on : (i k : ℕ) (e f : DocState) → Counted e
-      → i < length all → k ≡ get_or all i k → AllByRecursion (λ j. (j < length d.names) × (owner_in d j ≡ owner_in d top)) all →
+  pub empties_on : (i : ℕ) {k : ℕ} {e f : DocState} → Counted e
+      → IsItem all i k → AllByRecursion (λ j. (j < length d.names) × (owner_in d j ≡ owner_in d top)) all →
       Empties how top all d (drop i all) e
       → f ≡ planned (owner_in e k) (removing how (name_in e k)) e → Empties how top all d (drop (i + 1) all) f
-  empties_on i k e f counted i< is nodes empties made =
-      let now : drop i all ≡ k ∷ drop (suc i) all = drop-cons all i k i< ∙ ap (λ j. j ∷ drop (suc i) all) (sym is) in
+  empties_on i {k} {e} {f} counted at nodes empties made =
+      let now : drop i all ≡ k ∷ drop (suc i) all = drop-cons all i k at.below ∙ ap (λ j. j ∷ drop (suc i) all) (sym at.item) in
       let here = (subst (AllByRecursion (λ j. (j < length d.names) × (owner_in d j ≡ owner_in d top))) now
       (all_drop (λ j. (j < length d.names) × (owner_in d j ≡ owner_in d top)) i all nodes)).0 in
       subst (λ j. Empties how top all d (drop j all) f) (sym (add-one i))
       (empties_next here.1 (subst (λ ks. Empties how top all d ks e) now empties) made
-      (removal_keeps e f counted k (subst (IsAlone e.world) (sym (ap (λ (ns : List NodeName). (name_at ns k).owner) empties.names ∙ here.1))
+      (removal_keeps e counted k (subst (IsAlone e.world) (sym (ap (λ (ns : List NodeName). (name_at ns k).owner) empties.names ∙ here.1))
       empties.alone) how made))

@@ -51,25 +51,26 @@ hosted_key names distinct (h ∷ hosts) nodes k at =
     pick true rest = refl
     pick false rest = rest
 
--- a node is among all hosts where it is among its owner's
-own_hosted : (names : List NodeName) (hosts : List ShadowHost) (x : NodeName) →
-    is_in name_eq x (host_names names hosts) ≡ is_in name_eq x (attached_of names hosts x.owner)
-own_hosted names [] x = refl
-own_hosted names (h ∷ hosts) x = elim (cases_Bool (owner_eq (maker_of names h) x.owner)) [
-  | inl e ↦ ap (λ b. name_eq x (name_at names h.host) || b) (own_hosted names hosts x) ∙
-      sym (ap (λ hs. is_in name_eq x (host_names names hs)) (own-host names h hosts x.owner e))
-  | inr e ↦
-      ap (λ b. b || is_in name_eq x (host_names names hosts))
-      (name_eq-other x (name_at names h.host) (λ same. owner_eq-false (maker_of names h) x.owner e (ap (λ (y : NodeName). y.owner) (sym same))))
-      ∙ (own_hosted names hosts x ∙ sym (ap (λ hs. is_in name_eq x (host_names names hs)) (other-host names h hosts x.owner e)))
-]
+module _ (names : List NodeName) where
+  -- a node is among all hosts where it is among its owner's
+  own_hosted : (hosts : List ShadowHost) (x : NodeName) →
+      is_in name_eq x (host_names names hosts) ≡ is_in name_eq x (attached_of names hosts x.owner)
+  own_hosted [] x = refl
+  own_hosted (h ∷ hosts) x = elim (cases_Bool (owner_eq (maker_of names h) x.owner)) [
+    | inl e ↦ ap (λ b. name_eq x (name_at names h.host) || b) (own_hosted hosts x) ∙
+        sym (ap (λ hs. is_in name_eq x (host_names names hs)) (own-host names h hosts x.owner e))
+    | inr e ↦
+        ap (λ b. b || is_in name_eq x (host_names names hosts))
+        (name_eq-other x (name_at names h.host) (λ same. owner_eq-false (maker_of names h) x.owner e (ap (λ (y : NodeName). y.owner) (sym same))))
+        ∙ (own_hosted hosts x ∙ sym (ap (λ hs. is_in name_eq x (host_names names hs)) (other-host names h hosts x.owner e)))
+  ]
 
--- the components of hosts have nodes
-pub owner_node : (names : List NodeName) (earlier hosts : List ShadowHost) (o : Owner) → AreMadeBehind names earlier hosts → HostsAreNodes names hosts →
-    In o (host_owners hosts) → (k : ℕ) × (k < length names) × ((name_at names k).owner ≡ o)
-owner_node names earlier [] o made nodes i = absurd i
-owner_node names earlier (h ∷ hosts) o made nodes (inl e) = (h.root, nodes.1, ap (λ (x : NodeName). x.owner) made.0.root ∙ e)
-owner_node names earlier (h ∷ hosts) o made nodes (inr i) = owner_node names (earlier ++ h ∷ []) hosts o made.1 nodes.2 i
+  -- the components of hosts have nodes
+  pub owner_node : (earlier hosts : List ShadowHost) (o : Owner) → AreMadeBehind names earlier hosts → HostsAreNodes names hosts →
+      In o (host_owners hosts) → (k : ℕ) × (k < length names) × ((name_at names k).owner ≡ o)
+  owner_node earlier [] o made nodes i = absurd i
+  owner_node earlier (h ∷ hosts) o made nodes (inl e) = (h.root, nodes.1, ap (λ (x : NodeName). x.owner) made.0.root ∙ e)
+  owner_node earlier (h ∷ hosts) o made nodes (inr i) = owner_node (earlier ++ h ∷ []) hosts o made.1 nodes.2 i
 
 none_there : {X : Type 0} (o : Option X) → is_some o ≡ false → o ≡ None
 none_there None e = refl
@@ -117,7 +118,7 @@ module _ (f : NamedTrees) (was : AllTables) (held : IsDoc f.names f.trees was) (
 
   nodes_of : (k : ℕ) → k < made_already → count_of (component_made m k) f.names ≢ 0
   nodes_of k below none =
-      let i = component_in_owners f.names [] was.slots.hosts m k held.made (omega arith) (omega (arith, below)) in
+      let i = component_in_owners f.names m [] was.slots.hosts k held.made (omega arith) (omega (arith, below)) in
       let node = owner_node f.names [] was.slots.hosts (component_made m k) held.made held.signals.slots.hosts i in
       let number = held.numbered node.0 node.1 in
       let count = ap (λ (o : Owner). count_of o f.names) node.2 in
@@ -140,7 +141,7 @@ module _ (f : NamedTrees) (was : AllTables) (held : IsDoc f.names f.trees was) (
   pub count_is : (r : ℕ) → ((k : ℕ) → k < r → count_of (component_made m k) f.names ≢ 0) → (r < 1000 → count_of (component_made m r) f.names ≡ 0) →
       r ≤ 1000 → r ≡ count_hosts f.names was.slots.hosts m
   count_is r made next few =
-      let most = few_hosts f.names [] was.slots.hosts m held.made (omega arith) in
+      let most = few_hosts f.names m [] was.slots.hosts held.made (omega arith) in
       elim (cases_lt r made_already) [
         | inl h ↦ absurd (nodes_of r h (next (omega (arith, h, most))))
         | inr h ↦ elim (cases_lt made_already r) [

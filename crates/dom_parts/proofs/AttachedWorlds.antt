@@ -1,9 +1,9 @@
 -- Attaching in the world of what is held with hosts: the component that is made was not there, the world is the one after
 -- the command, and the list of hosts with the new one belongs to what is held then.
-use Rattle.std.proofs.Common.{◌≡◌, ◌≢◌, ℕ, suc, ◌+◌, ◌<◌, ◌≤◌, Bool, true, false, cond, List, [], ◌∷◌, ◌++◌, Option, Some, None, length, refl, sym, ap}
+use Rattle.std.proofs.Common.{◌≡◌, ◌≢◌, ℕ, suc, ◌+◌, ◌<◌, ◌≤◌, Bool, true, false, cond, List, [], ◌∷◌, ◌++◌, Option, length, refl, sym, ap}
 use Rattle.std.proofs.Common.{subst, ◌∙◌, ◌⊎◌, inl, inr, arith, zero-add}
-use Rattle.std.specs.Prelude.{nat_eq, find, option_map, if◌then◌else◌}
-use Rattle.std.proofs.lemmas.Bool.{cases_Bool, false_from_ne_true, or_parts}
+use Rattle.std.specs.Prelude.{if◌then◌else◌}
+use Rattle.std.proofs.lemmas.Bool.{cases_Bool, false_from_ne_true}
 use Rattle.std.proofs.lemmas.List.{length-map, length_push, map-append, append-nil, append_assoc}
 use Rattle.std.proofs.lemmas.List.Sums.{sum_by-cons}
 use Rattle.std.proofs.lemmas.Option.{same_Some}
@@ -13,20 +13,18 @@ use Rattle.dom_base.specs.declared.NodeName.{NodeName}
 use Rattle.dom_base.specs.declared.Owner.{Owner}
 use Rattle.dom_base.specs.declared.Owner.TheVariants.{Page}
 use Rattle.dom_base.specs.declared.TheConstants.{MAX_COMPONENTS}
-use Rattle.dom_model.specs.Names.{owner_eq, name_eq, is_in, node_of}
+use Rattle.dom_model.specs.Names.{owner_eq, node_of}
 use Rattle.dom_model.specs.Tree.{none, tree, Node, node_in}
 use Rattle.dom_model.specs.TreeChanges.{with_node}
 use Rattle.dom_model.specs.DocumentMachine.{new_root, part_with_root, attaching}
 use Rattle.dom_model.specs.Part.{Part}
 use Rattle.dom_model.specs.World.{World, MayAttach, with_part, is_there, component_made, made_by, shadow_root_of}
 use Rattle.dom_model.proofs.OwnerLaws.{owner_eq-true, owner_eq-false, owner_eq-same, ne-owner_eq, made_by-made, component_made-no_page, component_made-other}
-use Rattle.dom_slots.specs.Hosts.{ShadowHost, HostsAreNodes, root_of_host}
-use Rattle.dom_slots.proofs.Hosted.{key-test}
+use Rattle.dom_slots.specs.Hosts.{ShadowHost, HostsAreNodes}
 use Rattle.dom_tree.specs.Forest.{name_at, count_of}
 use Rattle.dom_tree.specs.Owners.{AreOwned, IsOwnChange, trees_of_owner}
 use Rattle.dom_tree.proofs.OwnPlacings.{added}
 use Rattle.dom_tree.proofs.Owned.{read_own}
-use Rattle.dom_tree.specs.Apart.{TellApart}
 use Rattle.dom_parts.specs.Contents.{Contents, Tables, part_with, part_in, world_of}
 use Rattle.dom_parts.specs.Hosting.{maker_of, hosts_of, IsMadeAs, AreMadeBehind, host_names, attached_of, host_owners, AreHostsOf, IsAttached}
 use Rattle.dom_parts.proofs.Numbers.{count_more}
@@ -43,16 +41,6 @@ made_pushed : (names : List NodeName) (earlier hosts : List ShadowHost) (h : Sha
 made_pushed names earlier [] h made one = (subst (λ gs. IsMadeAs names gs h) (append-nil earlier) one, tt)
 made_pushed names earlier (g ∷ hosts) h made one =
     (made.0, made_pushed names (earlier ++ g ∷ []) hosts h made.1 (subst (λ gs. IsMadeAs names gs h) (sym (append_assoc earlier (g ∷ []) hosts)) one))
-
--- a node that is no host by its name is none by its key: what `attach` of dom_slots asks of a host
-pub unhosted_key : (names : List NodeName) → TellApart names → (hosts : List ShadowHost) → HostsAreNodes names hosts → (k : ℕ) →
-    k < length names → is_in name_eq (name_at names k) (host_names names hosts) ≡ false → root_of_host hosts k ≡ None
-unhosted_key names distinct [] nodes k at off = refl
-unhosted_key names distinct (h ∷ hosts) nodes k at off =
-    let parts = or_parts (name_eq (name_at names k) (name_at names h.host)) (is_in name_eq (name_at names k) (host_names names hosts)) off in
-    ap (λ (b : Bool). option_map (λ (g : ShadowHost). g.root) (if b then Some h else find (λ (g : ShadowHost). nat_eq k g.host) hosts))
-    (key-test names distinct k h.host at nodes.0 ∙ parts.0)
-    ∙ unhosted_key names distinct hosts nodes.2 k at parts.1
 
 -- ---- counts
 
@@ -150,7 +138,9 @@ module _ (a : Contents) (hosts : List ShadowHost) (held : AreHostsOf a hosts) (m
         }
 
     with_component : world_of b ≡ with_part (world_of marked) (part_in b next_component)
-    with_component = joined marked b next_component one.owners one.signalled one.tasks (there_same marked a refl next_component ∙ component_new) others
+    with_component =
+        joined marked b next_component (there_same marked a refl next_component ∙ component_new)
+        record { owners = one.owners; signalled = one.signalled; tasks = one.tasks; others = others }
       where
         others : (q : Owner) → q ≢ next_component → part_in b q ≡ part_in marked q
         others q other =

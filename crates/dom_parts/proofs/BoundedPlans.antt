@@ -66,32 +66,31 @@ normalized_text-keeps x p i there text h =
     bounds-of (after p (normalizing_text x p)) (leads-normalizing_text p x i t).changed.part (room-normalizing_text p x i (t, text) (room-of p i h))
 
 -- and a Text that is there is one then
-pub normalized_text-leaves : (x y : NodeName) (p : Part) → IsPart p → IsTrue (has_node p.trees x) → IsTrue (has_node p.trees y) →
+pub normalized_text-leaves : (x y : NodeName) {p : Part} → IsPart p → IsTrue (has_node p.trees x) → IsTrue (has_node p.trees y) →
     is_text (kind_of p.trees y) ≡ true
     → IsTrue (has_node (after p (normalizing_text x p)).trees y) × (is_text (kind_of (after p (normalizing_text x p)).trees y) ≡ true)
-normalized_text-leaves x y p i there there_y text =
+normalized_text-leaves x y {p} i there there_y text =
     let changed = (leads-normalizing_text p x i (has_node-times p.trees x there)).changed in
     let t = has_node-times p.trees y there_y in
     (times-has_node (after p (normalizing_text x p)).trees y (still changed y t), ap is_text (changed.kinds y t) ∙ text)
 
--- each of some Texts may be joined to a first one
-joins-fit : (ts us : Trees) (first : NodeName) (size : ℕ) (ys : List NodeName) → size + total ts ys ≤ length_of us first →
-    AllByRecursion (λ y. length_of us y ≡ length_of ts y) ys → JoinsFit us first size ys
-joins-fit ts us first size [] few same = tt
-joins-fit ts us first size (y ∷ ys) few same =
-    let is = same.0 in (
-      omega arith,
-      subst (λ k. JoinsFit us first (size + k) ys) (sym is)
-          (joins-fit ts us first (size + length_of ts y) ys (omega arith) same.1),
-    )
-
--- so it is where a Text got the data of those directly after it
-pub joining-joins_fit : (x parent : NodeName) (p : Part) → IsPart p → IsTrue (has_node p.trees x) → is_text (kind_of p.trees x) ≡ true →
+-- where a Text got the data of those directly after it, each of these may be joined to it
+pub joining-joins_fit : (x parent : NodeName) {p : Part} → IsPart p → IsTrue (has_node p.trees x) → is_text (kind_of p.trees x) ≡ true →
     parent_of p.trees x ≡ Some parent →
     let nexts = texts_after p.trees x in
     JoinsFit (after p (replacing_data x (length_of p.trees x) 0 (flat_map (λ y. (node_in p.trees y).text) nexts) p)).trees x (length_of p.trees x) nexts
-joining-joins_fit x parent p i there text up =
+joining-joins_fit x parent {p} i there text up =
     let nexts = texts_after p.trees x in
     let q = after p (replacing_data x (length_of p.trees x) 0 (flat_map (λ y. (node_in p.trees y).text) nexts) p) in
     let fits = joining-fits x parent p i (has_node-times p.trees x there) (text-data (kind_of p.trees x) text) up in
-    joins-fit p.trees q.trees x (length_of p.trees x) nexts fits.0 fits.1
+    each q.trees (length_of p.trees x) nexts fits.0 fits.1
+  where
+    each : (us : Trees) (size : ℕ) (ys : List NodeName) → size + total p.trees ys ≤ length_of us x →
+        AllByRecursion (λ y. length_of us y ≡ length_of p.trees y) ys → JoinsFit us x size ys
+    each us size [] few same = tt
+    each us size (y ∷ ys) few same =
+        let is = same.0 in (
+          omega arith,
+          subst (λ k. JoinsFit us x (size + k) ys) (sym is)
+              (each us (size + length_of p.trees y) ys (omega arith) same.1),
+        )

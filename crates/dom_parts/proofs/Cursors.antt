@@ -117,16 +117,26 @@ module _ (names : List NodeName) (ts : Trees) (tables : AllTables) (held : IsDoc
     -- what holds of the others
     pub held_set : AreTablesOf (named_trees names ts) o u → IsDoc names ts (with_table tables o u)
     held_set h =
-        held_with names ts tables held o there names ts (with_table tables o u) refl held.owned
-        (λ p other. refl) held.present held.limited
-        (λ p. elim (cases_Bool (owner_eq o p)) [
-          | inl same ↦ subst (AreTablesOf (named_trees names ts) p) (sym (cond-true (owner_eq o p) u (tables.each p) same))
-              (subst (λ q. AreTablesOf (named_trees names ts) q u) (owner_eq-true o p same) h)
-          | inr other ↦ subst (AreTablesOf (named_trees names ts) p) (sym (cond-false (owner_eq o p) u (tables.each p) other)) (held.own p)
-        ])
-        (λ p off. with-other tables.each o u p (λ same. true≢false (sym there ∙ ap (is_there (world_from names ts tables)) (sym same) ∙ off)) ∙ held.idle p off)
-        held.made record { free = held.signals.free; slots = held.signals.slots; nodes = held.signals.nodes } held.speaks held.unobserved held.due
-        (ranges_stay (contents names ts (with_table tables o u)) held.ranges refl refl (λ p. refl)) held.numbered
+        held_with names ts tables held o there names ts (with_table tables o u) refl record {
+          owned = held.owned;
+          apart = λ p other. refl;
+          present = held.present;
+          limited = held.limited;
+          own = λ p. elim (cases_Bool (owner_eq o p)) [
+            | inl same ↦ subst (AreTablesOf (named_trees names ts) p) (sym (cond-true (owner_eq o p) u (tables.each p) same))
+                (subst (λ q. AreTablesOf (named_trees names ts) q u) (owner_eq-true o p same) h)
+            | inr other ↦ subst (AreTablesOf (named_trees names ts) p) (sym (cond-false (owner_eq o p) u (tables.each p) other)) (held.own p)
+          ];
+          idle = λ p off.
+              with-other tables.each o u p (λ same. true≢false (sym there ∙ ap (is_there (world_from names ts tables)) (sym same) ∙ off)) ∙ held.idle p off;
+          made = held.made;
+          signals = record { free = held.signals.free; slots = held.signals.slots; nodes = held.signals.nodes };
+          speaks = held.speaks;
+          unobserved = held.unobserved;
+          due = held.due;
+          ranges = ranges_stay (contents names ts (with_table tables o u)) held.ranges refl refl (λ p. refl);
+          numbered = held.numbered;
+        }
 
     there_set : is_there (world_from names ts (with_table tables o u)) o ≡ true
     there_set = there_same (contents names ts (with_table tables o u)) (contents names ts tables) refl o ∙ there

@@ -38,14 +38,6 @@ no_cursors f o = record {
   few_walkers = omega arith;
 }
 
--- whoever is not there has no hosts
-none_of : (w : World) (names : List NodeName) → ((k : ℕ) → k < length names → is_there w (name_at names k).owner ≡ true) → (o : Owner) →
-    is_there w o ≡ false → (hosts : List ShadowHost) → HostsAreNodes names hosts → hosts_of names hosts o ≡ []
-none_of w names present o off [] nodes = refl
-none_of w names present o off (h ∷ hosts) nodes =
-    other-host names h hosts o (ne-owner_eq (maker_of names h) o (λ e. let on = sym (ap (is_there w) e) ∙ present h.host nodes.0 in cc))
-    ∙ none_of w names present o off hosts nodes.2
-
 -- it has just its hosts
 pub are_hosts : (names : List NodeName) (ts : Trees) (tables : AllTables) → IsDoc names ts tables → AreHostsOf (contents names ts tables) tables.slots.hosts
 are_hosts names ts tables held = record {
@@ -53,10 +45,19 @@ are_hosts names ts tables held = record {
   made = held.made;
   nodes = held.signals.slots.hosts;
   attached = λ o. refl;
-  unhosted = λ o off. ap (host_names names) (none_of (world_from names ts tables) names held.present o off tables.slots.hosts held.signals.slots.hosts);
+  unhosted = λ o off. ap (host_names names) (none_of o off tables.slots.hosts held.signals.slots.hosts);
   owned = held.owned;
   absent = held.absent;
 }
+  where
+    -- whoever is not there has no hosts
+    none_of : (o : Owner) → is_there (world_from names ts tables) o ≡ false → (hosts : List ShadowHost) → HostsAreNodes names hosts →
+        hosts_of names hosts o ≡ []
+    none_of o off [] nodes = refl
+    none_of o off (h ∷ hosts) nodes =
+        other-host names h hosts o (ne-owner_eq (maker_of names h) o
+        (λ e. let on = sym (ap (is_there (world_from names ts tables)) e) ∙ held.present h.host nodes.0 in cc))
+        ∙ none_of o off hosts nodes.2
 
 -- each owner stands there once
 pub single_owners : (names : List NodeName) (ts : Trees) (tables : AllTables) → IsDoc names ts tables → Single (Page ∷ host_owners tables.slots.hosts)
@@ -72,6 +73,23 @@ due_kept w v there (t ∷ tasks) all = (by t all.0, due_kept w v there tasks all
     by (micro_task o label) h = tt
     by (notify_task o) h = there o h
 
+-- what is asked of other names, trees and tables than a document's, of which only the owner's o trees may differ, that they be held
+pub record StaysHeld (names : List NodeName) (ts : Trees) (tables : AllTables) (o : Owner) (more : List NodeName) (us : Trees) (others : AllTables) :
+    Type 0 where
+  pub owned : AreOwned us
+  pub apart : (p : Owner) → p ≢ o → trees_of_owner p us ≡ trees_of_owner p ts
+  pub present : (k : ℕ) → k < length more → is_there (world_from names ts tables) (name_at more k).owner ≡ true
+  pub limited : (p : Owner) → count_of p more ≤ 1000000
+  pub own : (p : Owner) → AreTablesOf (named_trees more us) p (others.each p)
+  pub idle : (p : Owner) → is_there (world_from names ts tables) p ≡ false → others.each p ≡ no_keyed_tables
+  pub made : AreMadeBehind more [] tables.slots.hosts
+  pub signals : AreSignals more us (signals_of others)
+  pub speaks : (p : Owner) → SpeaksOf (IsKey more) (others.observers p)
+  pub unobserved : (p : Owner) → is_there (world_from names ts tables) p ≡ false → others.observers p ≡ no_observers
+  pub due : AllByRecursion (IsDue (world_from names ts tables)) others.tasks
+  pub ranges : AreRangesOf (contents more us others) others.ranges
+  pub numbered : AreNumbered more
+
 -- other trees and tables, where only one owner's trees change
 module _ (names : List NodeName) (ts : Trees) (tables : AllTables) (held : IsDoc names ts tables) (o : Owner)
     (there : is_there (world_from names ts tables) o ≡ true)
@@ -80,31 +98,23 @@ module _ (names : List NodeName) (ts : Trees) (tables : AllTables) (held : IsDoc
   who : (p : Owner) → is_there (world_from more us others) p ≡ is_there (world_from names ts tables) p
   who p = there_same (contents more us others) (contents names ts tables) (ap (λ (hs : List ShadowHost). Page ∷ host_owners hs) hosts) p
 
-  pub held_with : AreOwned us → ((p : Owner) → p ≢ o → trees_of_owner p us ≡ trees_of_owner p ts)
-      → ((k : ℕ) → k < length more → is_there (world_from names ts tables) (name_at more k).owner ≡ true) → ((p : Owner) → count_of p more ≤ 1000000)
-      → ((p : Owner) → AreTablesOf (named_trees more us) p (others.each p)) →
-      ((p : Owner) → is_there (world_from names ts tables) p ≡ false → others.each p ≡ no_keyed_tables) → AreMadeBehind more [] tables.slots.hosts →
-      AreSignals more us (signals_of others)
-      → ((p : Owner) → SpeaksOf (IsKey more) (others.observers p)) →
-      ((p : Owner) → is_there (world_from names ts tables) p ≡ false → others.observers p ≡ no_observers)
-      → AllByRecursion (IsDue (world_from names ts tables)) others.tasks → AreRangesOf (contents more us others) others.ranges →
-      AreNumbered more → IsDoc more us others
-  held_with owned apart present limited own idle made signals speaks unobserved due ranges numbered = record {
-    owned = owned;
-    present = λ k k<. who (name_at more k).owner ∙ present k k<;
-    absent = λ p off. apart p (λ same_owner. let on : is_there (world_from names ts tables) p ≡ true = subst
+  pub held_with : StaysHeld names ts tables o more us others → IsDoc more us others
+  held_with stays = record {
+    owned = stays.owned;
+    present = λ k k<. who (name_at more k).owner ∙ stays.present k k<;
+    absent = λ p off. stays.apart p (λ same_owner. let on : is_there (world_from names ts tables) p ≡ true = subst
         (λ (q : Owner). is_there (world_from names ts tables) q ≡ true) (sym same_owner) there in let gone = sym (who p) ∙ off in cc)
         ∙ held.absent p (sym (who p) ∙ off);
-    limited = limited;
-    own = own;
-    idle = λ p off. idle p (sym (who p) ∙ off);
-    made = subst (AreMadeBehind more []) (sym hosts) made;
-    signals = signals;
-    speaks = speaks;
-    unobserved = λ p off. unobserved p (sym (who p) ∙ off);
-    due = due_kept (world_from names ts tables) (world_from more us others) (λ p on. who p ∙ on) others.tasks due;
-    ranges = ranges;
-    numbered = numbered;
+    limited = stays.limited;
+    own = stays.own;
+    idle = λ p off. stays.idle p (sym (who p) ∙ off);
+    made = subst (AreMadeBehind more []) (sym hosts) stays.made;
+    signals = stays.signals;
+    speaks = stays.speaks;
+    unobserved = λ p off. stays.unobserved p (sym (who p) ∙ off);
+    due = due_kept (world_from names ts tables) (world_from more us others) (λ p on. who p ∙ on) others.tasks stays.due;
+    ranges = stays.ranges;
+    numbered = stays.numbered;
   }
 
 -- A document that holds its invariant.
@@ -112,10 +122,21 @@ module _ (names : List NodeName) (ts : Trees) (tables : AllTables) (held : IsDoc
   pub held_changed : (o : Owner) → is_there (world_from names ts tables) o ≡ true → (f : Trees → Trees) → IsOwnChange o f ts → KeepsAbove ts (f ts) →
       AreSlotsOf (named_trees names (f ts)) tables.slots → IsDoc names (f ts) tables
   held_changed o there f change keeps slots =
-      held_with names ts tables held o there names (f ts) tables refl change.owned change.others held.present held.limited
-      (λ p. tables_kept names ts (f ts) keeps (held.own p)) held.idle held.made
-      record { free = held.signals.free; slots = slots; nodes = held.signals.nodes } held.speaks held.unobserved held.due
-      (ranges_stay (contents names (f ts) tables) held.ranges refl refl (λ p. refl)) held.numbered
+      held_with names ts tables held o there names (f ts) tables refl record {
+        owned = change.owned;
+        apart = change.others;
+        present = held.present;
+        limited = held.limited;
+        own = λ p. tables_kept names ts (f ts) keeps (held.own p);
+        idle = held.idle;
+        made = held.made;
+        signals = record { free = held.signals.free; slots = slots; nodes = held.signals.nodes };
+        speaks = held.speaks;
+        unobserved = held.unobserved;
+        due = held.due;
+        ranges = ranges_stay (contents names (f ts) tables) held.ranges refl refl (λ p. refl);
+        numbered = held.numbered;
+      }
 
   -- other observers
   pub held_observers : (observers : Owner → TablesOf ℕ) → ((p : Owner) → SpeaksOf (IsKey names) (observers p)) →

@@ -48,25 +48,6 @@ use Rattle.dom_parts.proofs.DocInvariant.{no_cursors, are_hosts, held_with}
 
 -- ---- one node more
 
-limited_more : (names : List NodeName) (o p : Owner) (n : ℕ) → count_of o names ≤ 1000000 → count_of p names ≤ 1000000 →
-    count_of o names ≢ 1000000 → count_of p (names ++ node_of o n ∷ []) ≤ 1000000
-limited_more names o p n few few_of other = elim (cases_Bool (owner_eq o p)) [
-  | inl e ↦ let same = ap (λ (q : Owner). count_of q names) (owner_eq-true o p e) in let more : count_of p (names ++ node_of o n ∷ []) ≡ count_of
-      p names + 1 = rw e at (count_more p names (node_of o n)) in omega arith
-  | inr e ↦ let more : count_of p (names ++ node_of o n ∷ []) ≡ count_of p names + 0 = rw e at (count_more p names (node_of o n)) in omega arith
-]
-
-present_more : (names : List NodeName) (ts : Trees) (tables : AllTables) (x : NodeName) → is_there (world_from names ts tables) x.owner ≡ true
-    → ((k : ℕ) → k < length names → is_there (world_from names ts tables) (name_at names k).owner ≡ true)
-    → (k : ℕ) → k < length (names ++ x ∷ []) → is_there (world_from names ts tables) (name_at (names ++ x ∷ []) k).owner ≡ true
-present_more names ts tables x there all k k< =
-    at (let within : k ≤ length names = omega (arith, length_push names x) in eq-or-lt_of_le within)
-  where
-    at : (k ≡ length names) ⊎ (k < length names) → is_there (world_from names ts tables) (name_at (names ++ x ∷ []) k).owner ≡ true
-    at (inl same) = ap (λ (y : NodeName). is_there (world_from names ts tables) y.owner)
-        (ap (λ j. name_at (names ++ x ∷ []) j) same ∙ get_or-append_seam names x [] (node_of Page 0)) ∙ there
-    at (inr h) = ap (λ (y : NodeName). is_there (world_from names ts tables) y.owner) (get_or-append names (x ∷ []) (node_of Page 0) k h) ∙ all k h
-
 module _ (names : List NodeName) (ts : Trees) (tables : AllTables) (held : IsDoc names ts tables) (o : Owner)
     (there : is_there (world_from names ts tables) o ≡ true)
     (n : Node) (is : n.name ≡ next_name o names) (new : (k : ℕ) → k < length names → name_at names k ≢ next_name o names) where
@@ -76,18 +57,53 @@ module _ (names : List NodeName) (ts : Trees) (tables : AllTables) (held : IsDoc
   own_change : IsOwnChange o (with_node n) ts
   own_change = added ts held.owned o n (ap (λ (x : NodeName). x.owner) is)
 
+  -- nobody has too many nodes
+  limited_more : count_of o names ≢ 1000000 → (p : Owner) → count_of p grown ≤ 1000000
+  limited_more room p = elim (cases_Bool (owner_eq o p)) [
+    | inl e ↦
+        let same = ap (λ (q : Owner). count_of q names) (owner_eq-true o p e) in
+        let more : count_of p grown ≡ count_of p names + 1 = rw e at (count_more p names (next_name o names)) in
+        let few = held.limited o in
+        omega arith
+    | inr e ↦
+        let more : count_of p grown ≡ count_of p names + 0 = rw e at (count_more p names (next_name o names)) in
+        let few = held.limited p in
+        omega arith
+  ]
+
+  -- the owner of each node is there
+  present_more : (k : ℕ) → k < length grown → is_there (world_from names ts tables) (name_at grown k).owner ≡ true
+  present_more k k< = at (let within : k ≤ length names = omega (arith, length_push names (next_name o names)) in eq-or-lt_of_le within)
+    where
+      at : (k ≡ length names) ⊎ (k < length names) → is_there (world_from names ts tables) (name_at grown k).owner ≡ true
+      at (inl same) = ap (λ (y : NodeName). is_there (world_from names ts tables) y.owner)
+          (ap (λ j. name_at grown j) same ∙ get_or-append_seam names (next_name o names) [] (node_of Page 0)) ∙ there
+      at (inr h) = ap (λ (y : NodeName). is_there (world_from names ts tables) y.owner)
+          (get_or-append names (next_name o names ∷ []) (node_of Page 0) k h) ∙ held.present k h
+
   pub held_more : count_of o names ≢ 1000000 → AreSlotsOf (named_trees (names ++ next_name o names ∷ []) (with_node n ts)) tables.slots →
       IsDoc (names ++ next_name o names ∷ []) (with_node n ts) tables
   held_more room slots =
-      held_with names ts tables held o there grown (with_node n ts) tables refl own_change.owned own_change.others
-      (present_more names ts tables (next_name o names) there held.present)
-      (λ p. limited_more names o p (count_of o names) (held.limited o) (held.limited p) room)
-      (λ p. tables_more names (next_name o names) ts n is new (held.own p)) held.idle
-      (made_renamed names grown (names_pushed names (next_name o names)) [] tables.slots.hosts tt held.signals.slots.hosts held.made)
-      record { free = held.signals.free; slots = slots; nodes = names_grown names (next_name o names) tables.signalled held.signals.nodes }
-      (λ p. speaks_grown names (next_name o names) (tables.observers p) (held.speaks p)) held.unobserved held.due
-      (ranges_grown (contents grown (with_node n ts) tables) (next_name o names) held.ranges refl refl
-      (named_grown names (next_name o names) tables.ranges held.ranges.own)) (numbered_more names o held.numbered)
+      held_with names ts tables held o there grown (with_node n ts) tables refl record {
+        owned = own_change.owned;
+        apart = own_change.others;
+        present = present_more;
+        limited = limited_more room;
+        own = λ p. tables_more names (next_name o names) ts n is new (held.own p);
+        idle = held.idle;
+        made = made_renamed names grown (names_pushed names (next_name o names)) [] tables.slots.hosts tt held.signals.slots.hosts held.made;
+        signals = record {
+          free = held.signals.free;
+          slots = slots;
+          nodes = names_grown names (next_name o names) tables.signalled held.signals.nodes;
+        };
+        speaks = λ p. speaks_grown names (next_name o names) (tables.observers p) (held.speaks p);
+        unobserved = held.unobserved;
+        due = held.due;
+        ranges = ranges_grown (contents grown (with_node n ts) tables) (next_name o names) held.ranges refl refl
+            (named_grown names (next_name o names) tables.ranges held.ranges.own);
+        numbered = numbered_more names o held.numbered;
+      }
 
   -- each owner's tables are the same in names
   view_grown : (q : Owner)

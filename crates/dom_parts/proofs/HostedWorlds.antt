@@ -224,7 +224,7 @@ module _ (c : Contents) (hosts : List ShadowHost) (held : AreHostsOf c hosts) wh
 
   -- whoever has some may attach
   pub makers_hosted : HasMakers (world_of c)
-  makers_hosted o some = may_of c.names [] hosts o held.made
+  makers_hosted o some = may_of c.names o [] hosts held.made
       (let as_many = ap length (attached_hosted o) in let named = length-map (hosts_of c.names hosts o) (λ h. name_at c.names h.host) in
       omega (arith, some, as_many, named))
 

@@ -132,43 +132,44 @@ module _ (names : List NodeName) where
   pub no_page-owners : (earlier hosts : List ShadowHost) → AreMadeBehind names earlier hosts → In Page (host_owners hosts) → ⊥
   no_page-owners earlier hosts made i = let p = placed earlier hosts Page made i in component_made-no_page p.maker p.number p.made
 
-  -- each component of an owner is there whose number is below that of its hosts
-  pub owner_in : (earlier hosts : List ShadowHost) (m : Owner) (k : ℕ) → AreMadeBehind names earlier hosts → count_hosts earlier m ≤ k →
-      k < count_hosts earlier m + count_hosts hosts m → In (component_made m k) (host_owners hosts)
-  owner_in earlier [] m k made from below = absurd (omega (arith, from, below))
-  owner_in earlier (h ∷ hosts) m k made from below =
-      let shift = counts_shift earlier hosts h m in
-      at (cases_Bool (owner_eq (maker_of names h) m)) (λ later. owner_in (earlier ++ h ∷ []) hosts m k made.1 later (omega (arith, shift, below)))
-    where
-      at : (owner_eq (maker_of names h) m ≡ true) ⊎ (owner_eq (maker_of names h) m ≡ false) →
-          (count_hosts (earlier ++ h ∷ []) m ≤ k → In (component_made m k) (host_owners hosts)) → In (component_made m k) (host_owners (h ∷ hosts))
-      at (inl e) deeper =
-          let same = owner_eq-true (maker_of names h) m e in
-          elim (eq-or-lt_of_le from) [
-            | inl first ↦ inl (made.0.owner ∙ (ap (λ n. component_made n (count_hosts earlier n)) same ∙ ap (component_made m) first))
-            | inr later ↦ inr (deeper (let one_more = own-counted earlier h m e in omega (arith, one_more, later)))
-          ]
-      at (inr e) deeper = inr (deeper (let as_many = other-counted earlier h m e in omega (arith, as_many, from)))
+  module _ (m : Owner) where
+    -- each component of an owner is there whose number is below that of its hosts
+    pub owner_in : (earlier hosts : List ShadowHost) (k : ℕ) → AreMadeBehind names earlier hosts → count_hosts earlier m ≤ k →
+        k < count_hosts earlier m + count_hosts hosts m → In (component_made m k) (host_owners hosts)
+    owner_in earlier [] k made from below = absurd (omega (arith, from, below))
+    owner_in earlier (h ∷ hosts) k made from below =
+        let shift = counts_shift earlier hosts h m in
+        at (cases_Bool (owner_eq (maker_of names h) m)) (λ later. owner_in (earlier ++ h ∷ []) hosts k made.1 later (omega (arith, shift, below)))
+      where
+        at : (owner_eq (maker_of names h) m ≡ true) ⊎ (owner_eq (maker_of names h) m ≡ false) →
+            (count_hosts (earlier ++ h ∷ []) m ≤ k → In (component_made m k) (host_owners hosts)) → In (component_made m k) (host_owners (h ∷ hosts))
+        at (inl e) deeper =
+            let same = owner_eq-true (maker_of names h) m e in
+            elim (eq-or-lt_of_le from) [
+              | inl first ↦ inl (made.0.owner ∙ (ap (λ n. component_made n (count_hosts earlier n)) same ∙ ap (component_made m) first))
+              | inr later ↦ inr (deeper (let one_more = own-counted earlier h m e in omega (arith, one_more, later)))
+            ]
+        at (inr e) deeper = inr (deeper (let as_many = other-counted earlier h m e in omega (arith, as_many, from)))
 
-  -- there are so many of an owner at most
-  pub few_hosts : (earlier hosts : List ShadowHost) (m : Owner) → AreMadeBehind names earlier hosts → count_hosts earlier m ≤ 1000 →
-      count_hosts earlier m + count_hosts hosts m ≤ 1000
-  few_hosts earlier [] m made few = omega (arith, few)
-  few_hosts earlier (h ∷ hosts) m made few =
-      let shift = counts_shift earlier hosts h m in
-      let rest = few_hosts (earlier ++ h ∷ []) hosts m made.1 (elim (cases_Bool (owner_eq (maker_of names h) m)) [
-        | inl e ↦ let same = owner_eq-true (maker_of names h) m e in
-            let one_more = own-counted earlier h m e in
-            let room = subst (λ (o : Owner). count_hosts earlier o < 1000) same made.0.few in
-            omega (arith, one_more, room)
-        | inr e ↦ let as_many = other-counted earlier h m e in omega (arith, as_many, few)
-      ]) in
-      omega (arith, shift, rest)
+    -- there are so many of an owner at most
+    pub few_hosts : (earlier hosts : List ShadowHost) → AreMadeBehind names earlier hosts → count_hosts earlier m ≤ 1000 →
+        count_hosts earlier m + count_hosts hosts m ≤ 1000
+    few_hosts earlier [] made few = omega (arith, few)
+    few_hosts earlier (h ∷ hosts) made few =
+        let shift = counts_shift earlier hosts h m in
+        let rest = few_hosts (earlier ++ h ∷ []) hosts made.1 (elim (cases_Bool (owner_eq (maker_of names h) m)) [
+          | inl e ↦ let same = owner_eq-true (maker_of names h) m e in
+              let one_more = own-counted earlier h m e in
+              let room = subst (λ (o : Owner). count_hosts earlier o < 1000) same made.0.few in
+              omega (arith, one_more, room)
+          | inr e ↦ let as_many = other-counted earlier h m e in omega (arith, as_many, few)
+        ]) in
+        omega (arith, shift, rest)
 
-  -- whoever has hosts may attach
-  pub may_of : (earlier hosts : List ShadowHost) (m : Owner) → AreMadeBehind names earlier hosts → 0 < count_hosts hosts m → MayAttach m
-  may_of earlier [] m made some = absurd (omega (arith, some))
-  may_of earlier (h ∷ hosts) m made some = elim (cases_Bool (owner_eq (maker_of names h) m)) [
-    | inl e ↦ subst MayAttach (owner_eq-true (maker_of names h) m e) made.0.maker
-    | inr e ↦ may_of (earlier ++ h ∷ []) hosts m made.1 (let as_many = ap length (other-host h hosts m e) in omega (arith, as_many, some))
-  ]
+    -- whoever has hosts may attach
+    pub may_of : (earlier hosts : List ShadowHost) → AreMadeBehind names earlier hosts → 0 < count_hosts hosts m → MayAttach m
+    may_of earlier [] made some = absurd (omega (arith, some))
+    may_of earlier (h ∷ hosts) made some = elim (cases_Bool (owner_eq (maker_of names h) m)) [
+      | inl e ↦ subst MayAttach (owner_eq-true (maker_of names h) m e) made.0.maker
+      | inr e ↦ may_of (earlier ++ h ∷ []) hosts made.1 (let as_many = ap length (other-host h hosts m e) in omega (arith, as_many, some))
+    ]

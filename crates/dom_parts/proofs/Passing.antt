@@ -188,11 +188,11 @@ module _ (f : NamedTrees) {tables : AllTables} (held : IsDoc f.names f.trees tab
       (held.own o).few_walkers limit)
 
   module _ (root : ℕ) (filter : Filter) (own_root : (name_at f.names root).owner ≡ o) where
-    pub iter_made : root < length f.names → StandOnce f → (each : Owner → KeyedTables) (r : Result ℕ Fault) →
+    pub iter_made : root < length f.names → StandOnce f → (each : Owner → KeyedTables) {r : Result ℕ Fault} →
         OnOk r (each ≡ with_cursors tables.each o (one_iterator (tables.each o) root filter))
         → ((r ≡ Err (Refused Limit)) ↔ (length (tables.each o).iterators ≡ 1000000))
         → OnErr r (each ≡ tables.each) → IsDoc f.names f.trees (record tables { each = each })
-    iter_made node once each (Ok n) is limit same =
+    iter_made node once each {r = Ok n} is limit same =
         held_written f held is_d o there each
         (one_iterator (tables.each o) root filter) is
         (iter_pushed f held is_d o (record { root = root; reference = root; before = true; filter = filter })
@@ -204,7 +204,7 @@ module _ (f : NamedTrees) {tables : AllTables} (held : IsDoc f.names f.trees tab
           own = own_root;
         })
         (λ e. let h = limit.1 e in cc))
-    iter_made node once each (Err e) is limit same = subst (λ (x : Owner → KeyedTables). IsDoc f.names f.trees (record tables { each = x })) (sym same) held
+    iter_made node once each {r = Err e} is limit same = subst (λ (x : Owner → KeyedTables). IsDoc f.names f.trees (record tables { each = x })) (sym same) held
 
     pub walk_made : root < length f.names → (each : Owner → KeyedTables) (r : Result ℕ Fault) →
         OnOk r (each ≡ with_cursors tables.each o (one_walker (tables.each o) root filter))

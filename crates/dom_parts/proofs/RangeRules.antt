@@ -25,12 +25,6 @@ module _ (o : Owner) where
   apart : (x : NodeName) → x.owner ≡ o → (b : Boundary NodeName) → b.node.owner ≢ o → name_eq b.node x ≡ false
   apart x own b other = other_name b.node x (λ e. other (e ∙ own))
 
-  pub insert_rule : (parent : NodeName) (index count : ℕ) → parent.owner ≡ o → IsRuleOf o (after_insert name_eq parent index count)
-  insert_rule parent index count own = record {
-    stays = λ b h. either_own o (name_eq b.node parent && nat_lt index b.offset) (at parent (b.offset + count)) b own h;
-    others = λ b h. ap (λ t. cond (t && nat_lt index b.offset) (at parent (b.offset + count)) b) (apart parent own b h);
-  }
-
   pub removal_rule : {ts : Trees} → AreOwned ts → (x parent : NodeName) (index : ℕ) → x.owner ≡ o → parent.owner ≡ o →
       IsRuleOf o (after_removal name_eq (is_inclusive_ancestor ts x) parent index)
   removal_rule {ts} owned x parent index is own = record {
@@ -54,26 +48,34 @@ module _ (o : Owner) where
         (cond (nat_le b.offset (offset + count)) (at x offset) (at x (b.offset + size - count)))) (apart x own b h);
   }
 
-  pub split_rule : (x : NodeName) (offset : ℕ) (new parent : NodeName) (index : ℕ) → x.owner ≡ o → new.owner ≡ o → parent.owner ≡ o →
-      IsRuleOf o (after_split name_eq x offset new parent index)
-  split_rule x offset new parent index own fresh above = record {
-    stays = λ b h.
-        either_own o (name_eq b.node x && nat_lt offset b.offset) (at new (b.offset - offset))
-        (cond (boundary_eq name_eq b (at parent (index + 1))) (at parent (index + 2)) b) fresh
-        (either_own o (boundary_eq name_eq b (at parent (index + 1))) (at parent (index + 2)) b above h);
-    others = λ b h.
-        ap (λ t. cond (t && nat_lt offset b.offset) (at new (b.offset - offset))
-        (cond (boundary_eq name_eq b (at parent (index + 1))) (at parent (index + 2)) b)) (apart x own b h)
-        ∙ ap (λ t. cond (t && eqb b.offset (index + 1)) (at parent (index + 2)) b) (apart parent above b h);
-  }
+  -- rules that speak of an index in a node of the owner
+  module _ (parent : NodeName) (above : parent.owner ≡ o) (index : ℕ) where
+    pub insert_rule : (count : ℕ) → IsRuleOf o (after_insert name_eq parent index count)
+    insert_rule count = record {
+      stays = λ b h. either_own o (name_eq b.node parent && nat_lt index b.offset) (at parent (b.offset + count)) b above h;
+      others = λ b h. ap (λ t. cond (t && nat_lt index b.offset) (at parent (b.offset + count)) b) (apart parent above b h);
+    }
 
-  pub join_rule : (first : NodeName) (size : ℕ) (next parent : NodeName) (index : ℕ) → first.owner ≡ o → next.owner ≡ o → parent.owner ≡ o →
-      IsRuleOf o (after_join name_eq first size next parent index)
-  join_rule first size next parent index own after above = record {
-    stays = λ b h.
-        either_own o (name_eq b.node next) (at first (b.offset + size)) (cond (boundary_eq name_eq b (at parent index)) (at first size) b) own
-        (either_own o (boundary_eq name_eq b (at parent index)) (at first size) b own h);
-    others = λ b h.
-        ap (λ t. cond t (at first (b.offset + size)) (cond (boundary_eq name_eq b (at parent index)) (at first size) b)) (apart next after b h)
-        ∙ ap (λ t. cond (t && eqb b.offset index) (at first size) b) (apart parent above b h);
-  }
+    pub split_rule : (x : NodeName) (offset : ℕ) (new : NodeName) → x.owner ≡ o → new.owner ≡ o →
+        IsRuleOf o (after_split name_eq x offset new parent index)
+    split_rule x offset new own fresh = record {
+      stays = λ b h.
+          either_own o (name_eq b.node x && nat_lt offset b.offset) (at new (b.offset - offset))
+          (cond (boundary_eq name_eq b (at parent (index + 1))) (at parent (index + 2)) b) fresh
+          (either_own o (boundary_eq name_eq b (at parent (index + 1))) (at parent (index + 2)) b above h);
+      others = λ b h.
+          ap (λ t. cond (t && nat_lt offset b.offset) (at new (b.offset - offset))
+          (cond (boundary_eq name_eq b (at parent (index + 1))) (at parent (index + 2)) b)) (apart x own b h)
+          ∙ ap (λ t. cond (t && eqb b.offset (index + 1)) (at parent (index + 2)) b) (apart parent above b h);
+    }
+
+    pub join_rule : (first : NodeName) (size : ℕ) (next : NodeName) → first.owner ≡ o → next.owner ≡ o →
+        IsRuleOf o (after_join name_eq first size next parent index)
+    join_rule first size next own after = record {
+      stays = λ b h.
+          either_own o (name_eq b.node next) (at first (b.offset + size)) (cond (boundary_eq name_eq b (at parent index)) (at first size) b) own
+          (either_own o (boundary_eq name_eq b (at parent index)) (at first size) b own h);
+      others = λ b h.
+          ap (λ t. cond t (at first (b.offset + size)) (cond (boundary_eq name_eq b (at parent index)) (at first size) b)) (apart next after b h)
+          ∙ ap (λ t. cond (t && eqb b.offset index) (at first size) b) (apart parent above b h);
+    }

@@ -35,6 +35,10 @@ fits_if : (t : Bool) (b c : Boundary ℕ) → (t ≡ true → Fits b) → Fits c
 fits_if true b c h g = h refl
 fits_if false b c h g = g
 
+-- after a change of the boundary points by f, the offset of each of them is a number of the code's
+abbrev pub EachFits : RangeLists → (Boundary ℕ → Boundary ℕ) → Type 0
+EachFits t f = (q : Owner) → EachRange (BothEnds (λ b. Fits (f b))) (ranges_of t q)
+
 module _ (c : Contents) (t : RangeLists) (ranges : AreRangesOf c t) (o : Owner) where
   -- what is asked of each point of each owner, where the points at a node are not past a length
   abbrev pub IsUpTo : ℕ → ℕ → Boundary ℕ → Type 0
@@ -72,39 +76,9 @@ module _ (c : Contents) (t : RangeLists) (ranges : AreRangesOf c t) (o : Owner) 
   pub all_fit : (q : Owner) → EachRange (BothEnds Fits) (ranges_of t q)
   all_fit q = EachRange-weaker (IsOwnPoint c.names q) Fits (λ b h. h.fits) (ranges_of t q) (ranges.own q)
 
-  -- room is made for children of a node
-  pub room_fits : HasBounds (part_in c o) → (parent index count : ℕ) → (name_at c.names parent).owner ≡ o →
-      length_of (part_in c o).trees (name_at c.names parent) + count < 2 ^ 64
-      → (q : Owner) → EachRange (BothEnds (λ b. Fits (after_insert nat_eq parent index count b))) (ranges_of t q)
-  room_fits bounds parent index count own less q =
-      let most = length_of (part_in c o).trees (name_at c.names parent) in
-      EachRange-weaker (IsUpTo parent most) (λ b. Fits (after_insert nat_eq parent index count b))
-      (λ b h. fits_if (eqb b.node parent && nat_lt index b.offset) (at parent (b.offset + count)) b
-      (λ e. let p = and_parts (eqb b.node parent) (nat_lt index b.offset) e in let within = h.1 p.0 in omega (arith, within, less)) h.0)
-      (ranges_of t q) (up_to parent most own (bounded bounds parent) q)
-
-  -- data give way to others: the new length is asked for
-  pub data_fits : HasBounds (part_in c o) → (x offset count size : ℕ) → (name_at c.names x).owner ≡ o → offset < 2 ^ 64 →
-      length_of (part_in c o).trees (name_at c.names x) + size - count < 2 ^ 64
-      → (q : Owner) → EachRange (BothEnds (λ b. Fits (after_replace_data nat_eq x offset count size b))) (ranges_of t q)
-  data_fits bounds x offset count size own before less q =
-      let most = length_of (part_in c o).trees (name_at c.names x) in
-      EachRange-weaker (IsUpTo x most) (λ b. Fits (after_replace_data nat_eq x offset count size b)) (λ b h. moved b h) (ranges_of t q)
-      (up_to x most own (bounded bounds x) q)
-    where
-      moved : (b : Boundary ℕ) → IsUpTo x (length_of (part_in c o).trees (name_at c.names x)) b → Fits (after_replace_data nat_eq x offset count size b)
-      moved b h = elim (cases_Bool (eqb b.node x)) [
-        | inl e ↦
-            let within = h.1 e in
-            fits_if (not (eqb b.node x) || nat_le b.offset offset) b
-            (cond (nat_le b.offset (offset + count)) (at x offset) (at x (b.offset + size - count))) (λ f. h.0)
-            (fits_if (nat_le b.offset (offset + count)) (at x offset) (at x (b.offset + size - count)) (λ f. before) (omega (arith, within, less)))
-        | inr e ↦ rw e h.0
-      ]
-
   -- where no more come than give way, no bounds are asked for
-  pub data_fits_shorter : (x offset count size : ℕ) → offset < 2 ^ 64 → size ≤ count → (q : Owner) →
-      EachRange (BothEnds (λ b. Fits (after_replace_data nat_eq x offset count size b))) (ranges_of t q)
+  pub data_fits_shorter : (x offset count size : ℕ) → offset < 2 ^ 64 → size ≤ count →
+      EachFits t (after_replace_data nat_eq x offset count size)
   data_fits_shorter x offset count size before less q =
       EachRange-weaker Fits (λ b. Fits (after_replace_data nat_eq x offset count size b))
       (λ b h. fits_if (not (eqb b.node x) || nat_le b.offset offset) b
@@ -114,28 +88,55 @@ module _ (c : Contents) (t : RangeLists) (ranges : AreRangesOf c t) (o : Owner) 
       (ranges_of t q) (all_fit q)
 
   -- a Text was split
-  pub split_fits : (x offset new parent index : ℕ) → index + 2 < 2 ^ 64 → (q : Owner) →
-      EachRange (BothEnds (λ b. Fits (after_split nat_eq x offset new parent index b))) (ranges_of t q)
+  pub split_fits : (x offset new parent index : ℕ) → index + 2 < 2 ^ 64 → EachFits t (after_split nat_eq x offset new parent index)
   split_fits x offset new parent index less q =
       EachRange-weaker Fits (λ b. Fits (after_split nat_eq x offset new parent index b)) (λ b h. fits-split x offset new parent index b less h)
       (ranges_of t q) (all_fit q)
 
-  -- a Text has the data of the next one
-  pub join_fits : HasBounds (part_in c o) → (first size next parent index : ℕ) → (name_at c.names next).owner ≡ o →
-      length_of (part_in c o).trees (name_at c.names next) + size < 2 ^ 64
-      → (q : Owner) → EachRange (BothEnds (λ b. Fits (after_join nat_eq first size next parent index b))) (ranges_of t q)
-  join_fits bounds first size next parent index own less q =
-      let most = length_of (part_in c o).trees (name_at c.names next) in
-      EachRange-weaker (IsUpTo next most) (λ b. Fits (after_join nat_eq first size next parent index b))
-      (λ b h. fits_if (eqb b.node next) (at first (b.offset + size)) (cond (boundary_eq nat_eq b (at parent index)) (at first size) b)
-      (λ e. let within = h.1 e in omega (arith, within, less))
-      (fits_if (boundary_eq nat_eq b (at parent index)) (at first size) b (λ e. let small : size < 2 ^ 64 = omega (arith, less) in small) h.0))
-      (ranges_of t q) (up_to next most own (bounded bounds next) q)
-
   -- a node leaves its parent: no bounds are asked for
-  pub removal_fits : (inside : ℕ → Bool) (parent index : ℕ) → index < 2 ^ 64 → (q : Owner) →
-      EachRange (BothEnds (λ b. Fits (after_removal nat_eq inside parent index b))) (ranges_of t q)
+  pub removal_fits : (inside : ℕ → Bool) (parent index : ℕ) → index < 2 ^ 64 → EachFits t (after_removal nat_eq inside parent index)
   removal_fits inside parent index less q =
       EachRange-weaker Fits (λ b. Fits (after_removal nat_eq inside parent index b))
       (λ b h. fits_if (inside b.node) (at parent index) (cond (eqb b.node parent && nat_lt index b.offset) (at parent (b.offset - 1)) b) (λ e. less)
       (fits_if (eqb b.node parent && nat_lt index b.offset) (at parent (b.offset - 1)) b (λ e. omega (arith, h)) h)) (ranges_of t q) (all_fit q)
+
+  -- what is done at a node of the owner, where its part has bounds
+  module _ (bounds : HasBounds (part_in c o)) (x : ℕ) (own : (name_at c.names x).owner ≡ o) where
+    -- room is made for children of the node
+    pub room_fits : (index count : ℕ) → length_of (part_in c o).trees (name_at c.names x) + count < 2 ^ 64 →
+        EachFits t (after_insert nat_eq x index count)
+    room_fits index count less q =
+        let most = length_of (part_in c o).trees (name_at c.names x) in
+        EachRange-weaker (IsUpTo x most) (λ b. Fits (after_insert nat_eq x index count b))
+        (λ b h. fits_if (eqb b.node x && nat_lt index b.offset) (at x (b.offset + count)) b
+        (λ e. let p = and_parts (eqb b.node x) (nat_lt index b.offset) e in let within = h.1 p.0 in omega (arith, within, less)) h.0)
+        (ranges_of t q) (up_to x most own (bounded bounds x) q)
+
+    -- data give way to others: the new length is asked for
+    pub data_fits : (offset count size : ℕ) → offset < 2 ^ 64 → length_of (part_in c o).trees (name_at c.names x) + size - count < 2 ^ 64 →
+        EachFits t (after_replace_data nat_eq x offset count size)
+    data_fits offset count size before less q =
+        let most = length_of (part_in c o).trees (name_at c.names x) in
+        EachRange-weaker (IsUpTo x most) (λ b. Fits (after_replace_data nat_eq x offset count size b)) (λ b h. moved b h) (ranges_of t q)
+        (up_to x most own (bounded bounds x) q)
+      where
+        moved : (b : Boundary ℕ) → IsUpTo x (length_of (part_in c o).trees (name_at c.names x)) b → Fits (after_replace_data nat_eq x offset count size b)
+        moved b h = elim (cases_Bool (eqb b.node x)) [
+          | inl e ↦
+              let within = h.1 e in
+              fits_if (not (eqb b.node x) || nat_le b.offset offset) b
+              (cond (nat_le b.offset (offset + count)) (at x offset) (at x (b.offset + size - count))) (λ f. h.0)
+              (fits_if (nat_le b.offset (offset + count)) (at x offset) (at x (b.offset + size - count)) (λ f. before) (omega (arith, within, less)))
+          | inr e ↦ rw e h.0
+        ]
+
+    -- the node's data come behind those of the Text before it
+    pub join_fits : (first size parent index : ℕ) → length_of (part_in c o).trees (name_at c.names x) + size < 2 ^ 64 →
+        EachFits t (after_join nat_eq first size x parent index)
+    join_fits first size parent index less q =
+        let most = length_of (part_in c o).trees (name_at c.names x) in
+        EachRange-weaker (IsUpTo x most) (λ b. Fits (after_join nat_eq first size x parent index b))
+        (λ b h. fits_if (eqb b.node x) (at first (b.offset + size)) (cond (boundary_eq nat_eq b (at parent index)) (at first size) b)
+        (λ e. let within = h.1 e in omega (arith, within, less))
+        (fits_if (boundary_eq nat_eq b (at parent index)) (at first size) b (λ e. let small : size < 2 ^ 64 = omega (arith, less) in small) h.0))
+        (ranges_of t q) (up_to x most own (bounded bounds x) q)

@@ -20,8 +20,7 @@ use Rattle.dom_worlds.specs.Bounds.{HasBounds}
 use Rattle.dom_worlds.specs.Worlds.{IsPart}
 use Rattle.dom_worlds.proofs.Bounds.{length-replaced}
 use Rattle.dom_worlds.proofs.ChildCounts.{index-below, length-children}
-use Rattle.dom_ranges.specs.Rules.{Fits}
-use Rattle.dom_ranges.specs.Tables.{RangeLists, EachRange, BothEnds, ends_by, ranges_of, range_in}
+use Rattle.dom_ranges.specs.Tables.{RangeLists, ends_by, ranges_of, range_in}
 use Rattle.dom_ranges.proofs.Vacant.{ends-none}
 use Rattle.dom_traversal.proofs.Counts.{StandOnce, StandAlone}
 use Rattle.dom_tree.specs.Forest.{NamedTrees, name_at, count_of}
@@ -37,7 +36,7 @@ use Rattle.dom_parts.specs.Ranging.{AreRangesOf}
 use Rattle.dom_parts.proofs.BoundedPlans.{length_few}
 use Rattle.dom_parts.proofs.DocInvariant.{are_hosts, held_changed, due_kept}
 use Rattle.dom_parts.proofs.OwnParts.{own_part}
-use Rattle.dom_parts.proofs.RangedFits.{room_fits, data_fits, data_fits_shorter, join_fits}
+use Rattle.dom_parts.proofs.RangedFits.{EachFits, room_fits, data_fits, data_fits_shorter, join_fits}
 use Rattle.dom_parts.proofs.RangedSteps.{data_ranged}
 use Rattle.dom_parts.proofs.RangedWorlds.{data_told, join_told}
 use Rattle.dom_tree_laws.proofs.KeptAncestors.{keeps_changed}
@@ -67,6 +66,14 @@ held_live names ts tables held live stand = record {
     who : (o : Owner) → is_there (world_from names ts (with_live tables live)) o ≡ is_there (world_from names ts tables) o
     who o = there_same (contents names ts (with_live tables live)) (contents names ts tables) refl o
 
+-- a node of the owner of another one, whose data may come behind those of that one: what joining them asks
+pub record MayJoin (d : DocState) (first size next : ℕ) : Type 0 where
+  pub first_is_node : first < length d.names
+  pub next_owner : owner_in d next ≡ owner_in d first
+  pub bounds : HasBounds (part_of d.world (owner_in d first))
+  pub fits : size + length_of (trees_in d first) (name_in d next) ≤ length_of (trees_in d first) (name_in d first)
+  pub few : length_of (trees_in d first) (name_in d first) < 2 ^ 64
+
 module _ (f : NamedTrees) {tables : AllTables} (held : IsDoc f.names f.trees tables) {d : DocState} (is_d : state_from f.names f.trees tables ≡ d) where
   -- a step of a node's owner that changes live ranges alone
   pub live_done : (k : ℕ) (live : RangeLists) (s : List NodeName → Step)
@@ -84,18 +91,18 @@ module _ (f : NamedTrees) {tables : AllTables} (held : IsDoc f.names f.trees tab
 
   -- ---- Texts that are joined
 
-  pub join_asks : (first size next parent : ℕ) → first < length d.names → owner_in d next ≡ owner_in d first → HasBounds (part_of d.world (owner_in d first))
-      → size + length_of (trees_in d first) (name_in d next) ≤ length_of (trees_in d first) (name_in d first) →
-      length_of (trees_in d first) (name_in d first) < 2 ^ 64
-      → (index : ℕ) (q : Owner) → EachRange (BothEnds (λ b. Fits (after_join nat_eq first size next parent index b))) (ranges_of tables.ranges q)
-  join_asks first size next parent first< own bounds fits less index =
+  pub join_asks : (first size next : ℕ) → MayJoin d first size next → (parent index : ℕ) →
+      EachFits tables.ranges (after_join nat_eq first size next parent index)
+  join_asks first size next may parent index =
+      let first< = may.first_is_node in
+      let fits = may.fits in
+      let less = may.few in
       let o = (name_at f.names first).owner in
       let small : size + length_of (trees_in d first) (name_in d next) < 2 ^ 64 = omega (arith, fits, less) in
       let here : size + length_of (part_in (contents f.names f.trees tables) o).trees (name_at f.names next) < 2 ^ 64 =
       part_known (λ p ns. size + length_of p.trees (name_at ns next) < 2 ^ 64) first first< small in
-      join_fits (contents f.names f.trees tables) tables.ranges held.ranges o (part_known (λ p ns. HasBounds p) first first< bounds) first size
-      next parent index
-      (known f held is_d (λ e. owner_in e next ≡ owner_in e first) own) (omega (arith, here))
+      join_fits (contents f.names f.trees tables) tables.ranges held.ranges o (part_known (λ p ns. HasBounds p) first first< may.bounds) next
+      (known f held is_d (λ e. owner_in e next ≡ owner_in e first) may.next_owner) first size parent index (omega (arith, here))
 
   -- without live ranges nothing is carried
   module _ (apart : TellApart f.names) (none : (o : Owner) (k : ℕ) → range_in (ranges_of tables.ranges o) k ≡ None) (first parent : ℕ)
@@ -111,9 +118,9 @@ module _ (f : NamedTrees) {tables : AllTables} (held : IsDoc f.names f.trees tab
         joined ts (size + length_of ts y) ks nodes.1
         ∙ ap (λ w. world_after o w (joins ts (name_at f.names first) (name_at f.names parent) (size + length_of ts y) (map (name_at f.names) ks)))
         (join_told (contents f.names f.trees tables) tables.slots.hosts (are_hosts f.names f.trees tables held) tables.ranges tables.ranges
-        held.ranges apart o (owner_there f held is_d first first<) first size k parent (index_of ts y)
-        (known f held is_d (λ e. first < length e.names) first<) nodes.0.0 (known f held is_d (λ e. parent < length e.names) parent<) refl
-        nodes.0.1 (known f held is_d (λ e. owner_in e parent ≡ owner_in e first) own_parent)
+        held.ranges apart o (owner_there f held is_d first first<) first (known f held is_d (λ e. first < length e.names) first<) refl
+        parent (known f held is_d (λ e. parent < length e.names) parent<) (known f held is_d (λ e. owner_in e parent ≡ owner_in e first) own_parent)
+        (index_of ts y) size k nodes.0.0 nodes.0.1
         (λ q. sym (ends-none (after_join nat_eq first size k parent (index_of ts y)) (ranges_of tables.ranges q) (none q))))
 
     pub joins_vacant : (size : ℕ) (ks : List ℕ) → AllByRecursion (IsOwnNode d first) ks
@@ -155,11 +162,11 @@ module _ (f : NamedTrees) {tables : AllTables} (held : IsDoc f.names f.trees tab
         | inr e ↦ e
       ]
 
-      pub room_asks : (index : ℕ) (q : Owner) → EachRange (BothEnds (λ b. Fits (after_insert nat_eq parent index count b))) (ranges_of tables.ranges q)
+      pub room_asks : (index : ℕ) → EachFits tables.ranges (after_insert nat_eq parent index count)
       room_asks index =
           let all = length_few here (part_held o) (name_at f.names parent) plain in
           let limited = held.limited o in
-          room_fits (contents f.names f.trees tables) tables.ranges held.ranges o bounded parent index count refl (omega (arith, all, limited, few))
+          room_fits (contents f.names f.trees tables) tables.ranges held.ranges o bounded parent refl index count (omega (arith, all, limited, few))
 
     -- ---- data that come
 
@@ -184,14 +191,12 @@ module _ (f : NamedTrees) {tables : AllTables} (held : IsDoc f.names f.trees tab
       text_here = part_known (λ p ns. length (node_in p.trees (name_at ns node)).text + length new - count < 2 ^ 64) node node< sized
 
       module _ (size : ℕ) (is_size : size ≡ length new) where
-        pub data_asks : (q : Owner) → EachRange (BothEnds (λ b. Fits (after_replace_data nat_eq node offset count size b))) (ranges_of tables.ranges q)
+        pub data_asks : EachFits tables.ranges (after_replace_data nat_eq node offset count size)
         data_asks =
-            subst (λ n. (q : Owner) → EachRange (BothEnds (λ b. Fits (after_replace_data nat_eq node offset count n b)))
-            (ranges_of tables.ranges q)) (sym is_size)
+            subst (λ n. EachFits tables.ranges (after_replace_data nat_eq node offset count n)) (sym is_size)
             (by (let least : 0 ≤ length new = omega arith in eq-or-lt_of_le least))
           where
-            by : (0 ≡ length new) ⊎ (0 < length new) → (q : Owner) →
-                EachRange (BothEnds (λ b. Fits (after_replace_data nat_eq node offset count (length new) b))) (ranges_of tables.ranges q)
+            by : (0 ≡ length new) ⊎ (0 < length new) → EachFits tables.ranges (after_replace_data nat_eq node offset count (length new))
             by (inl none) = data_fits_shorter (contents f.names f.trees tables) tables.ranges held.ranges own node offset count (length new)
                 before (omega (arith, none))
             by (inr some) =
@@ -199,7 +204,7 @@ module _ (f : NamedTrees) {tables : AllTables} (held : IsDoc f.names f.trees tab
                 let size : length_of part.trees (name_at f.names node) ≡ length (node_in part.trees (name_at f.names node)).text =
                 cond-true (has_data (kind_of part.trees (name_at f.names node))) (length (node_in part.trees (name_at f.names node)).text)
                 (length (children_of part.trees (name_at f.names node))) asked.1 in
-                data_fits (contents f.names f.trees tables) tables.ranges held.ranges own asked.0 node offset count (length new) refl before
+                data_fits (contents f.names f.trees tables) tables.ranges held.ranges own asked.0 node refl offset count (length new) before
                 (let here = text_here in omega (arith, size, here))
 
         -- the step
@@ -222,15 +227,14 @@ module _ (f : NamedTrees) {tables : AllTables} (held : IsDoc f.names f.trees tab
           stand : AreRangesOf (contents f.names (h f.trees) (with_live tables live)) live
           stand =
               let was = contents f.names f.trees tables in
-              (data_ranged was tables.ranges live held.ranges apart own (contents f.names (h f.trees) tables) refl node offset count new node_is
-              refl moved_new record {
+              (data_ranged was tables.ranges live held.ranges apart own node node_is refl {b = contents f.names (h f.trees) tables} refl
+              offset count new moved_new record {
                 owners = refl;
                 signalled = refl;
                 tasks = refl;
                 own = ap (λ us. part_with own us (count_of own f.names) (was.tables own)) change.own;
                 others = λ q other. ap (λ us. part_with q us (count_of q f.names) (was.tables q)) (change.others q other);
-              }).1 (subst (λ n. (q : Owner) →
-              EachRange (BothEnds (λ b. Fits (after_replace_data nat_eq node offset count n b))) (ranges_of tables.ranges q)) is_size data_asks)
+              }).1 (subst (λ n. EachFits tables.ranges (after_replace_data nat_eq node offset count n)) is_size data_asks)
 
           pub data_held : AreSlotsOf (named_trees f.names (change_node (with_data_replaced offset count new) (name_at f.names node) f.trees))
               tables.slots → IsDoc g.names g.trees (with_live tables live)
@@ -249,7 +253,7 @@ module _ (f : NamedTrees) {tables : AllTables} (held : IsDoc f.names f.trees tab
               ∙ (ap (λ us. state_from f.names us (with_live tables live)) trees
               ∙ ap (λ w. state_with f.names w)
               (data_told (contents f.names f.trees tables) tables.slots.hosts (are_hosts f.names f.trees tables held) tables.ranges live
-              held.ranges apart own (owner_there f held is_d node node<) node offset count new node_is refl moved_new change)))
+              held.ranges apart own (owner_there f held is_d node node<) node node_is refl offset count new moved_new change)))
 
 -- each owner's part in the world, whoever is there
 pub part_everywhere : (f : NamedTrees) {tables : AllTables} → IsDoc f.names f.trees tables → StandOnce f → StandAlone f → (o : Owner) →

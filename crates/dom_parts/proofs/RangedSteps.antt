@@ -77,65 +77,67 @@ module _ (c : Contents) (t u : RangeLists) (ranges : AreRangesOf c t) (apart : T
   abbrev pub Holds : (Boundary ℕ → Boundary ℕ) → Contents → Type 0
   Holds f b = ((q : Owner) → EachRange (BothEnds (λ p. Fits (f p))) (ranges_of t q)) → AreRangesOf (ranged u b) u
 
-  -- room is made for children of a node
-  pub room_ranged : (parent index count : ℕ) → parent < length c.names → (name_at c.names parent).owner ≡ o →
-      ((q : Owner) → ranges_of u q ≡ ends_by (after_insert nat_eq parent index count) (ranges_of t q))
-      → IsChangeOf c (ranged u c) o (part_step (part_in c o) (make_room (name_at c.names parent) index count)) ×
-      Holds (after_insert nat_eq parent index count) c
-  room_ranged parent index count node own moved =
-      let law = insert-named c.names apart parent index count node in
-      let of = insert_rule o (name_at c.names parent) index count own in
-      let f = after_insert nat_eq parent index count in let g = after_insert name_eq (name_at c.names parent) index count in (
-        lifted c t u ranges o f g law.0 law.1 of moved c refl (part_in c o) (same_part c o),
-        λ fits. lifted_ranges c t u ranges o f g law.0 law.1 of moved c refl refl fits,
-      )
+  -- what is done at a node of the owner
+  module _ (x : ℕ) (node : x < length c.names) (own : (name_at c.names x).owner ≡ o) where
+    -- room is made for children of the node
+    pub room_ranged : (index count : ℕ) →
+        ((q : Owner) → ranges_of u q ≡ ends_by (after_insert nat_eq x index count) (ranges_of t q))
+        → IsChangeOf c (ranged u c) o (part_step (part_in c o) (make_room (name_at c.names x) index count)) ×
+        Holds (after_insert nat_eq x index count) c
+    room_ranged index count moved =
+        let law = insert-named c.names apart x index count node in
+        let of = insert_rule o (name_at c.names x) own index count in
+        let f = after_insert nat_eq x index count in let g = after_insert name_eq (name_at c.names x) index count in (
+          lifted c t u ranges o f g law.0 law.1 of moved c refl (part_in c o) (same_part c o),
+          λ fits. lifted_ranges c t u ranges o f g law.0 law.1 of moved c refl refl fits,
+        )
 
-  -- data give way to others
-  pub data_ranged : (b : Contents) → b.names ≡ c.names → (x offset count : ℕ) (new : DomString) → x < length c.names → (name_at c.names x).owner ≡ o
-      → ((q : Owner) → ranges_of u q ≡ ends_by (after_replace_data nat_eq x offset count (length new)) (ranges_of t q))
-      → IsChangeOf c b o (record (part_in c o) { trees = change_node (with_data_replaced offset count new) (name_at c.names x) (part_in c o).trees })
-      → IsChangeOf c (ranged u b) o (part_step (part_in c o) (replace_data (name_at c.names x) offset count new)) ×
-      Holds (after_replace_data nat_eq x offset count (length new)) b
-  data_ranged b names x offset count new node own moved change =
-      let law = replace_data-named c.names apart x offset count (length new) node in
-      let of = replace_data_rule o (name_at c.names x) offset count (length new) own in
-      let f = after_replace_data nat_eq x offset count (length new) in let g = after_replace_data name_eq (name_at c.names x) offset count (length new) in (
-        lifted c t u ranges o f g law.0 law.1 of moved b names
-            (record (part_in c o) { trees = change_node (with_data_replaced offset count new) (name_at c.names x) (part_in c o).trees }) change,
-        λ fits. lifted_ranges c t u ranges o f g law.0 law.1 of moved b names change.owners fits,
-      )
+    -- its data give way to others
+    pub data_ranged : {b : Contents} → b.names ≡ c.names → (offset count : ℕ) (new : DomString) →
+        ((q : Owner) → ranges_of u q ≡ ends_by (after_replace_data nat_eq x offset count (length new)) (ranges_of t q))
+        → IsChangeOf c b o (record (part_in c o) { trees = change_node (with_data_replaced offset count new) (name_at c.names x) (part_in c o).trees })
+        → IsChangeOf c (ranged u b) o (part_step (part_in c o) (replace_data (name_at c.names x) offset count new)) ×
+        Holds (after_replace_data nat_eq x offset count (length new)) b
+    data_ranged {b} names offset count new moved change =
+        let law = replace_data-named c.names apart x offset count (length new) node in
+        let of = replace_data_rule o (name_at c.names x) offset count (length new) own in
+        let f = after_replace_data nat_eq x offset count (length new) in let g = after_replace_data name_eq (name_at c.names x) offset count (length new) in (
+          lifted c t u ranges o f g law.0 law.1 of moved b names
+              (record (part_in c o) { trees = change_node (with_data_replaced offset count new) (name_at c.names x) (part_in c o).trees }) change,
+          λ fits. lifted_ranges c t u ranges o f g law.0 law.1 of moved b names change.owners fits,
+        )
 
-  -- a Text was split
-  pub split_ranged : (x offset new parent index : ℕ) → x < length c.names → new < length c.names → parent < length c.names
-      → (name_at c.names x).owner ≡ o → (name_at c.names new).owner ≡ o → (name_at c.names parent).owner ≡ o
-      → ((q : Owner) → ranges_of u q ≡ ends_by (after_split nat_eq x offset new parent index) (ranges_of t q))
-      → IsChangeOf c (ranged u c) o (part_step (part_in c o)
-      (split_at (name_at c.names x) offset (name_at c.names new) (name_at c.names parent) index)) ×
-      Holds (after_split nat_eq x offset new parent index) c
-  split_ranged x offset new parent index node fresh above own own_new own_parent moved =
-      let law = split-named c.names apart x offset new parent index node fresh above in
-      let of = split_rule o (name_at c.names x) offset (name_at c.names new) (name_at c.names parent) index own own_new own_parent in
-      let f = after_split nat_eq x offset new parent index in let g =
-      after_split name_eq (name_at c.names x) offset (name_at c.names new) (name_at c.names parent) index in (
-        lifted c t u ranges o f g law.0 law.1 of moved c refl (part_in c o) (same_part c o),
-        λ fits. lifted_ranges c t u ranges o f g law.0 law.1 of moved c refl refl fits,
-      )
+    -- and at one below a parent
+    module _ (parent : ℕ) (above : parent < length c.names) (own_parent : (name_at c.names parent).owner ≡ o) (index : ℕ) where
+      -- a Text was split below its parent
+      pub split_ranged : (offset new : ℕ) → new < length c.names → (name_at c.names new).owner ≡ o →
+          ((q : Owner) → ranges_of u q ≡ ends_by (after_split nat_eq x offset new parent index) (ranges_of t q))
+          → IsChangeOf c (ranged u c) o (part_step (part_in c o)
+          (split_at (name_at c.names x) offset (name_at c.names new) (name_at c.names parent) index)) ×
+          Holds (after_split nat_eq x offset new parent index) c
+      split_ranged offset new fresh own_new moved =
+          let law = split-named c.names apart x offset new parent index node fresh above in
+          let of = split_rule o (name_at c.names parent) own_parent index (name_at c.names x) offset (name_at c.names new) own own_new in
+          let f = after_split nat_eq x offset new parent index in let g =
+          after_split name_eq (name_at c.names x) offset (name_at c.names new) (name_at c.names parent) index in (
+            lifted c t u ranges o f g law.0 law.1 of moved c refl (part_in c o) (same_part c o),
+            λ fits. lifted_ranges c t u ranges o f g law.0 law.1 of moved c refl refl fits,
+          )
 
-  -- a Text has the data of the next one
-  pub join_ranged : (first size next parent index : ℕ) → first < length c.names → next < length c.names → parent < length c.names
-      → (name_at c.names first).owner ≡ o → (name_at c.names next).owner ≡ o → (name_at c.names parent).owner ≡ o
-      → ((q : Owner) → ranges_of u q ≡ ends_by (after_join nat_eq first size next parent index) (ranges_of t q))
-      → IsChangeOf c (ranged u c) o (part_step (part_in c o)
-      (join_at (name_at c.names first) size (name_at c.names next) (name_at c.names parent) index)) ×
-      Holds (after_join nat_eq first size next parent index) c
-  join_ranged first size next parent index node after above own own_next own_parent moved =
-      let law = join-named c.names apart first size next parent index node after above in
-      let of = join_rule o (name_at c.names first) size (name_at c.names next) (name_at c.names parent) index own own_next own_parent in
-      let f = after_join nat_eq first size next parent index in let g =
-      after_join name_eq (name_at c.names first) size (name_at c.names next) (name_at c.names parent) index in (
-        lifted c t u ranges o f g law.0 law.1 of moved c refl (part_in c o) (same_part c o),
-        λ fits. lifted_ranges c t u ranges o f g law.0 law.1 of moved c refl refl fits,
-      )
+      -- it has the data of the next one
+      pub join_ranged : (size next : ℕ) → next < length c.names → (name_at c.names next).owner ≡ o →
+          ((q : Owner) → ranges_of u q ≡ ends_by (after_join nat_eq x size next parent index) (ranges_of t q))
+          → IsChangeOf c (ranged u c) o (part_step (part_in c o)
+          (join_at (name_at c.names x) size (name_at c.names next) (name_at c.names parent) index)) ×
+          Holds (after_join nat_eq x size next parent index) c
+      join_ranged size next after own_next moved =
+          let law = join-named c.names apart x size next parent index node after above in
+          let of = join_rule o (name_at c.names parent) own_parent index (name_at c.names x) size (name_at c.names next) own own_next in
+          let f = after_join nat_eq x size next parent index in let g =
+          after_join name_eq (name_at c.names x) size (name_at c.names next) (name_at c.names parent) index in (
+            lifted c t u ranges o f g law.0 law.1 of moved c refl (part_in c o) (same_part c o),
+            λ fits. lifted_ranges c t u ranges o f g law.0 law.1 of moved c refl refl fits,
+          )
 
   -- ---- a node leaves its parent
 

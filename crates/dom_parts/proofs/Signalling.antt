@@ -91,10 +91,22 @@ module _ (f : NamedTrees) {tables : AllTables} (held : IsDoc f.names f.trees tab
         subst (λ (ns : List NodeName). IsDoc ns m.trees (with_signals next after)) (sym names)
         (subst (λ (us : Trees). IsDoc f.names us (with_signals next after)) (sym trees)
         (held_with f.names f.trees tables held (name_at f.names k).owner (owner_there f held is_d k k<) f.names (h f.trees)
-        (with_signals next after) here.hosts change.owned change.others held.present held.limited own idle held.made
-        record { free = here.held.free; slots = here.held.slots; nodes = here.held.nodes } speaks unobserved due_then
-        (ranges_stay (contents f.names (h f.trees) (with_signals next after)) stand refl
-        (ap (λ (hs : List ShadowHost). Page ∷ host_owners hs) here.hosts) (λ p. refl)) held.numbered))
+        (with_signals next after) here.hosts record {
+          owned = change.owned;
+          apart = change.others;
+          present = held.present;
+          limited = held.limited;
+          own = own;
+          idle = idle;
+          made = held.made;
+          signals = record { free = here.held.free; slots = here.held.slots; nodes = here.held.nodes };
+          speaks = speaks;
+          unobserved = unobserved;
+          due = due_then;
+          ranges = ranges_stay (contents f.names (h f.trees) (with_signals next after)) stand refl
+              (ap (λ (hs : List ShadowHost). Page ∷ host_owners hs) here.hosts) (λ p. refl);
+          numbered = held.numbered;
+        }))
 
     build : List ShadowHost → List NodeName → List Task → Contents
     build hs xs ts = record {

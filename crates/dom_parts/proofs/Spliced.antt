@@ -55,21 +55,22 @@ mapped_same f g (tree n c r) h =
     let parts = all_front (λ (n : Node). f n ≡ g n) (nodes c) (nodes r) h.1 in
     rw (h.0, mapped_same f g c parts.0, mapped_same f g r parts.1) refl
 
-each_same : (x : NodeName) (offset count : ℕ) (new v : DomString) (ns : List Node) → HaveText x v ns
-    → AllByRecursion (λ (n : Node). cond (name_eq n.name x) (with_text (replaced offset count new v) n) n ≡ cond (name_eq n.name x)
-    (with_data_replaced offset count new n) n) ns
-each_same x offset count new v [] h = tt
-each_same x offset count new v (n ∷ ns) h = (by (name_eq n.name x) refl, each_same x offset count new v ns h.1)
-  where
-    by : (b : Bool) → name_eq n.name x ≡ b →
-        cond (name_eq n.name x) (with_text (replaced offset count new v) n) n ≡ cond (name_eq n.name x) (with_data_replaced offset count new n) n
-    by true e = ap (λ b. cond b (with_text (replaced offset count new v) n) n) e ∙ ap (λ w. with_text (replaced offset count new w) n)
-        (sym (h.0 e)) ∙ sym (ap (λ b. cond b (with_data_replaced offset count new n) n) e)
-    by false e = ap (λ b. cond b (with_text (replaced offset count new v) n) n) e ∙ sym (ap (λ b. cond b (with_data_replaced offset count new n) n) e)
-
 pub data_changed : (x : NodeName) (offset count : ℕ) (new : DomString) (ts : Trees) → count_by (λ n. name_eq n.name x) (nodes ts) ≤ 1
     → change_node (with_text (replaced offset count new (node_in ts x).text)) x ts ≡ change_node (with_data_replaced offset count new) x ts
 data_changed x offset count new ts few =
     mapped_same (λ n. cond (name_eq n.name x) (with_text (replaced offset count new (node_in ts x).text) n) n)
     (λ n. cond (name_eq n.name x) (with_data_replaced offset count new n) n) ts
-    (each_same x offset count new (node_in ts x).text (nodes ts) (have_text x (no_node x) (nodes ts) few))
+    (each_same (node_in ts x).text (nodes ts) (have_text x (no_node x) (nodes ts) few))
+  where
+    each_same : (v : DomString) (ns : List Node) → HaveText x v ns
+        → AllByRecursion (λ (n : Node). cond (name_eq n.name x) (with_text (replaced offset count new v) n) n ≡ cond (name_eq n.name x)
+        (with_data_replaced offset count new n) n) ns
+    each_same v [] h = tt
+    each_same v (n ∷ ns) h = (by (name_eq n.name x) refl, each_same v ns h.1)
+      where
+        by : (b : Bool) → name_eq n.name x ≡ b →
+            cond (name_eq n.name x) (with_text (replaced offset count new v) n) n ≡ cond (name_eq n.name x) (with_data_replaced offset count new n) n
+        by true e = ap (λ b. cond b (with_text (replaced offset count new v) n) n) e ∙ ap (λ w. with_text (replaced offset count new w) n)
+            (sym (h.0 e)) ∙ sym (ap (λ b. cond b (with_data_replaced offset count new n) n) e)
+        by false e = ap (λ b. cond b (with_text (replaced offset count new v) n) n) e ∙
+            sym (ap (λ b. cond b (with_data_replaced offset count new n) n) e)

@@ -125,18 +125,24 @@ changed a b o {p} single there change =
 
 -- ---- one owner more
 
+-- one owner more is there, behind the others, and no other one's part changes
+pub record HasPartMore (a b : Contents) (o : Owner) : Type 0 where
+  pub owners : b.owners ≡ a.owners ++ o ∷ []
+  pub signalled : b.signalled ≡ a.signalled
+  pub tasks : b.tasks ≡ a.tasks
+  pub others : (q : Owner) → q ≢ o → part_in b q ≡ part_in a q
+
 -- the world with a part behind the others
-pub joined : (a b : Contents) (o : Owner) → b.owners ≡ a.owners ++ o ∷ [] → b.signalled ≡ a.signalled → b.tasks ≡ a.tasks → is_there (world_of a) o ≡ false
-    → ((q : Owner) → q ≢ o → part_in b q ≡ part_in a q) → world_of b ≡ with_part (world_of a) (part_in b o)
-joined a b o more signalled tasks off others =
-    ap (λ os. world_with (map (part_in b) os) b.signalled b.tasks) more
+pub joined : (a b : Contents) (o : Owner) → is_there (world_of a) o ≡ false → HasPartMore a b o → world_of b ≡ with_part (world_of a) (part_in b o)
+joined a b o off more =
+    ap (λ os. world_with (map (part_in b) os) b.signalled b.tasks) more.owners
     ∙ ap (λ ps. world_with ps b.signalled b.tasks) (each a.owners off)
-    ∙ ap (λ ss. world_with (put_part (map (part_in a) a.owners) (part_in b o)) ss b.tasks) signalled
-    ∙ ap (world_with (put_part (map (part_in a) a.owners) (part_in b o)) a.signalled) tasks
+    ∙ ap (λ ss. world_with (put_part (map (part_in a) a.owners) (part_in b o)) ss b.tasks) more.signalled
+    ∙ ap (world_with (put_part (map (part_in a) a.owners) (part_in b o)) a.signalled) more.tasks
   where
     each : (os : List Owner) → is_some (find_part (map (part_in a) os) o) ≡ false → map (part_in b) (os ++ o ∷ []) ≡ put_part (map (part_in a) os) (part_in b o)
     each [] off = refl
     each (q ∷ os) off = elim (cases_Bool (owner_eq q o)) [
       | inl e ↦ absurd (true≢false (rw e at off))
-      | inr e ↦ rw e (ap (λ r. r ∷ map (part_in b) (os ++ o ∷ [])) (others q (owner_eq-false q o e)) ∙ ap (λ rs. part_in a q ∷ rs) (each os (rw e at off)))
+      | inr e ↦ rw e (ap (λ r. r ∷ map (part_in b) (os ++ o ∷ [])) (more.others q (owner_eq-false q o e)) ∙ ap (λ rs. part_in a q ∷ rs) (each os (rw e at off)))
     ]

@@ -96,7 +96,7 @@ module _ (d e : DocState) (counted : Counted d) (parent node : ℕ) (reference :
       let kept : (z : NodeName) → Lacks x (inclusive_ancestors (trees_in d parent) z) →
       inclusive_ancestors (trees_in e parent) z ≡ inclusive_ancestors (trees_in d parent) z = λ z h.
       ap (λ t. inclusive_ancestors t z) then
-      ∙ (removal_keeps d e counted node alone observed is z
+      ∙ (removal_keeps d counted node alone observed is z
       (ap (λ t. is_inclusive_ancestor t x z) same ∙ lacks_to x (inclusive_ancestors (trees_in d parent) z) h) ∙
       ap (λ t. inclusive_ancestors t z) same) in
       record {

@@ -8,6 +8,6 @@ loop-child-init c = empties_first (observing_of c.args.how) c.args.top c.args.ch
 
 pub loop-child-preserved : goal.loop-child-preserved
 loop-child-preserved c =
-    empties_on (observing_of c.args.how) c.args.top c.args.children.now c.args.parts.now c.loop-child.child-index c.child-item.result
-    c.loop-child.parts c.removing.new.parts c.laws-in-loop-child.ensures.once
-    c.loop-child-test.true c.child-item.is c.requires.children_are_nodes c.loop-child.invariant c.in_ok-removing.ensures
+    empties_on (observing_of c.args.how) c.args.top c.args.children.now c.args.parts.now c.loop-child.child-index
+    {k = c.child-item.result} {e = c.loop-child.parts} c.laws-in-loop-child.ensures.once
+    record { below = c.loop-child-test.true; item = c.child-item.is } c.requires.children_are_nodes c.loop-child.invariant c.in_ok-removing.ensures

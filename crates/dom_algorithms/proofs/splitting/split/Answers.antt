@@ -47,6 +47,10 @@ cut_tail-requires-clause-bounds c =
     let d = c.args.parts.now in
     let y = next_name (part_of d.world (owner_in d c.args.node)) in
     bounds_added d c.make_text.new.parts c.args.node y
-    (new_text_node y (option_map (name_in d) c.document-document.result) c.in_ok-tail.tail.items) c.requires.node_is_node
-    (c.laws.ensures.alone c.args.node c.requires.node_is_node)
-    (c.laws.ensures.parts _) c.requires.bounds c.in_ok-new.ensures.names c.in_ok-new.ensures.world
+    (new_text_node y (option_map (name_in d) c.document-document.result) c.in_ok-tail.tail.items)
+    record {
+      here = c.requires.node_is_node;
+      alone = c.laws.ensures.alone c.args.node c.requires.node_is_node;
+      part = c.laws.ensures.parts _;
+      bounds = c.requires.bounds;
+    } c.in_ok-new.ensures.names c.in_ok-new.ensures.world

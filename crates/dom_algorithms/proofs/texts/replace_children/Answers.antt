@@ -37,5 +37,9 @@ put_text-requires-clause-bounds c =
     let d = c.args.parts.now in
     let y = next_name (part_of d.world (owner_in d c.args.node)) in
     bounds_added d c.make_text.new.parts c.args.node y (new_text_node y (Some (name_in d c.document_below-document.result)) c.args.units.items)
-    c.requires.node_is_node (c.laws.ensures.alone c.args.node c.requires.node_is_node)
-    (c.laws.ensures.parts _) c.requires.bounds c.in_ok-text.ensures.names c.in_ok-text.ensures.world
+    record {
+      here = c.requires.node_is_node;
+      alone = c.laws.ensures.alone c.args.node c.requires.node_is_node;
+      part = c.laws.ensures.parts _;
+      bounds = c.requires.bounds;
+    } c.in_ok-text.ensures.names c.in_ok-text.ensures.world

@@ -8,6 +8,6 @@ pub loop-key-preserved : goal.loop-key-preserved
 loop-key-preserved c =
     let e = c.loop-key.doc in
     let k = c.key-item.result in
-    empties_on observed c.args.first c.args.keys.now c.args.doc.now c.loop-key.key-index k e c.remove.new.self c.laws-in-loop-key.ensures.once
-    c.loop-key-test.true c.key-item.is c.requires.nodes c.loop-key.invariant
+    empties_on observed c.args.first c.args.keys.now c.args.doc.now c.loop-key.key-index {k = k} {e = e} c.laws-in-loop-key.ensures.once
+    record { below = c.loop-key-test.true; item = c.key-item.is } c.requires.nodes c.loop-key.invariant
     (state-is c.remove.new.self (planned (owner_in e k) (removing observed (name_in e k)) e) c.in_ok-remove.ensures.names c.in_ok-remove.ensures.world)

@@ -29,8 +29,12 @@ insert_before-requires-clause-bounds c =
     let top = c.args.top in
     let owner : owner_in d c.args.of ≡ owner_in d top = c.requires.owner in
     let y = next_name (part_of d.world (owner_in d top)) in
-    bounds_added d c.add_clone.new.self top y (node_from d.names y c.args.node) c.requires.top_is_node (c.laws.ensures.alone top c.requires.top_is_node)
-    (c.laws.ensures.parts _) c.requires.bounds
+    bounds_added d c.add_clone.new.self top y (node_from d.names y c.args.node) record {
+      here = c.requires.top_is_node;
+      alone = c.laws.ensures.alone top c.requires.top_is_node;
+      part = c.laws.ensures.parts _;
+      bounds = c.requires.bounds;
+    }
     (c.in_ok-new.ensures.names ∙ ap (λ (o : Owner). d.names ++ next_name (part_of d.world o) ∷ []) owner)
     (c.in_ok-new.ensures.world ∙ ap (λ (o : Owner). made o (doing (make (node_from d.names (next_name (part_of d.world o)) c.args.node))) d.world) owner)
 

@@ -24,7 +24,7 @@ invariant_of-self c =
     iter_made f c.self.invariant c.self.view_is c.args.owner there
     c.args.root (filter_of c.args.filter) own_root
     (known f c.self.invariant c.self.view_is (λ e. c.args.root < length e.names) c.requires.root_is_node) c.law_nodes_stand_once.ensures.once
-    (cursors_of c.add_iter.new.self) c.add_iter.result c.add_iter.ensures.added c.add_iter.ensures.limit c.add_iter.ensures.err
+    (cursors_of c.add_iter.new.self) c.add_iter.ensures.added c.add_iter.ensures.limit c.add_iter.ensures.err
 
 pub returns-clause-world : goal.returns-clause-world
 returns-clause-world c =

@@ -14,10 +14,14 @@ use Rattle.dom_parts.proofs.parts.Parts.join_at.Goals as goal
 pub on_join_child-requires-clause-fits : goal.on_join_child-requires-clause-fits
 on_join_child-requires-clause-fits c =
     let f = c.self.inside.forest in
-    join_asks f c.self.invariant c.self.view_is c.args.first c.args.size c.args.next c.args.parent c.requires.first_is_node c.requires.next_owner
-    c.requires.bounds c.requires.fits
-    (subst (λ (n : ℕ). n < 2 ^ 64) (shown f c.self.invariant c.self.view_is length_of (λ ns. c.length-whole.result) c.args.first
-    c.length-whole.ensures (λ r. r.size)) (let whole = c.length-whole.type_inv in omega arith)) (index_of f.trees (name_at f.names c.args.next))
+    join_asks f c.self.invariant c.self.view_is c.args.first c.args.size c.args.next record {
+      first_is_node = c.requires.first_is_node;
+      next_owner = c.requires.next_owner;
+      bounds = c.requires.bounds;
+      fits = c.requires.fits;
+      few = subst (λ (n : ℕ). n < 2 ^ 64) (shown f c.self.invariant c.self.view_is length_of (λ ns. c.length-whole.result) c.args.first
+          c.length-whole.ensures (λ r. r.size)) (let whole = c.length-whole.type_inv in omega arith);
+    } c.args.parent (index_of f.trees (name_at f.names c.args.next))
 
 pub invariant_of-self : goal.invariant_of-self
 invariant_of-self c =
@@ -27,17 +31,21 @@ invariant_of-self c =
     let at = index_of f.trees (name_at f.names c.args.next) in
     held_live f.names f.trees all c.self.invariant c.on_join_child.new.self
     ((join_ranged (contents f.names f.trees all) all.ranges c.on_join_child.new.self c.self.invariant.ranges c.law_nodes_stand_once.ensures.distinct o
-    c.args.first c.args.size c.args.next c.args.parent at
-    (known f c.self.invariant c.self.view_is (λ e. c.args.first < length e.names) c.requires.first_is_node)
-    (known f c.self.invariant c.self.view_is (λ e. c.args.next < length e.names) c.requires.next_is_node)
-    (known f c.self.invariant c.self.view_is (λ e. c.args.parent < length e.names) c.requires.parent_is_node)
-    (λ j. o) (known f c.self.invariant c.self.view_is (λ e. owner_in e c.args.next ≡ owner_in e c.args.first) c.requires.next_owner)
+    c.args.first (known f c.self.invariant c.self.view_is (λ e. c.args.first < length e.names) c.requires.first_is_node) (λ j. o)
+    c.args.parent (known f c.self.invariant c.self.view_is (λ e. c.args.parent < length e.names) c.requires.parent_is_node)
     (known f c.self.invariant c.self.view_is (λ e. owner_in e c.args.parent ≡ owner_in e c.args.first) c.requires.parent_owner)
+    at c.args.size c.args.next
+    (known f c.self.invariant c.self.view_is (λ e. c.args.next < length e.names) c.requires.next_is_node)
+    (known f c.self.invariant c.self.view_is (λ e. owner_in e c.args.next ≡ owner_in e c.args.first) c.requires.next_owner)
     c.on_join_child.ensures).1
-    (join_asks f c.self.invariant c.self.view_is c.args.first c.args.size c.args.next c.args.parent c.requires.first_is_node c.requires.next_owner
-    c.requires.bounds c.requires.fits
-    (subst (λ (n : ℕ). n < 2 ^ 64) (shown f c.self.invariant c.self.view_is length_of (λ ns. c.length-whole.result) c.args.first
-    c.length-whole.ensures (λ r. r.size)) (let whole = c.length-whole.type_inv in omega arith)) at))
+    (join_asks f c.self.invariant c.self.view_is c.args.first c.args.size c.args.next record {
+      first_is_node = c.requires.first_is_node;
+      next_owner = c.requires.next_owner;
+      bounds = c.requires.bounds;
+      fits = c.requires.fits;
+      few = subst (λ (n : ℕ). n < 2 ^ 64) (shown f c.self.invariant c.self.view_is length_of (λ ns. c.length-whole.result) c.args.first
+          c.length-whole.ensures (λ r. r.size)) (let whole = c.length-whole.type_inv in omega arith);
+    } c.args.parent at))
 
 pub returns-clause-state : goal.returns-clause-state
 returns-clause-state c =
@@ -51,12 +59,13 @@ returns-clause-state c =
     (λ ns. join_at (name_at ns c.args.first) c.args.size (name_at ns c.args.next) (name_at ns c.args.parent) at)
     (join_told (contents f.names f.trees all) c.self.inside.slots.hosts (are_hosts f.names f.trees all c.self.invariant) all.ranges
     c.on_join_child.new.self c.self.invariant.ranges c.law_nodes_stand_once.ensures.distinct o
-    (owner_there f c.self.invariant c.self.view_is c.args.first c.requires.first_is_node) c.args.first c.args.size c.args.next c.args.parent at
-    (known f c.self.invariant c.self.view_is (λ e. c.args.first < length e.names) c.requires.first_is_node)
-    (known f c.self.invariant c.self.view_is (λ e. c.args.next < length e.names) c.requires.next_is_node)
-    (known f c.self.invariant c.self.view_is (λ e. c.args.parent < length e.names) c.requires.parent_is_node)
-    (λ j. o) (known f c.self.invariant c.self.view_is (λ e. owner_in e c.args.next ≡ owner_in e c.args.first) c.requires.next_owner)
+    (owner_there f c.self.invariant c.self.view_is c.args.first c.requires.first_is_node)
+    c.args.first (known f c.self.invariant c.self.view_is (λ e. c.args.first < length e.names) c.requires.first_is_node) (λ j. o)
+    c.args.parent (known f c.self.invariant c.self.view_is (λ e. c.args.parent < length e.names) c.requires.parent_is_node)
     (known f c.self.invariant c.self.view_is (λ e. owner_in e c.args.parent ≡ owner_in e c.args.first) c.requires.parent_owner)
+    at c.args.size c.args.next
+    (known f c.self.invariant c.self.view_is (λ e. c.args.next < length e.names) c.requires.next_is_node)
+    (known f c.self.invariant c.self.view_is (λ e. owner_in e c.args.next ≡ owner_in e c.args.first) c.requires.next_owner)
     c.on_join_child.ensures)
     ∙ ap (λ (i : ℕ). stepped (owner_in d c.args.first) (join_at (name_in d c.args.first) c.args.size (name_in d c.args.next) (name_in d c.args.parent) i) d)
     (index ∙ ap (λ o. index_of (part_of d.world o).trees (name_in d c.args.next)) c.requires.next_owner)

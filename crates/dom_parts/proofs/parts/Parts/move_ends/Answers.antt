@@ -24,8 +24,9 @@ invariant_of-self c =
     let index = index_of f.trees (name_at f.names c.args.child) in
     held_live f.names f.trees all c.self.invariant c.on_insert_before.new.self
     ((room_ranged (contents f.names f.trees all) all.ranges c.on_insert_before.new.self c.self.invariant.ranges
-    c.law_nodes_stand_once.ensures.distinct o c.args.parent index c.args.count
-    (known f c.self.invariant c.self.view_is (λ e. c.args.parent < length e.names) c.requires.parent_is_node) (λ j. o) c.on_insert_before.ensures).1
+    c.law_nodes_stand_once.ensures.distinct o c.args.parent
+    (known f c.self.invariant c.self.view_is (λ e. c.args.parent < length e.names) c.requires.parent_is_node) (λ j. o) index c.args.count
+    c.on_insert_before.ensures).1
     (room_asks f c.self.invariant c.self.view_is c.law_nodes_stand_once.ensures.once c.law_nodes_stand_once.ensures.only c.args.parent c.args.child
     c.args.count c.requires.parent_is_node c.requires.is_child c.requires.bounds c.requires.few index))
 
@@ -39,7 +40,8 @@ returns c =
     live_done f c.self.invariant c.self.view_is c.args.parent c.on_insert_before.new.self (λ ns. make_room (name_at ns c.args.parent) index c.args.count)
     (room_told (contents f.names f.trees all) c.self.inside.slots.hosts (are_hosts f.names f.trees all c.self.invariant) all.ranges
     c.on_insert_before.new.self c.self.invariant.ranges c.law_nodes_stand_once.ensures.distinct o
-    (owner_there f c.self.invariant c.self.view_is c.args.parent c.requires.parent_is_node) c.args.parent index c.args.count
-    (known f c.self.invariant c.self.view_is (λ e. c.args.parent < length e.names) c.requires.parent_is_node) (λ j. o) c.on_insert_before.ensures)
+    (owner_there f c.self.invariant c.self.view_is c.args.parent c.requires.parent_is_node) c.args.parent
+    (known f c.self.invariant c.self.view_is (λ e. c.args.parent < length e.names) c.requires.parent_is_node) (λ j. o) index c.args.count
+    c.on_insert_before.ensures)
     ∙ ap (λ (i : ℕ). stepped (owner_in d c.args.parent) (make_room (name_in d c.args.parent) i c.args.count) d)
     (shown f c.self.invariant c.self.view_is index_of (λ ns. index) c.args.child (λ j. index) (λ r. r.index))

@@ -8,17 +8,14 @@ use Rattle.dom_node_trees.specs.Documents.{under_each, roots_within}
 use Rattle.dom_parts.proofs.Roots.{depth_is, documents_are_held, documents_are_set}
 use Rattle.dom_parts.proofs.parts.Parts.set_document.Goals as goal
 
--- the trees after all
-all_set : (doc node : ℕ) (tops roots : List ℕ) (f g h : NamedTrees) →
-    h.trees ≡ fold (under_each (name_at g.names doc)) g.trees (map (name_at g.names) tops) → g.names ≡ f.names →
-    g.trees ≡ under_each (name_at f.names doc) f.trees (name_at f.names node) → tops ≡ roots
-    → h.trees ≡ fold (under_each (name_at f.names doc)) (under_each (name_at f.names doc) f.trees (name_at f.names node)) (map (name_at f.names) roots)
-all_set doc node tops roots f g h set names trees same =
+-- the trees after all, where the names, the trees and the roots that were used are these
+all_set : (doc : ℕ) {ns ms : List NodeName} {ts us vs : Trees} {tops roots : List ℕ} → ns ≡ ms → ts ≡ us → tops ≡ roots →
+    vs ≡ fold (under_each (name_at ns doc)) ts (map (name_at ns) tops) → vs ≡ fold (under_each (name_at ms doc)) us (map (name_at ms) roots)
+all_set doc {ns} {ms} {ts} {us} {vs} {tops} names trees same set =
     set
-    ∙ (ap (λ (ns : List NodeName). fold (under_each (name_at ns doc)) g.trees (map (name_at ns) tops)) names
-    ∙ (ap (λ (ts : Trees). fold (under_each (name_at f.names doc)) ts (map (name_at f.names) tops)) trees
-    ∙ ap (λ (ks : List ℕ). fold (under_each (name_at f.names doc)) (under_each (name_at f.names doc) f.trees (name_at f.names node))
-    (map (name_at f.names) ks)) same))
+    ∙ (ap (λ (xs : List NodeName). fold (under_each (name_at xs doc)) ts (map (name_at xs) tops)) names
+    ∙ (ap (λ (xs : Trees). fold (under_each (name_at ms doc)) xs (map (name_at ms) tops)) trees
+    ∙ ap (λ (ks : List ℕ). fold (under_each (name_at ms doc)) us (map (name_at ms) ks)) same))
 
 -- as deep as the definition goes
 as_deep : (f : NamedTrees) (hosts : List ShadowHost) (node : ℕ) →
@@ -36,8 +33,7 @@ invariant_of-self c =
     c.in_ok-roots.roots.items (c.in_ok-roots.ensures.names ∙ sym (as_deep c.self.inside.forest c.self.inside.slots.hosts c.args.node))
     c.in_ok-roots.ensures.nodes
     c.set_each.new.forest (c.set_each.ensures.names ∙ c.set_documents.ensures.names)
-    (all_set c.args.document c.args.node c.as_slice.result.now c.in_ok-roots.roots.items c.self.inside.forest c.set_documents.new.forest
-    c.set_each.new.forest c.set_each.ensures.trees c.set_documents.ensures.names c.set_documents.ensures.trees c.as_slice.ensures.value)
+    (all_set c.args.document c.set_documents.ensures.names c.set_documents.ensures.trees c.as_slice.ensures.value c.set_each.ensures.trees)
 
 pub returns : goal.returns
 returns c =
@@ -45,5 +41,4 @@ returns c =
     c.in_ok-roots.roots.items (c.in_ok-roots.ensures.names ∙ sym (as_deep c.self.inside.forest c.self.inside.slots.hosts c.args.node))
     c.in_ok-roots.ensures.nodes
     c.set_each.new.forest (c.set_each.ensures.names ∙ c.set_documents.ensures.names)
-    (all_set c.args.document c.args.node c.as_slice.result.now c.in_ok-roots.roots.items c.self.inside.forest c.set_documents.new.forest
-    c.set_each.new.forest c.set_each.ensures.trees c.set_documents.ensures.names c.set_documents.ensures.trees c.as_slice.ensures.value)
+    (all_set c.args.document c.set_documents.ensures.names c.set_documents.ensures.trees c.as_slice.ensures.value c.set_each.ensures.trees)

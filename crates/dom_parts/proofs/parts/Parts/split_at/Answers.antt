@@ -31,12 +31,12 @@ invariant_of-self c =
     let o = (name_at f.names c.args.node).owner in
     held_live f.names f.trees all c.self.invariant c.on_split.new.self
     ((split_ranged (contents f.names f.trees all) all.ranges c.on_split.new.self c.self.invariant.ranges c.law_nodes_stand_once.ensures.distinct o
-    c.args.node c.args.offset c.args.new c.args.parent c.args.index
-    (known f c.self.invariant c.self.view_is (λ e. c.args.node < length e.names) c.requires.node_is_node)
-    (known f c.self.invariant c.self.view_is (λ e. c.args.new < length e.names) c.requires.new_is_node)
-    (known f c.self.invariant c.self.view_is (λ e. c.args.parent < length e.names) c.requires.parent_is_node)
-    (λ j. o) (known f c.self.invariant c.self.view_is (λ e. owner_in e c.args.new ≡ owner_in e c.args.node) c.requires.new_owner)
+    c.args.node (known f c.self.invariant c.self.view_is (λ e. c.args.node < length e.names) c.requires.node_is_node) (λ j. o)
+    c.args.parent (known f c.self.invariant c.self.view_is (λ e. c.args.parent < length e.names) c.requires.parent_is_node)
     (known f c.self.invariant c.self.view_is (λ e. owner_in e c.args.parent ≡ owner_in e c.args.node) c.requires.parent_owner)
+    c.args.index c.args.offset c.args.new
+    (known f c.self.invariant c.self.view_is (λ e. c.args.new < length e.names) c.requires.new_is_node)
+    (known f c.self.invariant c.self.view_is (λ e. owner_in e c.args.new ≡ owner_in e c.args.node) c.requires.new_owner)
     (c.on_split.ensures.child (c.args.parent, c.args.index) (λ j. Some (c.args.parent, c.args.index)))).1
     (split_fits (contents f.names f.trees all) c.self.inside.ranges c.self.invariant.ranges o c.args.node c.args.offset c.args.new c.args.parent
     c.args.index (let few = c.requires.few in omega arith)))
@@ -50,10 +50,11 @@ returns c =
     (λ ns. split_at (name_at ns c.args.node) c.args.offset (name_at ns c.args.new) (name_at ns c.args.parent) c.args.index)
     (split_told (contents f.names f.trees all) c.self.inside.slots.hosts (are_hosts f.names f.trees all c.self.invariant) all.ranges
     c.on_split.new.self c.self.invariant.ranges c.law_nodes_stand_once.ensures.distinct o
-    (owner_there f c.self.invariant c.self.view_is c.args.node c.requires.node_is_node) c.args.node c.args.offset c.args.new c.args.parent c.args.index
-    (known f c.self.invariant c.self.view_is (λ e. c.args.node < length e.names) c.requires.node_is_node)
-    (known f c.self.invariant c.self.view_is (λ e. c.args.new < length e.names) c.requires.new_is_node)
-    (known f c.self.invariant c.self.view_is (λ e. c.args.parent < length e.names) c.requires.parent_is_node)
-    (λ j. o) (known f c.self.invariant c.self.view_is (λ e. owner_in e c.args.new ≡ owner_in e c.args.node) c.requires.new_owner)
+    (owner_there f c.self.invariant c.self.view_is c.args.node c.requires.node_is_node)
+    c.args.node (known f c.self.invariant c.self.view_is (λ e. c.args.node < length e.names) c.requires.node_is_node) (λ j. o)
+    c.args.parent (known f c.self.invariant c.self.view_is (λ e. c.args.parent < length e.names) c.requires.parent_is_node)
     (known f c.self.invariant c.self.view_is (λ e. owner_in e c.args.parent ≡ owner_in e c.args.node) c.requires.parent_owner)
+    c.args.index c.args.offset c.args.new
+    (known f c.self.invariant c.self.view_is (λ e. c.args.new < length e.names) c.requires.new_is_node)
+    (known f c.self.invariant c.self.view_is (λ e. owner_in e c.args.new ≡ owner_in e c.args.node) c.requires.new_owner)
     (c.on_split.ensures.child (c.args.parent, c.args.index) (λ j. Some (c.args.parent, c.args.index))))
