@@ -77,25 +77,25 @@ pub record HasLaws (d : DocState) : Type 0 where
   pub parts : (o : Owner) → IsPart (part_of d.world o)
   pub stand : (k : ℕ) → k < length d.names → has_node (trees_in d k) (name_in d k) ≡ true
 
--- The world after the plan of an owner of nodes.
-pub ready-planned : (d : DocState) (k : ℕ) (o : Owner) (plan : Plan) (now : World) → HasLaws d → k < length d.names → owner_in d k ≡ o →
-    now ≡ made o plan d.world → IsReady d →
-    (IsPart (part_of d.world o) → IsReadyPart (part_of d.world o) → KeepReady (part_of d.world o) (plan (part_of d.world o))) → AreReady now
-ready-planned d k o plan now laws there mine e h keep =
-    let p = part_of d.world o in
-    subst AreReady (sym e)
-    (ready-made d.world o plan laws.parts h
-    (λ m. (subst (IsAlone d.world) mine (laws.alone k there)).steps (plan p) (own-documents o p (plan p) (owner-part_of d.world o) m))
-    (keep (laws.parts o) (h o)))
+module _ (d : DocState) (k : ℕ) (o : Owner) (plan : Plan) (now : World) (laws : HasLaws d) (there : k < length d.names) (mine : owner_in d k ≡ o)
+    (e : now ≡ made o plan d.world) where
+  -- The world after the plan of an owner of nodes.
+  pub ready-planned : IsReady d →
+      (IsPart (part_of d.world o) → IsReadyPart (part_of d.world o) → KeepReady (part_of d.world o) (plan (part_of d.world o))) → AreReady now
+  ready-planned h keep =
+      let p = part_of d.world o in
+      subst AreReady (sym e)
+      (ready-made d.world o plan laws.parts h
+      (λ m. (subst (IsAlone d.world) mine (laws.alone k there)).steps (plan p) (own-documents o p (plan p) (owner-part_of d.world o) m))
+      (keep (laws.parts o) (h o)))
 
--- and the owner's part is what the plan leaves of it
-pub part-planned : (d : DocState) (k : ℕ) (o : Owner) (plan : Plan) (now : World) → HasLaws d → k < length d.names → owner_in d k ≡ o →
-    now ≡ made o plan d.world → MadeIn (part_of d.world o) (plan (part_of d.world o)) →
-    part_of now o ≡ after (part_of d.world o) (plan (part_of d.world o))
-part-planned d k o plan now laws there mine e m =
-    let p = part_of d.world o in
-    ap (λ (w : World). part_of w o) e ∙ (subst (IsAlone d.world) mine (laws.alone k there)).steps (plan p)
-    (own-documents o p (plan p) (owner-part_of d.world o) m)
+  -- and the owner's part is what the plan leaves of it
+  pub part-planned : MadeIn (part_of d.world o) (plan (part_of d.world o)) →
+      part_of now o ≡ after (part_of d.world o) (plan (part_of d.world o))
+  part-planned m =
+      let p = part_of d.world o in
+      ap (λ (w : World). part_of w o) e ∙ (subst (IsAlone d.world) mine (laws.alone k there)).steps (plan p)
+      (own-documents o p (plan p) (owner-part_of d.world o) m)
 
 -- A node stands in its owner's trees.
 pub stands-in : (d : DocState) (k : ℕ) (o : Owner) → HasLaws d → k < length d.names → owner_in d k ≡ o →
@@ -129,7 +129,7 @@ module _ (b d e : DocState) (same : b ≡ d) (o : Owner) (c : Command) where
   KeepsTables = IsReadyPart (part_of b.world o) → ReadyEffect (effect (part_of b.world o) c)
 
   pub table-call : (lines : List Said) (v : Value) → MakesSaying o c lines v b.world e.world → KeepsTables → IsReady d → IsReady e
-  table-call lines v m keep h = let h1 : IsReady b = subst IsReady (sym same) h in ready-makes o c lines v b.world e.world m h1 (keep (h1 o))
+  table-call lines v m keep h = let h1 : IsReady b = subst IsReady (sym same) h in ready-makes o c b.world m h1 (keep (h1 o))
 
   -- where it is done
   pub table-done : {X E : Type 0} (m : Result X E) (v : Value) → OnOk m (Makes o c v b.world e.world) → KeepsTables → IsReady d → OnOk m (IsReady e)
@@ -144,14 +144,20 @@ module _ (b d e : DocState) (same : b ≡ d) (o : Owner) (c : Command) where
 named-own : (w : World) (o : Owner) (x : NodeName) → x.owner ≡ o → named (part_of w o) (own x.number) ≡ x
 named-own w o x is = ap (λ (q : Owner). node_of q x.number) (owner-part_of w o ∙ sym is)
 
+-- An owner's first node is there.
+pub record HasFirst (d : DocState) (o : Owner) : Type 0 where
+  pub first : ℕ
+  pub there : first < length d.names
+  pub named : name_in d first ≡ node_of o 0
+
 -- A call begins with b, which has the laws and is shown as d, and leaves e.
 module _ (b d e : DocState) (same : b ≡ d) (laws : HasLaws b) where
   -- A new range stands at its owner's first node.
-  pub range-made : (o : Owner) (first : ℕ) → first < length d.names → name_in d first ≡ node_of o 0 → {X E : Type 0} (m : Result X E) (v : X → Value) →
+  pub range-made : (o : Owner) → HasFirst d o → {X E : Type 0} (m : Result X E) (v : X → Value) →
       IfOk m (λ x. Makes o Command.range_new (v x) b.world e.world) → IsReady d → OnOk m (IsReady e)
-  range-made o first there is m v w h =
-      let stand = (subst HasLaws same laws).stand first there in
-      let at : IsNodeIn (part_of d.world o).trees (node_of o 0) = subst (λ (y : NodeName). IsNodeIn (part_of d.world y.owner).trees y) is stand in
+  range-made o at_first m v w h =
+      let stand = (subst HasLaws same laws).stand at_first.first at_first.there in
+      let at : IsNodeIn (part_of d.world o).trees (node_of o 0) = subst (λ (y : NodeName). IsNodeIn (part_of d.world y.owner).trees y) at_first.named stand in
       let mine : IsNodeIn (part_of d.world o).trees (first_node (part_of d.world o)) =
       subst (λ (q : Owner). IsNodeIn (part_of d.world o).trees (node_of q 0)) (sym (owner-part_of d.world o)) at in
       table-answered b d e same o Command.range_new m v w
@@ -165,18 +171,19 @@ within-done (Err r) past h f p = tt
 within-done (Ok x) false h f p = f refl p
 within-done (Ok x) true h f p = let e : Ok x ≡ Err IndexSize = h.1 refl in absurd cc
 
--- the node is there, and the offset not past its end, as the command names them
-pub named-there : (b d : DocState) → b ≡ d → HasLaws b → (o : Owner) (k : ℕ) → k < length d.names → owner_in d k ≡ o →
-    IsNodeIn (part_of b.world o).trees (named (part_of b.world o) (own (name_in b k).number))
-named-there b d same laws o k there own_node =
-    subst (λ (a : DocState). IsNodeIn (part_of a.world o).trees (named (part_of a.world o) (own (name_in a k).number))) (sym same)
-    (subst (IsNodeIn (part_of d.world o).trees) (sym (named-own d.world o (name_in d k) own_node)) (stands-in d k o (subst HasLaws same laws) there own_node))
+module _ (b d : DocState) (same : b ≡ d) where
+  -- the node is there, and the offset not past its end, as the command names them
+  pub named-there : HasLaws b → (o : Owner) (k : ℕ) → k < length d.names → owner_in d k ≡ o →
+      IsNodeIn (part_of b.world o).trees (named (part_of b.world o) (own (name_in b k).number))
+  named-there laws o k there own_node =
+      subst (λ (a : DocState). IsNodeIn (part_of a.world o).trees (named (part_of a.world o) (own (name_in a k).number))) (sym same)
+      (subst (IsNodeIn (part_of d.world o).trees) (sym (named-own d.world o (name_in d k) own_node)) (stands-in d k o (subst HasLaws same laws) there own_node))
 
-pub named-within : (b d : DocState) → b ≡ d → (o : Owner) (k offset : ℕ) → owner_in d k ≡ o →
-    past_end (part_of b.world o) (name_in b k) offset ≡ false →
-    past_end (part_of b.world o) (named (part_of b.world o) (own (name_in b k).number)) offset ≡ false
-named-within b d same o k offset own_node low =
-    ap (λ x. past_end (part_of b.world o) x offset) (named-own b.world o (name_in b k) (ap (λ (a : DocState). owner_in a k) same ∙ own_node)) ∙ low
+  pub named-within : (o : Owner) (k offset : ℕ) → owner_in d k ≡ o →
+      past_end (part_of b.world o) (name_in b k) offset ≡ false →
+      past_end (part_of b.world o) (named (part_of b.world o) (own (name_in b k).number)) offset ≡ false
+  named-within o k offset own_node low =
+      ap (λ x. past_end (part_of b.world o) x offset) (named-own b.world o (name_in b k) (ap (λ (a : DocState). owner_in a k) same ∙ own_node)) ∙ low
 
 -- So do these calls.
 module _ (b d e : DocState) (same : b ≡ d) (laws : HasLaws b) where

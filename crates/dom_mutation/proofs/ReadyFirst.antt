@@ -41,5 +41,5 @@ ready-attaching w o x h =
     let c = component_made o (length p.attached) in
     let more : Part = record p { attached = p.attached ++ x ∷ [] } in
     let d = (node_in p.trees x).document in
-    ready-written (with_part w more) (part_with_root c Shadow d) c refl (ready-root c Shadow d)
-    (ready-written w more o (owner-part_of w o) (ready-same p more refl refl (h o)) h)
+    ready-written (with_part w more) c (part_with_root c Shadow d) refl (ready-root c Shadow d)
+    (ready-written w o more (owner-part_of w o) (ready-same p more refl refl (h o)) h)

@@ -159,22 +159,23 @@ module _ (p : Part) (i : IsPart p) (h : IsReadyPart p) where
         roots = lone-plan (adopting d x) (keeps-adopting (lone-rules p) d x);
       }
 
-  -- an insertion
-  pub ready-inserting : (x parent : NodeName) (before : Option NodeName) → IsTrue (has_node p.trees x) → IsTrue (has_node p.trees parent) →
-      is_inclusive_ancestor p.trees x parent ≡ false → has_data (kind_of p.trees parent) ≡ false → is_shadow (kind_of p.trees x) ≡ false →
-      KeepReady p (inserting observed x parent before p)
-  ready-inserting x parent before t s a o m =
-      record {
-        made = (leads-inserting observed x parent before p i (may-go x parent t s a)).made;
-        bounds = insertion-keeps observed x parent before p i t s a o h.bounds;
-        roots = lone-plan (inserting observed x parent before) (keeps-inserting (lone-rules p) observed x parent before m);
-      }
+  module _ (x parent : NodeName) (t : IsTrue (has_node p.trees x)) (s : IsTrue (has_node p.trees parent)) where
+    -- an insertion
+    pub ready-inserting : (before : Option NodeName) →
+        is_inclusive_ancestor p.trees x parent ≡ false → has_data (kind_of p.trees parent) ≡ false → is_shadow (kind_of p.trees x) ≡ false →
+        KeepReady p (inserting observed x parent before p)
+    ready-inserting before a o m =
+        record {
+          made = (leads-inserting observed x parent before p i (may-go x parent t s a)).made;
+          bounds = insertion-keeps observed x parent before p i t s a o h.bounds;
+          roots = lone-plan (inserting observed x parent before) (keeps-inserting (lone-rules p) observed x parent before m);
+        }
 
-  -- one that is tested
-  pub ready-pre_inserting : (x parent : NodeName) (child : Option NodeName) → IsTrue (has_node p.trees x) → IsTrue (has_node p.trees parent) →
-      insertion_refusal p.trees parent x child ≡ None → KeepReady p (pre_inserting x parent child p)
-  ready-pre_inserting x parent child t s r =
-      let m = insertion-tested p.trees parent x child r in ready-inserting x parent (reference_for p.trees x child) t s m.apart m.opened m.plain
+    -- one that is tested
+    pub ready-pre_inserting : (child : Option NodeName) →
+        insertion_refusal p.trees parent x child ≡ None → KeepReady p (pre_inserting x parent child p)
+    ready-pre_inserting child r =
+        let m = insertion-tested p.trees parent x child r in ready-inserting (reference_for p.trees x child) m.apart m.opened m.plain
 
   -- a replacement
   pub ready-replacing : (parent x child : NodeName) → IsTrue (has_node p.trees x) → IsTrue (has_node p.trees parent) →

@@ -59,10 +59,10 @@ ReadyEffect (tables q lines v) = IsReadyPart q
 ReadyEffect (changes steps v) = Unit {0}
 
 -- The world after a command that changes tables alone.
-pub ready-makes : (o : Owner) (c : Command) (lines : List Said) (v : Value) (was now : World) → MakesSaying o c lines v was now → AreReady was →
+pub ready-makes : (o : Owner) (c : Command) {lines : List Said} {v : Value} (was : World) {now : World} → MakesSaying o c lines v was now → AreReady was →
     ReadyEffect (effect (part_of was o) c) → AreReady now
-ready-makes o c lines v was now m h e =
-    subst AreReady (sym m.1) (ready-written was (part_of now o) o (owner-part_of now o) (subst ReadyEffect m.0 e) h)
+ready-makes o c was {now} m h e =
+    subst AreReady (sym m.1) (ready-written was o (part_of now o) (owner-part_of now o) (subst ReadyEffect m.0 e) h)
 
 module _ (p : Part) (h : IsReadyPart p) where
   -- of a thing that is there

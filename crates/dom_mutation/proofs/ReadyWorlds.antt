@@ -85,18 +85,19 @@ module _ (o : Owner) where
   others-after [] w h = h
   others-after (s ∷ steps) w h = others-after steps (world_step o w s) (others-step w s h)
 
--- A plan of an owner, which does in its part what it does there alone.
-pub ready-made : (w : World) (o : Owner) (plan : Plan) → ((x : Owner) → IsPart (part_of w x)) → AreReady w →
-    (MadeIn (part_of w o) (plan (part_of w o)) → part_of (world_after o w (plan (part_of w o))) o ≡ after (part_of w o) (plan (part_of w o))) →
-    KeepReady (part_of w o) (plan (part_of w o)) → AreReady (world_after o w (plan (part_of w o)))
-ready-made w o plan i h own k x =
-    let p = part_of w o in
-    let steps = plan p in
-    by_cases (owner_eq x o)
-    (λ e. subst (λ y. IsReadyPart (part_of (world_after o w steps) y)) (sym (owner_eq-true x o e))
-    (subst IsReadyPart (sym (own k.made)) (ready-after p steps (i o) (h o) k)))
-    (λ e. (others-after o steps w (λ y f. record { part = i y; ready = h y }) x (owner_eq-false x o e)).ready)
+module _ (w : World) (o : Owner) where
+  -- A plan of an owner, which does in its part what it does there alone.
+  pub ready-made : (plan : Plan) → ((x : Owner) → IsPart (part_of w x)) → AreReady w →
+      (MadeIn (part_of w o) (plan (part_of w o)) → part_of (world_after o w (plan (part_of w o))) o ≡ after (part_of w o) (plan (part_of w o))) →
+      KeepReady (part_of w o) (plan (part_of w o)) → AreReady (world_after o w (plan (part_of w o)))
+  ready-made plan i h own k x =
+      let p = part_of w o in
+      let steps = plan p in
+      by_cases (owner_eq x o)
+      (λ e. subst (λ y. IsReadyPart (part_of (world_after o w steps) y)) (sym (owner_eq-true x o e))
+      (subst IsReadyPart (sym (own k.made)) (ready-after p steps (i o) (h o) k)))
+      (λ e. (others-after o steps w (λ y f. record { part = i y; ready = h y }) x (owner_eq-false x o e)).ready)
 
--- A part that is written.
-pub ready-written : (w : World) (p : Part) (o : Owner) → p.owner ≡ o → IsReadyPart p → AreReady w → AreReady (with_part w p)
-ready-written w p o e h r = each-part (λ x q. IsReadyPart q) w p o e h r
+  -- A part that is written.
+  pub ready-written : (p : Part) → p.owner ≡ o → IsReadyPart p → AreReady w → AreReady (with_part w p)
+  ready-written p e h r = each-part (λ x q. IsReadyPart q) w p o e h r

@@ -35,85 +35,90 @@ use Rattle.dom_tree.specs.Forest.{name_at}
 names-still : (xs ys zs : List NodeName) → ys ≡ xs ++ zs → (k : ℕ) → k < length xs → name_at ys k ≡ name_at xs k
 names-still xs ys zs e k h = ap (λ (ns : List NodeName). name_at ns k) e ∙ get_or-append xs zs (node_of Page 0) k h
 
--- Where names come behind those that are there, and all nodes stand, kinds and tables stay as the parts do.
-still-from : (was now : DocState) (more : List NodeName) → HasNodes was → HasNodes now → now.names ≡ was.names ++ more → KeepsWorld was.world now.world →
-    HasStillAll was now
-still-from was now more h g e keeps =
+-- States before and after a call that made an owner's plan: all nodes stand, and names come behind those that were there.
+pub record IsPlanned (was now : DocState) (o : Owner) (plan : Plan) (more : List NodeName) : Type 0 where
+  pub before : HasNodes was
+  pub after : HasNodes now
+  pub names : now.names ≡ was.names ++ more
+  pub world : now.world ≡ made o plan was.world
+
+-- After a plan kinds and tables stay as the parts do.
+pub still-plan : (was now : DocState) (o : Owner) (plan : Plan) (more : List NodeName) → IsPlanned was now o plan more → HasStillAll was now
+still-plan was now o plan more is =
     record {
-      nodes = record { nodes = there; names = names-still was.names now.names more e; kinds = kinds };
-      tables = λ o. (keeps o).tables;
+      nodes = record { nodes = there; names = names-still was.names now.names more is.names; kinds = kinds };
+      tables = λ q. (keeps q).tables;
     }
   where
+    keeps : KeepsWorld was.world now.world
+    keeps = subst (KeepsWorld was.world) (sym is.world) (keeps-world_after o was.world (plan (part_of was.world o)))
+
     there : (k : ℕ) → k < length was.names → k < length now.names
-    there k few = let a = ap length e ∙ length-append was.names more in omega arith
+    there k few = let a = ap length is.names ∙ length-append was.names more in omega arith
 
     kinds : (k : ℕ) → k < length was.names → kind_of (trees_in now k) (name_in now k) ≡ kind_of (trees_in was k) (name_in was k)
     kinds k few =
         let x = name_in was k in
-        let named : name_in now k ≡ x = names-still was.names now.names more e k few in
+        let named : name_in now k ≡ x = names-still was.names now.names more is.names k few in
         ap (λ (y : NodeName). kind_of (part_of now.world y.owner).trees y) named
-        ∙ kind-kept (part_of was.world x.owner) (part_of now.world x.owner) (h.parts x.owner) (keeps x.owner) x (h.stand k few)
-        (subst (λ (y : NodeName). has_node (part_of now.world y.owner).trees y ≡ true) named (g.stand k (there k few)))
-
--- After a plan.
-pub still-plan : (was now : DocState) (o : Owner) (plan : Plan) (more : List NodeName) → HasNodes was → HasNodes now → now.names ≡ was.names ++ more →
-    now.world ≡ made o plan was.world → HasStillAll was now
-still-plan was now o plan more h g e w =
-    still-from was now more h g e
-    (subst (KeepsWorld was.world) (sym w) (keeps-world_after o was.world (plan (part_of was.world o))))
-
--- Where the trees of all parts stay as they were.
-pub still-tables : (was now : DocState) → now.names ≡ was.names → ((o : Owner) → KeepsTables (part_of was.world o) (part_of now.world o)) →
-    HasStillAll was now
-still-tables was now e h =
-    record {
-      nodes = record {
-        nodes = λ k few. let a = ap length e in omega arith;
-        names = λ k few. ap (λ (ns : List NodeName). name_at ns k) e;
-        kinds = λ k few.
-            let named : name_in now k ≡ name_in was k = ap (λ (ns : List NodeName). name_at ns k) e in
-            ap (λ (y : NodeName). kind_of (part_of now.world y.owner).trees y) named
-            ∙ ap (λ (ts : Trees). kind_of ts (name_in was k)) (h (name_in was k).owner).trees;
-      };
-      tables = λ o. (h o).tables;
-    }
+        ∙ kind-kept (is.before.parts x.owner) (keeps x.owner) x (is.before.stand k few)
+        (subst (λ (y : NodeName). has_node (part_of now.world y.owner).trees y ≡ true) named (is.after.stand k (there k few)))
 
 -- nothing changes
 tables-kept : (p : Part) → KeepsTables p p
 tables-kept p = record { trees = refl; tables = tables-same p p refl refl refl refl }
 
--- After a command that changes tables alone, and drops no live range.
-pub still-makes : (was now : DocState) (o : Owner) (c : Command) (lines : List Said) (v : Value) → DropsNone c → now.names ≡ was.names →
-    MakesSaying o c lines v was.world now.world → HasStillAll was now
-still-makes was now o c lines v d e m =
-    still-tables was now e
-    (subst (λ (w : World). (q : Owner) → KeepsTables (part_of was.world q) (part_of w q)) (sym m.1)
-    (each-part (λ q r. KeepsTables (part_of was.world q) r) was.world (part_of now.world o) o (owner-part_of now.world o)
-    (subst (KeepsEffect (part_of was.world o)) m.0 (effect-still (part_of was.world o) c d)) (λ q. tables-kept (part_of was.world q))))
+-- The names stay.
+module _ (was now : DocState) (e : now.names ≡ was.names) where
+  -- Where the trees of all parts stay as they were.
+  pub still-tables : ((o : Owner) → KeepsTables (part_of was.world o) (part_of now.world o)) →
+      HasStillAll was now
+  still-tables h =
+      record {
+        nodes = record {
+          nodes = λ k few. let a = ap length e in omega arith;
+          names = λ k few. ap (λ (ns : List NodeName). name_at ns k) e;
+          kinds = λ k few.
+              let named : name_in now k ≡ name_in was k = ap (λ (ns : List NodeName). name_at ns k) e in
+              ap (λ (y : NodeName). kind_of (part_of now.world y.owner).trees y) named
+              ∙ ap (λ (ts : Trees). kind_of ts (name_in was k)) (h (name_in was k).owner).trees;
+        };
+        tables = λ o. (h o).tables;
+      }
 
--- After a notification.
-pub still-notified : (was now : DocState) (o : Owner) → now.names ≡ was.names → now.world ≡ with_part was.world (notified (part_of was.world o)) →
-    HasStillAll was now
-still-notified was now o e m =
-    let p = part_of was.world o in
-    still-tables was now e
-    (subst (λ (w : World). (q : Owner) → KeepsTables (part_of was.world q) (part_of w q)) (sym m)
-    (each-part (λ q r. KeepsTables (part_of was.world q) r) was.world (notified p) o (owner-part_of was.world o)
-    (record {
-      trees = refl;
-      tables = record {
-        ranges = λ k h. h;
-        iterators = λ k h. h;
-        walkers = λ k h. h;
-        observers = still-each (λ queues k. []) p.pending p.record_queues;
-      };
-    }) (λ q. tables-kept (part_of was.world q))))
+  -- After a command that changes tables alone, and drops no live range.
+  pub still-makes : (o : Owner) (c : Command) (lines : List Said) (v : Value) → DropsNone c →
+      MakesSaying o c lines v was.world now.world → HasStillAll was now
+  still-makes o c lines v d m =
+      still-tables
+      (subst (λ (w : World). (q : Owner) → KeepsTables (part_of was.world q) (part_of w q)) (sym m.1)
+      (each-part (λ q r. KeepsTables (part_of was.world q) r) was.world (part_of now.world o) o (owner-part_of now.world o)
+      (subst (KeepsEffect (part_of was.world o)) m.0 (effect-still (part_of was.world o) c d)) (λ q. tables-kept (part_of was.world q))))
 
--- Where no part changes.
-pub still-parts : (was now : DocState) → now.names ≡ was.names → now.world.parts ≡ was.world.parts → HasStillAll was now
-still-parts was now e m =
-    still-tables was now e
-    (λ o. subst (λ (ps : List Part). KeepsTables (part_of was.world o) (unwrap_or (find_part ps o) (empty_part o))) (sym m) (tables-kept (part_of was.world o)))
+  -- After a notification.
+  pub still-notified : (o : Owner) → now.world ≡ with_part was.world (notified (part_of was.world o)) →
+      HasStillAll was now
+  still-notified o m =
+      let p = part_of was.world o in
+      still-tables
+      (subst (λ (w : World). (q : Owner) → KeepsTables (part_of was.world q) (part_of w q)) (sym m)
+      (each-part (λ q r. KeepsTables (part_of was.world q) r) was.world (notified p) o (owner-part_of was.world o)
+      (record {
+        trees = refl;
+        tables = record {
+          ranges = λ k h. h;
+          iterators = λ k h. h;
+          walkers = λ k h. h;
+          observers = still-each (λ queues k. []) p.pending p.record_queues;
+        };
+      }) (λ q. tables-kept (part_of was.world q))))
+
+  -- Where no part changes.
+  pub still-parts : now.world.parts ≡ was.world.parts → HasStillAll was now
+  still-parts m =
+      still-tables
+      (λ o. subst (λ (ps : List Part). KeepsTables (part_of was.world o) (unwrap_or (find_part ps o) (empty_part o))) (sym m)
+      (tables-kept (part_of was.world o)))
 
 -- One call after another.
 pub still-then : (a b c : DocState) → HasStillAll a b → HasStillAll b c → HasStillAll a c
@@ -136,21 +141,21 @@ new-named was now x more e = (
 )
 
 -- and its kind, where it is the first step of the plan to make it
-pub new-kind : (was now : DocState) (o : Owner) (plan : Plan) (n : Node) (more : List NodeName) → HasNodes was → HasNodes now →
-    now.names ≡ was.names ++ next_name (part_of was.world o) ∷ more → now.world ≡ made o plan was.world →
+pub new-kind : {was now : DocState} {o : Owner} {plan : Plan} (n : Node) {more : List NodeName} →
+    IsPlanned was now o plan (next_name (part_of was.world o) ∷ more) →
     first_of (plan (part_of was.world o)) ≡ Some (make n) → kind_of (trees_in now (length was.names)) (name_in now (length was.names)) ≡ n.kind
-new-kind was now o plan n more h g e w f =
+new-kind {was} {now} {o} {plan} n {more} is f =
     let p = part_of was.world o in
     let x = next_name p in
-    let fresh = new-named was now x more e in
+    let fresh = new-named was now x more is.names in
     let q = part_of now.world o in
     let mine : x.owner ≡ o = owner-part_of was.world o in
     ap (λ (y : NodeName). kind_of (part_of now.world y.owner).trees y) fresh.1
     ∙ ap (λ (r : Owner). kind_of (part_of now.world r).trees x) mine
     ∙ kind-read q.trees x n.kind
     (subst (λ (r : Owner). has_node (part_of now.world r).trees x ≡ true) mine
-    (subst (λ (y : NodeName). has_node (part_of now.world y.owner).trees y ≡ true) fresh.1 (g.stand (length was.names) fresh.0)))
-    (subst (λ (v : World). AllNodes (IsKindAt x n.kind) (part_of v o).trees) (sym w) (from (plan p) f))
+    (subst (λ (y : NodeName). has_node (part_of now.world y.owner).trees y ≡ true) fresh.1 (is.after.stand (length was.names) fresh.0)))
+    (subst (λ (v : World). AllNodes (IsKindAt x n.kind) (part_of v o).trees) (sym is.world) (from (plan p) f))
   where
     p : Part
     p = part_of was.world o
@@ -158,7 +163,7 @@ new-kind was now o plan n more h g e w f =
     first : AllNodes (IsKindAt (next_name p) n.kind) (part_of (stepped o was.world (make n)) o).trees
     first = subst (λ (r : Part). AllNodes (IsKindAt (next_name p) n.kind) r.trees) (sym (part_of-stepped was.world o (make n)))
         (nodes-with_node (IsKindAt (next_name p) n.kind) (with_name (next_name p) n) p.trees (λ t. refl)
-        (absent-any (λ m. m.kind ≡ n.kind) p.trees (next_name p) (next-absent p (h.parts o))))
+        (absent-any (λ m. m.kind ≡ n.kind) p.trees (next_name p) (next-absent p (is.before.parts o))))
 
     from : (steps : List Step) → first_of steps ≡ Some (make n) →
         AllNodes (IsKindAt (next_name p) n.kind) (part_of (world_after o was.world steps) o).trees

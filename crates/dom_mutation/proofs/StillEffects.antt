@@ -25,12 +25,12 @@ abbrev pub KeepsEffect : Part → Effect → Type 0
 KeepsEffect p (tables q lines v) = KeepsTables p q
 KeepsEffect p (changes steps v) = ⊤
 
--- nothing that is counted changes
-same : (p q : Part) → q.trees ≡ p.trees → q.ranges ≡ p.ranges → q.iterators ≡ p.iterators → q.walkers ≡ p.walkers → q.record_queues ≡ p.record_queues →
-    KeepsTables p q
-same p q t r i w o = record { trees = t; tables = tables-same p q r i w o }
-
 module _ (p : Part) where
+  -- nothing that is counted changes
+  same : (q : Part) → q.trees ≡ p.trees → q.ranges ≡ p.ranges → q.iterators ≡ p.iterators → q.walkers ≡ p.walkers → q.record_queues ≡ p.record_queues →
+      KeepsTables p q
+  same q t r i w o = record { trees = t; tables = tables-same p q r i w o }
+
   -- of a thing that may not be there
   of-some : {X : Type 0} (o : Option X) (f : X → Effect) (d : Effect) → ((x : X) → KeepsEffect p (f x)) → KeepsEffect p d → KeepsEffect p (option_map_or f o d)
   of-some None f d h g = g
@@ -45,7 +45,7 @@ module _ (p : Part) where
       }
 
   walker-set : (k : ℕ) (w : Walker) (o : Option NodeName) (v : Value) → KeepsEffect p (sets_walker p k w o v)
-  walker-set k w None v = same p p refl refl refl refl refl
+  walker-set k w None v = same p refl refl refl refl refl
   walker-set k w (Some x) v =
       record {
         trees = refl;
@@ -95,10 +95,10 @@ module _ (p : Part) where
   effect-still (Command.range_drop k) d = absurd d
   effect-still (Command.range_get k) d =
       of-some (range_at p k) (λ (r : Range NodeName). answers p (boundaries r.start r.end)) (answers p nothing)
-      (λ r. same p p refl refl refl refl refl) (same p p refl refl refl refl refl)
+      (λ r. same p refl refl refl refl refl) (same p refl refl refl refl refl)
   effect-still (Command.range_text k) d =
       of-some (range_at p k) (λ (r : Range NodeName). answers p (a_string (range_text_of p.trees r))) (answers p nothing)
-      (λ r. same p p refl refl refl refl refl) (same p p refl refl refl refl refl)
+      (λ r. same p refl refl refl refl refl) (same p refl refl refl refl refl)
   effect-still (Command.extract k) d = tt
   effect-still (Command.delete k) d = tt
   effect-still (Command.insert_node k x) d = tt
@@ -108,27 +108,27 @@ module _ (p : Part) where
       record { trees = refl; tables = record { ranges = λ j h. h; iterators = λ j h. h; walkers = still-more p.walkers _; observers = λ j h. h } }
   effect-still (Command.iterator_next k) d =
       of-some (slice_get p.iterators k) (λ i. moves_iterator p k false i (iterator_next_node p.trees i)) (answers p nothing)
-      (λ i. iterator-moved k false i (iterator_next_node p.trees i)) (same p p refl refl refl refl refl)
+      (λ i. iterator-moved k false i (iterator_next_node p.trees i)) (same p refl refl refl refl refl)
   effect-still (Command.iterator_previous k) d =
       of-some (slice_get p.iterators k) (λ i. moves_iterator p k true i (iterator_previous_node p.trees i)) (answers p nothing)
-      (λ i. iterator-moved k true i (iterator_previous_node p.trees i)) (same p p refl refl refl refl refl)
+      (λ i. iterator-moved k true i (iterator_previous_node p.trees i)) (same p refl refl refl refl refl)
   effect-still (Command.iterator_at k) d =
       of-some (slice_get p.iterators k) (λ (i : Iterator). answers p (reference i.reference i.before)) (answers p nothing)
-      (λ i. same p p refl refl refl refl refl) (same p p refl refl refl refl refl)
+      (λ i. same p refl refl refl refl refl) (same p refl refl refl refl refl)
   effect-still (Command.walk k m) d =
       of-some (slice_get p.walkers k) (λ w. sets_walker p k w (walker_move p.trees w m) (node_or_null (walker_move p.trees w m)))
       (answers p nothing)
-      (λ w. walker-set k w (walker_move p.trees w m) (node_or_null (walker_move p.trees w m))) (same p p refl refl refl refl refl)
+      (λ w. walker-set k w (walker_move p.trees w m) (node_or_null (walker_move p.trees w m))) (same p refl refl refl refl refl)
   effect-still (Command.walker_at k) d =
       of-some (slice_get p.walkers k) (λ (w : Walker). answers p (a_node w.current)) (answers p nothing)
-      (λ w. same p p refl refl refl refl refl) (same p p refl refl refl refl refl)
+      (λ w. same p refl refl refl refl refl) (same p refl refl refl refl refl)
   effect-still (Command.walker_set k x) d =
       of-some (slice_get p.walkers k) (λ w. sets_walker p k w (Some (named p x)) nothing) (answers p nothing)
-      (λ w. walker-set k w (Some (named p x)) nothing) (same p p refl refl refl refl refl)
+      (λ w. walker-set k w (Some (named p x)) nothing) (same p refl refl refl refl refl)
   effect-still Command.observer d =
       record { trees = refl; tables = record { ranges = λ j h. h; iterators = λ j h. h; walkers = λ j h. h; observers = still-more p.record_queues _ } }
   effect-still (Command.disconnect k) d =
       record { trees = refl; tables = record { ranges = λ j h. h; iterators = λ j h. h; walkers = λ j h. h; observers = still-set p.record_queues k [] } }
   effect-still (Command.take k) d =
       record { trees = refl; tables = record { ranges = λ j h. h; iterators = λ j h. h; walkers = λ j h. h; observers = still-set p.record_queues k [] } }
-  effect-still c d = same p _ refl refl refl refl refl
+  effect-still c d = same _ refl refl refl refl refl

@@ -40,27 +40,28 @@ pushed-range : (rs : List (Option (Range NodeName))) (r : Range NodeName) → is
 pushed-range [] r = refl
 pushed-range (x ∷ rs) r = pushed-range rs r
 
--- A live range, an iterator, a walker and an observer.
-pub new-range : (was now : World) (o : Owner) (number : ℕ) → Makes o Command.range_new (a_range number) was now →
-    is_some (range_at (part_of now o) number) ≡ true
-new-range was now o number m =
-    let p = part_of was o in
-    subst (λ (g : Effect). is_some (range_at (part_in g) (answer_in g)) ≡ true) m.0 (pushed-range p.ranges (both_at (at (first_node p) 0)))
+module _ (was now : World) (o : Owner) where
+  -- A live range, an iterator, a walker and an observer.
+  pub new-range : (number : ℕ) → Makes o Command.range_new (a_range number) was now →
+      is_some (range_at (part_of now o) number) ≡ true
+  new-range number m =
+      let p = part_of was o in
+      subst (λ (g : Effect). is_some (range_at (part_in g) (answer_in g)) ≡ true) m.0 (pushed-range p.ranges (both_at (at (first_node p) 0)))
 
-pub new-iterator : (was now : World) (o : Owner) (x : NodeWord) (f : Filter) (number : ℕ) → Makes o (Command.iterator_new x f) (an_iterator number) was now →
-    is_some (slice_get (part_of now o).iterators number) ≡ true
-new-iterator was now o x f number m =
-    let p = part_of was o in
-    subst (λ (g : Effect). is_some (slice_get (part_in g).iterators (answer_in g)) ≡ true) m.0 (pushed p.iterators (new_iterator (named p x) f))
+  pub new-iterator : (x : NodeWord) (f : Filter) (number : ℕ) → Makes o (Command.iterator_new x f) (an_iterator number) was now →
+      is_some (slice_get (part_of now o).iterators number) ≡ true
+  new-iterator x f number m =
+      let p = part_of was o in
+      subst (λ (g : Effect). is_some (slice_get (part_in g).iterators (answer_in g)) ≡ true) m.0 (pushed p.iterators (new_iterator (named p x) f))
 
-pub new-walker : (was now : World) (o : Owner) (x : NodeWord) (f : Filter) (number : ℕ) → Makes o (Command.walker_new x f) (a_walker number) was now →
-    is_some (slice_get (part_of now o).walkers number) ≡ true
-new-walker was now o x f number m =
-    let p = part_of was o in
-    subst (λ (g : Effect). is_some (slice_get (part_in g).walkers (answer_in g)) ≡ true) m.0 (pushed p.walkers (new_walker (named p x) f))
+  pub new-walker : (x : NodeWord) (f : Filter) (number : ℕ) → Makes o (Command.walker_new x f) (a_walker number) was now →
+      is_some (slice_get (part_of now o).walkers number) ≡ true
+  new-walker x f number m =
+      let p = part_of was o in
+      subst (λ (g : Effect). is_some (slice_get (part_in g).walkers (answer_in g)) ≡ true) m.0 (pushed p.walkers (new_walker (named p x) f))
 
-pub new-observer : (was now : World) (o : Owner) (number : ℕ) → Makes o Command.observer (an_observer number) was now →
-    is_some (slice_get (part_of now o).record_queues number) ≡ true
-new-observer was now o number m =
-    let p = part_of was o in
-    subst (λ (g : Effect). is_some (slice_get (part_in g).record_queues (answer_in g)) ≡ true) m.0 (pushed p.record_queues [])
+  pub new-observer : (number : ℕ) → Makes o Command.observer (an_observer number) was now →
+      is_some (slice_get (part_of now o).record_queues number) ≡ true
+  new-observer number m =
+      let p = part_of was o in
+      subst (λ (g : Effect). is_some (slice_get (part_in g).record_queues (answer_in g)) ≡ true) m.0 (pushed p.record_queues [])

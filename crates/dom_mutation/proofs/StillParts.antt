@@ -215,9 +215,9 @@ keeps-steps p [] = keeps-same p
 keeps-steps p (s ∷ steps) = keeps-then p (part_step p s) (after (part_step p s) steps) (keeps-step p s) (keeps-steps (part_step p s) steps)
 
 -- So a node that is there before and afterwards has the kind that it had.
-pub kind-kept : (p q : Part) → IsPart p → KeepsPart p q → (x : NodeName) → has_node p.trees x ≡ true → has_node q.trees x ≡ true →
+pub kind-kept : {p q : Part} → IsPart p → KeepsPart p q → (x : NodeName) → has_node p.trees x ≡ true → has_node q.trees x ≡ true →
     kind_of q.trees x ≡ kind_of p.trees x
-kind-kept p q i h x was now =
+kind-kept {p} {q} i h x was now =
     let there = has_node-times p.trees x was in
     kind-read q.trees x (kind_of p.trees x) now
     (h.kinds x (kind_of p.trees x) (i.numbered x there)

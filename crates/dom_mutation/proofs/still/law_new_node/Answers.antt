@@ -1,9 +1,9 @@
-use Rattle.std.proofs.Common.{ap, ◌∙◌}
+use Rattle.std.proofs.Common.{◌∷◌, ap, ◌∙◌}
 use Rattle.dom_base.specs.declared.NodeName.{NodeName}
 use Rattle.dom_model.specs.Part.{next_name}
 use Rattle.dom_model.specs.World.{part_of}
 use Rattle.dom_model.proofs.PartLaws.{owner-part_of}
-use Rattle.dom_mutation.proofs.StillCalls.{new-named, new-kind}
+use Rattle.dom_mutation.proofs.StillCalls.{IsPlanned, new-named, new-kind}
 use Rattle.dom_mutation.proofs.still.law_new_node.Goals as goal
 
 pub returns-clause-node : goal.returns-clause-node
@@ -17,4 +17,6 @@ returns-clause-owner c = λ was now o more e.
     ap (λ (y : NodeName). y.owner) (new-named was now (next_name (part_of was.world o)) more e).1 ∙ owner-part_of was.world o
 
 pub returns-clause-kind : goal.returns-clause-kind
-returns-clause-kind c = new-kind
+returns-clause-kind c = λ was now o plan n more h g e w f.
+    let is : IsPlanned was now o plan (next_name (part_of was.world o) ∷ more) = record { before = h; after = g; names = e; world = w } in
+    new-kind n is f

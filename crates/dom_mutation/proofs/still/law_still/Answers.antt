@@ -2,13 +2,14 @@ use Rattle.dom_mutation.proofs.StillCalls.{still-plan, still-makes, still-notifi
 use Rattle.dom_mutation.proofs.still.law_still.Goals as goal
 
 pub returns-clause-plans : goal.returns-clause-plans
-returns-clause-plans c = still-plan
+returns-clause-plans c = λ was now o plan more h g e w.
+    still-plan was now o plan more record { before = h; after = g; names = e; world = w }
 
 pub returns-clause-tables : goal.returns-clause-tables
-returns-clause-tables c = still-makes
+returns-clause-tables c = λ was now o command lines v d e m. still-makes was now e o command lines v d m
 
 pub returns-clause-notified : goal.returns-clause-notified
-returns-clause-notified c = still-notified
+returns-clause-notified c = λ was now o e m. still-notified was now e o m
 
 pub returns-clause-parts : goal.returns-clause-parts
 returns-clause-parts c = still-parts

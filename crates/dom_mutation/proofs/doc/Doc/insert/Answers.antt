@@ -25,5 +25,6 @@ returns-clause-ready c =
     c.requires.parent_is_node (λ a. pre_inserting (name_in a node) (name_in a parent) (option_map (name_in a) c.args.child)) c.pre_insert.result
     (λ a. insertion_refusal (trees_in a parent) (name_in a parent) (name_in a node) (option_map (name_in a) c.args.child))
     c.pre_insert.ensures.refused c.pre_insert.ensures.world
-    (λ none l i r. ready-pre_inserting _ i r (name_in d node) (name_in d parent) (option_map (name_in d) c.args.child)
-    (stands-in d node (owner_in d parent) l c.requires.node_is_node c.requires.node_owner) (l.stand parent c.requires.parent_is_node) none)
+    (λ none l i r. ready-pre_inserting _ i r (name_in d node) (name_in d parent)
+    (stands-in d node (owner_in d parent) l c.requires.node_is_node c.requires.node_owner) (l.stand parent c.requires.parent_is_node)
+    (option_map (name_in d) c.args.child) none)

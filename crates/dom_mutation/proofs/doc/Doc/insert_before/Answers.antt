@@ -21,7 +21,7 @@ returns-clause-ready c h opened plain =
     (record { alone = c.laws.ensures.alone; parts = c.laws.ensures.parts; stand = c.laws.ensures.stand }) parent
     c.requires.parent_is_node (λ a. inserting observed (name_in a node) (name_in a parent) (option_map (name_in a) c.args.child)) c.insert.result
     (if-done c.insert.result (ap (λ (s : DocState). s.world)) c.insert.ensures)
-    (λ l i r. ready-inserting _ i r (name_in d node) (name_in d parent) (option_map (name_in d) c.args.child)
+    (λ l i r. ready-inserting _ i r (name_in d node) (name_in d parent)
     (stands-in d node (owner_in d parent) l c.requires.may_move.node c.requires.may_move.owner) (l.stand parent c.requires.parent_is_node)
-    c.requires.may_move.not_above opened
+    (option_map (name_in d) c.args.child) c.requires.may_move.not_above opened
     (subst (λ (o : Owner). is_shadow (kind_of (part_of d.world o).trees (name_in d node)) ≡ false) c.requires.may_move.owner plain)) h

@@ -14,5 +14,5 @@ returns-clause-ready c =
     λ h. if-done c.notify.result
     (λ w. subst AreReady (sym (subst (λ (a : DocState). c.notify.new.self.world ≡ with_part a.world (notified (part_of a.world c.args.owner)))
     c.self.view_is w))
-    (ready-written c.args.self.now.world (notified (part_of c.args.self.now.world c.args.owner)) c.args.owner
+    (ready-written c.args.self.now.world c.args.owner (notified (part_of c.args.self.now.world c.args.owner))
     (owner-part_of c.args.self.now.world c.args.owner) (notified-ready _ (h c.args.owner)) h)) c.notify.ensures.world
