@@ -45,14 +45,19 @@ module _ {K V : Type 0} (text_of : K → List ℕ) (items_of : V → List ℕ) (
   abbrev pub AreFirst : List (K × V) → List Attribute → Type 0
   AreFirst es bs = attributes_in text_of items_of es ≡ take (length es) bs
 
-  pub attributes-put : (es : List (K × V)) (bs : List Attribute) → HaveOwnNames bs → AreFirst es bs → (k : K) (v : V) →
-      slice_get bs (length es) ≡ Some (record { name = text_of k; value = items_of v }) → (new : List (K × V)) → new ≡ insert_entry eq es k v →
-      AreFirst new bs × (length bs - length new < length bs - length es)
-  attributes-put es bs h first k v there new put =
+  -- an attribute is the next to be copied
+  pub record IsNext (es : List (K × V)) (bs : List Attribute) (k : K) (v : V) : Type 0 where
+    pub own : HaveOwnNames bs
+    pub first : AreFirst es bs
+    pub next : slice_get bs (length es) ≡ Some (record { name = text_of k; value = items_of v })
+
+  pub attributes-put : (es : List (K × V)) (bs : List Attribute) (k : K) (v : V) → IsNext es bs k v → {new : List (K × V)} →
+      new ≡ insert_entry eq es k v → AreFirst new bs × (length bs - length new < length bs - length es)
+  attributes-put es bs k v is {new} put =
       let more : attributes_in text_of items_of new ≡ take (suc (length es)) bs =
       ap (attributes_in text_of items_of) put ∙ insert-attributes text_of items_of eq same k v es ∙ ap (attributes_with (text_of k) (items_of v))
-      first ∙ attributes-next bs h (length es) (record { name = text_of k; value = items_of v }) there in
-      let left = attributes-left bs (length es) (record { name = text_of k; value = items_of v }) there in
+      is.first ∙ attributes-next bs is.own (length es) (record { name = text_of k; value = items_of v }) is.next in
+      let left = attributes-left bs (length es) (record { name = text_of k; value = items_of v }) is.next in
       let size : length new ≡ suc (length es) =
       sym (length-map new (λ e. record { name = text_of e.0; value = items_of e.1 })) ∙ ap (λ (ds : List Attribute). length ds) more ∙
       length-take-le (suc (length es)) bs (omega arith) in

@@ -26,20 +26,20 @@ abbrev AreAsLong : Option (List ℕ) → List NodeName → Type 0
 AreAsLong None xs = xs ≡ []
 AreAsLong (Some path) xs = (length path ≡ length xs) × (0 < length xs)
 
-long-above : (k : ℕ) (y : NodeName) (o p : Option (List ℕ)) (xs ys : List NodeName) → AreAsLong o xs → AreAsLong p ys →
-    AreAsLong (option_or (option_map (λ path. k ∷ path) o) p) (on_top xs y ys)
-long-above k y None p xs ys e long = rw e long
-long-above k y (Some path) p [] ys e long = absurd (omega (arith, e.1))
-long-above k y (Some path) p (x ∷ xs) ys e long = let more = length-append xs (y ∷ []) in (omega (arith, more, e.0), omega (arith, more))
-
 long-place : (k : ℕ) (ts : Trees) (x : NodeName) → AreAsLong (place_from k ts x) (inclusive_ancestors ts x)
 long-place k none x = refl
 long-place k (tree n c r) x = elim (cases_Bool (name_eq n.name x)) [
   | inl e ↦ rw e (refl, omega arith)
   | inr e ↦
-      rw e (long-above k n.name (place_from 0 c x) (place_from (k + 1) r x) (inclusive_ancestors c x) (inclusive_ancestors r x)
+      rw e (above (place_from 0 c x) (place_from (k + 1) r x) (inclusive_ancestors c x) (inclusive_ancestors r x)
       (long-place 0 c x) (long-place (k + 1) r x))
 ]
+  where
+    above : (o p : Option (List ℕ)) (xs ys : List NodeName) → AreAsLong o xs → AreAsLong p ys →
+        AreAsLong (option_or (option_map (λ path. k ∷ path) o) p) (on_top xs n.name ys)
+    above None p xs ys e long = rw e long
+    above (Some path) p [] ys e long = absurd (omega (arith, e.1))
+    above (Some path) p (y ∷ xs) ys e long = let more = length-append xs (n.name ∷ []) in (omega (arith, more, e.0), omega (arith, more))
 
 pub depth-height : (f : NamedTrees) (k : ℕ) → depth_at f k ≡ height_at f k
 depth-height f k = by (place_from 0 f.trees (name_at f.names k)) (inclusive_ancestors f.trees (name_at f.names k))
@@ -114,26 +114,26 @@ module _ (f : NamedTrees) (once : StandOnce f) (only : StandAlone f) where
           let more = ap (length {A = NodeName}) (above-present f.trees p path.1).1 in
           absurd (omega (arith, long, more, e))
 
-  -- a node as deep as another one that is above x is not above x, where it is another one
-  pub level-apart : (k j x : ℕ) → x < length f.names → is_inclusive_ancestor f.trees (name_at f.names j) (name_at f.names x) ≡ true →
-      height_at f k ≡ height_at f j → (name_at f.names k ≡ name_at f.names j → ⊥)
-      → is_inclusive_ancestor f.trees (name_at f.names k) (name_at f.names x) ≡ false
-  level-apart k j x at_x above level other =
-      let path = inclusive_ancestors f.trees (name_at f.names x) in
-      false_from_ne_true (is_inclusive_ancestor f.trees (name_at f.names k) (name_at f.names x))
-      (λ t. other (level-same f.trees (Once-forest f once only) (name_at f.names x)
-      (Has-forest f once x at_x) (In-from (name_at f.names k) path t) (In-from (name_at f.names j) path above) level))
+  module _ (k x : ℕ) (at_x : x < length f.names) where
+    -- a node as deep as another one that is above x is not above x, where it is another one
+    pub level-apart : (j : ℕ) → is_inclusive_ancestor f.trees (name_at f.names j) (name_at f.names x) ≡ true →
+        height_at f k ≡ height_at f j → (name_at f.names k ≡ name_at f.names j → ⊥)
+        → is_inclusive_ancestor f.trees (name_at f.names k) (name_at f.names x) ≡ false
+    level-apart j above level other =
+        let path = inclusive_ancestors f.trees (name_at f.names x) in
+        false_from_ne_true (is_inclusive_ancestor f.trees (name_at f.names k) (name_at f.names x))
+        (λ t. other (level-same f.trees (Once-forest f once only) (name_at f.names x)
+        (Has-forest f once x at_x) (In-from (name_at f.names k) path t) (In-from (name_at f.names j) path above) level))
 
-  -- what is above x as deep as x, or deeper than y, is not above y, where x is not
-  pub first-apart : (k x y : ℕ) → x < length f.names → y < length f.names →
-      is_inclusive_ancestor f.trees (name_at f.names k) (name_at f.names x) ≡ true →
-      is_inclusive_ancestor f.trees (name_at f.names x) (name_at f.names y) ≡ false
-      → (height_at f k ≡ height_at f x) ⊎ (height_at f y < height_at f k) → is_inclusive_ancestor f.trees (name_at f.names k) (name_at f.names y) ≡ false
-  first-apart k x y at_x at_y up apart (inl level) =
-      let same = level-above f.trees (Once-forest f once only) (name_at f.names k) (name_at f.names x) (Has-forest f once x at_x)
-      (In-from (name_at f.names k) (inclusive_ancestors f.trees (name_at f.names x)) up) level in
-      ap (λ z. is_inclusive_ancestor f.trees z (name_at f.names y)) same ∙ apart
-  first-apart k x y at_x at_y up apart (inr deep) =
-      false_from_ne_true (is_inclusive_ancestor f.trees (name_at f.names k) (name_at f.names y))
-      (λ t. let less = above-less f.trees (Once-forest f once only) (name_at f.names k) (name_at f.names y) (Has-forest f once y at_y)
-      (In-from (name_at f.names k) (inclusive_ancestors f.trees (name_at f.names y)) t) in omega (arith, less, deep))
+    -- what is above x as deep as x, or deeper than y, is not above y, where x is not
+    pub first-apart : (y : ℕ) → y < length f.names → is_inclusive_ancestor f.trees (name_at f.names k) (name_at f.names x) ≡ true →
+        is_inclusive_ancestor f.trees (name_at f.names x) (name_at f.names y) ≡ false
+        → (height_at f k ≡ height_at f x) ⊎ (height_at f y < height_at f k) → is_inclusive_ancestor f.trees (name_at f.names k) (name_at f.names y) ≡ false
+    first-apart y at_y up apart (inl level) =
+        let same = level-above f.trees (Once-forest f once only) (name_at f.names k) (name_at f.names x) (Has-forest f once x at_x)
+        (In-from (name_at f.names k) (inclusive_ancestors f.trees (name_at f.names x)) up) level in
+        ap (λ z. is_inclusive_ancestor f.trees z (name_at f.names y)) same ∙ apart
+    first-apart y at_y up apart (inr deep) =
+        false_from_ne_true (is_inclusive_ancestor f.trees (name_at f.names k) (name_at f.names y))
+        (λ t. let less = above-less f.trees (Once-forest f once only) (name_at f.names k) (name_at f.names y) (Has-forest f once y at_y)
+        (In-from (name_at f.names k) (inclusive_ancestors f.trees (name_at f.names y)) t) in omega (arith, less, deep))

@@ -100,6 +100,18 @@ pub record Finds (f : NamedTrees) (r : Range NodeName) (top : ℕ) (o : Option �
   pub left : map (name_at f.names) found ++ filter (is_outermost f.trees r) (left_at f top o) ≡ outermost_contained f.trees r
   pub path : LeadsTo f.names (filter (λ y. is_inclusive_ancestor f.trees y r.end.node) (left_at f top o)) partial others
 
+-- what a search begins with: the first node behind the range's start, and the keys of the nodes above its end that are not above its
+-- start, of which the last was popped
+pub record Begins (f : NamedTrees) (r : Range NodeName) (top : ℕ) (o : Option ℕ) (partial : Option ℕ) (others : List ℕ) : Type 0 where
+  pub ordered : is_before f.trees r.end r.start ≡ false
+  pub first : option_map (name_at f.names) o ≡ first_of (nodes_after f.trees (name_at f.names top) r.start)
+  pub stands : ForSome o (StandsIn f top)
+  pub keys : List ℕ
+  pub path : map (name_at f.names) keys ≡ filter (λ a. not (is_inclusive_ancestor f.trees a r.start.node)) (inclusive_ancestors f.trees r.end.node)
+  pub nodes : AllByRecursion (λ k. k < length f.names) keys
+  pub popped : keys ≡ others ++ option_to_list partial
+  pub none : partial ≡ None → length keys ≡ 0
+
 module _ (f : NamedTrees) (once : StandOnce f) (only : StandAlone f) (distinct : TellApart f.names) (points : Points) (bounds : AreBounded f points)
     (are_leaves : AreLeaves f points) (top : ℕ) (root_is : name_at f.names top ≡ root_of f.trees (name_at f.names points.start.0)) where
   abbrev r : Range NodeName
@@ -115,28 +127,26 @@ module _ (f : NamedTrees) (once : StandOnce f) (only : StandAlone f) (distinct :
   to_end y = is_inclusive_ancestor f.trees y (range_at_points f.names points).end.node
 
   -- it begins
-  pub finds-first : is_before f.trees r.end r.start ≡ false → (o : Option ℕ) →
-      option_map (name_at f.names) o ≡ first_of (nodes_after f.trees (name_at f.names top) r.start) → ForSome o (StandsIn f top)
-      → (old new : List ℕ) (partial : Option ℕ) →
-      map (name_at f.names) old ≡ filter (λ a. not (is_inclusive_ancestor f.trees a r.start.node)) (inclusive_ancestors f.trees r.end.node) →
-      AllByRecursion (λ k. k < length f.names) old
-      → old ≡ new ++ option_to_list partial → (partial ≡ None → length old ≡ 0) → Finds f r top o [] partial new
-  finds-first ordered o is stands old new partial path nodes popped none =
+  pub finds-first : (o partial : Option ℕ) (others : List ℕ) → Begins f r top o partial others → Finds f r top o [] partial others
+  finds-first o partial others begin =
+      let old = begin.keys in
+      let is = begin.first in
       let from = from-start f once only points bounds top root_is o is in
-      let keys = pop-keys old new partial popped none in
+      let keys = pop-keys old others partial begin.popped begin.none in
       record {
-        stands = stands;
-        leads = leads-from f once only points bounds top root_is ordered o is;
+        stands = begin.stands;
+        leads = leads-from f once only points bounds top root_is begin.ordered o is;
         clear = λ k there. clear-start f.trees r bounded leaves (name_at f.names k)
             (ap (λ t. first_of (nodes_after f.trees t r.start)) (sym root_is) ∙ (sym is ∙ ap (option_map (name_at f.names)) there));
         nodes = tt;
         left = sym (all-outermost f.trees r bounded leaves ∙ ap (filter (is_outermost f.trees r)) from);
         path = record {
           keys = reverse old;
-          named = ap (filter to_end) (sym from) ∙ (path-start f.trees r bounded ordered ∙ (ap reverse (sym path) ∙ sym (map-turned (name_at f.names) old)));
+          named = ap (filter to_end) (sym from) ∙ (path-start f.trees r bounded begin.ordered ∙
+              (ap reverse (sym begin.path) ∙ sym (map-turned (name_at f.names) old)));
           begins = keys.0;
           rest = keys.1;
-          nodes = all-reverse (λ k. k < length f.names) old nodes;
+          nodes = all-reverse (λ k. k < length f.names) old begin.nodes;
         };
       }
 

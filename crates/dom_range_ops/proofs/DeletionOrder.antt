@@ -53,7 +53,7 @@ same-or-under ts top x y w i = elim (subst (In y) (here ts top x w) i) [
       let front = items_before name_eq s.0 kids in
       let back = items_after name_eq s.0 kids in
       let whole = split_at s.0 kids s.1 in
-      let u = under-kid ts w.once x s.0 y (stands_in ts top x w) front back whole s.2 in
+      let u = under-kid ts w.once x s.0 y front {back = back} record { there = stands_in ts top x w; kids = whole } s.2 in
       let long = ap (length {A = NodeName}) whole ∙ length-append front (s.0 ∷ back) in
       inr record { child = length front; rest = u.0; place = u.1; few = omega (arith, long) }
 ]

@@ -258,18 +258,18 @@ deletion-done h =
     open h use {number as k, before as d, deleted as d1, first_node as first, range as r, new_start as a, new_end as b, spot, is_own as own, alone}
     open h use {range_is as there, not_collapsed as wide, spot_is, deleted_is as e1, start_is as a_is, end_is as b_is, collapsed_is as e2}
 
--- the range is there still
-pub deletion-there : (o : Owner) (k : ℕ) (d d1 : DocState) (first : ℕ) (r : Range NodeName) → owner_in d first ≡ o →
-    IsAlone d.world (owner_in d first) → is_some (range_at (part_of d.world o) k) ≡ true
-    → d1 ≡ planned (owner_in d first) (deleting_contents (trees_in d first) r) d → is_some (range_at (part_of d1.world o) k) ≡ true
-deletion-there o k d d1 first r own alone known e1 =
-    ap (λ (e : DocState). is_some (range_at (part_of e.world o) k)) e1
-    ∙ (ap (λ n. is_some (range_at (part_of (made (owner_in d first) (deleting_contents (trees_in d first) r) d.world) n) k)) (sym own)
-    ∙ there-contents (trees_in d first) r (owner_in d first) k d.world alone (ap (λ n. is_some (range_at (part_of d.world n) k)) own ∙ known))
+-- After the deletion of a range's contents below an owner's node:
+module _ (o : Owner) (d d1 : DocState) (first : ℕ) (r : Range NodeName) (own : owner_in d first ≡ o)
+    (e1 : d1 ≡ planned (owner_in d first) (deleting_contents (trees_in d first) r) d) where
+  -- the range is there still
+  pub deletion-there : (k : ℕ) → IsAlone d.world (owner_in d first) → is_some (range_at (part_of d.world o) k) ≡ true →
+      is_some (range_at (part_of d1.world o) k) ≡ true
+  deletion-there k alone known =
+      ap (λ (e : DocState). is_some (range_at (part_of e.world o) k)) e1
+      ∙ (ap (λ n. is_some (range_at (part_of (made (owner_in d first) (deleting_contents (trees_in d first) r) d.world) n) k)) (sym own)
+      ∙ there-contents (trees_in d first) r (owner_in d first) k d.world alone (ap (λ n. is_some (range_at (part_of d.world n) k)) own ∙ known))
 
--- and the new place is at a node of the owner
-pub deletion-owner : (o : Owner) (d d1 : DocState) (first : ℕ) (r : Range NodeName) (a spot : ℕ × ℕ) → owner_in d first ≡ o →
-    owner_in d spot.0 ≡ owner_in d first
-    → d1 ≡ planned (owner_in d first) (deleting_contents (trees_in d first) r) d → a ≡ spot → owner_in d1 a.0 ≡ o
-deletion-owner o d d1 first r a spot own there e1 a_is =
-    ap (λ (x : ℕ × ℕ). owner_in d1 x.0) a_is ∙ (ap (λ (e : DocState). owner_in e spot.0) e1 ∙ (there ∙ own))
+  -- and the new place is at a node of the owner
+  pub deletion-owner : (a spot : ℕ × ℕ) → owner_in d spot.0 ≡ owner_in d first → a ≡ spot → owner_in d1 a.0 ≡ o
+  deletion-owner a spot there a_is =
+      ap (λ (x : ℕ × ℕ). owner_in d1 x.0) a_is ∙ (ap (λ (e : DocState). owner_in e spot.0) e1 ∙ (there ∙ own))

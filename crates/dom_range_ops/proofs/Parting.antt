@@ -33,6 +33,11 @@ pub record Under (ts : Trees) (x y : NodeName) : Type 0 where
   pub rest : List ℕ
   pub place : place_of ts y ≡ place_of ts x ++ child ∷ rest
 
+-- s is a child of p, between these
+pub record IsKidOf (ts : Trees) (p s : NodeName) (front back : List NodeName) : Type 0 where
+  pub there : Has ts p
+  pub kids : children_of ts p ≡ front ++ s ∷ back
+
 -- a node of some trees is in one of them
 pub joined-in : (ts : Trees) (xs : List NodeName) (y : NodeName) → In y (joined ts xs) → (s : NodeName) × In s xs × In y (inclusive_descendants ts s)
 joined-in ts [] y i = absurd i
@@ -102,9 +107,11 @@ module _ (ts : Trees) (once : Once ts) where
   ]
 
   -- a node of a child's tree stands under its parent
-  pub under-kid : (p s y : NodeName) → Has ts p → (front back : List NodeName) → children_of ts p ≡ front ++ s ∷ back →
+  pub under-kid : (p s y : NodeName) (front : List NodeName) {back : List NodeName} → IsKidOf ts p s front back →
       In y (inclusive_descendants ts s) → (rest : List ℕ) × (place_of ts y ≡ place_of ts p ++ length front ∷ rest)
-  under-kid p s y h front back e i =
+  under-kid p s y front {back} is i =
+      let h = is.there in
+      let e = is.kids in
       let at = (parent-of_child ts p s once h (subst (In s) (sym e) (In-right s front (s ∷ back) (inl refl)))).1 in
       let r = place-in (length (inclusive_ancestors ts y)) s y (record { once = once; top_stands = at; stands = Has-names (subtree ts s) y i }) (omega arith) in
       (r.0, r.1 ∙ (ap (λ path. path ++ r.0) (kid-place p s h front back e) ∙ append_assoc (place_of ts p) (length front ∷ []) r.0))
@@ -126,7 +133,7 @@ module _ (ts : Trees) (once : Once ts) where
               let kids : children_of ts h.parent ≡ front ++ s.0 ∷ items_after name_eq s.0 h.back =
               h.kids ∙ (ap (λ xs. h.front ++ x ∷ xs) (split_at s.0 h.back s.1) ∙
               sym (append_assoc h.front (x ∷ first) (s.0 ∷ items_after name_eq s.0 h.back))) in
-              let r = under-kid h.parent s.0 y at front (items_after name_eq s.0 h.back) kids s.2 in
+              let r = under-kid h.parent s.0 y front {back = items_after name_eq s.0 h.back} record { there = at; kids = kids } s.2 in
               let longer = length-append h.front (x ∷ first) in
               record {
                 common = place_of ts h.parent;
@@ -192,7 +199,7 @@ module _ (ts : Trees) (once : Once ts) where
                 let later = items_after name_eq s.0 h.front in
                 let kids : children_of ts h.parent ≡ first ++ s.0 ∷ (later ++ x ∷ h.back) =
                 h.kids ∙ (ap (λ xs. xs ++ x ∷ h.back) (split_at s.0 h.front s.1) ∙ append_assoc first (s.0 ∷ later) (x ∷ h.back)) in
-                let r = under-kid h.parent s.0 y at first (later ++ x ∷ h.back) kids s.2 in
+                let r = under-kid h.parent s.0 y first {back = later ++ x ∷ h.back} record { there = at; kids = kids } s.2 in
                 let longer = ap (length {A = NodeName}) (split_at s.0 h.front s.1) ∙ length-append first (s.0 ∷ later) in
                 inl record {
                   common = place_of ts h.parent;

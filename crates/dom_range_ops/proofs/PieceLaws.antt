@@ -11,7 +11,7 @@ use Rattle.dom_ranges.specs.declared.table.Points.{Points}
 use Rattle.dom_traversal.proofs.Chains.{above-along}
 use Rattle.dom_traversal.proofs.Counts.{StandOnce, StandAlone, Once-forest, Has-forest}
 use Rattle.dom_traversal.proofs.Lists.{In, In-left, In-right, In-not, Single, Single-right, is_in-from, is_in-not}
-use Rattle.dom_traversal.proofs.Shapes.{Has, Once, Has-above, above-parent}
+use Rattle.dom_traversal.proofs.Shapes.{Has, Has-above, above-parent}
 use Rattle.dom_traversal.proofs.Children.{children-single}
 use Rattle.dom_tree.specs.Forest.{NamedTrees, name_at}
 use Rattle.dom_range_ops.specs.Pieces.{items_of, whole_item, AreSpanned, ArePaths, side_items, from_sibling, up_to, first_behind, first_from}
@@ -27,17 +27,6 @@ find-there : (p : NodeName → Bool) (xs : List NodeName) (x : NodeName) (rest :
     p x ≡ true → find p (xs ++ x ∷ rest) ≡ Some x
 find-there p [] x rest off e = rw e refl
 find-there p (y ∷ xs) x rest off e = rw (off y (inl refl)) (find-there p xs x rest (λ z i. off z (inr i)) e)
-
--- the last node of a path is above all of it
-last-above : (ts : Trees) (once : Once ts) (rest : List NodeName) (x : NodeName) (path : List NodeName) → Has ts x →
-    inclusive_ancestors ts x ≡ (x ∷ path) ++ rest → (y : NodeName) → last_of (x ∷ path) ≡ Some y → (a : NodeName) → In a (x ∷ path)
-    → In y (inclusive_ancestors ts a)
-last-above ts once rest x path h e y last a (inl same) =
-    subst (λ z. In y (inclusive_ancestors ts z)) (sym same) (subst (In y) (sym e) (In-left y (x ∷ path) rest (last-member x y path last)))
-last-above ts once rest x [] h e y last a (inr i) = absurd i
-last-above ts once rest x (p ∷ path) h e y last a (inr i) =
-    let up = above-parent ts x p once h (ap (λ xs. first_of (drop 1 xs)) e) in
-    last-above ts once rest p path up.1 (tail-same x (inclusive_ancestors ts p) ((p ∷ path) ++ rest) (sym up.0 ∙ e)) y last a i
 
 module _ (ts : Trees) (r : Range NodeName) (is : IsRange ts r) (c : NodeName) (rest start_path end_path : List NodeName)
     (parts : PartAt ts r c rest start_path end_path) where
@@ -59,9 +48,19 @@ module _ (ts : Trees) (r : Range NodeName) (is : IsRange ts r) (c : NodeName) (r
   path-off (inside y more whole last among below) a i =
       is_in-not a (inclusive_ancestors ts r.end.node)
       (λ j.
-      let above = last-above ts is.once (c ∷ rest) r.start.node more is.start (parts.start ∙ ap (λ xs. xs ++ c ∷ rest) whole) y
-      (ap last_of (sym whole) ∙ last) a (subst (In a) whole i) in
+      let above = last-above r.start.node more is.start (parts.start ∙ ap (λ xs. xs ++ c ∷ rest) whole)
+      (ap last_of (sym whole) ∙ last) (subst (In a) whole i) in
       In-not y (inclusive_ancestors ts r.end.node) (start-apart y among last) (above-along ts y a r.end.node is.once is.end above j))
+    where
+      -- the last node of a path is above all of it
+      last-above : (x : NodeName) (path : List NodeName) → Has ts x → inclusive_ancestors ts x ≡ (x ∷ path) ++ (c ∷ rest) →
+          last_of (x ∷ path) ≡ Some y → In a (x ∷ path) → In y (inclusive_ancestors ts a)
+      last-above x path h e end (inl same) =
+          subst (λ z. In y (inclusive_ancestors ts z)) (sym same) (subst (In y) (sym e) (In-left y (x ∷ path) (c ∷ rest) (last-member x y path end)))
+      last-above x [] h e end (inr k) = absurd k
+      last-above x (p ∷ path) h e end (inr k) =
+          let up = above-parent ts x p is.once h (ap (λ xs. first_of (drop 1 xs)) e) in
+          last-above p path up.1 (tail-same x (inclusive_ancestors ts p) ((p ∷ path) ++ (c ∷ rest)) (sym up.0 ∙ e)) end k
 
   common-is : common_ancestor ts r ≡ c
   common-is =

@@ -41,7 +41,7 @@ module _ (ts : Trees) (once : Once ts) where
         let first = items_before name_eq s.0 (children_of ts z) in
         let later = items_after name_eq s.0 (children_of ts z) in
         let parts = split_at s.0 (children_of ts z) s.1 in
-        let r = under-kid ts once z s.0 y h first later parts s.2 in
+        let r = under-kid ts once z s.0 y first {back = later} record { there = h; kids = parts } s.2 in
         let longer = ap (length {A = NodeName}) parts ∙ length-append first (s.0 ∷ later) in
         inr record { child = length first; rest = r.0; place = r.1; fits = omega (arith, longer) }
   ]
@@ -150,7 +150,8 @@ module _ (ts : Trees) (once : Once ts) where
     pub in-front : (k z : NodeName) → In k l.front → In z (inclusive_descendants ts k) → IsAhead b z
     in-front k z i j =
         let index = length (items_before name_eq k l.front) in
-        let r = under-kid ts once p k z h (items_before name_eq k l.front) (items_after name_eq k l.front ++ (l.middle ++ l.back)) (front-kids k i) j in
+        let r = under-kid ts once p k z (items_before name_eq k l.front)
+        {back = items_after name_eq k l.front ++ (l.middle ++ l.back)} record { there = h; kids = front-kids k i } j in
         let low = front-index k i in
         elim l.shape [
           | inl s ↦
@@ -162,7 +163,7 @@ module _ (ts : Trees) (once : Once ts) where
               }
           | inr s ↦
               let kids = l.kids ∙ ap (λ xs. l.front ++ (xs ++ l.back)) s.alone in
-              let q = under-kid ts once p s.child b.node h l.front l.back kids s.inside in
+              let q = under-kid ts once p s.child b.node l.front {back = l.back} record { there = h; kids = kids } s.inside in
               record {
                 before = λ n. before-beside ts z b.node n b.offset (place_of ts p) index (length l.front) r.0 q.0 r.1 q.1
                     (λ e. omega (arith, low, e)) ∙ lt-ltb index (length l.front) low;
@@ -175,7 +176,7 @@ module _ (ts : Trees) (once : Once ts) where
     pub in-back : (k z : NodeName) → In k l.back → In z (inclusive_descendants ts k) → IsBehind b z
     in-back k z i j =
         let index = length (until k) in
-        let r = under-kid ts once p k z h (until k) (items_after name_eq k l.back) (back-kids k i) j in
+        let r = under-kid ts once p k z (until k) {back = items_after name_eq k l.back} record { there = h; kids = back-kids k i } j in
         let long = length-append l.front (l.middle ++ items_before name_eq k l.back) in
         let more = length-append l.middle (items_before name_eq k l.back) in
         elim l.shape [
@@ -189,7 +190,7 @@ module _ (ts : Trees) (once : Once ts) where
               }
           | inr s ↦
               let kids = l.kids ∙ ap (λ xs. l.front ++ (xs ++ l.back)) s.alone in
-              let q = under-kid ts once p s.child b.node h l.front l.back kids s.inside in
+              let q = under-kid ts once p s.child b.node l.front {back = l.back} record { there = h; kids = kids } s.inside in
               let one = ap (length {A = NodeName}) s.alone in
               record {
                 after = λ n.

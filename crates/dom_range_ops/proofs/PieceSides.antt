@@ -169,37 +169,37 @@ module _ (ts : Trees) (once : Once ts) (b : Boundary NodeName) (behind : Bool) w
         ∙ (append_assoc u (v ++ w) (end_item ∷ c) ∙ ap (λ xs. u ++ xs) (append_assoc v w (end_item ∷ c))))
         ∙ sym (append_assoc a (clone_item p ∷ u) (v ++ (w ++ end_item ∷ c)))
 
-    -- what is taken of the tree of the path's last node, by what is taken of its first
-    path-up : (x : NodeName) (path rest : List NodeName) → Has ts x → inclusive_ancestors ts x ≡ (x ∷ path) ++ rest →
-        last_of (x ∷ path) ≡ Some top → In b.node (inclusive_descendants ts x)
-        → side_of top ≡ heads ts (not behind) (x ∷ path) ++ (side_of x ++ tails ts behind (x ∷ path))
-    path-up x [] rest h above last inside = ap side_of (sym (same_Some x top last)) ∙ sym (append-nil (side_of x))
-    path-up x (p ∷ path) rest h above last inside =
-        let parent = ap (λ xs. first_of (drop 1 xs)) above in
-        let up = above-parent ts x p once h parent in
-        let higher : inclusive_ancestors ts p ≡ (p ∷ path) ++ rest = tail-same x (inclusive_ancestors ts p) ((p ∷ path) ++ rest) (sym up.0 ∙ above) in
-        let among = (child-of_parent ts x p once h parent).1 in
-        let below = In-names (subtree ts p) b.node (below-point p x up.1 h (subst (In p) (sym up.0) (inr (subst (In p) (sym higher) (inl refl)))) inside) in
-        let w = in-tree p up.1 (subst (In top) (sym higher) (In-left top (p ∷ path) rest (last-member p top path last))) in
-        path-up p path rest up.1 higher last below
-        ∙ (ap (λ xs. heads ts (not behind) (p ∷ path) ++ (xs ++ tails ts behind (p ∷ path))) (path-items p x w among inside below)
-        ∙ (regroup (heads ts (not behind) (p ∷ path)) (wholes_if (not behind) (items_before name_eq x (children_of ts p))) (side_of x)
-        (wholes_if behind (items_after name_eq x (children_of ts p))) (tails ts behind (p ∷ path)) p
-        ∙ ap (λ xs. heads ts (not behind) (x ∷ p ∷ path) ++
-        (side_of x ++ (wholes_if behind (items_after name_eq x xs) ++ end_item ∷ tails ts behind (p ∷ path))))
-        (sym (ap (λ o. option_map_or (children_of ts) o (x ∷ [])) parent))))
-      where
-        below-point : (q z : NodeName) → Has ts q → Has ts z → In q (inclusive_ancestors ts z) → In b.node (inclusive_descendants ts z) →
-            Has (subtree ts q) b.node
-        below-point q z at_q at_z i j =
-            let stands = Has-names (subtree ts z) b.node j in
-            let h = Has-subtree ts z b.node once stands in
-            below-from_above ts q b.node once h (above-along ts q z b.node once h i (above-from_below ts z b.node once at_z stands))
-
     -- so all that is taken of it
     pub side-is : (path rest : List NodeName) → inclusive_ancestors ts b.node ≡ (b.node ∷ path) ++ rest → last_of (b.node ∷ path) ≡ Some top →
         side_of top ≡ side_items ts b behind (b.node ∷ path)
     side-is path rest above last =
         let w = in-tree b.node point (subst (In top) (sym above) (In-left top (b.node ∷ path) rest (last-member b.node top path last))) in
-        path-up b.node path rest point above last (self-in ts once b.node point) ∙
+        path-up b.node path point above last (self-in ts once b.node point) ∙
         ap (λ xs. heads ts (not behind) (b.node ∷ path) ++ (xs ++ tails ts behind (b.node ∷ path))) (end-of w)
+      where
+        -- what is taken of the tree of the path's last node, by what is taken of its first
+        path-up : (x : NodeName) (path : List NodeName) → Has ts x → inclusive_ancestors ts x ≡ (x ∷ path) ++ rest →
+            last_of (x ∷ path) ≡ Some top → In b.node (inclusive_descendants ts x)
+            → side_of top ≡ heads ts (not behind) (x ∷ path) ++ (side_of x ++ tails ts behind (x ∷ path))
+        path-up x [] h above last inside = ap side_of (sym (same_Some x top last)) ∙ sym (append-nil (side_of x))
+        path-up x (p ∷ path) h above last inside =
+            let parent = ap (λ xs. first_of (drop 1 xs)) above in
+            let up = above-parent ts x p once h parent in
+            let higher : inclusive_ancestors ts p ≡ (p ∷ path) ++ rest = tail-same x (inclusive_ancestors ts p) ((p ∷ path) ++ rest) (sym up.0 ∙ above) in
+            let among = (child-of_parent ts x p once h parent).1 in
+            let below = In-names (subtree ts p) b.node (below-point p x up.1 h (subst (In p) (sym up.0) (inr (subst (In p) (sym higher) (inl refl)))) inside) in
+            let w = in-tree p up.1 (subst (In top) (sym higher) (In-left top (p ∷ path) rest (last-member p top path last))) in
+            path-up p path up.1 higher last below
+            ∙ (ap (λ xs. heads ts (not behind) (p ∷ path) ++ (xs ++ tails ts behind (p ∷ path))) (path-items p x w among inside below)
+            ∙ (regroup (heads ts (not behind) (p ∷ path)) (wholes_if (not behind) (items_before name_eq x (children_of ts p))) (side_of x)
+            (wholes_if behind (items_after name_eq x (children_of ts p))) (tails ts behind (p ∷ path)) p
+            ∙ ap (λ xs. heads ts (not behind) (x ∷ p ∷ path) ++
+            (side_of x ++ (wholes_if behind (items_after name_eq x xs) ++ end_item ∷ tails ts behind (p ∷ path))))
+            (sym (ap (λ o. option_map_or (children_of ts) o (x ∷ [])) parent))))
+          where
+            below-point : (q z : NodeName) → Has ts q → Has ts z → In q (inclusive_ancestors ts z) → In b.node (inclusive_descendants ts z) →
+                Has (subtree ts q) b.node
+            below-point q z at_q at_z i j =
+                let stands = Has-names (subtree ts z) b.node j in
+                let h = Has-subtree ts z b.node once stands in
+                below-from_above ts q b.node once h (above-along ts q z b.node once h i (above-from_below ts z b.node once at_z stands))

@@ -58,7 +58,7 @@ module _ (ts : Trees) (top : NodeName) (b : Boundary NodeName) (w : IsWithin ts 
           let whole : kids ≡ first ++ s.0 ∷ (later ++ drop b.offset kids) =
           sym (take-append-drop b.offset kids) ∙
           (ap (λ xs. xs ++ drop b.offset kids) parts ∙ append_assoc first (s.0 ∷ later) (drop b.offset kids)) in
-          let r = under-kid ts w.once b.node s.0 y (stands_in ts top b.node w) first (later ++ drop b.offset kids) whole s.2 in
+          let r = under-kid ts w.once b.node s.0 y first {back = later ++ drop b.offset kids} record { there = stands_in ts top b.node w; kids = whole } s.2 in
           let longer = ap (length {A = NodeName}) parts ∙ length-append first (s.0 ∷ later) in
           let few = length-take b.offset kids in
           before-down ts b.node y b.offset 0 (length first) r.0 r.1 ∙ lt-leb b.offset (length first) (omega (arith, longer, few))
@@ -78,7 +78,7 @@ module _ (ts : Trees) (top : NodeName) (b : Boundary NodeName) (w : IsWithin ts 
         let whole : kids ≡ front ++ s.0 ∷ later =
         sym (take-append-drop b.offset kids) ∙
         (ap (λ xs. take b.offset kids ++ xs) parts ∙ sym (append_assoc (take b.offset kids) first (s.0 ∷ later))) in
-        let r = under-kid ts w.once b.node s.0 y (stands_in ts top b.node w) front later whole s.2 in
+        let r = under-kid ts w.once b.node s.0 y front {back = later} record { there = stands_in ts top b.node w; kids = whole } s.2 in
         let longer = ap (length {A = NodeName}) parts ∙ length-append first (s.0 ∷ later) in
         let left = length-drop b.offset kids in
         let few = length-take b.offset kids in

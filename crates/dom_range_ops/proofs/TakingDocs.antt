@@ -96,13 +96,18 @@ module _ (d e : DocState) (top : ℕ) (n : Node) (here : top < length d.names) (
       ∙ ap (made o put) world
       ∙ sym (made_then o (doing (make n)) put d.world alone (λ q own. (tt, tt)))
 
+-- the forest of a state, of which an owner's part has the owner's trees
+pub record IsForestOf (d : DocState) (f : NamedTrees) (o : Owner) : Type 0 where
+  pub owned : AreOwned f.trees
+  pub names : f.names ≡ d.names
+  pub trees : trees_of_owner o f.trees ≡ (part_of d.world o).trees
+
 -- what the forest has of a node of an owner is what its part has of it
-pub node-read : (d : DocState) (f : NamedTrees) (o : Owner) (k : ℕ) → AreOwned f.trees → f.names ≡ d.names →
-    trees_of_owner o f.trees ≡ (part_of d.world o).trees → owner_in d k ≡ o →
+pub node-read : (d : DocState) (f : NamedTrees) (o : Owner) (k : ℕ) → IsForestOf d f o → owner_in d k ≡ o →
     node_in f.trees (name_at f.names k) ≡ node_in (part_of d.world o).trees (name_in d k)
-node-read d f o k owned names own is =
-    ap (λ (ns : List NodeName). node_in f.trees (name_at ns k)) names ∙ (read_own f.trees owned o (name_in d k) is).node ∙
-    ap (λ us. node_in us (name_in d k)) own
+node-read d f o k forest is =
+    ap (λ (ns : List NodeName). node_in f.trees (name_at ns k)) forest.names ∙ (read_own f.trees forest.owned o (name_in d k) is).node ∙
+    ap (λ us. node_in us (name_in d k)) forest.trees
 
 -- a new node is made below another one, and code units go from a node
 pub record UnitsTaken : Type 0 where

@@ -35,13 +35,13 @@ use Rattle.dom_range_ops.specs.declared.pieces.Piece.{Piece}
 use Rattle.dom_tree.specs.Forest.{name_at}
 
 -- the steps for items that may be taken are in their owner's part
-pub plans-items : (o : Owner) (into : NodeName) (p : Part) → IsPart p → p.owner ≡ o → (items : List Item) →
+pub plans-items : {o : Owner} (into : NodeName) {p : Part} → IsPart p → p.owner ≡ o → (items : List Item) →
     AllByRecursion (MayBeTaken into p.trees) items → (clones : List NodeName) → PlansOwn o (taking_items into clones items)
-plans-items o into p i is [] h clones = λ q own. tt
-plans-items o into p i is (item ∷ items) h clones = λ q own.
+plans-items into i is [] h clones = λ q own. tt
+plans-items {o} into i is (item ∷ items) h clones = λ q own.
     plans_then o (taking_item (top_of into clones) item) (taking_items into (clones_after (next_name q) item clones) items)
-    (plans-item o into (top_of into clones) p item i is h.0)
-    (plans-items o into p i is items h.1 (clones_after (next_name q) item clones)) q own
+    (plans-item into (top_of into clones) item i is h.0)
+    (plans-items into i is items h.1 (clones_after (next_name q) item clones)) q own
 
 -- A fragment was made for an owner.
 module _ (d e : DocState) (o : Owner) (into : ℕ) (n : Node) (alone : IsAlone d.world o)
@@ -89,7 +89,7 @@ module _ (d e : DocState) (o : Owner) (into : ℕ) (n : Node) (alone : IsAlone d
     items = map (item_in d.names) pieces
 
     own-items : PlansOwn o (taking_items (next_name (part_of d.world o)) [] (map (item_in d.names) pieces))
-    own-items = plans-items o (next_name p) (part_of e.world o) part (owner-part_of e.world o) items
+    own-items = plans-items (next_name p) part (owner-part_of e.world o) items
         (subst (λ (q : Part). AllByRecursion (MayBeTaken (next_name p) q.trees) items) (sym fragment-part) may.taken) []
 
     pub taken-world : f.world ≡ made o (taking_items (next_name (part_of d.world o)) [] (map (item_in d.names) pieces)) e.world

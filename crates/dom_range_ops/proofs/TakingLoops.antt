@@ -29,14 +29,14 @@ use Rattle.dom_range_ops.specs.declared.pieces.Piece.{Piece}
 use Rattle.dom_range_ops.specs.declared.pieces.Piece.TheVariants.{Whole, Cut, Clone, End}
 
 -- the steps for an item that may be taken are in its owner's part
-pub plans-item : (o : Owner) (into top : NodeName) (p : Part) (item : Item) → IsPart p → p.owner ≡ o → MayBeTaken into p.trees item →
+pub plans-item : {o : Owner} (into top : NodeName) {p : Part} (item : Item) → IsPart p → p.owner ≡ o → MayBeTaken into p.trees item →
     PlansOwn o (taking_item top item)
-plans-item o into top p (whole_item x) i is h = plans_inserting o observed x top None (i.owned x (has_node-times p.trees x h.there) ∙ is)
-plans-item o into top p (cut_item x from to) i is h = λ q own.
+plans-item {o} into top {p} (whole_item x) i is h = plans_inserting o observed x top None (i.owned x (has_node-times p.trees x h.there) ∙ is)
+plans-item {o} into top (cut_item x from to) i is h = λ q own.
     let n = clone_part (next_name q) from to (node_in q.trees x) in
     plans_then o (making_below top n) (replacing_data x from (to - from) []) (plans-below o top n own.owner) (plans_data o x from (to - from) []) q own
-plans-item o into top p (clone_item x) i is h = λ q own. plans-below o top (with_name (next_name q) (node_in q.trees x)) own.owner q own
-plans-item o into top p end_item i is h = λ q own. tt
+plans-item {o} into top (clone_item x) i is h = λ q own. plans-below o top (with_name (next_name q) (node_in q.trees x)) own.owner q own
+plans-item into top end_item i is h = λ q own. tt
 
 -- new names, and more of them
 names-more : (o : Owner) (number count more : ℕ) → new_names o number count ++ new_names o (number + count) more ≡ new_names o number (count + more)
@@ -153,7 +153,7 @@ module _ (d : DocState) (into : ℕ) (here : into < length d.names) (pieces : Li
         ∙ ap (λ (i : Item). clones_after (next_name p) i (names_in e ks)) same-item
 
     own-plan : PlansOwn o (taking_item top item)
-    own-plan = plans-item o x top p item part (owner-part_of e.world o) g.may.taken.0
+    own-plan = plans-item x top item part (owner-part_of e.world o) g.may.taken.0
 
     part-then : part_of f.world o ≡ after p (taking_item top item p)
     part-then = ap (λ (w : World). part_of w o) item-world ∙ plan_alone o (taking_item top item) e.world alone own-plan

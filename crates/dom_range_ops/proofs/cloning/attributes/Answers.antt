@@ -16,8 +16,8 @@ loop-name-smaller c =
     ∙ ap (option_map (λ a. attribute_from a.0.now a.1.now)) c.in-Some.is
     ∙ ap (λ text. Some (attribute_from text c.in-Some.value.now)) (sym c.in_ok-name.ensures.ok)
     ∙ ap (λ units. Some (attribute_from (string_bytes c.in_ok-name.name) units)) (sym c.in_ok-value.ensures.items) in
-    (attributes-put string_bytes (λ v. v.items) string_eq (λ x y. refl) c.loop-name.copied.entries bs c.law_attributes_have_own_names.ensures
-    c.loop-name.invariant c.in_ok-name.name c.in_ok-value.value there c.insert.new.self.entries c.in_ok-insert.ensures.entries).1
+    (attributes-put string_bytes (λ v. v.items) string_eq (λ x y. refl) c.loop-name.copied.entries bs c.in_ok-name.name c.in_ok-value.value
+    record { own = c.law_attributes_have_own_names.ensures; first = c.loop-name.invariant; next = there } c.in_ok-insert.ensures.entries).1
 
 pub loop-name-preserved : goal.loop-name-preserved
 loop-name-preserved c =
@@ -28,8 +28,8 @@ loop-name-preserved c =
     ∙ ap (option_map (λ a. attribute_from a.0.now a.1.now)) c.in-Some.is
     ∙ ap (λ text. Some (attribute_from text c.in-Some.value.now)) (sym c.in_ok-name.ensures.ok)
     ∙ ap (λ units. Some (attribute_from (string_bytes c.in_ok-name.name) units)) (sym c.in_ok-value.ensures.items) in
-    (attributes-put string_bytes (λ v. v.items) string_eq (λ x y. refl) c.loop-name.copied.entries bs c.law_attributes_have_own_names.ensures
-    c.loop-name.invariant c.in_ok-name.name c.in_ok-value.value there c.insert.new.self.entries c.in_ok-insert.ensures.entries).0
+    (attributes-put string_bytes (λ v. v.items) string_eq (λ x y. refl) c.loop-name.copied.entries bs c.in_ok-name.name c.in_ok-value.value
+    record { own = c.law_attributes_have_own_names.ensures; first = c.loop-name.invariant; next = there } c.in_ok-insert.ensures.entries).0
 
 pub loop-name-smaller-in_ok-insert : goal.loop-name-smaller-in_ok-insert
 loop-name-smaller-in_ok-insert c =
@@ -40,8 +40,8 @@ loop-name-smaller-in_ok-insert c =
     ∙ ap (option_map (λ a. attribute_from a.0.now a.1.now)) c.in-Some.is
     ∙ ap (λ text. Some (attribute_from text c.in-Some.value.now)) (sym c.in_ok-name.ensures.ok)
     ∙ ap (λ units. Some (attribute_from (string_bytes c.in_ok-name.name) units)) (sym c.in_ok-value.ensures.items) in
-    (attributes-put string_bytes (λ v. v.items) string_eq (λ x y. refl) c.loop-name.copied.entries bs c.law_attributes_have_own_names.ensures
-    c.loop-name.invariant c.in_ok-name.name c.in_ok-value.value there c.insert.new.self.entries c.in_ok-insert.ensures.entries).1
+    (attributes-put string_bytes (λ v. v.items) string_eq (λ x y. refl) c.loop-name.copied.entries bs c.in_ok-name.name c.in_ok-value.value
+    record { own = c.law_attributes_have_own_names.ensures; first = c.loop-name.invariant; next = there } c.in_ok-insert.ensures.entries).1
 
 pub loop-name-preserved-in_ok-insert : goal.loop-name-preserved-in_ok-insert
 loop-name-preserved-in_ok-insert c =
@@ -52,8 +52,8 @@ loop-name-preserved-in_ok-insert c =
     ∙ ap (option_map (λ a. attribute_from a.0.now a.1.now)) c.in-Some.is
     ∙ ap (λ text. Some (attribute_from text c.in-Some.value.now)) (sym c.in_ok-name.ensures.ok)
     ∙ ap (λ units. Some (attribute_from (string_bytes c.in_ok-name.name) units)) (sym c.in_ok-value.ensures.items) in
-    (attributes-put string_bytes (λ v. v.items) string_eq (λ x y. refl) c.loop-name.copied.entries bs c.law_attributes_have_own_names.ensures
-    c.loop-name.invariant c.in_ok-name.name c.in_ok-value.value there c.insert.new.self.entries c.in_ok-insert.ensures.entries).0
+    (attributes-put string_bytes (λ v. v.items) string_eq (λ x y. refl) c.loop-name.copied.entries bs c.in_ok-name.name c.in_ok-value.value
+    record { own = c.law_attributes_have_own_names.ensures; first = c.loop-name.invariant; next = there } c.in_ok-insert.ensures.entries).0
 
 pub returns : goal.returns
 returns c =

@@ -24,9 +24,16 @@ loop-at-init c =
     subst (λ ks. Finds f (range_at_points f.names c.args.points.now) c.root-top.result c.node_after-at.result ks c.pop-partial.result
     c.pop-partial.new.self.items) (sym c.new-found.ensures.items)
     (finds-first f e.once e.only e.distinct c.args.points.now c.requires.bounded c.requires.leaves c.root-top.result c.root-top.ensures.value
-    c.requires.ordered c.node_after-at.result c.node_after-at.ensures.value c.node_after-at.ensures.stands
-    c.args.path.items c.pop-partial.new.self.items c.pop-partial.result c.requires.path c.requires.path_nodes c.pop-partial.ensures.items
-    (λ none. let is = (rw none at c.pop-partial.ensures.cases).0 in let ok = c.args.path.ok in omega (arith, is, ok)))
+    c.node_after-at.result c.pop-partial.result c.pop-partial.new.self.items record {
+      ordered = c.requires.ordered;
+      first = c.node_after-at.ensures.value;
+      stands = c.node_after-at.ensures.stands;
+      keys = c.args.path.items;
+      path = c.requires.path;
+      nodes = c.requires.path_nodes;
+      popped = c.pop-partial.ensures.items;
+      none = λ none. let is = (rw none at c.pop-partial.ensures.cases).0 in let ok = c.args.path.ok in omega (arith, is, ok);
+    })
 
 pub loop-at-smaller-then-is_node-2 : goal.loop-at-smaller-then-is_node-2
 loop-at-smaller-then-is_node-2 c =

@@ -42,7 +42,7 @@ range_put-requires-clause-there c =
     k.end_is_node c.requires.there c.requires.ends c.requires.bounds k.value.0 in
     let alone = c.laws.ensures.alone points.start.0 k.start_is_node in
     let r = range_at_points d.names points in
-    deletion-there c.args.owner c.args.number d c.delete_contents.new.doc points.start.0 r here.owner alone c.requires.there c.in_ok-delete_contents.ensures
+    deletion-there c.args.owner d c.delete_contents.new.doc points.start.0 r here.owner c.in_ok-delete_contents.ensures c.args.number alone c.requires.there
 
 pub range_put-requires-clause-own_start : goal.range_put-requires-clause-own_start
 range_put-requires-clause-own_start c =
@@ -53,8 +53,8 @@ range_put-requires-clause-own_start c =
     let k = c.range_points-points.ensures in
     let here = of-points c.forest.result.now e.once e.only g.owned d g.names g.trees c.args.owner c.args.number points k.start_is_node
     k.end_is_node c.requires.there c.requires.ends c.requires.bounds k.value.0 in
-    deletion-owner c.args.owner d c.delete_contents.new.doc points.start.0 (range_at_points d.names points) c.both_at.result.start
-    c.place_after-place.result here.owner c.place_after-place.ensures.owner c.in_ok-delete_contents.ensures c.both_at.ensures.start
+    deletion-owner c.args.owner d c.delete_contents.new.doc points.start.0 (range_at_points d.names points) here.owner
+    c.in_ok-delete_contents.ensures c.both_at.result.start c.place_after-place.result c.place_after-place.ensures.owner c.both_at.ensures.start
 
 pub range_put-requires-clause-own_end : goal.range_put-requires-clause-own_end
 range_put-requires-clause-own_end c =
@@ -65,8 +65,8 @@ range_put-requires-clause-own_end c =
     let k = c.range_points-points.ensures in
     let here = of-points c.forest.result.now e.once e.only g.owned d g.names g.trees c.args.owner c.args.number points k.start_is_node
     k.end_is_node c.requires.there c.requires.ends c.requires.bounds k.value.0 in
-    deletion-owner c.args.owner d c.delete_contents.new.doc points.start.0 (range_at_points d.names points) c.both_at.result.end
-    c.place_after-place.result here.owner c.place_after-place.ensures.owner c.in_ok-delete_contents.ensures c.both_at.ensures.end
+    deletion-owner c.args.owner d c.delete_contents.new.doc points.start.0 (range_at_points d.names points) here.owner
+    c.in_ok-delete_contents.ensures c.both_at.result.end c.place_after-place.result c.place_after-place.ensures.owner c.both_at.ensures.end
 
 pub returns-clause-world : goal.returns-clause-world
 returns-clause-world c =

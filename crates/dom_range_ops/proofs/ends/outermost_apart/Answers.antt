@@ -46,7 +46,7 @@ up-init c =
       node = low.node;
       other_is_node = other.node;
       above = low.above;
-      apart = first-apart f e.once e.only c.climb-low.result.0 c.args.first c.args.last c.requires.first_is_node c.requires.last_is_node low.above
+      apart = first-apart f e.once e.only c.climb-low.result.0 c.args.first c.requires.first_is_node c.args.last c.requires.last_is_node low.above
           c.requires.apart
           (elim g.root [
             | inl root ↦ inl (omega (arith, root, low.depth, low_high, first_high))
@@ -88,7 +88,7 @@ returns-in_default-parent-2-clause-alone c =
     let up = height-up f e.once e.only c.up.low c.in-Some-parent.above c.up.invariant.node c.in-Some-parent.ensures.value in
     let root = height-root f e.once e.only c.up.other c.up.invariant.other_is_node c.in_default-parent-2.ensures.value in
     let other = other_key f e.distinct c.in-Some-parent.above c.up.other node c.up.invariant.other_is_node (sym c.if-eq.ensures) in
-    let apart = level-apart f e.once e.only c.in-Some-parent.above c.up.other c.args.last c.requires.last_is_node c.up.invariant.beside
+    let apart = level-apart f e.once e.only c.in-Some-parent.above c.args.last c.requires.last_is_node c.up.other c.up.invariant.beside
     (omega (arith, up, c.up.invariant.level)) other in
     alone-is f.trees (Once-forest f e.once e.only) (name_at f.names c.args.last) (name_at f.names c.in-Some-parent.above)
     (Has-forest f e.once c.in-Some-parent.above node) (Has-forest f e.once c.args.last c.requires.last_is_node) apart
@@ -113,7 +113,7 @@ up-preserved c =
       other_is_node = c.in-Some-parent-2.ensures.node c.in-Some-parent-2.beside refl;
       above = above-up f e.once e.only c.up.low c.in-Some-parent.above c.args.first c.up.invariant.node c.requires.first_is_node
           c.in-Some-parent.ensures.value c.up.invariant.above;
-      apart = level-apart f e.once e.only c.in-Some-parent.above c.up.other c.args.last c.requires.last_is_node c.up.invariant.beside
+      apart = level-apart f e.once e.only c.in-Some-parent.above c.args.last c.requires.last_is_node c.up.other c.up.invariant.beside
           (omega (arith, up, c.up.invariant.level)) other;
       beside = above-up f e.once e.only c.up.other c.in-Some-parent-2.beside c.args.last c.up.invariant.other_is_node c.requires.last_is_node
           c.in-Some-parent-2.ensures.value c.up.invariant.beside;

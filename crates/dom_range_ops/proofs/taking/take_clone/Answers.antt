@@ -16,7 +16,8 @@ add_below-requires-clause-no_shadow c =
     let d = c.args.doc.now in
     let f = c.forest-forest.result.now in
     let o = owner_in d c.args.top in
-    let read = node-read d f o c.args.node c.forest-forest.ensures.owned c.forest-forest.ensures.names (c.forest-forest.ensures.trees o)
+    let read = node-read d f o c.args.node
+    record { owned = c.forest-forest.ensures.owned; names = c.forest-forest.ensures.names; trees = c.forest-forest.ensures.trees o }
     c.requires.node_owner in
     ap is_shadow (c.in_ok-copy.ensures.kind ∙ ap (λ (n : Node). n.kind) read) ∙ c.requires.no_shadow
 
@@ -25,7 +26,8 @@ add_below-requires-clause-kind c =
     let d = c.args.doc.now in
     let f = c.forest-forest.result.now in
     let o = owner_in d c.args.top in
-    let read = node-read d f o c.args.node c.forest-forest.ensures.owned c.forest-forest.ensures.names (c.forest-forest.ensures.trees o)
+    let read = node-read d f o c.args.node
+    record { owned = c.forest-forest.ensures.owned; names = c.forest-forest.ensures.names; trees = c.forest-forest.ensures.trees o }
     c.requires.node_owner in
     let own = ap (λ q. node_in (part_of d.world q).trees (name_in d c.args.node)) (sym c.requires.node_owner) in
     c.in_ok-copy.ensures.kind ∙ ap (λ (n : Node). n.kind) (read ∙ own)
@@ -35,7 +37,8 @@ add_below-requires-clause-element c =
     let d = c.args.doc.now in
     let f = c.forest-forest.result.now in
     let o = owner_in d c.args.top in
-    let read = node-read d f o c.args.node c.forest-forest.ensures.owned c.forest-forest.ensures.names (c.forest-forest.ensures.trees o)
+    let read = node-read d f o c.args.node
+    record { owned = c.forest-forest.ensures.owned; names = c.forest-forest.ensures.names; trees = c.forest-forest.ensures.trees o }
     c.requires.node_owner in
     let own = ap (λ q. node_in (part_of d.world q).trees (name_in d c.args.node)) (sym c.requires.node_owner) in
     ap (λ (n : Node). n.element) (c.in_ok-copy.ensures.value (name_in d c.args.node)) ∙ ap (λ (n : Node). n.element) (read ∙ own)
@@ -46,7 +49,8 @@ returns-clause-world c =
     let f = c.forest-forest.result.now in
     let o = owner_in d c.args.top in
     let y = next_name (part_of d.world o) in
-    let read = node-read d f o c.args.node c.forest-forest.ensures.owned c.forest-forest.ensures.names (c.forest-forest.ensures.trees o)
+    let read = node-read d f o c.args.node
+    record { owned = c.forest-forest.ensures.owned; names = c.forest-forest.ensures.names; trees = c.forest-forest.ensures.trees o }
     c.requires.node_owner in
     let is : node_from d.names y c.in_ok-copy.copy ≡ with_name y (node_in (trees_in d c.args.top) (name_in d c.args.node)) =
     ap (λ (ns : List NodeName). node_from ns y c.in_ok-copy.copy) (sym c.forest-forest.ensures.names) ∙ c.in_ok-copy.ensures.value y ∙ ap (with_name y) read in
