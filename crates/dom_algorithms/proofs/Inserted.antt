@@ -47,8 +47,7 @@ module _ (o : Owner) (how : Observing) (node parent : NodeName) (before : Option
   with_steps d steps = record d { world = world_after o d.world steps }
 
   module _ (d : DocState) (alone : IsAlone d.world o) where
-    placed_plan : (moved : List NodeName) (emptied : Plan) (prev : Option NodeName) → PlansOwn o emptied →
-        AllByRecursion (λ (x : NodeName). x.owner ≡ o) moved
+    placed_plan : (moved : List NodeName) (emptied : Plan) (prev : Option NodeName) → PlansOwn o emptied → AllByRecursion (λ (x : NodeName). x.owner ≡ o) moved
         → placed_all how moved parent before prev o (planned o emptied d) ≡ planned o (placing_plan moved emptied prev) d
     placed_plan moved emptied prev empties own =
         let told : Plan = steps_of (telling how (child_list parent moved [] prev before)) in

@@ -90,8 +90,7 @@ module _ (d : DocState) (k : ℕ) (o : Owner) (plan : Plan) (now : World) (laws 
       (keep (laws.parts o) (h o)))
 
   -- and the owner's part is what the plan leaves of it
-  pub part-planned : MadeIn (part_of d.world o) (plan (part_of d.world o)) →
-      part_of now o ≡ after (part_of d.world o) (plan (part_of d.world o))
+  pub part-planned : MadeIn (part_of d.world o) (plan (part_of d.world o)) → part_of now o ≡ after (part_of d.world o) (plan (part_of d.world o))
   part-planned m =
       let p = part_of d.world o in
       ap (λ (w : World). part_of w o) e ∙ (subst (IsAlone d.world) mine (laws.alone k there)).steps (plan p)
@@ -179,8 +178,7 @@ module _ (b d : DocState) (same : b ≡ d) where
       subst (λ (a : DocState). IsNodeIn (part_of a.world o).trees (named (part_of a.world o) (own (name_in a k).number))) (sym same)
       (subst (IsNodeIn (part_of d.world o).trees) (sym (named-own d.world o (name_in d k) own_node)) (stands-in d k o (subst HasLaws same laws) there own_node))
 
-  pub named-within : (o : Owner) (k offset : ℕ) → owner_in d k ≡ o →
-      past_end (part_of b.world o) (name_in b k) offset ≡ false →
+  pub named-within : (o : Owner) (k offset : ℕ) → owner_in d k ≡ o → past_end (part_of b.world o) (name_in b k) offset ≡ false →
       past_end (part_of b.world o) (named (part_of b.world o) (own (name_in b k).number)) offset ≡ false
   named-within o k offset own_node low =
       ap (λ x. past_end (part_of b.world o) x offset) (named-own b.world o (name_in b k) (ap (λ (a : DocState). owner_in a k) same ∙ own_node)) ∙ low

@@ -172,8 +172,7 @@ module _ (p : Part) (i : IsPart p) (h : IsReadyPart p) where
         }
 
     -- one that is tested
-    pub ready-pre_inserting : (child : Option NodeName) →
-        insertion_refusal p.trees parent x child ≡ None → KeepReady p (pre_inserting x parent child p)
+    pub ready-pre_inserting : (child : Option NodeName) → insertion_refusal p.trees parent x child ≡ None → KeepReady p (pre_inserting x parent child p)
     ready-pre_inserting child r =
         let m = insertion-tested p.trees parent x child r in ready-inserting (reference_for p.trees x child) m.apart m.opened m.plain
 

@@ -71,8 +71,7 @@ tables-kept p = record { trees = refl; tables = tables-same p p refl refl refl r
 -- The names stay.
 module _ (was now : DocState) (e : now.names ≡ was.names) where
   -- Where the trees of all parts stay as they were.
-  pub still-tables : ((o : Owner) → KeepsTables (part_of was.world o) (part_of now.world o)) →
-      HasStillAll was now
+  pub still-tables : ((o : Owner) → KeepsTables (part_of was.world o) (part_of now.world o)) → HasStillAll was now
   still-tables h =
       record {
         nodes = record {
@@ -87,8 +86,7 @@ module _ (was now : DocState) (e : now.names ≡ was.names) where
       }
 
   -- After a command that changes tables alone, and drops no live range.
-  pub still-makes : (o : Owner) (c : Command) (lines : List Said) (v : Value) → DropsNone c →
-      MakesSaying o c lines v was.world now.world → HasStillAll was now
+  pub still-makes : (o : Owner) (c : Command) (lines : List Said) (v : Value) → DropsNone c → MakesSaying o c lines v was.world now.world → HasStillAll was now
   still-makes o c lines v d m =
       still-tables
       (subst (λ (w : World). (q : Owner) → KeepsTables (part_of was.world q) (part_of w q)) (sym m.1)
@@ -96,8 +94,7 @@ module _ (was now : DocState) (e : now.names ≡ was.names) where
       (subst (KeepsEffect (part_of was.world o)) m.0 (effect-still (part_of was.world o) c d)) (λ q. tables-kept (part_of was.world q))))
 
   -- After a notification.
-  pub still-notified : (o : Owner) → now.world ≡ with_part was.world (notified (part_of was.world o)) →
-      HasStillAll was now
+  pub still-notified : (o : Owner) → now.world ≡ with_part was.world (notified (part_of was.world o)) → HasStillAll was now
   still-notified o m =
       let p = part_of was.world o in
       still-tables

@@ -42,8 +42,7 @@ pushed-range (x ∷ rs) r = pushed-range rs r
 
 module _ (was now : World) (o : Owner) where
   -- A live range, an iterator, a walker and an observer.
-  pub new-range : (number : ℕ) → Makes o Command.range_new (a_range number) was now →
-      is_some (range_at (part_of now o) number) ≡ true
+  pub new-range : (number : ℕ) → Makes o Command.range_new (a_range number) was now → is_some (range_at (part_of now o) number) ≡ true
   new-range number m =
       let p = part_of was o in
       subst (λ (g : Effect). is_some (range_at (part_in g) (answer_in g)) ≡ true) m.0 (pushed-range p.ranges (both_at (at (first_node p) 0)))
@@ -60,8 +59,7 @@ module _ (was now : World) (o : Owner) where
       let p = part_of was o in
       subst (λ (g : Effect). is_some (slice_get (part_in g).walkers (answer_in g)) ≡ true) m.0 (pushed p.walkers (new_walker (named p x) f))
 
-  pub new-observer : (number : ℕ) → Makes o Command.observer (an_observer number) was now →
-      is_some (slice_get (part_of now o).record_queues number) ≡ true
+  pub new-observer : (number : ℕ) → Makes o Command.observer (an_observer number) was now → is_some (slice_get (part_of now o).record_queues number) ≡ true
   new-observer number m =
       let p = part_of was o in
       subst (λ (g : Effect). is_some (slice_get (part_in g).record_queues (answer_in g)) ≡ true) m.0 (pushed p.record_queues [])

@@ -53,8 +53,7 @@ hosted_key names distinct (h ∷ hosts) nodes k at =
 
 module _ (names : List NodeName) where
   -- a node is among all hosts where it is among its owner's
-  own_hosted : (hosts : List ShadowHost) (x : NodeName) →
-      is_in name_eq x (host_names names hosts) ≡ is_in name_eq x (attached_of names hosts x.owner)
+  own_hosted : (hosts : List ShadowHost) (x : NodeName) → is_in name_eq x (host_names names hosts) ≡ is_in name_eq x (attached_of names hosts x.owner)
   own_hosted [] x = refl
   own_hosted (h ∷ hosts) x = elim (cases_Bool (owner_eq (maker_of names h) x.owner)) [
     | inl e ↦ ap (λ b. name_eq x (name_at names h.host) || b) (own_hosted hosts x) ∙

@@ -56,8 +56,7 @@ module _ (o : Owner) where
       others = λ b h. ap (λ t. cond (t && nat_lt index b.offset) (at parent (b.offset + count)) b) (apart parent above b h);
     }
 
-    pub split_rule : (x : NodeName) (offset : ℕ) (new : NodeName) → x.owner ≡ o → new.owner ≡ o →
-        IsRuleOf o (after_split name_eq x offset new parent index)
+    pub split_rule : (x : NodeName) (offset : ℕ) (new : NodeName) → x.owner ≡ o → new.owner ≡ o → IsRuleOf o (after_split name_eq x offset new parent index)
     split_rule x offset new own fresh = record {
       stays = λ b h.
           either_own o (name_eq b.node x && nat_lt offset b.offset) (at new (b.offset - offset))

@@ -77,8 +77,7 @@ module _ (c : Contents) (t : RangeLists) (ranges : AreRangesOf c t) (o : Owner) 
   all_fit q = EachRange-weaker (IsOwnPoint c.names q) Fits (λ b h. h.fits) (ranges_of t q) (ranges.own q)
 
   -- where no more come than give way, no bounds are asked for
-  pub data_fits_shorter : (x offset count size : ℕ) → offset < 2 ^ 64 → size ≤ count →
-      EachFits t (after_replace_data nat_eq x offset count size)
+  pub data_fits_shorter : (x offset count size : ℕ) → offset < 2 ^ 64 → size ≤ count → EachFits t (after_replace_data nat_eq x offset count size)
   data_fits_shorter x offset count size before less q =
       EachRange-weaker Fits (λ b. Fits (after_replace_data nat_eq x offset count size b))
       (λ b h. fits_if (not (eqb b.node x) || nat_le b.offset offset) b
@@ -103,8 +102,7 @@ module _ (c : Contents) (t : RangeLists) (ranges : AreRangesOf c t) (o : Owner) 
   -- what is done at a node of the owner, where its part has bounds
   module _ (bounds : HasBounds (part_in c o)) (x : ℕ) (own : (name_at c.names x).owner ≡ o) where
     -- room is made for children of the node
-    pub room_fits : (index count : ℕ) → length_of (part_in c o).trees (name_at c.names x) + count < 2 ^ 64 →
-        EachFits t (after_insert nat_eq x index count)
+    pub room_fits : (index count : ℕ) → length_of (part_in c o).trees (name_at c.names x) + count < 2 ^ 64 → EachFits t (after_insert nat_eq x index count)
     room_fits index count less q =
         let most = length_of (part_in c o).trees (name_at c.names x) in
         EachRange-weaker (IsUpTo x most) (λ b. Fits (after_insert nat_eq x index count b))

@@ -80,8 +80,7 @@ module _ (c : Contents) (t u : RangeLists) (ranges : AreRangesOf c t) (apart : T
   -- what is done at a node of the owner
   module _ (x : ℕ) (node : x < length c.names) (own : (name_at c.names x).owner ≡ o) where
     -- room is made for children of the node
-    pub room_ranged : (index count : ℕ) →
-        ((q : Owner) → ranges_of u q ≡ ends_by (after_insert nat_eq x index count) (ranges_of t q))
+    pub room_ranged : (index count : ℕ) → ((q : Owner) → ranges_of u q ≡ ends_by (after_insert nat_eq x index count) (ranges_of t q))
         → IsChangeOf c (ranged u c) o (part_step (part_in c o) (make_room (name_at c.names x) index count)) ×
         Holds (after_insert nat_eq x index count) c
     room_ranged index count moved =

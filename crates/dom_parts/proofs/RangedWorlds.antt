@@ -25,8 +25,7 @@ module _ (c : Contents) (hosts : List ShadowHost) (held : AreHostsOf c hosts) (t
   -- what is done at a node of the owner
   module _ (x : ℕ) (node : x < length c.names) (own : (name_at c.names x).owner ≡ o) where
     -- room is made for children of the node
-    pub room_told : (index count : ℕ) →
-        ((q : Owner) → ranges_of u q ≡ ends_by (after_insert nat_eq x index count) (ranges_of t q))
+    pub room_told : (index count : ℕ) → ((q : Owner) → ranges_of u q ≡ ends_by (after_insert nat_eq x index count) (ranges_of t q))
         → world_of (ranged u c) ≡ world_step o (world_of c) (make_room (name_at c.names x) index count)
     room_told index count moved =
         plain_step c hosts held o there (ranged u c) (make_room (name_at c.names x) index count) tt
