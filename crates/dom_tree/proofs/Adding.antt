@@ -204,19 +204,31 @@ module _ (ps : List Stored) (lists : List (List ℕ)) (keys more : Owner → Lis
       named : IsNamed (nodes_of ps ++ node_with (stored_names ps) (next_name o (stored_names ps)) s.node ∷ [])
       named = subst (λ (ns : List Node). IsNamed ns) (ap (λ a. nodes_of a.payloads) e ∙ nodes_of-push) whole_after.named
 
+-- what the code gives of a node that is added: its owner's next number and the next key, with the tables before and after
+pub record Given (ps : List Stored) (lists : List (List ℕ)) (keys more : Owner → List ℕ) (o : Owner) (number : ℕ) (d : Contents) : Type 0 where
+  pub kept : IsKept ps lists keys
+  pub next_number : number ≡ length (keys o)
+  pub free : number ≡ 1000000 → ⊥
+  pub document : (k : ℕ) → d.document ≡ Some k → k < length ps
+  pub key : ℕ
+  pub next_key : key ≡ length ps
+  pub fits : key < 2 ^ 64
+  pub roomy : Owner → List ℕ
+  pub held : (p : Owner) → roomy p ≡ keys p
+  pub pushed : (p : Owner) → more p ≡ cond (owner_eq o p) (roomy p ++ key ∷ []) (roomy p)
+
 -- how the code gives what a node that is added asks
-pub adds_from : (ps : List Stored) (lists : List (List ℕ)) (keys roomy more : Owner → List ℕ) (o : Owner) (number key : ℕ) (d : Contents)
-    → IsKept ps lists keys → number ≡ length (keys o) → (number ≡ 1000000 → ⊥) → ((k : ℕ) → d.document ≡ Some k → k < length ps) →
-    key ≡ length ps → key < 2 ^ 64
-    → ((p : Owner) → roomy p ≡ keys p) → ((p : Owner) → more p ≡ cond (owner_eq o p) (roomy p ++ key ∷ []) (roomy p))
-    → Adds ps lists keys more o (record { name = record { owner = o; number = number }; node = d })
-adds_from ps lists keys roomy more o number key d kept is free document new small held pushed =
-    let counted : number ≡ count_of o (stored_names ps) = is ∙ kept.counted o in
+pub adds_from : {ps : List Stored} {lists : List (List ℕ)} {keys more : Owner → List ℕ} {o : Owner} {number : ℕ} {d : Contents}
+    → Given ps lists keys more o number d → Adds ps lists keys more o (record { name = record { owner = o; number = number }; node = d })
+adds_from {ps = ps} {keys = keys} {o = o} {number = number} given =
+    let counted : number ≡ count_of o (stored_names ps) = given.next_number ∙ given.kept.counted o in
+    let new = given.next_key in
     record {
-      kept = kept;
-      free = λ e. free (counted ∙ e);
+      kept = given.kept;
+      free = λ e. given.free (counted ∙ e);
       name_is = ap (λ n. record { owner = o; number = n }) counted;
-      fits = omega (arith, new, small);
-      document = document;
-      pushed = λ p. pushed p ∙ (ap (λ ks. cond (owner_eq o p) (ks ++ key ∷ []) ks) (held p) ∙ ap (λ k. cond (owner_eq o p) (keys p ++ k ∷ []) (keys p)) new);
+      fits = omega (arith, new, given.fits);
+      document = given.document;
+      pushed = λ p. given.pushed p ∙ (ap (λ ks. cond (owner_eq o p) (ks ++ given.key ∷ []) ks) (given.held p) ∙
+          ap (λ k. cond (owner_eq o p) (keys p ++ k ∷ []) (keys p)) new);
     }

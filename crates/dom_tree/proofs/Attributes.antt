@@ -1,6 +1,6 @@
 -- Attributes in the code's map and in a node.
-use Rattle.std.proofs.Common.{◌≡◌, inl, inr, ℕ, Bool, true, false, cond, ◌&&◌, List, [], ◌∷◌, map, set, Some, refl, ap, ◌∙◌}
-use Rattle.std.specs.Prelude.{slice_get, find, nat_eq}
+use Rattle.std.proofs.Common.{◌≡◌, inl, inr, ℕ, Bool, true, false, cond, ◌&&◌, List, [], ◌∷◌, map, set, refl, ap, ◌∙◌}
+use Rattle.std.specs.Prelude.{find, nat_eq}
 use Rattle.std.specs.Option.{option_map}
 use Rattle.std.specs.Str.{bytes_eq}
 use Rattle.std.specs.Map.{lookup, remove_entry}
@@ -14,7 +14,7 @@ use Rattle.dom_model.specs.TreeChanges.{attributes_with, attributes_without, cha
 use Rattle.dom_tree.specs.Contents.{Stored}
 use Rattle.dom_tree.specs.Forest.{NamedTrees, IsKept, name_at, node_with}
 use Rattle.dom_tree.proofs.Kept.{seen}
-use Rattle.dom_tree.proofs.Setting.{set_done}
+use Rattle.dom_tree.proofs.Setting.{IsStoredAnew, set_done}
 
 -- what is stored of a node, with these attributes
 abbrev pub holding : List NodeName → Stored → List Attribute → Node
@@ -76,7 +76,7 @@ change_node-same x (tree n c r) =
 
 -- a node stored anew that is seen as before
 pub set_same : {f : NamedTrees} {ps : List Stored} {lists : List (List ℕ)} {keys : Owner → List ℕ} → seen ps lists ≡ f → IsKept ps lists keys
-    → (x : ℕ) (s t : Stored) → slice_get ps x ≡ Some s → t.name ≡ s.name → node_with f.names t.name t.node ≡ node_with f.names s.name s.node →
+    → {x : ℕ} {s t : Stored} → IsStoredAnew ps x s t → node_with f.names t.name t.node ≡ node_with f.names s.name s.node →
     seen (set ps x t) lists ≡ f
-set_same {f = f} {ps = ps} {lists = lists} {keys = keys} is kept x s t at same seen_same =
-    set_done is kept x s t (λ n. n) at same (λ y. refl) seen_same ∙ ap (λ ts. record f { trees = ts }) (change_node-same (name_at f.names x) f.trees)
+set_same {f = f} {ps = ps} {lists = lists} {keys = keys} is kept {x = x} anew seen_same =
+    set_done is kept anew (λ n. n) (λ y. refl) seen_same ∙ ap (λ ts. record f { trees = ts }) (change_node-same (name_at f.names x) f.trees)

@@ -10,7 +10,7 @@ use Rattle.dom_model.specs.Names.{name_eq, last_of, items_before}
 use Rattle.dom_model.specs.Tree.{Trees, none, tree, Node, inclusive_descendants}
 use Rattle.node_arena.specs.Nodes.{children_of, contains, parent_of, ancestors_of, IsForest, IsOnce, last_from, last_of as last_key, prev_from}
 use Rattle.node_arena.specs.Nodes.{prev_in, prev_of}
-use Rattle.node_arena.proofs.Lists.{contains-append, contains-prev_in, contains-last_of, IsOnce-append_left, IsOnce-append_right, IsOnce-apart}
+use Rattle.node_arena.proofs.Lists.{contains-append, contains-prev_in, contains-last_of, IsOnce-apart}
 use Rattle.node_arena.proofs.Lists.{last_from-append, prev_from-append}
 use Rattle.node_arena.proofs.Forests.{contains-parent, ancestors_of-child, length-ancestors_of}
 use Rattle.dom_tree.specs.Contents.{Stored}
@@ -21,9 +21,9 @@ use Rattle.dom_tree.proofs.Changes.{IsWhole, subtree_here}
 use Rattle.dom_tree.proofs.Reading.{last_or-items_before}
 use Rattle.dom_tree.proofs.Kept.{seen, IsWhole-kept, name_at-same, names_option, within}
 use Rattle.node_arena.proofs.Indexes.{no_prev}
-use Rattle.dom_tree.proofs.Order.{in_trees, root-in_trees, child-in_trees}
-use Rattle.dom_tree.proofs.OrderWithin.{tree_at, keys_at, keys_at-once, keys_at-inside, keys_at-named}
-use Rattle.dom_tree.proofs.OrderWithin.{keys_at-told, still_below, has_above}
+use Rattle.dom_tree.proofs.Order.{in_trees, root-in_trees, child-in_trees, StandsOnce, StandsOnce-below, StandsOnce-rest}
+use Rattle.dom_tree.proofs.OrderWithin.{tree_at, keys_at, keys_at-inside, keys_at-named}
+use Rattle.dom_tree.proofs.OrderWithin.{keys_at-told, keys_at-standing, still_below, has_above, IsAbove}
 
 -- the last of the nodes below a node and with it
 abbrev pub last_below : List (List ℕ) → Trees → List ℕ → ℕ → Option ℕ
@@ -44,23 +44,27 @@ module _ (k : ℕ) (below rest : List ℕ) (once : (contains (below ++ rest) k �
   off_below : (y : ℕ) → contains rest y ≡ true → contains below y ≡ false
   off_below y there = false_from_ne_true _ (λ i. both_ways _ (IsOnce-apart below rest y once.1 i) there)
 
+-- a key among others with none before it
+record IsFirst (ks : List ℕ) (x : ℕ) : Type 0 where
+  pub found : contains ks x ≡ true
+  pub none_before : prev_in ks x ≡ None
+
 module _ (nodes : List Node) (lists : List (List ℕ)) where
   no_keys : (ts : Trees) → Stands nodes lists ts [] → in_trees lists ts [] ≡ []
   no_keys none s = refl
   no_keys (tree n c r) s = absurd s
 
   -- the last of a row is the last below its last root
-  last-in_trees : (y : ℕ) (ts : Trees) (ks : List ℕ) (b : Option ℕ) → Stands nodes lists ts ks →
-      IsOnce (in_trees lists ts ks) → last_from b ks ≡ Some y
-      → ((b ≡ Some y) × (in_trees lists ts ks ≡ [])) ⊎
-      ((contains ks y ≡ true) × ((before : Option ℕ) → last_from before (in_trees lists ts ks) ≡ last_below lists ts ks y))
-  last-in_trees y none [] b s once e = inl (e, refl)
-  last-in_trees y none (k ∷ ks) b s once e = absurd s
-  last-in_trees y (tree n c r) [] b s once e = absurd s
-  last-in_trees y (tree n c r) (k ∷ ks) b s once e =
+  last-in_trees : {y : ℕ} (ts : Trees) (ks : List ℕ) (b : Option ℕ) → StandsOnce nodes lists ts ks → last_from b ks ≡ Some y →
+      ((b ≡ Some y) × (in_trees lists ts ks ≡ [])) ⊎ ((contains ks y ≡ true) ×
+      ((before : Option ℕ) → last_from before (in_trees lists ts ks) ≡ last_below lists ts ks y))
+  last-in_trees none [] b standing e = inl (e, refl)
+  last-in_trees none (k ∷ ks) b standing e = absurd standing.stands
+  last-in_trees (tree n c r) [] b standing e = absurd standing.stands
+  last-in_trees {y = y} (tree n c r) (k ∷ ks) b standing e =
       let below = in_trees lists c (children_of lists k) in
       let rest = in_trees lists r ks in
-      elim (last-in_trees y r ks (Some k) s.2 (IsOnce-append_right below rest once.1) e) [
+      elim (last-in_trees r ks (Some k) (StandsOnce-rest standing) e) [
         | inl h ↦
             let same : k ≡ y = same_Some k y h.0 in
             inr (
@@ -69,11 +73,11 @@ module _ (nodes : List Node) (lists : List (List ℕ)) where
                   (ap (last_from (last_from (Some k) below)) h.1 ∙ rw (eq-eqb k y same) refl),
             )
         | inr h ↦
-            let there : contains rest y ≡ true = root-in_trees nodes lists y r ks s.2 h.0 in
+            let there : contains rest y ≡ true = root-in_trees nodes lists y r ks standing.stands.2 h.0 in
             inr (
               or_right (eqb k y) _ h.0,
               λ before. last_from-append (Some k) below rest ∙
-                  (h.1 (last_from (Some k) below) ∙ rw (off_right k below rest once y there, off_below k below rest once y there) refl),
+                  (h.1 (last_from (Some k) below) ∙ rw (off_right k below rest standing.once y there, off_below k below rest standing.once y there) refl),
             )
       ]
 
@@ -104,99 +108,111 @@ module _ (nodes : List Node) (lists : List (List ℕ)) where
       here same (j ∷ js) is ts' s' = absurd (last_some j js (ap last_key (sym is ∙ ap (children_of lists) same) ∙ leaf))
 
   -- and of another one the last below its last child
-  last_below-child : (x y : ℕ) → last_key (children_of lists x) ≡ Some y → (ts : Trees) (ks : List ℕ) →
-      Stands nodes lists ts ks → IsOnce (in_trees lists ts ks) → contains (in_trees lists ts ks) x ≡ true
-      → last_below lists ts ks x ≡ last_below lists ts ks y
-  last_below-child x y last none ks s once found = absurd (true≢false (sym found))
-  last_below-child x y last (tree n c r) [] s once found = absurd s
-  last_below-child x y last (tree n c r) (k ∷ ks) s once found =
+  last_below-child : (x : ℕ) {y : ℕ} → last_key (children_of lists x) ≡ Some y → (ts : Trees) (ks : List ℕ) → StandsOnce nodes lists ts ks →
+      contains (in_trees lists ts ks) x ≡ true → last_below lists ts ks x ≡ last_below lists ts ks y
+  last_below-child x last none ks standing found = absurd (true≢false (sym found))
+  last_below-child x last (tree n c r) [] standing found = absurd standing.stands
+  last_below-child x {y = y} last (tree n c r) (k ∷ ks) standing found =
       let below = in_trees lists c (children_of lists k) in
       let rest = in_trees lists r ks in
       elim (or_cases (eqb k x) _ found) [
         | inl e ↦
             let same : last_key (children_of lists k) ≡ Some y = ap (λ j. last_key (children_of lists j)) (eqb-true k x e) ∙ last in
-            elim (last-in_trees y c (children_of lists k) None s.1 (IsOnce-append_left below rest once.1) same) [
+            elim (last-in_trees c (children_of lists k) None (StandsOnce-below standing) same) [
               | inl h ↦ absurd (none-some y h.0)
               | inr h ↦
-                  let there : contains below y ≡ true = root-in_trees nodes lists y c (children_of lists k) s.1 h.0 in
-                  rw (e, off_left k below rest once y there, there) (h.1 (Some k))
+                  let there : contains below y ≡ true = root-in_trees nodes lists y c (children_of lists k) standing.stands.1 h.0 in
+                  rw (e, off_left k below rest standing.once y there, there) (h.1 (Some k))
             ]
         | inr e ↦ elim (or_cases (contains below x) _ (sym (contains-append below rest x) ∙ e)) [
           | inl i ↦
               let there : contains below y ≡ true =
-              child-in_trees nodes lists x y (contains-last_of (children_of lists x) y last) c (children_of lists k) s.1 i in
-              rw (off_left k below rest once x i, i, off_left k below rest once y there, there)
-              (last_below-child x y last c (children_of lists k) s.1 (IsOnce-append_left below rest once.1) i)
+              child-in_trees nodes lists x y (contains-last_of (children_of lists x) y last) c (children_of lists k)
+              (record { stands = standing.stands.1; found = i }) in
+              rw (off_left k below rest standing.once x i, i, off_left k below rest standing.once y there, there)
+              (last_below-child x last c (children_of lists k) (StandsOnce-below standing) i)
           | inr i ↦
-              let there : contains rest y ≡ true = child-in_trees nodes lists x y (contains-last_of (children_of lists x) y last) r ks s.2 i in
+              let there : contains rest y ≡ true = child-in_trees nodes lists x y (contains-last_of (children_of lists x) y last) r ks
+              (record { stands = standing.stands.2; found = i }) in
               rw (
-                off_right k below rest once x i,
-                off_below k below rest once x i,
-                off_right k below rest once y there,
-                off_below k below rest once
+                off_right k below rest standing.once x i,
+                off_below k below rest standing.once x i,
+                off_right k below rest standing.once y there,
+                off_below k below rest standing.once
                     y there,
-              ) (last_below-child x y last r ks s.2 (IsOnce-append_right below rest once.1) i)
+              ) (last_below-child x last r ks (StandsOnce-rest standing) i)
         ]
       ]
 
   -- just before a root of a row stands the last below the root before it
-  prev-root : (x y : ℕ) (ts : Trees) (ks : List ℕ) (b before : Option ℕ) → Stands nodes lists ts ks →
-      IsOnce (in_trees lists ts ks) → contains ks x ≡ true → prev_from b ks x ≡ Some y
-      → ((b ≡ Some y) × (prev_from before (in_trees lists ts ks) x ≡ before)) ⊎
+  prev-root : (x : ℕ) {y : ℕ} {ts : Trees} {ks : List ℕ} (b before : Option ℕ) → StandsOnce nodes lists ts ks → contains ks x ≡ true →
+      prev_from b ks x ≡ Some y → ((b ≡ Some y) × (prev_from before (in_trees lists ts ks) x ≡ before)) ⊎
       ((contains ks y ≡ true) × (prev_from before (in_trees lists ts ks) x ≡ last_below lists ts ks y))
-  prev-root x y none [] b before s once found e = absurd (true≢false (sym found))
-  prev-root x y none (k ∷ ks) b before s once found e = absurd s
-  prev-root x y (tree n c r) [] b before s once found e = absurd s
-  prev-root x y (tree n c r) (k ∷ ks) b before s once found e =
+  prev-root x {ts = none} {ks = []} b before standing found e = absurd (true≢false (sym found))
+  prev-root x {ts = none} {ks = k ∷ ks} b before standing found e = absurd standing.stands
+  prev-root x {ts = tree n c r} {ks = []} b before standing found e = absurd standing.stands
+  prev-root x {y = y} {ts = tree n c r} {ks = k ∷ ks} b before standing found e =
       let below = in_trees lists c (children_of lists k) in
       let rest = in_trees lists r ks in
       elim (cases_Bool (eqb k x)) [
         | inl h ↦ rw h (inl (rw h at e, refl))
         | inr h ↦
             let in_rest : contains ks x ≡ true = rw h at found in
-            let there : contains rest x ≡ true = root-in_trees nodes lists x r ks s.2 in_rest in
+            let there : contains rest x ≡ true = root-in_trees nodes lists x r ks standing.stands.2 in_rest in
             let prev : prev_from before (k ∷ (below ++ rest)) x ≡ prev_from (last_from (Some k) below) rest x =
-            rw (h, prev_from-append (Some k) below rest x, off_below k below rest once x there) refl in
-            elim (prev-root x y r ks (Some k) (last_from (Some k) below) s.2 (IsOnce-append_right below rest once.1) in_rest (rw h at e)) [
+            rw (h, prev_from-append (Some k) below rest x, off_below k below rest standing.once x there) refl in
+            elim (prev-root x (Some k) (last_from (Some k) below) (StandsOnce-rest standing) in_rest (rw h at e)) [
               | inl i ↦
                   let same : eqb k y ≡ true = eq-eqb k y (same_Some k y i.0) in
                   inr (or_left (eqb k y) _ same, prev ∙ (i.1 ∙ rw same refl))
               | inr i ↦
-                  let there_y : contains rest y ≡ true = root-in_trees nodes lists y r ks s.2 i.0 in
-                  inr (or_right (eqb k y) _ i.0, prev ∙ (i.1 ∙ rw (off_right k below rest once y there_y, off_below k below rest once y there_y) refl))
+                  let there_y : contains rest y ≡ true = root-in_trees nodes lists y r ks standing.stands.2 i.0 in
+                  inr (
+                    or_right (eqb k y) _ i.0,
+                    prev ∙ (i.1 ∙ rw (
+                      off_right k below rest standing.once y there_y,
+                      off_below k below rest standing.once y
+                          there_y,
+                    ) refl),
+                  )
             ]
       ]
 
--- and before the first what stands before the row
-prev-first : (lists : List (List ℕ)) (x : ℕ) (ts : Trees) (ks : List ℕ) (before : Option ℕ) (nodes : List Node) → Stands nodes lists ts ks →
-    contains ks x ≡ true → prev_in ks x ≡ None → prev_from before (in_trees lists ts ks) x ≡ before
-prev-first lists x none [] before nodes s found e = absurd (true≢false (sym found))
-prev-first lists x none (k ∷ ks) before nodes s found e = absurd s
-prev-first lists x (tree n c r) [] before nodes s found e = absurd s
-prev-first lists x (tree n c r) (k ∷ ks) before nodes s found e = elim (cases_Bool (eqb k x)) [
-  | inl h ↦ rw h refl
-  | inr h ↦ absurd (no_prev k ks x (rw h at found) (rw h at e))
-]
+  -- and before the first what stands before the row
+  prev-first : (ts : Trees) {ks : List ℕ} {x : ℕ} (before : Option ℕ) → Stands nodes lists ts ks → IsFirst ks x →
+      prev_from before (in_trees lists ts ks) x ≡ before
+  prev-first none {ks = []} before s first = absurd (true≢false (sym first.found))
+  prev-first none {ks = k ∷ ks} before s first = absurd s
+  prev-first (tree n c r) {ks = []} before s first = absurd s
+  prev-first (tree n c r) {ks = k ∷ ks} {x = x} before s first = elim (cases_Bool (eqb k x)) [
+    | inl h ↦ rw h refl
+    | inr h ↦ absurd (no_prev k ks x (rw h at first.found) (rw h at first.none_before))
+  ]
+
+-- a key in a list, and the one just before it there
+record IsAfter (lists : List (List ℕ)) (p x : ℕ) (o : Option ℕ) : Type 0 where
+  pub child : contains (children_of lists p) x ≡ true
+  pub before : prev_in (children_of lists p) x ≡ o
 
 -- just before a child stands the last below the child before it, and before the first one its parent
-prev-child : (nodes : List Node) (lists : List (List ℕ)) (p x : ℕ) (o : Option ℕ) → contains (children_of lists p) x ≡ true →
-    prev_in (children_of lists p) x ≡ o → (ts : Trees) (ks : List ℕ) (before : Option ℕ) → Stands nodes lists ts ks →
-    IsOnce (in_trees lists ts ks) → contains (in_trees lists ts ks) p ≡ true
+prev-child : {nodes : List Node} {lists : List (List ℕ)} {p x : ℕ} {o : Option ℕ} → IsAfter lists p x o → (ts : Trees) (ks : List ℕ)
+    (before : Option ℕ) → StandsOnce nodes lists ts ks → contains (in_trees lists ts ks) p ≡ true
     → prev_from before (in_trees lists ts ks) x ≡ option_map_or (last_below lists ts ks) o (Some p)
-prev-child nodes lists p x o child e none ks before s once found = absurd (true≢false (sym found))
-prev-child nodes lists p x o child e (tree n c r) [] before s once found = absurd s
-prev-child nodes lists p x o child e (tree n c r) (k ∷ ks) before s once found =
+prev-child after none ks before standing found = absurd (true≢false (sym found))
+prev-child after (tree n c r) [] before standing found = absurd standing.stands
+prev-child {nodes = nodes} {lists = lists} {p = p} {x = x} {o = o} after (tree n c r) (k ∷ ks) before standing found =
     elim (or_cases (eqb k p) _ found) [
-      | inl h ↦ here (eqb-true k p h) o e
+      | inl h ↦ here (eqb-true k p h) o after.before
       | inr h ↦ elim (or_cases (contains below p) _ (sym (contains-append below rest p) ∙ h)) [
         | inl i ↦
-            let there : contains below x ≡ true = child-in_trees nodes lists p x child c (children_of lists k) s.1 i in
-            rw (off_left k below rest once x there, prev_from-append (Some k) below rest x, there)
-            (prev-child nodes lists p x o child e c (children_of lists k) (Some k) s.1 (IsOnce-append_left below rest once.1) i ∙ left o e i)
+            let there : contains below x ≡ true = child-in_trees nodes lists p x after.child c (children_of lists k)
+            (record { stands = standing.stands.1; found = i }) in
+            rw (off_left k below rest standing.once x there, prev_from-append (Some k) below rest x, there)
+            (prev-child after c (children_of lists k) (Some k) (StandsOnce-below standing) i ∙ left o after.before i)
         | inr i ↦
-            let there : contains rest x ≡ true = child-in_trees nodes lists p x child r ks s.2 i in
-            rw (off_right k below rest once x there, prev_from-append (Some k) below rest x, off_below k below rest once x there)
-            (prev-child nodes lists p x o child e r ks (last_from (Some k) below) s.2 (IsOnce-append_right below rest once.1) i ∙ right o e i)
+            let there : contains rest x ≡ true = child-in_trees nodes lists p x after.child r ks (record { stands = standing.stands.2; found = i }) in
+            rw (off_right k below rest standing.once x there, prev_from-append (Some k) below rest x, off_below k below rest standing.once x there)
+            (prev-child after r ks (last_from (Some k) below) (StandsOnce-rest standing) i ∙ right o after.before i)
       ]
     ]
   where
@@ -210,32 +226,34 @@ prev-child nodes lists p x o child e (tree n c r) (k ∷ ks) before s once found
         option_map_or (last_below lists c (children_of lists k)) o' (Some p) ≡ option_map_or (last_below lists (tree n c r) (k ∷ ks)) o' (Some p)
     left None e' i = refl
     left (Some y) e' i =
-        let there : contains below y ≡ true = child-in_trees nodes lists p y (contains-prev_in (children_of lists p) x y e') c (children_of lists k) s.1 i in
-        rw (off_left k below rest once y there, there) refl
+        let there : contains below y ≡ true = child-in_trees nodes lists p y (contains-prev_in (children_of lists p) x y e') c (children_of lists k)
+        (record { stands = standing.stands.1; found = i }) in
+        rw (off_left k below rest standing.once y there, there) refl
 
     right : (o' : Option ℕ) → prev_in (children_of lists p) x ≡ o' → contains rest p ≡ true →
         option_map_or (last_below lists r ks) o' (Some p) ≡ option_map_or (last_below lists (tree n c r) (k ∷ ks)) o' (Some p)
     right None e' i = refl
     right (Some y) e' i =
-        let there : contains rest y ≡ true = child-in_trees nodes lists p y (contains-prev_in (children_of lists p) x y e') r ks s.2 i in
-        rw (off_right k below rest once y there, off_below k below rest once y there) refl
+        let there : contains rest y ≡ true = child-in_trees nodes lists p y (contains-prev_in (children_of lists p) x y e') r ks
+        (record { stands = standing.stands.2; found = i }) in
+        rw (off_right k below rest standing.once y there, off_below k below rest standing.once y there) refl
 
     by : k ≡ p → contains (children_of lists k) x ≡ true → (o' : Option ℕ) → prev_in (children_of lists k) x ≡ o' →
         prev_from (Some k) below x ≡ option_map_or (last_below lists (tree n c r) (k ∷ ks)) o' (Some p)
-    by same among None e' = prev-first lists x c (children_of lists k) (Some k) nodes s.1 among e' ∙ ap Some same
-    by same among (Some y) e' = elim (prev-root nodes lists x y c (children_of lists k) None (Some k) s.1 (IsOnce-append_left below rest once.1) among e') [
+    by same among None e' = prev-first nodes lists c (Some k) standing.stands.1 (record { found = among; none_before = e' }) ∙ ap Some same
+    by same among (Some y) e' = elim (prev-root nodes lists x None (Some k) (StandsOnce-below standing) among e') [
       | inl i ↦ absurd (none-some y i.0)
       | inr i ↦
-          let there : contains below y ≡ true = root-in_trees nodes lists y c (children_of lists k) s.1 i.0 in
-          i.1 ∙ rw (off_left k below rest once y there, there) refl
+          let there : contains below y ≡ true = root-in_trees nodes lists y c (children_of lists k) standing.stands.1 i.0 in
+          i.1 ∙ rw (off_left k below rest standing.once y there, there) refl
     ]
 
     here : k ≡ p → (o' : Option ℕ) → prev_in (children_of lists p) x ≡ o' →
         prev_from before (k ∷ (below ++ rest)) x ≡ option_map_or (last_below lists (tree n c r) (k ∷ ks)) o' (Some p)
     here same o' e' =
-        let among : contains (children_of lists k) x ≡ true = ap (λ j. contains (children_of lists j) x) same ∙ child in
-        let there : contains below x ≡ true = root-in_trees nodes lists x c (children_of lists k) s.1 among in
-        rw (off_left k below rest once x there, prev_from-append (Some k) below rest x, there)
+        let among : contains (children_of lists k) x ≡ true = ap (λ j. contains (children_of lists j) x) same ∙ after.child in
+        let there : contains below x ≡ true = root-in_trees nodes lists x c (children_of lists k) standing.stands.1 among in
+        rw (off_left k below rest standing.once x there, prev_from-append (Some k) below rest x, there)
         (by same among o' (ap (λ j. prev_in (children_of lists j) x) same ∙ e'))
 
 -- ---- within the tree of a node
@@ -254,8 +272,7 @@ pub last_in-child : {nodes : List Node} {lists : List (List ℕ)} → IsWhole no
     contains (x ∷ ancestors_of lists x) top ≡ true → Some y ≡ last_key (children_of lists x) → last_in nodes lists top x ≡ last_in nodes lists top y
 unfolding last_in keys_at
 last_in-child {nodes} {lists} whole top x {y} node above last =
-    last_below-child nodes lists x y (sym last) (tree_at nodes lists top) (top ∷ []) (subtree_here nodes lists whole top node)
-    (keys_at-once nodes lists whole top node) (keys_at-inside whole top x node above)
+    last_below-child nodes lists x (sym last) (tree_at nodes lists top) (top ∷ []) (keys_at-standing whole top node) (keys_at-inside whole top x node above)
 
 -- the last child stands below what the node stands below, and deeper
 pub child_below : {lists : List (List ℕ)} → IsForest lists → (top : ℕ) {x : ℕ} (y : ℕ) → contains (x ∷ ancestors_of lists x) top ≡ true →
@@ -291,8 +308,10 @@ pub before_in-child : {nodes : List Node} {lists : List (List ℕ)} → IsWhole 
     → before_in nodes lists top x ≡ option_map_or (last_in nodes lists top) o (Some p)
 unfolding before_in last_in keys_at
 before_in-child {nodes} {lists} whole {top} {x} {p} {o} node other above e is =
-    prev-child nodes lists p x o (contains-parent lists x p e) (sym (is ∙ ap (option_and_then (λ q. prev_in (children_of lists q) x)) e))
-    (tree_at nodes lists top) (top ∷ []) None (subtree_here nodes lists whole top node) (keys_at-once nodes lists whole top node)
+    prev-child (record {
+      child = contains-parent lists x p e;
+      before = sym (is ∙ ap (option_and_then (λ q. prev_in (children_of lists q) x)) e);
+    }) (tree_at nodes lists top) (top ∷ []) None (keys_at-standing whole top node)
     (keys_at-inside whole top p node (still_below whole.forest other above e))
 
 preceding-at : {nodes : List Node} {lists : List (List ℕ)} → IsWhole nodes lists → (top x : ℕ) → top < length lists → x < length lists →
@@ -306,17 +325,17 @@ preceding-at {nodes} {lists} whole top x node at_x above =
     (keys_at-told whole top x node at_x) (keys_at-inside whole top x node above)
 
 pub shows_preceding : {f : NamedTrees} {ps : List Stored} {lists : List (List ℕ)} {keys : Owner → List ℕ} → seen ps lists ≡ f → IsKept ps lists keys
-    → (top x : ℕ) (r : Option ℕ) → top < length f.names → x < length f.names → contains (x ∷ ancestors_of lists x) top ≡ true →
+    → {top x : ℕ} {r : Option ℕ} → IsAbove f.names lists top x →
     r ≡ before_in (nodes_of ps) lists top x
     → option_map (name_at f.names) r ≡ last_of (items_before name_eq (name_at f.names x) (inclusive_descendants f.trees (name_at f.names top)))
-shows_preceding {f = f} {ps = ps} {lists = lists} {keys = keys} is kept top x r at_top at_x above result =
-    let inside_top = within is kept top at_top in
-    let inside_x = within is kept x at_x in
+shows_preceding {f = f} {ps = ps} {lists = lists} {keys = keys} is kept {top = top} {x = x} {r = r} asked result =
+    let inside_top = within is kept top asked.at_top in
+    let inside_x = within is kept x asked.at_x in
     let paired = kept.paired in
     subst (λ (g : NamedTrees). option_map (name_at g.names) r ≡ last_of
     (items_before name_eq (name_at g.names x) (inclusive_descendants g.trees (name_at g.names top)))) is
     (names_option ps r ∙ (ap (option_map (name_of_key (nodes_of ps))) result
-    ∙ (sym (preceding-at (IsWhole-kept kept) top x (omega arith) (omega arith) above)
+    ∙ (sym (preceding-at (IsWhole-kept kept) top x (omega arith) (omega arith) asked.above)
     ∙ (ap (λ y. last_of (items_before name_eq y (inclusive_descendants (trees_of (nodes_of ps) lists) (name_of_key (nodes_of ps) top))))
     (sym (name_at-same (stored_names ps) ps x))
     ∙ ap (λ y. last_of (items_before name_eq (name_at (stored_names ps) x) (inclusive_descendants (trees_of (nodes_of ps) lists) y)))

@@ -67,29 +67,28 @@ parent_above lists forest x k child =
     let up = ancestors_of-child lists forest x k (parent_of_is lists forest.one_list k x child) in
     or_right (eqb x k) _ (ap (λ ys. contains ys k) up ∙ contains-head k (ancestors_of lists k))
 
-above_within : (lists : List (List ℕ)) → IsForest lists → (d x j k : ℕ) → length (ancestors_of lists x) ≤ d →
-    contains (children_of lists k) j ≡ true → contains (x ∷ ancestors_of lists x) j ≡ true → contains (x ∷ ancestors_of lists x) k ≡ true
-above_within lists forest zero x j k deep child found = elim (or_cases (eqb x j) _ found) [
-  | inl h ↦ parent_above lists forest x k (ap (contains (children_of lists k)) (eqb-true x j h) ∙ child)
-  | inr h ↦ elim (cases_Option (parent_of lists x)) [
-    | inl e ↦ absurd (true≢false (sym (ap (λ ys. contains ys j) (sym (ancestors_of-root lists x e)) ∙ h)))
-    | inr w ↦ absurd (omega (arith, ap (length {A = ℕ}) (ancestors_of-child lists forest x w.0 w.1)))
-  ]
-]
-above_within lists forest (suc d) x j k deep child found = elim (or_cases (eqb x j) _ found) [
-  | inl h ↦ parent_above lists forest x k (ap (contains (children_of lists k)) (eqb-true x j h) ∙ child)
-  | inr h ↦ elim (cases_Option (parent_of lists x)) [
-    | inl e ↦ absurd (true≢false (sym (ap (λ ys. contains ys j) (sym (ancestors_of-root lists x e)) ∙ h)))
-    | inr w ↦
-        let up = ancestors_of-child lists forest x w.0 w.1 in
-        let more = above_within lists forest d w.0 j k (omega (arith, ap (length {A = ℕ}) up)) child (ap (λ ys. contains ys j) (sym up) ∙ h) in
-        or_right (eqb x k) _ (ap (λ ys. contains ys k) up ∙ more)
-  ]
-]
-
 pub above_up : {lists : List (List ℕ)} → IsForest lists → (x j k : ℕ) → contains (children_of lists k) j ≡ true →
     contains (x ∷ ancestors_of lists x) j ≡ true → contains (x ∷ ancestors_of lists x) k ≡ true
-above_up {lists} forest x j k child found = above_within lists forest (length (ancestors_of lists x)) x j k (omega arith) child found
+above_up {lists} forest x j k child found = up (length (ancestors_of lists x)) x (omega arith) found
+  where
+    up : (d y : ℕ) → length (ancestors_of lists y) ≤ d → contains (y ∷ ancestors_of lists y) j ≡ true → contains (y ∷ ancestors_of lists y) k ≡ true
+    up zero y deep there = elim (or_cases (eqb y j) _ there) [
+      | inl h ↦ parent_above lists forest y k (ap (contains (children_of lists k)) (eqb-true y j h) ∙ child)
+      | inr h ↦ elim (cases_Option (parent_of lists y)) [
+        | inl e ↦ absurd (true≢false (sym (ap (λ ys. contains ys j) (sym (ancestors_of-root lists y e)) ∙ h)))
+        | inr w ↦ absurd (omega (arith, ap (length {A = ℕ}) (ancestors_of-child lists forest y w.0 w.1)))
+      ]
+    ]
+    up (suc d) y deep there = elim (or_cases (eqb y j) _ there) [
+      | inl h ↦ parent_above lists forest y k (ap (contains (children_of lists k)) (eqb-true y j h) ∙ child)
+      | inr h ↦ elim (cases_Option (parent_of lists y)) [
+        | inl e ↦ absurd (true≢false (sym (ap (λ ys. contains ys j) (sym (ancestors_of-root lists y e)) ∙ h)))
+        | inr w ↦
+            let line = ancestors_of-child lists forest y w.0 w.1 in
+            let more = up d w.0 (omega (arith, ap (length {A = ℕ}) line)) (ap (λ ys. contains ys j) (sym line) ∙ h) in
+            or_right (eqb y k) _ (ap (λ ys. contains ys k) line ∙ more)
+      ]
+    ]
 
 -- ---- a node linked into a list
 
@@ -159,10 +158,11 @@ trees_of-linked nodes lists p c before asked =
     fewer k = children_of-without lists c k ∙ without-absent c (children_of lists k) (absent k)
 
     new : Stands nodes changed (subtree ts (name_of_key nodes c)) (c ∷ [])
-    new = Stands-kept nodes nodes lists changed (λ k. contains (p ∷ ancestors_of lists p) k ≡ false)
-        (λ k n apart at. at)
-        (λ k apart. there k (λ e. both_ways _ apart (or_left (eqb p k) _ (eq-eqb p k (sym e)))))
-        (λ k j apart child. false_from_ne_true _ (λ found. both_ways _ apart (above_up whole.forest p j k child found)))
+    new = Stands-kept nodes nodes lists {P = λ k. contains (p ∷ ancestors_of lists p) k ≡ false} (record {
+      node = λ k n apart at. at;
+      list = λ k apart. there k (λ e. both_ways _ apart (or_left (eqb p k) _ (eq-eqb p k (sym e))));
+      down = λ k j apart child. false_from_ne_true _ (λ found. both_ways _ apart (above_up whole.forest p j k child found));
+    })
         (subtree ts (name_of_key nodes c)) (c ∷ []) (λ k found. elim (or_cases (eqb c k) false found) [
           | inl h ↦ ap (contains (p ∷ ancestors_of lists p)) (sym (eqb-true c k h)) ∙ asked.not_above
           | inr h ↦ absurd (true≢false (sym h))
@@ -170,13 +170,15 @@ trees_of-linked nodes lists p c before asked =
 
     placed_stands : Stands nodes changed (placed (name_of_key nodes c) (name_of_key nodes p) (option_map (name_of_key nodes) before) ts)
         (without_key c (root_keys nodes lists))
-    placed_stands = Stands-put_below nodes (map (without_key c) lists) changed whole.named (subtree ts (name_of_key nodes c)) c new before
-        (λ b e. omega (arith, asked.before_node b e, whole.paired))
-        p (node_at nodes p) (node_here nodes lists whole p asked.parent_node)
-        (here ∙ ap (λ ks. insert_before ks c before) (sym (fewer p)))
-        (λ k other. there k other ∙ sym (fewer k))
+    placed_stands = Stands-put_below (record {
+      named = whole.named;
+      alone = new;
+      within = λ b e. omega (arith, asked.before_node b e, whole.paired);
+      here = here ∙ ap (λ ks. insert_before ks c before) (sym (fewer p));
+      there = λ k other. there k other ∙ sym (fewer k);
+    }) (node_here nodes lists whole p asked.parent_node)
         (without (name_of_key nodes c) ts) (without_key c (root_keys nodes lists))
-        (Stands-without nodes lists whole.named c (node_at nodes c) (node_here nodes lists whole c asked.child_node) ts (root_keys nodes lists)
+        (Stands-without nodes lists whole.named c (node_here nodes lists whole c asked.child_node) ts (root_keys nodes lists)
         (Stands-trees_of nodes lists whole))
 
     holders : (k : ℕ) → k ≢ c → (q : ℕ) → contains (children_of lists q) k ≡ contains (children_of changed q) k
@@ -227,11 +229,12 @@ trees_of-unlinked nodes lists c whole node =
         (ap (λ ys. contains ys c) (ancestors_of-child lists whole.forest c k (parent_of_is lists whole.forest.one_list k c child)) ∙ under))
 
     alone : Stands nodes changed (subtree ts (name_of_key nodes c)) (c ∷ [])
-    alone = Stands-kept nodes nodes lists changed (λ k. contains (k ∷ ancestors_of lists k) c ≡ true)
-        (λ k n under at. at)
-        (λ k under. children_of-without lists c k ∙ without-absent c (children_of lists k) (apart k under))
-        (λ k j under child. or_right (eqb j c) _
-        (ap (λ ys. contains ys c) (ancestors_of-child lists whole.forest j k (parent_of_is lists whole.forest.one_list k j child)) ∙ under))
+    alone = Stands-kept nodes nodes lists {P = λ k. contains (k ∷ ancestors_of lists k) c ≡ true} (record {
+      node = λ k n under at. at;
+      list = λ k under. children_of-without lists c k ∙ without-absent c (children_of lists k) (apart k under);
+      down = λ k j under child. or_right (eqb j c) _
+          (ap (λ ys. contains ys c) (ancestors_of-child lists whole.forest j k (parent_of_is lists whole.forest.one_list k j child)) ∙ under);
+    })
         (subtree ts (name_of_key nodes c)) (c ∷ []) (λ k found. elim (or_cases (eqb c k) false found) [
           | inl h ↦ or_left (eqb k c) _ (eq-eqb k c (sym (eqb-true c k h)))
           | inr h ↦ absurd (true≢false (sym h))
@@ -239,7 +242,7 @@ trees_of-unlinked nodes lists c whole node =
 
     taken : Stands nodes changed (taken_out (name_of_key nodes c) ts) (put_key nodes c (without_key c (root_keys nodes lists)))
     taken = Stands-put_root nodes changed (subtree ts (name_of_key nodes c)) c alone (without (name_of_key nodes c) ts) (without_key c (root_keys nodes lists))
-        (Stands-without nodes lists whole.named c (node_at nodes c) (node_here nodes lists whole c node) ts (root_keys nodes lists)
+        (Stands-without nodes lists whole.named c (node_here nodes lists whole c node) ts (root_keys nodes lists)
         (Stands-trees_of nodes lists whole))
 
     holders : (k : ℕ) → k ≢ c → (q : ℕ) → contains (children_of changed q) k ≡ contains (children_of lists q) k
@@ -263,8 +266,11 @@ trees_of-unlinked nodes lists c whole node =
 
     same_roots : root_keys nodes changed ≡ put_key nodes c (without_key c (root_keys nodes lists))
     same_roots = ap (passing nodes (is_root changed)) as_long
-        ∙ (passing-more nodes whole.named other_root (is_root changed) (length lists) c whole.paired node not_here (ap is_none no_parent)
-        (λ k other. ap is_none (parent_of_same changed lists k (holders k other)) ∙ elsewhere k other)
+        ∙ (passing-more whole.named {p = other_root} {q = is_root changed} (record {
+          out = not_here;
+          into = ap is_none no_parent;
+          same = λ k other. ap is_none (parent_of_same changed lists k (holders k other)) ∙ elsewhere k other;
+        }) (length lists) whole.paired node
         ∙ ap (put_key nodes c) (sym (without-passing whole.named c whole.paired node not_here elsewhere)))
 
 -- ---- a node more
@@ -311,10 +317,11 @@ trees_of-push nodes lists m whole named =
     alone = (new_here, subst (λ (js : List ℕ). Stands more changed none js) (sym (children_of-pushed lists)) tt, tt)
 
     kept : Stands more changed ts (root_keys nodes lists)
-    kept = Stands-kept nodes more lists changed (λ k. k < n)
-        (λ k y within at. slice_get-push nodes m y k at)
-        (λ k within. children_of-push lists k)
-        (λ k j within child. whole.forest.nodes k j child)
+    kept = Stands-kept nodes more lists {P = λ k. k < n} (record {
+      node = λ k y within at. slice_get-push nodes m y k at;
+      list = λ k within. children_of-push lists k;
+      down = λ k j within child. whole.forest.nodes k j child;
+    })
         ts (root_keys nodes lists) (λ k found. (passing-within nodes (is_root lists) n k found).0) (Stands-trees_of nodes lists whole)
 
     new_name : name_of_key more n ≡ m.name

@@ -57,16 +57,20 @@ pub names_option : (ps : List Stored) (o : Option ℕ) → option_map (name_at (
 names_option ps None = refl
 names_option ps (Some k) = ap Some (name_at-same (stored_names ps) ps k)
 
--- a read that leads from a node to another one shows the same in the lists and in the trees
+-- a read of the lists that is a read of the trees for which they stand, from a node to another one
+pub record IsReadOf (read : Trees → NodeName → Option NodeName) (key_read : List (List ℕ) → ℕ → Option ℕ) : Type 0 where
+  pub agree : (nodes : List Node) (lists : List (List ℕ)) → IsWhole nodes lists → (x : ℕ) → x < length lists →
+      read (trees_of nodes lists) (name_of_key nodes x) ≡ option_map (name_of_key nodes) (key_read lists x)
+
+-- it shows the same in the lists and in the trees
 pub shows : {f : NamedTrees} {ps : List Stored} {lists : List (List ℕ)} {keys : Owner → List ℕ} → seen ps lists ≡ f → IsKept ps lists keys
-    → (read : Trees → NodeName → Option NodeName) (key_read : List (List ℕ) → ℕ → Option ℕ)
-    → ((nodes : List Node) (lists : List (List ℕ)) → IsWhole nodes lists → (x : ℕ) → x < length lists →
-    read (trees_of nodes lists) (name_of_key nodes x) ≡ option_map (name_of_key nodes) (key_read lists x))
-    → (x : ℕ) (r : Option ℕ) → x < length f.names → r ≡ key_read lists x → option_map (name_at f.names) r ≡ read f.trees (name_at f.names x)
-shows {f = f} {ps = ps} {lists = lists} {keys = keys} is kept read key_read agree x r node result =
+    → {read : Trees → NodeName → Option NodeName} {key_read : List (List ℕ) → ℕ → Option ℕ} → IsReadOf read key_read
+    → (x : ℕ) {r : Option ℕ} → x < length f.names → r ≡ key_read lists x → option_map (name_at f.names) r ≡ read f.trees (name_at f.names x)
+shows {f = f} {ps = ps} {lists = lists} {keys = keys} is kept {read = read} same x {r = r} node result =
     subst (λ (g : NamedTrees). option_map (name_at g.names) r ≡ read g.trees (name_at g.names x)) is
     (names_option ps r ∙ (ap (option_map (name_of_key (nodes_of ps))) result
-    ∙ (sym (agree (nodes_of ps) lists (IsWhole-kept kept) x within) ∙ ap (read (trees_of (nodes_of ps) lists)) (sym (name_at-same (stored_names ps) ps x)))))
+    ∙ (sym (same.agree (nodes_of ps) lists (IsWhole-kept kept) x within) ∙ ap (read (trees_of (nodes_of ps) lists))
+    (sym (name_at-same (stored_names ps) ps x)))))
   where
     within : x < length lists
     within =

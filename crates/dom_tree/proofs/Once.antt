@@ -15,11 +15,11 @@ use Rattle.dom_model.specs.Tree.{Trees, none, tree, Node, nodes as nodes_in, nam
 use Rattle.node_arena.specs.Nodes.{children_of, contains, parent_of, ancestors_of, IsForest, IsOnce}
 use Rattle.node_arena.proofs.Forests.{cases_Option, contains-no_parent, contains-parent, parent_within, ancestors_of-child}
 use Rattle.dom_tree.specs.Contents.{Stored}
-use Rattle.dom_tree.specs.Rows.{node_at, put_key, in_order, is_root, root_keys, trees_of}
+use Rattle.dom_tree.specs.Rows.{put_key, in_order, is_root, root_keys, trees_of}
 use Rattle.dom_tree.specs.Forest.{NamedTrees, IsKept, stored_names, nodes_of, name_at}
 use Rattle.dom_model.proofs.OwnerLaws.{name_eq-same, name_eq-true}
 use Rattle.dom_tree.proofs.Rows.{Stands, IsNamed, same_name, name_of_key}
-use Rattle.dom_tree.proofs.Reach.{has_node-reaches}
+use Rattle.dom_tree.proofs.Reach.{has_node-reaches, IsChild}
 use Rattle.dom_tree.proofs.Roots.{IsOnce-range, contains-filter, contains-in_order, contains-passing, passing-within}
 use Rattle.dom_tree.proofs.Changes.{IsWhole, Stands-trees_of, reached, node_here, is_root-none}
 use Rattle.dom_tree.proofs.Kept.{seen, IsWhole-kept, name_at-same, within, slice_get-names}
@@ -133,43 +133,43 @@ times_count (tree n c r) x =
     let apart = count-append (λ (m : Node). name_eq m.name x) (nodes_in c) (nodes_in r) in
     omega (arith, times_in-tree n c r x)
 
--- a node with a parent stands in trees as often as its parent does, besides where it is a root
-times_in-child : (nodes : List Node) (lists : List (List ℕ)) → IsNamed nodes → IsForest lists → (p x : ℕ) (q m : Node) →
-    slice_get nodes p ≡ Some q → slice_get nodes x ≡ Some m
-    → contains (children_of lists p) x ≡ true → (ts : Trees) (ks : List ℕ) → Stands nodes lists ts ks → times_in ts m.name ≡ times x ks + times_in ts q.name
-times_in-child nodes lists named forest p x q m at_p at_x child none [] s = omega (arith, times_in-none m.name, times_in-none q.name, times-nil x)
-times_in-child nodes lists named forest p x q m at_p at_x child none (k ∷ ks) s = absurd s
-times_in-child nodes lists named forest p x q m at_p at_x child (tree n c r) [] s = absurd s
-times_in-child nodes lists named forest p x q m at_p at_x child (tree n c r) (k ∷ ks) s =
-    let below = times_in-child nodes lists named forest p x q m at_p at_x child c (children_of lists k) s.1 in
-    let rest = times_in-child nodes lists named forest p x q m at_p at_x child r ks s.2 in
-    let tells_m = ap one (same_name named k x s.0 at_x) in
-    let tells_q = ap one (same_name named k p s.0 at_p) in
-    omega (arith, below, rest, tells_m, tells_q, among, times_in-tree n c r m.name, times_in-tree n c r q.name, times-cons x k ks)
-  where
-    among : times x (children_of lists k) ≡ one (eqb k p)
-    among = elim (eqb_tells k p) [
-      | inl h ↦ times-once x (children_of lists k) (forest.once k) (ap (λ j. contains (children_of lists j) x) h.1 ∙ child) ∙ sym (one-true _ h.0)
-      | inr h ↦ times-absent x (children_of lists k) (false_from_ne_true _ (λ found. h.1 (forest.one_list k p x found child))) ∙ sym (one-false _ h.0)
-    ]
+module _ (nodes : List Node) (lists : List (List ℕ)) (named : IsNamed nodes) where
+  -- a node with a parent stands in trees as often as its parent does, besides where it is a root
+  times_in-child : IsForest lists → {p x : ℕ} {q m : Node} → IsChild nodes lists p x q m → (ts : Trees) (ks : List ℕ) → Stands nodes lists ts ks →
+      times_in ts m.name ≡ times x ks + times_in ts q.name
+  times_in-child forest {p = p} {x = x} {q = q} {m = m} pair none [] s = omega (arith, times_in-none m.name, times_in-none q.name, times-nil x)
+  times_in-child forest pair none (k ∷ ks) s = absurd s
+  times_in-child forest pair (tree n c r) [] s = absurd s
+  times_in-child forest {p = p} {x = x} {q = q} {m = m} pair (tree n c r) (k ∷ ks) s =
+      let below = times_in-child forest pair c (children_of lists k) s.1 in
+      let rest = times_in-child forest pair r ks s.2 in
+      let tells_m = ap one (same_name named k x s.0 pair.at_child) in
+      let tells_q = ap one (same_name named k p s.0 pair.at_parent) in
+      omega (arith, below, rest, tells_m, tells_q, among, times_in-tree n c r m.name, times_in-tree n c r q.name, times-cons x k ks)
+    where
+      among : times x (children_of lists k) ≡ one (eqb k p)
+      among = elim (eqb_tells k p) [
+        | inl h ↦ times-once x (children_of lists k) (forest.once k) (ap (λ j. contains (children_of lists j) x) h.1 ∙ pair.child) ∙ sym (one-true _ h.0)
+        | inr h ↦ times-absent x (children_of lists k) (false_from_ne_true _ (λ found. h.1 (forest.one_list k p x found pair.child))) ∙ sym (one-false _ h.0)
+      ]
 
--- and a root as often as among the roots
-times_in-root : (nodes : List Node) (lists : List (List ℕ)) → IsNamed nodes → (x : ℕ) (m : Node) → slice_get nodes x ≡ Some m → parent_of lists x ≡ None
-    → (ts : Trees) (ks : List ℕ) → Stands nodes lists ts ks → times_in ts m.name ≡ times x ks
-times_in-root nodes lists named x m at root none [] s = times_in-none m.name ∙ sym (times-nil x)
-times_in-root nodes lists named x m at root none (k ∷ ks) s = absurd s
-times_in-root nodes lists named x m at root (tree n c r) [] s = absurd s
-times_in-root nodes lists named x m at root (tree n c r) (k ∷ ks) s =
-    let below = times_in-root nodes lists named x m at root c (children_of lists k) s.1 in
-    let rest = times_in-root nodes lists named x m at root r ks s.2 in
-    let tells = ap one (same_name named k x s.0 at) in
-    let among = times-absent x (children_of lists k) (contains-no_parent lists x root k) in
-    omega (arith, below, rest, tells, among, times_in-tree n c r m.name, times-cons x k ks)
+  -- and a root as often as among the roots
+  times_in-root : (x : ℕ) {m : Node} → slice_get nodes x ≡ Some m → parent_of lists x ≡ None → (ts : Trees) (ks : List ℕ) → Stands nodes lists ts ks →
+      times_in ts m.name ≡ times x ks
+  times_in-root x {m = m} at root none [] s = times_in-none m.name ∙ sym (times-nil x)
+  times_in-root x at root none (k ∷ ks) s = absurd s
+  times_in-root x at root (tree n c r) [] s = absurd s
+  times_in-root x {m = m} at root (tree n c r) (k ∷ ks) s =
+      let below = times_in-root x at root c (children_of lists k) s.1 in
+      let rest = times_in-root x at root r ks s.2 in
+      let tells = ap one (same_name named k x s.0 at) in
+      let among = times-absent x (children_of lists k) (contains-no_parent lists x root k) in
+      omega (arith, below, rest, tells, among, times_in-tree n c r m.name, times-cons x k ks)
 
 once-root : (nodes : List Node) (lists : List (List ℕ)) → IsWhole nodes lists → (x : ℕ) → x < length lists → parent_of lists x ≡ None →
     times_in (trees_of nodes lists) (name_of_key nodes x) ≡ 1
 once-root nodes lists whole x node e =
-    times_in-root nodes lists whole.named x (node_at nodes x) (node_here nodes lists whole x node) e (trees_of nodes lists)
+    times_in-root nodes lists whole.named x (node_here nodes lists whole x node) e (trees_of nodes lists)
     (root_keys nodes lists) (Stands-trees_of nodes lists whole)
     ∙ times-root nodes lists x node e
 
@@ -178,8 +178,11 @@ once-child : {nodes : List Node} {lists : List (List ℕ)} → IsWhole nodes lis
 once-child {nodes} {lists} whole x {p} node e above =
     let child = contains-parent lists x p e in
     let inside = parent_within lists p x child in
-    let more = times_in-child nodes lists whole.named whole.forest p x (node_at nodes p) (node_at nodes x) (node_here nodes lists whole p inside)
-    (node_here nodes lists whole x node) child (trees_of nodes lists) (root_keys nodes lists) (Stands-trees_of nodes lists whole) in
+    let more = times_in-child nodes lists whole.named whole.forest (record {
+      at_parent = node_here nodes lists whole p inside;
+      at_child = node_here nodes lists whole x node;
+      child = child;
+    }) (trees_of nodes lists) (root_keys nodes lists) (Stands-trees_of nodes lists whole) in
     omega (arith, more, above, times-child nodes lists x p e)
 
 pub once-within : {nodes : List Node} {lists : List (List ℕ)} → IsWhole nodes lists → (d x : ℕ) → length (ancestors_of lists x) ≤ d →

@@ -25,6 +25,11 @@ name_here [] k n e = absurd (none-some n e)
 name_here (m ∷ nodes) zero n e = ap (λ (y : Node). y.name) (sym (same_Some m n e))
 name_here (m ∷ nodes) (suc k) n e = name_here nodes k n e
 
+-- trees that stand for keys, with this key among them or below
+pub record StandsWith (nodes : List Node) (lists : List (List ℕ)) (ts : Trees) (ks : List ℕ) (p : ℕ) : Type 0 where
+  pub stands : Stands nodes lists ts ks
+  pub found : contains (in_trees lists ts ks) p ≡ true
+
 module _ (nodes : List Node) (lists : List (List ℕ)) where
   pub names-in_trees : (ts : Trees) (ks : List ℕ) → Stands nodes lists ts ks →
       names_of (nodes_in ts) ≡ map (name_of_key nodes) (in_trees lists ts ks)
@@ -53,21 +58,22 @@ module _ (nodes : List Node) (lists : List (List ℕ)) where
   ]
 
   pub child-in_trees : (p x : ℕ) → contains (children_of lists p) x ≡ true →
-      (ts : Trees) (ks : List ℕ) → Stands nodes lists ts ks → contains (in_trees lists ts ks) p ≡ true → contains (in_trees lists ts ks) x ≡ true
-  child-in_trees p x child none ks s found = absurd (true≢false (sym found))
-  child-in_trees p x child (tree n c r) [] s found = absurd s
-  child-in_trees p x child (tree n c r) (k ∷ ks) s found =
+      (ts : Trees) (ks : List ℕ) → StandsWith nodes lists ts ks p → contains (in_trees lists ts ks) x ≡ true
+  child-in_trees p x child none ks standing = absurd (true≢false (sym standing.found))
+  child-in_trees p x child (tree n c r) [] standing = absurd standing.stands
+  child-in_trees p x child (tree n c r) (k ∷ ks) standing =
       let below = in_trees lists c (children_of lists k) in
       let rest = in_trees lists r ks in
-      elim (or_cases (eqb k p) _ found) [
+      elim (or_cases (eqb k p) _ standing.found) [
         | inl h ↦
             or_right (eqb k x) _ (contains-append below rest x ∙
             or_left (contains below x) _
-            (root-in_trees x c (children_of lists k) s.1 (ap (λ j. contains (children_of lists j) x) (eqb-true k p h) ∙ child)))
+            (root-in_trees x c (children_of lists k) standing.stands.1 (ap (λ j. contains (children_of lists j) x) (eqb-true k p h) ∙ child)))
         | inr h ↦ elim (or_cases (contains below p) _ (sym (contains-append below rest p) ∙ h)) [
           | inl i ↦ or_right (eqb k x) _ (contains-append below rest x ∙
-              or_left (contains below x) _ (child-in_trees p x child c (children_of lists k) s.1 i))
-          | inr i ↦ or_right (eqb k x) _ (contains-append below rest x ∙ or_right (contains below x) _ (child-in_trees p x child r ks s.2 i))
+              or_left (contains below x) _ (child-in_trees p x child c (children_of lists k) (record { stands = standing.stands.1; found = i })))
+          | inr i ↦ or_right (eqb k x) _ (contains-append below rest x ∙ or_right (contains below x) _
+              (child-in_trees p x child r ks (record { stands = standing.stands.2; found = i })))
         ]
       ]
 
@@ -93,16 +99,16 @@ module _ (nodes : List Node) (lists : List (List ℕ)) where
   ]
 
   -- and stands there once
-  pub times-in_trees : IsNamed nodes → (x : ℕ) (m : Node) → slice_get nodes x ≡ Some m →
-      (ts : Trees) (ks : List ℕ) → Stands nodes lists ts ks → times x (in_trees lists ts ks) ≡ times_in ts m.name
-  times-in_trees named x m at none ks s = times-nil x ∙ sym (times_in-none m.name)
-  times-in_trees named x m at (tree n c r) [] s = absurd s
-  times-in_trees named x m at (tree n c r) (k ∷ ks) s =
+  pub times-in_trees : IsNamed nodes → (x : ℕ) {m : Node} → slice_get nodes x ≡ Some m → (ts : Trees) (ks : List ℕ) → Stands nodes lists ts ks →
+      times x (in_trees lists ts ks) ≡ times_in ts m.name
+  times-in_trees named x {m = m} at none ks s = times-nil x ∙ sym (times_in-none m.name)
+  times-in_trees named x at (tree n c r) [] s = absurd s
+  times-in_trees named x {m = m} at (tree n c r) (k ∷ ks) s =
       let below = in_trees lists c (children_of lists k) in
       let rest = in_trees lists r ks in
       let tells = ap one (same_name named k x s.0 at) in
-      let in_below = times-in_trees named x m at c (children_of lists k) s.1 in
-      let in_rest = times-in_trees named x m at r ks s.2 in
+      let in_below = times-in_trees named x at c (children_of lists k) s.1 in
+      let in_rest = times-in_trees named x at r ks s.2 in
       omega (arith, tells, in_below, in_rest, times-cons x k (below ++ rest), times-append x below rest, times_in-tree n c r m.name)
 
 times_in-or_else : (ts us : Trees) (x : NodeName) → times_in (or_else ts us) x ≤ times_in ts x + times_in us x
@@ -132,13 +138,33 @@ behind lists (tree n c r) (k ∷ ks) after x =
     cond (eqb k x) (head_or ks after) (cond (contains (in_trees lists c (children_of lists k)) x)
     (behind lists c (children_of lists k) (head_or ks after) x) (behind lists r ks after x))
 
+-- trees that stand for keys, each of which stands there once
+pub record StandsOnce (nodes : List Node) (lists : List (List ℕ)) (ts : Trees) (ks : List ℕ) : Type 0 where
+  pub stands : Stands nodes lists ts ks
+  pub once : IsOnce (in_trees lists ts ks)
+
+-- so do those below the first one, and those after it
+pub StandsOnce-below : {nodes : List Node} {lists : List (List ℕ)} {n : Node} {c r : Trees} {k : ℕ} {ks : List ℕ} →
+    StandsOnce nodes lists (tree n c r) (k ∷ ks) → StandsOnce nodes lists c (children_of lists k)
+StandsOnce-below {lists = lists} {c = c} {k = k} standing = record {
+  stands = standing.stands.1;
+  once = IsOnce-append_left (in_trees lists c (children_of lists k)) _ standing.once.1;
+}
+
+pub StandsOnce-rest : {nodes : List Node} {lists : List (List ℕ)} {n : Node} {c r : Trees} {k : ℕ} {ks : List ℕ} →
+    StandsOnce nodes lists (tree n c r) (k ∷ ks) → StandsOnce nodes lists r ks
+StandsOnce-rest {lists = lists} {c = c} {k = k} standing = record {
+  stands = standing.stands.2;
+  once = IsOnce-append_right (in_trees lists c (children_of lists k)) _ standing.once.1;
+}
+
 module _ (nodes : List Node) (lists : List (List ℕ)) where
-  behind-root : (x : ℕ) (ts : Trees) (ks : List ℕ) (after : Option ℕ) → Stands nodes lists ts ks →
-      IsOnce (in_trees lists ts ks) → contains ks x ≡ true → behind lists ts ks after x ≡ next_from ks after x
-  behind-root x none [] after s once found = refl
-  behind-root x none (k ∷ ks) after s once found = absurd s
-  behind-root x (tree n c r) [] after s once found = absurd s
-  behind-root x (tree n c r) (k ∷ ks) after s once found =
+  behind-root : (x : ℕ) (ts : Trees) (ks : List ℕ) (after : Option ℕ) → StandsOnce nodes lists ts ks →
+      contains ks x ≡ true → behind lists ts ks after x ≡ next_from ks after x
+  behind-root x none [] after standing found = refl
+  behind-root x none (k ∷ ks) after standing found = absurd standing.stands
+  behind-root x (tree n c r) [] after standing found = absurd standing.stands
+  behind-root x (tree n c r) (k ∷ ks) after standing found =
       let below = in_trees lists c (children_of lists k) in
       let rest = in_trees lists r ks in
       elim (cases_Bool (eqb k x)) [
@@ -146,43 +172,43 @@ module _ (nodes : List Node) (lists : List (List ℕ)) where
         | inr e ↦
             let in_rest : contains ks x ≡ true = rw e at found in
             let off : contains below x ≡ false =
-            false_from_ne_true _ (λ h. both_ways _ (IsOnce-apart below rest x once.1 h) (root-in_trees nodes lists x r ks s.2 in_rest)) in
-            rw (e, off) (behind-root x r ks after s.2 (IsOnce-append_right below rest once.1) in_rest)
+            false_from_ne_true _ (λ h. both_ways _ (IsOnce-apart below rest x standing.once.1 h)
+            (root-in_trees nodes lists x r ks standing.stands.2 in_rest)) in
+            rw (e, off) (behind-root x r ks after (StandsOnce-rest standing) in_rest)
       ]
 
-  pub behind-child : (p x : ℕ) → contains (children_of lists p) x ≡ true →
-      (ts : Trees) (ks : List ℕ) (after : Option ℕ) → Stands nodes lists ts ks → IsOnce (in_trees lists ts ks) →
-      contains (in_trees lists ts ks) p ≡ true
-      → behind lists ts ks after x ≡ next_from (children_of lists p) (behind lists ts ks after p) x
-  behind-child p x child none ks after s once found = absurd (true≢false (sym found))
-  behind-child p x child (tree n c r) [] after s once found = absurd s
-  behind-child p x child (tree n c r) (k ∷ ks) after s once found =
+  pub behind-child : (p x : ℕ) → contains (children_of lists p) x ≡ true → {ts : Trees} {ks : List ℕ} (after : Option ℕ) → StandsOnce nodes lists ts ks →
+      contains (in_trees lists ts ks) p ≡ true → behind lists ts ks after x ≡ next_from (children_of lists p) (behind lists ts ks after p) x
+  behind-child p x child {ts = none} after standing found = absurd (true≢false (sym found))
+  behind-child p x child {ts = tree n c r} {ks = []} after standing found = absurd standing.stands
+  behind-child p x child {ts = tree n c r} {ks = k ∷ ks} after standing found =
       let below = in_trees lists c (children_of lists k) in
       let rest = in_trees lists r ks in
       let off : (y : ℕ) → contains (below ++ rest) y ≡ true → eqb k y ≡ false =
-      λ y there. ne_eqb k y (λ e. both_ways _ once.0 (ap (contains (below ++ rest)) e ∙ there)) in
+      λ y there. ne_eqb k y (λ e. both_ways _ standing.once.0 (ap (contains (below ++ rest)) e ∙ there)) in
       let left : (y : ℕ) → contains below y ≡ true → contains (below ++ rest) y ≡ true = λ y h. contains-append below rest y ∙ or_left (contains below y) _ h in
       let right : (y : ℕ) → contains rest y ≡ true →
       contains (below ++ rest) y ≡ true = λ y h. contains-append below rest y ∙ or_right (contains below y) _ h in
       let apart : (y : ℕ) → contains rest y ≡ true → contains below y ≡ false =
-      λ y h. false_from_ne_true _ (λ i. both_ways _ (IsOnce-apart below rest y once.1 i) h) in
+      λ y h. false_from_ne_true _ (λ i. both_ways _ (IsOnce-apart below rest y standing.once.1 i) h) in
       elim (or_cases (eqb k p) _ found) [
         | inl h ↦
             let same : children_of lists k ≡ children_of lists p = ap (children_of lists) (eqb-true k p h) in
             let among : contains (children_of lists k) x ≡ true = ap (λ js. contains js x) same ∙ child in
-            let there : contains below x ≡ true = root-in_trees nodes lists x c (children_of lists k) s.1 among in
+            let there : contains below x ≡ true = root-in_trees nodes lists x c (children_of lists k) standing.stands.1 among in
             rw (off x (left x there), there, h)
-            (behind-root x c (children_of lists k) (head_or ks after) s.1 (IsOnce-append_left below rest once.1) among ∙
+            (behind-root x c (children_of lists k) (head_or ks after) (StandsOnce-below standing) among ∙
             ap (λ js. next_from js (head_or ks after) x) same)
         | inr h ↦ elim (or_cases (contains below p) _ (sym (contains-append below rest p) ∙ h)) [
           | inl i ↦
-              let there : contains below x ≡ true = child-in_trees nodes lists p x child c (children_of lists k) s.1 i in
+              let there : contains below x ≡ true = child-in_trees nodes lists p x child c (children_of lists k)
+              (record { stands = standing.stands.1; found = i }) in
               rw (off x (left x there), there, off p (left p i), i)
-              (behind-child p x child c (children_of lists k) (head_or ks after) s.1 (IsOnce-append_left below rest once.1) i)
+              (behind-child p x child {ts = c} (head_or ks after) (StandsOnce-below standing) i)
           | inr i ↦
-              let there : contains rest x ≡ true = child-in_trees nodes lists p x child r ks s.2 i in
+              let there : contains rest x ≡ true = child-in_trees nodes lists p x child r ks (record { stands = standing.stands.2; found = i }) in
               rw (off x (right x there), apart x there, off p (right p i), apart p i)
-              (behind-child p x child r ks after s.2 (IsOnce-append_right below rest once.1) i)
+              (behind-child p x child {ts = r} after (StandsOnce-rest standing) i)
         ]
       ]
 

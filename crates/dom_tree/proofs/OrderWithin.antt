@@ -7,6 +7,7 @@ use Rattle.std.proofs.lemmas.Bool.{eq-eqb, ne_eqb, eqb-true, or_cases, or_left, 
 use Rattle.std.proofs.lemmas.Bool.Decides.{eqb_tells}
 use Rattle.std.proofs.lemmas.Option.{none-some, slice_get_within}
 use Rattle.dom_base.specs.declared.Owner.{Owner}
+use Rattle.dom_base.specs.declared.NodeName.{NodeName}
 use Rattle.dom_model.specs.Names.{name_eq, first_of, items_after}
 use Rattle.dom_model.specs.Tree.{Trees, none, tree, Node, subtree, inclusive_descendants, times_in}
 use Rattle.node_arena.specs.Nodes.{children_of, contains, parent_of, ancestors_of, IsForest, IsOnce, head_of, next_in, next_of}
@@ -22,31 +23,9 @@ use Rattle.dom_tree.proofs.Reading.{name_of_key-eq, first_of-items_after, Tells}
 use Rattle.dom_tree.proofs.Kept.{seen, IsWhole-kept, name_at-same, names_option, within}
 use Rattle.dom_tree.proofs.Once.{times, once-within}
 use Rattle.dom_tree.proofs.Order.{in_trees, name_here, names-in_trees, root-in_trees, child-in_trees, key-in_trees, times-in_trees, times_in-subtree}
-use Rattle.dom_tree.proofs.Order.{IsOnce-times, behind, behind-child, next-in_trees}
+use Rattle.dom_tree.proofs.Order.{IsOnce-times, behind, behind-child, next-in_trees, StandsOnce}
 
 -- ---- within the tree of a node
-
--- the nodes below a node are among the keys of its tree
-in_top : (nodes : List Node) (lists : List (List ℕ)) → IsForest lists → (top : ℕ) (ts : Trees) → Stands nodes lists ts (top ∷ []) → (d x : ℕ) →
-    length (ancestors_of lists x) ≤ d → contains (x ∷ ancestors_of lists x) top ≡ true
-    → contains (in_trees lists ts (top ∷ [])) x ≡ true
-in_top nodes lists forest top ts s zero x deep above = elim (or_cases (eqb x top) _ above) [
-  | inl h ↦ root-in_trees nodes lists x ts (top ∷ []) s (or_left (eqb top x) _ (eq-eqb top x (sym (eqb-true x top h))))
-  | inr h ↦ elim (cases_Option (parent_of lists x)) [
-    | inl e ↦ absurd (true≢false (sym (ap (λ ys. contains ys top) (sym (ancestors_of-root lists x e)) ∙ h)))
-    | inr w ↦ absurd (omega (arith, ap (length {A = ℕ}) (ancestors_of-child lists forest x w.0 w.1)))
-  ]
-]
-in_top nodes lists forest top ts s (suc d) x deep above = elim (or_cases (eqb x top) _ above) [
-  | inl h ↦ root-in_trees nodes lists x ts (top ∷ []) s (or_left (eqb top x) _ (eq-eqb top x (sym (eqb-true x top h))))
-  | inr h ↦ elim (cases_Option (parent_of lists x)) [
-    | inl e ↦ absurd (true≢false (sym (ap (λ ys. contains ys top) (sym (ancestors_of-root lists x e)) ∙ h)))
-    | inr w ↦
-        let up = ancestors_of-child lists forest x w.0 w.1 in
-        child-in_trees nodes lists w.0 x (contains-parent lists x w.0 w.1) ts (top ∷ []) s
-        (in_top nodes lists forest top ts s d w.0 (omega (arith, ap (length {A = ℕ}) up)) (ap (λ ys. contains ys top) (sym up) ∙ h))
-  ]
-]
 
 -- the tree of a node, and the keys in it
 abbrev pub tree_at : List Node → List (List ℕ) → ℕ → Trees
@@ -70,18 +49,49 @@ keys_at-once nodes lists whole top node = IsOnce-times (in_trees lists (tree_at 
         ap (times_in (trees_of nodes lists)) is ∙ once-within whole (length (ancestors_of lists k)) k (omega arith) inside in
         omega (
           arith,
-          times-in_trees nodes lists whole.named k key.0 key.1 (tree_at nodes lists top) (top ∷ []) s,
+          times-in_trees nodes lists whole.named k key.1 (tree_at nodes lists top) (top ∷ []) s,
           times_in-subtree
               (trees_of nodes lists) (name_of_key nodes top) key.0.name,
           all,
         )
 
+pub keys_at-standing : {nodes : List Node} {lists : List (List ℕ)} → IsWhole nodes lists → (top : ℕ) → top < length lists →
+    StandsOnce nodes lists (tree_at nodes lists top) (top ∷ [])
+unfolding keys_at
+keys_at-standing {nodes} {lists} whole top node = record { stands = subtree_here nodes lists whole top node; once = keys_at-once nodes lists whole top node }
+
+-- the nodes below a node are among the keys of its tree
 pub keys_at-inside : {nodes : List Node} {lists : List (List ℕ)} → IsWhole nodes lists → (top x : ℕ) → top < length lists →
     contains (x ∷ ancestors_of lists x) top ≡ true → contains (keys_at nodes lists top) x ≡ true
 unfolding keys_at
-keys_at-inside {nodes} {lists} whole top x node above =
-    in_top nodes lists whole.forest top (tree_at nodes lists top) (subtree_here nodes lists whole top node) (length (ancestors_of lists x)) x
-    (omega arith) above
+keys_at-inside {nodes} {lists} whole top x node above = up (length (ancestors_of lists x)) x (omega arith) above
+  where
+    ts : Trees
+    ts = tree_at nodes lists top
+
+    s : Stands nodes lists ts (top ∷ [])
+    s = subtree_here nodes lists whole top node
+
+    up : (d y : ℕ) → length (ancestors_of lists y) ≤ d → contains (y ∷ ancestors_of lists y) top ≡ true → contains (in_trees lists ts (top ∷ [])) y ≡ true
+    up zero y deep below = elim (or_cases (eqb y top) _ below) [
+      | inl h ↦ root-in_trees nodes lists y ts (top ∷ []) s (or_left (eqb top y) _ (eq-eqb top y (sym (eqb-true y top h))))
+      | inr h ↦ elim (cases_Option (parent_of lists y)) [
+        | inl e ↦ absurd (true≢false (sym (ap (λ ys. contains ys top) (sym (ancestors_of-root lists y e)) ∙ h)))
+        | inr w ↦ absurd (omega (arith, ap (length {A = ℕ}) (ancestors_of-child lists whole.forest y w.0 w.1)))
+      ]
+    ]
+    up (suc d) y deep below = elim (or_cases (eqb y top) _ below) [
+      | inl h ↦ root-in_trees nodes lists y ts (top ∷ []) s (or_left (eqb top y) _ (eq-eqb top y (sym (eqb-true y top h))))
+      | inr h ↦ elim (cases_Option (parent_of lists y)) [
+        | inl e ↦ absurd (true≢false (sym (ap (λ ys. contains ys top) (sym (ancestors_of-root lists y e)) ∙ h)))
+        | inr w ↦
+            let line = ancestors_of-child lists whole.forest y w.0 w.1 in
+            child-in_trees nodes lists w.0 y (contains-parent lists y w.0 w.1) ts (top ∷ []) (record {
+              stands = s;
+              found = up d w.0 (omega (arith, ap (length {A = ℕ}) line)) (ap (λ ys. contains ys top) (sym line) ∙ h);
+            })
+      ]
+    ]
 
 pub keys_at-named : (nodes : List Node) (lists : List (List ℕ)) → IsWhole nodes lists → (top : ℕ) → top < length lists →
     inclusive_descendants (trees_of nodes lists) (name_of_key nodes top) ≡ map (name_of_key nodes) (keys_at nodes lists top)
@@ -154,8 +164,7 @@ behind_in-child : {nodes : List Node} {lists : List (List ℕ)} → IsWhole node
     → behind_in nodes lists top x ≡ next_from (children_of lists p) (behind_in nodes lists top p) x
 unfolding behind_in keys_at
 behind_in-child {nodes} {lists} whole {top} {x} {p} node other above e =
-    behind-child nodes lists p x (contains-parent lists x p e) (tree_at nodes lists top) (top ∷ []) None (subtree_here nodes lists whole top node)
-    (keys_at-once nodes lists whole top node)
+    behind-child nodes lists p x (contains-parent lists x p e) None (keys_at-standing whole top node)
     (keys_at-inside whole top p node (still_below whole.forest other above e))
 
 -- it is the sibling just after the node, and else what stands behind its parent
@@ -223,18 +232,24 @@ following-at {nodes} {lists} whole top x node at_x above =
 
 -- ---- the answers
 
+-- the keys of two nodes, of which the first is the second or above it
+pub record IsAbove (names : List NodeName) (lists : List (List ℕ)) (top x : ℕ) : Type 0 where
+  pub at_top : top < length names
+  pub at_x : x < length names
+  pub above : contains (x ∷ ancestors_of lists x) top ≡ true
+
 pub shows_following : {f : NamedTrees} {ps : List Stored} {lists : List (List ℕ)} {keys : Owner → List ℕ} → seen ps lists ≡ f → IsKept ps lists keys
-    → (top x : ℕ) (r : Option ℕ) → top < length f.names → x < length f.names → contains (x ∷ ancestors_of lists x) top ≡ true →
+    → {top x : ℕ} {r : Option ℕ} → IsAbove f.names lists top x →
     r ≡ head_or (children_of lists x) (behind_in (nodes_of ps) lists top x)
     → option_map (name_at f.names) r ≡ first_of (items_after name_eq (name_at f.names x) (inclusive_descendants f.trees (name_at f.names top)))
-shows_following {f = f} {ps = ps} {lists = lists} {keys = keys} is kept top x r at_top at_x above result =
-    let inside_top = within is kept top at_top in
-    let inside_x = within is kept x at_x in
+shows_following {f = f} {ps = ps} {lists = lists} {keys = keys} is kept {top = top} {x = x} {r = r} asked result =
+    let inside_top = within is kept top asked.at_top in
+    let inside_x = within is kept x asked.at_x in
     let paired = kept.paired in
     subst (λ (g : NamedTrees). option_map (name_at g.names) r ≡ first_of
     (items_after name_eq (name_at g.names x) (inclusive_descendants g.trees (name_at g.names top)))) is
     (names_option ps r ∙ (ap (option_map (name_of_key (nodes_of ps))) result
-    ∙ (sym (following-at (IsWhole-kept kept) top x (omega arith) (omega arith) above)
+    ∙ (sym (following-at (IsWhole-kept kept) top x (omega arith) (omega arith) asked.above)
     ∙ (ap (λ y. first_of (items_after name_eq y (inclusive_descendants (trees_of (nodes_of ps) lists) (name_of_key (nodes_of ps) top))))
     (sym (name_at-same (stored_names ps) ps x))
     ∙ ap (λ y. first_of (items_after name_eq (name_at (stored_names ps) x) (inclusive_descendants (trees_of (nodes_of ps) lists) y)))

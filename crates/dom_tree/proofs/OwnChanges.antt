@@ -59,18 +59,23 @@ NoneBefore-earlier x y e none off = tt
 NoneBefore-earlier x y e (tree n c r) off =
     (false_from_ne_true _ (λ h. true≢false (sym (name_before-trans n.name x y h e) ∙ off.0)), NoneBefore-earlier x y e r off.1)
 
--- a tree put among roots, of which none comes before a name
-NoneBefore-put_root : (y x : NodeName) (new ts : Trees) → IsAlone x new → name_before x y ≡ false → NoneBefore y ts → NoneBefore y (put_root x new ts)
-NoneBefore-put_root y x none none alone e off = tt
-NoneBefore-put_root y x (tree m d none) none alone e off = (rw alone e, tt)
-NoneBefore-put_root y x (tree m d (tree k q s)) ts alone e off = absurd alone
-NoneBefore-put_root y x none (tree n c r) alone e off = elim (cases_Bool (name_before x n.name)) [
+-- a tree alone under the name x, which is not before y
+record IsBehind (y x : NodeName) (new : Trees) : Type 0 where
+  pub alone : IsAlone x new
+  pub not_before : name_before x y ≡ false
+
+-- such a tree put among roots, of which none comes before y
+NoneBefore-put_root : (y x : NodeName) (new ts : Trees) → IsBehind y x new → NoneBefore y ts → NoneBefore y (put_root x new ts)
+NoneBefore-put_root y x none none behind off = tt
+NoneBefore-put_root y x (tree m d none) none behind off = (rw behind.alone behind.not_before, tt)
+NoneBefore-put_root y x (tree m d (tree k q s)) ts behind off = absurd behind.alone
+NoneBefore-put_root y x none (tree n c r) behind off = elim (cases_Bool (name_before x n.name)) [
   | inl h ↦ rw h off
-  | inr h ↦ rw h (off.0, NoneBefore-put_root y x none r alone e off.1)
+  | inr h ↦ rw h (off.0, NoneBefore-put_root y x none r behind off.1)
 ]
-NoneBefore-put_root y x (tree m d none) (tree n c r) alone e off = elim (cases_Bool (name_before x n.name)) [
-  | inl h ↦ rw h (rw alone e, off)
-  | inr h ↦ rw h (off.0, NoneBefore-put_root y x (tree m d none) r alone e off.1)
+NoneBefore-put_root y x (tree m d none) (tree n c r) behind off = elim (cases_Bool (name_before x n.name)) [
+  | inl h ↦ rw h (rw behind.alone behind.not_before, off)
+  | inr h ↦ rw h (off.0, NoneBefore-put_root y x (tree m d none) r behind off.1)
 ]
 
 -- a tree put among roots in order
@@ -80,7 +85,7 @@ AreInOrder-put_root x (tree m d none) none alone order = (tt, tt)
 AreInOrder-put_root x (tree m d (tree k q s)) ts alone order = absurd alone
 AreInOrder-put_root x none (tree n c r) alone order = elim (cases_Bool (name_before x n.name)) [
   | inl h ↦ rw h order
-  | inr h ↦ rw h (NoneBefore-put_root n.name x none r alone h order.0, AreInOrder-put_root x none r alone order.1)
+  | inr h ↦ rw h (NoneBefore-put_root n.name x none r (record { alone = alone; not_before = h }) order.0, AreInOrder-put_root x none r alone order.1)
 ]
 AreInOrder-put_root x (tree m d none) (tree n c r) alone order = elim (cases_Bool (name_before x n.name)) [
   | inl h ↦ rw h (
@@ -88,7 +93,10 @@ AreInOrder-put_root x (tree m d none) (tree n c r) alone order = elim (cases_Boo
         (false_from_ne_true _ (name_before-not_both x n.name h), NoneBefore-earlier x n.name h r order.0),
     order,
   )
-  | inr h ↦ rw h (NoneBefore-put_root n.name x (tree m d none) r alone h order.0, AreInOrder-put_root x (tree m d none) r alone order.1)
+  | inr h ↦ rw h (
+    NoneBefore-put_root n.name x (tree m d none) r (record { alone = alone; not_before = h }) order.0,
+    AreInOrder-put_root x (tree m d none) r alone order.1,
+  )
 ]
 
 -- each node still has the owner of its root
@@ -132,15 +140,20 @@ front-own o x new (tree n c r) alone behind = elim (cases_Bool (owner_eq n.name.
   | inr e ↦ rw e (front-own o x new r alone behind.1)
 ]
 
+-- a tree of an owner's, alone under a name
+pub record IsOwnTree (o : Owner) (x : NodeName) (new : Trees) : Type 0 where
+  pub alone : IsAlone x new
+  pub of : AreOf o new
+
 -- an owner's tree put among all is put among the owner's own
-pub own-put_root : (o : Owner) (x : NodeName) (new ts : Trees) → IsAlone x new → AreOf o new → AreInOrder ts
+pub own-put_root : (o : Owner) (x : NodeName) (new ts : Trees) → IsOwnTree o x new → AreInOrder ts
     → trees_of_owner o (put_root x new ts) ≡ put_root x new (trees_of_owner o ts)
-own-put_root o x new none alone of order = own-all o new of
-own-put_root o x new (tree n c r) alone of order = elim (cases_Bool (name_before x n.name)) [
-  | inl h ↦ rw h (followed new alone of) ∙ sym (front-own o x new (tree n c r) alone (AllBehind-from n c r h order.0))
+own-put_root o x new none own order = own-all o new own.of
+own-put_root o x new (tree n c r) own order = elim (cases_Bool (name_before x n.name)) [
+  | inl h ↦ rw h (followed new own.alone own.of) ∙ sym (front-own o x new (tree n c r) own.alone (AllBehind-from n c r h order.0))
   | inr h ↦ rw h (elim (cases_Bool (owner_eq n.name.owner o)) [
-    | inl e ↦ rw (e, h) (ap (tree n c) (own-put_root o x new r alone of order.1))
-    | inr e ↦ rw e (own-put_root o x new r alone of order.1)
+    | inl e ↦ rw (e, h) (ap (tree n c) (own-put_root o x new r own order.1))
+    | inr e ↦ rw e (own-put_root o x new r own order.1)
   ])
 ]
   where
@@ -153,18 +166,18 @@ own-put_root o x new (tree n c r) alone of order = elim (cases_Bool (name_before
     followed (tree m d (tree k q s)) a of = absurd a
 
 -- and leaves another owner's as they are
-pub others-put_root : (o p : Owner) → owner_eq o p ≡ false → (x : NodeName) (new ts : Trees) → IsAlone x new → AreOf o new →
+pub others-put_root : {o : Owner} (p : Owner) → owner_eq o p ≡ false → (x : NodeName) (new ts : Trees) → IsOwnTree o x new →
     trees_of_owner p (put_root x new ts) ≡ trees_of_owner p ts
-others-put_root o p apart x new none alone of = own-none o p apart new of
-others-put_root o p apart x none (tree n c r) alone of = elim (cases_Bool (name_before x n.name)) [
+others-put_root {o = o} p apart x new none own = own-none o p apart new own.of
+others-put_root p apart x none (tree n c r) own = elim (cases_Bool (name_before x n.name)) [
   | inl h ↦ rw h refl
-  | inr h ↦ rw h (ap (λ t. cond (owner_eq n.name.owner p) (tree n c t) t) (others-put_root o p apart x none r alone of))
+  | inr h ↦ rw h (ap (λ t. cond (owner_eq n.name.owner p) (tree n c t) t) (others-put_root p apart x none r own))
 ]
-others-put_root o p apart x (tree m d none) (tree n c r) alone of = elim (cases_Bool (name_before x n.name)) [
-  | inl h ↦ rw h (ap (λ b. cond b (tree m d (trees_of_owner p (tree n c r))) (trees_of_owner p (tree n c r))) (ap (λ q. owner_eq q p) of.0 ∙ apart))
-  | inr h ↦ rw h (ap (λ t. cond (owner_eq n.name.owner p) (tree n c t) t) (others-put_root o p apart x (tree m d none) r alone of))
+others-put_root p apart x (tree m d none) (tree n c r) own = elim (cases_Bool (name_before x n.name)) [
+  | inl h ↦ rw h (ap (λ b. cond b (tree m d (trees_of_owner p (tree n c r))) (trees_of_owner p (tree n c r))) (ap (λ q. owner_eq q p) own.of.0 ∙ apart))
+  | inr h ↦ rw h (ap (λ t. cond (owner_eq n.name.owner p) (tree n c t) t) (others-put_root p apart x (tree m d none) r own))
 ]
-others-put_root o p apart x (tree m d (tree k q s)) (tree n c r) alone of = absurd alone
+others-put_root p apart x (tree m d (tree k q s)) (tree n c r) own = absurd own.alone
 
 -- ---- a tree taken out
 

@@ -23,64 +23,60 @@ AreOf-put_before o before new (tree n c r) a b = elim (cases_Bool (is_given befo
   | inr e ↦ rw e (b.0, b.1, AreOf-put_before o before new r a b.2)
 ]
 
--- an owner's tree put below one of the owner's nodes
-AreOf-put_below : (o : Owner) (parent : NodeName) (before : Option NodeName) (new ts : Trees) → AreOf o new → AreOf o ts →
-    AreOf o (put_below parent before new ts)
-AreOf-put_below o parent before new none a b = tt
-AreOf-put_below o parent before new (tree n c r) a b =
-    let below = AreOf-put_below o parent before new c a b.1 in (
-      b.0,
-      cond_both (name_eq n.name parent) _ _ (AreOf o) (λ e. AreOf-put_before o before new _ a below) (λ e. below),
-      AreOf-put_below o parent
-          before new r a b.2,
-    )
+module _ (parent : NodeName) (before : Option NodeName) (new : Trees) where
+  -- an owner's tree put below one of the owner's nodes
+  AreOf-put_below : (o : Owner) (ts : Trees) → AreOf o new → AreOf o ts → AreOf o (put_below parent before new ts)
+  AreOf-put_below o none a b = tt
+  AreOf-put_below o (tree n c r) a b =
+      let below = AreOf-put_below o c a b.1 in (
+        b.0,
+        cond_both (name_eq n.name parent) _ _ (AreOf o) (λ e. AreOf-put_before o before new _ a below) (λ e. below),
+        AreOf-put_below o r a b.2,
+      )
 
--- trees of another owner do not get it
-put_below-apart : (o p : Owner) → owner_eq p o ≡ false → (parent : NodeName) → parent.owner ≡ o → (before : Option NodeName) (new ts : Trees) → AreOf p ts
-    → put_below parent before new ts ≡ ts
-put_below-apart o p apart parent is before new none of = refl
-put_below-apart o p apart parent is before new (tree n c r) of =
-    rw (name_apart o p apart parent n.name is of.0, put_below-apart o p apart parent is before new c of.1)
-    (ap (tree n c) (put_below-apart o p apart parent is before new r of.2))
+  -- trees of another owner do not get it
+  put_below-apart : (o p : Owner) → owner_eq p o ≡ false → parent.owner ≡ o → (ts : Trees) → AreOf p ts → put_below parent before new ts ≡ ts
+  put_below-apart o p apart is none of = refl
+  put_below-apart o p apart is (tree n c r) of =
+      rw (name_apart o p apart parent n.name is of.0, put_below-apart o p apart is c of.1)
+      (ap (tree n c) (put_below-apart o p apart is r of.2))
 
--- each node still has the owner of its root
-HaveOwners-put_below : (o : Owner) (parent : NodeName) (before : Option NodeName) (new ts : Trees) → parent.owner ≡ o → AreOf o new → HaveOwners ts
-    → HaveOwners (put_below parent before new ts)
-HaveOwners-put_below o parent before new none is of have = tt
-HaveOwners-put_below o parent before new (tree n c r) is of have = (here, HaveOwners-put_below o parent before new r is of have.1)
-  where
-    below : Trees
-    below = put_below parent before new c
+  -- each node still has the owner of its root
+  HaveOwners-put_below : (o : Owner) (ts : Trees) → parent.owner ≡ o → AreOf o new → HaveOwners ts → HaveOwners (put_below parent before new ts)
+  HaveOwners-put_below o none is of have = tt
+  HaveOwners-put_below o (tree n c r) is of have = (here, HaveOwners-put_below o r is of have.1)
+    where
+      below : Trees
+      below = put_below parent before new c
 
-    same : n.name.owner ≡ o → AreOf n.name.owner new
-    same e = subst (λ (p : Owner). AreOf p new) (sym e) of
+      same : n.name.owner ≡ o → AreOf n.name.owner new
+      same e = subst (λ (p : Owner). AreOf p new) (sym e) of
 
-    here : AreOf n.name.owner (cond (name_eq n.name parent) (put_before before new below) below)
-    here = elim (cases_Bool (owner_eq n.name.owner o)) [
-      | inl e ↦
-          let whole = AreOf-put_below n.name.owner parent before new c (same (owner_eq-true n.name.owner o e)) have.0 in
-          cond_both (name_eq n.name parent) _ _ (AreOf n.name.owner)
-          (λ h. AreOf-put_before n.name.owner before new below (same (owner_eq-true n.name.owner o e)) whole) (λ h. whole)
-      | inr e ↦ rw (name_apart o n.name.owner e parent n.name is refl, put_below-apart o n.name.owner e parent is before new c have.0) have.0
-    ]
+      here : AreOf n.name.owner (cond (name_eq n.name parent) (put_before before new below) below)
+      here = elim (cases_Bool (owner_eq n.name.owner o)) [
+        | inl e ↦
+            let whole = AreOf-put_below n.name.owner c (same (owner_eq-true n.name.owner o e)) have.0 in
+            cond_both (name_eq n.name parent) _ _ (AreOf n.name.owner)
+            (λ h. AreOf-put_before n.name.owner before new below (same (owner_eq-true n.name.owner o e)) whole) (λ h. whole)
+        | inr e ↦ rw (name_apart o n.name.owner e parent n.name is refl, put_below-apart o n.name.owner e is c have.0) have.0
+      ]
 
-NoneBefore-put_below : (y parent : NodeName) (before : Option NodeName) (new ts : Trees) → NoneBefore y ts → NoneBefore y (put_below parent before new ts)
-NoneBefore-put_below y parent before new none off = tt
-NoneBefore-put_below y parent before new (tree n c r) off = (off.0, NoneBefore-put_below y parent before new r off.1)
+  NoneBefore-put_below : (y : NodeName) (ts : Trees) → NoneBefore y ts → NoneBefore y (put_below parent before new ts)
+  NoneBefore-put_below y none off = tt
+  NoneBefore-put_below y (tree n c r) off = (off.0, NoneBefore-put_below y r off.1)
 
-AreInOrder-put_below : (parent : NodeName) (before : Option NodeName) (new ts : Trees) → AreInOrder ts → AreInOrder (put_below parent before new ts)
-AreInOrder-put_below parent before new none order = tt
-AreInOrder-put_below parent before new (tree n c r) order =
-    (NoneBefore-put_below n.name parent before new r order.0, AreInOrder-put_below parent before new r order.1)
+  AreInOrder-put_below : (ts : Trees) → AreInOrder ts → AreInOrder (put_below parent before new ts)
+  AreInOrder-put_below none order = tt
+  AreInOrder-put_below (tree n c r) order =
+      (NoneBefore-put_below n.name r order.0, AreInOrder-put_below r order.1)
 
--- what is put below a node among all trees is put below it among an owner's own
-own-put_below : (o : Owner) (parent : NodeName) (before : Option NodeName) (new ts : Trees)
-    → trees_of_owner o (put_below parent before new ts) ≡ put_below parent before new (trees_of_owner o ts)
-own-put_below o parent before new none = refl
-own-put_below o parent before new (tree n c r) = elim (cases_Bool (owner_eq n.name.owner o)) [
-  | inl e ↦ rw (e, own-put_below o parent before new r) refl
-  | inr e ↦ rw e (own-put_below o parent before new r)
-]
+  -- what is put below a node among all trees is put below it among an owner's own
+  own-put_below : (o : Owner) (ts : Trees) → trees_of_owner o (put_below parent before new ts) ≡ put_below parent before new (trees_of_owner o ts)
+  own-put_below o none = refl
+  own-put_below o (tree n c r) = elim (cases_Bool (owner_eq n.name.owner o)) [
+    | inl e ↦ rw (e, own-put_below o r) refl
+    | inr e ↦ rw e (own-put_below o r)
+  ]
 
 -- ---- nodes with other contents
 
@@ -140,8 +136,8 @@ module _ (ts : Trees) (owned : AreOwned ts) (o : Owner) where
       owners = HaveOwners-put_root n.name (tree n none none) ts refl (tt, tt) owned.owners;
       order = AreInOrder-put_root n.name (tree n none none) ts refl owned.order;
     };
-    own = own-put_root o n.name (tree n none none) ts refl (is, tt, tt) owned.order;
-    others = λ p apart. others-put_root o p (ne-owner_eq o p (λ e. apart (sym e))) n.name (tree n none none) ts refl (is, tt, tt);
+    own = own-put_root o n.name (tree n none none) ts (record { alone = refl; of = (is, tt, tt) }) owned.order;
+    others = λ p apart. others-put_root p (ne-owner_eq o p (λ e. apart (sym e))) n.name (tree n none none) ts (record { alone = refl; of = (is, tt, tt) });
   }
 
   -- an owner's node taken out of its tree
@@ -156,9 +152,9 @@ module _ (ts : Trees) (owned : AreOwned ts) (o : Owner) where
           owners = HaveOwners-put_root x new (without x ts) alone (HaveOwners-one o new of) rest.owners;
           order = AreInOrder-put_root x new (without x ts) alone rest.order;
         };
-        own = own-put_root o x new (without x ts) alone of rest.order
+        own = own-put_root o x new (without x ts) (record { alone = alone; of = of }) rest.order
             ∙ (ap (put_root x new) (own-without o x ts) ∙ ap (λ us. put_root x us (without x (trees_of_owner o ts))) (read_own ts owned o x is).alone);
-        others = λ p apart. others-put_root o p (ne-owner_eq o p (λ e. apart (sym e))) x new (without x ts) alone of
+        others = λ p apart. others-put_root p (ne-owner_eq o p (λ e. apart (sym e))) x new (without x ts) (record { alone = alone; of = of })
             ∙ others-without p (ne-owner_eq p o apart) x is ts owned.owners;
       }
 
@@ -171,15 +167,15 @@ module _ (ts : Trees) (owned : AreOwned ts) (o : Owner) where
       let of : AreOf o (subtree ts x) = AreOf-alone o x is ts owned.owners in
       record {
         owned = record {
-          owners = HaveOwners-put_below o parent before new (without x ts) is_parent of rest.owners;
+          owners = HaveOwners-put_below parent before new o (without x ts) is_parent of rest.owners;
           order = AreInOrder-put_below parent before new (without x ts) rest.order;
         };
-        own = own-put_below o parent before new (without x ts)
+        own = own-put_below parent before new o (without x ts)
             ∙ (ap (put_below parent before new) (own-without o x ts) ∙ ap (λ us. put_below parent before us (without x (trees_of_owner o ts)))
             (read_own ts owned o x is).alone);
-        others = λ p apart. own-put_below p parent before new (without x ts)
+        others = λ p apart. own-put_below parent before new p (without x ts)
             ∙ (ap (put_below parent before new) (others-without p (ne-owner_eq p o apart) x is ts owned.owners)
-            ∙ put_below-apart o p (ne-owner_eq p o apart) parent is_parent before new (trees_of_owner p ts) (AreOf-own p ts owned.owners));
+            ∙ put_below-apart parent before new o p (ne-owner_eq p o apart) is_parent (trees_of_owner p ts) (AreOf-own p ts owned.owners));
       }
 
 -- a node changed where a test holds, which it does for nodes of one owner alone

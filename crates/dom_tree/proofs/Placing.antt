@@ -70,7 +70,8 @@ module _ {f : NamedTrees} {ps : List Stored} {lists : List (List ℕ)} {keys : O
   pub lost_test : (x : ℕ) (r : Option ℕ) → p < length f.names → x < length f.names → r ≡ parent_of lists x → ((q : ℕ) → r ≡ Some q → q < length f.names)
       → not (option_eq KeyImpl.ghosts.eq r (Some p)) ≡ not (has_parent f.trees (name_at f.names p) (name_at f.names x))
   lost_test x r at_p at_x found inside =
-      ap not (by r inside ∙ ap (λ o. option_map_or (name_eq (name_at f.names p)) o false) (shows is kept parent_in parent_of parent_in-at x r at_x found))
+      ap not (by r inside ∙ ap (λ o. option_map_or (name_eq (name_at f.names p)) o false)
+      (shows is kept {read = parent_in} {key_read = parent_of} (record { agree = parent_in-at }) x at_x found))
     where
       by : (o : Option ℕ) → ((q : ℕ) → o ≡ Some q → q < length f.names) →
           option_eq KeyImpl.ghosts.eq o (Some p) ≡ option_map_or (name_eq (name_at f.names p)) (option_map (name_at f.names) o) false

@@ -65,8 +65,8 @@ children_in-at nodes lists whole x node =
 pub inclusive_ancestors-at : (nodes : List Node) (lists : List (List ℕ)) → IsWhole nodes lists → (x : ℕ) → x < length lists →
     inclusive_ancestors (trees_of nodes lists) (name_of_key nodes x) ≡ map (name_of_key nodes) (x ∷ ancestors_of lists x)
 inclusive_ancestors-at nodes lists whole x node =
-    let path = inclusive_ancestors-from nodes lists whole.named whole.forest x (node_at nodes x) (node_here nodes lists whole x node)
-    (trees_of nodes lists) (root_keys nodes lists) [] (Stands-trees_of nodes lists whole)
+    let path = inclusive_ancestors-from nodes lists whole.named x (node_at nodes x) (node_here nodes lists whole x node) whole.forest
+    (trees_of nodes lists) (root_keys nodes lists) (Stands-trees_of nodes lists whole)
     (λ k found. ancestors_of-root lists k (is_none_from (parent_of lists k) (passing-within nodes (is_root lists) (length lists) k found).1))
     (reached nodes lists whole x node) in
     path.1 ∙ ap (λ ys. name_of_key nodes x ∷ ys) (sym (append-nil path.0) ∙ path.2)

@@ -174,11 +174,15 @@ pub passing-same : (nodes : List Node) (p q : ℕ → Bool) (n : ℕ) → ((k : 
 passing-same nodes p q n same =
     ap (in_order nodes) (filter-same p q (range_with_len 0 n) (λ k found. let within = range-within 0 n k found in same k (omega (arith, within.1))))
 
--- one key more passes
-pub passing-more : (nodes : List Node) → IsNamed nodes → (p q : ℕ → Bool) (n c : ℕ) → length nodes ≡ n → c < n → p c ≡ false → q c ≡ true →
-    ((k : ℕ) → k ≢ c → q k ≡ p k)
+-- one key more passes the second test than the first one
+pub record PassesMore (p q : ℕ → Bool) (c : ℕ) : Type 0 where
+  pub out : p c ≡ false
+  pub into : q c ≡ true
+  pub same : (k : ℕ) → k ≢ c → q k ≡ p k
+
+pub passing-more : {nodes : List Node} → IsNamed nodes → {p q : ℕ → Bool} {c : ℕ} → PassesMore p q c → (n : ℕ) → length nodes ≡ n → c < n
     → passing nodes q n ≡ put_key nodes c (passing nodes p n)
-passing-more nodes named p q n c paired within out into same =
+passing-more {nodes = nodes} named {p = p} {q = q} {c = c} more n paired within =
     ap (in_order nodes) with_c ∙ (in_order-between nodes c (filter p front) (filter p back) other ∙ ap (λ ks. put_key nodes c (in_order nodes ks))
     (sym without_c))
   where
@@ -198,16 +202,16 @@ passing-more nodes named p q n c paired within out into same =
     absent = or_parts (contains front c) (contains back c) (sym (contains-append front back c) ∙ beside.absent)
 
     in_front : filter q front ≡ filter p front
-    in_front = filter-same q p front (λ k found. same k (λ e. both_ways _ absent.0 (ap (contains front) (sym e) ∙ found)))
+    in_front = filter-same q p front (λ k found. more.same k (λ e. both_ways _ absent.0 (ap (contains front) (sym e) ∙ found)))
 
     in_back : filter q back ≡ filter p back
-    in_back = filter-same q p back (λ k found. same k (λ e. both_ways _ absent.1 (ap (contains back) (sym e) ∙ found)))
+    in_back = filter-same q p back (λ k found. more.same k (λ e. both_ways _ absent.1 (ap (contains back) (sym e) ∙ found)))
 
     with_c : filter q (range_with_len 0 n) ≡ filter p front ++ c ∷ filter p back
-    with_c = ap (filter q) parts.is ∙ (filter-append q front (c ∷ back) ∙ rw (into, in_front, in_back) refl)
+    with_c = ap (filter q) parts.is ∙ (filter-append q front (c ∷ back) ∙ rw (more.into, in_front, in_back) refl)
 
     without_c : filter p (range_with_len 0 n) ≡ filter p front ++ filter p back
-    without_c = ap (filter p) parts.is ∙ (filter-append p front (c ∷ back) ∙ rw out refl)
+    without_c = ap (filter p) parts.is ∙ (filter-append p front (c ∷ back) ∙ rw more.out refl)
 
     other : Each (λ k. name_of_key nodes c ≡ name_of_key nodes k → ⊥) (filter p front)
     other k found e =
@@ -224,7 +228,7 @@ pub without-passing : {nodes : List Node} → IsNamed nodes → {p q : ℕ → B
     p k ≡ q k)
     → without c (passing nodes p n) ≡ passing nodes q n
 without-passing {nodes} named {p} {q} {n} c paired within out same = elim (cases_Bool (p c)) [
-  | inl e ↦ ap (without c) (passing-more nodes named q p n c paired within out e same) ∙ without-put_key nodes c (passing nodes q n) lost
+  | inl e ↦ ap (without c) (passing-more named (record { out = out; into = e; same = same }) n paired within) ∙ without-put_key nodes c (passing nodes q n) lost
   | inr e ↦ ap (without c) (passing-same nodes p q n (agree e)) ∙ without-absent c (passing nodes q n) lost
 ]
   where

@@ -72,42 +72,48 @@ Stands-row nodes lists below (k ∷ ks) within stand = (
       (Each-tail (λ j. Stands nodes lists (below j) (children_of lists j)) k ks stand),
 )
 
-Stands-below : (nodes : List Node) (lists : List (List ℕ)) → IsForest lists → length nodes ≡ length lists → (m k : ℕ)
-    → k < length lists → length lists ≤ m + length (ancestors_of lists k) → Stands nodes lists (below_within m nodes lists k) (children_of lists k)
-Stands-below nodes lists forest paired zero k node deep = absurd (omega (arith, length-ancestors_of lists forest k node))
-Stands-below nodes lists forest paired (suc m) k node deep =
-    Stands-row nodes lists (below_within m nodes lists) (children_of lists k)
-    (λ j found. omega (arith, forest.nodes k j found))
-    (λ j found.
-    let up = ap (length {A = ℕ}) (ancestors_of-child lists forest j k (parent_of_is lists forest.one_list k j found)) in
-    Stands-below nodes lists forest paired m j (forest.nodes k j found) (omega (arith, up)))
+module _ (nodes : List Node) (lists : List (List ℕ)) (forest : IsForest lists) (paired : length nodes ≡ length lists) where
+  Stands-below : (m k : ℕ) → k < length lists → length lists ≤ m + length (ancestors_of lists k) →
+      Stands nodes lists (below_within m nodes lists k) (children_of lists k)
+  Stands-below zero k node deep = absurd (omega (arith, length-ancestors_of lists forest k node))
+  Stands-below (suc m) k node deep =
+      Stands-row nodes lists (below_within m nodes lists) (children_of lists k)
+      (λ j found. omega (arith, forest.nodes k j found))
+      (λ j found.
+      let up = ap (length {A = ℕ}) (ancestors_of-child lists forest j k (parent_of_is lists forest.one_list k j found)) in
+      Stands-below m j (forest.nodes k j found) (omega (arith, up)))
 
-pub Stands-trees_on : (nodes : List Node) (lists : List (List ℕ)) → IsForest lists → length nodes ≡ length lists → (ks : List ℕ)
-    → Each (λ k. k < length lists) ks → Stands nodes lists (trees_on nodes lists ks) ks
-unfolding trees_on
-Stands-trees_on nodes lists forest paired ks within =
-    Stands-row nodes lists (below_within (length lists) nodes lists) ks
-    (λ k found. omega (arith, within k found))
-    (λ k found. Stands-below nodes lists forest paired (length lists) k (within k found) (omega arith))
+  pub Stands-trees_on : (ks : List ℕ) → Each (λ k. k < length lists) ks → Stands nodes lists (trees_on nodes lists ks) ks
+  unfolding trees_on
+  Stands-trees_on ks within =
+      Stands-row nodes lists (below_within (length lists) nodes lists) ks
+      (λ k found. omega (arith, within k found))
+      (λ k found. Stands-below (length lists) k (within k found) (omega arith))
 
 -- ---- changes
 
+abbrev pub name_of_key : List Node → ℕ → NodeName
+name_of_key nodes k = (node_at nodes k).name
+
+-- nothing changes at the keys for which P holds, and P holds of what is below them
+pub record KeepsAll (nodes others : List Node) (lists changed : List (List ℕ)) (P : ℕ → Type 0) : Type 0 where
+  pub node : (k : ℕ) (n : Node) → P k → slice_get nodes k ≡ Some n → slice_get others k ≡ Some n
+  pub list : (k : ℕ) → P k → children_of changed k ≡ children_of lists k
+  pub down : (k j : ℕ) → P k → contains (children_of lists k) j ≡ true → P j
+
 module _ (nodes others : List Node) (lists : List (List ℕ)) where
   -- trees stand for the same keys where nothing changes at these and below them
-  pub Stands-kept : (changed : List (List ℕ)) (P : ℕ → Type 0)
-      → ((k : ℕ) (n : Node) → P k → slice_get nodes k ≡ Some n → slice_get others k ≡ Some n)
-      → ((k : ℕ) → P k → children_of changed k ≡ children_of lists k)
-      → ((k j : ℕ) → P k → contains (children_of lists k) j ≡ true → P j)
+  pub Stands-kept : {changed : List (List ℕ)} {P : ℕ → Type 0} → KeepsAll nodes others lists changed P
       → (ts : Trees) (ks : List ℕ) → Each P ks → Stands nodes lists ts ks → Stands others changed ts ks
-  Stands-kept changed P node list down none [] each s = tt
-  Stands-kept changed P node list down none (k ∷ ks) each s = absurd s
-  Stands-kept changed P node list down (tree n c r) [] each s = absurd s
-  Stands-kept changed P node list down (tree n c r) (k ∷ ks) each s =
+  Stands-kept keeps none [] each s = tt
+  Stands-kept keeps none (k ∷ ks) each s = absurd s
+  Stands-kept keeps (tree n c r) [] each s = absurd s
+  Stands-kept {changed = changed} {P = P} keeps (tree n c r) (k ∷ ks) each s =
       let here = each k (contains-head k ks) in (
-        node k n here s.0,
-        subst (λ (js : List ℕ). Stands others changed c js) (sym (list k here))
-            (Stands-kept changed P node list down c (children_of lists k) (λ j found. down k j here found) s.1),
-        Stands-kept changed P node list down r ks (Each-tail P k ks each) s.2,
+        keeps.node k n here s.0,
+        subst (λ (js : List ℕ). Stands others changed c js) (sym (keeps.list k here))
+            (Stands-kept keeps c (children_of lists k) (λ j found. keeps.down k j here found) s.1),
+        Stands-kept keeps r ks (Each-tail P k ks each) s.2,
       )
 
   -- each node is given other contents
@@ -122,16 +128,16 @@ module _ (nodes others : List Node) (lists : List (List ℕ)) where
 
 module _ (nodes : List Node) (lists : List (List ℕ)) where
   -- one key leaves all lists
-  pub Stands-without : IsNamed nodes → (x : ℕ) (m : Node) → slice_get nodes x ≡ Some m
-      → (ts : Trees) (ks : List ℕ) → Stands nodes lists ts ks → Stands nodes (map (without_key x) lists) (without m.name ts) (without_key x ks)
-  Stands-without named x m at none [] s = tt
-  Stands-without named x m at none (k ∷ ks) s = absurd s
-  Stands-without named x m at (tree n c r) [] s = absurd s
-  Stands-without named x m at (tree n c r) (k ∷ ks) s =
-      let rest = Stands-without named x m at r ks s.2 in
+  pub Stands-without : IsNamed nodes → (x : ℕ) {m : Node} → slice_get nodes x ≡ Some m → (ts : Trees) (ks : List ℕ) → Stands nodes lists ts ks →
+      Stands nodes (map (without_key x) lists) (without m.name ts) (without_key x ks)
+  Stands-without named x at none [] s = tt
+  Stands-without named x at none (k ∷ ks) s = absurd s
+  Stands-without named x at (tree n c r) [] s = absurd s
+  Stands-without named x {m = m} at (tree n c r) (k ∷ ks) s =
+      let rest = Stands-without named x at r ks s.2 in
       let below : Stands nodes (map (without_key x) lists) (without m.name c) (children_of (map (without_key x) lists) k) =
       subst (λ (js : List ℕ). Stands nodes (map (without_key x) lists) (without m.name c) js) (sym (children_of-without lists x k))
-      (Stands-without named x m at c (children_of lists k) s.1) in
+      (Stands-without named x at c (children_of lists k) s.1) in
       let tells : name_eq n.name m.name ≡ eqb k x = same_name named k x s.0 at in
       elim (cases_Bool (eqb k x)) [
         | inl e ↦ rw (tells, e) rest
@@ -146,82 +152,80 @@ module _ (nodes : List Node) (lists : List (List ℕ)) where
   Stands-followed_by (tree n c r) us [] js s t = absurd s
   Stands-followed_by (tree n c r) us (k ∷ ks) js s t = (s.0, s.1, Stands-followed_by r us ks js s.2 t)
 
+module _ (nodes : List Node) (lists : List (List ℕ)) (new : Trees) (x : ℕ) (alone : Stands nodes lists new (x ∷ [])) where
   -- a tree put into a list
-  pub Stands-put_last : (new : Trees) (x : ℕ) → Stands nodes lists new (x ∷ [])
-      → (ts : Trees) (ks : List ℕ) → Stands nodes lists ts ks → Stands nodes lists (put_before None new ts) (ks ++ x ∷ [])
-  Stands-put_last new x alone none [] s = alone
-  Stands-put_last new x alone none (k ∷ ks) s = absurd s
-  Stands-put_last new x alone (tree n c r) [] s = absurd s
-  Stands-put_last new x alone (tree n c r) (k ∷ ks) s = (s.0, s.1, Stands-put_last new x alone r ks s.2)
+  pub Stands-put_last : (ts : Trees) (ks : List ℕ) → Stands nodes lists ts ks → Stands nodes lists (put_before None new ts) (ks ++ x ∷ [])
+  Stands-put_last none [] s = alone
+  Stands-put_last none (k ∷ ks) s = absurd s
+  Stands-put_last (tree n c r) [] s = absurd s
+  Stands-put_last (tree n c r) (k ∷ ks) s = (s.0, s.1, Stands-put_last r ks s.2)
 
-  pub Stands-put_before : IsNamed nodes → (new : Trees) (x : ℕ) → Stands nodes lists new (x ∷ [])
-      → (b : ℕ) (m : Node) → slice_get nodes b ≡ Some m
+  pub Stands-put_before : IsNamed nodes → (b : ℕ) {m : Node} → slice_get nodes b ≡ Some m
       → (ts : Trees) (ks : List ℕ) → Stands nodes lists ts ks → Stands nodes lists (put_before (Some m.name) new ts) (put_key_before ks x b)
-  Stands-put_before named new x alone b m at none [] s = alone
-  Stands-put_before named new x alone b m at none (k ∷ ks) s = absurd s
-  Stands-put_before named new x alone b m at (tree n c r) [] s = absurd s
-  Stands-put_before named new x alone b m at (tree n c r) (k ∷ ks) s =
-      let rest = Stands-put_before named new x alone b m at r ks s.2 in
+  Stands-put_before named b at none [] s = alone
+  Stands-put_before named b at none (k ∷ ks) s = absurd s
+  Stands-put_before named b at (tree n c r) [] s = absurd s
+  Stands-put_before named b {m = m} at (tree n c r) (k ∷ ks) s =
+      let rest = Stands-put_before named b at r ks s.2 in
       let tells : name_eq n.name m.name ≡ eqb k b = same_name named k b s.0 at in
       elim (cases_Bool (eqb k b)) [
-        | inl e ↦ rw (tells, e) (Stands-followed_by new (tree n c r) (x ∷ []) (k ∷ ks) alone s)
+        | inl e ↦ rw (tells, e) (Stands-followed_by nodes lists new (tree n c r) (x ∷ []) (k ∷ ks) alone s)
         | inr e ↦ rw (tells, e) (s.0, s.1, rest)
       ]
 
-abbrev pub name_of_key : List Node → ℕ → NodeName
-name_of_key nodes k = (node_at nodes k).name
+  -- before the one given, or behind all
+  pub Stands-insert : IsNamed nodes → (before : Option ℕ) → ((b : ℕ) → before ≡ Some b → b < length nodes)
+      → (ts : Trees) (ks : List ℕ) → Stands nodes lists ts ks →
+      Stands nodes lists (put_before (option_map (name_of_key nodes) before) new ts) (insert_before ks x before)
+  Stands-insert named None within ts ks s = Stands-put_last ts ks s
+  Stands-insert named (Some b) within ts ks s = Stands-put_before named b (slice_get-get_or nodes b _ (within b refl)) ts ks s
 
--- before the one given, or behind all
-pub Stands-insert : (nodes : List Node) (lists : List (List ℕ)) → IsNamed nodes → (new : Trees) (x : ℕ) → Stands nodes lists new (x ∷ [])
-    → (before : Option ℕ) → ((b : ℕ) → before ≡ Some b → b < length nodes)
-    → (ts : Trees) (ks : List ℕ) → Stands nodes lists ts ks →
-    Stands nodes lists (put_before (option_map (name_of_key nodes) before) new ts) (insert_before ks x before)
-Stands-insert nodes lists named new x alone None within ts ks s = Stands-put_last nodes lists new x alone ts ks s
-Stands-insert nodes lists named new x alone (Some b) within ts ks s =
-    Stands-put_before nodes lists named new x alone b (node_at nodes b) (slice_get-get_or nodes b _ (within b refl)) ts ks s
+  -- a tree of its own among the others
+  pub Stands-put_root : (ts : Trees) (ks : List ℕ) → Stands nodes lists ts ks → Stands nodes lists (put_root (name_of_key nodes x) new ts) (put_key nodes x ks)
+  Stands-put_root none [] s = alone
+  Stands-put_root none (k ∷ ks) s = absurd s
+  Stands-put_root (tree n c r) [] s = absurd s
+  Stands-put_root (tree n c r) (k ∷ ks) s =
+      let rest = Stands-put_root r ks s.2 in
+      let at : name_of_key nodes k ≡ n.name = ap (λ (y : Node). y.name) (get_or_from_slice_get nodes k n _ s.0) in
+      let same : name_before (name_of_key nodes x) n.name ≡ name_before (name_of_key nodes x) (name_of_key nodes k) =
+      ap (name_before (name_of_key nodes x)) (sym at) in
+      elim (cases_Bool (name_before (name_of_key nodes x) (name_of_key nodes k))) [
+        | inl e ↦ rw (same, e) (Stands-followed_by nodes lists new (tree n c r) (x ∷ []) (k ∷ ks) alone s)
+        | inr e ↦ rw (same, e) (s.0, s.1, rest)
+      ]
+
+-- a tree that stands for x, to be put before one of the children of p, or behind them, and the lists in which x stands there
+pub record PutsBelow (nodes : List Node) (lists changed : List (List ℕ)) (new : Trees) (x : ℕ) (before : Option ℕ) (p : ℕ) : Type 0 where
+  pub named : IsNamed nodes
+  pub alone : Stands nodes changed new (x ∷ [])
+  pub within : (b : ℕ) → before ≡ Some b → b < length nodes
+  pub here : children_of changed p ≡ insert_before (children_of lists p) x before
+  pub there : (k : ℕ) → k ≢ p → children_of changed k ≡ children_of lists k
 
 -- a tree put among the children of a node
-pub Stands-put_below : (nodes : List Node) (lists changed : List (List ℕ)) → IsNamed nodes → (new : Trees) (x : ℕ) → Stands nodes changed new (x ∷ [])
-    → (before : Option ℕ) → ((b : ℕ) → before ≡ Some b → b < length nodes)
-    → (p : ℕ) (m : Node) → slice_get nodes p ≡ Some m
-    → children_of changed p ≡ insert_before (children_of lists p) x before
-    → ((k : ℕ) → k ≢ p → children_of changed k ≡ children_of lists k)
+pub Stands-put_below : {nodes : List Node} {lists changed : List (List ℕ)} {new : Trees} {x : ℕ} {before : Option ℕ} {p : ℕ}
+    → PutsBelow nodes lists changed new x before p → {m : Node} → slice_get nodes p ≡ Some m
     → (ts : Trees) (ks : List ℕ) → Stands nodes lists ts ks → Stands nodes changed (put_below m.name (option_map (name_of_key nodes) before) new ts) ks
-Stands-put_below nodes lists changed named new x alone before within p m at here there none [] s = tt
-Stands-put_below nodes lists changed named new x alone before within p m at here there none (k ∷ ks) s = absurd s
-Stands-put_below nodes lists changed named new x alone before within p m at here there (tree n c r) [] s = absurd s
-Stands-put_below nodes lists changed named new x alone before within p m at here there (tree n c r) (k ∷ ks) s =
-    let rest = Stands-put_below nodes lists changed named new x alone before within p m at here there r ks s.2 in
-    let below = Stands-put_below nodes lists changed named new x alone before within p m at here there c (children_of lists k) s.1 in
+Stands-put_below puts at none [] s = tt
+Stands-put_below puts at none (k ∷ ks) s = absurd s
+Stands-put_below puts at (tree n c r) [] s = absurd s
+Stands-put_below {nodes = nodes} {lists = lists} {changed = changed} {new = new} {x = x} {before = before} {p = p} puts {m = m} at (tree n c r) (k ∷ ks) s =
+    let rest = Stands-put_below puts at r ks s.2 in
+    let below = Stands-put_below puts at c (children_of lists k) s.1 in
     let given = option_map (name_of_key nodes) before in
     let more : Trees = put_below m.name given new c in
-    let tells : name_eq n.name m.name ≡ eqb k p = same_name named k p s.0 at in
+    let tells : name_eq n.name m.name ≡ eqb k p = same_name puts.named k p s.0 at in
     elim (eqb_tells k p) [
       | inl h ↦
           let list : children_of changed k ≡ insert_before (children_of lists k) x before =
-          subst (λ (j : ℕ). children_of changed j ≡ insert_before (children_of lists j) x before) (sym h.1) here in
+          subst (λ (j : ℕ). children_of changed j ≡ insert_before (children_of lists j) x before) (sym h.1) puts.here in
           rw (tells, h.0) (
             s.0,
             subst (λ (js : List ℕ). Stands nodes changed (put_before given new more) js) (sym list)
-                (Stands-insert nodes changed named new x alone before within more (children_of lists k) below),
+                (Stands-insert nodes changed new x puts.alone puts.named before puts.within more (children_of lists k) below),
             rest,
           )
       | inr h ↦
-          rw (tells, h.0) (s.0, subst (λ (js : List ℕ). Stands nodes changed more js) (sym (there k h.1)) below, rest)
-    ]
-
--- a tree of its own among the others
-pub Stands-put_root : (nodes : List Node) (lists : List (List ℕ)) (new : Trees) (x : ℕ) → Stands nodes lists new (x ∷ [])
-    → (ts : Trees) (ks : List ℕ) → Stands nodes lists ts ks → Stands nodes lists (put_root (name_of_key nodes x) new ts) (put_key nodes x ks)
-Stands-put_root nodes lists new x alone none [] s = alone
-Stands-put_root nodes lists new x alone none (k ∷ ks) s = absurd s
-Stands-put_root nodes lists new x alone (tree n c r) [] s = absurd s
-Stands-put_root nodes lists new x alone (tree n c r) (k ∷ ks) s =
-    let rest = Stands-put_root nodes lists new x alone r ks s.2 in
-    let at : name_of_key nodes k ≡ n.name = ap (λ (y : Node). y.name) (get_or_from_slice_get nodes k n _ s.0) in
-    let same : name_before (name_of_key nodes x) n.name ≡ name_before (name_of_key nodes x) (name_of_key nodes k) =
-    ap (name_before (name_of_key nodes x)) (sym at) in
-    elim (cases_Bool (name_before (name_of_key nodes x) (name_of_key nodes k))) [
-      | inl e ↦ rw (same, e) (Stands-followed_by nodes lists new (tree n c r) (x ∷ []) (k ∷ ks) alone s)
-      | inr e ↦ rw (same, e) (s.0, s.1, rest)
+          rw (tells, h.0) (s.0, subst (λ (js : List ℕ). Stands nodes changed more js) (sym (puts.there k h.1)) below, rest)
     ]

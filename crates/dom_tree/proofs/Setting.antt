@@ -75,19 +75,24 @@ pub set_names : {f : NamedTrees} {ps : List Stored} {lists : List (List ℕ)} {k
     → (x : ℕ) {s : Stored} (t : Stored) → slice_get ps x ≡ Some s → t.name ≡ s.name → stored_names (set ps x t) ≡ f.names
 set_names {ps = ps} is kept x {s} t at same = stored_names-set ps x s t at same ∙ ap (λ (g : NamedTrees). g.names) is
 
+-- what is stored of a key's node, and what is stored anew under its name
+pub record IsStoredAnew (ps : List Stored) (x : ℕ) (s t : Stored) : Type 0 where
+  pub at : slice_get ps x ≡ Some s
+  pub name_kept : t.name ≡ s.name
+
 -- a change of what is stored is that change of the node
 pub set_done : {f : NamedTrees} {ps : List Stored} {lists : List (List ℕ)} {keys : Owner → List ℕ} → seen ps lists ≡ f → IsKept ps lists keys
-    → (x : ℕ) (s t : Stored) (h : Node → Node) → slice_get ps x ≡ Some s → t.name ≡ s.name → ((y : Node) → (h y).name ≡ y.name) →
+    → {x : ℕ} {s t : Stored} → IsStoredAnew ps x s t → (h : Node → Node) → ((y : Node) → (h y).name ≡ y.name) →
     node_with f.names t.name t.node ≡ h (node_with f.names s.name s.node)
     → seen (set ps x t) lists ≡ record f { trees = change_node h (name_at f.names x) f.trees }
-set_done {f = f} {ps = ps} {lists = lists} {keys = keys} is kept x s t h at same keeps changed =
+set_done {f = f} {ps = ps} {lists = lists} {keys = keys} is kept {x = x} {s = s} {t = t} anew h keeps changed =
     subst (λ (g : NamedTrees). seen (set ps x t) lists ≡ record g { trees = change_node h (name_at g.names x) g.trees }) is
     (ap (λ ns. record { names = ns; trees = trees_of (nodes_with ns (set ps x t)) lists }) names
     ∙ ap (λ ts. record { names = stored_names ps; trees = ts })
     (trees_of-map others whole as_long keeps_all each))
   where
     names : stored_names (set ps x t) ≡ stored_names ps
-    names = stored_names-set ps x s t at same
+    names = stored_names-set ps x s t anew.at anew.name_kept
 
     others : List Node
     others = nodes_with (stored_names ps) (set ps x t)
@@ -105,11 +110,11 @@ set_done {f = f} {ps = ps} {lists = lists} {keys = keys} is kept x s t h at same
     ]
 
     here : slice_get (nodes_of ps) x ≡ Some (node_with (stored_names ps) s.name s.node)
-    here = slice_get-map (λ u. node_with (stored_names ps) u.name u.node) ps x ∙ ap (option_map (λ u. node_with (stored_names ps) u.name u.node)) at
+    here = slice_get-map (λ u. node_with (stored_names ps) u.name u.node) ps x ∙ ap (option_map (λ u. node_with (stored_names ps) u.name u.node)) anew.at
 
     new_here : slice_get others x ≡ Some (h (node_with (stored_names ps) s.name s.node))
     new_here = slice_get-map (λ u. node_with (stored_names ps) u.name u.node) (set ps x t) x
-        ∙ (ap (option_map (λ u. node_with (stored_names ps) u.name u.node)) (slice_get-set_same ps x s t at)
+        ∙ (ap (option_map (λ u. node_with (stored_names ps) u.name u.node)) (slice_get-set_same ps x s t anew.at)
         ∙ ap Some (subst (λ (g : NamedTrees). node_with g.names t.name t.node ≡ h (node_with g.names s.name s.node)) (sym is) changed))
 
     own_name : s.name ≡ name_at (stored_names ps) x

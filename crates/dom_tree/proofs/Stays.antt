@@ -18,6 +18,7 @@ use Rattle.dom_tree.specs.Forest.{NamedTrees, IsKept, stored_names, nodes_of, na
 use Rattle.dom_tree.proofs.Rows.{name_of_key}
 use Rattle.dom_tree.proofs.Changes.{linked, contains-insert_before}
 use Rattle.dom_tree.proofs.Reading.{parent_in-at, children_in-at, inclusive_ancestors-at}
+use Rattle.dom_tree.proofs.Walks.{off_from}
 use Rattle.dom_tree.proofs.Kept.{seen, within, names_option, name_at-same, IsWhole-kept, kept_with, above-at, ancestors_nodes}
 
 -- ---- in the lists
@@ -29,26 +30,28 @@ AreSameBut c lists others = (k : ℕ) → k ≢ c → (q : ℕ) → contains (ch
 parent_apart : (lists others : List (List ℕ)) (c : ℕ) → AreSameBut c lists others → (y : ℕ) → eqb y c ≡ false → parent_of others y ≡ parent_of lists y
 parent_apart lists others c same y off = parent_of_same others lists y (same y (eqb-false y c off))
 
-ancestors_apart : (lists others : List (List ℕ)) → IsForest lists → IsForest others → (c : ℕ) → AreSameBut c lists others → (d y : ℕ) →
-    length (ancestors_of lists y) ≤ d → contains (y ∷ ancestors_of lists y) c ≡ false → ancestors_of others y ≡ ancestors_of lists y
-ancestors_apart lists others forest after c same zero y deep off = elim (cases_Option (parent_of lists y)) [
-  | inl e ↦
-      let kept = parent_apart lists others c same y (or_parts (eqb y c) (contains (ancestors_of lists y) c) off).0 in
-      ancestors_of-root others y (kept ∙ e) ∙ sym (ancestors_of-root lists y e)
-  | inr w ↦ absurd (omega (arith, ap (length {A = ℕ}) (ancestors_of-child lists forest y w.0 w.1)))
-]
-ancestors_apart lists others forest after c same (suc d) y deep off =
-    let parts = or_parts (eqb y c) (contains (ancestors_of lists y) c) off in
-    let kept = parent_apart lists others c same y parts.0 in
-    elim (cases_Option (parent_of lists y)) [
-      | inl e ↦ ancestors_of-root others y (kept ∙ e) ∙ sym (ancestors_of-root lists y e)
-      | inr w ↦
-          let path = ancestors_of-child lists forest y w.0 w.1 in
-          ancestors_of-child others after y w.0 (kept ∙ w.1)
-          ∙ (ap (λ ks. w.0 ∷ ks) (ancestors_apart lists others forest after c same d w.0 (omega (arith, ap (length {A = ℕ}) path))
-          (ap (λ ks. contains ks c) (sym path) ∙ parts.1))
-          ∙ sym path)
+ancestors_apart : {lists others : List (List ℕ)} → IsForest lists → IsForest others → (c : ℕ) → AreSameBut c lists others → (y : ℕ) →
+    contains (y ∷ ancestors_of lists y) c ≡ false → ancestors_of others y ≡ ancestors_of lists y
+ancestors_apart {lists = lists} {others = others} forest after c same y off = up (length (ancestors_of lists y)) y (omega arith) off
+  where
+    up : (d k : ℕ) → length (ancestors_of lists k) ≤ d → contains (k ∷ ancestors_of lists k) c ≡ false → ancestors_of others k ≡ ancestors_of lists k
+    up zero k deep apart = elim (cases_Option (parent_of lists k)) [
+      | inl e ↦
+          let kept = parent_apart lists others c same k (or_parts (eqb k c) (contains (ancestors_of lists k) c) apart).0 in
+          ancestors_of-root others k (kept ∙ e) ∙ sym (ancestors_of-root lists k e)
+      | inr w ↦ absurd (omega (arith, ap (length {A = ℕ}) (ancestors_of-child lists forest k w.0 w.1)))
     ]
+    up (suc d) k deep apart =
+        let parts = or_parts (eqb k c) (contains (ancestors_of lists k) c) apart in
+        let kept = parent_apart lists others c same k parts.0 in
+        elim (cases_Option (parent_of lists k)) [
+          | inl e ↦ ancestors_of-root others k (kept ∙ e) ∙ sym (ancestors_of-root lists k e)
+          | inr w ↦
+              let path = ancestors_of-child lists forest k w.0 w.1 in
+              ancestors_of-child others after k w.0 (kept ∙ w.1)
+              ∙ (ap (λ ks. w.0 ∷ ks) (up d w.0 (omega (arith, ap (length {A = ℕ}) path)) (ap (λ ks. contains ks c) (sym path) ∙ parts.1))
+              ∙ sym path)
+        ]
 
 -- ---- in the trees
 
@@ -80,43 +83,56 @@ above_nodes {ps = ps} {lists = lists} kept y a node found = elim (or_cases (eqb 
   | inr h ↦ let there = ancestors_nodes kept.forest (length (ancestors_of lists y)) y a (omega arith) h in omega (arith, kept.paired)
 ]
 
+-- a step that moves c alone: the nodes keep their names, and there are no fewer
+record MovesAlone (c : ℕ) (ps qs : List Stored) (lists others : List (List ℕ)) : Type 0 where
+  pub names : (k : ℕ) → k < length ps → name_at (stored_names qs) k ≡ name_at (stored_names ps) k
+  pub longer : length ps ≤ length qs
+  pub apart : AreSameBut c lists others
+
 path_stays : {ps qs : List Stored} {lists others : List (List ℕ)} {keys more : Owner → List ℕ} → IsKept ps lists keys → IsKept qs others more →
-    ((k : ℕ) → k < length ps → name_at (stored_names qs) k ≡ name_at (stored_names ps) k) → length ps ≤ length qs → (c : ℕ) → AreSameBut c lists others →
-    (y : ℕ) → y < length ps → contains (y ∷ ancestors_of lists y) c ≡ false →
+    {c : ℕ} → MovesAlone c ps qs lists others → (y : ℕ) → y < length ps → contains (y ∷ ancestors_of lists y) c ≡ false →
     inclusive_ancestors (trees_of (nodes_of qs) others) (name_at (stored_names ps) y) ≡
     inclusive_ancestors (trees_of (nodes_of ps) lists) (name_at (stored_names ps) y)
-path_stays {ps = ps} {qs = qs} {lists = lists} {others = others} kept after same longer c apart y node off =
-    ap (inclusive_ancestors (trees_of (nodes_of qs) others)) (sym (same y node))
+path_stays {ps = ps} {qs = qs} {lists = lists} {others = others} kept after {c = c} moves y node off =
+    let longer = moves.longer in
+    ap (inclusive_ancestors (trees_of (nodes_of qs) others)) (sym (moves.names y node))
     ∙ (path_at after y (omega arith)
-    ∙ (ap (λ ks. map (name_at (stored_names qs)) (y ∷ ks))
-    (ancestors_apart lists others kept.forest after.forest c apart (length (ancestors_of lists y)) y (omega arith) off)
-    ∙ (same_names (stored_names ps) (stored_names qs) (y ∷ ancestors_of lists y) (λ k found. same k (above_nodes kept y k node found))
+    ∙ (ap (λ ks. map (name_at (stored_names qs)) (y ∷ ks)) (ancestors_apart kept.forest after.forest c moves.apart y off)
+    ∙ (same_names (stored_names ps) (stored_names qs) (y ∷ ancestors_of lists y) (λ k found. moves.names k (above_nodes kept y k node found))
     ∙ sym (path_at kept y node))))
 
 -- ---- the steps
 
--- the test of a node above another one, in the lists
-off_from : {f : NamedTrees} {ps : List Stored} {lists : List (List ℕ)} {keys : Owner → List ℕ} → seen ps lists ≡ f → IsKept ps lists keys →
-    (a x : ℕ) → a < length f.names → x < length f.names → is_inclusive_ancestor f.trees (name_at f.names a) (name_at f.names x) ≡ false →
-    contains (x ∷ ancestors_of lists x) a ≡ false
-off_from {f = f} {ps = ps} {lists = lists} is kept a x at_a at_x off =
-    let inside_a = within is kept a at_a in
-    let inside_x = within is kept x at_x in
-    sym (above-at (IsWhole-kept kept) a x (omega (arith, kept.paired)) (omega (arith, kept.paired)))
-    ∙ (ap (λ y. is_inclusive_ancestor (trees_of (nodes_of ps) lists) y (name_of_key (nodes_of ps) x)) (sym (name_at-same (stored_names ps) ps a))
-    ∙ (ap (is_inclusive_ancestor (trees_of (nodes_of ps) lists) (name_at (stored_names ps) a)) (sym (name_at-same (stored_names ps) ps x))
-    ∙ (ap (λ (g : NamedTrees). is_inclusive_ancestor g.trees (name_at g.names a) (name_at g.names x)) is ∙ off)))
+module _ {f : NamedTrees} {a b : Nodes Stored} {keys : Owner → List ℕ} (is : seen a.payloads a.children ≡ f)
+    (kept : IsKept a.payloads a.children keys) (same : b.payloads ≡ a.payloads) (sound : IsSound b) where
+  -- lists in which c alone stands elsewhere
+  pub moved_above : (c : ℕ) → c < length f.names → AreSameBut c a.children b.children → (k : ℕ) → k < length f.names →
+      is_inclusive_ancestor f.trees (name_at f.names c) (name_at f.names k) ≡ false →
+      inclusive_ancestors (trees_of (nodes_of b.payloads) b.children) (name_at f.names k) ≡ inclusive_ancestors f.trees (name_at f.names k)
+  moved_above c node apart k at_k off =
+      subst (λ (g : NamedTrees). inclusive_ancestors (trees_of (nodes_of b.payloads) b.children) (name_at g.names k) ≡
+      inclusive_ancestors g.trees (name_at g.names k)) is
+      (path_stays kept (kept_with a b keys kept same sound) (record {
+        names = λ j inside. ap (λ ps. name_at (stored_names ps) j) same;
+        longer = let long = ap (length {A = Stored}) same in omega arith;
+        apart = apart;
+      }) k (within is kept k at_k) (off_from is kept c k node at_k off))
 
--- lists in which c alone stands elsewhere
-pub moved_above : {f : NamedTrees} {a b : Nodes Stored} {keys : Owner → List ℕ} → seen a.payloads a.children ≡ f →
-    IsKept a.payloads a.children keys → (c : ℕ) → c < length f.names → b.payloads ≡ a.payloads → AreSameBut c a.children b.children → IsSound b →
-    (k : ℕ) → k < length f.names → is_inclusive_ancestor f.trees (name_at f.names c) (name_at f.names k) ≡ false →
-    inclusive_ancestors (trees_of (nodes_of b.payloads) b.children) (name_at f.names k) ≡ inclusive_ancestors f.trees (name_at f.names k)
-moved_above {f = f} {a = a} {b = b} {keys = keys} is kept c node same apart sound k at_k off =
-    subst (λ (g : NamedTrees). inclusive_ancestors (trees_of (nodes_of b.payloads) b.children) (name_at g.names k) ≡
-    inclusive_ancestors g.trees (name_at g.names k)) is
-    (path_stays kept (kept_with a b keys kept same sound) (λ j inside. ap (λ ps. name_at (stored_names ps) j) same)
-    (let long = ap (length {A = Stored}) same in omega arith) c apart k (within is kept k at_k) (off_from is kept c k node at_k off))
+  -- the parent of a key, in the trees of changed lists
+  pub parent_shown : (c : ℕ) → c < length f.names → (p : Option ℕ) → parent_of b.children c ≡ p →
+      parent_in (trees_of (nodes_of b.payloads) b.children) (name_at f.names c) ≡ option_map (name_at f.names) p
+  parent_shown c node p e =
+      subst (λ (names : List NodeName). parent_in (trees_of (nodes_of b.payloads) b.children) (name_at names c) ≡ option_map (name_at names) p) names_are
+      (ap (parent_in (trees_of (nodes_of b.payloads) b.children)) (name_at-same (stored_names b.payloads) b.payloads c)
+      ∙ (parent_in-at (nodes_of b.payloads) b.children (IsWhole-kept after) c
+      (omega (arith, within is kept c node, ap (length {A = Stored}) same, after.paired))
+      ∙ (ap (option_map (name_of_key (nodes_of b.payloads))) e ∙ sym (names_option b.payloads p))))
+    where
+      after : IsKept b.payloads b.children keys
+      after = kept_with a b keys kept same sound
+
+      names_are : stored_names b.payloads ≡ f.names
+      names_are = ap stored_names same ∙ ap (λ (g : NamedTrees). g.names) is
 
 -- a node taken out of its list stands in none
 pub unlinked_apart : (lists : List (List ℕ)) (c : ℕ) → AreSameBut c lists (map (without c) lists)
@@ -145,22 +161,6 @@ linked_parent lists p c before node after =
     parent_of_is (linked lists p c before) after.one_list p c
     (ap (λ ks. contains ks c) (get_or-set_same lists p (insert_before (children_of lists p) c before) [] node)
     ∙ (contains-insert_before (children_of lists p) c before c ∙ or_left (eqb c c) _ (eq-eqb c c refl)))
-
--- the parent of a key, in the trees of changed lists
-pub parent_shown : {f : NamedTrees} {a b : Nodes Stored} {keys : Owner → List ℕ} → seen a.payloads a.children ≡ f →
-    IsKept a.payloads a.children keys → b.payloads ≡ a.payloads → IsSound b → (c : ℕ) → c < length f.names → (p : Option ℕ) → parent_of b.children c ≡ p →
-    parent_in (trees_of (nodes_of b.payloads) b.children) (name_at f.names c) ≡ option_map (name_at f.names) p
-parent_shown {f = f} {a = a} {b = b} {keys = keys} is kept same sound c node p e =
-    subst (λ (names : List NodeName). parent_in (trees_of (nodes_of b.payloads) b.children) (name_at names c) ≡ option_map (name_at names) p) names_are
-    (ap (parent_in (trees_of (nodes_of b.payloads) b.children)) (name_at-same (stored_names b.payloads) b.payloads c)
-    ∙ (parent_in-at (nodes_of b.payloads) b.children (IsWhole-kept after) c (omega (arith, within is kept c node, ap (length {A = Stored}) same, after.paired))
-    ∙ (ap (option_map (name_of_key (nodes_of b.payloads))) e ∙ sym (names_option b.payloads p))))
-  where
-    after : IsKept b.payloads b.children keys
-    after = kept_with a b keys kept same sound
-
-    names_are : stored_names b.payloads ≡ f.names
-    names_are = ap stored_names same ∙ ap (λ (g : NamedTrees). g.names) is
 
 -- ---- a node more
 
@@ -208,11 +208,12 @@ module _ {f : NamedTrees} {a b : Nodes Stored} {keys more : Owner → List ℕ} 
   added_above k node =
       subst (λ (g : NamedTrees). inclusive_ancestors (trees_of (nodes_of b.payloads) b.children) (name_at g.names k) ≡
       inclusive_ancestors g.trees (name_at g.names k)) is
-      (path_stays kept after (λ j inside. ap (λ (d : Nodes Stored). name_at (stored_names d.payloads) j) e ∙ names_pushed a.payloads s j inside)
-      (let long = ap (λ (d : Nodes Stored). length d.payloads) e in let more = length_push a.payloads s in omega arith) (length a.payloads)
-      (subst (λ (ks : List (List ℕ)). AreSameBut (length a.payloads) a.children ks) (ap (λ (d : Nodes Stored). d.children) (sym e))
-      (pushed_apart a.children (length a.payloads)))
-      k (within is kept k node) (new_apart kept k (within is kept k node)))
+      (path_stays kept after (record {
+        names = λ j inside. ap (λ (d : Nodes Stored). name_at (stored_names d.payloads) j) e ∙ names_pushed a.payloads s j inside;
+        longer = let long = ap (λ (d : Nodes Stored). length d.payloads) e in let more = length_push a.payloads s in omega arith;
+        apart = subst (λ (ks : List (List ℕ)). AreSameBut (length a.payloads) a.children ks) (ap (λ (d : Nodes Stored). d.children) (sym e))
+            (pushed_apart a.children (length a.payloads));
+      }) k (within is kept k node) (new_apart kept k (within is kept k node)))
 
   pub added_above_none : (c : ℕ) → c ≡ length a.payloads →
       (k : ℕ) → k < length f.names →
@@ -233,7 +234,7 @@ module _ {f : NamedTrees} {a b : Nodes Stored} {keys more : Owner → List ℕ} 
       long = ap (λ (d : Nodes Stored). length d.payloads) e ∙ (length_push a.payloads s ∙ omega arith)
 
       same : ancestors_of b.children k ≡ ancestors_of a.children k
-      same = ancestors_apart a.children b.children kept.forest after.forest (length a.payloads)
+      same = ancestors_apart kept.forest after.forest (length a.payloads)
           (subst (λ (ks : List (List ℕ)). AreSameBut (length a.payloads) a.children ks) (ap (λ (d : Nodes Stored). d.children) (sym e))
           (pushed_apart a.children (length a.payloads)))
-          (length (ancestors_of a.children k)) k (omega arith) (new_apart kept k inside)
+          k (new_apart kept k inside)

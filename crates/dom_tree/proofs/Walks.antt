@@ -73,34 +73,39 @@ steps_up lists at = option_map_or (λ k. suc (length (ancestors_of lists k))) at
 
 -- ---- the answers
 
-pub shows_root : {f : NamedTrees} {ps : List Stored} {lists : List (List ℕ)} {keys : Owner → List ℕ} → seen ps lists ≡ f → IsKept ps lists keys
-    → (x top : ℕ) → x < length f.names → parent_of lists top ≡ None → top_key lists top ≡ top_key lists x →
-    name_at f.names top ≡ root_of f.trees (name_at f.names x)
-shows_root {f = f} {ps = ps} {lists = lists} {keys = keys} is kept x top node ends same =
-    let inside = within is kept x node in
-    subst (λ (g : NamedTrees). name_at g.names top ≡ root_of g.trees (name_at g.names x)) is
-    (name_at-same (stored_names ps) ps top
-    ∙ (ap (name_of_key (nodes_of ps)) (sym (top_key-root lists top ends) ∙ same)
-    ∙ (sym (root_of-at (nodes_of ps) lists (IsWhole-kept kept) x (omega (arith, kept.paired)))
-    ∙ ap (root_of (trees_of (nodes_of ps) lists)) (sym (name_at-same (stored_names ps) ps x)))))
+module _ {f : NamedTrees} {ps : List Stored} {lists : List (List ℕ)} {keys : Owner → List ℕ} (is : seen ps lists ≡ f) (kept : IsKept ps lists keys) where
+  pub shows_root : (x top : ℕ) → x < length f.names → parent_of lists top ≡ None → top_key lists top ≡ top_key lists x →
+      name_at f.names top ≡ root_of f.trees (name_at f.names x)
+  shows_root x top node ends same =
+      let inside = within is kept x node in
+      subst (λ (g : NamedTrees). name_at g.names top ≡ root_of g.trees (name_at g.names x)) is
+      (name_at-same (stored_names ps) ps top
+      ∙ (ap (name_of_key (nodes_of ps)) (sym (top_key-root lists top ends) ∙ same)
+      ∙ (sym (root_of-at (nodes_of ps) lists (IsWhole-kept kept) x (omega (arith, kept.paired)))
+      ∙ ap (root_of (trees_of (nodes_of ps) lists)) (sym (name_at-same (stored_names ps) ps x)))))
 
-pub shows_above : {f : NamedTrees} {ps : List Stored} {lists : List (List ℕ)} {keys : Owner → List ℕ} → seen ps lists ≡ f → IsKept ps lists keys
-    → (a x : ℕ) → a < length f.names → x < length f.names → above_from lists a (Some x) ≡ is_inclusive_ancestor f.trees (name_at f.names a) (name_at f.names x)
-unfolding above_from
-shows_above {f = f} {ps = ps} {lists = lists} {keys = keys} is kept a x at_a at_x =
-    let inside_a = within is kept a at_a in
-    let inside_x = within is kept x at_x in
-    subst (λ (g : NamedTrees). contains (x ∷ ancestors_of lists x) a ≡ is_inclusive_ancestor g.trees (name_at g.names a) (name_at g.names x)) is
-    (sym (above-at (IsWhole-kept kept) a x (omega (arith, kept.paired)) (omega (arith, kept.paired)))
-    ∙ (ap (λ y. is_inclusive_ancestor (trees_of (nodes_of ps) lists) y (name_of_key (nodes_of ps) x)) (sym (name_at-same (stored_names ps) ps a))
-    ∙ ap (is_inclusive_ancestor (trees_of (nodes_of ps) lists) (name_at (stored_names ps) a)) (sym (name_at-same (stored_names ps) ps x))))
+  pub shows_above : (a x : ℕ) → a < length f.names → x < length f.names →
+      above_from lists a (Some x) ≡ is_inclusive_ancestor f.trees (name_at f.names a) (name_at f.names x)
+  unfolding above_from
+  shows_above a x at_a at_x =
+      let inside_a = within is kept a at_a in
+      let inside_x = within is kept x at_x in
+      subst (λ (g : NamedTrees). contains (x ∷ ancestors_of lists x) a ≡ is_inclusive_ancestor g.trees (name_at g.names a) (name_at g.names x)) is
+      (sym (above-at (IsWhole-kept kept) a x (omega (arith, kept.paired)) (omega (arith, kept.paired)))
+      ∙ (ap (λ y. is_inclusive_ancestor (trees_of (nodes_of ps) lists) y (name_of_key (nodes_of ps) x)) (sym (name_at-same (stored_names ps) ps a))
+      ∙ ap (is_inclusive_ancestor (trees_of (nodes_of ps) lists) (name_at (stored_names ps) a)) (sym (name_at-same (stored_names ps) ps x))))
 
--- the test of a node above another one, in the lists
-pub asked_above : {f : NamedTrees} {ps : List Stored} {lists : List (List ℕ)} {keys : Owner → List ℕ} → seen ps lists ≡ f → IsKept ps lists keys
-    → (top x : ℕ) → top < length f.names → x < length f.names → is_inclusive_ancestor f.trees (name_at f.names top) (name_at f.names x) ≡ true →
-    contains (x ∷ ancestors_of lists x) top ≡ true
-unfolding above_from
-asked_above {f = f} {ps = ps} {lists = lists} {keys = keys} is kept top x at_top at_x above = shows_above is kept top x at_top at_x ∙ above
+  -- the test of a node above another one, in the lists
+  pub asked_above : (top x : ℕ) → top < length f.names → x < length f.names → is_inclusive_ancestor f.trees (name_at f.names top) (name_at f.names x) ≡ true →
+      contains (x ∷ ancestors_of lists x) top ≡ true
+  unfolding above_from
+  asked_above top x at_top at_x above = shows_above top x at_top at_x ∙ above
+
+  -- and of one that is not above it
+  pub off_from : (a x : ℕ) → a < length f.names → x < length f.names → is_inclusive_ancestor f.trees (name_at f.names a) (name_at f.names x) ≡ false →
+      contains (x ∷ ancestors_of lists x) a ≡ false
+  unfolding above_from
+  off_from a x at_a at_x off = shows_above a x at_a at_x ∙ off
 
 -- a node in the tree of another one
 pub record InTree (ps : List Stored) (lists : List (List ℕ)) (top x : ℕ) : Type 0 where

@@ -15,7 +15,7 @@ use Rattle.node_arena.specs.Nodes.{children_of, contains, parent_of, ancestors_o
 use Rattle.node_arena.proofs.Forests.{cases_Option, contains-parent, parent_within, ancestors_of-child, ancestors_of-root}
 use Rattle.node_arena.proofs.Lists.{contains-head}
 use Rattle.dom_tree.specs.Contents.{Stored}
-use Rattle.dom_tree.specs.Rows.{node_at, trees_of}
+use Rattle.dom_tree.specs.Rows.{trees_of}
 use Rattle.dom_tree.specs.Forest.{NamedTrees, IsKept, stored_names, name_at}
 use Rattle.dom_tree.proofs.Rows.{Stands, same_name, name_of_key}
 use Rattle.dom_tree.proofs.Reach.{reaches, has_node-reaches, reaches-root, reaches-child}
@@ -26,89 +26,93 @@ use Rattle.dom_tree.proofs.Kept.{seen, IsWhole-kept, name_at-same, above-at, wit
 HasRoot : List (List ℕ) → List ℕ → ℕ → Type 0
 HasRoot lists ks y = (k : ℕ) × (contains ks k ≡ true) × (contains (y ∷ ancestors_of lists y) k ≡ true)
 
--- what is in trees is below one of their roots
-has_root : (nodes : List Node) (lists : List (List ℕ)) → IsWhole nodes lists → (y : ℕ) (m : Node) → slice_get nodes y ≡ Some m
-    → (ts : Trees) (ks : List ℕ) → Stands nodes lists ts ks → reaches ts m.name ≡ true → HasRoot lists ks y
-unfolding HasRoot
-has_root nodes lists whole y m at none ks s found = absurd (true≢false (sym found))
-has_root nodes lists whole y m at (tree n c r) [] s found = absurd s
-has_root nodes lists whole y m at (tree n c r) (k ∷ ks) s found = elim (or_cases (name_eq n.name m.name) _ found) [
-  | inl h ↦
-      let is = eqb-true k y (sym (same_name whole.named k y s.0 at) ∙ h) in
-      (k, contains-head k ks, ap (contains (y ∷ ancestors_of lists y)) is ∙ contains-head y (ancestors_of lists y))
-  | inr h ↦ elim (or_cases (reaches c m.name) (reaches r m.name) h) [
-    | inl i ↦
-        let below = has_root nodes lists whole y m at c (children_of lists k) s.1 i in
-        (k, contains-head k ks, above_up whole.forest y below.0 k below.1 below.2)
-    | inr i ↦
-        let later = has_root nodes lists whole y m at r ks s.2 i in
-        (later.0, or_right (eqb k later.0) _ later.1, later.2)
-  ]
-]
-
 -- an empty list holds no key
 none_above : (ys : List ℕ) (k : ℕ) → length ys ≤ 0 → contains ys k ≡ true → ⊥
 none_above [] k few found = true≢false (sym found)
 none_above (y ∷ ys) k few found = omega arith
 
--- what is below a node is in its tree
-reaches-below : (nodes : List Node) (lists : List (List ℕ)) → IsWhole nodes lists → (top : ℕ) → top < length lists → (ts : Trees) →
-    Stands nodes lists ts (top ∷ [])
-    → (d y : ℕ) → y < length lists → length (ancestors_of lists y) ≤ d → contains (y ∷ ancestors_of lists y) top ≡ true →
-    reaches ts (name_of_key nodes y) ≡ true
-reaches-below nodes lists whole top node ts stands d y at_y deep above = elim (or_cases (eqb y top) _ above) [
-  | inl h ↦ subst (λ (k : ℕ). reaches ts (name_of_key nodes k) ≡ true) (sym (eqb-true y top h))
-      (reaches-root nodes lists whole.named top (node_at nodes top) (node_here nodes lists whole top node) ts (top ∷ []) stands (contains-head top []))
-  | inr h ↦ up d y at_y deep h
-]
-  where
-    up : (d y : ℕ) → y < length lists → length (ancestors_of lists y) ≤ d → contains (ancestors_of lists y) top ≡ true → reaches ts (name_of_key nodes y) ≡ true
-    up zero y at_y deep h = absurd (none_above (ancestors_of lists y) top deep h)
-    up (suc d) y at_y deep h = elim (cases_Option (parent_of lists y)) [
-      | inl e ↦ absurd (true≢false (sym h ∙ ap (λ ys. contains ys top) (ancestors_of-root lists y e)))
-      | inr w ↦
-          let line = ancestors_of-child lists whole.forest y w.0 w.1 in
-          let child = contains-parent lists y w.0 w.1 in
-          let at_p = parent_within lists w.0 y child in
-          reaches-child nodes lists whole.named w.0 y (node_at nodes w.0) (node_at nodes y) (node_here nodes lists whole w.0 at_p)
-          (node_here nodes lists whole y at_y) child ts (top ∷ []) stands
-          (elim (or_cases (eqb w.0 top) _ (sym (ap (λ ys. contains ys top) line) ∙ h)) [
-            | inl i ↦ subst (λ (k : ℕ). reaches ts (name_of_key nodes k) ≡ true) (sym (eqb-true w.0 top i))
-                (reaches-root nodes lists whole.named top (node_at nodes top) (node_here nodes lists whole top node) ts (top ∷ []) stands
-                (contains-head top []))
-            | inr i ↦ up d w.0 at_p (omega (arith, ap (length {A = ℕ}) line)) i
-          ])
+module _ {nodes : List Node} {lists : List (List ℕ)} (whole : IsWhole nodes lists) where
+  -- what is in trees is below one of their roots
+  has_root : (y : ℕ) {m : Node} → slice_get nodes y ≡ Some m → (ts : Trees) (ks : List ℕ) → Stands nodes lists ts ks → reaches ts m.name ≡ true →
+      HasRoot lists ks y
+  unfolding HasRoot
+  has_root y at none ks s found = absurd (true≢false (sym found))
+  has_root y at (tree n c r) [] s found = absurd s
+  has_root y {m = m} at (tree n c r) (k ∷ ks) s found = elim (or_cases (name_eq n.name m.name) _ found) [
+    | inl h ↦
+        let is = eqb-true k y (sym (same_name whole.named k y s.0 at) ∙ h) in
+        (k, contains-head k ks, ap (contains (y ∷ ancestors_of lists y)) is ∙ contains-head y (ancestors_of lists y))
+    | inr h ↦ elim (or_cases (reaches c m.name) (reaches r m.name) h) [
+      | inl i ↦
+          let below = has_root y at c (children_of lists k) s.1 i in
+          (k, contains-head k ks, above_up whole.forest y below.0 k below.1 below.2)
+      | inr i ↦
+          let later = has_root y at r ks s.2 i in
+          (later.0, or_right (eqb k later.0) _ later.1, later.2)
     ]
+  ]
 
--- so the tree of a node has the nodes that it is above
-reaches-alone : {nodes : List Node} {lists : List (List ℕ)} → IsWhole nodes lists → (top y : ℕ) → top < length lists → y < length lists
-    → reaches (subtree (trees_of nodes lists) (name_of_key nodes top)) (name_of_key nodes y) ≡ contains (y ∷ ancestors_of lists y) top
-unfolding HasRoot
-reaches-alone {nodes} {lists} whole top y node at_y = elim (cases_Bool (contains (y ∷ ancestors_of lists y) top)) [
-  | inl e ↦ reaches-below nodes lists whole top node alone stands (length (ancestors_of lists y)) y at_y (omega arith) e ∙ sym e
-  | inr e ↦ false_from_ne_true _ (λ found. both_ways _ e
-      (below (has_root nodes lists whole y (node_at nodes y) (node_here nodes lists whole y at_y) alone (top ∷ []) stands found))) ∙ sym e
-]
-  where
-    alone : Trees
-    alone = subtree (trees_of nodes lists) (name_of_key nodes top)
-
-    stands : Stands nodes lists alone (top ∷ [])
-    stands = subtree_here nodes lists whole top node
-
-    below : HasRoot lists (top ∷ []) y → contains (y ∷ ancestors_of lists y) top ≡ true
-    below h = elim (or_cases (eqb top h.0) false h.1) [
-      | inl e ↦ ap (contains (y ∷ ancestors_of lists y)) (eqb-true top h.0 e) ∙ h.2
-      | inr e ↦ absurd (true≢false (sym e))
+  module _ (top : ℕ) (node : top < length lists) where
+    -- what is below a node is in its tree
+    reaches-below : (ts : Trees) → Stands nodes lists ts (top ∷ []) → (y : ℕ) → y < length lists → contains (y ∷ ancestors_of lists y) top ≡ true →
+        reaches ts (name_of_key nodes y) ≡ true
+    reaches-below ts stands y at_y above = elim (or_cases (eqb y top) _ above) [
+      | inl h ↦ subst (λ (k : ℕ). reaches ts (name_of_key nodes k) ≡ true) (sym (eqb-true y top h)) reached_top
+      | inr h ↦ up (length (ancestors_of lists y)) y at_y (omega arith) h
     ]
+      where
+        reached_top : reaches ts (name_of_key nodes top) ≡ true
+        reached_top = reaches-root nodes lists whole.named top (node_here nodes lists whole top node) ts (top ∷ []) stands (contains-head top [])
 
--- the nodes of a tree are those that have its root among their inclusive ancestors, by names
-below-at : {nodes : List Node} {lists : List (List ℕ)} → IsWhole nodes lists → (top y : ℕ) → top < length lists → y < length lists
-    → is_in name_eq (name_of_key nodes y) (inclusive_descendants (trees_of nodes lists) (name_of_key nodes top)) ≡ is_inclusive_ancestor
-    (trees_of nodes lists) (name_of_key nodes top) (name_of_key nodes y)
-below-at {nodes} {lists} whole top y node at_y =
-    has_node-reaches (subtree (trees_of nodes lists) (name_of_key nodes top)) (name_of_key nodes y)
-    ∙ (reaches-alone whole top y node at_y ∙ sym (above-at whole top y node at_y))
+        up : (d z : ℕ) → z < length lists → length (ancestors_of lists z) ≤ d → contains (ancestors_of lists z) top ≡ true →
+            reaches ts (name_of_key nodes z) ≡ true
+        up zero z at_z deep h = absurd (none_above (ancestors_of lists z) top deep h)
+        up (suc d) z at_z deep h = elim (cases_Option (parent_of lists z)) [
+          | inl e ↦ absurd (true≢false (sym h ∙ ap (λ ys. contains ys top) (ancestors_of-root lists z e)))
+          | inr w ↦
+              let line = ancestors_of-child lists whole.forest z w.0 w.1 in
+              let child = contains-parent lists z w.0 w.1 in
+              let at_p = parent_within lists w.0 z child in
+              reaches-child nodes lists whole.named (record {
+                at_parent = node_here nodes lists whole w.0 at_p;
+                at_child = node_here nodes lists whole z at_z;
+                child = child;
+              }) ts (top ∷ []) stands
+              (elim (or_cases (eqb w.0 top) _ (sym (ap (λ ys. contains ys top) line) ∙ h)) [
+                | inl i ↦ subst (λ (k : ℕ). reaches ts (name_of_key nodes k) ≡ true) (sym (eqb-true w.0 top i)) reached_top
+                | inr i ↦ up d w.0 at_p (omega (arith, ap (length {A = ℕ}) line)) i
+              ])
+        ]
+
+    -- so the tree of a node has the nodes that it is above
+    reaches-alone : (y : ℕ) → y < length lists
+        → reaches (subtree (trees_of nodes lists) (name_of_key nodes top)) (name_of_key nodes y) ≡ contains (y ∷ ancestors_of lists y) top
+    unfolding HasRoot
+    reaches-alone y at_y = elim (cases_Bool (contains (y ∷ ancestors_of lists y) top)) [
+      | inl e ↦ reaches-below alone stands y at_y e ∙ sym e
+      | inr e ↦ false_from_ne_true _ (λ found. both_ways _ e
+          (below (has_root y (node_here nodes lists whole y at_y) alone (top ∷ []) stands found))) ∙ sym e
+    ]
+      where
+        alone : Trees
+        alone = subtree (trees_of nodes lists) (name_of_key nodes top)
+
+        stands : Stands nodes lists alone (top ∷ [])
+        stands = subtree_here nodes lists whole top node
+
+        below : HasRoot lists (top ∷ []) y → contains (y ∷ ancestors_of lists y) top ≡ true
+        below h = elim (or_cases (eqb top h.0) false h.1) [
+          | inl e ↦ ap (contains (y ∷ ancestors_of lists y)) (eqb-true top h.0 e) ∙ h.2
+          | inr e ↦ absurd (true≢false (sym e))
+        ]
+
+    -- the nodes of a tree are those that have its root among their inclusive ancestors, by names
+    below-at : (y : ℕ) → y < length lists
+        → is_in name_eq (name_of_key nodes y) (inclusive_descendants (trees_of nodes lists) (name_of_key nodes top)) ≡ is_inclusive_ancestor
+        (trees_of nodes lists) (name_of_key nodes top) (name_of_key nodes y)
+    below-at y at_y =
+        has_node-reaches (subtree (trees_of nodes lists) (name_of_key nodes top)) (name_of_key nodes y)
+        ∙ (reaches-alone y at_y ∙ sym (above-at whole top y node at_y))
 
 -- ---- the answers
 
@@ -124,7 +128,7 @@ shows_below {f = f} {ps = ps} {lists = lists} {keys = keys} is kept j k at_j at_
     subst (λ (g : NamedTrees). is_in name_eq (name_at g.names k) (inclusive_descendants g.trees (name_at g.names j)) ≡ is_inclusive_ancestor
     g.trees (name_at g.names j) (name_at g.names k)) is
     (rw (name_at-same (stored_names ps) ps j, name_at-same (stored_names ps) ps k)
-    (below-at (IsWhole-kept kept) j k (omega arith) (omega arith)))
+    (below-at (IsWhole-kept kept) j (omega arith) k (omega arith)))
 
 -- the first name behind another one is in the list
 first_in : (x z : NodeName) (xs : List NodeName) → first_of (items_after name_eq x xs) ≡ Some z → is_in name_eq z xs ≡ true

@@ -1,4 +1,4 @@
-use Rattle.std.proofs.Common.{◌≡◌, ◌++◌, ◌∷◌, [], List, Result, Ok, Err, refl, ap, sym, subst, ◌∙◌, arith}
+use Rattle.std.proofs.Common.{◌≡◌, ◌⊎◌, inl, inr, ◌++◌, ◌∷◌, [], List, Result, Ok, Err, refl, ap, sym, subst, ◌∙◌, arith}
 use Rattle.std.specs.Prelude.{OnOk, OnErr}
 use Rattle.std.specs.String.{string_bytes}
 use Rattle.std.proofs.lemmas.Grind.{common_steps}
@@ -70,24 +70,27 @@ with-others c =
     c.deref.ensures.value c.in-None.is))
 
 -- what holds of the two lists holds of what is there now
-either : {E : Type 0} {X : Type 0} (r : Result X E) (P : List Attribute → Type 0) (new with old : List Attribute) → OnOk r (new ≡ with) → OnErr r (new ≡ old) →
-    P with → P old → P new
-either (Ok x) P new with old ok err a b = subst P (sym ok) a
-either (Err e) P new with old ok err a b = subst P (sym err) b
+either : {E : Type 0} {X : Type 0} (r : Result X E) (new with old : List Attribute) → OnOk r (new ≡ with) → OnErr r (new ≡ old) →
+    (new ≡ with) ⊎ (new ≡ old)
+either (Ok x) new with old ok err = inl ok
+either (Err e) new with old ok err = inr err
 
 pub invariant_of-self-in-None-2 : goal.invariant_of-self-in-None-2
 invariant_of-self-in-None-2 c =
     let few = c.self.inside.few.items in
-    either c.set.result (λ bs. HaveOwnNames (attributes_from few ++ bs)) c.set.new.self _ c.self.inside.others c.set.ensures.ok c.set.ensures.err
-    (subst HaveOwnNames (sym (with-others c)) (own-with (string_bytes c.args.name) c.args.value.items
-    (attributes_from few ++ c.self.inside.others) c.self.invariant)) c.self.invariant
+    elim (either c.set.result c.set.new.self _ c.self.inside.others c.set.ensures.ok c.set.ensures.err) [
+      | inl e ↦ subst HaveOwnNames (ap (λ bs. attributes_from few ++ bs) (sym e)) (subst HaveOwnNames (sym (with-others c))
+          (own-with (string_bytes c.args.name) c.args.value.items (attributes_from few ++ c.self.inside.others) c.self.invariant))
+      | inr e ↦ subst HaveOwnNames (ap (λ bs. attributes_from few ++ bs) (sym e)) c.self.invariant
+    ]
 
 pub returns-in-None-2-clause-ok : goal.returns-in-None-2-clause-ok
 returns-in-None-2-clause-ok c =
-    on-ok c.set.result c.set.new.self _ _ c.set.ensures.ok
+    on-ok c.set.result c.set.new.self _ c.set.ensures.ok
     (λ bs. attributes_from c.self.inside.few.items ++ bs) (with-others c ∙ ap (attributes_with (string_bytes c.args.name) c.args.value.items) c.self.view_is)
   where
-    on-ok : {E : Type 0} {X : Type 0} (r : Result X E) (new with after : List Attribute) → OnOk r (new ≡ with) → (f : List Attribute → List Attribute) →
+    on-ok : {E : Type 0} {X : Type 0} (r : Result X E) (new with : List Attribute) {after : List Attribute} → OnOk r (new ≡ with) →
+        (f : List Attribute → List Attribute) →
         f with ≡ after → OnOk r (f new ≡ after)
-    on-ok (Ok x) new with after ok f e = ap f ok ∙ e
-    on-ok (Err x) new with after ok f e = tt
+    on-ok (Ok x) new with ok f e = ap f ok ∙ e
+    on-ok (Err x) new with ok f e = tt

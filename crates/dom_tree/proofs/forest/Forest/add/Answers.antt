@@ -26,16 +26,19 @@ overflow_cast-name c =
 adds : (c : goal.After-push) → Adds c.self.inside.arena.payloads c.self.inside.arena.children (keys_of c.self.inside.keys)
     (keys_of c.push.new.self) c.args.owner
     (stored_from (node_of c.args.owner (length c.of-number.result.now)) (contents_of c.args.node))
-adds c = adds_from c.self.inside.arena.payloads c.self.inside.arena.children (keys_of c.self.inside.keys) (keys_of c.reserve.new.self) (keys_of c.push.new.self)
-    c.args.owner (length c.of-number.result.now) c.in_ok-key.key (contents_of c.args.node) c.self.invariant
-    (ap (length {A = ℕ}) c.of-number.ensures)
-    c.if-number.false
-    (λ k e. subst (λ (n : ℕ). k < n) (ap (λ (f : NamedTrees). length f.names) (sym c.self.view_is) ∙
-    length-map c.self.inside.arena.payloads (λ s. s.name)) (c.requires.document_is_node k e))
-    c.in_ok-key.ensures.key
-    (let bound : c.in_ok-key.key < 2 ^ 64 = search rules in bound)
-    c.reserve.ensures.keys
-    c.push.ensures
+adds c = adds_from (record {
+  kept = c.self.invariant;
+  next_number = ap (length {A = ℕ}) c.of-number.ensures;
+  free = c.if-number.false;
+  document = λ k e. subst (λ (n : ℕ). k < n) (ap (λ (f : NamedTrees). length f.names) (sym c.self.view_is) ∙
+      length-map c.self.inside.arena.payloads (λ s. s.name)) (c.requires.document_is_node k e);
+  key = c.in_ok-key.key;
+  next_key = c.in_ok-key.ensures.key;
+  fits = let bound : c.in_ok-key.key < 2 ^ 64 = search rules in bound;
+  roomy = keys_of c.reserve.new.self;
+  held = c.reserve.ensures.keys;
+  pushed = c.push.ensures;
+})
 
 -- what the arena then has
 added : (c : goal.After-push) → IsAdded c.self.inside.arena c.add.new.self

@@ -6,5 +6,5 @@ use Rattle.dom_tree.proofs.Kept.{shows}
 use Rattle.dom_tree.proofs.forest.Forest.first.Goals as goal
 
 pub returns-clause-value : goal.returns-clause-value
-returns-clause-value c = shows c.self.view_is c.self.invariant (λ ts x. first_of (children_in ts x)) (λ lists x. head_of (children_of lists x))
-    first_in-at c.args.key c.first.result c.requires c.first.ensures.value
+returns-clause-value c = shows c.self.view_is c.self.invariant {read = λ ts x. first_of (children_in ts x)}
+    {key_read = λ lists x. head_of (children_of lists x)} (record { agree = first_in-at }) c.args.key c.requires c.first.ensures.value

@@ -1,4 +1,4 @@
-use Rattle.std.proofs.Common.{ℕ, length, None, ap, sym, ◌∙◌, arith, refl}
+use Rattle.std.proofs.Common.{ℕ, length, ap, sym, ◌∙◌, arith, refl}
 use Rattle.node_arena.specs.Nodes.{children_of}
 use Rattle.node_arena.proofs.Forests.{ancestors_of-child}
 use Rattle.dom_tree.specs.Forest.{nodes_of}
@@ -12,7 +12,8 @@ use Rattle.dom_tree.proofs.forest.Forest.following.Goals as goal
 pub returns-then-is_some-clause-value : goal.returns-then-is_some-clause-value
 returns-then-is_some-clause-value c =
     let walk = in_tree c.self.view_is c.self.invariant c.requires.top_is_node c.requires.key_is_node c.requires.within in
-    shows_following c.self.view_is c.self.invariant c.args.top c.args.key c.first-first.result c.requires.top_is_node c.requires.key_is_node walk.above
+    shows_following c.self.view_is c.self.invariant
+    (record { at_top = c.requires.top_is_node; at_x = c.requires.key_is_node; above = walk.above })
     (head_or-here (children_of c.self.inside.arena.children c.args.key)
     (behind_in (nodes_of c.self.inside.arena.payloads) c.self.inside.arena.children c.args.top c.args.key) c.first-first.result
     c.first-first.ensures.value c.if-is_some.ensures)
@@ -29,7 +30,8 @@ returns-then-is_some-2-clause-value c =
     let walk = in_tree c.self.view_is c.self.invariant c.requires.top_is_node c.requires.key_is_node c.requires.within in
     let here = behind_in-here walk.whole walk.top_is_node
     (told_apart c.loop-self.at c.args.top c.loop-self-test.ensures) c.loop-self.invariant.1 c.next-next.ensures.value c.if-is_some-2.ensures in
-    shows_following c.self.view_is c.self.invariant c.args.top c.args.key c.next-next.result c.requires.top_is_node c.requires.key_is_node walk.above
+    shows_following c.self.view_is c.self.invariant
+    (record { at_top = c.requires.top_is_node; at_x = c.requires.key_is_node; above = walk.above })
     (here ∙ (c.loop-self.invariant.2 ∙ sym
     (head_or-lacking (children_of c.self.inside.arena.children c.args.key)
     (behind_in (nodes_of c.self.inside.arena.payloads) c.self.inside.arena.children c.args.top c.args.key) c.first-first.result
@@ -64,7 +66,8 @@ returns-clause-value c =
     let ends = ap (behind_in (nodes_of c.self.inside.arena.payloads) c.self.inside.arena.children c.args.top)
     (told_same c.loop-self.at c.args.top c.loop-self-test.ensures) ∙ behind_in-top (nodes_of c.self.inside.arena.payloads)
     c.self.inside.arena.children walk.whole c.args.top walk.top_is_node in
-    shows_following c.self.view_is c.self.invariant c.args.top c.args.key None c.requires.top_is_node c.requires.key_is_node walk.above
+    shows_following c.self.view_is c.self.invariant
+    (record { at_top = c.requires.top_is_node; at_x = c.requires.key_is_node; above = walk.above })
     (sym ends ∙ (c.loop-self.invariant.2 ∙
     sym (head_or-lacking (children_of c.self.inside.arena.children c.args.key)
     (behind_in (nodes_of c.self.inside.arena.payloads) c.self.inside.arena.children c.args.top c.args.key) c.first-first.result

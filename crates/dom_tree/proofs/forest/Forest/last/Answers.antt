@@ -6,5 +6,5 @@ use Rattle.dom_tree.proofs.Kept.{shows}
 use Rattle.dom_tree.proofs.forest.Forest.last.Goals as goal
 
 pub returns-clause-value : goal.returns-clause-value
-returns-clause-value c = shows c.self.view_is c.self.invariant (λ ts x. last_of (children_in ts x)) (λ lists x. last_key (children_of lists x))
-    last_in-at c.args.key c.last.result c.requires c.last.ensures.value
+returns-clause-value c = shows c.self.view_is c.self.invariant {read = λ ts x. last_of (children_in ts x)}
+    {key_read = λ lists x. last_key (children_of lists x)} (record { agree = last_in-at }) c.args.key c.requires c.last.ensures.value

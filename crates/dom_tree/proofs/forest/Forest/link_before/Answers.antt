@@ -74,7 +74,7 @@ returns-clause-linked c =
 
 pub returns-clause-above : goal.returns-clause-above
 returns-clause-above c =
-    moved_above c.self.view_is c.self.invariant c.args.child c.requires.child_is_node (ap (λ a. a.payloads) c.link_before.ensures.linked)
+    moved_above c.self.view_is c.self.invariant (ap (λ a. a.payloads) c.link_before.ensures.linked) c.link_before.ensures.sound
+    c.args.child c.requires.child_is_node
     (subst (λ (ks : List (List ℕ)). AreSameBut c.args.child c.self.inside.arena.children ks) (sym (children_are c))
     (linked_apart c.self.inside.arena.children c.args.parent c.args.child c.args.before (parent_inside c)))
-    c.link_before.ensures.sound

@@ -5,4 +5,5 @@ use Rattle.dom_tree.proofs.Kept.{shows}
 use Rattle.dom_tree.proofs.forest.Forest.next.Goals as goal
 
 pub returns-clause-value : goal.returns-clause-value
-returns-clause-value c = shows c.self.view_is c.self.invariant next_sibling next_of next_in-at c.args.key c.next.result c.requires c.next.ensures.value
+returns-clause-value c = shows c.self.view_is c.self.invariant {read = next_sibling} {key_read = next_of} (record { agree = next_in-at }) c.args.key
+    c.requires c.next.ensures.value

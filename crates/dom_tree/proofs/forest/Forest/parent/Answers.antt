@@ -5,4 +5,5 @@ use Rattle.dom_tree.proofs.Kept.{shows}
 use Rattle.dom_tree.proofs.forest.Forest.parent.Goals as goal
 
 pub returns-clause-value : goal.returns-clause-value
-returns-clause-value c = shows c.self.view_is c.self.invariant parent_in parent_of parent_in-at c.args.key c.parent.result c.requires c.parent.ensures.value
+returns-clause-value c = shows c.self.view_is c.self.invariant {read = parent_in} {key_read = parent_of} (record { agree = parent_in-at }) c.args.key
+    c.requires c.parent.ensures.value

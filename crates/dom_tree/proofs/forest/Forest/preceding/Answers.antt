@@ -1,4 +1,4 @@
-use Rattle.std.proofs.Common.{◌<◌, ℕ, length, Some, None, ap, sym, ◌∙◌, arith, refl, subst}
+use Rattle.std.proofs.Common.{◌<◌, ℕ, length, ap, sym, ◌∙◌, arith, refl, subst}
 use Rattle.std.proofs.lemmas.Bool.{eqb-true, eqb-false}
 use Rattle.std.proofs.lemmas.Option.{same_Some}
 use Rattle.dom_tree.specs.Forest.{nodes_of}
@@ -13,14 +13,16 @@ use Rattle.dom_tree.proofs.forest.Forest.preceding.Goals as goal
 pub returns-in_err-parent-clause-value : goal.returns-in_err-parent-clause-value
 returns-in_err-parent-clause-value c =
     let walk = in_tree c.self.view_is c.self.invariant c.requires.top_is_node c.requires.key_is_node c.requires.within in
-    shows_preceding c.self.view_is c.self.invariant c.args.top c.args.key c.from_residual.result c.requires.top_is_node c.requires.key_is_node walk.above
+    shows_preceding c.self.view_is c.self.invariant
+    (record { at_top = c.requires.top_is_node; at_x = c.requires.key_is_node; above = walk.above })
     (c.from_residual.ensures ∙ sym (before_in-root walk.whole c.args.top
     c.args.key walk.top_is_node walk.above (sym c.in_err-parent.ensures.value)))
 
 pub returns-then-eq-clause-value : goal.returns-then-eq-clause-value
 returns-then-eq-clause-value c =
     let walk = in_tree c.self.view_is c.self.invariant c.requires.top_is_node c.requires.key_is_node c.requires.within in
-    shows_preceding c.self.view_is c.self.invariant c.args.top c.args.key None c.requires.top_is_node c.requires.key_is_node walk.above
+    shows_preceding c.self.view_is c.self.invariant
+    (record { at_top = c.requires.top_is_node; at_x = c.requires.key_is_node; above = walk.above })
     (sym (ap (before_in (nodes_of c.self.inside.arena.payloads) c.self.inside.arena.children c.args.top)
     (eqb-true c.args.key c.args.top (sym c.if-eq.ensures)) ∙ before_in-top (nodes_of c.self.inside.arena.payloads)
     c.self.inside.arena.children walk.whole c.args.top walk.top_is_node))
@@ -28,7 +30,8 @@ returns-then-eq-clause-value c =
 pub returns-in_default-clause-value : goal.returns-in_default-clause-value
 returns-in_default-clause-value c =
     let walk = in_tree c.self.view_is c.self.invariant c.requires.top_is_node c.requires.key_is_node c.requires.within in
-    shows_preceding c.self.view_is c.self.invariant c.args.top c.args.key (Some c.in_ok-parent.parent) c.requires.top_is_node c.requires.key_is_node walk.above
+    shows_preceding c.self.view_is c.self.invariant
+    (record { at_top = c.requires.top_is_node; at_x = c.requires.key_is_node; above = walk.above })
     (sym (before_in-child walk.whole walk.top_is_node (eqb-false c.args.key c.args.top (sym c.if-eq.ensures)) walk.above
     (sym c.in_ok-parent.ensures.value) (sym (none_left c.prev.result c.in_default.not-Some) ∙ c.prev.ensures.value)))
 
@@ -63,7 +66,8 @@ loop-last-preserved c =
 pub returns-clause-value : goal.returns-clause-value
 returns-clause-value c =
     let walk = in_tree c.self.view_is c.self.invariant c.requires.top_is_node c.requires.key_is_node c.requires.within in
-    shows_preceding c.self.view_is c.self.invariant c.args.top c.args.key (Some c.loop-last.at) c.requires.top_is_node c.requires.key_is_node walk.above
+    shows_preceding c.self.view_is c.self.invariant
+    (record { at_top = c.requires.top_is_node; at_x = c.requires.key_is_node; above = walk.above })
     (sym (last_in-leaf walk.whole c.args.top c.loop-last.at walk.top_is_node
     c.loop-last.invariant.1 (sym (none_left c.last.result c.in_default-last.not-Some) ∙ c.last.ensures.value)) ∙ c.loop-last.invariant.2)
 

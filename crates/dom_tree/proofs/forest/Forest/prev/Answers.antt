@@ -5,4 +5,5 @@ use Rattle.dom_tree.proofs.Kept.{shows}
 use Rattle.dom_tree.proofs.forest.Forest.prev.Goals as goal
 
 pub returns-clause-value : goal.returns-clause-value
-returns-clause-value c = shows c.self.view_is c.self.invariant previous_sibling prev_of prev_in-at c.args.key c.prev.result c.requires c.prev.ensures.value
+returns-clause-value c = shows c.self.view_is c.self.invariant {read = previous_sibling} {key_read = prev_of} (record { agree = prev_in-at }) c.args.key
+    c.requires c.prev.ensures.value

@@ -21,8 +21,8 @@ returns-in_err-set_attribute-clause-names c = set_names c.self.view_is c.self.in
 
 pub returns-in_err-set_attribute-clause-err : goal.returns-in_err-set_attribute-clause-err
 returns-in_err-set_attribute-clause-err c = on_any c.from_residual-in_err-set_attribute.result
-    (set_same c.self.view_is c.self.invariant c.args.key c.payload_mut.result.now _ c.payload_mut.ensures.value
-    (ap (λ (s : Stored). s.name) c.in_err-set_attribute.ensures.err)
+    (set_same c.self.view_is c.self.invariant
+    (record { at = c.payload_mut.ensures.value; name_kept = ap (λ (s : Stored). s.name) c.in_err-set_attribute.ensures.err })
     (ap (λ (s : Stored). node_with c.args.self.now.names s.name s.node) c.in_err-set_attribute.ensures.err))
   where
     on_any : {T E P : Type 0} (r : Result T E) → P → OnErr r P
@@ -34,9 +34,9 @@ returns-clause-names c = set_names c.self.view_is c.self.invariant c.args.key _ 
     (ap (λ (s : Stored). s.name) c.in_ok-set_attribute.ensures.ok)
 
 pub returns-clause-ok : goal.returns-clause-ok
-returns-clause-ok c = ap (λ f. f.trees) (set_done c.self.view_is c.self.invariant c.args.key c.payload_mut.result.now _
-    (with_attribute c.args.name.now (Some c.args.value.items)) c.payload_mut.ensures.value
-    (ap (λ (s : Stored). s.name) c.in_ok-set_attribute.ensures.ok) (λ y. refl)
+returns-clause-ok c = ap (λ f. f.trees) (set_done c.self.view_is c.self.invariant
+    (record { at = c.payload_mut.ensures.value; name_kept = ap (λ (s : Stored). s.name) c.in_ok-set_attribute.ensures.ok })
+    (with_attribute c.args.name.now (Some c.args.value.items)) (λ y. refl)
     (ap (λ (s : Stored). node_with c.args.self.now.names s.name s.node) c.in_ok-set_attribute.ensures.ok
     ∙ ap (λ a. holding c.args.self.now.names c.payload_mut.result.now (attributes_with a c.args.value.items c.payload_mut.result.now.node.attributes))
     c.in_ok-name.ensures.ok))

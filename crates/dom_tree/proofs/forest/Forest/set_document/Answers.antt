@@ -19,7 +19,7 @@ returns-clause-names c = set_names c.self.view_is c.self.invariant c.args.key _ 
 
 pub returns-clause-trees : goal.returns-clause-trees
 returns-clause-trees c = ap (λ f. f.trees)
-    (set_done c.self.view_is c.self.invariant c.args.key c.payload_mut.result.now _
-    (under_document (option_map (name_at c.args.self.now.names) c.args.document)) c.payload_mut.ensures.value
-    (ap (λ (s : Stored). s.name) c.set_document.ensures) (λ y. refl)
+    (set_done c.self.view_is c.self.invariant
+    (record { at = c.payload_mut.ensures.value; name_kept = ap (λ (s : Stored). s.name) c.set_document.ensures })
+    (under_document (option_map (name_at c.args.self.now.names) c.args.document)) (λ y. refl)
     (ap (λ (s : Stored). node_with c.args.self.now.names s.name s.node) c.set_document.ensures))

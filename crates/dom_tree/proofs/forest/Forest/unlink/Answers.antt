@@ -20,7 +20,6 @@ returns-clause-unlinked c =
 
 pub returns-clause-above : goal.returns-clause-above
 returns-clause-above c =
-    moved_above c.self.view_is c.self.invariant c.args.key c.requires (ap (λ a. a.payloads) c.unlink.ensures.unlinked)
+    moved_above c.self.view_is c.self.invariant (ap (λ a. a.payloads) c.unlink.ensures.unlinked) c.unlink.ensures.sound c.args.key c.requires
     (subst (λ (ks : List (List ℕ)). AreSameBut c.args.key c.self.inside.arena.children ks) (ap (λ (a : Nodes Stored). a.children)
     (sym c.unlink.ensures.unlinked)) (unlinked_apart c.self.inside.arena.children c.args.key))
-    c.unlink.ensures.sound

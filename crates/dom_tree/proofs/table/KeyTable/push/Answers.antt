@@ -21,6 +21,6 @@ returns-in-Some c =
     let some : IsSome (get OwnerImpl.ghosts.eq t.components c.args.owner) = subst IsSome c.in-Some.ensures.value refl in
     let items = of_ok c.push-in-Some.result (c.in-Some.keys.now.items ++ c.args.key ∷ []) c.in-Some.keys.now.items c.push-in-Some.new.self.items
     (c.push-in-Some.ensures.succeeds (room_of t c.args.owner c.in-Some.keys.now other found c.requires)) c.push-in-Some.ensures.items in
-    keys-written t r c.args.owner (c.args.key ∷ []) other refl
+    keys-written t r refl c.args.owner (c.args.key ∷ []) other
     (written-by (λ v. v.items) (get OwnerImpl.ghosts.eq t.components) (get OwnerImpl.ghosts.eq r.components) c.args.owner c.push-in-Some.new.self
     (λ p. ((c.get_mut.follows.holds c.push-in-Some.new.self).3 some).0 p) c.in-Some.keys.now (λ keys. keys ++ c.args.key ∷ []) found items)
