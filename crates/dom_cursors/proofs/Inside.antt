@@ -34,10 +34,10 @@ module _ (f : NamedTrees) (top : ℕ) where
       rw same record { node = node; within = above-within f.trees (name_at f.names top) (name_at f.names top) (IsWithin-itself f once only top node) }
 
   -- of the names from a key on those that are not its own are from the next key on
-  pub next-from : (k : ℕ) (at next : Option ℕ) → at ≡ Some k →
-      behind f.trees (name_at f.names top) (name_at f.names k) ≡ from_node f.trees (name_at f.names top) (option_map (name_at f.names) next)
-      → (y : NodeName) → from_key at y → (y ≡ name_at f.names k) ⊎ from_key next y
-  next-from k at next is e y i = elim (subst (λ o. from_key o y) is i) [
+  pub next-from : {k : ℕ} {at : Option ℕ} (next : Option ℕ) → at ≡ Some k →
+      behind f.trees (name_at f.names top) (name_at f.names k) ≡ from_node f.trees (name_at f.names top) (option_map (name_at f.names) next) →
+      (y : NodeName) → from_key at y → (y ≡ name_at f.names k) ⊎ from_key next y
+  next-from next is e y i = elim (subst (λ o. from_key o y) is i) [
     | inl same ↦ inl same
     | inr j ↦ inr (subst (In y) e j)
   ]

@@ -37,5 +37,5 @@ got [] k x there e = cc
 got (z ∷ xs) zero x there e = ap Some (sym e)
 got (z ∷ xs) (suc k) x there e = got xs k x there e
 
-pub got_is : {X : Type 0} (xs : List X) (k : ℕ) (x y : X) → is_some (slice_get xs k) ≡ true → y ≡ get_or xs k y → slice_get xs k ≡ Some x → y ≡ x
-got_is xs k x y there e is = same_Some y x (sym (got xs k y there e) ∙ is)
+pub got_is : {X : Type 0} (xs : List X) (k : ℕ) {x : X} (y : X) → is_some (slice_get xs k) ≡ true → y ≡ get_or xs k y → slice_get xs k ≡ Some x → y ≡ x
+got_is xs k {x = x} y there e is = same_Some y x (sym (got xs k y there e) ∙ is)

@@ -151,10 +151,10 @@ module _ (f : NamedTrees) (node : ℕ) where
 
   module _ (P : KeyedIterator → Type 0) (was : List KeyedIterator) where
     -- the next one that is not passed over
-    pub have_left-more : (mid now : List KeyedIterator) (from at : ℕ) → HaveLeft f node P was mid from
-        → ((k : ℕ) (i : KeyedIterator) → from ≤ k → k < at → slice_get mid k ≡ Some i → P i → ⊥)
-        → MayHaveLeft f node mid now × (length now ≡ length mid) × IsLeftIf f node (slice_get mid at) (slice_get now at) → HaveLeft f node P was now (at + 1)
-    have_left-more mid now from at h passed step = record {
+    pub have_left-more : {mid : List KeyedIterator} (now : List KeyedIterator) {from : ℕ} (at : ℕ) → HaveLeft f node P was mid from →
+        ((k : ℕ) (i : KeyedIterator) → from ≤ k → k < at → slice_get mid k ≡ Some i → P i → ⊥) →
+        MayHaveLeft f node mid now × (length now ≡ length mid) × IsLeftIf f node (slice_get mid at) (slice_get now at) → HaveLeft f node P was now (at + 1)
+    have_left-more {mid = mid} now {from = from} at h passed step = record {
       may = may-may was mid now h.may step.0;
       len = step.1 ∙ h.len;
       done = λ k i l e p. elim (cases_eq k at) [
@@ -167,10 +167,10 @@ module _ (f : NamedTrees) (node : ℕ) where
     }
 
     -- none is left
-    pub have_left-all : (now : List KeyedIterator) (at : ℕ) → HaveLeft f node P was now at
-        → ((k : ℕ) (i : KeyedIterator) → at ≤ k → slice_get now k ≡ Some i → P i → ⊥) → (k : ℕ) (i : KeyedIterator) → slice_get was k ≡ Some i → P i →
+    pub have_left-all : {now : List KeyedIterator} {at : ℕ} → HaveLeft f node P was now at →
+        ((k : ℕ) (i : KeyedIterator) → at ≤ k → slice_get now k ≡ Some i → P i → ⊥) → (k : ℕ) {i : KeyedIterator} → slice_get was k ≡ Some i → P i →
         IsLeftIf f node (slice_get was k) (slice_get now k)
-    have_left-all now at h passed k i e p = elim (cases_lt k at) [
+    have_left-all {at = at} h passed k {i = i} e p = elim (cases_lt k at) [
       | inl m ↦ h.done k i m e p
       | inr m ↦ elim (h.may k) [ inl left ↦ left | inr same ↦ absurd (passed k i m (same ∙ e) p) ]
     ]

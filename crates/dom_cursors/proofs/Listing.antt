@@ -29,11 +29,10 @@ get_push (z ∷ xs) x y zero e = inl e
 get_push (z ∷ xs) x y (suc k) e = elim (get_push xs x y k e) [ inl h ↦ inl h | inr h ↦ inr (ap suc h.0, h.1) ]
 
 -- one iterator more
-pub AreListed-added : (is : List KeyedIterator) (i : KeyedIterator) (xs ys : List Reference) → AreListed is xs
-    → Contains ys (reference_at i.reference (length is))
-    → ((x : Reference) → Contains xs x → Contains ys x)
-    → ((x : Reference) → Contains ys x → (x ≡ reference_at i.reference (length is)) ⊎ Contains xs x) → AreListed (is ++ i ∷ []) ys
-AreListed-added is i xs ys listed here kept only = record {
+pub AreListed-added : {is : List KeyedIterator} (i : KeyedIterator) {xs : List Reference} (ys : List Reference) → AreListed is xs →
+    Contains ys (reference_at i.reference (length is)) → ((x : Reference) → Contains xs x → Contains ys x) →
+    ((x : Reference) → Contains ys x → (x ≡ reference_at i.reference (length is)) ⊎ Contains xs x) → AreListed (is ++ i ∷ []) ys
+AreListed-added {is = is} i ys listed here kept only = record {
   all = λ k j e. elim (get_push is i j k e) [
     | inl h ↦ kept (reference_at j.reference k) (listed.all k j h)
     | inr h ↦ subst (Contains ys) (λ t. reference_at (h.1 t).reference (sym h.0 t)) here

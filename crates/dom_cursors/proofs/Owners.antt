@@ -35,25 +35,6 @@ had-none q all o view off =
 pub entry : (q : Inside) (o : Owner) → is_some (lookup (owner_eq o) q.tables.entries) ≡ is_some (get OwnerImpl.ghosts.eq q.tables o)
 entry q o = ap is_some (looked q.tables.entries o)
 
--- cursors that are written for an owner
-pub written : (q r : Inside) (all : AllCursors) (o : Owner) (t : KeyedTables) → q.tables.entries ≡ all →
-    ((p : Owner) → get OwnerImpl.ghosts.eq r.tables p ≡ cond (OwnerImpl.ghosts.eq o p) (Some t) (get OwnerImpl.ghosts.eq q.tables p))
-    → cursors_of r.tables.entries ≡ with_cursors (cursors_of all) o t
-written q r all o t view at = (λ i p. each p i)
-  where
-    found : (p : Owner) → lookup (owner_eq p) r.tables.entries ≡ cond (owner_eq o p) (Some t) (lookup (owner_eq p) all)
-    found p =
-        looked r.tables.entries p ∙ at p
-        ∙ ap (λ b. cond b (Some t) (get OwnerImpl.ghosts.eq q.tables p)) (same_owner o p)
-        ∙ ap (cond (owner_eq o p) (Some t)) (sym (looked q.tables.entries p) ∙ ap (lookup (owner_eq p)) view)
-
-    by : (b : Bool) (old : Option KeyedTables) → unwrap_or (cond b (Some t) old) no_keyed_tables ≡ cond b t (unwrap_or old no_keyed_tables)
-    by true old = refl
-    by false old = refl
-
-    each : (p : Owner) → cursors_of r.tables.entries p ≡ with_cursors (cursors_of all) o t p
-    each p = ap (λ m. unwrap_or m no_keyed_tables) (found p) ∙ by (owner_eq o p) (lookup (owner_eq p) all)
-
 -- what is written is the owner's then
 pub with-own : (each : Owner → KeyedTables) (o : Owner) (t : KeyedTables) → with_cursors each o t o ≡ t
 with-own each o t = ap (λ b. cond b t (each o)) (owner_eq-same o)
@@ -73,13 +54,31 @@ with-same each o t e = (λ i p. at p i)
         by true same = sym e ∙ ap each (owner_eq-true o p same)
         by false same = refl
 
--- and where what is written for an owner without cursors is nothing
-pub written-none : (q r : Inside) (all : AllCursors) (o : Owner) (t : KeyedTables) → q.tables.entries ≡ all →
-    None ≡ get OwnerImpl.ghosts.eq q.tables o → t ≡ no_keyed_tables
-    → ((p : Owner) → get OwnerImpl.ghosts.eq r.tables p ≡ cond (OwnerImpl.ghosts.eq o p) (Some t) (get OwnerImpl.ghosts.eq q.tables p))
-    → cursors_of r.tables.entries ≡ cursors_of all
-written-none q r all o t view off new at =
-    written q r all o t view at ∙ with-same (cursors_of all) o t (had-none q all o view off ∙ sym new)
+module _ (q r : Inside) {all : AllCursors} (o : Owner) (t : KeyedTables) (view : q.tables.entries ≡ all) where
+  -- cursors that are written for an owner
+  pub written : ((p : Owner) → get OwnerImpl.ghosts.eq r.tables p ≡ cond (OwnerImpl.ghosts.eq o p) (Some t) (get OwnerImpl.ghosts.eq q.tables p)) →
+      cursors_of r.tables.entries ≡ with_cursors (cursors_of all) o t
+  written at = (λ i p. each p i)
+    where
+      found : (p : Owner) → lookup (owner_eq p) r.tables.entries ≡ cond (owner_eq o p) (Some t) (lookup (owner_eq p) all)
+      found p =
+          looked r.tables.entries p ∙ at p
+          ∙ ap (λ b. cond b (Some t) (get OwnerImpl.ghosts.eq q.tables p)) (same_owner o p)
+          ∙ ap (cond (owner_eq o p) (Some t)) (sym (looked q.tables.entries p) ∙ ap (lookup (owner_eq p)) view)
+
+      by : (b : Bool) (old : Option KeyedTables) → unwrap_or (cond b (Some t) old) no_keyed_tables ≡ cond b t (unwrap_or old no_keyed_tables)
+      by true old = refl
+      by false old = refl
+
+      each : (p : Owner) → cursors_of r.tables.entries p ≡ with_cursors (cursors_of all) o t p
+      each p = ap (λ m. unwrap_or m no_keyed_tables) (found p) ∙ by (owner_eq o p) (lookup (owner_eq p) all)
+
+  -- and where what is written for an owner without cursors is nothing
+  pub written-none : None ≡ get OwnerImpl.ghosts.eq q.tables o → t ≡ no_keyed_tables →
+      ((p : Owner) → get OwnerImpl.ghosts.eq r.tables p ≡ cond (OwnerImpl.ghosts.eq o p) (Some t) (get OwnerImpl.ghosts.eq q.tables p)) →
+      cursors_of r.tables.entries ≡ cursors_of all
+  written-none off new at =
+      written at ∙ with-same (cursors_of all) o t (had-none q all o view off ∙ sym new)
 
 -- what is not there
 pub none_from : {X : Type 0} (o : Option X) → is_some o ≡ false → o ≡ None

@@ -19,22 +19,22 @@ is_before y x = ltb x.node y.node || (eqb x.node y.node && ltb x.number y.number
 -- ---- what the test says
 
 pub before-true : (y x : Reference) → is_before y x ≡ true → IsBefore x y
-before-true y x = by (ltb x.node y.node) (eqb x.node y.node) (ltb x.number y.number) refl refl refl
+before-true y x = by (ltb x.node y.node) (eqb x.node y.node) refl refl refl
   where
-    by : (a b c : Bool) → ltb x.node y.node ≡ a → eqb x.node y.node ≡ b → ltb x.number y.number ≡ c → a || (b && c) ≡ true → IsBefore x y
-    by true b c f g h i = (omega (arith, ltb-true x.node y.node f), λ s. absurd (omega (arith, ltb-true x.node y.node f, s)))
-    by false true true f g h i = (omega (arith, eqb-true x.node y.node g), λ _. ltb-true x.number y.number h)
-    by false true false f g h i = cc
-    by false false c f g h i = cc
+    by : (a b : Bool) {c : Bool} → ltb x.node y.node ≡ a → eqb x.node y.node ≡ b → ltb x.number y.number ≡ c → a || (b && c) ≡ true → IsBefore x y
+    by true b f g h i = (omega (arith, ltb-true x.node y.node f), λ s. absurd (omega (arith, ltb-true x.node y.node f, s)))
+    by false true {c = true} f g h i = (omega (arith, eqb-true x.node y.node g), λ _. ltb-true x.number y.number h)
+    by false true {c = false} f g h i = cc
+    by false false f g h i = cc
 
 pub before-false : (y x : Reference) → is_before y x ≡ false → IsUpTo y x
-before-false y x = by (ltb x.node y.node) (eqb x.node y.node) (ltb x.number y.number) refl refl refl
+before-false y x = by (ltb x.node y.node) (eqb x.node y.node) refl refl refl
   where
-    by : (a b c : Bool) → ltb x.node y.node ≡ a → eqb x.node y.node ≡ b → ltb x.number y.number ≡ c → a || (b && c) ≡ false → IsUpTo y x
-    by true b c f g h i = cc
-    by false true true f g h i = cc
-    by false true false f g h i = (ltb-false x.node y.node f, λ _. ltb-false x.number y.number h)
-    by false false c f g h i = (ltb-false x.node y.node f, λ s. absurd (eqb-false x.node y.node g (sym s)))
+    by : (a b : Bool) {c : Bool} → ltb x.node y.node ≡ a → eqb x.node y.node ≡ b → ltb x.number y.number ≡ c → a || (b && c) ≡ false → IsUpTo y x
+    by true b f g h i = cc
+    by false true {c = true} f g h i = cc
+    by false true {c = false} f g h i = (ltb-false x.node y.node f, λ _. ltb-false x.number y.number h)
+    by false false f g h i = (ltb-false x.node y.node f, λ s. absurd (eqb-false x.node y.node g (sym s)))
 
 -- it parts a sorted list
 pub IsPartitionedBy-before : (y : Reference) (xs : List Reference) → AreSorted xs → IsPartitionedBy (is_before y) xs

@@ -38,7 +38,7 @@ returns-clause-added c =
     } in
     let step : c.add_walker.new.self ≡ more c.in-Some.tables.now →
     cursors_of r.tables.entries ≡ with_cursors (cursors_of c.args.self.now) c.args.owner (more (cursors_of c.args.self.now c.args.owner)) =
-    λ e. written c.self.inside r c.prepare.new.self c.args.owner c.add_walker.new.self c.self.view_is
+    λ e. written c.self.inside r c.args.owner c.add_walker.new.self c.self.view_is
     ((c.get_mut.follows.holds c.add_walker.new.self).3 (subst IsSome c.in-Some.ensures.value refl)).0
     ∙ ap (λ each. with_cursors each c.args.owner c.add_walker.new.self) c.in_ok-prepare.ensures.keeps
     ∙ ap (with_cursors (cursors_of c.args.self.now) c.args.owner) (e ∙ ap more now) in
@@ -56,7 +56,7 @@ returns-clause-err c =
     let now = sym (had c.self.inside c.prepare.new.self c.args.owner c.in-Some.tables.now c.self.view_is c.in-Some.ensures.value) ∙
     ap (λ each. each c.args.owner) c.in_ok-prepare.ensures.keeps in
     let step : c.add_walker.new.self ≡ c.in-Some.tables.now → cursors_of r.tables.entries ≡ cursors_of c.args.self.now =
-    λ e. written c.self.inside r c.prepare.new.self c.args.owner c.add_walker.new.self c.self.view_is
+    λ e. written c.self.inside r c.args.owner c.add_walker.new.self c.self.view_is
     ((c.get_mut.follows.holds c.add_walker.new.self).3 (subst IsSome c.in-Some.ensures.value refl)).0
     ∙ ap (λ each. with_cursors each c.args.owner c.add_walker.new.self) c.in_ok-prepare.ensures.keeps
     ∙ with-same (cursors_of c.args.self.now) c.args.owner c.add_walker.new.self (sym now ∙ sym e) in

@@ -31,7 +31,7 @@ returns-clause-state c x e =
     let r : Inside = record { tables = c.get_mut.follows.lender c.iter_previous.new.self; alloc = c.self.inside.alloc } in
     let here = had c.self.inside c.args.self.now c.args.owner c.in-Some.tables.now c.self.view_is c.in-Some.ensures.value in
     let moved : KeyedTables → KeyedTables = λ t. record t { iterators = slice_set t.iterators c.args.number (iterator_at x true c.iter_previous.result) } in
-    written c.self.inside r c.args.self.now c.args.owner c.iter_previous.new.self c.self.view_is
+    written c.self.inside r c.args.owner c.iter_previous.new.self c.self.view_is
     ((c.get_mut.follows.holds c.iter_previous.new.self).3 (subst IsSome c.in-Some.ensures.value refl)).0
     ∙ ap (with_cursors (cursors_of c.args.self.now) c.args.owner)
     (c.iter_previous.ensures.state x (ap (λ (t : KeyedTables). slice_get t.iterators c.args.number) (sym here) ∙ e) ∙ ap moved (sym here))

@@ -17,7 +17,7 @@ pub returns-clause-others : goal.returns-clause-others
 returns-clause-others c =
     let r : Inside = record { tables = c.get_mut.follows.lender c.leave.new.self; alloc = c.self.inside.alloc } in
     let here = had c.self.inside c.args.self.now c.args.owner c.in-Some.tables.now c.self.view_is c.in-Some.ensures.value in
-    let is = written c.self.inside r c.args.self.now c.args.owner c.leave.new.self c.self.view_is
+    let is = written c.self.inside r c.args.owner c.leave.new.self c.self.view_is
     ((c.get_mut.follows.holds c.leave.new.self).3 (subst IsSome c.in-Some.ensures.value refl)).0 in
     let own : cursors_of r.tables.entries c.args.owner ≡ c.leave.new.self =
     ap (λ each. each c.args.owner) is ∙ with-own (cursors_of c.args.self.now) c.args.owner c.leave.new.self in

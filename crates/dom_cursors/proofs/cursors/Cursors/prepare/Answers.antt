@@ -28,7 +28,7 @@ pub returns : goal.returns
 returns c =
     let r : Inside = record { tables = c.insert.new.self; alloc = c.self.inside.alloc } in
     record {
-      keeps = written-none c.self.inside r c.args.self.now c.args.owner c.new.result c.self.view_is
+      keeps = written-none c.self.inside r c.args.owner c.new.result c.self.view_is
           (sym (none_from (get OwnerImpl.ghosts.eq c.self.inside.tables c.args.owner) (sym c.if-contains_key.ensures))) c.new.ensures
           c.in_ok-insert.ensures.updates.0;
       there = entry r c.args.owner ∙ ap is_some c.in_ok-insert.ensures.updates.1;

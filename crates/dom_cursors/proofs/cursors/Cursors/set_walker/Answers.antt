@@ -17,7 +17,7 @@ returns c x e =
     let r : Inside = record { tables = c.get_mut.follows.lender c.set_walker.new.self; alloc = c.self.inside.alloc } in
     let here = had c.self.inside c.args.self.now c.args.owner c.in-Some.tables.now c.self.view_is c.in-Some.ensures.value in
     let moved : KeyedTables → KeyedTables = λ t. record t { walkers = slice_set t.walkers c.args.number (record x { current = c.args.current }) } in
-    written c.self.inside r c.args.self.now c.args.owner c.set_walker.new.self c.self.view_is
+    written c.self.inside r c.args.owner c.set_walker.new.self c.self.view_is
     ((c.get_mut.follows.holds c.set_walker.new.self).3 (subst IsSome c.in-Some.ensures.value refl)).0
     ∙ ap (with_cursors (cursors_of c.args.self.now) c.args.owner)
     (c.set_walker.ensures x (ap (λ (t : KeyedTables). slice_get t.walkers c.args.number) (sym here) ∙ e) ∙ ap moved (sym here))

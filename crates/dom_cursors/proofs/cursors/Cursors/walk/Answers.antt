@@ -31,7 +31,7 @@ returns-clause-state c x e =
     let r : Inside = record { tables = c.get_mut.follows.lender c.walk.new.self; alloc = c.self.inside.alloc } in
     let here = had c.self.inside c.args.self.now c.args.owner c.in-Some.tables.now c.self.view_is c.in-Some.ensures.value in
     let moved : KeyedTables → KeyedTables = λ t. record t { walkers = slice_set t.walkers c.args.number (walker_at x c.walk.result) } in
-    written c.self.inside r c.args.self.now c.args.owner c.walk.new.self c.self.view_is
+    written c.self.inside r c.args.owner c.walk.new.self c.self.view_is
     ((c.get_mut.follows.holds c.walk.new.self).3 (subst IsSome c.in-Some.ensures.value refl)).0
     ∙ ap (with_cursors (cursors_of c.args.self.now) c.args.owner)
     (c.walk.ensures.state x (ap (λ (t : KeyedTables). slice_get t.walkers c.args.number) (sym here) ∙ e) ∙ ap moved (sym here))

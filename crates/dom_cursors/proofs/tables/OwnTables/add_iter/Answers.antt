@@ -16,7 +16,7 @@ invariant_of-self-2 c =
     (λ t. reference_at (sym root t) (number t)) in (
       c.list.ensures.sorted,
       subst (λ (js : List KeyedIterator). AreListed js c.list.new.references.items) (sym c.in_ok-push.ensures.items)
-          (AreListed-added is c.new.result xs c.list.new.references.items
+          (AreListed-added c.new.result c.list.new.references.items
           (subst (AreListed is) (sym c.in_ok-reserve.ensures.items) c.self.invariant.1)
           (subst (Contains c.list.new.references.items) here c.list.ensures.listed) c.list.ensures.kept
           (subst (λ (y : Reference). (x : Reference) → Contains c.list.new.references.items x → (x ≡ y) ⊎ Contains xs x) here c.list.ensures.only)),

@@ -36,7 +36,7 @@ invariant_of-self c =
 pub returns-clause-value : goal.returns-clause-value
 returns-clause-value c x e = subst (λ i. option_map (name_at c.args.forest.now.names) c.previous-found.result ≡ iterator_previous_node
     c.args.forest.now.trees (iterator_view c.args.forest.now.names i))
-    (got_is c.args.self.now.iterators c.args.number x c.index_mut-iterator.result.now c.requires.there
+    (got_is c.args.self.now.iterators c.args.number c.index_mut-iterator.result.now c.requires.there
     (c.index_mut-iterator.ensures.value ∙ ap (λ (t : KeyedTables). get_or t.iterators c.args.number c.index_mut-iterator.result.now)
     c.self.view_is) e) c.previous-found.ensures.value
 
@@ -44,7 +44,7 @@ pub returns-clause-state : goal.returns-clause-state
 returns-clause-state c x e =
     let moved : c.previous-found.new.self ≡ iterator_at x true c.previous-found.result =
     c.previous-found.ensures.state ∙ ap (λ i. iterator_at i true c.previous-found.result)
-    (got_is c.args.self.now.iterators c.args.number x c.index_mut-iterator.result.now c.requires.there
+    (got_is c.args.self.now.iterators c.args.number c.index_mut-iterator.result.now c.requires.there
     (c.index_mut-iterator.ensures.value ∙ ap (λ (t : KeyedTables). get_or t.iterators c.args.number c.index_mut-iterator.result.now)
     c.self.view_is) e) in
     ap (λ i. with_iterators (slice_set c.self.inside.iterators.items c.args.number i) c.self.inside.walkers.items) moved
@@ -57,6 +57,6 @@ pub returns-clause-kept : goal.returns-clause-kept
 returns-clause-kept c x e =
     subst (IsIteratorOf c.args.forest.now)
     (c.previous-found.ensures.state ∙ ap (λ i. iterator_at i true c.previous-found.result)
-    (got_is c.args.self.now.iterators c.args.number x c.index_mut-iterator.result.now c.requires.there
+    (got_is c.args.self.now.iterators c.args.number c.index_mut-iterator.result.now c.requires.there
     (c.index_mut-iterator.ensures.value ∙ ap (λ (t : KeyedTables). get_or t.iterators c.args.number c.index_mut-iterator.result.now)
     c.self.view_is) e)) c.previous-found.ensures.kept

@@ -51,7 +51,7 @@ loop-at-preserved c =
       ahead = λ k i there inside. elim (c.loop-at.invariant.ahead k i there inside) [
         | inr left ↦ inr (left-may f c.args.node was mid now c.leave_from.ensures.may k left)
         | inl from ↦
-            elim (next-from f c.args.node c.in-Some.key c.loop-at.at c.following-at.result c.in-Some.is step.0 (name_at f.names i.reference) from) [
+            elim (next-from f c.args.node c.following-at.result c.in-Some.is step.0 (name_at f.names i.reference) from) [
               | inr next ↦ inl next
               | inl same ↦ inr (elim (may k) [
                 | inl left ↦ left-may f c.args.node was mid now c.leave_from.ensures.may k left

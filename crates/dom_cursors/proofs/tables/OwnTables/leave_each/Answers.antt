@@ -15,7 +15,7 @@ returns-clause-iterators c =
     let left = c.loop-number.invariant.left in
     let size : length c.self.inside.iterators.items ≡ length was = ap (λ (t : KeyedTables). length t.iterators) c.self.view_is in
     all-left c.args.forest.now c.args.node was now left.may
-    (λ k i e. have_left-all c.args.forest.now c.args.node (λ _. Unit {0}) was now c.loop-number.number left
+    (λ k i e. have_left-all c.args.forest.now c.args.node (λ _. Unit {0}) was left
     (λ j x le there _.
     let l = within-got now j x there in omega (arith, l, le, c.loop-number-test.false, c.len-number-end.ensures, c.self.inside.iterators.ok.0, size, left.len))
-    k i e tt)
+    k e tt)

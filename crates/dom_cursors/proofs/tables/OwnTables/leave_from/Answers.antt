@@ -48,8 +48,8 @@ pub loop-number-preserved : goal.loop-number-preserved
 loop-number-preserved c =
     let items = ap (λ (t : KeyedTables). t.iterators) c.self.view_is in
     record {
-      left = have_left-more c.args.forest.now c.args.node (λ i. i.reference ≡ c.args.key) c.args.self.now.iterators c.loop-number.self.iterators
-          c.leave_one.new.self.iterators c.loop-number.least c.in-Some.number c.loop-number.invariant.left
+      left = have_left-more c.args.forest.now c.args.node (λ i. i.reference ≡ c.args.key) c.args.self.now.iterators
+          c.leave_one.new.self.iterators c.in-Some.number c.loop-number.invariant.left
           (λ k i le l e at.
           let no_less = (c.in-Some.ensures.least k le (listed_at items c.self.invariant.1 c.as_slice.ensures.value e at)).1 c.in-Some.number refl in
           omega (arith, no_less, l))
@@ -61,7 +61,7 @@ pub returns-clause-left : goal.returns-clause-left
 returns-clause-left c k x e at =
     let items = ap (λ (t : KeyedTables). t.iterators) c.self.view_is in
     subst (λ o. IsLeftIf c.args.forest.now c.args.node o (slice_get c.loop-number.self.iterators k)) e
-    (have_left-all c.args.forest.now c.args.node (λ i. i.reference ≡ c.args.key) c.args.self.now.iterators c.loop-number.self.iterators c.loop-number.least
+    (have_left-all c.args.forest.now c.args.node (λ i. i.reference ≡ c.args.key) c.args.self.now.iterators
     c.loop-number.invariant.left
     (λ j i le there same.
-    true≢false (sym (c.in_default.ensures.least j le (listed_at items c.self.invariant.1 c.as_slice.ensures.value there same)).0)) k x e at)
+    true≢false (sym (c.in_default.ensures.least j le (listed_at items c.self.invariant.1 c.as_slice.ensures.value there same)).0)) k e at)
