@@ -66,34 +66,35 @@ pub record IsBefore (ts : Trees) (s x : NodeName) (front : List NodeName) : Type
   pub parent : parent_of ts s ≡ parent_of ts x
   pub stands : Has ts s
 
--- where the siblings before a node split
-pub before-at : (ts : Trees) (s x : NodeName) (front back : List NodeName) → Once ts → Has ts x → before_list ts x ≡ front ++ s ∷ back → IsBefore ts s x front
-before-at ts s x front back once h split = by (parent_of ts x) refl
-  where
-    by : (o : Option NodeName) → parent_of ts x ≡ o → IsBefore ts s x front
-    by None up = absurd (subst (In s) (sym split ∙ (root_before ts x up).0) (In-right s front (s ∷ back) (inl refl)))
-    by (Some p) up =
-        let at = splits ts x p once h up in
-        let whole : children_of ts p ≡ front ++ s ∷ (back ++ x ∷ after_list ts x) =
-        at.parts ∙ (ap (λ xs. xs ++ x ∷ after_list ts x) split ∙ append_assoc front (s ∷ back) (x ∷ after_list ts x)) in
-        let among : In s (children_of ts p) = subst (In s) (sym whole) (In-right s front (s ∷ (back ++ x ∷ after_list ts x)) (inl refl)) in
-        let apart : In s front → ⊥ = λ i. Single-apart s front (s ∷ (back ++ x ∷ after_list ts x)) (subst Single whole at.single) i (inl refl) in
-        let its = parent-of_child ts p s once (child-of_parent ts x p once h up).0 among in
-        record {
-          before = ap (items_before name_eq s) (at.its s among ∙ whole) ∙ before-split s front (back ++ x ∷ after_list ts x) apart;
-          parent = its.0 ∙ sym up;
-          stands = its.1;
-        }
+module _ (ts : Trees) (x : NodeName) (once : Once ts) (h : Has ts x) where
+  -- where the siblings before a node split
+  pub before-at : (s : NodeName) (front back : List NodeName) → before_list ts x ≡ front ++ s ∷ back → IsBefore ts s x front
+  before-at s front back split = by (parent_of ts x) refl
+    where
+      by : (o : Option NodeName) → parent_of ts x ≡ o → IsBefore ts s x front
+      by None up = absurd (subst (In s) (sym split ∙ (root_before ts x up).0) (In-right s front (s ∷ back) (inl refl)))
+      by (Some p) up =
+          let at = splits ts x p once h up in
+          let whole : children_of ts p ≡ front ++ s ∷ (back ++ x ∷ after_list ts x) =
+          at.parts ∙ (ap (λ xs. xs ++ x ∷ after_list ts x) split ∙ append_assoc front (s ∷ back) (x ∷ after_list ts x)) in
+          let among : In s (children_of ts p) = subst (In s) (sym whole) (In-right s front (s ∷ (back ++ x ∷ after_list ts x)) (inl refl)) in
+          let apart : In s front → ⊥ = λ i. Single-apart s front (s ∷ (back ++ x ∷ after_list ts x)) (subst Single whole at.single) i (inl refl) in
+          let its = parent-of_child ts p s once (child-of_parent ts x p once h up).0 among in
+          record {
+            before = ap (items_before name_eq s) (at.its s among ∙ whole) ∙ before-split s front (back ++ x ∷ after_list ts x) apart;
+            parent = its.0 ∙ sym up;
+            stands = its.1;
+          }
 
--- the siblings before a node are those up to the sibling just before it
-pub before-previous : (ts : Trees) (x : NodeName) → Once ts → Has ts x → before_list ts x ≡ up_to ts (previous_sibling ts x)
-before-previous ts x once h = by (last_of (before_list ts x)) refl
-  where
-    by : (o : Option NodeName) → last_of (before_list ts x) ≡ o → before_list ts x ≡ up_to ts (last_of (before_list ts x))
-    by None e = no_last (before_list ts x) e ∙ ap (up_to ts) (sym e)
-    by (Some s) e =
-        let front = last_split (before_list ts x) s e in
-        front.1 ∙ (ap (λ xs. xs ++ s ∷ []) (sym (before-at ts s x front.0 [] once h front.1).before) ∙ ap (up_to ts) (sym e))
+  -- the siblings before a node are those up to the sibling just before it
+  pub before-previous : before_list ts x ≡ up_to ts (previous_sibling ts x)
+  before-previous = by (last_of (before_list ts x)) refl
+    where
+      by : (o : Option NodeName) → last_of (before_list ts x) ≡ o → before_list ts x ≡ up_to ts (last_of (before_list ts x))
+      by None e = no_last (before_list ts x) e ∙ ap (up_to ts) (sym e)
+      by (Some s) e =
+          let front = last_split (before_list ts x) s e in
+          front.1 ∙ (ap (λ xs. xs ++ s ∷ []) (sym (before-at s front.0 [] front.1).before) ∙ ap (up_to ts) (sym e))
 
 -- the siblings behind a node are those from the sibling just behind it on
 pub after-next : (ts : Trees) (x : NodeName) → Once ts → Has ts x → after_list ts x ≡ from ts (next_sibling ts x)

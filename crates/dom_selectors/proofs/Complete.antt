@@ -11,7 +11,7 @@ use Rattle.dom_model.specs.Selectors.{Simple, AttributeTest, is_space, of_type, 
 use Rattle.dom_model.specs.Selectors.{last_child, equals, has_word, begins_with_dash, begins, ends, holds}
 use Rattle.dom_model.specs.SelectorText.{drop_while, skip_space, read_map, expect, closed_by, read_name, may_stand_quoted, read_quoted, read_value}
 use Rattle.dom_model.specs.SelectorText.{read_one_of, signs, read_test_of, read_test, read_attribute, read_simple}
-use Rattle.dom_selectors.specs.Grammar.{IsTested, IsSpaces, IsValue, plain, double, single, sign, IsSimple}
+use Rattle.dom_selectors.specs.Grammar.{IsBracketed, IsTested, IsSpaces, IsValue, plain, double, single, sign, IsSimple}
 use Rattle.dom_selectors.proofs.TokenLaws.{expect_at}
 
 -- whether the first unit passes
@@ -130,11 +130,11 @@ to_name before name rest spaces named off =
     ∙ ap (λ r. closed_by (codes "]") (option_and_then behind_name r)) (name-read name rest named off)
 
 -- `[NAME]`
-bracketed-read : (before name after rest : DomString) → IsSpaces before → IsSpaces after → is_name name ≡ true →
-    read_attribute (before ++ (name ++ (after ++ 93 ∷ rest))) ≡ Some (with_attribute name, rest)
-bracketed-read before name after rest spaces behind named =
-    to_name before name (after ++ 93 ∷ rest) spaces named (spaces-off after (93 ∷ rest) behind refl)
-    ∙ ap (λ k. closed_by (codes "]") (read_test name k)) (skip-read after (93 ∷ rest) behind refl)
+bracketed-read : {text : DomString} (name : Word) (h : IsBracketed text name) (rest : DomString) →
+    read_attribute (h.before ++ (name ++ (h.after ++ 93 ∷ rest))) ≡ Some (with_attribute name, rest)
+bracketed-read name h rest =
+    to_name h.before name (h.after ++ 93 ∷ rest) h.spaces_before h.named (spaces-off h.after (93 ∷ rest) h.spaces_after refl)
+    ∙ ap (λ k. closed_by (codes "]") (read_test name k)) (skip-read h.after (93 ∷ rest) h.spaces_after refl)
 
 -- `[NAME op VALUE]`
 tested-read : {text value : DomString} (name : Word) (t : AttributeTest) (h : IsTested text name t value) (rest : DomString) →
@@ -175,7 +175,7 @@ simple-read text (with_attribute name) rest h off =
     ∙ ap (λ t. h.before ++ t) (append_assoc name (h.after ++ codes "]") rest ∙ ap (λ t. name ++ t) (append_assoc h.after (codes "]") rest)) in
     ap (λ t. read_simple (t ++ rest)) h.whole
     ∙ or_found (read_attribute (w ++ rest)) _ (with_attribute name, rest)
-    (ap read_attribute whole ∙ bracketed-read h.before name h.after rest h.spaces_before h.spaces_after h.named)
+    (ap read_attribute whole ∙ bracketed-read name h rest)
 simple-read text (with_value name t value) rest h off =
     let end = h.after ++ codes "]" in
     let last : end ++ rest ≡ h.after ++ 93 ∷ rest = append_assoc h.after (codes "]") rest in

@@ -178,11 +178,11 @@ module _ {A : Type 0} (part : Simple → A) (form : Form A) (read : Reader A) (s
       longer [] more e = cc
       longer (c ∷ first) more e = e
 
-  compound-none : {types : List Simple} {all : List A} (parts : List A) (back rest : DomString) → AreEach form back parts → all ≡ map part types ++ parts →
-      is_empty all ≡ false → types ≡ [] → read_type_name (back ++ rest) ≡ None
-  compound-none {all} parts back rest h joined some e =
-      let shape : all ≡ parts = joined ∙ ap (λ ts. map part ts ++ parts) e in
-      none (back ++ rest) (back-head parts back rest h (sym (ap (is_empty {X = A}) shape) ∙ some))
+  compound-none : {text : DomString} {all : List A} (h : IsCompoundOf part form text all) (rest : DomString) → h.types ≡ [] →
+      read_type_name (h.back ++ rest) ≡ None
+  compound-none {all = all} h rest e =
+      let shape : all ≡ h.parts = h.joined ∙ ap (λ ts. map part ts ++ h.parts) e in
+      none (h.back ++ rest) (back-head h.parts h.back rest h.each (sym (ap (is_empty {X = A}) shape) ∙ h.some))
     where
       none : (t : DomString) → head_passes begins_part t ≡ true → read_type_name t ≡ None
       none [] h = cc
@@ -196,7 +196,7 @@ module _ {A : Type 0} (part : Simple → A) (form : Form A) (read : Reader A) (s
       ap (λ t. read_compound_of part read (t ++ rest)) h.whole
       ∙ ap (read_compound_of part read) (append_assoc h.front h.back rest)
       ∙ ap found (type-read h.types h.front (h.back ++ rest) h.typed (back-off h.parts h.back rest h.each off)
-      (compound-none h.parts h.back rest h.each h.joined h.some))
+      (compound-none h rest))
       ∙ ap more (back-read h.parts h.back rest h.each off)
       ∙ ap (λ ys. some_of (ys, rest)) (sym h.joined)
       ∙ cond-false (is_empty all) None (Some (all, rest)) h.some

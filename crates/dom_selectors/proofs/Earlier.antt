@@ -107,47 +107,48 @@ pub record IsEarlier (ts : Trees) (s x : NodeName) (front : List NodeName) : Typ
   pub above : ancestors ts s ≡ ancestors ts x
   pub stands : Has ts s
 
--- where the elements before a node split
-pub earlier-at : (ts : Trees) (s x : NodeName) (front back : List NodeName) → Once ts → Has ts x → elements_before ts x ≡ front ++ s ∷ back →
-    IsEarlier ts s x front
-earlier-at ts s x front back once h split =
-    let p : NodeName → Bool = λ y. is_element (kind_of ts y) in
-    let w = filter-parts p (before_list ts x) s front back split in
-    let its = before-at ts s x w.ahead w.behind once h w.split in
-    record {
-      before = ap (filter p) its.before ∙ w.kept;
-      parent = its.parent;
-      above = above-parent ts s once its.stands (parent_of ts s) refl ∙ (ap (from_above ts) its.parent ∙ sym (above-parent ts x once h (parent_of ts x) refl));
-      stands = its.stands;
-    }
-
 -- one of them
 pub record Earlier (ts : Trees) (s x : NodeName) : Type 0 where
   pub behind : List NodeName
   pub split : elements_before ts x ≡ elements_before ts s ++ s ∷ behind
   pub its : IsEarlier ts s x (elements_before ts s)
 
-pub earlier-in : (ts : Trees) (s x : NodeName) → Once ts → Has ts x → In s (elements_before ts x) → Earlier ts s x
-earlier-in ts s x once h i =
-    let front = items_before name_eq s (elements_before ts x) in
-    let back = items_after name_eq s (elements_before ts x) in
-    let split = split_at s (elements_before ts x) i in
-    let its = earlier-at ts s x front back once h split in
-    record {
-      behind = back;
-      split = split ∙ ap (λ xs. xs ++ s ∷ back) (sym its.before);
-      its = record { before = refl; parent = its.parent; above = its.above; stands = its.stands };
-    }
+module _ (ts : Trees) (s x : NodeName) (once : Once ts) (h : Has ts x) where
+  -- where the elements before a node split
+  pub earlier-at : (front back : List NodeName) → elements_before ts x ≡ front ++ s ∷ back → IsEarlier ts s x front
+  earlier-at front back split =
+      let p : NodeName → Bool = λ y. is_element (kind_of ts y) in
+      let w = filter-parts p (before_list ts x) s front back split in
+      let its = before-at ts x once h s w.ahead w.behind w.split in
+      record {
+        before = ap (filter p) its.before ∙ w.kept;
+        parent = its.parent;
+        above = above-parent ts s once its.stands (parent_of ts s) refl ∙ (ap (from_above ts) its.parent ∙ sym
+            (above-parent ts x once h (parent_of ts x) refl));
+        stands = its.stands;
+      }
 
--- the nearest of them
-pub nearest : (ts : Trees) (s x : NodeName) → Once ts → Has ts x → last_of (elements_before ts x) ≡ Some s →
-    (elements_before ts x ≡ elements_to ts s) × IsEarlier ts s x (elements_before ts s)
-nearest ts s x once h e =
-    let front = last_split (elements_before ts x) s e in
-    let its = earlier-at ts s x front.0 [] once h front.1 in (
-      front.1 ∙ ap (λ xs. xs ++ s ∷ []) (sym its.before),
-      record { before = refl; parent = its.parent; above = its.above; stands = its.stands },
-    )
+  -- each of them is one
+  pub earlier-in : In s (elements_before ts x) → Earlier ts s x
+  earlier-in i =
+      let front = items_before name_eq s (elements_before ts x) in
+      let back = items_after name_eq s (elements_before ts x) in
+      let split = split_at s (elements_before ts x) i in
+      let its = earlier-at front back split in
+      record {
+        behind = back;
+        split = split ∙ ap (λ xs. xs ++ s ∷ back) (sym its.before);
+        its = record { before = refl; parent = its.parent; above = its.above; stands = its.stands };
+      }
+
+  -- the nearest of them
+  pub nearest : last_of (elements_before ts x) ≡ Some s → (elements_before ts x ≡ elements_to ts s) × IsEarlier ts s x (elements_before ts s)
+  nearest e =
+      let front = last_split (elements_before ts x) s e in
+      let its = earlier-at front.0 [] front.1 in (
+        front.1 ∙ ap (λ xs. xs ++ s ∷ []) (sym its.before),
+        record { before = refl; parent = its.parent; above = its.above; stands = its.stands },
+      )
 
 -- ---- an ancestor of a node
 
@@ -178,36 +179,37 @@ abbrev pub elements_upto : Trees → Option NodeName → List NodeName
 elements_upto ts None = []
 elements_upto ts (Some x) = elements_to ts x
 
--- the elements before a node are those up to the nearest one, which has the same ancestors
-pub earlier_step : (f : NamedTrees) → StandOnce f → StandAlone f → (k : ℕ) (o : Option ℕ) → k < length f.names →
-    option_map (name_at f.names) o ≡ last_of (elements_before f.trees (name_at f.names k))
-    → (elements_before f.trees (name_at f.names k) ≡ elements_upto f.trees (option_map (name_at f.names) o)) ×
-    ForSome o (λ j. ancestors f.trees (name_at f.names j) ≡ ancestors f.trees (name_at f.names k))
-earlier_step f once only k o node is = by o is
-  where
-    x : NodeName
-    x = name_at f.names k
+module _ (f : NamedTrees) where
+  -- the elements before a node are those up to the nearest one, which has the same ancestors
+  pub earlier_step : StandOnce f → StandAlone f → (k : ℕ) (o : Option ℕ) → k < length f.names →
+      option_map (name_at f.names) o ≡ last_of (elements_before f.trees (name_at f.names k)) →
+      (elements_before f.trees (name_at f.names k) ≡ elements_upto f.trees (option_map (name_at f.names) o)) × ForSome o
+      (λ j. ancestors f.trees (name_at f.names j) ≡ ancestors f.trees (name_at f.names k))
+  earlier_step once only k o node is = by o is
+    where
+      x : NodeName
+      x = name_at f.names k
 
-    at : (j : ℕ) → Some (name_at f.names j) ≡ last_of (elements_before f.trees x) →
-        (elements_before f.trees x ≡ elements_to f.trees (name_at f.names j)) ×
-        IsEarlier f.trees (name_at f.names j) x (elements_before f.trees (name_at f.names j))
-    at j e = nearest f.trees (name_at f.names j) x (Once-forest f once only) (Has-forest f once k node) (sym e)
+      at : (j : ℕ) → Some (name_at f.names j) ≡ last_of (elements_before f.trees x) →
+          (elements_before f.trees x ≡ elements_to f.trees (name_at f.names j)) ×
+          IsEarlier f.trees (name_at f.names j) x (elements_before f.trees (name_at f.names j))
+      at j e = nearest f.trees (name_at f.names j) x (Once-forest f once only) (Has-forest f once k node) (sym e)
 
-    by : (p : Option ℕ) → option_map (name_at f.names) p ≡ last_of (elements_before f.trees x)
-        → (elements_before f.trees x ≡ elements_upto f.trees (option_map (name_at f.names) p)) ×
-        ForSome p (λ j. ancestors f.trees (name_at f.names j) ≡ ancestors f.trees x)
-    by None e = (no_last (elements_before f.trees x) (sym e), λ j h. absurd (none-some j h))
-    by (Some j) e = ((at j e).0, λ i h. ap (λ m. ancestors f.trees (name_at f.names m)) (sym (same_Some j i h)) ∙ (at j e).1.above)
+      by : (p : Option ℕ) → option_map (name_at f.names) p ≡ last_of (elements_before f.trees x)
+          → (elements_before f.trees x ≡ elements_upto f.trees (option_map (name_at f.names) p)) ×
+          ForSome p (λ j. ancestors f.trees (name_at f.names j) ≡ ancestors f.trees x)
+      by None e = (no_last (elements_before f.trees x) (sym e), λ j h. absurd (none-some j h))
+      by (Some j) e = ((at j e).0, λ i h. ap (λ m. ancestors f.trees (name_at f.names m)) (sym (same_Some j i h)) ∙ (at j e).1.above)
 
--- there are fewer before a node than up to it
-pub earlier_less : (f : NamedTrees) (k : ℕ) (at o : Option ℕ) → at ≡ Some k →
-    elements_before f.trees (name_at f.names k) ≡ elements_upto f.trees (option_map (name_at f.names) o)
-    → length (elements_upto f.trees (option_map (name_at f.names) o)) < length (elements_upto f.trees (option_map (name_at f.names) at))
-earlier_less f k at o is e =
-    let front = elements_before f.trees (name_at f.names k) in
-    let longer : length (elements_upto f.trees (option_map (name_at f.names) at)) ≡ length (front ++ name_at f.names k ∷ []) =
-    ap (λ o'. length (elements_upto f.trees (option_map (name_at f.names) o'))) is in
-    omega (arith, longer, length-append front (name_at f.names k ∷ []), ap (length {A = NodeName}) e)
+  -- there are fewer before a node than up to it
+  pub earlier_less : (k : ℕ) (at o : Option ℕ) → at ≡ Some k →
+      elements_before f.trees (name_at f.names k) ≡ elements_upto f.trees (option_map (name_at f.names) o) →
+      length (elements_upto f.trees (option_map (name_at f.names) o)) < length (elements_upto f.trees (option_map (name_at f.names) at))
+  earlier_less k at o is e =
+      let front = elements_before f.trees (name_at f.names k) in
+      let longer : length (elements_upto f.trees (option_map (name_at f.names) at)) ≡ length (front ++ name_at f.names k ∷ []) =
+      ap (λ o'. length (elements_upto f.trees (option_map (name_at f.names) o'))) is in
+      omega (arith, longer, length-append front (name_at f.names k ∷ []), ap (length {A = NodeName}) e)
 
 -- an element that fails a test is passed by
 pub earlier_passed : {k : ℕ} {at : Option ℕ} (f : NamedTrees) (p : NodeName → Bool) (o : Option ℕ) → at ≡ Some k → p (name_at f.names k) ≡ false →

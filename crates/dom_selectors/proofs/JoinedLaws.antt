@@ -45,21 +45,21 @@ pub above-parent : (ts : Trees) (x : NodeName) → Once ts → Has ts x → (o :
 above-parent ts x once h None up = ap (drop 1) (above-root ts x h up)
 above-parent ts x once h (Some p) up = (proper-parent ts x p once h up).0
 
--- the ancestors of a node are its parent and those above it, by keys
-pub above_step : (f : NamedTrees) → StandOnce f → StandAlone f → (k : ℕ) (o : Option ℕ) → k < length f.names →
-    option_map (name_at f.names) o ≡ parent_of f.trees (name_at f.names k)
-    → ancestors f.trees (name_at f.names k) ≡ from_above f.trees (option_map (name_at f.names) o)
-above_step f once only k o node is = above-parent f.trees (name_at f.names k) (Once-forest f once only) (Has-forest f once k node)
-    (option_map (name_at f.names) o) (sym is)
+module _ (f : NamedTrees) where
+  -- the ancestors of a node are its parent and those above it, by keys
+  pub above_step : StandOnce f → StandAlone f → (k : ℕ) (o : Option ℕ) → k < length f.names →
+      option_map (name_at f.names) o ≡ parent_of f.trees (name_at f.names k) →
+      ancestors f.trees (name_at f.names k) ≡ from_above f.trees (option_map (name_at f.names) o)
+  above_step once only k o node is = above-parent f.trees (name_at f.names k) (Once-forest f once only) (Has-forest f once k node)
+      (option_map (name_at f.names) o) (sym is)
 
--- there are fewer above a node than from it on
-pub above_less : (f : NamedTrees) (k : ℕ) (at o : Option ℕ) → at ≡ Some k →
-    ancestors f.trees (name_at f.names k) ≡ from_above f.trees (option_map (name_at f.names) o)
-    → length (from_above f.trees (option_map (name_at f.names) o)) < length (from_above f.trees (option_map (name_at f.names) at))
-above_less f k at o is e =
-    let longer : length (from_above f.trees (option_map (name_at f.names) at)) ≡ suc (length (ancestors f.trees (name_at f.names k))) =
-    ap (λ o'. length (from_above f.trees (option_map (name_at f.names) o'))) is in
-    omega (arith, longer, ap (length {A = NodeName}) e)
+  -- there are fewer above a node than from it on
+  pub above_less : (k : ℕ) (at o : Option ℕ) → at ≡ Some k → ancestors f.trees (name_at f.names k) ≡ from_above f.trees (option_map (name_at f.names) o) →
+      length (from_above f.trees (option_map (name_at f.names) o)) < length (from_above f.trees (option_map (name_at f.names) at))
+  above_less k at o is e =
+      let longer : length (from_above f.trees (option_map (name_at f.names) at)) ≡ suc (length (ancestors f.trees (name_at f.names k))) =
+      ap (λ o'. length (from_above f.trees (option_map (name_at f.names) o'))) is in
+      omega (arith, longer, ap (length {A = NodeName}) e)
 
 -- an ancestor that fails a test is passed by
 pub above_miss : {k : ℕ} {at : Option ℕ} (f : NamedTrees) (p : NodeName → Bool) (o : Option ℕ) → at ≡ Some k → p (name_at f.names k) ≡ false →

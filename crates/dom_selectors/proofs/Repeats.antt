@@ -16,24 +16,23 @@ each-nil {A} read s (suc k) = at (read []) (s.shorter [])
     at None e = refl
     at (Some r) e = absurd (omega (arith, e))
 
--- what is read behind one, in more rounds than are needed
-more-enough : {A : Type 0} (read : Reader A) (j k : ℕ) (cs : DomString) (r : Option (A × DomString)) → Ends (length cs) r
-    → ((rest : DomString) → length rest < length cs → read_each j read rest ≡ read_each k read rest)
-    → read_more (λ rest. read_each j read rest) cs r ≡ read_more (λ rest. read_each k read rest) cs r
-more-enough read j k cs None e same = refl
-more-enough {A} read j k cs (Some r) e same =
-    let put : List A × DomString → List A × DomString = λ more. (r.0 ∷ more.0, more.1) in
-    ap put (same r.1 e)
-
 -- no more rounds are needed than there are units
 each-enough : {A : Type 0} {read : Reader A} → Shrinks read → (j k : ℕ) (cs : DomString) → length cs ≤ j → length cs ≤ k →
     read_each j read cs ≡ read_each k read cs
-each-enough {read} s j k [] h g = each-nil read s j ∙ sym (each-nil read s k)
+each-enough {read = read} s j k [] h g = each-nil read s j ∙ sym (each-nil read s k)
 each-enough s zero k (c ∷ cs) h g = absurd (omega (arith, h))
 each-enough s (suc j) zero (c ∷ cs) h g = absurd (omega (arith, g))
-each-enough {read} s (suc j) (suc k) (c ∷ cs) h g =
-    more-enough read j k (c ∷ cs) (read (c ∷ cs)) (s.shorter (c ∷ cs))
-    (λ rest short. each-enough s j k rest (omega (arith, short, h)) (omega (arith, short, g)))
+each-enough {A} {read} s (suc j) (suc k) (c ∷ cs) h g =
+    behind (read (c ∷ cs)) (s.shorter (c ∷ cs)) (λ rest short. each-enough s j k rest (omega (arith, short, h)) (omega (arith, short, g)))
+  where
+    -- what is read behind one, in more rounds than are needed
+    behind : (r : Option (A × DomString)) → Ends (length (c ∷ cs)) r
+        → ((rest : DomString) → length rest < length (c ∷ cs) → read_each j read rest ≡ read_each k read rest)
+        → read_more (λ rest. read_each j read rest) (c ∷ cs) r ≡ read_more (λ rest. read_each k read rest) (c ∷ cs) r
+    behind None e same = refl
+    behind (Some r) e same =
+        let front : List A × DomString → List A × DomString = λ more. (r.0 ∷ more.0, more.1) in
+        ap front (same r.1 e)
 
 -- where one is read, the others stand behind it
 pub all-one : {A : Type 0} (read : Reader A) → Shrinks read → (cs : DomString) (r : A × DomString) → read cs ≡ Some r →

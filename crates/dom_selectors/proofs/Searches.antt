@@ -24,32 +24,33 @@ pub record IsBeside (ts : Trees) (u x : NodeName) : Type 0 where
   pub above : ancestors ts u ≡ ancestors ts x
   pub before : (v : NodeName) → In v (elements_before ts u) → In v (elements_before ts x)
 
-beside-in : (ts : Trees) (u x : NodeName) → Once ts → Has ts x → In u (elements_to ts x) → IsBeside ts u x
-beside-in ts u x once h i = elim (In-parts u (elements_before ts x) (x ∷ []) i) [
-  | inl j ↦
-      let w = earlier-in ts u x once h j in
-      record { above = w.its.above; before = λ v k. subst (In v) (sym w.split) (In-left v (elements_before ts u) (u ∷ w.behind) k) }
-  | inr j ↦ elim j [
-    | inl same ↦ record { above = ap (ancestors ts) same; before = λ v k. subst (λ y. In v (elements_before ts y)) same k }
-    | inr no_more ↦ absurd no_more
+module _ (ts : Trees) (once : Once ts) where
+  beside-in : (u x : NodeName) → Has ts x → In u (elements_to ts x) → IsBeside ts u x
+  beside-in u x h i = elim (In-parts u (elements_before ts x) (x ∷ []) i) [
+    | inl j ↦
+        let w = earlier-in ts u x once h j in
+        record { above = w.its.above; before = λ v k. subst (In v) (sym w.split) (In-left v (elements_before ts u) (u ∷ w.behind) k) }
+    | inr j ↦ elim j [
+      | inl same ↦ record { above = ap (ancestors ts) same; before = λ v k. subst (λ y. In v (elements_before ts y)) same k }
+      | inr no_more ↦ absurd no_more
+    ]
   ]
-]
 
--- it answers for the elements before
-stop-beside : (ts : Trees) (d : Complex) (z : NodeName) → Once ts → Has ts z → StopsAt IsSearched ts d z →
-    list_any (complex_matches ts d) (elements_to ts z) ≡ true → complex_matches ts d z ≡ true
-stop-beside ts (alone c) z once h stops e = stops
-stop-beside ts (joined l descendant k) z once h stops e =
-    let w = any-passes (complex_matches ts (joined l descendant k)) (elements_to ts z) e in
-    let its = beside-in ts w.node z once h w.among in
-    combined ts l descendant k z stops.1 ∙ (ap (list_any (complex_matches ts l)) (sym its.above) ∙ (matches-parts ts l descendant k w.node w.passes).1)
-stop-beside ts (joined l child k) z once h stops e = absurd stops.0
-stop-beside ts (joined l next k) z once h stops e = absurd stops.0
-stop-beside ts (joined l later k) z once h stops e =
-    let w = any-passes (complex_matches ts (joined l later k)) (elements_to ts z) e in
-    let its = beside-in ts w.node z once h w.among in
-    let v = any-passes (complex_matches ts l) (elements_before ts w.node) (matches-parts ts l later k w.node w.passes).1 in
-    combined ts l later k z stops.1 ∙ passes-any (complex_matches ts l) (elements_before ts z) v.node (its.before v.node v.among) v.passes
+  -- it answers for the elements before
+  stop-beside : (d : Complex) (z : NodeName) → Has ts z → StopsAt IsSearched ts d z → list_any (complex_matches ts d) (elements_to ts z) ≡ true →
+      complex_matches ts d z ≡ true
+  stop-beside (alone c) z h stops e = stops
+  stop-beside (joined l descendant k) z h stops e =
+      let w = any-passes (complex_matches ts (joined l descendant k)) (elements_to ts z) e in
+      let its = beside-in w.node z h w.among in
+      combined ts l descendant k z stops.1 ∙ (ap (list_any (complex_matches ts l)) (sym its.above) ∙ (matches-parts ts l descendant k w.node w.passes).1)
+  stop-beside (joined l child k) z h stops e = absurd stops.0
+  stop-beside (joined l next k) z h stops e = absurd stops.0
+  stop-beside (joined l later k) z h stops e =
+      let w = any-passes (complex_matches ts (joined l later k)) (elements_to ts z) e in
+      let its = beside-in w.node z h w.among in
+      let v = any-passes (complex_matches ts l) (elements_before ts w.node) (matches-parts ts l later k w.node w.passes).1 in
+      combined ts l later k z stops.1 ∙ passes-any (complex_matches ts l) (elements_before ts z) v.node (its.before v.node v.among) v.passes
 
 -- and for what is above
 pub stop-above : (ts : Trees) (d : Complex) (z : NodeName) → StopsAt IsDescendant ts d z → MatchesAbove ts d z → complex_matches ts d z ≡ true
@@ -67,7 +68,7 @@ stop-above ts (joined l later k) z stops w = absurd stops.0
 
 -- a chain ends where a search along it stops
 pub chain-ends : {ts : Trees} {c d : Complex} {x z : NodeName} → Once ts → Has ts z → Leads ts c x d z → StopsAt IsSearched ts d z → ChainEnds ts c x d z
-chain-ends {ts} {d} {z} once h l stops = record { same = l.same; beside = λ e. stop-beside ts d z once h stops (l.beside e); above = l.above; stops = stops }
+chain-ends {ts} {d} {z} once h l stops = record { same = l.same; beside = λ e. stop-beside ts once d z h stops (l.beside e); above = l.above; stops = stops }
 
 -- the nearest element before at which it holds answers for those that are farther
 pub chain-before : {ts : Trees} {c d : Complex} {y z : NodeName} (x : NodeName) → ancestors ts y ≡ ancestors ts x →

@@ -76,11 +76,15 @@ pub says-or : {A : Type 0} (form : Form A) (cs : DomString) (a b : Option (A × 
 says-or form cs None b h g = g
 says-or form cs (Some r) b h g = h
 
+-- a text of a value is, in another form, one of f of the value
+pub record IsFormOf {A B : Type 0} (form : Form A) (other : Form B) (f : A → B) : Type 0 where
+  pub by : (text : DomString) (x : A) → form text x → other text (f x)
+
 -- f of what is read
-pub says-map : {A B : Type 0} (form : Form A) (other : Form B) (f : A → B) (cs : DomString) (r : Option (A × DomString)) →
-    ((text : DomString) (x : A) → form text x → other text (f x)) → Says form cs r → Says other cs (read_map f r)
-says-map form other f cs None by h = tt
-says-map form other f cs (Some r) by h = (h.0, by h.0 r.0 h.1, h.2)
+pub says-map : {A B : Type 0} {form : Form A} {other : Form B} {f : A → B} → IsFormOf form other f → (cs : DomString) (r : Option (A × DomString)) →
+    Says form cs r → Says other cs (read_map f r)
+says-map of cs None h = tt
+says-map of cs (Some r) h = (h.0, of.by h.0 r.0 h.1, h.2)
 
 -- what is meant by a text that stands here
 pub says-means : {A : Type 0} (form : Form A) (a : A) (t cs : DomString) → form t a → Says form cs (option_map (λ rest. (a, rest)) (expect t cs))
@@ -253,8 +257,8 @@ named-says : (t : DomString) (f : Word → Simple) → ((name : Word) → is_nam
     Says IsSimple cs (option_and_then (λ rest. read_map f (read_name rest)) (expect t cs))
 named-says t f by cs =
     says-then IsSimple t cs (λ rest. read_map f (read_name rest))
-    (λ rest. says-map IsName (λ text x. IsSimple (t ++ text) x) f rest (read_name rest)
-    (λ text name h. subst (λ x. IsSimple (t ++ x) (f name)) (sym h.0) (by name h.1)) (name-says rest))
+    (λ rest. says-map {form = IsName} {other = λ text x. IsSimple (t ++ text) x} {f = f}
+    (record { by = λ text name h. subst (λ x. IsSimple (t ++ x) (f name)) (sym h.0) (by name h.1) }) rest (read_name rest) (name-says rest))
 
 -- a simple selector
 pub simple-says : (cs : DomString) → Says IsSimple cs (read_simple cs)

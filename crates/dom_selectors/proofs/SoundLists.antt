@@ -20,26 +20,25 @@ use Rattle.dom_selectors.proofs.Sound.{Says, Stands, put, skips, expect-stands, 
 abbrev Reads : {A : Type 0} → Form A → DomString → A × DomString → Type 0
 Reads form cs r = (text : DomString) × form text r.0 × (cs ≡ text ++ r.1)
 
--- one, and those behind it
-more-says : {A : Type 0} (form : Form A) (read : Reader A) (k : ℕ) (cs : DomString) (r : Option (A × DomString)) → Says form cs r →
-    ((rest : DomString) → Reads (AreEach form) rest (read_each k read rest))
-    → Reads (AreEach form) cs (read_more (λ rest. read_each k read rest) cs r)
-more-says form read k cs None h others = ([], refl, refl)
-more-says form read k cs (Some r) h others =
-    let more = others r.1 in
-    (h.0 ++ more.0, (h.0, more.0, h.1, more.1, refl), put h.0 more.0 (read_each k read r.1).1 h.2 more.2)
-
 -- those that are read one after another
 each-says : {A : Type 0} (form : Form A) (read : Reader A) → ((cs : DomString) → Says form cs (read cs)) → (k : ℕ) (cs : DomString) →
     Reads (AreEach form) cs (read_each k read cs)
 each-says form read s zero cs = ([], refl, refl)
-each-says form read s (suc k) cs = more-says form read k cs (read cs) (s cs) (λ rest. each-says form read s k rest)
+each-says {A} form read s (suc k) cs = behind (read cs) (s cs) (λ rest. each-says form read s k rest)
+  where
+    -- one, and those behind it
+    behind : (r : Option (A × DomString)) → Says form cs r → ((rest : DomString) → Reads (AreEach form) rest (read_each k read rest))
+        → Reads (AreEach form) cs (read_more (λ rest. read_each k read rest) cs r)
+    behind None h others = ([], refl, refl)
+    behind (Some r) h others =
+        let more = others r.1 in
+        (h.0 ++ more.0, (h.0, more.0, h.1, more.1, refl), put h.0 more.0 (read_each k read r.1).1 h.2 more.2)
 
 -- NAME or `*`
 type_name-says : (cs : DomString) → Says (λ text s. IsType text (s ∷ [])) cs (read_type_name cs)
 type_name-says cs =
     let form : Form Simple = λ text s. IsType text (s ∷ []) in
-    says-or form cs _ _ (says-map IsName form of_type cs (read_name cs) (λ text name h. h) (name-says cs))
+    says-or form cs _ _ (says-map {form = IsName} {other = form} {f = of_type} (record { by = λ text name h. h }) cs (read_name cs) (name-says cs))
     (says-or form cs _ _ (says-means form of_any_type (codes "*") cs refl) tt)
 
 -- a type is read soundly, if it is there
@@ -104,7 +103,8 @@ not-says cs = says-then IsPart (codes ":not(") cs
 
 -- a part of a compound
 part-says : (cs : DomString) → Says IsPart cs (read_part cs)
-part-says cs = says-or IsPart cs _ _ (says-map IsSimple IsPart simple cs (read_simple cs) (λ text s h. h) (simple-says cs)) (not-says cs)
+part-says cs = says-or IsPart cs _ _ (says-map {form = IsSimple} {other = IsPart} {f = simple} (record { by = λ text s h. h }) cs (read_simple cs)
+    (simple-says cs)) (not-says cs)
 
 -- `>`, `+` or `~` alone
 abbrev Bare : Form Combinator
@@ -164,20 +164,19 @@ combinator-says cs =
 link-says : (cs : DomString) → Says IsLink cs (read_link cs)
 link-says cs = at (read_combinator cs) (combinator-says cs)
   where
-    on : (how : Combinator) (front rest : DomString) → IsCombinator front how → cs ≡ front ++ rest →
-        (c : Option (List CompoundPart × DomString)) → Says IsCompound rest c → Says IsLink cs (read_map (λ c'. (how, c')) c)
-    on how front rest h e None g = tt
-    on how front rest h e (Some c) g = (
-      front ++ g.0,
-      record { front = front; back = g.0; combines = h; compound = g.1; whole = refl },
-      put
-          front g.0 c.1 e g.2,
+    on : (r : Combinator × DomString) (h : Says IsCombinator cs (Some r)) (c : Option (List CompoundPart × DomString)) → Says IsCompound r.1 c →
+        Says IsLink cs (read_map (λ c'. (r.0, c')) c)
+    on r h None g = tt
+    on r h (Some c) g = (
+      h.0 ++ g.0,
+      record { front = h.0; back = g.0; combines = h.1; compound = g.1; whole = refl },
+      put h.0 g.0 c.1 h.2 g.2,
     )
 
     at : (r : Option (Combinator × DomString)) → Says IsCombinator cs r →
         Says IsLink cs (option_and_then (λ (how, rest). read_map (λ c. (how, c)) (read_compound rest)) r)
     at None h = tt
-    at (Some r) h = on r.0 h.0 r.1 h.1 h.2 (read_compound r.1) (compound-says simple IsPart read_part part-says r.1)
+    at (Some r) h = on r h (read_compound r.1) (compound-says simple IsPart read_part part-says r.1)
 
 -- a complex selector with white space before it
 abbrev IsSpacedComplex : Form Complex
