@@ -263,36 +263,39 @@ module _ (s : ShadowTrees) (depth : ℕ) (target : NodeName) (related : Option N
       let same = g.1 ∙ sym h.1 in
       λ j. same j ∷ up-once x xs ys g.2 (subst (λ a. GoesUp s depth target related composed a ys) (sym same) h.2) j
 
--- a host and a shadow root that are found are nodes
-host-has : (f : NamedTrees) → ((k : ℕ) → k < length f.names → Has f.trees (name_at f.names k)) → (hosts : List ShadowHost) →
-    HostsAreNodes f.names hosts → (root host : NodeName) → host_named f.names hosts root ≡ Some host → Has f.trees host
-host-has f there [] nodes root host e = cc
-host-has f there (h ∷ hosts) nodes root host e = by (name_eq root (name_at f.names h.root)) (λ k. host-has f there hosts nodes.2 root host k) e
-  where
-    by : (b : Bool) → (host_named f.names hosts root ≡ Some host → Has f.trees host) →
-        option_map (λ (k : ShadowHost). name_at f.names k.host)
-        (if b then Some h else find (λ (k : ShadowHost). name_eq root (name_at f.names k.root)) hosts) ≡ Some host → Has f.trees host
-    by true again k = let same : name_at f.names h.host ≡ host = cc in subst (Has f.trees) same (there h.host nodes.0)
-    by false again k = again k
+-- the hosts of a forest are its nodes, and their trees are nested no deeper than this
+pub record HostsStand (f : NamedTrees) (hosts : List ShadowHost) (depth : ℕ) : Type 0 where
+  pub hosted : IsHosted f hosts depth
+  pub nodes : HostsAreNodes f.names hosts
 
-root-has : (f : NamedTrees) → ((k : ℕ) → k < length f.names → Has f.trees (name_at f.names k)) → (hosts : List ShadowHost) →
-    HostsAreNodes f.names hosts → (host root : NodeName) → root_named f.names hosts host ≡ Some root → Has f.trees root
-root-has f there [] nodes host root e = cc
-root-has f there (h ∷ hosts) nodes host root e = by (name_eq host (name_at f.names h.host)) (λ k. root-has f there hosts nodes.2 host root k) e
-  where
-    by : (b : Bool) → (root_named f.names hosts host ≡ Some root → Has f.trees root) →
-        option_map (λ (k : ShadowHost). name_at f.names k.root)
-        (if b then Some h else find (λ (k : ShadowHost). name_eq host (name_at f.names k.host)) hosts) ≡ Some root → Has f.trees root
-    by true again k = let same : name_at f.names h.root ≡ root = cc in subst (Has f.trees) same (there h.root nodes.1)
-    by false again k = again k
+module _ (f : NamedTrees) (there : ((k : ℕ) → k < length f.names → Has f.trees (name_at f.names k))) where
+  -- a host that is found is a node
+  host-has : (hosts : List ShadowHost) → HostsAreNodes f.names hosts → (root host : NodeName) → host_named f.names hosts root ≡ Some host → Has f.trees host
+  host-has [] nodes root host e = cc
+  host-has (h ∷ hosts) nodes root host e = by (name_eq root (name_at f.names h.root)) (λ k. host-has hosts nodes.2 root host k) e
+    where
+      by : (b : Bool) → (host_named f.names hosts root ≡ Some host → Has f.trees host) →
+          option_map (λ (k : ShadowHost). name_at f.names k.host)
+          (if b then Some h else find (λ (k : ShadowHost). name_eq root (name_at f.names k.root)) hosts) ≡ Some host → Has f.trees host
+      by true again k = let same : name_at f.names h.host ≡ host = cc in subst (Has f.trees) same (there h.host nodes.0)
+      by false again k = again k
 
--- each node has its path
-pub paths-end : (f : NamedTrees) (hosts : List ShadowHost) (depth : ℕ) → IsHosted f hosts depth → Once f.trees →
-    ((k : ℕ) → k < length f.names → Has f.trees (name_at f.names k)) → HostsAreNodes f.names hosts
-    → (k : ℕ) → k < length f.names → (related : Option NodeName) (composed : Bool) → (nodes : List NodeName) ×
-    IsPath (shadows f hosts) depth (name_at f.names k) related composed nodes
-paths-end f hosts depth hosted once there nodes k node related composed =
-    let t = name_at f.names k in
-    path-there (shadows f hosts) depth t related composed
-    (ways-end f hosts once depth hosted (host-has f there hosts nodes) (root-has f there hosts nodes) composed (root_of f.trees t) depth t
-    (hosted.nested t) (there k node))
+  -- and so is a shadow root
+  root-has : (hosts : List ShadowHost) → HostsAreNodes f.names hosts → (host root : NodeName) → root_named f.names hosts host ≡ Some root → Has f.trees root
+  root-has [] nodes host root e = cc
+  root-has (h ∷ hosts) nodes host root e = by (name_eq host (name_at f.names h.host)) (λ k. root-has hosts nodes.2 host root k) e
+    where
+      by : (b : Bool) → (root_named f.names hosts host ≡ Some root → Has f.trees root) →
+          option_map (λ (k : ShadowHost). name_at f.names k.root)
+          (if b then Some h else find (λ (k : ShadowHost). name_eq host (name_at f.names k.host)) hosts) ≡ Some root → Has f.trees root
+      by true again k = let same : name_at f.names h.root ≡ root = cc in subst (Has f.trees) same (there h.root nodes.1)
+      by false again k = again k
+
+  -- each node has its path
+  pub paths-end : Once f.trees → {hosts : List ShadowHost} {depth : ℕ} → HostsStand f hosts depth → (k : ℕ) → k < length f.names →
+      (related : Option NodeName) (composed : Bool) → (nodes : List NodeName) × IsPath (shadows f hosts) depth (name_at f.names k) related composed nodes
+  paths-end once {hosts = hosts} {depth = depth} stand k node related composed =
+      let t = name_at f.names k in
+      path-there (shadows f hosts) depth t related composed
+      (ways-end f hosts once depth stand.hosted (host-has hosts stand.nodes) (root-has hosts stand.nodes) composed (root_of f.trees t) depth t
+      (stand.hosted.nested t) (there k node))

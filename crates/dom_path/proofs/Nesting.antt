@@ -84,74 +84,74 @@ module _ (trees : List Tree) (nested : AreNested trees) where
     pub its : t.host ≡ Some host
     pub apart : is_in nat_eq t.root (roots_around trees viewer) ≡ false
 
-  -- is such
-  pub hides : (viewer place host : ℕ) → hiding_host trees viewer place ≡ Some host → Hides viewer place host
-  hides viewer place host h = from (slice_get trees place) refl h
-    where
-      by : (t : Tree) → slice_get trees place ≡ Some t → (b : Bool) → is_in nat_eq t.root (roots_around trees viewer) ≡ b →
-          (if b then None else t.host) ≡ Some host → Hides viewer place host
-      by t e true g k = cc
-      by t e false g k = record { t = t; here = e; its = k; apart = g }
+  module _ (viewer : ℕ) where
+    -- a tree with a host that hides it is one
+    pub hides : (place host : ℕ) → hiding_host trees viewer place ≡ Some host → Hides viewer place host
+    hides place host h = from (slice_get trees place) refl h
+      where
+        by : (t : Tree) → slice_get trees place ≡ Some t → (b : Bool) → is_in nat_eq t.root (roots_around trees viewer) ≡ b →
+            (if b then None else t.host) ≡ Some host → Hides viewer place host
+        by t e true g k = cc
+        by t e false g k = record { t = t; here = e; its = k; apart = g }
 
-      from : (o : Option Tree) → slice_get trees place ≡ o →
-          option_and_then (λ (t : Tree). if is_in nat_eq t.root (roots_around trees viewer) then None else t.host) o ≡ Some host →
-          Hides viewer place host
-      from None e g = cc
-      from (Some t) e g = by t e (is_in nat_eq t.root (roots_around trees viewer)) refl g
+        from : (o : Option Tree) → slice_get trees place ≡ o →
+            option_and_then (λ (t : Tree). if is_in nat_eq t.root (roots_around trees viewer) then None else t.host) o ≡ Some host →
+            Hides viewer place host
+        from None e g = cc
+        from (Some t) e g = by t e (is_in nat_eq t.root (roots_around trees viewer)) refl g
 
-  -- the tree around it has a place before it
-  pub outer-below : (viewer place host : ℕ) → hiding_host trees viewer place ≡ Some host → outer_of trees place < place
-  outer-below viewer place host h =
-      let k = hides viewer place host h in
-      let below = (nested place k.t k.here).behind (ap is_some k.its) in
-      subst (λ o. option_map_or (λ (t : Tree). t.outer) o 0 < place) (sym k.here) below
+    -- the tree around it has a place before it
+    pub outer-below : (place host : ℕ) → hiding_host trees viewer place ≡ Some host → outer_of trees place < place
+    outer-below place host h =
+        let k = hides place host h in
+        let below = (nested place k.t k.here).behind (ap is_some k.its) in
+        subst (λ o. option_map_or (λ (t : Tree). t.outer) o 0 < place) (sym k.here) below
 
-  -- with more steps than that what is seen is the same
-  seen-enough : (viewer n m node place : ℕ) → place < n → place < m → seen_up trees n viewer node place ≡ seen_up trees m viewer node place
-  seen-enough viewer zero m node place h k = absurd (omega arith)
-  seen-enough viewer (suc n) zero node place h k = absurd (omega arith)
-  seen-enough viewer (suc n) (suc m) node place h k =
-      from (λ host below g. seen-enough viewer n m host below (omega (arith, g, h)) (omega (arith, g, k))) (hiding_host trees viewer place) refl
-    where
-      from : ((host below : ℕ) → below < place → seen_up trees n viewer host below ≡ seen_up trees m viewer host below) → (o : Option ℕ) →
-          hiding_host trees viewer place ≡ o
-          → option_map_or (λ host. seen_up trees n viewer host (outer_of trees place)) o node ≡ option_map_or
-          (λ host. seen_up trees m viewer host (outer_of trees place)) o node
-      from again None e = refl
-      from again (Some host) e = again host (outer_of trees place) (outer-below viewer place host e)
+    -- with more steps than that what is seen is the same
+    seen-enough : (n m node place : ℕ) → place < n → place < m → seen_up trees n viewer node place ≡ seen_up trees m viewer node place
+    seen-enough zero m node place h k = absurd (omega arith)
+    seen-enough (suc n) zero node place h k = absurd (omega arith)
+    seen-enough (suc n) (suc m) node place h k =
+        from (λ host below g. seen-enough n m host below (omega (arith, g, h)) (omega (arith, g, k))) (hiding_host trees viewer place) refl
+      where
+        from : ((host below : ℕ) → below < place → seen_up trees n viewer host below ≡ seen_up trees m viewer host below) → (o : Option ℕ) →
+            hiding_host trees viewer place ≡ o
+            → option_map_or (λ host. seen_up trees n viewer host (outer_of trees place)) o node ≡ option_map_or
+            (λ host. seen_up trees m viewer host (outer_of trees place)) o node
+        from again None e = refl
+        from again (Some host) e = again host (outer_of trees place) (outer-below place host e)
 
-  -- what is seen of a node is what is seen of its host, where it is hidden
-  pub seen-host : (viewer node place host : ℕ) → hiding_host trees viewer place ≡ Some host →
-      seen_from trees viewer node place ≡ seen_from trees viewer host (outer_of trees place)
-  seen-host viewer node place host e =
-      ap (λ o. option_map_or (λ host. seen_up trees place viewer host (outer_of trees place)) o node) e
-      ∙ (let below = outer-below viewer place host e in seen-enough viewer place (suc (outer_of trees place)) host (outer_of trees place) below (omega arith))
+    -- what is seen of a node is what is seen of its host, where it is hidden
+    pub seen-host : (node place host : ℕ) → hiding_host trees viewer place ≡ Some host →
+        seen_from trees viewer node place ≡ seen_from trees viewer host (outer_of trees place)
+    seen-host node place host e =
+        ap (λ o. option_map_or (λ host. seen_up trees place viewer host (outer_of trees place)) o node) e
+        ∙ (let below = outer-below place host e in seen-enough place (suc (outer_of trees place)) host (outer_of trees place) below (omega arith))
 
-  -- and else the node
-  pub seen-itself : (viewer node place : ℕ) → hiding_host trees viewer place ≡ None → seen_from trees viewer node place ≡ node
-  seen-itself viewer node place e = ap (λ o. option_map_or (λ host. seen_up trees place viewer host (outer_of trees place)) o node) e
+    -- and else the node
+    pub seen-itself : (node place : ℕ) → hiding_host trees viewer place ≡ None → seen_from trees viewer node place ≡ node
+    seen-itself node place e = ap (λ o. option_map_or (λ host. seen_up trees place viewer host (outer_of trees place)) o node) e
 
--- the host by which a tree's nodes are hidden, read at a tree
-pub hiding-is : (trees : List Tree) (viewer place : ℕ) {t : Tree} {b : Bool} → slice_get trees place ≡ Some t →
-    is_in nat_eq t.root (roots_around trees viewer) ≡ b
-    → hiding_host trees viewer place ≡ (if b then None else t.host)
-hiding-is trees viewer place {t} {b} e g =
-    ap (option_and_then (λ (t : Tree). if is_in nat_eq t.root (roots_around trees viewer) then None else t.host)) e ∙
-    ap (λ (b : Bool). if b then None else t.host) g
+module _ (trees : List Tree) where
+  -- the host by which a tree's nodes are hidden, read at a tree
+  pub hiding-is : (viewer place : ℕ) {t : Tree} {b : Bool} → slice_get trees place ≡ Some t → is_in nat_eq t.root (roots_around trees viewer) ≡ b →
+      hiding_host trees viewer place ≡ (if b then None else t.host)
+  hiding-is viewer place {t} {b} e g =
+      ap (option_and_then (λ (t : Tree). if is_in nat_eq t.root (roots_around trees viewer) then None else t.host)) e ∙
+      ap (λ (b : Bool). if b then None else t.host) g
 
--- and the tree around it
-pub outer-is : (trees : List Tree) (place : ℕ) (t : Tree) → slice_get trees place ≡ Some t → outer_of trees place ≡ t.outer
-outer-is trees place t e = ap (λ o. option_map_or (λ (t : Tree). t.outer) o 0) e
+  -- and the tree around it
+  pub outer-is : (place : ℕ) (t : Tree) → slice_get trees place ≡ Some t → outer_of trees place ≡ t.outer
+  outer-is place t e = ap (λ o. option_map_or (λ (t : Tree). t.outer) o 0) e
 
--- one step of the way out, from a tree that has another root
-pub encloses-step : (trees : List Tree) → AreNested trees → (root place : ℕ) (t : Tree) → slice_get trees place ≡ Some t →
-    nat_eq root t.root ≡ false → is_some t.host ≡ true
-    → (t.outer < length trees) × (is_in nat_eq root (roots_around trees t.outer) ≡ is_in nat_eq root (roots_around trees place))
-encloses-step trees nested root place t e other there =
-    let below = (nested place t e).behind there in
-    let within = slice_get_within trees place t e in (
-      omega (arith, below, within),
-      sym (ap (is_in nat_eq root) (roots-step trees nested place t e)
-          ∙ ap (λ b. b || is_in nat_eq root (if is_some t.host then roots_around trees t.outer else [])) other
-          ∙ ap (λ (b : Bool). is_in nat_eq root (if b then roots_around trees t.outer else [])) there),
-    )
+  -- one step of the way out, from a tree that has another root
+  pub encloses-step : AreNested trees → (root place : ℕ) {t : Tree} → slice_get trees place ≡ Some t → nat_eq root t.root ≡ false → is_some t.host ≡ true →
+      (t.outer < length trees) × (is_in nat_eq root (roots_around trees t.outer) ≡ is_in nat_eq root (roots_around trees place))
+  encloses-step nested root place {t = t} e other there =
+      let below = (nested place t e).behind there in
+      let within = slice_get_within trees place t e in (
+        omega (arith, below, within),
+        sym (ap (is_in nat_eq root) (roots-step trees nested place t e)
+            ∙ ap (λ b. b || is_in nat_eq root (if is_some t.host then roots_around trees t.outer else [])) other
+            ∙ ap (λ (b : Bool). is_in nat_eq root (if b then roots_around trees t.outer else [])) there),
+      )

@@ -132,14 +132,20 @@ module _ (f : NamedTrees) (hosts : List ShadowHost) (distinct : TellApart f.name
       IsTreeOf f trees h.t.outer (name host)
   around place x h host e = (sym h.above ∙ ap (option_map name) e, (are.each depth hosted place h.t h.at).outer host e)
 
+  -- A node of the tree at a place, whose way out ends within d hosts.
+  record Ending (d place : ℕ) (x : NodeName) : Type 0 where
+    ends : EndsWithin s d x
+    is : IsTreeOf f trees place x
+
   -- the roots around a tree are those of the chain of each of its nodes
-  roots-named : (n d place : ℕ) (x : NodeName) → place < n → EndsWithin s d x → IsTreeOf f trees place x →
+  roots-named : (n : ℕ) {d place : ℕ} {x : NodeName} → place < n → Ending d place x →
       map name (roots_up trees n place) ≡ map (root_of f.trees) (chain_at s d x)
-  roots-named zero d place x h ends is = absurd (omega arith)
-  roots-named (suc n) d place x h ends is =
-      let k = here place x is in
+  roots-named zero h ending = absurd (omega arith)
+  roots-named (suc n) {d = d} {place = place} {x = x} h ending =
+      let k = here place x ending.is in
       ap (λ o. map name (option_map_or (λ (t : Tree). t.root ∷ (if is_some t.host then roots_up trees n t.outer else [])) o [])) k.at
-      ∙ by k d ends (λ d' outer host below ends' is'. roots-named n d' outer host (omega (arith, below, h)) ends' is') k.t.host refl
+      ∙ by k d ending.ends (λ d' outer host below ends' is'. roots-named n {d = d'} {place = outer} {x = host} (omega (arith, below, h))
+      (record { ends = ends'; is = is' })) k.t.host refl
     where
       by : (k : Here place x) (d : ℕ) → EndsWithin s d x
           → ((d' outer : ℕ) (host : NodeName) → outer < place → EndsWithin s d' host → IsTreeOf f trees outer host →
@@ -165,7 +171,8 @@ module _ (f : NamedTrees) (hosts : List ShadowHost) (distinct : TellApart f.name
         → is_in nat_eq k.t.root (roots_around trees viewer) ≡ is_in name_eq (root_of f.trees a) (map (root_of f.trees) (chain_at s depth x))
     around-test place a k =
         in-named f.names distinct k.t.root (roots_around trees viewer) (are.nodes place k.t k.at).root (roots-nodes f hosts trees are (suc viewer) viewer)
-        ∙ (λ j. is_in name_eq (k.root j) (roots-named (suc viewer) depth viewer x (omega arith) (hosted.nested x) mine j))
+        ∙ (λ j. is_in name_eq (k.root j) (roots-named (suc viewer) {d = depth} {place = viewer} {x = x} (omega arith)
+        (record { ends = hosted.nested x; is = mine }) j))
 
     -- the host by which it is hidden
     hiding-picked : (place : ℕ) (a : NodeName) → IsTreeOf f trees place a
@@ -184,11 +191,12 @@ module _ (f : NamedTrees) (hosts : List ShadowHost) (distinct : TellApart f.name
         ∙ picked (host_above_at s a) (is_in name_eq (root_of f.trees a) (map (root_of f.trees) (chain_at s depth x)))
 
     -- what is seen of it
-    seen-up_named : (n d node place : ℕ) (a other : NodeName) → place < n → name node ≡ a → EndsWithin s d a → IsTreeOf f trees place a
+    seen-up_named : (n node : ℕ) {d place : ℕ} {a : NodeName} (other : NodeName) → place < n → name node ≡ a → Ending d place a
         → name (seen_up trees n viewer node place) ≡ unwrap_or (find (λ y. not (is_hidden_at s depth x y)) (chain_at s d a)) other
-    seen-up_named zero d node place a other h same ends is = absurd (omega arith)
-    seen-up_named (suc n) d node place a other h same ends is =
-        by d ends (λ d' host outer below ends' is'. seen-up_named n d' host outer (name host) other (omega (arith, below, h)) refl ends' is')
+    seen-up_named zero node other h same ending = absurd (omega arith)
+    seen-up_named (suc n) node {d = d} {place = place} {a = a} other h same ending =
+        by d ending.ends (λ d' host outer below ends' is'. seen-up_named n host {d = d'} {place = outer} {a = name host} other (omega (arith, below, h)) refl
+        (record { ends = ends'; is = is' }))
         (hiding_host trees viewer place) refl
       where
         by : (d : ℕ) → EndsWithin s d a
@@ -199,26 +207,26 @@ module _ (f : NamedTrees) (hosts : List ShadowHost) (distinct : TellApart f.name
             (find (λ y. not (is_hidden_at s depth x y)) (chain_at s d a)) other
         by d ends again None e =
             let first = chain-first s d a in
-            let shown : is_hidden_at s depth x a ≡ false = sym (hidden-named place a is) ∙ ap is_some e in
+            let shown : is_hidden_at s depth x a ≡ false = sym (hidden-named place a ending.is) ∙ ap is_some e in
             same
             ∙ sym (ap (λ ys. unwrap_or (find (λ y. not (is_hidden_at s depth x y)) ys) other) first.1
             ∙ ap (λ o. unwrap_or o other)
             (cond-true (not (is_hidden_at s depth x a)) (Some a) (find (λ y. not (is_hidden_at s depth x y)) first.0) (ap not shown)))
         by zero ends again (Some host) e =
-            let k = here place a is in
+            let k = here place a ending.is in
             let hid = hides trees nested viewer place host e in
             let same_tree : Some hid.t ≡ Some k.t = sym hid.here ∙ k.at in
             let its : k.t.host ≡ Some host = subst (λ (o : Option Tree). option_map_or (λ (t : Tree). t.host) o None ≡ Some host) same_tree hid.its in
             let both : None ≡ Some (name host) = sym ends ∙ (around place a k host its).0 in
             cc
         by (suc d) ends again (Some host) e =
-            let k = here place a is in
+            let k = here place a ending.is in
             let hid = hides trees nested viewer place host e in
             let same_tree : Some hid.t ≡ Some k.t = sym hid.here ∙ k.at in
             let its : k.t.host ≡ Some host = subst (λ (o : Option Tree). option_map_or (λ (t : Tree). t.host) o None ≡ Some host) same_tree hid.its in
             let up = around place a k host its in
             let outer = outer-is trees place k.t k.at in
-            let hidden : is_hidden_at s depth x a ≡ true = sym (hidden-named place a is) ∙ ap is_some e in
+            let hidden : is_hidden_at s depth x a ≡ true = sym (hidden-named place a ending.is) ∙ ap is_some e in
             again d host (outer_of trees place) (outer-below trees nested viewer place host e) (ends (name host) up.0)
             (subst (λ p. IsTreeOf f trees p (name host)) (sym outer) up.1)
             ∙ sym (ap (λ ys. unwrap_or (find (λ y. not (is_hidden_at s depth x y)) ys) other) (chain-host s d a (name host) up.0)
@@ -227,4 +235,5 @@ module _ (f : NamedTrees) (hosts : List ShadowHost) (distinct : TellApart f.name
             (ap not hidden)))
 
     pub seen-named : (node place : ℕ) → IsTreeOf f trees place (name node) → name (seen_from trees viewer node place) ≡ seen_at s depth x (name node)
-    seen-named node place is = seen-up_named (suc place) depth node place (name node) (name node) (omega arith) refl (hosted.nested (name node)) is
+    seen-named node place is = seen-up_named (suc place) node {d = depth} {place = place} {a = name node} (name node) (omega arith) refl
+        (record { ends = hosted.nested (name node); is = is })

@@ -38,25 +38,35 @@ slot-has ts n y e = by (slottable_name n) e
     by None k = cc
     by (Some name) k = Has-names ts y (found-in (has_slot_name name) (nodes ts) y k)
 
+-- a path node that stands in trees, and its tree
+pub record IsInTree (f : NamedTrees) (hosts : List ShadowHost) (trees : List Tree) (x : PathNode) (t : Tree) : Type 0 where
+  pub are : AreTrees f hosts trees
+  pub stands : IsPathNode f hosts trees x
+  pub at : slice_get trees x.tree ≡ Some t
+
+-- a host in the tree at a place, and its shadow root
+pub record IsEntered (f : NamedTrees) (hosts : List ShadowHost) (trees : List Tree) (place root host : ℕ) : Type 0 where
+  pub at : root_named f.names hosts (name_at f.names host) ≡ Some (name_at f.names root)
+  pub is : (depth : ℕ) → IsHosted f hosts depth → IsTreeOf f trees place (name_at f.names host)
+
 module _ (f : NamedTrees) (hosts : List ShadowHost) (once : Once f.trees) where
   abbrev name : ℕ → NodeName
   name k = name_at f.names k
 
   -- the host of a shadow root stands in the tree around
-  pub tree-outside : (trees : List Tree) (x : PathNode) (t : Tree) (host : ℕ) → AreTrees f hosts trees → IsPathNode f hosts trees x →
-      Has f.trees (name x.node) → slice_get trees x.tree ≡ Some t
+  pub tree-outside : {trees : List Tree} {x : PathNode} {t : Tree} → IsInTree f hosts trees x t → (host : ℕ) → Has f.trees (name x.node)
       → host_named f.names hosts (name x.node) ≡ Some (name host) → (depth : ℕ) → IsHosted f hosts depth → IsTreeOf f trees t.outer (name host)
-  tree-outside trees x t host are stands has at is depth hosted = by t.host refl
+  tree-outside {trees = trees} {x = x} {t = t} inside host has is depth hosted = by t.host refl
     where
       alone : root_of f.trees (name x.node) ≡ name x.node
       alone = root-alone f.trees (name x.node) has (hosted.roots (name x.node) (ap is_some is))
 
       its : IsTree f hosts trees t
-      its = are.each depth hosted x.tree t at
+      its = inside.are.each depth hosted x.tree t inside.at
 
       root : name t.root ≡ name x.node
       root = let both : Some (name t.root) ≡ Some (root_of f.trees (name x.node)) =
-          ap (option_map (λ (t : Tree). name t.root)) (sym at) ∙ stands.tree depth hosted in let same : name t.root ≡ root_of f.trees
+          ap (option_map (λ (t : Tree). name t.root)) (sym inside.at) ∙ inside.stands.tree depth hosted in let same : name t.root ≡ root_of f.trees
           (name x.node) = cc in same ∙ alone
 
       above : option_map name t.host ≡ Some (name host)
@@ -86,12 +96,11 @@ module _ (f : NamedTrees) (hosts : List ShadowHost) (once : Once f.trees) where
       sym (root-below f.trees once r y has (slot-has (subtree f.trees r) (node_in f.trees x) y found) ∙ alone)
 
   -- so its tree may be added behind that of the host
-  pub tree-entered : (trees : List Tree) (place root host : ℕ) → root_named f.names hosts (name host) ≡ Some (name root) →
-      ((depth : ℕ) → IsHosted f hosts depth → IsTreeOf f trees place (name host))
-      → (depth : ℕ) → IsHosted f hosts depth → IsTree f hosts trees (record { root = root; host = Some host; outer = place })
-  tree-entered trees place root host at is depth hosted = record {
-    host = sym (hosted.theirs (name host) (name root) at);
-    outer = λ k e. subst (λ j. IsTreeOf f trees place (name j)) (let same : host ≡ k = cc in same) (is depth hosted);
+  pub tree-entered : {trees : List Tree} {place root host : ℕ} → IsEntered f hosts trees place root host → (depth : ℕ) → IsHosted f hosts depth →
+      IsTree f hosts trees (record { root = root; host = Some host; outer = place })
+  tree-entered {trees = trees} {place = place} {root = root} {host = host} entered depth hosted = record {
+    host = sym (hosted.theirs (name host) (name root) entered.at);
+    outer = λ k e. subst (λ j. IsTreeOf f trees place (name j)) (let same : host ≡ k = cc in same) (entered.is depth hosted);
   }
 
 -- ---- the event parent

@@ -47,6 +47,12 @@ module _ (f : NamedTrees) (hosts : List ShadowHost) (t : NodeName) (r : Option N
         };
   }
 
+  -- an item among trees that says what a path node is
+  pub record Says (trees : List Tree) (i : Item) (x : PathNode) : Type 0 where
+    pub item : IsItemOf f hosts t r trees i
+    pub node : i.node ≡ x.node
+    pub entered : i.slot_in_closed ≡ x.is_entered
+
   module _ (composed : Bool) where
     -- the items that come, where this is the place that is next
     abbrev pub Comes : ℕ → Option PathNode → List Item → Type 0
@@ -77,20 +83,20 @@ module _ (f : NamedTrees) (hosts : List ShadowHost) (t : NodeName) (r : Option N
     module _ (trees new : List Tree) (items : List Item) (x : PathNode) (i : Item) (more : List Item) (next : Option PathNode)
         (track : IsTrack trees items (Some x)) where
       -- one item more, among more trees
-      pub track-more : Grows trees new → more ≡ items ++ i ∷ [] → IsItemOf f hosts t r trees i → i.node ≡ x.node → i.slot_in_closed ≡ x.is_entered →
+      pub track-more : Grows trees new → more ≡ items ++ i ∷ [] → Says trees i x →
           ForSome next (IsPathNode f hosts new) → ((depth : ℕ) → IsHosted f hosts depth → option_map (λ (y : PathNode). name_at f.names y.node) next
           ≡ next_name f hosts t r depth composed (name_at f.names x.node)) →
           ForSome next (λ y. y.is_entered ≡ is_assigned_at (shadows f hosts) (name_at f.names y.node) (name_at f.names x.node)) → IsTrack new more next
-      track-more g e item node entered place value behind = subst (λ is. IsTrack new is next) (sym e) (record {
+      track-more g e says place value behind = subst (λ is. IsTrack new is next) (sym e) (record {
         place = place;
         each = all-other (IsItemOf f hosts t r trees) (IsItemOf f hosts t r new) (item-kept trees new g) (items ++ i ∷ [])
-            (all-more (IsItemOf f hosts t r trees) items i track.each item);
+            (all-more (IsItemOf f hosts t r trees) items i track.each says.item);
         way = λ depth hosted rest h. subst (IsWay f hosts t r depth composed) (sym (append_assoc items (i ∷ []) rest))
-            (track.way depth hosted (i ∷ rest) (node, entered, goes depth next (value depth hosted) behind rest h));
+            (track.way depth hosted (i ∷ rest) (says.node, says.entered, goes depth next (value depth hosted) behind rest h));
       })
         where
           at : name_at f.names x.node ≡ name_at f.names i.node
-          at = ap (name_at f.names) (sym node)
+          at = ap (name_at f.names) (sym says.node)
 
           goes : (depth : ℕ) (next : Option PathNode) →
               option_map (λ (y : PathNode). name_at f.names y.node) next ≡ next_name f hosts t r depth composed (name_at f.names x.node)
@@ -103,6 +109,12 @@ module _ (f : NamedTrees) (hosts : List ShadowHost) (t : NodeName) (r : Option N
               let same : name_at f.names y.node ≡ name_at f.names j.node = ap (name_at f.names) (sym h.0) in
               subst (λ z. GoesOn f hosts t r depth composed z (j ∷ rest)) at
               (sym v ∙ ap Some same, h.1 ∙ en y refl ∙ ap (λ z. is_assigned_at (shadows f hosts) z (name_at f.names x.node)) same, h.2)
+
+    -- a way is the path, where that is not empty
+    pub built-way : (depth : ℕ) (items : List Item) → is_empty_at (shadows f hosts) depth t r ≡ false → IsWay f hosts t r depth composed items →
+        IsBuilt f hosts t r depth composed items
+    built-way depth [] e h = absurd h
+    built-way depth (i ∷ items) e h = (e, h)
 
     -- as it ends
     pub track-last : {trees : List Tree} {items : List Item} {next : Option PathNode} → next ≡ None → IsTrack trees items next → (depth : ℕ) →
@@ -125,12 +137,6 @@ pub record IsOnWay (f : NamedTrees) (hosts : List ShadowHost) (target : PathNode
   pub track : IsTrack f hosts (name_at f.names target.node) (related_name f.names related) composed trees items next
   pub are : AreTrees f hosts trees
   pub event : IsEvent f hosts trees target related
-
--- a way is the path, where that is not empty
-pub built-way : (f : NamedTrees) (hosts : List ShadowHost) (t : NodeName) (r : Option NodeName) (depth : ℕ) (composed : Bool) (items : List Item)
-    → is_empty_at (shadows f hosts) depth t r ≡ false → IsWay f hosts t r depth composed items → IsBuilt f hosts t r depth composed items
-built-way f hosts t r depth composed [] e h = absurd h
-built-way f hosts t r depth composed (i ∷ items) e h = (e, h)
 
 -- what follows from what holds of an answer
 pub ok-other : {A E : Type 0} (P Q : A → Type 0) → ((x : A) → P x → Q x) → (answer : Result A E) → IfOk answer P → IfOk answer Q

@@ -56,5 +56,5 @@ returns-clause-path c =
     sym (silent-named f hosts c.law_nodes_stand_once.ensures.distinct trees c.in_ok-related.ensures.trees depth hosted target related at_target
     c.in_ok-related.ensures.stands) ∙ sym c.if-is_silent.ensures in
     subst (λ (p : NodeName × Option NodeName). IsBuilt f hosts p.0 p.1 depth c.args.composed items.items) (λ j. (t j, r j))
-    (built-way f hosts (name_at f.names target.node) (related_name f.names related) depth c.args.composed items.items shown (way depth hosted)))
+    (built-way f hosts (name_at f.names target.node) (related_name f.names related) c.args.composed depth items.items shown (way depth hosted)))
     c.items.result c.items.ensures.way

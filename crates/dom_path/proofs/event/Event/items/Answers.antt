@@ -23,8 +23,8 @@ loop-next-preserved c =
     (so_far.place x refl)) in
     record {
       track = track-more f hosts t r e.composed trees new items x c.item.result c.push.new.self.items c.in_ok-next.next so_far
-          c.in_ok-next.ensures.grown c.in_ok-push.ensures.ok item
-          (ap (λ (i : Item). i.node) c.item.ensures) (ap (λ (i : Item). i.slot_in_closed) c.item.ensures)
+          c.in_ok-next.ensures.grown c.in_ok-push.ensures.ok
+          (record { item = item; node = ap (λ (i : Item). i.node) c.item.ensures; entered = ap (λ (i : Item). i.slot_in_closed) c.item.ensures })
           c.in_ok-next.ensures.stands c.in_ok-next.ensures.value c.in_ok-next.ensures.entered;
       are = c.in_ok-next.ensures.trees;
       event = event-kept c.in_ok-next.ensures.grown c.loop-next.invariant.event;

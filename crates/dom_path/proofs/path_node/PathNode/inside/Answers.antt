@@ -36,9 +36,11 @@ returns-clause-trees c =
     subst (AreTrees f hosts) (sym c.in_ok-tree.ensures.trees)
     (trees-more f hosts trees put c.requires.trees (let w = c.requires.stands.within in record { within = omega (arith, w); behind = λ _. w })
     (record { root = below.root_node; host = λ k same. subst (λ j. j < length f.names) (let is : parent ≡ k = cc in is) (c.in-Some.ensures.node parent refl) })
-    (tree-entered f hosts (Once-forest f e'.once e'.only) trees self.tree root parent below.attached
-    (λ depth hosted. tree-parent f hosts (Once-forest f e'.once e'.only) trees self.tree (name_at f.names self.node)
-    (Has-forest f e'.once self.node c.requires.stands.node) (sym c.in-Some.ensures.value) (c.requires.stands.tree depth hosted))))
+    (tree-entered f hosts (Once-forest f e'.once e'.only) (record {
+      at = below.attached;
+      is = λ depth hosted. tree-parent f hosts (Once-forest f e'.once e'.only) trees self.tree (name_at f.names self.node)
+          (Has-forest f e'.once self.node c.requires.stands.node) (sym c.in-Some.ensures.value) (c.requires.stands.tree depth hosted);
+    })))
 
 pub returns-clause-stands : goal.returns-clause-stands
 returns-clause-stands c = λ x e.

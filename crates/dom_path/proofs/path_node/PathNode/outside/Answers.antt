@@ -37,8 +37,8 @@ returns-clause-stands c = λ x e.
     (host-node f.names hosts c.requires.slots.hosts self.node host (sym c.in_ok-host.ensures))
     (let below = (c.requires.trees.nested self.tree c.at-tree.result c.at-tree.ensures).within in let w = c.requires.stands.within in omega
     (arith, below, w))
-    (tree-outside f hosts (Once-forest f e'.once e'.only) trees self c.at-tree.result host c.requires.trees c.requires.stands
-    (Has-forest f e'.once self.node c.requires.stands.node) c.at-tree.ensures named))
+    (tree-outside f hosts (Once-forest f e'.once e'.only) (record { are = c.requires.trees; stands = c.requires.stands; at = c.at-tree.ensures }) host
+    (Has-forest f e'.once self.node c.requires.stands.node) named))
 
 pub returns-clause-value : goal.returns-clause-value
 returns-clause-value c =
