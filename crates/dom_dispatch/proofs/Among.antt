@@ -34,20 +34,21 @@ record IsAsFar (e : EventWords) (from w : World) (d s : Dispatching NodeName) : 
   lines : d.lines ≡ s.lines
 
 module _ (e : EventWords) (from : World) where
-  -- who hears is of the visit's owner
-  hears-own : (v : Visit NodeName) (l : Listener NodeName) → hears name_eq e v l ≡ true → is_of_owner v.current.owner l ≡ true
-  hears-own v l h = and-first (owner_eq l.node.owner v.current.owner) (nat_eq l.node.number v.current.number)
-      (and-first (name_eq l.node v.current) (text_eq l.words.event e.event && beq l.words.capture v.capturing) h)
+  module _ (v : Visit NodeName) where
+    -- who hears is of the visit's owner
+    hears-own : (l : Listener NodeName) → hears name_eq e v l ≡ true → is_of_owner v.current.owner l ≡ true
+    hears-own l h = and-first (owner_eq l.node.owner v.current.owner) (nat_eq l.node.number v.current.number)
+        (and-first (name_eq l.node v.current) (text_eq l.words.event e.event && beq l.words.capture v.capturing) h)
 
-  -- and is none of another owner's
-  hears-apart : (v : Visit NodeName) (o : Owner) → v.current.owner ≢ o → (l m : Listener NodeName) → hears name_eq e v l ≡ true → is_of_owner o m ≡ true
-      → is_listener name_eq l.node l.words.event l.words.label l.words.capture m ≡ false
-  hears-apart v o other l m h k =
-      let own : l.node.owner ≡ v.current.owner = owner_eq-true l.node.owner v.current.owner (hears-own v l h) in
-      let its : m.node.owner ≡ o = owner_eq-true m.node.owner o k in
-      and-none (name_eq m.node l.node) (text_eq m.words.event l.words.event && (text_eq m.words.label l.words.label && beq m.words.capture l.words.capture))
-      (and-none (owner_eq m.node.owner l.node.owner) (nat_eq m.node.number l.node.number)
-      (ne-owner_eq m.node.owner l.node.owner (λ same. other (sym own ∙ sym same ∙ its))))
+    -- and is none of another owner's
+    hears-apart : (o : Owner) → v.current.owner ≢ o → (l m : Listener NodeName) → hears name_eq e v l ≡ true → is_of_owner o m ≡ true →
+        is_listener name_eq l.node l.words.event l.words.label l.words.capture m ≡ false
+    hears-apart o other l m h k =
+        let own : l.node.owner ≡ v.current.owner = owner_eq-true l.node.owner v.current.owner (hears-own l h) in
+        let its : m.node.owner ≡ o = owner_eq-true m.node.owner o k in
+        and-none (name_eq m.node l.node) (text_eq m.words.event l.words.event && (text_eq m.words.label l.words.label && beq m.words.capture l.words.capture))
+        (and-none (owner_eq m.node.owner l.node.owner) (nat_eq m.node.number l.node.number)
+        (ne-owner_eq m.node.owner l.node.owner (λ same. other (sym own ∙ sym same ∙ its))))
 
   -- one visit
   visit-among : (w : World) (d s : Dispatching NodeName) (v : Visit NodeName) → IsAsFar e from w d s

@@ -60,40 +60,42 @@ module _ (names : List NodeName) (apart : TellApart names) where
   abbrev name : ℕ → NodeName
   name k = name_at names k
 
-  -- a listener that is known by its key is known by its name
-  known : (x : ℕ) → x < length names → (event label : Word) (capture : Bool) (l : Listener ℕ) → IsListenerAt names l
-      → is_listener nat_eq x event label capture l ≡ is_listener name_eq (name x) event label capture (listener_named names l)
-  known x at event label capture l h = ap
-      (λ b. b && (text_eq l.words.event event && (text_eq l.words.label label && beq l.words.capture capture))) (key-test names apart l.node x h at)
+  module _ (x : ℕ) (at : x < length names) (event label : Word) (capture : Bool) where
+    -- a listener that is known by its key is known by its name
+    known : (l : Listener ℕ) → IsListenerAt names l →
+        is_listener nat_eq x event label capture l ≡ is_listener name_eq (name x) event label capture (listener_named names l)
+    known l h = ap
+        (λ b. b && (text_eq l.words.event event && (text_eq l.words.label label && beq l.words.capture capture))) (key-test names apart l.node x h at)
 
-  -- one less
-  pub unlistened-named : (ls : List (Listener ℕ)) → AllByRecursion (IsListenerAt names) ls → (x : ℕ) → x < length names → (event label : Word) (capture : Bool)
-      → map (listener_named names) (unlistened nat_eq x event label capture ls) ≡ unlistened name_eq (name x) event label capture
-      (map (listener_named names) ls)
-  unlistened-named ls h x at event label capture =
-      filter-mapped (listener_named names) (IsListenerAt names)
-      (λ l. not (is_listener name_eq (name x) event label capture l))
-      (λ l k. ap not (known x at event label capture l k)) ls h
+    -- whether it is there
+    there-named : (ls : List (Listener ℕ)) → AllByRecursion (IsListenerAt names) ls →
+        list_any (is_listener nat_eq x event label capture) ls ≡ list_any (is_listener name_eq (name x) event label capture) (map (listener_named names) ls)
+    there-named [] h = refl
+    there-named (l ∷ ls) h = λ j. known l h.0 j || there-named ls h.1 j
 
-  -- whether it is there
-  there-named : (ls : List (Listener ℕ)) → AllByRecursion (IsListenerAt names) ls → (x : ℕ) → x < length names → (event label : Word) (capture : Bool)
-      → list_any (is_listener nat_eq x event label capture) ls ≡ list_any (is_listener name_eq (name x) event label capture) (map (listener_named names) ls)
-  there-named [] h x at event label capture = refl
-  there-named (l ∷ ls) h x at event label capture = λ j. known x at event label capture l h.0 j || there-named ls h.1 x at event label capture j
+  module _ (ls : List (Listener ℕ)) (h : AllByRecursion (IsListenerAt names) ls) where
+    -- one less
+    pub unlistened-named : (x : ℕ) → x < length names → (event label : Word) (capture : Bool) →
+        map (listener_named names) (unlistened nat_eq x event label capture ls) ≡ unlistened name_eq (name x) event label capture
+        (map (listener_named names) ls)
+    unlistened-named x at event label capture =
+        filter-mapped (listener_named names) (IsListenerAt names)
+        (λ l. not (is_listener name_eq (name x) event label capture l))
+        (λ l k. ap not (known x at event label capture l k)) ls h
 
-  -- one more
-  pub listened-named : (ls : List (Listener ℕ)) → AllByRecursion (IsListenerAt names) ls → (x : ℕ) → x < length names → (words : ListenerWords)
-      → map (listener_named names) (listened nat_eq x words ls) ≡ listened name_eq (name x) words (map (listener_named names) ls)
-  listened-named ls h x at words =
-      by (list_any (is_listener nat_eq x words.event words.label words.capture) ls)
-      ∙ ap (λ (b : Bool). if b then map (listener_named names) ls else map (listener_named names) ls ++
-      record { node = name x; words = words } ∷ []) (there-named ls h x at words.event words.label words.capture)
-    where
-      by : (b : Bool) → map (listener_named names)
-          (if b then ls else ls ++ record { node = x; words = words } ∷ []) ≡
-          (if b then map (listener_named names) ls else map (listener_named names) ls ++ record { node = name x; words = words } ∷ [])
-      by true = refl
-      by false = map-join (listener_named names) ls (record { node = x; words = words } ∷ [])
+    -- one more
+    pub listened-named : (x : ℕ) → x < length names → (words : ListenerWords) →
+        map (listener_named names) (listened nat_eq x words ls) ≡ listened name_eq (name x) words (map (listener_named names) ls)
+    listened-named x at words =
+        by (list_any (is_listener nat_eq x words.event words.label words.capture) ls)
+        ∙ ap (λ (b : Bool). if b then map (listener_named names) ls else map (listener_named names) ls ++
+        record { node = name x; words = words } ∷ []) (there-named x at words.event words.label words.capture ls h)
+      where
+        by : (b : Bool) → map (listener_named names)
+            (if b then ls else ls ++ record { node = x; words = words } ∷ []) ≡
+            (if b then map (listener_named names) ls else map (listener_named names) ls ++ record { node = name x; words = words } ∷ [])
+        by true = refl
+        by false = map-join (listener_named names) ls (record { node = x; words = words } ∷ [])
 
   -- ---- a visit
 

@@ -46,27 +46,27 @@ module _ {D V W : Type 0} (step : D → W → D) (g : V → W) where
   fold-cond true d x = refl
   fold-cond false d x = refl
 
-  -- the next visit from the front, or none
-  pub bubbled-more : (p : V → Bool) (vs : List V) (i : ℕ) (v : V) → slice_get vs i ≡ Some v → (from before after : D) →
-      before ≡ fold step from (map g (filter p (take i vs)))
-      → after ≡ cond (p v) (step before (g v)) before → after ≡ fold step from (map g (filter p (take (i + 1) vs)))
-  bubbled-more p vs i v at from before after b a =
-      let done = map g (filter p (take i vs)) in
-      a ∙ sym (fold-cond (p v) before (g v)) ∙ ap (λ d. fold step d (cond (p v) (g v ∷ []) [])) b
-      ∙ sym (fold-append step from done (cond (p v) (g v ∷ []) []))
-      ∙ ap (fold step from) (kept-more g p vs i (slice_get_within vs i v at) (sym (get_or_from_slice_get vs i v v at)))
+  module _ (vs : List V) where
+    -- the next visit from the front, or none
+    pub bubbled-more : (p : V → Bool) (i : ℕ) {v : V} → slice_get vs i ≡ Some v → (from : D) {before after : D} →
+        before ≡ fold step from (map g (filter p (take i vs))) → after ≡ cond (p v) (step before (g v)) before →
+        after ≡ fold step from (map g (filter p (take (i + 1) vs)))
+    bubbled-more p i {v = v} at from {before = before} b a =
+        let done = map g (filter p (take i vs)) in
+        a ∙ sym (fold-cond (p v) before (g v)) ∙ ap (λ d. fold step d (cond (p v) (g v ∷ []) [])) b
+        ∙ sym (fold-append step from done (cond (p v) (g v ∷ []) []))
+        ∙ ap (fold step from) (kept-more g p vs i (slice_get_within vs i v at) (sym (get_or_from_slice_get vs i v v at)))
 
-  -- the next visit from the end
-  pub captured-more : (vs : List V) {k n : ℕ} {v : V} → n ≡ suc k → slice_get vs k ≡ Some v → (from : D) {before after : D} →
-      before ≡ fold step from (map g (reverse (drop n vs)))
-      → after ≡ step before (g v) → after ≡ fold step from (map g (reverse (drop k vs)))
-  captured-more vs {k} {v} next at from b a =
-      let rest = reverse (drop (suc k) vs) in
-      let all : drop k vs ≡ v ∷ drop (suc k) vs =
-      drop-cons vs k v (slice_get_within vs k v at) ∙ ap (λ x. x ∷ drop (suc k) vs) (get_or_from_slice_get vs k v v at) in
-      a ∙ ap (λ d. step d (g v)) (b ∙ ap (λ m. fold step from (map g (reverse (drop m vs)))) next)
-      ∙ sym (fold-append step from (map g rest) (g v ∷ []))
-      ∙ ap (fold step from) (sym (ap (map g) (ap reverse all ∙ reverse-append (v ∷ []) (drop (suc k) vs)) ∙ map-append g rest (v ∷ [])))
+    -- the next visit from the end
+    pub captured-more : {k n : ℕ} {v : V} → n ≡ suc k → slice_get vs k ≡ Some v → (from : D) {before after : D} →
+        before ≡ fold step from (map g (reverse (drop n vs))) → after ≡ step before (g v) → after ≡ fold step from (map g (reverse (drop k vs)))
+    captured-more {k} {v} next at from b a =
+        let rest = reverse (drop (suc k) vs) in
+        let all : drop k vs ≡ v ∷ drop (suc k) vs =
+        drop-cons vs k v (slice_get_within vs k v at) ∙ ap (λ x. x ∷ drop (suc k) vs) (get_or_from_slice_get vs k v v at) in
+        a ∙ ap (λ d. step d (g v)) (b ∙ ap (λ m. fold step from (map g (reverse (drop m vs)))) next)
+        ∙ sym (fold-append step from (map g rest) (g v ∷ []))
+        ∙ ap (fold step from) (sym (ap (map g) (ap reverse all ∙ reverse-append (v ∷ []) (drop (suc k) vs)) ∙ map-append g rest (v ∷ [])))
 
 -- an item that is there
 there : {X : Type 0} (xs : List X) (i : ℕ) → i < length xs → (x : X) × (slice_get xs i ≡ Some x)

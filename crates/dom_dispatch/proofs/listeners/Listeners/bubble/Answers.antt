@@ -38,8 +38,8 @@ loop-at-preserved c =
           (λ j. dispatching_in (w.self-is j) (w.so_far-is j)) ∙ sym (cond-false (test v) (step before (visit_of nat_eq false v)) before fails)
     ] in
     record {
-      visits = bubbled-more step (visit_of nat_eq false) test path.views i v at (dispatching_in c.args.self.now c.args.so_far.now) before
-          (dispatching_in c.if-event.self c.if-event.so_far) c.loop-at.invariant.visits after;
+      visits = bubbled-more step (visit_of nat_eq false) path.views test i at (dispatching_in c.args.self.now c.args.so_far.now)
+          c.loop-at.invariant.visits after;
       owners = elim c.if-event.branch [
         | then-event+in_ok-visit w ↦ subst (λ p. AllByRecursion (IsOwnLine c.args.forest.now.names) p.lines.items) (sym w.so_far-is)
             w.in_ok-visit.ensures.owners
