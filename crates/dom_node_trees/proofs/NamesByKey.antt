@@ -45,17 +45,17 @@ names_signalled names xs (x ∷ more) are all =
     by true = are
     by false = All-push (λ y. is_in name_eq y names ≡ true) xs x are (All-head (λ y. is_in name_eq y names ≡ true) x more all)
 
--- the key of an owner's signalled slot
-pub own_key : (names : List NodeName) (o : Owner) (xs : List NodeName) (ns : List ℕ) → AreNames names xs → map (node_of o) ns ≡ filter (is_owned_by o) xs →
-    (i d : ℕ) → i < length ns → (k : ℕ) × (slice_get names k ≡ Some (node_of o (get_or ns i d)))
-own_key names o xs ns all own i d within =
-    let own_all = subst (AreNames names) (sym own) (All-filter (is_owned_by o) (λ x. is_in name_eq x names ≡ true) xs all) in
-    key_of_name names (node_of o (get_or ns i d))
-    (subst (λ x. is_in name_eq x names ≡ true) (get_or-map (node_of o) ns i d (node_of o d) within)
-    (own_all i (node_of o d) (subst (λ n. i < n) (sym (length-map ns (node_of o))) within)))
-
 -- the keys of an owner's nodes by the first of their numbers
 module _ (names : List NodeName) (o : Owner) (ns : List ℕ) (i d : ℕ) (within : i < length ns) where
+  -- each is that of a name, where they are signalled slots
+  pub own_key : (xs : List NodeName) → AreNames names xs → map (node_of o) ns ≡ filter (is_owned_by o) xs →
+      (k : ℕ) × (slice_get names k ≡ Some (node_of o (get_or ns i d)))
+  own_key xs all own =
+      let own_all = subst (AreNames names) (sym own) (All-filter (is_owned_by o) (λ x. is_in name_eq x names ≡ true) xs all) in
+      key_of_name names (node_of o (get_or ns i d))
+      (subst (λ x. is_in name_eq x names ≡ true) (get_or-map (node_of o) ns i d (node_of o d) within)
+      (own_all i (node_of o d) (subst (λ n. i < n) (sym (length-map ns (node_of o))) within)))
+
   -- and one more
   pub one_more : (keys : List ℕ) (k : ℕ) → slice_get names k ≡ Some (node_of o (get_or ns i d)) → k < length names →
       (map (name_at names) keys ≡ map (node_of o) (take i ns)) × All (λ j. j < length names) keys → {more : List ℕ} → more ≡ keys ++ k ∷ []

@@ -5,8 +5,8 @@ use Rattle.dom_node_trees.proofs.steps.own_slots.Goals as goal
 
 pub unreachable-requires : goal.unreachable-requires
 unreachable-requires c =
-    let key = own_key c.args.forest.now.names c.args.owner c.args.signalled.now c.of-number-items.result.now c.requires c.of-number-items.ensures
-    c.loop-number.number-index 0 c.loop-number-test.true in
+    let key = own_key c.args.forest.now.names c.args.owner c.of-number-items.result.now c.loop-number.number-index 0 c.loop-number-test.true
+    c.args.signalled.now c.requires c.of-number-items.ensures in
     c.in_default.not-Some key.0 (c.find.ensures.kept key.0 key.1)
 
 pub loop-number-preserved : goal.loop-number-preserved
