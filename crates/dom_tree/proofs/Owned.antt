@@ -58,23 +58,24 @@ own_trees ts owned o =
 
 -- ---- the reads
 
--- a node of one owner has no name of another one
-pub name_apart : (o p : Owner) → owner_eq p o ≡ false → (x y : NodeName) → x.owner ≡ o → y.owner ≡ p → name_eq y x ≡ false
-name_apart o p apart x y of_x of_y = and_left (owner_eq y.owner x.owner) _ (rw (of_x, of_y) apart)
+module _ (o p : Owner) (apart : owner_eq p o ≡ false) where
+  -- a node of one owner has no name of another one
+  pub name_apart : (x y : NodeName) → x.owner ≡ o → y.owner ≡ p → name_eq y x ≡ false
+  name_apart x y of_x of_y = and_left (owner_eq y.owner x.owner) _ (rw (of_x, of_y) apart)
 
--- so it is not among the other's
-reaches-apart : {o : Owner} (p : Owner) → owner_eq p o ≡ false → (x : NodeName) → x.owner ≡ o → (ts : Trees) → AreOf p ts → reaches ts x ≡ false
-reaches-apart p apart x is none of = refl
-reaches-apart {o} p apart x is (tree n c r) of =
-    or_from (name_eq n.name x) _ (name_apart o p apart x n.name is of.0)
-    (or_from (reaches c x) _ (reaches-apart p apart x is c of.1) (reaches-apart p apart x is r of.2))
+  -- so it is not among the other's
+  reaches-apart : (x : NodeName) → x.owner ≡ o → (ts : Trees) → AreOf p ts → reaches ts x ≡ false
+  reaches-apart x is none of = refl
+  reaches-apart x is (tree n c r) of =
+      or_from (name_eq n.name x) _ (name_apart x n.name is of.0)
+      (or_from (reaches c x) _ (reaches-apart x is c of.1) (reaches-apart x is r of.2))
 
 -- the tree of an owner's node, alone
 subtree-own : (o : Owner) (x : NodeName) → x.owner ≡ o → (ts : Trees) → HaveOwners ts → subtree ts x ≡ subtree (trees_of_owner o ts) x
 subtree-own o x is none have = refl
 subtree-own o x is (tree n c r) have = elim (cases_Bool (owner_eq n.name.owner o)) [
   | inl e ↦ rw e (ap (λ t. cond (name_eq n.name x) (tree n c none) (or_else (subtree c x) t)) (subtree-own o x is r have.1))
-  | inr e ↦ rw (e, name_apart o n.name.owner e x n.name is refl, subtree-none c x (reaches-apart n.name.owner e x is c have.0)) (subtree-own o x is r have.1)
+  | inr e ↦ rw (e, name_apart o n.name.owner e x n.name is refl, subtree-none c x (reaches-apart o n.name.owner e x is c have.0)) (subtree-own o x is r have.1)
 ]
 
 -- the nodes above an owner's node
@@ -82,7 +83,7 @@ path-own : (o : Owner) (x : NodeName) → x.owner ≡ o → (ts : Trees) → Hav
 path-own o x is none have = refl
 path-own o x is (tree n c r) have = elim (cases_Bool (owner_eq n.name.owner o)) [
   | inl e ↦ rw e (ap (λ t. cond (name_eq n.name x) (x ∷ []) (on_top (inclusive_ancestors c x) n.name t)) (path-own o x is r have.1))
-  | inr e ↦ rw (e, name_apart o n.name.owner e x n.name is refl, inclusive_ancestors-none c x (reaches-apart n.name.owner e x is c have.0))
+  | inr e ↦ rw (e, name_apart o n.name.owner e x n.name is refl, inclusive_ancestors-none c x (reaches-apart o n.name.owner e x is c have.0))
       (path-own o x is r have.1)
 ]
 
@@ -97,7 +98,7 @@ find-own o x is (tree n c r) have =
       | inl e ↦ rw e (ap (λ t. cond (p n) (Some n) t)
           (split (nodes r) ∙ (ap (option_or (find p (nodes c))) (find-own o x is r have.1) ∙ sym (split (nodes (trees_of_owner o r))))))
       | inr e ↦ rw (e, name_apart o n.name.owner e x n.name is refl)
-          (split (nodes r) ∙ (ap (λ t. option_or t (find p (nodes r))) (find-none c x (reaches-apart n.name.owner e x is c have.0)) ∙
+          (split (nodes r) ∙ (ap (λ t. option_or t (find p (nodes r))) (find-none c x (reaches-apart o n.name.owner e x is c have.0)) ∙
           find-own o x is r have.1))
     ]
 
@@ -106,7 +107,7 @@ reaches-own : (o : Owner) (x : NodeName) → x.owner ≡ o → (ts : Trees) → 
 reaches-own o x is none have = refl
 reaches-own o x is (tree n c r) have = elim (cases_Bool (owner_eq n.name.owner o)) [
   | inl e ↦ rw e (ap (λ b. name_eq n.name x || (reaches c x || b)) (reaches-own o x is r have.1))
-  | inr e ↦ rw (e, name_apart o n.name.owner e x n.name is refl, reaches-apart n.name.owner e x is c have.0) (reaches-own o x is r have.1)
+  | inr e ↦ rw (e, name_apart o n.name.owner e x n.name is refl, reaches-apart o n.name.owner e x is c have.0) (reaches-own o x is r have.1)
 ]
 
 -- ---- what is read of an owner's trees is the owner's
