@@ -59,7 +59,8 @@ module _ (n : Node) (ts : Trees) where
 
   -- it is a root
   pub new_root : IsOnce (with_node n ts) → parent_of (with_node n ts) n.name ≡ None
-  new_root once = ap (λ path. first_of (drop 1 path)) (path_root n.name n.name n none ts (name_eq-same n.name) (new_gone once))
+  new_root once = ap (λ path. first_of (drop 1 path))
+      (path_root n.name n.name (record { node = n; below = none; named = name_eq-same n.name }) ts (new_gone once))
 
   new_below_none : IsOnce (with_node n ts) → (y : NodeName) → name_eq n.name y ≡ false → is_inclusive_ancestor (with_node n ts) n.name y ≡ false
   new_below_none once y h = ap (is_in name_eq n.name) (path_beside_new y h) ∙ lacks_to n.name (inclusive_ancestors ts y)

@@ -107,14 +107,14 @@ module _ (d : DocState) (counted : Counted d) (parent fragment : ℕ) (before : 
   -- what is in the tree of the fragment is not above the parent, nor above the child
   inside_lacks : (z : NodeName) → 1 ≤ times_in (subtree all_trees (name_in d fragment)) z → Lacks z (inclusive_ancestors all_trees (name_in d parent))
   inside_lacks z there =
-      below_lacks all_trees (once_in d counted (owner_in d parent)) (name_in d fragment) (name_in d parent)
-      (lacks_from (name_in d fragment) (inclusive_ancestors all_trees (name_in d parent)) may.not_above) z there
+      below_lacks (name_in d fragment) (name_in d parent) z all_trees (once_in d counted (owner_in d parent))
+      (lacks_from (name_in d fragment) (inclusive_ancestors all_trees (name_in d parent)) may.not_above) there
 
   inside_child : (z : NodeName) → 1 ≤ times_in (subtree all_trees (name_in d fragment)) z → (b : ℕ) → before ≡ Some b →
       Lacks z (inclusive_ancestors all_trees (name_in d b))
   inside_child z there b is =
-      below_lacks all_trees (once_in d counted (owner_in d parent)) (name_in d fragment) (name_in d b)
-      (before_lacks counted may child is) z there
+      below_lacks (name_in d fragment) (name_in d b) z all_trees (once_in d counted (owner_in d parent))
+      (before_lacks counted may child is) there
 
   own_trees : trees_in d fragment ≡ all_trees
   own_trees = ap (λ o. (part_of d.world o).trees) may.owner

@@ -18,7 +18,7 @@ use Rattle.dom_slots.specs.Kept.{SlotsNow, BegunStep, AreSlotsOf, IsBegun, IsEnd
 use Rattle.dom_slots.specs.Shadows.{shadow_trees}
 use Rattle.dom_slots.specs.Steps.{StepHasNodes, IsStepFrom, step_signals}
 use Rattle.dom_slots.specs.declared.step.Step.{Step}
-use Rattle.dom_slots.proofs.Ended.{step-ends}
+use Rattle.dom_slots.proofs.Ended.{IsDone, step-ends}
 use Rattle.dom_tree.specs.Forest.{NamedTrees, name_at}
 use Rattle.dom_node_trees.specs.Signalled.{SignalTables, signal_tables, AreNames, HasSignalled}
 use Rattle.dom_node_trees.proofs.NamesByKey.{are_named, key_of_name, names_signalled}
@@ -130,7 +130,18 @@ module _ (f g : NamedTrees) (slots middle : SlotsNow) (step : Step)
   -- it can be ended
   pub ends : StepHasNodes f.names step → AreSlotsOf f slots → middle.table ≡ slots.table → IsStepFrom f.names f.trees g.trees step begun.0.left →
       IsEndOf f.trees g middle begun.0
-  ends nodes are table is = step-ends f g slots middle step begun.0 names nodes are hosts table begun.1 begun.2 is
+  ends nodes are table is =
+      let done : IsDone f g slots middle step begun.0 = record {
+        names = names;
+        nodes = nodes;
+        slots = are;
+        hosts = hosts;
+        table = table;
+        begun = begun.1;
+        is_begun = begun.2;
+        moved = is;
+      } in
+      step-ends done
 
   -- and its signals are those of the step
   pub told : (signalled : List NodeName) (tasks : List Task) (after : SignalTables) →

@@ -234,7 +234,7 @@ module _ (a : Contents) (hosts : List ShadowHost) (held : AreHostsOf a hosts) (o
     told s change x around is_move =
         signalled_world moved (signals_at (shadows_in a hosts) (shadows_in moved hosts) x around is_move)
         ∙ (ap (fold with_signal (world_of moved))
-        (sym (signals-shown (shadows_in a hosts) (shadows_in moved hosts) (world_of a) (world_of moved) (world_shown a hosts held)
+        (sym (signals-shown (world_shown a hosts held)
         (world_shown moved hosts (hosts_moved s change)) x around is_move))
         ∙ (λ j. with_signals (world_of a) (stepped_hosted moved s change j) x around is_move))
 

@@ -35,7 +35,7 @@ module _ (names : List NodeName) (d : NodeName) (tables : AllTables) where
       let x = name_at names k in
       held_changed names ts tables held x.owner (held.present k within) (change_subtree (with_document d) x)
       (changed_subtree ts held.owned x.owner (with_document d) x (λ n. refl) refl) (keeps_changed_below (with_document d) (λ n. refl) x ts)
-      (slots-recast (named_trees names ts) (named_trees names (change_subtree (with_document d) x ts)) tables.slots _
+      (slots-recast (named_trees names ts) (named_trees names (change_subtree (with_document d) x ts))
       (keeps_if (λ n. is_in name_eq n.name (inclusive_descendants ts x)) (with_document d)
       record { name = λ n. refl; kind = λ n. refl; element = λ n. refl; attributes = λ n. refl }) refl refl held.signals.slots)
 

@@ -53,26 +53,36 @@ told-signals was f s b h =
     ap (λ slot. option_map_or (λ around. signalled_by p (shadows f s.hosts) slot (name_at f.names (step_node b.step)) (name_at f.names around)
     (is_move b.step)) (around_of b.step b.left) []) h.slot
 
--- a step that was begun and done is at its end
-pub step-ends : (old new : NamedTrees) (before after : SlotsNow) (step : Step) (b : BegunStep) → new.names ≡ old.names →
-    StepHasNodes old.names step → AreSlotsOf old before
-    → after.hosts ≡ before.hosts → after.table ≡ before.table → after.begun ≡ Some b → IsBegun old before.hosts step b →
-    IsStepFrom old.names old.trees new.trees step b.left → IsEndOf old.trees new after b
-step-ends old new before after step b names nodes slots hosts table begun is moved =
+-- A step that was begun and done, and nothing else: the forest and the slots before it, and those after it.
+pub record IsDone (old new : NamedTrees) (before after : SlotsNow) (step : Step) (b : BegunStep) : Type 0 where
+  pub names : new.names ≡ old.names
+  pub nodes : StepHasNodes old.names step
+  pub slots : AreSlotsOf old before
+  pub hosts : after.hosts ≡ before.hosts
+  pub table : after.table ≡ before.table
+  pub begun : after.begun ≡ Some b
+  pub is_begun : IsBegun old before.hosts step b
+  pub moved : IsStepFrom old.names old.trees new.trees step b.left
+
+-- it is at its end
+pub step-ends : {old new : NamedTrees} {before after : SlotsNow} {step : Step} {b : BegunStep} → IsDone old new before after step b →
+    IsEndOf old.trees new after b
+step-ends {old} {new} {before} {after} {step} {b} h =
+    let is = h.is_begun in
     let mine : SlotsNow = record { hosts = before.hosts; table = before.table; begun = Some b } in
-    let its : after ≡ mine = λ j. record { hosts = hosts j; table = table j; begun = begun j } in
+    let its : after ≡ mine = λ j. record { hosts = h.hosts j; table = h.table j; begun = h.begun j } in
     let here : NamedTrees = record { names = old.names; trees = new.trees } in
-    let there : new ≡ here = λ j. record { names = names j; trees = new.trees } in
+    let there : new ≡ here = λ j. record { names = h.names j; trees = new.trees } in
     let done : IsEndOf old.trees here mine b = record {
       begun = refl;
       stands = is.stands;
       left_is = is.left ∙ ap (left_by old.names old.trees) (sym is.same);
-      nodes = subst (StepHasNodes old.names) (sym is.same) nodes;
+      nodes = subst (StepHasNodes old.names) (sym is.same) h.nodes;
       left = is.left_node;
       slot_node = is.slot_node;
       slot = is.slot ∙ ap (λ s. slot_at (shadow_trees old.names old.trees before.hosts) (name_at old.names (step_node s))) (sym is.same);
-      step = subst (λ s. IsStepFrom old.names old.trees new.trees s b.left) (sym is.same) moved;
-      slots = record { hosts = slots.hosts; table = slots.table };
+      step = subst (λ s. IsStepFrom old.names old.trees new.trees s b.left) (sym is.same) h.moved;
+      slots = record { hosts = h.slots.hosts; table = h.slots.table };
     } in
     subst (λ f. IsEndOf old.trees f after b) (sym there) (subst (λ s. IsEndOf old.trees here s b) (sym its) done)
 

@@ -137,9 +137,9 @@ module _ (h : Node → Node) (keeps : KeepsSlots h) where
         (host_named names hosts (unwrap_or (Rattle.dom_model.specs.Names.last_of (path_recast h keeps.name ts y j)) y)) []
 
 -- the slots of a forest stay those of it
-pub slots-recast : (f g : NamedTrees) (s : SlotsNow) (h : Node → Node) → KeepsSlots h → g.names ≡ f.names → g.trees ≡ map_nodes h f.trees →
+pub slots-recast : {s : SlotsNow} {h : Node → Node} (f g : NamedTrees) → KeepsSlots h → g.names ≡ f.names → g.trees ≡ map_nodes h f.trees →
     AreSlotsOf f s → AreSlotsOf g s
-slots-recast f g s h keeps names trees slots =
+slots-recast {s} {h} f g keeps names trees slots =
     let there : record { names = f.names; trees = map_nodes h f.trees } ≡ g = λ j. record { names = sym names j; trees = sym trees j } in
     Rattle.std.proofs.Common.subst (λ (k : NamedTrees). AreSlotsOf k s) there record {
       hosts = slots.hosts;

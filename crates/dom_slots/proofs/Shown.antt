@@ -80,9 +80,9 @@ module _ (s : ShadowTrees) (w : World) (shown : IsShownBy s w) where
       λ j. option_map_or (under j) (host-shown y j) []
 
 -- the slots that a step signals
-pub signals-shown : (s t : ShadowTrees) (was now : World) → IsShownBy s was → IsShownBy t now → (x around : NodeName) (is_move : Bool) →
+pub signals-shown : {s t : ShadowTrees} {was now : World} → IsShownBy s was → IsShownBy t now → (x around : NodeName) (is_move : Bool) →
     signals was now x around is_move ≡ signals_at s t x around is_move
-signals-shown s t was now before after x around is_move =
+signals-shown {s} {t} {was} {now} before after x around is_move =
     let own : subtree (trees_with now around) (root_at now around) ≡ subtree t.trees (root_of t.trees around) =
     ap (subtree (trees_with now around)) (root-shown t now after around) ∙ tree-shown t now after around.owner (root_of t.trees around)
     (stays_own t.trees after.owned around.owner around refl).root in

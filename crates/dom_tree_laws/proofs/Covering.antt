@@ -246,9 +246,9 @@ sets_next {names} {d} {top} {now} {new} {k} {next} one was once sets =
     (record { trees = is ∙ ap (λ zs. covered d zs was) (sym w.more); stands = w.stands; node = one.near }, w.fewer)
 
 -- what the forest asks at a step
-pub sets_above : (names : List NodeName) (d top : NodeName) (was now new : Trees) → IsOnce was → (k : ℕ) → Sets names d top was now (Some k)
+pub sets_above : {names : List NodeName} {d top : NodeName} {now new : Trees} {k : ℕ} (was : Trees) → IsOnce was → Sets names d top was now (Some k)
     → new ≡ change_node (under_document (Some d)) (name_at names k) now → is_inclusive_ancestor new top (name_at names k) ≡ true
-sets_above names d top was now new once k sets changed =
+sets_above {names} {d} {top} {k = k} was once sets changed =
     let xs = inclusive_descendants was top in
     let y = name_at names k in
     ap (λ t. is_inclusive_ancestor t top y)

@@ -30,65 +30,67 @@ module _ (n : Node) (c r : Trees) (x y : NodeName) (lacks : Lacks x (inclusive_a
   not_above a path h e =
       apart_not n.name x g (swapped x n.name (lacks_back x (a ∷ path) (n.name ∷ []) (subst (Lacks x) (path_below n c r y a path h e) lacks)).0)
 
--- A tree in front of others, and three nodes.
-module _ (n : Node) (c r : Trees) (x y z : NodeName) where
-  -- the node itself is the first root
-  below_first : name_eq n.name x ≡ true → Lacks x (inclusive_ancestors (tree n c r) y) → times_in r z ≡ 0 → Lacks z (inclusive_ancestors (tree n c r) y)
-  below_first g lacks gone = elim (cases_Bool (name_eq n.name y)) [
-    | inl h ↦ not_root n c r x y lacks g h
-    | inr h ↦ by_path (inclusive_ancestors c y) refl h
-  ]
-    where
-      by_path : (path : List NodeName) → inclusive_ancestors c y ≡ path → name_eq n.name y ≡ false → Lacks z (inclusive_ancestors (tree n c r) y)
-      by_path [] e h = subst (Lacks z) (sym (path_after n c r y h e)) (path_lacks r y z gone)
-      by_path (a ∷ path) e h = not_above n c r x y lacks g a path h e
-
-  -- the node is below the first root, or behind it
-  below_other : name_eq n.name z ≡ false → Lacks x (inclusive_ancestors (tree n c r) y) →
-      (Lacks x (inclusive_ancestors c y) → Lacks z (inclusive_ancestors c y)) → (Lacks x (inclusive_ancestors r y) → Lacks z (inclusive_ancestors r y)) →
-      Lacks z (inclusive_ancestors (tree n c r) y)
-  below_other apart lacks below rest = elim (cases_Bool (name_eq n.name y)) [
-    | inl h ↦ subst (Lacks z) (sym (path_here n c r y h)) (swapped y z (subst (λ (w : NodeName). name_eq w z ≡ false) (name_eq-true n.name y h) apart), tt)
-    | inr h ↦ by_path (inclusive_ancestors c y) refl h
-  ]
-    where
-      by_path : (path : List NodeName) → inclusive_ancestors c y ≡ path → name_eq n.name y ≡ false → Lacks z (inclusive_ancestors (tree n c r) y)
-      by_path [] e h = subst (Lacks z) (sym (path_after n c r y h e)) (rest (subst (Lacks x) (path_after n c r y h e) lacks))
-      by_path (a ∷ path) e h =
-          let off = subst (Lacks x) (path_below n c r y a path h e) lacks in
-          subst (Lacks z) (sym (path_below n c r y a path h e))
-          (lacks_both z (a ∷ path) (n.name ∷ []) (subst (Lacks z) e (below (subst (Lacks x) (sym e) (lacks_front x (a ∷ path) (n.name ∷ []) off))))
-          (swapped n.name z apart, tt))
-
-pub below_lacks : (ts : Trees) → IsOnce ts → (x y : NodeName) → Lacks x (inclusive_ancestors ts y) → (z : NodeName) →
-    1 ≤ times_in (subtree ts x) z → Lacks z (inclusive_ancestors ts y)
-below_lacks none once x y lacks z there = tt
-below_lacks (tree n c r) once x y lacks z there =
-    let parts = once_parts n c r once in
-    let all = times_in-tree n c r z in
-    let most = once z in
-    elim (cases_Bool (name_eq n.name x)) [
-      | inl g ↦
-          let e : times_in (subtree (tree n c r) x) z ≡ times_in (tree n c none) z =
-          ap (λ t. times_in t z) (cond-true (name_eq n.name x) (tree n c none) (or_else (subtree c x) (subtree r x)) g) in
-          let alone = times_in-tree n c none z in let empty = times_in-none z in
-          below_first n c r x y z g lacks (omega arith)
-      | inr g ↦
-          let e : times_in (subtree (tree n c r) x) z ≡ times_in (or_else (subtree c x) (subtree r x)) z =
-          ap (λ t. times_in t z) (cond-false (name_eq n.name x) (tree n c none) (or_else (subtree c x) (subtree r x)) g) in
-          let either = times_or_else (subtree c x) (subtree r x) z in
-          let in_c = times_subtree c x z in let in_r = times_subtree r x z in
-          let apart : name_eq n.name z ≡ false = elim (cases_Bool (name_eq n.name z)) [ inl h ↦ let b = one-true _ h in absurd (omega arith) | inr h ↦ h ] in
-          below_other n c r x y z apart lacks
-          (λ l. elim (none_or_some (times_in (subtree c x) z)) [ inl k ↦ path_lacks c y z (omega arith) | inr k ↦ below_lacks c parts.below x y l z k ])
-          (λ l. elim (none_or_some (times_in (subtree r x) z)) [ inl k ↦ path_lacks r y z (omega arith) | inr k ↦ below_lacks r parts.after x y l z k ])
+-- Three nodes.
+module _ (x y z : NodeName) where
+  -- A tree in front of others.
+  module _ (n : Node) (c r : Trees) where
+    -- the node itself is the first root
+    below_first : name_eq n.name x ≡ true → Lacks x (inclusive_ancestors (tree n c r) y) → times_in r z ≡ 0 → Lacks z (inclusive_ancestors (tree n c r) y)
+    below_first g lacks gone = elim (cases_Bool (name_eq n.name y)) [
+      | inl h ↦ not_root n c r x y lacks g h
+      | inr h ↦ by_path (inclusive_ancestors c y) refl h
     ]
+      where
+        by_path : (path : List NodeName) → inclusive_ancestors c y ≡ path → name_eq n.name y ≡ false → Lacks z (inclusive_ancestors (tree n c r) y)
+        by_path [] e h = subst (Lacks z) (sym (path_after n c r y h e)) (path_lacks r y z gone)
+        by_path (a ∷ path) e h = not_above n c r x y lacks g a path h e
+
+    -- the node is below the first root, or behind it
+    below_other : name_eq n.name z ≡ false → Lacks x (inclusive_ancestors (tree n c r) y) →
+        (Lacks x (inclusive_ancestors c y) → Lacks z (inclusive_ancestors c y)) → (Lacks x (inclusive_ancestors r y) → Lacks z (inclusive_ancestors r y)) →
+        Lacks z (inclusive_ancestors (tree n c r) y)
+    below_other apart lacks below rest = elim (cases_Bool (name_eq n.name y)) [
+      | inl h ↦ subst (Lacks z) (sym (path_here n c r y h)) (swapped y z (subst (λ (w : NodeName). name_eq w z ≡ false) (name_eq-true n.name y h) apart), tt)
+      | inr h ↦ by_path (inclusive_ancestors c y) refl h
+    ]
+      where
+        by_path : (path : List NodeName) → inclusive_ancestors c y ≡ path → name_eq n.name y ≡ false → Lacks z (inclusive_ancestors (tree n c r) y)
+        by_path [] e h = subst (Lacks z) (sym (path_after n c r y h e)) (rest (subst (Lacks x) (path_after n c r y h e) lacks))
+        by_path (a ∷ path) e h =
+            let off = subst (Lacks x) (path_below n c r y a path h e) lacks in
+            subst (Lacks z) (sym (path_below n c r y a path h e))
+            (lacks_both z (a ∷ path) (n.name ∷ []) (subst (Lacks z) e (below (subst (Lacks x) (sym e) (lacks_front x (a ∷ path) (n.name ∷ []) off))))
+            (swapped n.name z apart, tt))
+
+  -- what is in the tree of x is not above y, where x is not
+  pub below_lacks : (ts : Trees) → IsOnce ts → Lacks x (inclusive_ancestors ts y) → 1 ≤ times_in (subtree ts x) z → Lacks z (inclusive_ancestors ts y)
+  below_lacks none once lacks there = tt
+  below_lacks (tree n c r) once lacks there =
+      let parts = once_parts n c r once in
+      let all = times_in-tree n c r z in
+      let most = once z in
+      elim (cases_Bool (name_eq n.name x)) [
+        | inl g ↦
+            let e : times_in (subtree (tree n c r) x) z ≡ times_in (tree n c none) z =
+            ap (λ t. times_in t z) (cond-true (name_eq n.name x) (tree n c none) (or_else (subtree c x) (subtree r x)) g) in
+            let alone = times_in-tree n c none z in let empty = times_in-none z in
+            below_first n c r g lacks (omega arith)
+        | inr g ↦
+            let e : times_in (subtree (tree n c r) x) z ≡ times_in (or_else (subtree c x) (subtree r x)) z =
+            ap (λ t. times_in t z) (cond-false (name_eq n.name x) (tree n c none) (or_else (subtree c x) (subtree r x)) g) in
+            let either = times_or_else (subtree c x) (subtree r x) z in
+            let in_c = times_subtree c x z in let in_r = times_subtree r x z in
+            let apart : name_eq n.name z ≡ false = elim (cases_Bool (name_eq n.name z)) [ inl h ↦ let b = one-true _ h in absurd (omega arith) | inr h ↦ h ] in
+            below_other n c r apart lacks
+            (λ l. elim (none_or_some (times_in (subtree c x) z)) [ inl k ↦ path_lacks c y z (omega arith) | inr k ↦ below_lacks c parts.below l k ])
+            (λ l. elim (none_or_some (times_in (subtree r x) z)) [ inl k ↦ path_lacks r y z (omega arith) | inr k ↦ below_lacks r parts.after l k ])
+      ]
 
 -- so y is not below it
 pub path_below_none : (ts : Trees) → IsOnce ts → (x y : NodeName) → Lacks x (inclusive_ancestors ts y) → inclusive_ancestors (subtree ts x) y ≡ []
 path_below_none ts once x y lacks = elim (none_or_some (times_in (subtree ts x) y)) [
   | inl e ↦ path_none (subtree ts x) y e
-  | inr there ↦ let within = times_subtree ts x y in by_path (inclusive_ancestors ts y) refl (below_lacks ts once x y lacks y there) (omega arith)
+  | inr there ↦ let within = times_subtree ts x y in by_path (inclusive_ancestors ts y) refl (below_lacks x y y ts once lacks there) (omega arith)
 ]
   where
     by_path : (path : List NodeName) → inclusive_ancestors ts y ≡ path → Lacks y (inclusive_ancestors ts y) → 1 ≤ times_in ts y →
@@ -182,15 +184,22 @@ subtree_root (tree n c r) x = elim (cases_Bool (name_eq n.name x)) [
     either e (inl a) rest = subst IsRooted (sym (e ∙ ap (λ t. or_else t (subtree r x)) a)) rest
     either e (inr (m, d, is, h)) rest = inr (m, d, e ∙ ap (λ t. or_else t (subtree r x)) is, h)
 
+-- A root that has the name.
+pub record RootNamed (x : NodeName) : Type 0 where
+  pub node : Node
+  pub below : Trees
+  pub named : name_eq node.name x ≡ true
+
 -- put among others that have it not, it is a root
-pub path_root : (x y : NodeName) (n : Node) (c ts : Trees) → name_eq n.name x ≡ true → times_in ts x ≡ 0 →
-    inclusive_ancestors (put_root y (tree n c none) ts) x ≡ x ∷ []
-path_root x y n c none h gone = path_here n c none x h
-path_root x y n c (tree m d r) h gone =
+pub path_root : (x y : NodeName) (root : RootNamed x) (ts : Trees) → times_in ts x ≡ 0 →
+    inclusive_ancestors (put_root y (tree root.node root.below none) ts) x ≡ x ∷ []
+path_root x y root none gone = path_here root.node root.below none x root.named
+path_root x y root (tree m d r) gone =
     let off = times_none m d r x gone in
     elim (cases_Bool (name_before y m.name)) [
-      | inl g ↦ rw g (path_here n c (tree m d r) x h)
-      | inr g ↦ rw g (path_after m d (put_root y (tree n c none) r) x off.0 (path_none d x off.1) ∙ path_root x y n c r h off.2)
+      | inl g ↦ rw g (path_here root.node root.below (tree m d r) x root.named)
+      | inr g ↦
+          rw g (path_after m d (put_root y (tree root.node root.below none) r) x off.0 (path_none d x off.1) ∙ path_root x y root r off.2)
     ]
 
 pub parent_taken : (ts : Trees) (x : NodeName) → parent_of (taken_out x ts) x ≡ None
@@ -199,5 +208,6 @@ parent_taken ts x = elim (subtree_root ts x) [
       (ap (λ t. inclusive_ancestors (put_root x t (without x ts)) x) e ∙ path_put_root x none (without x ts) x refl ∙
       path_none (without x ts) x (times_without ts x))
   | inr h ↦ ap (λ path. first_of (drop 1 path))
-      (ap (λ t. inclusive_ancestors (put_root x t (without x ts)) x) h.2 ∙ path_root x x h.0 h.1 (without x ts) h.3 (times_without ts x))
+      (ap (λ t. inclusive_ancestors (put_root x t (without x ts)) x) h.2 ∙
+      path_root x x (record { node = h.0; below = h.1; named = h.3 }) (without x ts) (times_without ts x))
 ]

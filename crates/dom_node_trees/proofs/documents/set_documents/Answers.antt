@@ -26,8 +26,8 @@ following-at-requires-clause-within c =
     let changed = c.set_document.ensures.trees ∙
     ap (λ ns. change_node (under_document (Some (name_at ns c.args.document))) (name_at ns c.in-Some.node) g.trees) c.loop-at.invariant.0 in
     subst (λ (ns : List NodeName). is_inclusive_ancestor c.set_document.new.self.trees (name_at ns c.args.top) (name_at ns c.in-Some.node) ≡ _) (sym names)
-    (sets_above f.names d top f.trees g.trees c.set_document.new.self.trees
-    (once_forest f.names f.trees c.law_nodes_stand_once.ensures.once c.law_nodes_stand_once.ensures.only) c.in-Some.node at changed)
+    (sets_above f.trees
+    (once_forest f.names f.trees c.law_nodes_stand_once.ensures.once c.law_nodes_stand_once.ensures.only) at changed)
 
 pub loop-at-smaller : goal.loop-at-smaller
 loop-at-smaller c =

@@ -8,4 +8,4 @@ pub returns-clause-assigned : goal.returns-clause-assigned
 returns-clause-assigned c = assigned-shown
 
 pub returns-clause-signals : goal.returns-clause-signals
-returns-clause-signals c = signals-shown
+returns-clause-signals c s t was now before after = signals-shown before after

@@ -47,7 +47,7 @@ invariant_of-self c =
     (c.set_data.ensures.trees ∙ ap (λ units. change_node (with_text units) x f.trees)
     (c.in_ok-text.ensures.items ∙ ap (replaced c.args.offset c.args.count c.args.data.items) c.text.ensures)
     ∙ data_changed x c.args.offset c.args.count c.args.data.items f.trees (omega (arith, once)))
-    (slots-recast f (named_trees f.names (change_node h x f.trees)) c.self.inside.slots _
+    (slots-recast f (named_trees f.names (change_node h x f.trees))
     (keeps_if (λ n. name_eq n.name x) h record { name = λ n. refl; kind = λ n. refl; element = λ n. refl; attributes = λ n. refl }) refl refl
     c.self.invariant.signals.slots)
 
