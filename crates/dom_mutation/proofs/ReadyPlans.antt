@@ -166,8 +166,9 @@ module _ (p : Part) (i : IsPart p) (h : IsReadyPart p) where
         KeepReady p (inserting observed x parent before p)
     ready-inserting before a o m =
         record {
-          made = (leads-inserting observed x parent before p i (may-go x parent t s a)).made;
-          bounds = insertion-keeps observed x parent before p i t s a o h.bounds;
+          made = (leads-inserting observed x parent before i (may-go x parent t s a)).made;
+          bounds = insertion-keeps observed x parent before p
+              (record { part = i; there = t; parent_there = s; apart = a; opened = o; bounds = h.bounds });
           roots = lone-plan (inserting observed x parent before) (keeps-inserting (lone-rules p) observed x parent before m);
         }
 
@@ -183,7 +184,8 @@ module _ (p : Part) (i : IsPart p) (h : IsReadyPart p) where
       let m = replacement-tested p.trees parent x child r in
       record {
         made = (leads-replacing parent x child p i (may-go x parent t s m.apart)).made;
-        bounds = replacement-keeps parent x child p i t s m.apart m.opened h.bounds;
+        bounds = replacement-keeps parent x child p
+            (record { part = i; there = t; parent_there = s; apart = m.apart; opened = m.opened; bounds = h.bounds });
         roots = lone-plan (replacing parent x child) (keeps-replacing (lone-rules p) parent x child m.plain);
       }
 
@@ -294,10 +296,11 @@ module _ (p : Part) (i : IsPart p) (h : IsReadyPart p) where
       let steps = inserting_into_range k r x p in
       record {
         made = made-bare p steps (subst (MadeIn (bare p)) same
-            (leads-inserting_into_range k r x (bare p) (bare-part p i) tables e
+            (leads-inserting_into_range k x (bare-part p i) tables e
             (record { there = g.there; owner = g.owner; below = g.below; apart = g.apart })).made);
         bounds = bounds-bare (after p steps)
             (subst HasBounds (ap (after (bare p)) same ∙ bare-after p steps)
-            (range_insertion-keeps k r x (bare p) (bare-part p i) tables e t (valid r e) (bare-bounds p h.bounds)));
+            (range_insertion-keeps k r x (bare p)
+            (record { part = bare-part p i; tables = tables; at_k = e; there = t; valid = valid r e; bounds = bare-bounds p h.bounds })));
         roots = lone-plan (inserting_into_range k r x) (keeps-inserting_into_range (lone-rules p) k r x m.plain);
       })

@@ -89,8 +89,11 @@ module _ (first parent : ℕ) (all : List ℕ) (size : ℕ) (d : DocState) where
               (alone_after (owner_in d first) (step ∷ []) e.world joining.alone (tt, tt));
           part = subst IsPart (sym after) record { unique = joining.part.unique; owned = joining.part.owned; numbered = joining.part.numbered };
           bounds = subst HasBounds (sym after)
-              (join_at-keeps (part_of e.world (owner_in d first)) (name_in d first) length y (name_in d parent) (index_of ts y) joining.part
-              (subst (λ us. length + length_of us y ≤ length_of us (name_in d first)) (sym here) fits.0) joining.bounds);
+              (join_at-keeps (part_of e.world (owner_in d first)) (name_in d first) length y (name_in d parent) (index_of ts y) (record {
+                part = joining.part;
+                fits = subst (λ us. length + length_of us y ≤ length_of us (name_in d first)) (sym here) fits.0;
+                bounds = joining.bounds;
+              }));
           fit = fits.1;
           state = ap (planned (owner_in d first)
               (steps_of (joins ts (name_in d first) (name_in d parent) (length + length_of ts y) (map (name_in d) (drop (suc i) all))))) at ∙ state;

@@ -46,7 +46,7 @@ taken-of into p x o =
 module _ (into top : NodeName) (p q : Part) (le : into.number ≤ top.number) (i : IsPart p) (c : Changed (Some top) p q) where
   -- after changes that place others below a taker
   taken-still : (x : NodeName) → IsTaken into p.trees x → IsTaken into q.trees x
-  taken-still x t = taken-of into q x (old-still into.number top p q le c x (old-of into p x i t))
+  taken-still x t = taken-of into q x (old-still into.number top le c x (old-of into p x i t))
 
   -- each item
   item-still : (item : Item) → MayBeTaken into p.trees item → MayBeTaken into q.trees item
@@ -89,7 +89,7 @@ put-below {into} {top} {p} n e i h t =
     let q = part_step p (make n) in
     let first = leads-one p (make n) i tt in
     let may : MayGo top q n.name = subst (MayGo top q) (sym e) (new-may p n top i there) in
-    let put = leads-inserting observed n.name top None q first.changed.part may in
+    let put = leads-inserting observed n.name top None first.changed.part may in
     let apart : is_inclusive_ancestor q.trees n.name top ≡ false =
     by_cases (is_inclusive_ancestor q.trees n.name top)
     (λ k. absurd (let a = ancestor-inside q.trees n.name top k in let b = may.apart in omega arith)) (λ k. k) in
@@ -97,8 +97,14 @@ put-below {into} {top} {p} n e i h t =
     let made : node_in q.trees (next_name p) ≡ with_name (next_name p) n = node-new (with_name (next_name p) n) p.trees (next-absent p i) in
     record {
       leads = leads-making_below top n p e i there;
-      bounds = insertion-keeps observed n.name top None q first.changed.part (times-has_node q.trees n.name may.there) taker.there apart
-          taker.no_data (make-keeps p n i h);
+      bounds = insertion-keeps observed n.name top None q (record {
+        part = first.changed.part;
+        there = times-has_node q.trees n.name may.there;
+        parent_there = taker.there;
+        apart = apart;
+        opened = taker.no_data;
+        bounds = make-keeps p n i h;
+      });
       there = still put.changed (next_name p) (new-there p n);
       kind = put.changed.kinds (next_name p) (new-there p n) ∙ ap (λ (m : Node). m.kind) made;
     }
@@ -110,12 +116,19 @@ item-leaves : {into : NodeName} {clones : List NodeName} {p : Part} → IsPart p
 item-leaves {into} {clones} {p} i h t le (whole_item x) m =
     let top = top_of into clones in
     let taker = top-takes into p.trees clones t in
-    let may = old-may into.number p x top i (old-of into p x i m) (has_node-times p.trees top taker.there) taker.new in
-    let l = leads-inserting observed x top None p i may in
+    let may = old-may top i (old-of into p x i m) (has_node-times p.trees top taker.there) taker.new in
+    let l = leads-inserting observed x top None i may in
     let q = after p (inserting observed x top None p) in
     record {
       leads = l;
-      bounds = insertion-keeps observed x top None p i m.there taker.there (m.apart top taker.new) taker.no_data h;
+      bounds = insertion-keeps observed x top None p (record {
+        part = i;
+        there = m.there;
+        parent_there = taker.there;
+        apart = m.apart top taker.new;
+        opened = taker.no_data;
+        bounds = h;
+      });
       takers = all-then (IsTaker into p.trees) (IsTaker into q.trees) (taker-still into p q l.changed) (into ∷ clones) t;
     }
 item-leaves {into} {clones} {p} i h t le (cut_item x from to) m =

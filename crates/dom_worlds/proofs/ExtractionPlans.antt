@@ -162,7 +162,7 @@ length-below {p} n into x makes k =
     let first = leads-one p (make n) i tt in
     let there = bounds.data-there p.trees x k in
     let may : MayGo into q n.name = subst (MayGo into q) (sym makes.named) (new-may p n into i makes.there) in
-    let put = leads-inserting observed n.name into None q first.changed.part may in
+    let put = leads-inserting observed n.name into None first.changed.part may in
     let texts = texts-inserting observed None first.changed.part may x (still first.changed x there) in
     let kq : has_data (kind_of q.trees x) ≡ true = ap has_data (first.changed.kinds x there) ∙ k in
     length-data (after q (inserting observed n.name into None q)).trees x (ap has_data (put.changed.kinds x (still first.changed x there)) ∙ kq) ∙

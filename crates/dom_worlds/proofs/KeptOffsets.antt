@@ -78,6 +78,12 @@ may-go {p} x parent i s t a =
     let there = has_node-times p.trees x s in
     record { there = there; owner = i.owned x there; below = has_node-times p.trees parent t; apart = inside-no_ancestor p.trees x parent i.unique a }
 
+-- A join that a part with bounds allows: its first Text has room for the data of both.
+pub record CanJoin (p : Part) (first : NodeName) (size : ℕ) (next : NodeName) : Type 0 where
+  pub part : IsPart p
+  pub fits : size + length_of p.trees next ≤ length_of p.trees first
+  pub bounds : HasBounds p
+
 -- Steps of a part.
 module _ (p : Part) where
   -- a new node is made
@@ -89,11 +95,11 @@ module _ (p : Part) where
   set_document-keeps x d i h = bounds-of (part_step p (set_document x d)) (part-step p (set_document x d) i) (room-document nowhere p x d i (room-of p i h))
 
   -- a join, where the first Text has the data of both
-  pub join_at-keeps : (first : NodeName) (size : ℕ) (next parent : NodeName) (index : ℕ) → IsPart p →
-      size + length_of p.trees next ≤ length_of p.trees first → HasBounds p → HasBounds (part_step p (join_at first size next parent index))
-  join_at-keeps first size next parent index i a h =
-      bounds-of (part_step p (join_at first size next parent index)) (part-step p (join_at first size next parent index) i)
-      (room-join (room-of p i h) parent index first size next a)
+  pub join_at-keeps : (first : NodeName) (size : ℕ) (next parent : NodeName) (index : ℕ) → CanJoin p first size next →
+      HasBounds (part_step p (join_at first size next parent index))
+  join_at-keeps first size next parent index c =
+      bounds-of (part_step p (join_at first size next parent index)) (part-step p (join_at first size next parent index) c.part)
+      (room-join (room-of p c.part c.bounds) parent index first size next c.fits)
 
   -- a range that gets ends within their nodes
   pub set_range-keeps : (k : ℕ) (r : Range NodeName) → IsPart p → IsWithin p.trees r.start → IsWithin p.trees r.end → HasBounds p →
@@ -115,23 +121,29 @@ adoption-keeps d x p i t h =
     bounds-of (after p (adopting d x p)) (leads-adopting d x p i (i.owned x (has_node-times p.trees x t))).changed.part
     (room-adopting nowhere d x p i (room-of p i h))
 
+-- A node of a part with bounds, and one that may become its parent: that is not below it, and has no data.
+pub record CanGoBelow (x parent : NodeName) (p : Part) : Type 0 where
+  pub part : IsPart p
+  pub there : IsTrue (has_node p.trees x)
+  pub parent_there : IsTrue (has_node p.trees parent)
+  pub apart : is_inclusive_ancestor p.trees x parent ≡ false
+  pub opened : has_data (kind_of p.trees parent) ≡ false
+  pub bounds : HasBounds p
+
 -- an insertion
-pub insertion-keeps : (how : Observing) (x parent : NodeName) (before : Option NodeName) (p : Part) → IsPart p → IsTrue (has_node p.trees x) →
-    IsTrue (has_node p.trees parent) → is_inclusive_ancestor p.trees x parent ≡ false → has_data (kind_of p.trees parent) ≡ false → HasBounds p →
+pub insertion-keeps : (how : Observing) (x parent : NodeName) (before : Option NodeName) (p : Part) → CanGoBelow x parent p →
     HasBounds (after p (inserting how x parent before p))
-insertion-keeps how x parent before p i s t a o h =
-    let m = may-go x parent i s t a in
-    bounds-of (after p (inserting how x parent before p)) (leads-inserting how x parent before p i m).changed.part
-    (room-inserting how before (record { part = i; room = room-of p i h }) (record { go = m; open_parent = o }))
+insertion-keeps how x parent before p c =
+    let m = may-go x parent c.part c.there c.parent_there c.apart in
+    bounds-of (after p (inserting how x parent before p)) (leads-inserting how x parent before c.part m).changed.part
+    (room-inserting how before (record { part = c.part; room = room-of p c.part c.bounds }) (record { go = m; open_parent = c.opened }))
 
 -- a replacement
-pub replacement-keeps : (parent x child : NodeName) (p : Part) → IsPart p → IsTrue (has_node p.trees x) → IsTrue (has_node p.trees parent) →
-    is_inclusive_ancestor p.trees x parent ≡ false → has_data (kind_of p.trees parent) ≡ false → HasBounds p →
-    HasBounds (after p (replacing parent x child p))
-replacement-keeps parent x child p i s t a o h =
-    let m = may-go x parent i s t a in
-    bounds-of (after p (replacing parent x child p)) (leads-replacing parent x child p i m).changed.part
-    (room-replacing child (record { part = i; room = room-of p i h }) (record { go = m; open_parent = o }))
+pub replacement-keeps : (parent x child : NodeName) (p : Part) → CanGoBelow x parent p → HasBounds (after p (replacing parent x child p))
+replacement-keeps parent x child p c =
+    let m = may-go x parent c.part c.there c.parent_there c.apart in
+    bounds-of (after p (replacing parent x child p)) (leads-replacing parent x child p c.part m).changed.part
+    (room-replacing child (record { part = c.part; room = room-of p c.part c.bounds }) (record { go = m; open_parent = c.opened }))
 
 -- an attribute that is set
 pub attribute-keeps : (x : NodeName) (a : Word) (v : DomString) (p : Part) → IsPart p → HasBounds p → HasBounds (after p (setting_attribute x a v p))
@@ -198,17 +210,26 @@ pub takes : (b : Bool) (r : Option Refusal) → (if b then Some Hierarchy else r
 takes true r h = cc
 takes false r h = refl
 
--- an insertion of a node that a live range can take
-pub range_insertion-keeps : (k : ℕ) (r : Range NodeName) (x : NodeName) (p : Part) → IsPart p → HasTables p → range_at p k ≡ Some r →
-    IsTrue (has_node p.trees x) → insert_node_refusal p.trees r x ≡ None → HasBounds p → HasBounds (after p (inserting_into_range k r x p))
-range_insertion-keeps k r x p i t e n valid h =
+-- A live range of a part with bounds, and a node that it can take.
+pub record CanTakeNode (k : ℕ) (r : Range NodeName) (x : NodeName) (p : Part) : Type 0 where
+  pub part : IsPart p
+  pub tables : HasTables p
+  pub at_k : range_at p k ≡ Some r
+  pub there : IsTrue (has_node p.trees x)
+  pub valid : insert_node_refusal p.trees r x ≡ None
+  pub bounds : HasBounds p
+
+-- its insertion
+pub range_insertion-keeps : (k : ℕ) (r : Range NodeName) (x : NodeName) (p : Part) → CanTakeNode k r x p → HasBounds (after p (inserting_into_range k r x p))
+range_insertion-keeps k r x p c =
+    let i = c.part in
     let parent = insertion_parent p.trees r in
     let refused = insertion_refusal p.trees parent x (start_reference p.trees r) in
-    let fits = not_taken (cannot_take_node p.trees r x) refused valid in
-    let start = (range-ends p k t r e).0 in
-    let m = may-go x parent i n (times-has_node p.trees parent (parent-of_range p r start))
+    let fits = not_taken (cannot_take_node p.trees r x) refused c.valid in
+    let start = (range-ends p k c.tables r c.at_k).0 in
+    let m = may-go x parent i c.there (times-has_node p.trees parent (parent-of_range p r start))
     (insertion-apart p.trees parent x (start_reference p.trees r) fits) in
-    bounds-of (after p (inserting_into_range k r x p)) (leads-inserting_into_range k r x p i t e m).changed.part
-    (room-inserting_into_range k r (record { part = i; room = room-of p i h }) start
+    bounds-of (after p (inserting_into_range k r x p)) (leads-inserting_into_range k x i c.tables c.at_k m).changed.part
+    (room-inserting_into_range k r (record { part = i; room = room-of p i c.bounds }) start
     (record { go = m; open_parent = insertion-open p.trees parent x (start_reference p.trees r) fits })
-    (takes (cannot_take_node p.trees r x) refused valid))
+    (takes (cannot_take_node p.trees r x) refused c.valid))

@@ -48,12 +48,12 @@ pub record OldIn (count : ℕ) (p : Part) (x : NodeName) : Type 0 where
   pub alone : (z : NodeName) → count ≤ z.number → inside p.trees x z ≡ 0
 
 -- below a newer node it may go
-pub old-may : (count : ℕ) (p : Part) (x into : NodeName) → IsPart p → OldIn count p x → HasNode p into → count ≤ into.number → MayGo into p x
-old-may count p x into i o t c = record { there = o.there; owner = i.owned x o.there; below = t; apart = o.alone into c }
+pub old-may : {count : ℕ} {p : Part} {x : NodeName} (into : NodeName) → IsPart p → OldIn count p x → HasNode p into → count ≤ into.number → MayGo into p x
+old-may {x = x} into i o t c = record { there = o.there; owner = i.owned x o.there; below = t; apart = o.alone into c }
 
 -- it stays such where others are placed below a newer node
-pub old-still : (count : ℕ) (into : NodeName) (p q : Part) → count ≤ into.number → Changed (Some into) p q → (x : NodeName) → OldIn count p x → OldIn count q x
-old-still count into p q h c x o = record { there = still c x o.there; alone = λ z k. c.apart x z o.there (o.alone into h) (o.alone z k) }
+pub old-still : {p q : Part} (count : ℕ) (into : NodeName) → count ≤ into.number → Changed (Some into) p q → (x : NodeName) → OldIn count p x → OldIn count q x
+old-still count into h c x o = record { there = still c x o.there; alone = λ z k. c.apart x z o.there (o.alone into h) (o.alone z k) }
 
 -- of all pieces
 pub whole-then : (P Q : NodeName → Type 0) → ((x : NodeName) → P x → Q x) → (pieces : Pieces) → AllWhole P pieces → AllWhole Q pieces
@@ -78,7 +78,7 @@ leads-making_below into n p e i t =
     let spot = Some into in
     let first = leads-one p (make n) i tt in
     leads-then spot p (make n ∷ []) (inserting observed n.name into None (part_step p (make n))) (leads-eased spot p (make n ∷ []) first)
-    (leads-inserting observed n.name into None (part_step p (make n)) first.changed.part
+    (leads-inserting observed n.name into None first.changed.part
     (subst (MayGo into (part_step p (make n))) (sym e) (new-may p n into i t)))
 
 -- A node that may take pieces of old nodes, which are those with numbers below the count: it is there, and is no old one.
@@ -98,7 +98,7 @@ take-still {count} {into} {p} {q} rest t old c =
       counted = let a = c.count in let k = t.counted in omega arith;
       new = t.new;
       there = still c into t.there;
-      old = whole-then (OldIn count p) (OldIn count q) (old-still count into p q t.new c) rest old;
+      old = whole-then (OldIn count p) (OldIn count q) (old-still count into t.new c) rest old;
     }
 
 -- a node that is made below it may take the old ones too
@@ -110,10 +110,10 @@ take-below inner t old c made =
 -- pieces that are taken into a newer node
 pub leads-taking : {count : ℕ} (pieces : Pieces) {into : NodeName} {p : Part} → CanTake count pieces into p → Leads (Some into) p (taking into pieces p)
 leads-taking nothing {into} {p} t = leads-nothing (Some into) p t.part
-leads-taking {count} (whole x rest) {into} {p} t =
+leads-taking (whole x rest) {into} {p} t =
     let o = t.old in
     leads-plan (Some into) (inserting observed x into None) (taking into rest) p
-    (leads-inserting observed x into None p t.part (old-may count p x into t.part o.0 t.there t.new))
+    (leads-inserting observed x into None t.part (old-may into t.part o.0 t.there t.new))
     (λ q c. leads-taking rest (take-still rest t o.1 c))
 leads-taking (cut x from to rest) {into} {p} t =
     let o = t.old in
@@ -140,7 +140,7 @@ leads-taking (clone x inner rest) {into} {p} t =
     new-made =
         let n = with_name (next_name p) (node_in p.trees x) in
         let first = leads-one p (make n) t.part tt in
-        still (leads-inserting observed n.name into None (part_step p (make n)) first.changed.part (new-may p n into t.part t.there)).changed (next_name p)
+        still (leads-inserting observed n.name into None first.changed.part (new-may p n into t.part t.there)).changed (next_name p)
         (new-there p n)
 
     leads-both : {into new : NodeName} {p : Part} {one two : List Step} → times_in p.trees new ≡ 0 → Leads (Some into) p one →
@@ -286,7 +286,7 @@ leads-inserting_before {node} {parent} {p} k reference s m =
     let i = s.part in
     let ts = p.trees in
     let end = at parent (option_map_or (index_of ts) reference (length_of ts parent) + (if is_fragment (kind_of ts node) then length_of ts node else 1)) in
-    let first = leads-inserting observed node parent (reference_for ts node reference) p i m in
+    let first = leads-inserting observed node parent (reference_for ts node reference) i m in
     let q = after p (pre_inserting node parent reference p) in
     leads-then (Some parent) p (pre_inserting node parent reference p) (ending_at k end q) first
     (leads-eased (Some parent) q (ending_at k end q)
@@ -332,10 +332,10 @@ parent-root p range i =
         up (Some y) e = root-parent_of p.trees i.unique x y e ∙ h
 
 -- an insertion into a range
-pub leads-inserting_into_range : (k : ℕ) (range : Range NodeName) (node : NodeName) (p : Part) → IsPart p → HasTables p →
+pub leads-inserting_into_range : {range : Range NodeName} {p : Part} (k : ℕ) (node : NodeName) → IsPart p → HasTables p →
     range_at p k ≡ Some range → MayGo (insertion_parent p.trees range) p node →
     Leads (Some (insertion_parent p.trees range)) p (inserting_into_range k range node p)
-leads-inserting_into_range k range node p i h at_k m =
+leads-inserting_into_range {range} {p} k node i h at_k m =
     let starts : IsStart k (insertion_parent p.trees range) p = record {
       part = i;
       tables = h;

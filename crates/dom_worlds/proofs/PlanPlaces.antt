@@ -342,9 +342,9 @@ leads-emptied node p i = from (is_fragment (kind_of p.trees node))
     from false = leads-nothing None p i
 
 -- an insertion
-pub leads-inserting : (how : Observing) (node parent : NodeName) (before : Option NodeName) (p : Part) → IsPart p → MayGo parent p node →
+pub leads-inserting : {p : Part} (how : Observing) (node parent : NodeName) (before : Option NodeName) → IsPart p → MayGo parent p node →
     Leads (Some parent) p (inserting how node parent before p)
-leads-inserting how node parent before p i m =
+leads-inserting {p = p} how node parent before i m =
     let spot = Some parent in
     let moved = placed_nodes p.trees node in
     let told = telling how (child_list parent moved [] (sibling_before p.trees parent before) before) in
@@ -367,4 +367,4 @@ leads-inserting how node parent before p i m =
 
 -- insertions of nodes behind the children of one
 pub inserting-each : (x : NodeName) → LeadsEach (Some x) (MayGo x) (λ y. inserting suppressed y x None)
-inserting-each x = record { leads = λ p y i m. leads-inserting suppressed y x None p i m; stays = may-still x }
+inserting-each x = record { leads = λ p y i m. leads-inserting suppressed y x None i m; stays = may-still x }

@@ -49,7 +49,7 @@ leads-replacing parent node child p i m =
     leads-plan spot (removing suppressed child and_then inserting suppressed node parent reference) (doing told) p
     (leads-plan spot (removing suppressed child) (inserting suppressed node parent reference) p
     (leads-eased spot p (removing suppressed child p) (leads-removing suppressed child p i))
-    (λ q c. leads-inserting suppressed node parent reference q c.part (may-still parent p q node c m)))
+    (λ q c. leads-inserting suppressed node parent reference c.part (may-still parent p q node c m)))
     (λ q c. leads-eased spot q (told ∷ []) (leads-one q told c.part tt))
 
 -- two steps that place nothing
@@ -115,7 +115,7 @@ pub record MayFollow (x parent : NodeName) (q : Part) (new : NodeName) : Type 0 
 follows : {x parent : NodeName} {q : Part} {new : NodeName} (before : Option NodeName) → IsPart q → MayFollow x parent q new →
     let r = after q (inserting observed new parent before q) in root_of r.trees new ≡ root_of r.trees x
 follows {x} {parent} {q} {new} before i f =
-    let put = leads-inserting observed new parent before q i f.may in
+    let put = leads-inserting observed new parent before i f.may in
     let r = after q (inserting observed new parent before q) in
     let u = put.changed.part.unique in
     let a = child-parent r new parent put.changed.part (child-inserted observed before i f.may f.plain) in
@@ -148,7 +148,7 @@ leads-tail {x} {new} {q} offset (Some parent) i t m =
     let before = next_sibling q.trees x in
     let f = m parent refl in
     let steps = inserting observed new parent before q in
-    let put = leads-inserting observed new parent before q i f.may in
+    let put = leads-inserting observed new parent before i f.may in
     let r = after q steps in
     leads-then spot q steps (last ∷ []) put
     (leads-eased spot r (last ∷ []) (leads-one r last put.changed.part (still put.changed new t, follows before i f)))

@@ -104,7 +104,7 @@ module _ (xs : List NodeName) (y : NodeName) (count : ℕ) where
       let q = part_step p (make n) in
       let first = leads-one p (make n) i tt in
       let may : MayGo into q n.name = subst (MayGo into q) (sym e) (new-may p n into i t) in
-      let put = leads-inserting observed n.name into None q first.changed.part may in
+      let put = leads-inserting observed n.name into None first.changed.part may in
       let not_y : IsNot y n.name = ap (λ z. name_eq z y) e ∙ next-not p i y c.1 in
       let qc = all-then (λ x. IsChild x y p) (λ x. IsChild x y q) (λ x g. child-make x y n p g) xs c.0 in
       let made : node_in q.trees (next_name p) ≡ with_name (next_name p) n = node-new (with_name (next_name p) n) p.trees (next-absent p i) in
@@ -130,9 +130,9 @@ module _ (xs : List NodeName) (y : NodeName) (count : ℕ) where
   room-taking nothing into p may = (may.room, may.children)
   room-taking (whole x rest) into p may =
       let i = may.take.part in
-      let goes = old-may count p x into i may.take.old.0 may.take.there may.take.new in
+      let goes = old-may into i may.take.old.0 may.take.there may.take.new in
       let one = inserting observed x into None p in
-      let l = leads-inserting observed x into None p i goes in
+      let l = leads-inserting observed x into None i goes in
       let f = may.fit in
       let f0 = f.0 in
       let c = may.children in

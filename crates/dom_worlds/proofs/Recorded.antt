@@ -310,7 +310,7 @@ tells-replacing {parent} {node} {p} child i m t =
     tells-plan (removing suppressed child and_then inserting suppressed node parent reference)
     (doing (queue_record (child_list parent moved (child ∷ []) front reference)))
     (leads-plan spot (removing suppressed child) (inserting suppressed node parent reference) p gone
-    (λ q c. leads-inserting suppressed node parent reference q c.part (may-still parent p q node c m)))
+    (λ q c. leads-inserting suppressed node parent reference c.part (may-still parent p q node c m)))
     (tells-plan (removing suppressed child) (inserting suppressed node parent reference) gone (tells-removing suppressed child p i)
     (λ q c. tells-inserting suppressed reference c.part (may-still parent p q node c m) (still-if c reference there)))
     (λ q c. (

@@ -42,11 +42,11 @@ tells-making_below into n p e i t =
 -- pieces that are taken into a newer node
 tells-taking : {count : ℕ} (pieces : Pieces) {into : NodeName} {p : Part} → CanTake count pieces into p → TellsIn p (taking into pieces p)
 tells-taking nothing t = tt
-tells-taking {count} (whole x rest) {into} {p} t =
+tells-taking (whole x rest) {into} {p} t =
     let i = t.part in
     let o = t.old in
-    let may = old-may count p x into i o.0 t.there t.new in
-    tells-plan (inserting observed x into None) (taking into rest) (leads-inserting observed x into None p i may)
+    let may = old-may into i o.0 t.there t.new in
+    tells-plan (inserting observed x into None) (taking into rest) (leads-inserting observed x into None i may)
     (tells-inserting observed None i may tt) (λ q c. tells-taking rest (take-still rest t o.1 c))
 tells-taking (cut x from to rest) {into} {p} t =
     let i = t.part in
@@ -69,7 +69,7 @@ tells-taking (clone x inner rest) {into} {p} t =
     let q = after p one in
     let two = taking new inner q in
     let first = leads-one p (make n) i tt in
-    let there : HasNode q new = still (leads-inserting observed n.name into None (part_step p (make n)) first.changed.part
+    let there : HasNode q new = still (leads-inserting observed n.name into None first.changed.part
     (new-may p n into i t.there)).changed new (new-there p n) in
     let below = take-below inner t o.1 l.changed there in
     let lq = leads-taking inner below in

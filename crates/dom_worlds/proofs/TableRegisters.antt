@@ -170,12 +170,12 @@ holds-effect p i h f Command.new_fragment r = (tt, tt)
 holds-effect p i h f Command.new_document r = (tt, tt)
 holds-effect p i h f (Command.append a x) r =
     let k = part-accepted p (Command.append a x) r in
-    (leads-inserting observed (named p x) (named p a) None p i
+    (leads-inserting observed (named p x) (named p a) None i
     (named-may x (named p a) i (exists-second p a x true true k.exist)
     (exists-first p a (has_node p.trees (named p x) && true) true k.exist) (insertion-apart p.trees (named p a) (named p x) None k.own))).made
 holds-effect p i h f (Command.insert a x c) r =
     let k = part-accepted p (Command.insert a x c) r in
-    (leads-inserting observed (named p x) (named p a) _ p i
+    (leads-inserting observed (named p x) (named p a) _ i
     (named-may x (named p a) i (exists-second p a x (has_node p.trees (named p c) && true) true k.exist)
     (exists-first p a (has_node p.trees (named p x) && (has_node p.trees (named p c) && true)) true k.exist)
     (insertion-apart p.trees (named p a) (named p x) (Some (named p c)) k.own))).made
@@ -237,7 +237,7 @@ holds-effect p i h f (Command.delete k) r =
 holds-effect p i h f (Command.insert_node k x) r =
     let a = part-accepted p (Command.insert_node k x) r in
     range-made p k (λ range. inserting_into_range k range (named p x) p)
-    (λ range e. (leads-inserting_into_range k range (named p x) p i h e
+    (λ range e. (leads-inserting_into_range k (named p x) i h e
     (insert_node-may i h a e)).made)
 holds-effect p i h f (Command.iterator_new x w) r =
     let a = part-accepted p (Command.iterator_new x w) r in

@@ -54,13 +54,20 @@ pub record Frame (w : World) : Type 0 where
   pub first : IsNodeIn (part_of w Page).trees (node_of Page 0)
   pub signalled : AllByRecursion (IsNodeAt w) w.signalled
 
--- what holds of another part and of all others
-pub each-part : (P : Owner → Part → Type 0) (w : World) (p : Part) (o : Owner) → p.owner ≡ o → P o p → ((x : Owner) → P x (part_of w x)) →
-    (x : Owner) → P x (part_of (with_part w p) x)
-each-part P w p o e h g x =
-    by_cases (owner_eq o x)
-    (λ k. let same = owner_eq-true o x k in subst (P x) (sym (part_of-with_part w p x (e ∙ same))) (subst (λ y. P y p) same h))
-    (λ k. subst (P x) (sym (part_of-with_part-other w p x (λ s. owner_eq-false o x k (sym e ∙ s)))) (g x))
+-- What holds of a part of a world in which another part is written.
+module _ (P : Owner → Part → Type 0) (w : World) (p : Part) where
+  -- of the part that is written
+  own-part : (o x : Owner) → p.owner ≡ o → o ≡ x → P o p → P x (part_of (with_part w p) x)
+  own-part o x e same h = subst (P x) (sym (part_of-with_part w p x (e ∙ same))) (subst (λ y. P y p) same h)
+
+  -- of another
+  other-part : (x : Owner) → (p.owner ≡ x → ⊥) → P x (part_of w x) → P x (part_of (with_part w p) x)
+  other-part x off h = subst (P x) (sym (part_of-with_part-other w p x off)) h
+
+  -- of each
+  pub each-part : (o : Owner) → p.owner ≡ o → P o p → ((x : Owner) → P x (part_of w x)) → (x : Owner) → P x (part_of (with_part w p) x)
+  each-part o e h g x =
+      by_cases (owner_eq o x) (λ k. own-part o x e (owner_eq-true o x k) h) (λ k. other-part x (λ s. owner_eq-false o x k (sym e ∙ s)) (g x))
 
 -- another part with more nodes
 pub grow-with_part : (w : World) (p : Part) (o : Owner) → p.owner ≡ o → Grows (part_of w o).trees p.trees → AllGrow w (with_part w p)

@@ -103,7 +103,7 @@ room-tail {x} {offset} {q} {new} {o = Some parent} e t m =
     let may = (m parent refl).may in
     let below = index-below q.trees x parent t.part.unique e in
     let opened = kids-open q parent t.room (omega arith) in
-    let c = (leads-inserting observed new parent before q t.part may).changed in
+    let c = (leads-inserting observed new parent before t.part may).changed in
     let more = kids-plain observed new parent before q t.part may t.root t.plain in
     room-then nowhere q steps (split_at x offset new parent index ∷ [])
     (room-split (room-inserting observed before (record { part = t.part; room = t.room }) (record { go = may; open_parent = opened })) parent index x offset new
@@ -359,7 +359,7 @@ room-replaced {x} {made} {added} {p} old m k h =
     let room_r : HasRoom nowhere r = room-then nowhere p made gone (room-removals nowhere suppressed old q a.changed.part h) in
     let MayGoIn : Part → NodeName → Type 0 = λ q y. MayGo x q y × HasNode q x × IsOpen q x in
     let each : LeadsEach spot MayGoIn (λ y. inserting suppressed y x None) = record {
-      leads = λ q y j n. leads-inserting suppressed y x None q j n.0;
+      leads = λ q y j n. leads-inserting suppressed y x None j n.0;
       stays = λ q r y c n. (may-still x q r y c n.0, still c x n.1, open-still c x n.1 n.2);
     } in
     let open_r = open-still c x there (open-still a.changed x t k) in
