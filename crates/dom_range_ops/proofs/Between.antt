@@ -118,8 +118,9 @@ module _ (ts : Trees) (r : Range NodeName) (bounded : IsBounded ts r) where
       ∙ elim (In-parts r.end.node (ahead_of ts top x) (x ∷ beyond ts top x) i) [
         | inl j ↦ elim (ahead-apart ts bounded.ends.once top x r.end.node w j) [
           | inl p ↦
-              absurd (true≢false (sym (before-beside ts r.end.node x r.end.offset 0 p.common p.first p.second p.first_rest p.second_rest
-              p.first_place p.second_place (λ same. let l = p.less in omega (arith, l, same)) ∙ lt-ltb p.first p.second p.less) ∙ m.end))
+              absurd (true≢false (sym (before-beside ts r.end.node x r.end.offset 0 p.common p.first p.second
+              (p.first_rest, p.first_place) (p.second_rest, p.second_place) (λ same. let l = p.less in omega (arith, l, same)) ∙
+              lt-ltb p.first p.second p.less) ∙ m.end))
           | inr u ↦
               before-up ts x r.end.node (length_of ts x) r.end.offset u.child u.rest u.place
               ∙ lt-ltb u.child r.end.offset (leb-false r.end.offset u.child (sym (before-down ts r.end.node x r.end.offset 0 u.child u.rest u.place) ∙ m.end))
@@ -128,8 +129,8 @@ module _ (ts : Trees) (r : Range NodeName) (bounded : IsBounded ts r) where
           | inl same ↦ absurd (other (sym same))
           | inr g ↦
               let p = behind-apart ts bounded.ends.once top x r.end.node w g in
-              before-beside ts x r.end.node (length_of ts x) r.end.offset p.common p.first p.second p.first_rest p.second_rest p.first_place
-              p.second_place (λ same. let l = p.less in omega (arith, l, same)) ∙ lt-ltb p.first p.second p.less
+              before-beside ts x r.end.node (length_of ts x) r.end.offset p.common p.first p.second
+              (p.first_rest, p.first_place) (p.second_rest, p.second_place) (λ same. let l = p.less in omega (arith, l, same)) ∙ lt-ltb p.first p.second p.less
         ]
       ]
 

@@ -103,8 +103,9 @@ module _ (ts : Trees) (r : Range NodeName) (bounded : IsBounded ts r) where
       ∙ elim (In-parts r.end.node (ahead_of ts root x) (inclusive_descendants ts x ++ beyond ts root x) i) [
         | inl j ↦ elim (ahead-apart ts bounded.ends.once root x r.end.node w j) [
           | inl p ↦
-              absurd (true≢false (sym (before-beside ts r.end.node x r.end.offset 0 p.common p.first p.second p.first_rest p.second_rest
-              p.first_place p.second_place (λ same. let l = p.less in omega (arith, l, same)) ∙ lt-ltb p.first p.second p.less) ∙ m.end))
+              absurd (true≢false (sym (before-beside ts r.end.node x r.end.offset 0 p.common p.first p.second
+              (p.first_rest, p.first_place) (p.second_rest, p.second_place) (λ same. let l = p.less in omega (arith, l, same)) ∙
+              lt-ltb p.first p.second p.less) ∙ m.end))
           | inr u ↦
               before-up ts x r.end.node (length_of ts x) r.end.offset u.child u.rest u.place
               ∙ lt-ltb u.child r.end.offset (leb-false r.end.offset u.child (sym (before-down ts r.end.node x r.end.offset 0 u.child u.rest u.place) ∙ m.end))
@@ -113,8 +114,8 @@ module _ (ts : Trees) (r : Range NodeName) (bounded : IsBounded ts r) where
           | inl g ↦ absurd (true≢false (sym (inside-test ts x r.end.node bounded.ends.once (stands_in ts root x w) g) ∙ other))
           | inr g ↦
               let p = behind-apart ts bounded.ends.once root x r.end.node w g in
-              before-beside ts x r.end.node (length_of ts x) r.end.offset p.common p.first p.second p.first_rest p.second_rest p.first_place
-              p.second_place (λ same. let l = p.less in omega (arith, l, same)) ∙ lt-ltb p.first p.second p.less
+              before-beside ts x r.end.node (length_of ts x) r.end.offset p.common p.first p.second
+              (p.first_rest, p.first_place) (p.second_rest, p.second_place) (λ same. let l = p.less in omega (arith, l, same)) ∙ lt-ltb p.first p.second p.less
         ]
       ]
 

@@ -142,8 +142,9 @@ module _ (ts : Trees) (r : Range NodeName) (bounded : IsBounded ts r) where
       elim (In-parts r.start.node (ahead_of ts top y) (inclusive_descendants ts y ++ beyond ts top y) k) [
         | inl g ↦ elim (ahead-apart ts bounded.ends.once top y r.start.node w g) [
           | inl p ↦
-              absurd (true≢false (sym (before-beside ts r.start.node y r.start.offset 0 p.common p.first p.second p.first_rest p.second_rest
-              p.first_place p.second_place (λ same. let l = p.less in omega (arith, l, same)) ∙ lt-ltb p.first p.second p.less) ∙ off))
+              absurd (true≢false (sym (before-beside ts r.start.node y r.start.offset 0 p.common p.first p.second
+              (p.first_rest, p.first_place) (p.second_rest, p.second_place) (λ same. let l = p.less in omega (arith, l, same)) ∙
+              lt-ltb p.first p.second p.less) ∙ off))
           | inr u ↦
               let less = leb-false r.start.offset u.child (sym (before-down ts r.start.node y r.start.offset 0 u.child u.rest u.place) ∙ off) in
               let e = end-place w j.1 in
@@ -157,8 +158,8 @@ module _ (ts : Trees) (r : Range NodeName) (bounded : IsBounded ts r) where
               let p = behind-apart ts bounded.ends.once top y r.start.node w m in
               let e = end-place w j.1 in
               absurd (true≢false (sym (before-beside ts r.end.node r.start.node r.end.offset r.start.offset p.common p.first p.second
-              (p.first_rest ++ e.0) p.second_rest
-              (e.1 ∙ (ap (λ path. path ++ e.0) p.first_place ∙ append_assoc p.common (p.first ∷ p.first_rest) e.0)) p.second_place
+              (p.first_rest ++ e.0, e.1 ∙ (ap (λ path. path ++ e.0) p.first_place ∙ append_assoc p.common (p.first ∷ p.first_rest) e.0))
+              (p.second_rest, p.second_place)
               (λ same. let l = p.less in omega (arith, l, same)) ∙ lt-ltb p.first p.second p.less) ∙ ordered))
         ]
       ]

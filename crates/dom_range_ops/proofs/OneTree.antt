@@ -127,13 +127,14 @@ module _ (ts : Trees) (r : Range NodeName) (ends : HasOneTree ts r) where
       (path-tree ts ends.once r.start.node r.end.node ends.start ends.end ends.one_root ∙ ap first_of at_end)) in
       elim (cases_Bool (eqb u.0 v.0)) [
         | inl same ↦
-            place-same ts 0 (root_of ts y) (root_of ts r.start.node) ends.once u.4 v.4 (u.3 ∙ (ap (λ m. Some (m ∷ [])) (eqb-true u.0 v.0 same) ∙ sym v.3))
+            place-same ts 0 (root_of ts y) (root_of ts r.start.node) record { once = ends.once; first = u.4; second = v.4 }
+            (u.3 ∙ (ap (λ m. Some (m ∷ [])) (eqb-true u.0 v.0 same) ∙ sym v.3))
         | inr other ↦
             let off : u.0 ≡ v.0 → ⊥ = λ same. true≢false (sym (eq-eqb u.0 v.0 same) ∙ other) in
             let first = ltb-true v.0 u.0
-            (sym (before-beside ts r.start.node y r.start.offset 0 [] v.0 u.0 v.1 u.1 at_start at_y (λ same. off (sym same))) ∙ parts.0) in
+            (sym (before-beside ts r.start.node y r.start.offset 0 [] v.0 u.0 (v.1, at_start) (u.1, at_y) (λ same. off (sym same))) ∙ parts.0) in
             let second = ltb-true u.0 w.0
-            (sym (before-beside ts y r.end.node (length_of ts y) r.end.offset [] u.0 w.0 u.1 w.1 at_y at_end
+            (sym (before-beside ts y r.end.node (length_of ts y) r.end.offset [] u.0 w.0 (u.1, at_y) (w.1, at_end)
             (λ same. off (same ∙ sym one))) ∙ parts.1) in
             absurd (omega arith)
       ]

@@ -165,9 +165,9 @@ module _ (ts : Trees) (once : Once ts) where
               let kids = l.kids ∙ ap (λ xs. l.front ++ (xs ++ l.back)) s.alone in
               let q = under-kid ts once p s.child b.node l.front {back = l.back} record { there = h; kids = kids } s.inside in
               record {
-                before = λ n. before-beside ts z b.node n b.offset (place_of ts p) index (length l.front) r.0 q.0 r.1 q.1
+                before = λ n. before-beside ts z b.node n b.offset (place_of ts p) index (length l.front) r q
                     (λ e. omega (arith, low, e)) ∙ lt-ltb index (length l.front) low;
-                apart = λ n. before-beside ts b.node z b.offset n (place_of ts p) (length l.front) index q.0 r.0 q.1 r.1
+                apart = λ n. before-beside ts b.node z b.offset n (place_of ts p) (length l.front) index q r
                     (λ e. omega (arith, low, e)) ∙ le-ltb (length l.front) index (omega (arith, low));
               }
         ]
@@ -194,10 +194,10 @@ module _ (ts : Trees) (once : Once ts) where
               let one = ap (length {A = NodeName}) s.alone in
               record {
                 after = λ n.
-                    before-beside ts b.node z b.offset n (place_of ts p) (length l.front) index q.0 r.0 q.1 r.1 (λ e. omega (arith, long, more, one, e))
+                    before-beside ts b.node z b.offset n (place_of ts p) (length l.front) index q r (λ e. omega (arith, long, more, one, e))
                     ∙ lt-ltb (length l.front) index (omega (arith, long, more, one));
                 apart = λ n.
-                    before-beside ts z b.node n b.offset (place_of ts p) index (length l.front) r.0 q.0 r.1 q.1 (λ e. omega (arith, long, more, one, e))
+                    before-beside ts z b.node n b.offset (place_of ts p) index (length l.front) r q (λ e. omega (arith, long, more, one, e))
                     ∙ le-ltb index (length l.front) (omega (arith, long, more, one));
               }
         ]

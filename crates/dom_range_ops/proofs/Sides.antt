@@ -42,7 +42,8 @@ module _ (ts : Trees) (top : NodeName) (b : Boundary NodeName) (w : IsWithin ts 
   before-no y i = elim (In-parts y (ahead_of ts top b.node) (b.node ∷ joined ts (take b.offset (children_of ts b.node))) i) [
     | inl j ↦ elim (ahead-apart ts w.once top b.node y w j) [
       | inl k ↦
-          before-beside ts b.node y b.offset 0 k.common k.second k.first k.second_rest k.first_rest k.second_place k.first_place
+          before-beside ts b.node y b.offset 0 k.common k.second k.first
+          (k.second_rest, k.second_place) (k.first_rest, k.first_place)
           (λ same. let l = k.less in omega (arith, l, same))
           ∙ le-ltb k.second k.first (let l = k.less in omega (arith, l))
       | inr k ↦ before-up ts b.node y b.offset 0 k.child k.rest k.place ∙ le-ltb k.child 0 (omega arith)
@@ -86,6 +87,7 @@ module _ (ts : Trees) (top : NodeName) (b : Boundary NodeName) (w : IsWithin ts 
         before-down ts b.node y b.offset 0 (length front) r.0 r.1 ∙ le-leb b.offset (length front) (omega (arith, longer, left, few, both))
     | inr j ↦
         let k = behind-apart ts w.once top b.node y w j in
-        before-beside ts b.node y b.offset 0 k.common k.first k.second k.first_rest k.second_rest k.first_place k.second_place
+        before-beside ts b.node y b.offset 0 k.common k.first k.second
+        (k.first_rest, k.first_place) (k.second_rest, k.second_place)
         (λ same. let l = k.less in omega (arith, l, same)) ∙ lt-ltb k.first k.second k.less
   ]

@@ -53,6 +53,10 @@ lt-le i c = elim (cases_Bool (nat_le i c)) [
   | inr e ↦ false_from_ne_true (ltb (2 * i) (2 * c + 1)) (λ h. omega (arith, leb-false i c e, ltb-true (2 * i) (2 * c + 1) h)) ∙ sym e
 ]
 
+-- a place that begins with the numbers given and goes on with another
+abbrev pub GoesOn : Trees → NodeName → List ℕ → ℕ → Type 0
+GoesOn ts x zs c = (rest : List ℕ) × (place_of ts x ≡ zs ++ c ∷ rest)
+
 module _ (ts : Trees) (x y : NodeName) (i j : ℕ) where
   -- points of one node
   pub before-same : x ≡ y → is_before ts (at x i) (at y j) ≡ nat_lt i j
@@ -83,11 +87,12 @@ module _ (ts : Trees) (x y : NodeName) (i j : ℕ) where
       ∙ (before-parted (2 * i) (odd c) [] (map odd rest ++ (2 * j) ∷ []) (λ f. omega (arith, f)) ∙ lt-le i c))))
 
   -- they stand in or below different children of one node
-  pub before-beside : (zs : List ℕ) (c d : ℕ) (xs ys : List ℕ) → place_of ts x ≡ zs ++ c ∷ xs → place_of ts y ≡ zs ++ d ∷ ys → (c ≡ d → ⊥) →
-      is_before ts (at x i) (at y j) ≡ nat_lt c d
-  before-beside zs c d xs ys e f off =
-      ap (λ ps. list_before (map odd ps ++ (2 * i) ∷ []) (map odd (place_of ts y) ++ (2 * j) ∷ [])) e
-      ∙ (ap (λ ps. list_before (map odd (zs ++ c ∷ xs) ++ (2 * i) ∷ []) (map odd ps ++ (2 * j) ∷ [])) f
+  pub before-beside : (zs : List ℕ) (c d : ℕ) → GoesOn ts x zs c → GoesOn ts y zs d → (c ≡ d → ⊥) → is_before ts (at x i) (at y j) ≡ nat_lt c d
+  before-beside zs c d one two off =
+      let xs = one.0 in
+      let ys = two.0 in
+      ap (λ ps. list_before (map odd ps ++ (2 * i) ∷ []) (map odd (place_of ts y) ++ (2 * j) ∷ [])) one.1
+      ∙ (ap (λ ps. list_before (map odd (zs ++ c ∷ xs) ++ (2 * i) ∷ []) (map odd ps ++ (2 * j) ∷ [])) two.1
       ∙ (ap (λ ps. list_before ps (map odd (zs ++ d ∷ ys) ++ (2 * j) ∷ [])) (shape c xs i)
       ∙ (ap (list_before (map odd zs ++ odd c ∷ (map odd xs ++ (2 * i) ∷ []))) (shape d ys j)
       ∙ (before-common (map odd zs) (odd c ∷ (map odd xs ++ (2 * i) ∷ [])) (odd d ∷ (map odd ys ++ (2 * j) ∷ []))

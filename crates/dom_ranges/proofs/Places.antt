@@ -53,45 +53,61 @@ place-present (tree n c r) k x once (inr (inr h)) =
 apart_heads : (k m : ℕ) (xs ys : List ℕ) → k < m → k ∷ xs ≡ m ∷ ys → ⊥
 apart_heads k m xs ys l e = let f : k ≡ m = cc in omega (arith, f, l)
 
--- nodes at one place are one
-pub place-same : (ts : Trees) (k : ℕ) (x y : NodeName) → Once ts → Has ts x → Has ts y → place_from k ts x ≡ place_from k ts y → x ≡ y
-place-same none k x y once h i e = absurd h
-place-same (tree n c r) k x y once (inl h) (inl i) e = sym h ∙ i
-place-same (tree n c r) k x y once (inl h) (inr (inl i)) e =
-    let w = place-present c 0 y once.3 i in
-    let f : Some (k ∷ []) ≡ Some (k ∷ w.0 ∷ w.1) = sym (place-here n c r k x h) ∙ (e ∙ place-below n c r k y (w.0 ∷ w.1) once i w.2) in
-    cc
-place-same (tree n c r) k x y once (inl h) (inr (inr i)) e =
-    let w = place-present r (k + 1) y once.4 i in
-    let f : Some (k ∷ []) ≡ Some (w.0 ∷ w.1) = sym (place-here n c r k x h) ∙ (e ∙ (place-beside n c r k y once i ∙ w.2)) in
-    absurd (apart_heads k w.0 [] w.1 (omega (arith, w.3)) (same_Some _ _ f))
-place-same (tree n c r) k x y once (inr (inl h)) (inl i) e =
-    let w = place-present c 0 x once.3 h in
-    let f : Some (k ∷ []) ≡ Some (k ∷ w.0 ∷ w.1) = sym (place-here n c r k y i) ∙ (sym e ∙ place-below n c r k x (w.0 ∷ w.1) once h w.2) in
-    cc
-place-same (tree n c r) k x y once (inr (inl h)) (inr (inl i)) e =
-    let v = place-present c 0 x once.3 h in
-    let w = place-present c 0 y once.3 i in
-    let f : Some (k ∷ v.0 ∷ v.1) ≡ Some (k ∷ w.0 ∷ w.1) =
-    sym (place-below n c r k x (v.0 ∷ v.1) once h v.2) ∙ (e ∙ place-below n c r k y (w.0 ∷ w.1) once i w.2) in
-    let g : v.0 ∷ v.1 ≡ w.0 ∷ w.1 = cc in
-    place-same c 0 x y once.3 h i (v.2 ∙ (ap Some g ∙ sym w.2))
-place-same (tree n c r) k x y once (inr (inl h)) (inr (inr i)) e =
-    let v = place-present c 0 x once.3 h in
-    let w = place-present r (k + 1) y once.4 i in
-    let f : Some (k ∷ v.0 ∷ v.1) ≡ Some (w.0 ∷ w.1) = sym (place-below n c r k x (v.0 ∷ v.1) once h v.2) ∙ (e ∙ (place-beside n c r k y once i ∙ w.2)) in
-    absurd (apart_heads k w.0 (v.0 ∷ v.1) w.1 (omega (arith, w.3)) (same_Some _ _ f))
-place-same (tree n c r) k x y once (inr (inr h)) (inl i) e =
-    let w = place-present r (k + 1) x once.4 h in
-    let f : Some (k ∷ []) ≡ Some (w.0 ∷ w.1) = sym (place-here n c r k y i) ∙ (sym e ∙ (place-beside n c r k x once h ∙ w.2)) in
-    absurd (apart_heads k w.0 [] w.1 (omega (arith, w.3)) (same_Some _ _ f))
-place-same (tree n c r) k x y once (inr (inr h)) (inr (inl i)) e =
-    let v = place-present c 0 y once.3 i in
-    let w = place-present r (k + 1) x once.4 h in
-    let f : Some (k ∷ v.0 ∷ v.1) ≡ Some (w.0 ∷ w.1) = sym (place-below n c r k y (v.0 ∷ v.1) once i v.2) ∙ (sym e ∙ (place-beside n c r k x once h ∙ w.2)) in
-    absurd (apart_heads k w.0 (v.0 ∷ v.1) w.1 (omega (arith, w.3)) (same_Some _ _ f))
-place-same (tree n c r) k x y once (inr (inr h)) (inr (inr i)) e =
-    place-same r (k + 1) x y once.4 h i (sym (place-beside n c r k x once h) ∙ (e ∙ place-beside n c r k y once i))
+-- Two nodes of trees in which each name stands once.
+pub record AreIn (ts : Trees) (x y : NodeName) : Type 0 where
+  pub once : Once ts
+  pub first : Has ts x
+  pub second : Has ts y
+
+-- at one place they are one
+pub place-same : (ts : Trees) (k : ℕ) (x y : NodeName) → AreIn ts x y → place_from k ts x ≡ place_from k ts y → x ≡ y
+place-same none k x y in_it e = absurd in_it.first
+place-same (tree n c r) k x y in_it e =
+    by (λ h i f. place-same c 0 x y record { once = in_it.once.3; first = h; second = i } f)
+    (λ h i f. place-same r (k + 1) x y record { once = in_it.once.4; first = h; second = i } f) in_it.first in_it.second
+  where
+    once : Once (tree n c r)
+    once = in_it.once
+
+    by : (Has c x → Has c y → place_from 0 c x ≡ place_from 0 c y → x ≡ y) → (Has r x → Has r y → place_from (k + 1) r x ≡ place_from (k + 1) r y → x ≡ y) →
+        Has (tree n c r) x → Has (tree n c r) y → x ≡ y
+    by lower later (inl h) (inl i) = sym h ∙ i
+    by lower later (inl h) (inr (inl i)) =
+        let w = place-present c 0 y once.3 i in
+        let f : Some (k ∷ []) ≡ Some (k ∷ w.0 ∷ w.1) = sym (place-here n c r k x h) ∙ (e ∙ place-below n c r k y (w.0 ∷ w.1) once i w.2) in
+        cc
+    by lower later (inl h) (inr (inr i)) =
+        let w = place-present r (k + 1) y once.4 i in
+        let f : Some (k ∷ []) ≡ Some (w.0 ∷ w.1) = sym (place-here n c r k x h) ∙ (e ∙ (place-beside n c r k y once i ∙ w.2)) in
+        absurd (apart_heads k w.0 [] w.1 (omega (arith, w.3)) (same_Some _ _ f))
+    by lower later (inr (inl h)) (inl i) =
+        let w = place-present c 0 x once.3 h in
+        let f : Some (k ∷ []) ≡ Some (k ∷ w.0 ∷ w.1) = sym (place-here n c r k y i) ∙ (sym e ∙ place-below n c r k x (w.0 ∷ w.1) once h w.2) in
+        cc
+    by lower later (inr (inl h)) (inr (inl i)) =
+        let v = place-present c 0 x once.3 h in
+        let w = place-present c 0 y once.3 i in
+        let f : Some (k ∷ v.0 ∷ v.1) ≡ Some (k ∷ w.0 ∷ w.1) =
+        sym (place-below n c r k x (v.0 ∷ v.1) once h v.2) ∙ (e ∙ place-below n c r k y (w.0 ∷ w.1) once i w.2) in
+        let g : v.0 ∷ v.1 ≡ w.0 ∷ w.1 = cc in
+        lower h i (v.2 ∙ (ap Some g ∙ sym w.2))
+    by lower later (inr (inl h)) (inr (inr i)) =
+        let v = place-present c 0 x once.3 h in
+        let w = place-present r (k + 1) y once.4 i in
+        let f : Some (k ∷ v.0 ∷ v.1) ≡ Some (w.0 ∷ w.1) = sym (place-below n c r k x (v.0 ∷ v.1) once h v.2) ∙ (e ∙ (place-beside n c r k y once i ∙ w.2)) in
+        absurd (apart_heads k w.0 (v.0 ∷ v.1) w.1 (omega (arith, w.3)) (same_Some _ _ f))
+    by lower later (inr (inr h)) (inl i) =
+        let w = place-present r (k + 1) x once.4 h in
+        let f : Some (k ∷ []) ≡ Some (w.0 ∷ w.1) = sym (place-here n c r k y i) ∙ (sym e ∙ (place-beside n c r k x once h ∙ w.2)) in
+        absurd (apart_heads k w.0 [] w.1 (omega (arith, w.3)) (same_Some _ _ f))
+    by lower later (inr (inr h)) (inr (inl i)) =
+        let v = place-present c 0 y once.3 i in
+        let w = place-present r (k + 1) x once.4 h in
+        let f : Some (k ∷ v.0 ∷ v.1) ≡ Some (w.0 ∷ w.1) =
+        sym (place-below n c r k y (v.0 ∷ v.1) once i v.2) ∙ (sym e ∙ (place-beside n c r k x once h ∙ w.2)) in
+        absurd (apart_heads k w.0 (v.0 ∷ v.1) w.1 (omega (arith, w.3)) (same_Some _ _ f))
+    by lower later (inr (inr h)) (inr (inr i)) =
+        later h i (sym (place-beside n c r k x once h) ∙ (e ∙ place-beside n c r k y once i))
 
 -- the place of a root, behind others
 pub place-root : (ts : Trees) (k : ℕ) (x : NodeName) → Once ts → Has ts x → inclusive_ancestors ts x ≡ x ∷ []
@@ -212,7 +228,7 @@ module _ (ts : Trees) (once : Once ts) where
   path-same x y h i e =
       let v = place-present ts 0 x once h in
       let w = place-present ts 0 y once i in
-      place-same ts 0 x y once h i (v.2 ∙ (ap Some (sym (known x _ v.2) ∙ (e ∙ known y _ w.2)) ∙ sym w.2))
+      place-same ts 0 x y record { once = once; first = h; second = i } (v.2 ∙ (ap Some (sym (known x _ v.2) ∙ (e ∙ known y _ w.2)) ∙ sym w.2))
 
   -- nodes of one tree stand at places with the same first number
   pub path-tree : (x y : NodeName) → Has ts x → Has ts y → same_root ts x y ≡ true → first_of (place_of ts x) ≡ first_of (place_of ts y)

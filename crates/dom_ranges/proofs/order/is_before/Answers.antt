@@ -46,9 +46,8 @@ returns-then-ne c =
     let j = index_of f.trees (name_at f.names c.part-first_side.result.1) in
     c.comes_first.ensures
     ∙ sym (before-beside f.trees (name_at f.names c.args.first.0) (name_at f.names c.args.second.0) c.args.first.1 c.args.second.1 b.path i j
-    (b.first_rest ++ v.0) (b.second_rest ++ w.0)
-    (v.1 ∙ (ap (λ path. path ++ v.0) b.first_path ∙ append_assoc b.path (i ∷ b.first_rest) v.0))
-    (w.1 ∙ (ap (λ path. path ++ w.0) b.second_path ∙ append_assoc b.path (j ∷ b.second_rest) w.0))
+    (b.first_rest ++ v.0, v.1 ∙ (ap (λ path. path ++ v.0) b.first_path ∙ append_assoc b.path (i ∷ b.first_rest) v.0))
+    (b.second_rest ++ w.0, w.1 ∙ (ap (λ path. path ++ w.0) b.second_path ∙ append_assoc b.path (j ∷ b.second_rest) w.0))
     b.apart)
 
 pub returns-in-Some-default : goal.returns-in-Some-default
