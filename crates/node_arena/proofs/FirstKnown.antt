@@ -260,34 +260,37 @@ root_absent lists forest p c root =
 
 -- ---- what the changes of an arena leave of what is kept
 
-pub first_linked : (lists : List (List ℕ)) (p c : ℕ) (before : Option ℕ) (f g : FirstChildren) → p < length lists →
-    AreFirst f.keys (children_of lists f.parent) → g.parent ≡ f.parent →
-    (p ≡ f.parent → (siblings : List ℕ) → AreFirst f.keys siblings → AreFirst g.keys (insert_before siblings c before)) →
-    (p ≢ f.parent → g.keys ≡ f.keys) →
+-- what is kept once the children of p have changed: first children of the same node as before, of the new list where that is p, and else the same
+pub record Keeps (p : ℕ) (f g : FirstChildren) (change : List ℕ → List ℕ) : Type 0 where
+  pub parent : g.parent ≡ f.parent
+  pub there : p ≡ f.parent → (siblings : List ℕ) → AreFirst f.keys siblings → AreFirst g.keys (change siblings)
+  pub elsewhere : p ≢ f.parent → g.keys ≡ f.keys
+
+pub first_linked : (lists : List (List ℕ)) {p : ℕ} (c : ℕ) (before : Option ℕ) {f g : FirstChildren} → p < length lists →
+    AreFirst f.keys (children_of lists f.parent) → Keeps p f g (λ siblings. insert_before siblings c before) →
     AreFirst g.keys (children_of (set lists p (insert_before (children_of lists p) c before)) g.parent)
-first_linked lists p c before f g node first same there elsewhere = elim (cases_eq p f.parent) [
+first_linked lists {p} c before {f} {g} node first keeps = elim (cases_eq p f.parent) [
   | inl e ↦
-      subst (AreFirst g.keys) (sym (ap (children_of (set lists p (insert_before (children_of lists p) c before))) (same ∙ sym e)
+      subst (AreFirst g.keys) (sym (ap (children_of (set lists p (insert_before (children_of lists p) c before))) (keeps.parent ∙ sym e)
       ∙ get_or-set_same lists p (insert_before (children_of lists p) c before) [] node))
-      (there e (children_of lists p) (subst (λ (q : ℕ). AreFirst f.keys (children_of lists q)) (sym e) first))
+      (keeps.there e (children_of lists p) (subst (λ (q : ℕ). AreFirst f.keys (children_of lists q)) (sym e) first))
   | inr n ↦
       let left : children_of (set lists p (insert_before (children_of lists p) c before)) g.parent ≡ children_of lists f.parent =
-      ap (children_of (set lists p (insert_before (children_of lists p) c before))) same
+      ap (children_of (set lists p (insert_before (children_of lists p) c before))) keeps.parent
       ∙ get_or-set_other lists p f.parent (insert_before (children_of lists p) c before) [] (λ e. n (sym e)) in
-      subst (AreFirst g.keys) (sym left) (subst (λ (xs : List ℕ). AreFirst xs (children_of lists f.parent)) (sym (elsewhere n)) first)
+      subst (AreFirst g.keys) (sym left) (subst (λ (xs : List ℕ). AreFirst xs (children_of lists f.parent)) (sym (keeps.elsewhere n)) first)
 ]
 
-pub first_unlinked : (lists : List (List ℕ)) → IsForest lists → (p c : ℕ) (f g : FirstChildren) → parent_of lists c ≡ Some p →
-    AreFirst f.keys (children_of lists f.parent) → g.parent ≡ f.parent →
-    (p ≡ f.parent → (siblings : List ℕ) → AreFirst f.keys siblings → AreFirst g.keys (without c siblings)) →
-    (p ≢ f.parent → g.keys ≡ f.keys) → AreFirst g.keys (children_of (map (without c) lists) g.parent)
-first_unlinked lists forest p c f g child first same there elsewhere =
-    subst (AreFirst g.keys) (sym (children_of-without lists c g.parent ∙ ap (λ q. without c (children_of lists q)) same)) (by (cases_eq p f.parent))
+pub first_unlinked : {lists : List (List ℕ)} → IsForest lists → (c : ℕ) {p : ℕ} {f g : FirstChildren} → parent_of lists c ≡ Some p →
+    AreFirst f.keys (children_of lists f.parent) → Keeps p f g (without c) → AreFirst g.keys (children_of (map (without c) lists) g.parent)
+first_unlinked {lists} forest c {p} {f} {g} child first keeps =
+    subst (AreFirst g.keys) (sym (children_of-without lists c g.parent ∙ ap (λ q. without c (children_of lists q)) keeps.parent))
+    (by (cases_eq p f.parent))
   where
     by : (p ≡ f.parent) ⊎ (p ≢ f.parent) → AreFirst g.keys (without c (children_of lists f.parent))
-    by (inl e) = there e (children_of lists f.parent) first
+    by (inl e) = keeps.there e (children_of lists f.parent) first
     by (inr n) =
         let apart : contains (children_of lists f.parent) c ≡ false =
         false_from_ne_true _ (λ found. n (forest.one_list p f.parent c (contains-parent lists c p child) found)) in
         subst (AreFirst g.keys) (sym (without-absent c (children_of lists f.parent) apart))
-        (subst (λ (xs : List ℕ). AreFirst xs (children_of lists f.parent)) (sym (elsewhere n)) first)
+        (subst (λ (xs : List ℕ). AreFirst xs (children_of lists f.parent)) (sym (keeps.elsewhere n)) first)

@@ -6,13 +6,14 @@ use Rattle.node_arena.proofs.BlockChanges.{AreWritten-more}
 use Rattle.node_arena.proofs.ordered_keys.number_block.Goals as goal
 
 -- the key that the loop is at
-at_key : (keys : List ℕ) (i x k : ℕ) → i < length keys → k ≡ x → x ≡ get_or keys i x → get_or keys i 0 ≡ k
-at_key keys i x k within same is = get_or_default keys i 0 x within ∙ (sym is ∙ sym same)
+at_key : (keys : List ℕ) (i : ℕ) {x k : ℕ} → i < length keys → k ≡ x → x ≡ get_or keys i x → get_or keys i 0 ≡ k
+at_key keys i {x} within same is = get_or_default keys i 0 x within ∙ (sym is ∙ sym same)
 
 pub index_mut-requires : goal.index_mut-requires
 index_mut-requires c =
     let keys = c.keys-key-items.result.now in
-    let here = at_key keys c.loop-key.key-index c.key-item.result c.key.inside.index c.loop-key-test.true c.key.view_is c.key-item.is in
+    let here : get_or keys c.loop-key.key-index 0 ≡ c.key.inside.index =
+    at_key keys c.loop-key.key-index c.loop-key-test.true c.key.view_is c.key-item.is in
     let found : contains c.args.block.now c.key.inside.index ≡ true =
     ap (λ xs. contains xs c.key.inside.index) (sym c.loop-key.invariant.keys)
     ∙ contains-at keys c.loop-key.key-index c.key.inside.index c.loop-key-test.true here in
@@ -21,7 +22,8 @@ index_mut-requires c =
 pub loop-key-preserved : goal.loop-key-preserved
 loop-key-preserved c =
     let keys = c.keys-key-items.result.now in
-    let here = at_key keys c.loop-key.key-index c.key-item.result c.key.inside.index c.loop-key-test.true c.key.view_is c.key-item.is in
+    let here : get_or keys c.loop-key.key-index 0 ≡ c.key.inside.index =
+    at_key keys c.loop-key.key-index c.loop-key-test.true c.key.view_is c.key-item.is in
     let found : contains c.args.block.now c.key.inside.index ≡ true =
     ap (λ xs. contains xs c.key.inside.index) (sym c.loop-key.invariant.keys)
     ∙ contains-at keys c.loop-key.key-index c.key.inside.index c.loop-key-test.true here in

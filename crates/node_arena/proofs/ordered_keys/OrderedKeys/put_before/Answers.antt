@@ -15,9 +15,9 @@ put_in-requires-clause-place_is_there c =
     (rw c.as_slice.ensures.value at (c.in-Some.ensures.within (c.in-Some.number, c.in-Some.place) refl)).1
 
 -- the whole list when a key has come into the block of the next one
-put : (blocks : List (List ℕ)) (n i c b : ℕ) → IsOnly blocks n b → i ≡ place_in (block_of blocks n) b →
+put : {blocks : List (List ℕ)} {n : ℕ} (i c : ℕ) {b : ℕ} → IsOnly blocks n b → i ≡ place_in (block_of blocks n) b →
     concat (set blocks n (insert (block_of blocks n) i c)) ≡ put_before (concat blocks) c b
-put blocks n i c b only e =
+put {blocks} {n} i c {b} only e =
     ap (λ j. concat (set blocks n (insert (block_of blocks n) j c))) e
     ∙ (ap (λ xs. concat (set blocks n xs)) (insert-place (block_of blocks n) c b only.found) ∙ put_before-only blocks n c b only)
 
@@ -27,7 +27,7 @@ invariant_of-self-2 c =
     let only : IsOnly blocks c.in-Some.number c.args.next =
     rw c.as_slice.ensures.value at (c.in-Some.ensures.only (c.in-Some.number, c.in-Some.place) refl) in
     let place = rw c.as_slice.ensures.value at (c.in-Some.ensures.place (c.in-Some.number, c.in-Some.place) refl) in
-    let keys = c.in_ok-put_in.ensures.put ∙ put blocks c.in-Some.number c.in-Some.place c.args.key c.args.next only place in
+    let keys = c.in_ok-put_in.ensures.put ∙ put c.in-Some.place c.args.key only place in
     let count = sum_that_fits c.checked_add.result _ _ c.in_ok-count.ensures.ok_part c.checked_add.ensures in
     record {
       are_numbered = c.put_in.ensures.numbered;
@@ -43,7 +43,7 @@ returns-clause-there c there =
     rw c.as_slice.ensures.value at (c.in-Some.ensures.only (c.in-Some.number, c.in-Some.place) refl) in
     let place = rw c.as_slice.ensures.value at (c.in-Some.ensures.place (c.in-Some.number, c.in-Some.place) refl) in
     c.in_ok-put_in.ensures.put
-    ∙ (put blocks c.in-Some.number c.in-Some.place c.args.key c.args.next only place
+    ∙ (put c.in-Some.place c.args.key only place
     ∙ ap (λ (xs : List ℕ). put_before xs c.args.key c.args.next) c.self.view_is)
 
 pub returns-clause-elsewhere : goal.returns-clause-elsewhere

@@ -2,7 +2,7 @@ use Rattle.std.proofs.Common.{◌≡◌, ◌<◌, ◌++◌, ◌∷◌, [], true,
 use Rattle.std.specs.Result.{is_ok}
 use Rattle.std.proofs.lemmas.List.{length-map}
 use Rattle.node_arena.specs.Owned.{placed}
-use Rattle.node_arena.proofs.StoreLemmas.{alone, IsWired-push, seen-push}
+use Rattle.node_arena.proofs.StoreLemmas.{alone, IsFree, IsWired-push, seen-push}
 use Rattle.node_arena.proofs.store.Store.make.Goals as goal
 
 pub invariant_of-self-2 : goal.invariant_of-self-2
@@ -23,8 +23,9 @@ invariant_of-self-2 g c =
     let listed : c.push.new.self.items ≡ list ++ place ∷ [] =
     c.push.ensures.items ∙ ap (λ b. cond b (c.reserve.new.self.items ++ place ∷ []) c.reserve.new.self.items) pushed ∙
     ap (λ ps. ps ++ place ∷ []) c.reserve.ensures.items in
-    rw (listed, put) (IsWired-push list cells place null c.args.payload c.self.invariant c.nowhere-nowhere.ensures c.put-place.ensures.fresh
-    c.put-place.ensures.tested.0 c.put-place.ensures.tested.1)
+    let at_place : IsFree cells place =
+    record { absent = c.put-place.ensures.fresh; within = c.put-place.ensures.tested.0; tested = c.put-place.ensures.tested.1 } in
+    rw (listed, put) (IsWired-push null c.args.payload c.self.invariant c.nowhere-nowhere.ensures at_place)
 
 pub returns-clause-ok : goal.returns-clause-ok
 returns-clause-ok g c =
