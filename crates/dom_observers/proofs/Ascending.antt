@@ -93,10 +93,10 @@ climbs-all f apart key path done =
     ∙ ap (map (key_of f.names)) (sym (append-nil (map (name_at f.names) path)) ∙ done.whole)
 
 -- what it has done is the beginning of the whole way
-pub climbs-through : (f : NamedTrees) → StandOnce f → TellApart f.names → (key k : ℕ) (path : List ℕ) → HasClimbed f key path (Some k) →
+pub climbs-through : {key k : ℕ} {path : List ℕ} (f : NamedTrees) → StandOnce f → TellApart f.names → HasClimbed f key path (Some k) →
     (rest : List ℕ) × (path_keys f key ≡ path ++ k ∷ rest)
 unfolding above
-climbs-through f once apart key k path done =
+climbs-through {k = k} {path = path} f once apart done =
     let node = done.next k refl in
     let begins = above-present f.trees (name_at f.names k) (Has-forest f once k node) in
     let rest = map (key_of f.names) begins.0 in (

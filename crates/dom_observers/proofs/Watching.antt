@@ -390,7 +390,7 @@ module _ (f : NamedTrees) (key : ℕ) (sought : List ℕ) where
       → list_any (λ j. is_in eqb j sought) (path_keys f key) ≡ true
   passes-to once apart k done on =
       let p = λ (j : ℕ). is_in eqb j sought in
-      let way = climbs-through f once apart key k done.path done.climbed in
+      let way = climbs-through f once apart done.climbed in
       ap (list_any p) way.1
       ∙ (list_any-append p done.path (k ∷ way.0)
       ∙ or_right (list_any p done.path) (list_any p (k ∷ way.0)) (or_left (is_in eqb k sought) (list_any p way.0) on))

@@ -152,7 +152,7 @@ inner-below {f} {top} {k} i =
 pub stop-some : (f : NamedTrees) (filter : Filter) (top k : ℕ) (found : Option ℕ)
     → ForSome found (λ j. stop_above f.trees filter (name_at f.names top) (name_at f.names j) ≡ stop_above f.trees filter (name_at f.names top)
     (name_at f.names k))
-    → (y : NodeName) → option_map (name_at f.names) found ≡ Some y →
-    stop_above f.trees filter (name_at f.names top) y ≡ stop_above f.trees filter (name_at f.names top) (name_at f.names k)
-stop-some f filter top k None same y e = absurd (none-some y e)
-stop-some f filter top k (Some j) same y e = ap (stop_above f.trees filter (name_at f.names top)) (sym (same_Some _ y e)) ∙ same j refl
+    → ForSome (option_map (name_at f.names) found) (λ y. stop_above f.trees filter (name_at f.names top) y ≡ stop_above f.trees filter (name_at f.names top)
+    (name_at f.names k))
+stop-some f filter top k None same = λ y e. absurd (none-some y e)
+stop-some f filter top k (Some j) same = λ y e. ap (stop_above f.trees filter (name_at f.names top)) (sym (same_Some _ y e)) ∙ same j refl

@@ -14,7 +14,7 @@ use Rattle.dom_model.specs.Tree.{Trees, inclusive_ancestors, ancestors, children
 use Rattle.dom_model.proofs.OwnerLaws.{name_eq-other}
 use Rattle.dom_tree.specs.Forest.{NamedTrees, name_at}
 use Rattle.dom_traversal.specs.Walkers.{KeyedWalker, walker_view, is_opened, is_reached, stop_above, stop_of, BeginsForward}
-use Rattle.dom_traversal.specs.Within.{ahead_of, behind, beyond, from_node, StandsBelow}
+use Rattle.dom_traversal.specs.Within.{ahead_of, behind, beyond, from_node}
 use Rattle.dom_traversal.proofs.Lists.{In, Single, Single-right, Single-apart, is_in-from, is_in-not, name_eq-from, no_first, first_split}
 use Rattle.dom_traversal.proofs.Children.{parent-of_child}
 use Rattle.dom_traversal.proofs.Order.{IsWithin, stands_in, all_single, here, below, splits, behind_is}
@@ -23,6 +23,7 @@ use Rattle.dom_traversal.proofs.Counts.{above-within}
 use Rattle.dom_traversal.proofs.Opening.{above-proper, proper-parent, beyond-above, all-from}
 use Rattle.dom_traversal.proofs.Forward.{zone_is, beyond-zone, not_behind}
 use Rattle.dom_traversal.proofs.Stops.{IsBelow, within-below, other-below, below-stop, stop-here}
+use Rattle.dom_traversal.proofs.Aside.{Follows}
 use Rattle.dom_traversal.proofs.Reaching.{opened-above}
 use Rattle.dom_traversal.proofs.Candidates.{children-reached}
 use Rattle.dom_traversal.proofs.Nested.{siblings-behind, stop-within}
@@ -122,21 +123,18 @@ module _ (ts : Trees) (w : Walker) (b : IsBelow ts w.root w.current) where
 
 -- so the search may begin at the node aside
 pub Begins-sibling : (f : NamedTrees) → (w : KeyedWalker) → IsBelow f.trees (name_at f.names w.root) (name_at f.names w.current) → (from : Option ℕ)
-    → option_map (name_at f.names) from ≡ first_of
-    (beyond f.trees (stop_above f.trees w.filter (name_at f.names w.root) (name_at f.names w.current)) (name_at f.names w.current)) →
-    ForSome from (StandsBelow f w.root)
-    → ForSome from (λ k. stop_above f.trees w.filter (name_at f.names w.root) (name_at f.names k) ≡ stop_above f.trees w.filter
-    (name_at f.names w.root) (name_at f.names w.current))
+    → Follows f w.filter w.root w.current from (first_of
+    (beyond f.trees (stop_above f.trees w.filter (name_at f.names w.root) (name_at f.names w.current)) (name_at f.names w.current)))
     → ForSome from (BeginsForward f w w.root)
-Begins-sibling f w b from is below same = λ k e.
+Begins-sibling f w b from aside = λ k e.
     let v = walker_view f.names w in
-    let found = sym is ∙ ap (option_map (name_at f.names)) e in
+    let found = sym aside.value ∙ ap (option_map (name_at f.names)) e in
     let zone = sibling-zone f.trees v b (Some (name_at f.names k)) found
-    (λ y h. subst (λ z. stop_above f.trees w.filter v.root z ≡ sibling_top f.trees v) (same_Some _ y h) (same k e)) in
+    (λ y h. subst (λ z. stop_above f.trees w.filter v.root z ≡ sibling_top f.trees v) (same_Some _ y h) (aside.stop k e)) in
     record {
-      below = below k e;
+      below = aside.below k e;
       path = all-from (is_opened f.trees v) (ancestors f.trees (name_at f.names k)) (sibling-path_up f.trees v b (name_at f.names k) found);
-      around = ap (λ a. is_inclusive_ancestor f.trees a v.current) (same k e) ∙ above-within f.trees (sibling_top f.trees v) v.current
+      around = ap (λ a. is_inclusive_ancestor f.trees a v.current) (aside.stop k e) ∙ above-within f.trees (sibling_top f.trees v) v.current
           (sibling-within f.trees v b);
       apart = is_in-not v.current (from_node f.trees (stop_above f.trees w.filter v.root (name_at f.names k)) (Some (name_at f.names k)))
           (λ i. sibling-apart f.trees v b (subst (In v.current) zone i));

@@ -1,5 +1,5 @@
 -- Where a walker's searches for the last child and the previous sibling begin, and what they look for.
-use Rattle.std.proofs.Common.{◌≡◌, inl, inr, ℕ, ◌<◌, Bool, true, false, not, ◌&&◌, List, [], ◌∷◌, ◌++◌, length, Option, Some, None, refl, sym, ap, subst, ◌∙◌}
+use Rattle.std.proofs.Common.{◌≡◌, inl, inr, ℕ, ◌<◌, Bool, true, false, not, ◌&&◌, [], ◌∷◌, ◌++◌, length, Option, Some, None, refl, sym, ap, subst, ◌∙◌}
 use Rattle.std.specs.Prelude.{filter}
 use Rattle.std.specs.Option.{option_map, ForSome}
 use Rattle.std.proofs.lemmas.Bool.{and_right}
@@ -11,13 +11,14 @@ use Rattle.dom_model.specs.Tree.{Trees, inclusive_ancestors, ancestors, children
 use Rattle.dom_model.proofs.OwnerLaws.{name_eq-other}
 use Rattle.dom_tree.specs.Forest.{NamedTrees, name_at}
 use Rattle.dom_traversal.specs.Walkers.{KeyedWalker, walker_view, is_opened, is_reached, is_candidate, stop_above, stop_of, StepsBehind, BeginsBackward}
-use Rattle.dom_traversal.specs.Within.{ahead_of, up_to_tree, StandsBelow}
+use Rattle.dom_traversal.specs.Within.{ahead_of, up_to_tree}
 use Rattle.dom_traversal.proofs.Lists.{In, In-left, In-right, is_in-from, In-from, name_eq-from, not_before, last_split, filter-no, filter-same}
 use Rattle.dom_traversal.proofs.Order.{IsWithin, here, below}
 use Rattle.dom_traversal.proofs.Steps.{within-itself, top_places, last_child, no_last_child}
 use Rattle.dom_traversal.proofs.Counts.{above-within}
 use Rattle.dom_traversal.proofs.Opening.{above-proper, all-from}
 use Rattle.dom_traversal.proofs.Stops.{IsBelow, within-below, other-below}
+use Rattle.dom_traversal.proofs.Aback.{FollowsBack}
 use Rattle.dom_traversal.proofs.Reaching.{opened-above}
 use Rattle.dom_traversal.proofs.ReachingBack.{steps-filter}
 use Rattle.dom_traversal.proofs.Candidates.{children-reached, below-member}
@@ -83,24 +84,19 @@ Last-found ts w at o is = ap last_of (last-zone ts w (within-itself ts w.root w.
 
 -- the search may begin at the sibling before
 pub Begins-previous : (f : NamedTrees) (w : KeyedWalker) → IsBelow f.trees (name_at f.names w.root) (name_at f.names w.current) → (from : Option ℕ)
-    → StepsBehind f.trees w.filter (stop_above f.trees w.filter (name_at f.names w.root) (name_at f.names w.current)) (name_at f.names w.current)
-    (option_map (name_at f.names) from) → ForSome from (StandsBelow f w.root)
-    → ForSome from (λ k. stop_above f.trees w.filter (name_at f.names w.root) (name_at f.names k) ≡ stop_above f.trees w.filter
-    (name_at f.names w.root) (name_at f.names w.current))
-    → ForSome from (λ k. (above : List NodeName) × (ancestors f.trees (name_at f.names w.current) ≡ above ++ ancestors f.trees (name_at f.names k)))
-    → ForSome from (BeginsBackward f w w.root)
-Begins-previous f w b from s below same path = λ k e.
+    → FollowsBack f w.filter w.root w.current from → ForSome from (BeginsBackward f w w.root)
+Begins-previous f w b from aback = λ k e.
     let v = walker_view f.names w in
     let stop = sibling_top f.trees v in
-    let to = subst (λ o. StepsBehind f.trees w.filter stop v.current (option_map (name_at f.names) o)) e s in
+    let to = subst (λ o. StepsBehind f.trees w.filter stop v.current (option_map (name_at f.names) o)) e aback.value in
     record {
-      below = below k e;
+      below = aback.below k e;
       path = all-from (is_opened f.trees v) (ancestors f.trees (name_at f.names k)) (λ a i.
           opened-above f.trees v a (subst (In a) (sym (above-proper f.trees v.current b.stands))
-          (inr (subst (In a) (sym (path k e).1) (In-right a (path k e).0 (ancestors f.trees (name_at f.names k)) i)))));
+          (inr (subst (In a) (sym (aback.path k e).1) (In-right a (aback.path k e).0 (ancestors f.trees (name_at f.names k)) i)))));
       apart = λ i. absurd (not_before v.current (inclusive_descendants f.trees stop)
           (subst (In v.current) (sym to.split) (In-left v.current (up_to_tree f.trees stop (Some (name_at f.names k))) to.passed
-          (subst (λ a. In v.current (up_to_tree f.trees a (Some (name_at f.names k)))) (same k e)
+          (subst (λ a. In v.current (up_to_tree f.trees a (Some (name_at f.names k)))) (aback.stop k e)
           (In-from v.current (up_to_tree f.trees (stop_above f.trees w.filter v.root (name_at f.names k)) (Some (name_at f.names k))) i)))));
     }
 

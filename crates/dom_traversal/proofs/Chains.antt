@@ -78,24 +78,23 @@ not_both a b (x ∷ xs) i j = elim (same_or_not b x) [
     by other apart (inr p) (inl e) more = other e
     by other apart (inr p) (inr q) more = more p q
 
--- of two nodes above x one stands above the other
-pub above-chain : (ts : Trees) (a b x : NodeName) → Once ts → Has ts x → In a (inclusive_ancestors ts x) → In b (inclusive_ancestors ts x)
-    → In a (inclusive_ancestors ts b) ⊎ In b (inclusive_ancestors ts a)
-above-chain ts a b x once h i j =
-    let path = inclusive_ancestors ts x in
-    elim (In-parts b (items_before name_eq a path) (inclusive_ancestors ts a) (subst (In b) (above-split ts a x once h i) j)) [
-      | inl first ↦ elim (In-parts a (items_before name_eq b path) (inclusive_ancestors ts b) (subst (In a) (above-split ts b x once h j) i)) [
-        | inl k ↦ absurd (not_both a b path k first)
-        | inr k ↦ inl k
+module _ (ts : Trees) (a b x : NodeName) (once : Once ts) (h : Has ts x) where
+  -- of two nodes above x one stands above the other
+  pub above-chain : In a (inclusive_ancestors ts x) → In b (inclusive_ancestors ts x) → In a (inclusive_ancestors ts b) ⊎ In b (inclusive_ancestors ts a)
+  above-chain i j =
+      let path = inclusive_ancestors ts x in
+      elim (In-parts b (items_before name_eq a path) (inclusive_ancestors ts a) (subst (In b) (above-split ts a x once h i) j)) [
+        | inl first ↦ elim (In-parts a (items_before name_eq b path) (inclusive_ancestors ts b) (subst (In a) (above-split ts b x once h j) i)) [
+          | inl k ↦ absurd (not_both a b path k first)
+          | inr k ↦ inl k
+        ]
+        | inr k ↦ inr k
       ]
-      | inr k ↦ inr k
-    ]
 
--- what stands above a node above x stands above x
-pub above-along : (ts : Trees) (a b x : NodeName) → Once ts → Has ts x → In a (inclusive_ancestors ts b) → In b (inclusive_ancestors ts x) →
-    In a (inclusive_ancestors ts x)
-above-along ts a b x once h i j = subst (In a) (sym (above-split ts b x once h j))
-    (In-right a (items_before name_eq b (inclusive_ancestors ts x)) (inclusive_ancestors ts b) i)
+  -- what stands above a node above x stands above x
+  pub above-along : In a (inclusive_ancestors ts b) → In b (inclusive_ancestors ts x) → In a (inclusive_ancestors ts x)
+  above-along i j = subst (In a) (sym (above-split ts b x once h j))
+      (In-right a (items_before name_eq b (inclusive_ancestors ts x)) (inclusive_ancestors ts b) i)
 
 -- ---- what is before a node, and what is beyond it, is not below it
 

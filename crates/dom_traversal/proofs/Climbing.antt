@@ -100,12 +100,11 @@ climb_step {f} {top} {k} p i last up node =
 pub climb_ends : {f : NamedTrees} {top k : ℕ} → IsInner f top k → None ≡ parent_of f.trees (name_at f.names k) → ⊥
 climb_ends {f} {top} {k} i up = within-root f.trees (name_at f.names top) (name_at f.names k) (inner-within i) i.other (sym up)
 
--- two keys that differ have names that differ
-pub other_name : (f : NamedTrees) → TellApart f.names → (j k : ℕ) → j < length f.names → k < length f.names → not (eqb j k) ≡ true →
-    name_at f.names j ≡ name_at f.names k → ⊥
-other_name f apart j k at_j at_k e same = both_ways _ (not-true _ e) (eq-eqb j k (apart j k at_j at_k same))
+module _ (f : NamedTrees) (apart : TellApart f.names) (j k : ℕ) (at_j : j < length f.names) (at_k : k < length f.names) where
+  -- two keys that differ have names that differ
+  pub other_name : not (eqb j k) ≡ true → name_at f.names j ≡ name_at f.names k → ⊥
+  other_name e same = both_ways _ (not-true _ e) (eq-eqb j k (apart j k at_j at_k same))
 
--- two keys of which the test says that they differ have names that differ
-pub other_key : (f : NamedTrees) → TellApart f.names → (j k : ℕ) → j < length f.names → k < length f.names → eqb j k ≡ false →
-    name_at f.names j ≡ name_at f.names k → ⊥
-other_key f apart j k at_j at_k e = other_name f apart j k at_j at_k (ap not e)
+  -- two keys of which the test says that they differ have names that differ
+  pub other_key : eqb j k ≡ false → name_at f.names j ≡ name_at f.names k → ⊥
+  other_key e = other_name (ap not e)

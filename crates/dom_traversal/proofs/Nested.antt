@@ -227,7 +227,7 @@ module _ (ts : Trees) (w : Walker) (b : IsBelow ts w.root w.current) where
       elim (In-parts y (between ts (sibling_top ts w) w.current) (inclusive_ancestors ts (sibling_top ts w))
       (subst (In y) (proper-split ts (sibling_top ts w) w.current stop_below) proper)) [
         | inl j ↦ (or_parts (accepts ts w.filter y) _ (before-stop ts w y j)).0
-        | inr j ↦ absurd (not_around ts (sibling_top ts w) y below_y.once below_y.stands below_y.above j)
+        | inr j ↦ absurd (not_around ts y below_y.once below_y.stands (sibling_top ts w) below_y.above j)
       ]
 
   -- before the current node the siblings are the candidates

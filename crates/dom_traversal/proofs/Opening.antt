@@ -49,29 +49,30 @@ proper-parent ts x p once h e =
     let up = above-parent ts x p once h e in
     (ap (drop 1) up.0 ∙ above-proper ts p up.1, up.1)
 
--- no node stands above itself
-pub not_above_itself : (ts : Trees) (x : NodeName) → Once ts → Has ts x → In x (ancestors ts x) → ⊥
-not_above_itself ts x once h = by (parent_of ts x) refl
-  where
-    by : (o : Option NodeName) → parent_of ts x ≡ o → In x (ancestors ts x) → ⊥
-    by None e i = subst (In x) (no_first (ancestors ts x) e) i
-    by (Some p) e i =
-        let up = above-parent ts x p once h e in
-        let path : ancestors ts x ≡ inclusive_ancestors ts p = ap (drop 1) up.0 in
-        let split = above-split ts x p once up.1 (subst (In x) path i) in
-        let shorter = items_before name_eq x (inclusive_ancestors ts p) in
-        omega (arith, ap (length {A = NodeName}) split, ap (length {A = NodeName}) up.0, length-append shorter (inclusive_ancestors ts x))
+module _ (ts : Trees) (x : NodeName) (once : Once ts) (h : Has ts x) where
+  -- no node stands above itself
+  pub not_above_itself : In x (ancestors ts x) → ⊥
+  not_above_itself = by (parent_of ts x) refl
+    where
+      by : (o : Option NodeName) → parent_of ts x ≡ o → In x (ancestors ts x) → ⊥
+      by None e i = subst (In x) (no_first (ancestors ts x) e) i
+      by (Some p) e i =
+          let up = above-parent ts x p once h e in
+          let path : ancestors ts x ≡ inclusive_ancestors ts p = ap (drop 1) up.0 in
+          let split = above-split ts x p once up.1 (subst (In x) path i) in
+          let shorter = items_before name_eq x (inclusive_ancestors ts p) in
+          omega (arith, ap (length {A = NodeName}) split, ap (length {A = NodeName}) up.0, length-append shorter (inclusive_ancestors ts x))
 
--- what stands above a node above x is not x
-pub not_around : (ts : Trees) (a x : NodeName) → Once ts → Has ts x → In a (ancestors ts x) → In x (inclusive_ancestors ts a) → ⊥
-not_around ts a x once h = by (parent_of ts x) refl
-  where
-    by : (o : Option NodeName) → parent_of ts x ≡ o → In a (ancestors ts x) → In x (inclusive_ancestors ts a) → ⊥
-    by None e i j = subst (In a) (no_first (ancestors ts x) e) i
-    by (Some p) e i j =
-        let up = proper-parent ts x p once h e in
-        let path : ancestors ts x ≡ inclusive_ancestors ts p = up.0 ∙ sym (above-proper ts p up.1) in
-        not_above_itself ts x once h (subst (In x) (sym path) (above-along ts x a p once up.1 j (subst (In a) path i)))
+  -- what stands above a node above x is not x
+  pub not_around : (a : NodeName) → In a (ancestors ts x) → In x (inclusive_ancestors ts a) → ⊥
+  not_around a = by (parent_of ts x) refl
+    where
+      by : (o : Option NodeName) → parent_of ts x ≡ o → In a (ancestors ts x) → In x (inclusive_ancestors ts a) → ⊥
+      by None e i j = subst (In a) (no_first (ancestors ts x) e) i
+      by (Some p) e i j =
+          let up = proper-parent ts x p once h e in
+          let path : ancestors ts x ≡ inclusive_ancestors ts p = up.0 ∙ sym (above-proper ts p up.1) in
+          not_above_itself (subst (In x) (sym path) (above-along ts x a p once up.1 j (subst (In a) path i)))
 
 -- ---- accepted nodes whose proper ancestors are open
 

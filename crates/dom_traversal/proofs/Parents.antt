@@ -30,7 +30,7 @@ find-none p (x ∷ xs) h = rw (h x (inl refl)) (find-none p xs (λ a i. h a (inr
 pub above-root_none : (ts : Trees) (w : Walker) → IsWithin ts w.root w.root → find (is_parent ts w) (ancestors ts w.root) ≡ None
 above-root_none ts w at =
     find-none (is_parent ts w) (ancestors ts w.root)
-    (λ a i. and_right (accepts ts w.filter a) _ (is_in-not w.root (inclusive_ancestors ts a) (not_around ts a w.root at.once at.top_stands i)))
+    (λ a i. and_right (accepts ts w.filter a) _ (is_in-not w.root (inclusive_ancestors ts a) (not_around ts w.root at.once at.top_stands a i)))
 
 module _ (ts : Trees) (w : Walker) (x p : NodeName) (at : IsWithin ts w.root x) (other : x ≡ w.root → ⊥) (up : parent_of ts x ≡ Some p) where
   -- above x stands first its parent

@@ -143,7 +143,7 @@ module _ (ts : Trees) (w : Walker) (top stop y : NodeName) (at_current : Has ts 
   off_current = is_in-not y (inclusive_ancestors ts w.current) (λ i.
       let inside = In-names (subtree ts y) w.current (below-from_above ts y w.current n.below.once at_current i) in
       let same = n.apart (In-right w.current (ahead_of ts stop y) (inclusive_descendants ts y) inside) in
-      not_around ts stop y n.below.once n.below.stands below_stop.above (subst (λ z. In y (inclusive_ancestors ts z)) same i))
+      not_around ts y n.below.once n.below.stands stop below_stop.above (subst (λ z. In y (inclusive_ancestors ts z)) same i))
 
   -- below a node that is not skipped is no candidate
   hidden_below : skips ts w.filter y ≡ false → filter (is_candidate ts w stop) (below ts y) ≡ []

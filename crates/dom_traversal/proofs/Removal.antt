@@ -156,30 +156,31 @@ above-behind_first m d ts y off =
     ap (λ b. if b then y ∷ [] else on_top (inclusive_ancestors d y) m.name (inclusive_ancestors ts y)) (name_eq-other m.name y (λ same. off (inl same)))
     ∙ ap (λ path. on_top path m.name (inclusive_ancestors ts y)) (above-absent d y (λ i. off (inr (inl i))))
 
--- a tree among the roots: above a node of the others
-pub above-put_others : (x : NodeName) (m : Node) (d ts : Trees) (y : NodeName) → (Has (tree m d none) y → ⊥) →
-    inclusive_ancestors (put_root x (tree m d none) ts) y ≡ inclusive_ancestors ts y
-above-put_others x m d none y off = above-absent (tree m d none) y off
-above-put_others x m d (tree n c r) y off = elim (cases_Bool (name_before x n.name)) [
-  | inl e ↦ rw e (above-behind_first m d (tree n c r) y off)
-  | inr e ↦ rw e (ap (λ path. if name_eq n.name y then y ∷ [] else on_top (inclusive_ancestors c y) n.name path) (above-put_others x m d r y off))
-]
+module _ (x : NodeName) (m : Node) (d : Trees) where
+  -- a tree among the roots: above a node of the others
+  pub above-put_others : (ts : Trees) (y : NodeName) → (Has (tree m d none) y → ⊥) →
+      inclusive_ancestors (put_root x (tree m d none) ts) y ≡ inclusive_ancestors ts y
+  above-put_others none y off = above-absent (tree m d none) y off
+  above-put_others (tree n c r) y off = elim (cases_Bool (name_before x n.name)) [
+    | inl e ↦ rw e (above-behind_first m d (tree n c r) y off)
+    | inr e ↦ rw e (ap (λ path. if name_eq n.name y then y ∷ [] else on_top (inclusive_ancestors c y) n.name path) (above-put_others r y off))
+  ]
 
--- and above a node of its own
-above-put_own : (x : NodeName) (m : Node) (d ts : Trees) (y : NodeName) → Has (tree m d none) y → (Has ts y → ⊥) →
-    inclusive_ancestors (put_root x (tree m d none) ts) y ≡ inclusive_ancestors (tree m d none) y
-above-put_own x m d none y h off = refl
-above-put_own x m d (tree n c r) y h off = elim (cases_Bool (name_before x n.name)) [
-  | inl e ↦ rw e (above-in_first m d (tree n c r) y h)
-  | inr e ↦ rw e (later (name_eq-other n.name y (λ same. off (inl same))) (above-absent c y (λ i. off (inr (inl i)))) ∙
-      above-put_own x m d r y h (λ i. off (inr (inr i))))
-]
-  where
-    later : name_eq n.name y ≡ false → inclusive_ancestors c y ≡ [] →
-        inclusive_ancestors (tree n c (put_root x (tree m d none) r)) y ≡ inclusive_ancestors (put_root x (tree m d none) r) y
-    later no_n empty =
-        ap (λ b. if b then y ∷ [] else on_top (inclusive_ancestors c y) n.name (inclusive_ancestors (put_root x (tree m d none) r) y)) no_n
-        ∙ ap (λ path. on_top path n.name (inclusive_ancestors (put_root x (tree m d none) r) y)) empty
+  -- and above a node of its own
+  above-put_own : (ts : Trees) (y : NodeName) → Has (tree m d none) y → (Has ts y → ⊥) →
+      inclusive_ancestors (put_root x (tree m d none) ts) y ≡ inclusive_ancestors (tree m d none) y
+  above-put_own none y h off = refl
+  above-put_own (tree n c r) y h off = elim (cases_Bool (name_before x n.name)) [
+    | inl e ↦ rw e (above-in_first m d (tree n c r) y h)
+    | inr e ↦ rw e (later (name_eq-other n.name y (λ same. off (inl same))) (above-absent c y (λ i. off (inr (inl i)))) ∙
+        above-put_own r y h (λ i. off (inr (inr i))))
+  ]
+    where
+      later : name_eq n.name y ≡ false → inclusive_ancestors c y ≡ [] →
+          inclusive_ancestors (tree n c (put_root x (tree m d none) r)) y ≡ inclusive_ancestors (put_root x (tree m d none) r) y
+      later no_n empty =
+          ap (λ b. if b then y ∷ [] else on_top (inclusive_ancestors c y) n.name (inclusive_ancestors (put_root x (tree m d none) r) y)) no_n
+          ∙ ap (λ path. on_top path n.name (inclusive_ancestors (put_root x (tree m d none) r) y)) empty
 
 -- a node stays in another one's tree, unless it goes with the tree that is taken out and the other does not
 pub stays : {ts : Trees} {top y : NodeName} (x : NodeName) → Has ts x → IsWithin ts top y →

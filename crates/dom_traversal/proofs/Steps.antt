@@ -31,22 +31,6 @@ within-child ts top p x w i =
       stands = below-from_above ts top x w.once up.1 (subst (In top) (sym is) (inr (above_within ts top p w)));
     }
 
--- and the parent, but for that of the top
-pub within-parent : (ts : Trees) (top x p : NodeName) → IsWithin ts top x → (x ≡ top → ⊥) → parent_of ts x ≡ Some p → IsWithin ts top p
-within-parent ts top x p w other e =
-    let up = above-parent ts x p w.once (stands_in ts top x w) e in
-    record {
-      once = w.once;
-      top_stands = w.top_stands;
-      stands = below-from_above ts top p w.once up.1
-          (elim (subst (In top) up.0 (above_within ts top x w)) [ inl same ↦ absurd (other (sym same)) | inr i ↦ i ]);
-    }
-
--- only the top may have no parent
-pub within-root : (ts : Trees) (top x : NodeName) → IsWithin ts top x → (x ≡ top → ⊥) → parent_of ts x ≡ None → ⊥
-within-root ts top x w other e = elim (subst (In top) (above-root ts x (stands_in ts top x w) e) (above_within ts top x w))
-    [ inl same ↦ other (sym same) | inr i ↦ i ]
-
 -- each node stands in its own tree
 pub within-itself : (ts : Trees) (top x : NodeName) → IsWithin ts top x → IsWithin ts x x
 within-itself ts top x w =
@@ -63,36 +47,6 @@ within-top ts top x w =
     let begins = above-present ts top w.top_stands in
     record { once = w.once; top_stands = w.top_stands; stands = below-from_above ts top top w.once w.top_stands (subst (In top) (sym begins.1) (inl refl)) }
 
--- ---- the places of a child, by its place among the children
-
--- before a child stand its parent and the trees of the children before, beyond it those behind
-pub child_places : (ts : Trees) (top p x : NodeName) (before after : List NodeName) → IsWithin ts top p → children_of ts p ≡ before ++ x ∷ after
-    → IsWithin ts top x × (ahead_of ts top x ≡ ahead_of ts top p ++ p ∷ joined ts before) × (beyond ts top x ≡ joined ts after ++ beyond ts top p)
-child_places ts top p x before after w e =
-    let among : In x (children_of ts p) = subst (In x) (sym e) (In-right x before (x ∷ after) (inl refl)) in
-    let inside = within-child ts top p x w among in
-    let tree = inclusive_descendants ts x in
-    let parts : below ts p ≡ joined ts before ++ (tree ++ joined ts after) =
-    ap (joined ts) e ∙ (flat_map-append (inclusive_descendants ts) before (x ∷ after) ∙
-    ap (λ xs. joined ts before ++ xs) (flat_map-cons (inclusive_descendants ts) x after)) in
-    let regroup : (a b c d : List NodeName) → (a ++ (b ++ c)) ++ d ≡ a ++ (b ++ (c ++ d)) =
-    λ a b c d. append_assoc a (b ++ c) d ∙ ap (λ xs. a ++ xs) (append_assoc b c d) in
-    let whole : inclusive_descendants ts top ≡ (ahead_of ts top p ++ p ∷ joined ts before) ++ (tree ++ (joined ts after ++ beyond ts top p)) =
-    splits ts top p w
-    ∙ (ap (λ xs. ahead_of ts top p ++ (xs ++ beyond ts top p)) (here ts top p w ∙ ap (λ xs. p ∷ xs) parts)
-    ∙ (ap (λ xs. ahead_of ts top p ++ p ∷ xs) (regroup (joined ts before) tree (joined ts after) (beyond ts top p))
-    ∙ sym (append_assoc (ahead_of ts top p) (p ∷ joined ts before) (tree ++ (joined ts after ++ beyond ts top p))))) in
-    let is = split_is ts top x inside (ahead_of ts top p ++ p ∷ joined ts before) (joined ts after ++ beyond ts top p) whole in
-    (inside, is.0, is.2)
-
--- where x stands among its parent's children
-siblings-split : (ts : Trees) (top x p : NodeName) → IsWithin ts top x → parent_of ts x ≡ Some p
-    → children_of ts p ≡ items_before name_eq x (siblings ts x) ++ x ∷ items_after name_eq x (siblings ts x)
-siblings-split ts top x p w e =
-    let all : siblings ts x ≡ children_of ts p = ap (λ o. option_map_or (children_of ts) o (x ∷ [])) e in
-    split_at x (children_of ts p) (child-of_parent ts x p w.once (stands_in ts top x w) e).1
-    ∙ ap (λ xs. items_before name_eq x xs ++ x ∷ items_after name_eq x xs) (sym all)
-
 -- ---- at the top nothing is before or beyond
 
 -- nothing before, nothing beyond
@@ -101,39 +55,60 @@ top_places ts top w =
     let is = split_is ts top top w [] [] (sym (append-nil (inclusive_descendants ts top))) in
     (is.0, is.2)
 
--- ---- down
+-- ---- down, by the place of a child among the children
 
--- below a node come first the tree of its first child and what is beyond that
-pub first_child : (ts : Trees) (top x c : NodeName) → IsWithin ts top x → first_of (children_of ts x) ≡ Some c
-    → IsWithin ts top c × (below ts x ++ beyond ts top x ≡ inclusive_descendants ts c ++ beyond ts top c)
-first_child ts top x c w e =
-    let s = first_split (children_of ts x) c e in
-    let is = child_places ts top x c [] s.0 w s.1 in (
-      is.0,
-      ap (λ xs. xs ++ beyond ts top x) (ap (joined ts) s.1 ∙ flat_map-cons (inclusive_descendants ts) c s.0)
-          ∙ (append_assoc (inclusive_descendants ts c) (joined ts s.0) (beyond ts top x) ∙ ap (λ xs. inclusive_descendants ts c ++ xs) (sym is.2)),
-    )
+module _ (ts : Trees) (top p x : NodeName) where
+  -- before a child stand its parent and the trees of the children before, beyond it those behind
+  pub child_places : (before after : List NodeName) → IsWithin ts top p → children_of ts p ≡ before ++ x ∷ after
+      → IsWithin ts top x × (ahead_of ts top x ≡ ahead_of ts top p ++ p ∷ joined ts before) × (beyond ts top x ≡ joined ts after ++ beyond ts top p)
+  child_places before after w e =
+      let among : In x (children_of ts p) = subst (In x) (sym e) (In-right x before (x ∷ after) (inl refl)) in
+      let inside = within-child ts top p x w among in
+      let tree = inclusive_descendants ts x in
+      let parts : below ts p ≡ joined ts before ++ (tree ++ joined ts after) =
+      ap (joined ts) e ∙ (flat_map-append (inclusive_descendants ts) before (x ∷ after) ∙
+      ap (λ xs. joined ts before ++ xs) (flat_map-cons (inclusive_descendants ts) x after)) in
+      let regroup : (a b c d : List NodeName) → (a ++ (b ++ c)) ++ d ≡ a ++ (b ++ (c ++ d)) =
+      λ a b c d. append_assoc a (b ++ c) d ∙ ap (λ xs. a ++ xs) (append_assoc b c d) in
+      let whole : inclusive_descendants ts top ≡ (ahead_of ts top p ++ p ∷ joined ts before) ++ (tree ++ (joined ts after ++ beyond ts top p)) =
+      splits ts top p w
+      ∙ (ap (λ xs. ahead_of ts top p ++ (xs ++ beyond ts top p)) (here ts top p w ∙ ap (λ xs. p ∷ xs) parts)
+      ∙ (ap (λ xs. ahead_of ts top p ++ p ∷ xs) (regroup (joined ts before) tree (joined ts after) (beyond ts top p))
+      ∙ sym (append_assoc (ahead_of ts top p) (p ∷ joined ts before) (tree ++ (joined ts after ++ beyond ts top p))))) in
+      let is = split_is ts top x inside (ahead_of ts top p ++ p ∷ joined ts before) (joined ts after ++ beyond ts top p) whole in
+      (inside, is.0, is.2)
+
+  -- below a node come first the tree of its first child and what is beyond that
+  pub first_child : IsWithin ts top p → first_of (children_of ts p) ≡ Some x
+      → IsWithin ts top x × (below ts p ++ beyond ts top p ≡ inclusive_descendants ts x ++ beyond ts top x)
+  first_child w e =
+      let s = first_split (children_of ts p) x e in
+      let is = child_places [] s.0 w s.1 in (
+        is.0,
+        ap (λ xs. xs ++ beyond ts top p) (ap (joined ts) s.1 ∙ flat_map-cons (inclusive_descendants ts) x s.0)
+            ∙ (append_assoc (inclusive_descendants ts x) (joined ts s.0) (beyond ts top p) ∙ ap (λ xs. inclusive_descendants ts x ++ xs) (sym is.2)),
+      )
+
+  -- the tree of a last child ends as its parent's does
+  pub last_child : IsWithin ts top p → last_of (children_of ts p) ≡ Some x
+      → IsWithin ts top x × (ahead_of ts top x ++ inclusive_descendants ts x ≡ ahead_of ts top p ++ inclusive_descendants ts p) ×
+      (beyond ts top x ≡ beyond ts top p)
+  last_child w e =
+      let s = last_split (children_of ts p) x e in
+      let is = child_places s.0 [] w s.1 in
+      let tree = inclusive_descendants ts x in
+      let parts : below ts p ≡ joined ts s.0 ++ tree =
+      ap (joined ts) s.1 ∙ (flat_map-append (inclusive_descendants ts) s.0 (x ∷ []) ∙
+      ap (λ xs. joined ts s.0 ++ xs) (flat_map-cons (inclusive_descendants ts) x [] ∙ append-nil tree)) in (
+        is.0,
+        ap (λ xs. xs ++ tree) is.1 ∙ (append_assoc (ahead_of ts top p) (p ∷ joined ts s.0) tree ∙
+            ap (λ xs. ahead_of ts top p ++ xs) (ap (λ xs. p ∷ xs) (sym parts) ∙ sym (here ts top p w))),
+        is.2,
+      )
 
 -- a node without children has none below it
 pub no_child : (ts : Trees) (x : NodeName) → first_of (children_of ts x) ≡ None → below ts x ≡ []
 no_child ts x e = ap (joined ts) (no_first (children_of ts x) e)
-
--- the tree of a last child ends as its parent's does
-pub last_child : (ts : Trees) (top x c : NodeName) → IsWithin ts top x → last_of (children_of ts x) ≡ Some c
-    → IsWithin ts top c × (ahead_of ts top c ++ inclusive_descendants ts c ≡ ahead_of ts top x ++ inclusive_descendants ts x) ×
-    (beyond ts top c ≡ beyond ts top x)
-last_child ts top x c w e =
-    let s = last_split (children_of ts x) c e in
-    let is = child_places ts top x c s.0 [] w s.1 in
-    let tree = inclusive_descendants ts c in
-    let parts : below ts x ≡ joined ts s.0 ++ tree =
-    ap (joined ts) s.1 ∙ (flat_map-append (inclusive_descendants ts) s.0 (c ∷ []) ∙
-    ap (λ xs. joined ts s.0 ++ xs) (flat_map-cons (inclusive_descendants ts) c [] ∙ append-nil tree)) in (
-      is.0,
-      ap (λ xs. xs ++ tree) is.1 ∙ (append_assoc (ahead_of ts top x) (x ∷ joined ts s.0) tree ∙
-          ap (λ xs. ahead_of ts top x ++ xs) (ap (λ xs. x ∷ xs) (sym parts) ∙ sym (here ts top x w))),
-      is.2,
-    )
 
 -- a node without a last child has none below it
 pub no_last_child : (ts : Trees) (x : NodeName) → last_of (children_of ts x) ≡ None → below ts x ≡ []
@@ -141,40 +116,65 @@ no_last_child ts x e = ap (joined ts) (no_last (children_of ts x) e)
 
 -- ---- aside
 
--- beyond a node comes first the tree of its next sibling
-pub next_places : (ts : Trees) (top x s : NodeName) → IsWithin ts top x → (x ≡ top → ⊥) → next_sibling ts x ≡ Some s
-    → IsWithin ts top s × (beyond ts top x ≡ inclusive_descendants ts s ++ beyond ts top s) × (parent_of ts s ≡ parent_of ts x)
-next_places ts top x s w other e = by (parent_of ts x) refl
-  where
-    by : (o : Option NodeName) → parent_of ts x ≡ o → IsWithin ts top s × (beyond ts top x ≡ inclusive_descendants ts s ++ beyond ts top s) ×
-        (parent_of ts s ≡ parent_of ts x)
-    by None up = absurd (within-root ts top x w other up)
-    by (Some p) up =
-        let above = within-parent ts top x p w other up in
-        let split = siblings-split ts top x p w up in
-        let front = items_before name_eq x (siblings ts x) in
-        let back = first_split (items_after name_eq x (siblings ts x)) s e in
-        let mine = child_places ts top p x front (items_after name_eq x (siblings ts x)) above split in
-        let its = child_places ts top p s (front ++ x ∷ []) back.0 above
-        (split ∙ (ap (λ xs. front ++ x ∷ xs) back.1 ∙ sym (append_assoc front (x ∷ []) (s ∷ back.0)))) in
-        let among : In s (children_of ts p) =
-        subst (In s) (sym split)
-        (In-right s front (x ∷ items_after name_eq x (siblings ts x)) (inr (subst (In s) (sym back.1) (inl refl)))) in (
-          its.0,
-          mine.2
-              ∙ (ap (λ xs. xs ++ beyond ts top p) (ap (joined ts) back.1 ∙ flat_map-cons (inclusive_descendants ts) s back.0)
-              ∙ (append_assoc (inclusive_descendants ts s) (joined ts back.0) (beyond ts top p) ∙ ap (λ xs. inclusive_descendants ts s ++ xs) (sym its.2))),
-          (parent-of_child ts p s w.once (stands_in ts top p above) among).0 ∙ sym up,
-        )
+module _ (ts : Trees) (top x : NodeName) where
+  -- the parent stands there too, but for that of the top
+  pub within-parent : (p : NodeName) → IsWithin ts top x → (x ≡ top → ⊥) → parent_of ts x ≡ Some p → IsWithin ts top p
+  within-parent p w other e =
+      let up = above-parent ts x p w.once (stands_in ts top x w) e in
+      record {
+        once = w.once;
+        top_stands = w.top_stands;
+        stands = below-from_above ts top p w.once up.1
+            (elim (subst (In top) up.0 (above_within ts top x w)) [ inl same ↦ absurd (other (sym same)) | inr i ↦ i ]);
+      }
 
--- without one what is beyond its parent
-pub no_next : (ts : Trees) (top x p : NodeName) → IsWithin ts top x → (x ≡ top → ⊥) → parent_of ts x ≡ Some p → next_sibling ts x ≡ None →
-    beyond ts top x ≡ beyond ts top p
-no_next ts top x p w other up e =
-    let above = within-parent ts top x p w other up in
-    let mine = child_places ts top p x (items_before name_eq x (siblings ts x)) (items_after name_eq x (siblings ts x)) above
-    (siblings-split ts top x p w up) in
-    mine.2 ∙ ap (λ xs. joined ts xs ++ beyond ts top p) (no_first (items_after name_eq x (siblings ts x)) e)
+  -- only the top may have no parent
+  pub within-root : IsWithin ts top x → (x ≡ top → ⊥) → parent_of ts x ≡ None → ⊥
+  within-root w other e = elim (subst (In top) (above-root ts x (stands_in ts top x w) e) (above_within ts top x w))
+      [ inl same ↦ other (sym same) | inr i ↦ i ]
+
+  -- where x stands among its parent's children
+  siblings-split : (p : NodeName) → IsWithin ts top x → parent_of ts x ≡ Some p
+      → children_of ts p ≡ items_before name_eq x (siblings ts x) ++ x ∷ items_after name_eq x (siblings ts x)
+  siblings-split p w e =
+      let all : siblings ts x ≡ children_of ts p = ap (λ o. option_map_or (children_of ts) o (x ∷ [])) e in
+      split_at x (children_of ts p) (child-of_parent ts x p w.once (stands_in ts top x w) e).1
+      ∙ ap (λ xs. items_before name_eq x xs ++ x ∷ items_after name_eq x xs) (sym all)
+
+  -- beyond a node comes first the tree of its next sibling
+  pub next_places : (s : NodeName) → IsWithin ts top x → (x ≡ top → ⊥) → next_sibling ts x ≡ Some s
+      → IsWithin ts top s × (beyond ts top x ≡ inclusive_descendants ts s ++ beyond ts top s) × (parent_of ts s ≡ parent_of ts x)
+  next_places s w other e = by (parent_of ts x) refl
+    where
+      by : (o : Option NodeName) → parent_of ts x ≡ o → IsWithin ts top s × (beyond ts top x ≡ inclusive_descendants ts s ++ beyond ts top s) ×
+          (parent_of ts s ≡ parent_of ts x)
+      by None up = absurd (within-root w other up)
+      by (Some p) up =
+          let above = within-parent p w other up in
+          let split = siblings-split p w up in
+          let front = items_before name_eq x (siblings ts x) in
+          let back = first_split (items_after name_eq x (siblings ts x)) s e in
+          let mine = child_places ts top p x front (items_after name_eq x (siblings ts x)) above split in
+          let its = child_places ts top p s (front ++ x ∷ []) back.0 above
+          (split ∙ (ap (λ xs. front ++ x ∷ xs) back.1 ∙ sym (append_assoc front (x ∷ []) (s ∷ back.0)))) in
+          let among : In s (children_of ts p) =
+          subst (In s) (sym split)
+          (In-right s front (x ∷ items_after name_eq x (siblings ts x)) (inr (subst (In s) (sym back.1) (inl refl)))) in (
+            its.0,
+            mine.2
+                ∙ (ap (λ xs. xs ++ beyond ts top p) (ap (joined ts) back.1 ∙ flat_map-cons (inclusive_descendants ts) s back.0)
+                ∙ (append_assoc (inclusive_descendants ts s) (joined ts back.0) (beyond ts top p) ∙ ap (λ xs. inclusive_descendants ts s ++ xs) (sym its.2))),
+            (parent-of_child ts p s w.once (stands_in ts top p above) among).0 ∙ sym up,
+          )
+
+  -- without one what is beyond its parent
+  pub no_next : (p : NodeName) → IsWithin ts top x → (x ≡ top → ⊥) → parent_of ts x ≡ Some p → next_sibling ts x ≡ None →
+      beyond ts top x ≡ beyond ts top p
+  no_next p w other up e =
+      let above = within-parent p w other up in
+      let mine = child_places ts top p x (items_before name_eq x (siblings ts x)) (items_after name_eq x (siblings ts x)) above
+      (siblings-split p w up) in
+      mine.2 ∙ ap (λ xs. joined ts xs ++ beyond ts top p) (no_first (items_after name_eq x (siblings ts x)) e)
 
 -- before a node comes last the tree of its previous sibling
 pub previous_places : {ts : Trees} {top x s : NodeName} → IsWithin ts top x → (x ≡ top → ⊥) → previous_sibling ts x ≡ Some s →

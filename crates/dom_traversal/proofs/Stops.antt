@@ -80,12 +80,7 @@ below-stop ts f top x b = record {
   above = found-within (is_stop ts f top) (ancestors ts x) top top b.above (or_right (accepts ts f top) _ (name_eq-from top top refl));
 }
 
--- siblings have the same nodes above them
-pub sibling-path : {p : NodeName} (ts : Trees) (x s : NodeName) → Once ts → Has ts x → Has ts s → parent_of ts x ≡ Some p → parent_of ts s ≡ parent_of ts x →
-    ancestors ts s ≡ ancestors ts x
-sibling-path {p} ts x s once at_x at_s up same = (proper-parent ts s p once at_s (same ∙ up)).0 ∙ sym (proper-parent ts x p once at_x up).0
-
--- a sibling stands below top too
+-- a sibling stands below top too, with the same nodes above it
 pub below-sibling : {ts : Trees} {top x : NodeName} (s : NodeName) → IsBelow ts top x → Has ts s → parent_of ts s ≡ parent_of ts x →
     IsBelow ts top s × (ancestors ts s ≡ ancestors ts x)
 below-sibling {ts} {top} {x} s b at_s same = by (parent_of ts x) refl
@@ -93,7 +88,7 @@ below-sibling {ts} {top} {x} s b at_s same = by (parent_of ts x) refl
     by : (o : Option NodeName) → parent_of ts x ≡ o → IsBelow ts top s × (ancestors ts s ≡ ancestors ts x)
     by None e = absurd (root-below ts top x b e)
     by (Some p) e =
-        let path = sibling-path ts x s b.once b.stands at_s e same in
+        let path = (proper-parent ts s p b.once at_s (same ∙ e)).0 ∙ sym (proper-parent ts x p b.once b.stands e).0 in
         (record { once = b.once; stands = at_s; above = subst (In top) (sym path) b.above }, path)
 
 -- a child of a node that is no stop has the same stop

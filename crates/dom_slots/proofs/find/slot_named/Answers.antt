@@ -38,8 +38,8 @@ loop-at-preserved c =
     (c.loop-at.invariant.stands c.in-Some.key c.in-Some.is) c.following-at.ensures.value c.following-at.ensures.node in
     record {
       stands = step.1;
-      left = left-behind f (λ y. has_slot_name c.args.name.now (node_in f.trees y)) c.args.top c.in-Some.key c.loop-at.at c.following-at.result
-          c.in-Some.is (sym c.if-has_name.ensures) step.0 ∙ c.loop-at.invariant.left;
+      left = left-behind f c.args.top c.in-Some.key c.loop-at.at c.following-at.result c.in-Some.is step.0
+          (λ y. has_slot_name c.args.name.now (node_in f.trees y)) (sym c.if-has_name.ensures) ∙ c.loop-at.invariant.left;
     }
 
 pub returns-then-has_name-clause-value : goal.returns-then-has_name-clause-value

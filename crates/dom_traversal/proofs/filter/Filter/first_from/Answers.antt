@@ -18,6 +18,6 @@ loop-at-preserved c =
     (c.loop-at.invariant.stands c.in-Some.key c.in-Some.is) c.following-at.ensures.value c.following-at.ensures.node in
     record {
       stands = step.1;
-      left = left-behind f (accepts f.trees (filter_of c.args.self.now)) c.args.top c.in-Some.key c.loop-at.at c.following-at.result c.in-Some.is
-          (sym c.if-accepts.ensures) step.0 ∙ c.loop-at.invariant.left;
+      left = left-behind f c.args.top c.in-Some.key c.loop-at.at c.following-at.result c.in-Some.is step.0
+          (accepts f.trees (filter_of c.args.self.now)) (sym c.if-accepts.ensures) ∙ c.loop-at.invariant.left;
     }

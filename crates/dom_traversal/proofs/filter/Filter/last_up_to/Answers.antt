@@ -23,8 +23,8 @@ loop-at-preserved c =
     (c.loop-at.invariant.stands c.in-Some.key c.in-Some.is) c.preceding-at.ensures.value c.preceding-at.ensures.node in
     record {
       stands = step.1;
-      left = left-ahead f (accepts f.trees (filter_of c.args.self.now)) c.args.top c.preceding-at.result c.in-Some.is
-          (sym c.if-accepts.ensures) step.0 ∙ c.loop-at.invariant.left;
+      left = left-ahead f c.args.top c.preceding-at.result c.in-Some.is step.0
+          (accepts f.trees (filter_of c.args.self.now)) (sym c.if-accepts.ensures) ∙ c.loop-at.invariant.left;
     }
 
 pub returns-then-accepts-clause-value : goal.returns-then-accepts-clause-value

@@ -15,43 +15,45 @@ use Rattle.dom_traversal.proofs.Searching.{IsWithin-key, preceding_step}
 use Rattle.dom_traversal.proofs.Chains.{above-chain, beyond-outside, ahead-outside, some_ahead}
 use Rattle.dom_traversal.proofs.iter.Iter.on_remove.Goals as goal
 
--- a node above the reference and not above the root stands in the root's tree
-below_root : (f : NamedTrees) → StandOnce f → StandAlone f → (root reference node : ℕ) → StandsIn f root reference → node < length f.names
-    → is_inclusive_ancestor f.trees (name_at f.names node) (name_at f.names root) ≡ false →
-    is_inclusive_ancestor f.trees (name_at f.names node) (name_at f.names reference) ≡ true → StandsIn f root node
-below_root f once only root reference node s at_node off above =
-    let chain = above-chain f.trees (name_at f.names root) (name_at f.names node) (name_at f.names reference) (Once-forest f once only)
-    (Has-forest f once reference s.node) (In-from _ _ s.within) (In-from _ _ above) in
-    elim chain [
-      | inl i ↦ record { node = at_node; within = is_in-from _ _ i }
-      | inr i ↦ absurd (In-not _ _ off i)
-    ]
+module _ (f : NamedTrees) (once : StandOnce f) (only : StandAlone f) (root node : ℕ)
+    (off : is_inclusive_ancestor f.trees (name_at f.names node) (name_at f.names root) ≡ false) where
+  -- a node above the reference and not above the root stands in the root's tree
+  below_root : (reference : ℕ) → StandsIn f root reference → node < length f.names →
+      is_inclusive_ancestor f.trees (name_at f.names node) (name_at f.names reference) ≡ true → StandsIn f root node
+  below_root reference s at_node above =
+      let chain = above-chain f.trees (name_at f.names root) (name_at f.names node) (name_at f.names reference) (Once-forest f once only)
+      (Has-forest f once reference s.node) (In-from _ _ s.within) (In-from _ _ above) in
+      elim chain [
+        | inl i ↦ record { node = at_node; within = is_in-from _ _ i }
+        | inr i ↦ absurd (In-not _ _ off i)
+      ]
 
--- and something stands before it there
-not_first : (f : NamedTrees) → StandOnce f → StandAlone f → (root node : ℕ) (found : Option ℕ) → StandsIn f root node →
-    is_inclusive_ancestor f.trees (name_at f.names node) (name_at f.names root) ≡ false
-    → option_map (name_at f.names) found ≡ last_of (ahead_of f.trees (name_at f.names root) (name_at f.names node)) → ((k : ℕ) → found ≡ Some k → ⊥) → ⊥
-not_first f once only root node found s off is empty =
-    let w = IsWithin-key f once only root node s in
-    let top = within-top f.trees (name_at f.names root) (name_at f.names node) w in
-    some_ahead f.trees (name_at f.names root) (name_at f.names node) top
-    (λ same. both_ways _ off (subst (λ (x : NodeName). is_inclusive_ancestor f.trees x (name_at f.names root) ≡ true) (sym same)
-    (above-within f.trees (name_at f.names root) (name_at f.names root) top)))
-    (sym is ∙ ap (option_map (name_at f.names)) (none_left found empty))
+  -- and something stands before it there
+  not_first : (found : Option ℕ) → StandsIn f root node
+      → option_map (name_at f.names) found ≡ last_of (ahead_of f.trees (name_at f.names root) (name_at f.names node)) → ((k : ℕ) → found ≡ Some k → ⊥) → ⊥
+  not_first found s is empty =
+      let w = IsWithin-key f once only root node s in
+      let top = within-top f.trees (name_at f.names root) (name_at f.names node) w in
+      some_ahead f.trees (name_at f.names root) (name_at f.names node) top
+      (λ same. both_ways _ off (subst (λ (x : NodeName). is_inclusive_ancestor f.trees x (name_at f.names root) ≡ true) (sym same)
+      (above-within f.trees (name_at f.names root) (name_at f.names root) top)))
+      (sym is ∙ ap (option_map (name_at f.names)) (none_left found empty))
 
 pub beyond-requires-clause-stands : goal.beyond-requires-clause-stands
 beyond-requires-clause-stands c =
     let f = c.args.forest.now in
     let placed = subst (IsIteratorOf f) (sym c.self.view_is) c.requires.iterator in
-    below_root f c.law_nodes_stand_once.ensures.once c.law_nodes_stand_once.ensures.only c.self.inside.root c.self.inside.reference c.args.node
-    placed.reference c.requires.node_is_node (sym c.if-is_inclusive_ancestor.ensures) (sym c.if-not-is_inclusive_ancestor.ensures)
+    below_root f c.law_nodes_stand_once.ensures.once c.law_nodes_stand_once.ensures.only c.self.inside.root c.args.node
+    (sym c.if-is_inclusive_ancestor.ensures) c.self.inside.reference placed.reference c.requires.node_is_node
+    (sym c.if-not-is_inclusive_ancestor.ensures)
 
 pub preceding-requires-clause-within : goal.preceding-requires-clause-within
 preceding-requires-clause-within c =
     let f = c.args.forest.now in
     let placed = subst (IsIteratorOf f) (sym c.self.view_is) c.requires.iterator in
-    (below_root f c.law_nodes_stand_once.ensures.once c.law_nodes_stand_once.ensures.only c.self.inside.root c.self.inside.reference c.args.node
-    placed.reference c.requires.node_is_node (sym c.if-is_inclusive_ancestor.ensures) (sym c.if-not-is_inclusive_ancestor.ensures)).within
+    (below_root f c.law_nodes_stand_once.ensures.once c.law_nodes_stand_once.ensures.only c.self.inside.root c.args.node
+    (sym c.if-is_inclusive_ancestor.ensures) c.self.inside.reference placed.reference c.requires.node_is_node
+    (sym c.if-not-is_inclusive_ancestor.ensures)).within
 
 pub returns-in-Some-clause-left : goal.returns-in-Some-clause-left
 returns-in-Some-clause-left c =
@@ -63,8 +65,8 @@ pub returns-in-Some-preceding-clause-kept : goal.returns-in-Some-preceding-claus
 returns-in-Some-preceding-clause-kept c =
     let f = c.args.forest.now in
     let placed = subst (IsIteratorOf f) (sym c.self.view_is) c.requires.iterator in
-    let below = below_root f c.law_nodes_stand_once.ensures.once c.law_nodes_stand_once.ensures.only c.self.inside.root c.self.inside.reference
-    c.args.node placed.reference c.requires.node_is_node (sym c.if-is_inclusive_ancestor.ensures)
+    let below = below_root f c.law_nodes_stand_once.ensures.once c.law_nodes_stand_once.ensures.only c.self.inside.root c.args.node
+    (sym c.if-is_inclusive_ancestor.ensures) c.self.inside.reference placed.reference c.requires.node_is_node
     (sym c.if-not-is_inclusive_ancestor.ensures) in
     let step = preceding_step c.law_nodes_stand_once.ensures.once c.law_nodes_stand_once.ensures.only
     (Some c.in-Some-preceding.previous) below c.in-Some-preceding.ensures.value c.in-Some-preceding.ensures.node in
@@ -74,8 +76,8 @@ pub returns-in-Some-preceding-clause-left : goal.returns-in-Some-preceding-claus
 returns-in-Some-preceding-clause-left c =
     let f = c.args.forest.now in
     let placed = subst (IsIteratorOf f) (sym c.self.view_is) c.requires.iterator in
-    let below = below_root f c.law_nodes_stand_once.ensures.once c.law_nodes_stand_once.ensures.only c.self.inside.root c.self.inside.reference
-    c.args.node placed.reference c.requires.node_is_node (sym c.if-is_inclusive_ancestor.ensures)
+    let below = below_root f c.law_nodes_stand_once.ensures.once c.law_nodes_stand_once.ensures.only c.self.inside.root c.args.node
+    (sym c.if-is_inclusive_ancestor.ensures) c.self.inside.reference placed.reference c.requires.node_is_node
     (sym c.if-not-is_inclusive_ancestor.ensures) in
     λ _. ahead-outside f.trees (name_at f.names c.self.inside.root) (name_at f.names c.args.node) (name_at f.names c.in-Some-preceding.previous)
     (IsWithin-key f c.law_nodes_stand_once.ensures.once c.law_nodes_stand_once.ensures.only c.self.inside.root c.args.node below)
@@ -85,8 +87,8 @@ pub returns-in_default-preceding-clause-left : goal.returns-in_default-preceding
 returns-in_default-preceding-clause-left c =
     let f = c.args.forest.now in
     let placed = subst (IsIteratorOf f) (sym c.self.view_is) c.requires.iterator in
-    let below = below_root f c.law_nodes_stand_once.ensures.once c.law_nodes_stand_once.ensures.only c.self.inside.root c.self.inside.reference
-    c.args.node placed.reference c.requires.node_is_node (sym c.if-is_inclusive_ancestor.ensures)
+    let below = below_root f c.law_nodes_stand_once.ensures.once c.law_nodes_stand_once.ensures.only c.self.inside.root c.args.node
+    (sym c.if-is_inclusive_ancestor.ensures) c.self.inside.reference placed.reference c.requires.node_is_node
     (sym c.if-not-is_inclusive_ancestor.ensures) in
-    λ _. absurd (not_first f c.law_nodes_stand_once.ensures.once c.law_nodes_stand_once.ensures.only c.self.inside.root c.args.node c.preceding.result
-    below (sym c.if-is_inclusive_ancestor.ensures) c.preceding.ensures.value c.in_default-preceding.not-Some)
+    λ _. absurd (not_first f c.law_nodes_stand_once.ensures.once c.law_nodes_stand_once.ensures.only c.self.inside.root c.args.node
+    (sym c.if-is_inclusive_ancestor.ensures) c.preceding.result below c.preceding.ensures.value c.in_default-preceding.not-Some)

@@ -38,7 +38,11 @@ first_reached-requires-clause-begins c =
     } in
     let b = IsBelow-key f inner.once inner.only c.self.inside.root c.self.inside.current (inner-below inner) in
     subst (λ (v : KeyedWalker). ForSome c.aside-from.result (BeginsForward f v c.self.inside.root)) c.self.view_is
-    (Begins-sibling f w b c.aside-from.result c.aside-from.ensures.value c.aside-from.ensures.below c.aside-from.ensures.stop)
+    (Begins-sibling f w b c.aside-from.result record {
+      value = c.aside-from.ensures.value;
+      below = c.aside-from.ensures.below;
+      stop = c.aside-from.ensures.stop;
+    })
 
 pub returns-clause-value : goal.returns-clause-value
 returns-clause-value c =

@@ -38,8 +38,12 @@ last_reached-requires-clause-begins c =
     } in
     let b = IsBelow-key f inner.once inner.only c.self.inside.root c.self.inside.current (inner-below inner) in
     subst (λ (v : KeyedWalker). ForSome c.aback-from.result (BeginsBackward f v c.self.inside.root)) c.self.view_is
-    (Begins-previous f w b c.aback-from.result c.aback-from.ensures.value c.aback-from.ensures.below c.aback-from.ensures.stop
-    c.aback-from.ensures.path)
+    (Begins-previous f w b c.aback-from.result record {
+      value = c.aback-from.ensures.value;
+      below = c.aback-from.ensures.below;
+      stop = c.aback-from.ensures.stop;
+      path = c.aback-from.ensures.path;
+    })
 
 pub returns-clause-value : goal.returns-clause-value
 returns-clause-value c =
