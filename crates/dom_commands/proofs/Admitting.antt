@@ -25,21 +25,21 @@ use Rattle.dom_admission.specs.Refusals.{early_refusal}
 use Rattle.dom_admission.proofs.Handling.{passed}
 use Rattle.dom_admission.proofs.Refusing.{IsNaming, refusal-of_names, namings}
 
--- a command that passes is refused by its own tests alone
-pub passes : (w : World) (o : Owner) (c : Command) (names : List Operand) (q : Option Refusal) → IsNaming c names →
-    let_pass (early_refusal w o names) ≡ Ok tt → q ≡ own_refusal (part_of w o) c →
-    let_pass q ≡ let_pass (refusal w o c)
-passes w o c names q is pass own =
-    ap let_pass (own ∙ sym (refusal-of_names w o c names is ∙ ap (λ e. option_or e (own_refusal (part_of w o) c)) (passed (early_refusal w o names) pass)))
+-- An owner's command, by what it names.
+module _ (w : World) (o : Owner) (c : Command) (names : List Operand) (is : IsNaming c names) where
+  -- a command that passes is refused by its own tests alone
+  pub passes : (q : Option Refusal) → let_pass (early_refusal w o names) ≡ Ok tt → q ≡ own_refusal (part_of w o) c →
+      let_pass q ≡ let_pass (refusal w o c)
+  passes q pass own =
+      ap let_pass (own ∙ sym (refusal-of_names w o c names is ∙ ap (λ e. option_or e (own_refusal (part_of w o) c)) (passed (early_refusal w o names) pass)))
 
--- one that doesn't is refused before
-pub stops : (w : World) (o : Owner) (c : Command) (names : List Operand) (f : Fault) → IsNaming c names →
-    let_pass (early_refusal w o names) ≡ Err f → Err f ≡ let_pass (refusal w o c)
-stops w o c names f is h = by (early_refusal w o names) h ∙ sym (ap let_pass (refusal-of_names w o c names is))
-  where
-    by : (e : Option Refusal) → let_pass e ≡ Err f → Err f ≡ let_pass (option_or e (own_refusal (part_of w o) c))
-    by None h = absurd cc
-    by (Some r) h = sym h
+  -- one that doesn't is refused before
+  pub stops : (f : Fault) → let_pass (early_refusal w o names) ≡ Err f → Err f ≡ let_pass (refusal w o c)
+  stops f h = by (early_refusal w o names) h ∙ sym (ap let_pass (refusal-of_names w o c names is))
+    where
+      by : (e : Option Refusal) → let_pass e ≡ Err f → Err f ≡ let_pass (option_or e (own_refusal (part_of w o) c))
+      by None h = absurd cc
+      by (Some r) h = sym h
 
 -- ---- the refusals of an event
 
@@ -60,17 +60,17 @@ target_passes w o x e =
     ap (option_or early) (no_related (part_of w o).owner (part_of w o) (named (part_of w o) (word_view x))) ∙ or_none early)
 
 -- with one
-pub related_passes : (w : World) (o : Owner) (x y : NodeWord) (e : EventWords) (q : Option Refusal) →
-    let_pass (early_refusal w o (Any x ∷ Any y ∷ [])) ≡ Ok tt →
-    q ≡ related_refusal o (part_of w o) (named (part_of w o) (word_view x)) (Some (word_view y)) →
-    let_pass q ≡ let_pass (refusal w o (Command.dispatch (word_view x) e (Some (word_view y))))
-related_passes w o x y e q pass is =
-    passes w o (Command.dispatch (word_view x) e (Some (word_view y))) (Any x ∷ Any y ∷ []) q (search namings) pass
-    (is ∙ ap (λ (a : Owner). related_refusal a (part_of w o) (named (part_of w o) (word_view x)) (Some (word_view y))) (sym (owner-part_of w o)))
+module _ (w : World) (o : Owner) (x y : NodeWord) (e : EventWords) where
+  pub related_passes : (q : Option Refusal) → let_pass (early_refusal w o (Any x ∷ Any y ∷ [])) ≡ Ok tt →
+      q ≡ related_refusal o (part_of w o) (named (part_of w o) (word_view x)) (Some (word_view y)) →
+      let_pass q ≡ let_pass (refusal w o (Command.dispatch (word_view x) e (Some (word_view y))))
+  related_passes q pass is =
+      passes w o (Command.dispatch (word_view x) e (Some (word_view y))) (Any x ∷ Any y ∷ []) (search namings) q pass
+      (is ∙ ap (λ (a : Owner). related_refusal a (part_of w o) (named (part_of w o) (word_view x)) (Some (word_view y))) (sym (owner-part_of w o)))
 
-pub related_stops : (w : World) (o : Owner) (x y : NodeWord) (e : EventWords) (f : Fault) → let_pass (early_refusal w o (Any x ∷ Any y ∷ [])) ≡ Err f →
-    Err f ≡ let_pass (refusal w o (Command.dispatch (word_view x) e (Some (word_view y))))
-related_stops w o x y e f h = stops w o (Command.dispatch (word_view x) e (Some (word_view y))) (Any x ∷ Any y ∷ []) f (search namings) h
+  pub related_stops : (f : Fault) → let_pass (early_refusal w o (Any x ∷ Any y ∷ [])) ≡ Err f →
+      Err f ≡ let_pass (refusal w o (Command.dispatch (word_view x) e (Some (word_view y))))
+  related_stops f h = stops w o (Command.dispatch (word_view x) e (Some (word_view y))) (Any x ∷ Any y ∷ []) (search namings) f h
 
 -- ---- what is refused, and what is not
 

@@ -43,9 +43,9 @@ module _ {A : Type 0} (f : World → A → Run World) where
   ran_none w all text = record { world = refl; text = refl }
 
   -- one more
-  pub ran_more : (was now then : World) (all rest : List A) (x : A) (before after next : List ℕ) → Ran was now all (x ∷ rest) before after →
+  pub ran_more : {was now then : World} {all rest : List A} {x : A} {before after next : List ℕ} → Ran was now all (x ∷ rest) before after →
       then ≡ (f now x).0 → next ≡ after ++ output_text (f now x).1 → Ran was then all rest before next
-  ran_more was now then all rest x before after next ran world text =
+  ran_more {now = now} {rest = rest} {x = x} {after = after} {next = next} ran world text =
       let r = f now x in
       record {
         world = ap (λ v. (run_each f v rest).0) world ∙ ran.world;
@@ -96,24 +96,25 @@ sound_from n w e at s b = record {
   bounds = subst IsBounded (sym e) b;
 }
 
--- with the tasks taken out
-pub taken_sound : (m n : MachineNow) → IsAtRest m → n.world ≡ record m.world { tasks = []; turn = None } → AreAtNodes n → IsAtRest n
-taken_sound m n s e at = sound_from n (record m.world { tasks = []; turn = None }) e at (at_end-stands m.world (stands m s)) s.bounds
+-- A machine at rest, and what becomes of it, with its listeners at nodes.
+module _ (m n : MachineNow) (sound : IsAtRest m) (at : AreAtNodes n) where
+  -- with the tasks taken out
+  pub taken_sound : n.world ≡ record m.world { tasks = []; turn = None } → IsAtRest n
+  taken_sound e = sound_from n (record m.world { tasks = []; turn = None }) e at (at_end-stands m.world (stands m sound)) sound.bounds
 
--- with an owner's observers told
-pub told_sound : (m n : MachineNow) (o : Owner) → IsThere m.world o → IsAtRest m →
-    n.world ≡ with_part (without_signals m.world o) (notified (part_of m.world o)) → AreAtNodes n → IsAtRest n
-told_sound m n o there s e at = sound_from n (with_part (without_signals m.world o) (notified (part_of m.world o))) e at
-    (told-stands m.world o there (stands m s)) (bounded-told m.world o s.bounds)
+  -- with an owner's observers told
+  pub told_sound : (o : Owner) → IsThere m.world o → n.world ≡ with_part (without_signals m.world o) (notified (part_of m.world o)) → IsAtRest n
+  told_sound o there e = sound_from n (with_part (without_signals m.world o) (notified (part_of m.world o))) e at
+      (told-stands m.world o there (stands m sound)) (bounded-told m.world o sound.bounds)
+
+  -- after an event
+  pub fired_sound : (x : NodeName) → n.world ≡ (dispatch_in m.world x None slotchange).run.0 → IsAtRest n
+  fired_sound x e = sound_from n (dispatch_in m.world x None slotchange).run.0 e at (dispatch-stands m.world x None slotchange (stands m sound))
+      (bounded-dispatch m.world x None slotchange sound.bounds)
 
 -- an event like `slotchange`, by another name
 abbrev pub named_event : Word → EventWords
 named_event n = record { event = n; bubbles = true; cancelable = false; composed = false }
-
--- after an event
-pub fired_sound : (m n : MachineNow) (x : NodeName) → IsAtRest m → n.world ≡ (dispatch_in m.world x None slotchange).run.0 → AreAtNodes n → IsAtRest n
-fired_sound m n x s e at = sound_from n (dispatch_in m.world x None slotchange).run.0 e at
-    (dispatch-stands m.world x None slotchange (stands m s)) (bounded-dispatch m.world x None slotchange s.bounds)
 
 -- what holds however a call ends
 pub on_ok : {T E : Type 0} {P : Type 0} (r : Result T E) → P → OnOk r P
@@ -130,8 +131,9 @@ module _ (s t : DocState) (ls : List (Listener ℕ)) (m : MachineNow) (seen : ma
       ap (λ (n : MachineNow). record n.world { tasks = []; turn = None }) seen
 
   pub closed_sound : IsAtRest (machine_now t ls)
-  closed_sound = taken_sound m (machine_now t ls) sound closed_world
-      (subst (λ (ns : List NodeName). AllByRecursion (IsListenerAt ns) ls) (sym names) (seen_at s ls m seen sound))
+  closed_sound =
+      taken_sound m (machine_now t ls) sound (subst (λ (ns : List NodeName). AllByRecursion (IsListenerAt ns) ls) (sym names) (seen_at s ls m seen sound))
+      closed_world
 
   -- the owners of the tasks of a turn that was closed are there
   pub closed_there : (ts : List Task) → ts ≡ s.world.tasks → AreThere (machine_now t ls).world ts
@@ -146,14 +148,14 @@ module _ (s t : DocState) (ls : List (Listener ℕ)) (m : MachineNow) (seen : ma
       (is ∙ ap (λ (n : MachineNow). n.world.tasks) seen)
 
 -- however it ends
-pub ended_world : {T E : Type 0} (r : Result T E) (u : World) (q p : Run World) → q ≡ p → OnOk r (u ≡ q.0) → OnOk r (u ≡ p.0)
-ended_world (Ok x) u q p same e = e ∙ ap (λ (z : Run World). z.0) same
-ended_world (Err x) u q p same e = tt
+pub ended_world : {T E : Type 0} {q p : Run World} (r : Result T E) (u : World) → q ≡ p → OnOk r (u ≡ q.0) → OnOk r (u ≡ p.0)
+ended_world (Ok x) u same e = e ∙ ap (λ (z : Run World). z.0) same
+ended_world (Err x) u same e = tt
 
-pub ended_text : {T E : Type 0} (r : Result T E) (before after : List ℕ) (q p : Run World) → q ≡ p → OnOk r (after ≡ before ++ output_text q.1) →
+pub ended_text : {T E : Type 0} {q p : Run World} (r : Result T E) (before after : List ℕ) → q ≡ p → OnOk r (after ≡ before ++ output_text q.1) →
     OnOk r (after ≡ before ++ output_text p.1)
-ended_text (Ok x) before after q p same e = e ∙ ap (λ (z : Run World). before ++ output_text z.1) same
-ended_text (Err x) before after q p same e = tt
+ended_text (Ok x) before after same e = e ∙ ap (λ (z : Run World). before ++ output_text z.1) same
+ended_text (Err x) before after same e = tt
 
 -- ---- a notification, in a world with listeners
 
@@ -193,8 +195,8 @@ module _ (s t u : DocState) (ls : List (Listener ℕ)) (m : MachineNow) (seen : 
 
     pub told_is_sound : IsAtRest (machine_now u ls)
     told_is_sound =
-        told_sound m (machine_now u ls) o here sound told_world
-        (subst (λ (ns : List NodeName). AllByRecursion (IsListenerAt ns) ls) (sym (u_names ∙ t_names)) (seen_at s ls m seen sound))
+        told_sound m (machine_now u ls) sound
+        (subst (λ (ns : List NodeName). AllByRecursion (IsListenerAt ns) ls) (sym (u_names ∙ t_names)) (seen_at s ls m seen sound)) o here told_world
 
     -- and the slots are those that were signalled
     pub told_slots : (keys : List ℕ) → map (name_at s.names) keys ≡ filter (is_owned_by o) s.world.signalled →
@@ -222,5 +224,3 @@ module _ (w v : World) (o : Owner) (told : v ≡ with_part (without_signals w o)
       let more = (run_each firing_slotchange (with_part (without_signals w o) (notified (part_of w o))) (filter (is_owned_by o) w.signalled)).1 in
       e ∙ ap (λ (q : Run World). mid ++ output_text q.1) signalled_run ∙ ap (λ (t : List ℕ). t ++ output_text more) first
       ∙ append_assoc before (output_text lines) (output_text more) ∙ ap (λ (t : List ℕ). before ++ t) (sym (output_text-append lines more))
-
--- ---- a label

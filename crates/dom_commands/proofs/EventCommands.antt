@@ -79,56 +79,69 @@ whole-opening w o h = either_way IsWhole (is_some w.turn) w (record w { turn = S
 
 -- ---- refusals
 
--- a command that is refused before it begins
-pub stopped-heard : (of : Owner → List (Listener NodeName)) (w : World) → FitsIn of w → (o : Owner) (c : Command) (text : List ℕ) (f : Fault) →
-    IsHandled o c w w text text (Err f) → IsHandled o c (heard of w) (heard of w) text text (Err f)
-stopped-heard of w fits o c text (Refused r) h = (refusal-heard of w fits o c ∙ h.0, refl, refl)
-stopped-heard of w fits o c text Memory h = tt
+-- An owner's command, in a world with the listeners of its owners.
+module _ (of : Owner → List (Listener NodeName)) (w : World) (fits : FitsIn of w) (o : Owner) (c : Command) where
+  -- a command that is refused before it begins
+  pub stopped-heard : (text : List ℕ) (f : Fault) → IsHandled o c w w text text (Err f) → IsHandled o c (heard of w) (heard of w) text text (Err f)
+  stopped-heard text (Refused r) h = (refusal-heard of w fits o c ∙ h.0, refl, refl)
+  stopped-heard text Memory h = tt
 
--- one that passes, and has no refusal of its own
-pub passed-heard : (of : Owner → List (Listener NodeName)) (w : World) → FitsIn of w → (o : Owner) (c : Command) (names : List Operand) →
-    IsNaming c names → let_pass (early_refusal w o names) ≡ Ok tt → own_refusal (part_of w o) c ≡ None →
-    refusal (heard of w) o c ≡ None
-passed-heard of w fits o c names is pass none =
-    refusal-heard of w fits o c ∙ refusal-of_names w o c names is ∙ ap (λ e. option_or e (own_refusal (part_of w o) c))
-    (passed (early_refusal w o names) pass) ∙ none
+  -- one that passes, and has no refusal of its own
+  pub passed-heard : (names : List Operand) → IsNaming c names → let_pass (early_refusal w o names) ≡ Ok tt → own_refusal (part_of w o) c ≡ None →
+      refusal (heard of w) o c ≡ None
+  passed-heard names is pass none =
+      refusal-heard of w fits o c ∙ refusal-of_names w o c names is ∙ ap (λ e. option_or e (own_refusal (part_of w o) c))
+      (passed (early_refusal w o names) pass) ∙ none
 
 -- ---- listeners
 
-module _ (names : List NodeName) (ls now : List (Listener ℕ)) (w : World) (there : OwnersAreThere names w)
-    (at : AllByRecursion (IsListenerAt names) ls) (at_now : AllByRecursion (IsListenerAt names) now)
-    (reached : IsReached false (heard (own_listeners names ls) w)) where
-  -- A command that passes, and then changes its owner's listeners alone.
-  pub listens : (o : Owner) (c : Command) (nodes : List Operand) (f : List (Listener NodeName) → List (Listener NodeName)) → IsNaming c nodes →
-      let_pass (early_refusal w o nodes) ≡ Ok tt → own_refusal (part_of w o) c ≡ None →
-      ((v : World) → accepted v o c ≡ effect_in (opening_turn v o) o (effect (part_of (opening_turn v o) o) c)) →
-      ((p : Part) → p.owner ≡ o → effect p c ≡ keeps (record p { listeners = f p.listeners }) nothing) →
-      own_listeners names now o ≡ f (own_listeners names ls o) → ((q : Owner) → o ≢ q → own_listeners names now q ≡ own_listeners names ls q) →
-      (end : World) (before after : List ℕ) (r : Result (Unit {0}) Fault) → IsDone None (opening_turn w o, says o (replied nothing) ∷ []) w end before after r →
-      IsHandled o c (heard (own_listeners names ls) w) (heard (own_listeners names now) end) before after r
-  listens o c nodes f is pass none runs does mine others end before after (Err (Refused q)) done = let no : None ≡ Some q = done.0 in absurd cc
-  listens o c nodes f is pass none runs does mine others end before after (Err Memory) done = tt
-  listens o c nodes f is pass none runs does mine others end before after (Ok x) done =
-      let of = own_listeners names ls in
-      let to = own_listeners names now in
-      let here : is_there w o ≡ true = admitted w o nodes pass in
-      let v = opening_turn w o in
-      let fits : FitsIn of w = fits-own names w there ls at in
-      let fits_v : FitsIn of v = fits-opening of w o fits in
-      let fits_to : FitsIn to v = fits-opening to w o (fits-own names w there now at_now) in
-      let reached_v : IsReached false (heard of v) =
-      subst (IsReached false) (opening-heard of w o) (reached-opening (heard of w) o (there-heard of w o ∙ here) reached) in
-      let p = part_of (heard of v) o in
-      let hears : p.listeners ≡ of o = ap (λ (q : Part). q.listeners) (part-heard of v fits_v o) ∙ ap of (owner-part_of v o) in
-      let run : accepted (heard of w) o c ≡ (heard to v, says o (replied nothing) ∷ []) =
-      runs (heard of w) ∙ ap (λ (u : World). effect_in u o (effect (part_of u o) c)) (opening-heard of w o) ∙
-      ap (effect_in (heard of v) o) (does p (owner-part_of (heard of v) o))
-      ∙ ap (λ (u : World). (u, says o (replied nothing) ∷ []))
-      (written-heard of to v fits_v fits_to reached_v o (opened-there w o here) (f p.listeners) (mine ∙ ap f (sym hears)) others) in (
-        passed-heard of w fits o c nodes is pass none,
-        ap (heard to) done.1 ∙ sym (ap (λ (q : Run World). q.0) run),
-        done.2 ∙ sym (ap (λ (q : Run World). before ++ output_text q.1) run),
-      )
+-- A command that passes and changes its owner's listeners alone, in a world where the listeners by keys are these, and then those.
+pub record ChangesListeners (names : List NodeName) (ls now : List (Listener ℕ)) (w : World) (o : Owner) (c : Command) : Type 0 where
+  -- these and those are at nodes, whose owners are there in a world that is reached
+  pub there : OwnersAreThere names w
+  pub at : AllByRecursion (IsListenerAt names) ls
+  pub at_now : AllByRecursion (IsListenerAt names) now
+  pub reached : IsReached false (heard (own_listeners names ls) w)
+  -- the command names these nodes, passes, and has no refusal of its own
+  pub nodes : List Operand
+  pub is : IsNaming c nodes
+  pub pass : let_pass (early_refusal w o nodes) ≡ Ok tt
+  pub none : own_refusal (part_of w o) c ≡ None
+  -- its effect is this change, which makes those of these, and leaves other owners' as they are
+  pub change : List (Listener NodeName) → List (Listener NodeName)
+  pub runs : (v : World) → accepted v o c ≡ effect_in (opening_turn v o) o (effect (part_of (opening_turn v o) o) c)
+  pub does : (p : Part) → p.owner ≡ o → effect p c ≡ keeps (record p { listeners = change p.listeners }) nothing
+  pub mine : own_listeners names now o ≡ change (own_listeners names ls o)
+  pub others : (q : Owner) → o ≢ q → own_listeners names now q ≡ own_listeners names ls q
+
+-- such a command is handled in the world with listeners
+pub listens : {names : List NodeName} {ls now : List (Listener ℕ)} {w : World} {o : Owner} {c : Command} → ChangesListeners names ls now w o c →
+    (end : World) (before after : List ℕ) (r : Result (Unit {0}) Fault) → IsDone None (opening_turn w o, says o (replied nothing) ∷ []) w end before after r →
+    IsHandled o c (heard (own_listeners names ls) w) (heard (own_listeners names now) end) before after r
+listens changing end before after (Err (Refused q)) done = let no : None ≡ Some q = done.0 in absurd cc
+listens changing end before after (Err Memory) done = tt
+listens {names = names} {ls = ls} {now = now} {w = w} {o = o} {c = c} changing end before after (Ok x) done =
+    let of = own_listeners names ls in
+    let to = own_listeners names now in
+    let here : is_there w o ≡ true = admitted w o changing.nodes changing.pass in
+    let v = opening_turn w o in
+    let fits : FitsIn of w = fits-own names w changing.there ls changing.at in
+    let fits_v : FitsIn of v = fits-opening of w o fits in
+    let fits_to : FitsIn to v = fits-opening to w o (fits-own names w changing.there now changing.at_now) in
+    let reached_v : IsReached false (heard of v) =
+    subst (IsReached false) (opening-heard of w o) (reached-opening (heard of w) o (there-heard of w o ∙ here) changing.reached) in
+    let p = part_of (heard of v) o in
+    let hears : p.listeners ≡ of o = ap (λ (q : Part). q.listeners) (part-heard of v fits_v o) ∙ ap of (owner-part_of v o) in
+    let run : accepted (heard of w) o c ≡ (heard to v, says o (replied nothing) ∷ []) =
+    changing.runs (heard of w) ∙ ap (λ (u : World). effect_in u o (effect (part_of u o) c)) (opening-heard of w o) ∙
+    ap (effect_in (heard of v) o) (changing.does p (owner-part_of (heard of v) o))
+    ∙ ap (λ (u : World). (u, says o (replied nothing) ∷ []))
+    (written-heard of to v fits_v fits_to reached_v o (opened-there w o here) (changing.change p.listeners) (changing.mine ∙ ap changing.change (sym hears))
+    changing.others) in (
+      passed-heard of w fits o c changing.nodes changing.is changing.pass changing.none,
+      ap (heard to) done.1 ∙ sym (ap (λ (q : Run World). q.0) run),
+      done.2 ∙ sym (ap (λ (q : Run World). before ++ output_text q.1) run),
+    )
 
 -- an owner's parts read a spelling alike
 pub named_alike : (p q : Part) (x : NodeWord) → p.owner ≡ q.owner → named p x ≡ named q x
@@ -148,30 +161,46 @@ module _ (names : List NodeName) (ls : List (Listener ℕ)) (w : World) (apart :
   its_name p e = named_alike p (part_of w o) x (e ∙ sym (owner-part_of w o)) ∙ sym name
 
   -- `listen`
-  pub listen_handled : (words : ListenerWords) → IsNaming (Command.listen x words) nodes → (end : World) (before after : List ℕ) (r : Result (Unit {0}) Fault) →
-      IsDone None (opening_turn w o, says o (replied nothing) ∷ []) w end before after r →
-      IsHandled o (Command.listen x words) (heard (own_listeners names ls) w) (heard (own_listeners names (listened nat_eq k words ls)) end) before after r
-  listen_handled words is end before after r done =
+  pub listening : (words : ListenerWords) → IsNaming (Command.listen x words) nodes →
+      ChangesListeners names ls (listened nat_eq k words ls) w o (Command.listen x words)
+  listening words is =
       let y = name_at names k in
-      listens names ls (listened nat_eq k words ls) w there at (at-listened names apart ls at k within words) reached o (Command.listen x words)
-      nodes (listened name_eq y words) is pass refl (λ v. refl)
-      (λ p e. ap (λ (z : NodeName). keeps (record p { listeners = listened name_eq z words p.listeners }) nothing) (its_name p e))
-      (subst (λ (a : Owner). own_listeners names (listened nat_eq k words ls) a ≡ listened name_eq y words (own_listeners names ls a)) its_owner
-      (own-listened names apart ls at k within words))
-      (λ q other. others-listened names apart ls at k within words q (λ e. other (sym its_owner ∙ e))) end before after r done
+      record {
+        there = there;
+        at = at;
+        at_now = at-listened names apart ls at k within words;
+        reached = reached;
+        nodes = nodes;
+        is = is;
+        pass = pass;
+        none = refl;
+        change = listened name_eq y words;
+        runs = λ v. refl;
+        does = λ p e. ap (λ (z : NodeName). keeps (record p { listeners = listened name_eq z words p.listeners }) nothing) (its_name p e);
+        mine = subst (λ (a : Owner). own_listeners names (listened nat_eq k words ls) a ≡ listened name_eq y words (own_listeners names ls a)) its_owner
+            (own-listened names apart ls at k within words);
+        others = λ q other. others-listened names apart ls at k within words q (λ e. other (sym its_owner ∙ e));
+      }
 
   -- `unlisten`
-  pub unlisten_handled : (event label : Word) (capture : Bool) → IsNaming (Command.unlisten x event label capture) nodes →
-      (end : World) (before after : List ℕ) (r : Result (Unit {0}) Fault) →
-      IsDone None (opening_turn w o, says o (replied nothing) ∷ []) w end before after r →
-      IsHandled o (Command.unlisten x event label capture) (heard (own_listeners names ls) w)
-      (heard (own_listeners names (unlistened nat_eq k event label capture ls)) end) before after r
-  unlisten_handled event label capture is end before after r done =
+  pub unlistening : (event label : Word) (capture : Bool) → IsNaming (Command.unlisten x event label capture) nodes →
+      ChangesListeners names ls (unlistened nat_eq k event label capture ls) w o (Command.unlisten x event label capture)
+  unlistening event label capture is =
       let y = name_at names k in
       let less = unlistened nat_eq k event label capture ls in
-      listens names ls less w there at (at-unlistened names apart ls at k within event label capture) reached o
-      (Command.unlisten x event label capture) nodes (unlistened name_eq y event label capture) is pass refl (λ v. refl)
-      (λ p e. ap (λ (z : NodeName). keeps (record p { listeners = unlistened name_eq z event label capture p.listeners }) nothing) (its_name p e))
-      (subst (λ (a : Owner). own_listeners names less a ≡ unlistened name_eq y event label capture (own_listeners names ls a)) its_owner
-      (own-unlistened names apart ls at k within event label capture))
-      (λ q other. others-unlistened names apart ls at k within event label capture q (λ e. other (sym its_owner ∙ e))) end before after r done
+      record {
+        there = there;
+        at = at;
+        at_now = at-unlistened names apart ls at k within event label capture;
+        reached = reached;
+        nodes = nodes;
+        is = is;
+        pass = pass;
+        none = refl;
+        change = unlistened name_eq y event label capture;
+        runs = λ v. refl;
+        does = λ p e. ap (λ (z : NodeName). keeps (record p { listeners = unlistened name_eq z event label capture p.listeners }) nothing) (its_name p e);
+        mine = subst (λ (a : Owner). own_listeners names less a ≡ unlistened name_eq y event label capture (own_listeners names ls a)) its_owner
+            (own-unlistened names apart ls at k within event label capture);
+        others = λ q other. others-unlistened names apart ls at k within event label capture q (λ e. other (sym its_owner ∙ e));
+      }

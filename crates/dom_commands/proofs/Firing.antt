@@ -66,17 +66,24 @@ Fires names t m now target related e outcome =
     AllByRecursion (IsListenerAt t.names) now × ((machine_now t now).world ≡ d.run.0) × (map (line_shown names) outcome.lines.items ≡ d.run.1) ×
     (outcome.answer ≡ d.answer)
 
+-- A state with these listeners is seen as a machine at rest, and its trees and hosts are these.
+pub record IsShownAtRest (s : DocState) (ls : List (Listener ℕ)) (m : MachineNow) (f : NamedTrees) (hosts : List ShadowHost) : Type 0 where
+  pub seen : machine_now s ls ≡ m
+  pub sound : IsAtRest m
+  pub names : f.names ≡ s.names
+  pub there : OwnersAreThere s.names s.world
+  pub shown : IsShownBy (shadows f hosts) s.world
+
 -- in a machine that is seen so
-pub fired : (s : DocState) (ls now : List (Listener ℕ)) (m : MachineNow) → machine_now s ls ≡ m → IsAtRest m →
-    (f : NamedTrees) (hosts : List ShadowHost) → f.names ≡ s.names → OwnersAreThere s.names s.world →
-    IsShownBy (shadows f hosts) s.world → (target : ℕ) (related : Option ℕ) (e : EventWords) (outcome : Outcome) →
-    IsDispatched f hosts ls now target related e outcome →
-    (AllByRecursion (IsListenerAt f.names) ls → IsDispatchedIn f hosts ls now target related e outcome) → Fires f.names s m now target related e outcome
-fired s ls now m seen sound f hosts ns there shown target related e outcome keys names =
-    subst (λ (n : MachineNow). Fires f.names s n now target related e outcome) seen
+pub fired : {f : NamedTrees} {hosts : List ShadowHost} {ls now : List (Listener ℕ)} {target : ℕ} {related : Option ℕ} {e : EventWords} {outcome : Outcome}
+    (s : DocState) (m : MachineNow) → IsDispatched f hosts ls now target related e outcome →
+    (AllByRecursion (IsListenerAt f.names) ls → IsDispatchedIn f hosts ls now target related e outcome) → IsShownAtRest s ls m f hosts →
+    Fires f.names s m now target related e outcome
+fired {f = f} {hosts = hosts} {ls = ls} {now = now} {target = target} {related = related} {e = e} {outcome = outcome} s m keys names is =
+    subst (λ (n : MachineNow). Fires f.names s n now target related e outcome) is.seen
     (subst (λ (t : DocState). IsAtRest (machine_now t ls) → OwnersAreThere t.names t.world → IsShownBy (shadows f hosts) t.world →
     Fires f.names t (machine_now t ls) now target related e outcome)
-    (ap (λ (xs : List NodeName). state xs) ns) from (subst IsAtRest (sym seen) sound) there shown)
+    (ap (λ (xs : List NodeName). state xs) is.names) from (subst IsAtRest (sym is.seen) is.sound) is.there is.shown)
   where
     state : List NodeName → DocState
     state xs = record { names = xs; world = s.world }

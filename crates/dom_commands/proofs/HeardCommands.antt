@@ -228,16 +228,20 @@ module _ (of : Owner → List (Listener NodeName)) where
       by Command.end_turn plain new = absurd cc
       by c plain new = through c plain new
 
+  -- A plain command in a world that these listeners fit: if it is accepted, the component that it makes has none.
+  pub record IsHeardPlain (w : World) (o : Owner) (c : Command) : Type 0 where
+    pub fits : FitsIn of w
+    pub plain : is_plain c ≡ true
+    pub new : refusal w o c ≡ None → IsNew (opening_turn w o) o c
+
   -- what is handled in a world is handled in it with listeners
-  pub handled-heard : (w v : World) → FitsIn of w → (o : Owner) (c : Command) → is_plain c ≡ true →
-      (refusal w o c ≡ None → IsNew (opening_turn w o) o c) → (before after : List ℕ) (r : Result (Unit {0}) Fault) →
+  pub handled-heard : {w : World} {o : Owner} {c : Command} (v : World) → IsHeardPlain w o c → (before after : List ℕ) (r : Result (Unit {0}) Fault) →
       IsHandled o c w v before after r → IsHandled o c (heard of w) (heard of v) before after r
-  handled-heard w v fits o c plain new before after (Ok x) h =
-      let same = accepted-heard w fits o c plain (new h.0) in (
-        refusal-heard w fits o c ∙ h.0,
+  handled-heard {w = w} {o = o} {c = c} v is before after (Ok x) h =
+      let same = accepted-heard w is.fits o c is.plain (is.new h.0) in (
+        refusal-heard w is.fits o c ∙ h.0,
         ap (heard of) h.1 ∙ sym (ap (λ (q : Run World). q.0) same),
-        h.2 ∙
-            sym (ap (λ (q : Run World). before ++ output_text q.1) same),
+        h.2 ∙ sym (ap (λ (q : Run World). before ++ output_text q.1) same),
       )
-  handled-heard w v fits o c plain new before after (Err (Refused r)) h = (refusal-heard w fits o c ∙ h.0, ap (heard of) h.1, h.2)
-  handled-heard w v fits o c plain new before after (Err Memory) h = tt
+  handled-heard {w = w} {o = o} {c = c} v is before after (Err (Refused r)) h = (refusal-heard w is.fits o c ∙ h.0, ap (heard of) h.1, h.2)
+  handled-heard v is before after (Err Memory) h = tt

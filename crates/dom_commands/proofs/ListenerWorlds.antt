@@ -188,11 +188,6 @@ module _ (of : Owner → List (Listener NodeName)) where
 
   -- ---- steps
 
-  signals-heard : (was now : World) → FitsIn was → FitsIn now → (x around : NodeName) (is_move : Bool) →
-      signals (heard of was) (heard of now) x around is_move ≡ signals was now x around is_move
-  signals-heard was now before after x around is_move =
-      λ j. signals_from (trees-same was before j) (hosts-same was before j) (trees-same now after j) (hosts-same now after j) x around is_move
-
   -- a step in a part
   pub step-hearing : (p : Part) (s : Step) → part_step (hearing of p) s ≡ hearing of (part_step p s)
   step-hearing p (make n) = refl
@@ -237,19 +232,26 @@ module _ (of : Owner → List (Listener NodeName)) where
   fits-documents d w (c ∷ cs) fits = fits-documents d (with_shadow_document d w c) cs
       (fits-with_part w (part_step (part_of w c) (set_document (shadow_root_of c) d)) fits)
 
-  -- the signals behind a step
-  with_signals-heard : (o : Owner) (w : World) (s : Step) → FitsIn w → (x around : NodeName) (is_move : Bool) →
-      with_signals (heard of w) (stepped o (heard of w) s) x around is_move ≡ heard of (with_signals w (stepped o w s) x around is_move)
-  with_signals-heard o w s fits x around is_move =
-      let now = stepped o w s in
-      ap (λ (v : World). with_signals (heard of w) v x around is_move) (stepped-heard o w s fits)
-      ∙ ap (fold with_signal (heard of now)) (signals-heard w now fits (fits-with_part w (part_step (part_of w o) s) fits) x around is_move)
-      ∙ signal-heard now (signals w now x around is_move)
+  -- The signals of a node and of that around it.
+  module _ (x around : NodeName) (is_move : Bool) where
+    signals-heard : (was now : World) → FitsIn was → FitsIn now →
+        signals (heard of was) (heard of now) x around is_move ≡ signals was now x around is_move
+    signals-heard was now before after =
+        λ j. signals_from (trees-same was before j) (hosts-same was before j) (trees-same now after j) (hosts-same now after j) x around is_move
+
+    -- behind a step
+    with_signals-heard : (o : Owner) (w : World) (s : Step) → FitsIn w →
+        with_signals (heard of w) (stepped o (heard of w) s) x around is_move ≡ heard of (with_signals w (stepped o w s) x around is_move)
+    with_signals-heard o w s fits =
+        let now = stepped o w s in
+        ap (λ (v : World). with_signals (heard of w) v x around is_move) (stepped-heard o w s fits)
+        ∙ ap (fold with_signal (heard of now)) (signals-heard w now fits (fits-with_part w (part_step (part_of w o) s) fits))
+        ∙ signal-heard now (signals w now x around is_move)
 
   removal-heard : (o : Owner) (w : World) (s : Step) → FitsIn w → (x : NodeName) (parent : Option NodeName) →
       with_removal_signals (heard of w) (stepped o (heard of w) s) x parent ≡ heard of (with_removal_signals w (stepped o w s) x parent)
   removal-heard o w s fits x None = stepped-heard o w s fits
-  removal-heard o w s fits x (Some parent) = with_signals-heard o w s fits x parent true
+  removal-heard o w s fits x (Some parent) = with_signals-heard x parent true o w s fits
 
   notify-heard : (b : Bool) (o : Owner) (w : World) → with_notify_if b o (heard of w) ≡ heard of (with_notify_if b o w)
   notify-heard true o w = refl
@@ -258,7 +260,7 @@ module _ (of : Owner → List (Listener NodeName)) where
   step-heard : (o : Owner) (w : World) (s : Step) → FitsIn w → world_step o (heard of w) s ≡ heard of (world_step o w s)
   step-heard o w (make n) fits = stepped-heard o w (make n) fits
   step-heard o w (make_room parent index count) fits = stepped-heard o w (make_room parent index count) fits
-  step-heard o w (place x parent before) fits = with_signals-heard o w (place x parent before) fits x parent true
+  step-heard o w (place x parent before) fits = with_signals-heard x parent true o w (place x parent before) fits
   step-heard o w (take_out x) fits =
       ap (λ (p : Part). with_removal_signals (heard of w) (stepped o (heard of w) (take_out x)) x (parent_of p.trees x)) (part-heard w fits o) ∙
       removal-heard o w (take_out x) fits x (parent_of (part_of w o).trees x)
@@ -267,7 +269,7 @@ module _ (of : Owner → List (Listener NodeName)) where
       ap (fold (with_shadow_document d) (stepped o (heard of w) s)) (components-heard w fits max_depth x)
       ∙ ap (λ (v : World). fold (with_shadow_document d) v (components_below max_depth w x)) (stepped-heard o w s fits)
       ∙ documents-heard d (stepped o w s) (components_below max_depth w x) (fits-with_part w (part_step (part_of w o) s) fits)
-  step-heard o w (set_attribute x a v) fits = with_signals-heard o w (set_attribute x a v) fits x x false
+  step-heard o w (set_attribute x a v) fits = with_signals-heard x x false o w (set_attribute x a v) fits
   step-heard o w (replace_data x offset count new) fits = stepped-heard o w (replace_data x offset count new) fits
   step-heard o w (split_at x offset new parent index) fits = stepped-heard o w (split_at x offset new parent index) fits
   step-heard o w (join_at first size next parent index) fits = stepped-heard o w (join_at first size next parent index) fits

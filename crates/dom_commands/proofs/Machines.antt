@@ -37,7 +37,7 @@ use Rattle.dom_commands.specs.CommandGroups.{is_plain}
 use Rattle.dom_commands.proofs.Bounded.{bounded-unheard, first_nodes-unheard}
 use Rattle.dom_admission.proofs.Handling.{opened-part}
 use Rattle.dom_commands.proofs.ListenerWorlds.{FitsIn, there-heard, part-heard}
-use Rattle.dom_commands.proofs.HeardCommands.{IsNew, handled-heard}
+use Rattle.dom_commands.proofs.HeardCommands.{IsNew, IsHeardPlain, handled-heard}
 use Rattle.dom_commands.proofs.Listening.{OwnersAreThere, fits-own, at-kept, own-kept}
 use Rattle.dom_commands.proofs.RangeLaws.{range_ends-unheard, shadow_roots-unheard}
 
@@ -45,25 +45,30 @@ use Rattle.dom_commands.proofs.RangeLaws.{range_ends-unheard, shadow_roots-unhea
 pub begins_same : (names : List NodeName) → BeginsWith names names
 begins_same names = take-length names
 
--- The component that an owner's next attach makes was not there.
-next_absent : (of : Owner → List (Listener NodeName)) (w : World) → FitsIn of w → IsReached false (heard of w) → (o : Owner) → MayAttach o →
-    is_there w (component_made o (length (part_of w o).attached)) ≡ false
-next_absent of w fits reached o may =
-    let hosts = (part_of w o).attached in
-    let c = component_made o (length hosts) in
-    sym (there-heard of w c) ∙ attached-are_there false (heard of w) reached c (component_made-no_page o (length hosts))
-    ∙ ap is_some (host_of-made (heard of w) o (length hosts) may)
-    ∙ ap (λ (p : Part). is_some (slice_get p.attached (length hosts))) (part-heard of w fits o) ∙
-    ap is_some (slice_get_past hosts (length hosts) (omega arith))
+-- A world that is reached, with the listeners of its owners.
+module _ (of : Owner → List (Listener NodeName)) (w : World) (fits : FitsIn of w) (reached : IsReached false (heard of w)) where
+  -- The component that an owner's next attach makes was not there.
+  next_absent : (o : Owner) → MayAttach o → is_there w (component_made o (length (part_of w o).attached)) ≡ false
+  next_absent o may =
+      let hosts = (part_of w o).attached in
+      let c = component_made o (length hosts) in
+      sym (there-heard of w c) ∙ attached-are_there false (heard of w) reached c (component_made-no_page o (length hosts))
+      ∙ ap is_some (host_of-made (heard of w) o (length hosts) may)
+      ∙ ap (λ (p : Part). is_some (slice_get p.attached (length hosts))) (part-heard of w fits o) ∙
+      ap is_some (slice_get_past hosts (length hosts) (omega arith))
 
--- so the component that a command makes has no listeners
-made_new : (of : Owner → List (Listener NodeName)) (w : World) → FitsIn of w → IsReached false (heard of w) → (o : Owner) (c : Command) →
-    refusal w o c ≡ None → IsNew of (opening_turn w o) o c
-made_new of w fits reached o (Command.attach x) passes =
-    let may = attach-may w o x (accepted-facts w o (Command.attach x) passes).part in
-    ap (λ (p : Part). of (component_made o (length p.attached))) (sym (opened-part w o)) ∙
-    fits (component_made o (length (part_of w o).attached)) (next_absent of w fits reached o may)
-made_new of w fits reached o c passes = tt
+  -- so the component that a command makes has no listeners
+  made_new : (o : Owner) (c : Command) → refusal w o c ≡ None → IsNew of (opening_turn w o) o c
+  made_new o (Command.attach x) passes =
+      let may = attach-may w o x (accepted-facts w o (Command.attach x) passes).part in
+      ap (λ (p : Part). of (component_made o (length p.attached))) (sym (opened-part w o)) ∙
+      fits (component_made o (length (part_of w o).attached)) (next_absent o may)
+  made_new o c passes = tt
+
+-- What an owner's command did from one state to another: it kept the names of nodes, and is handled in the world of the documents.
+pub record IsCarriedOut (s t : DocState) (o : Owner) (c : Command) (before after : List ℕ) (r : Result (Unit {0}) Fault) : Type 0 where
+  pub names : KeepsNames s.names t.names r
+  pub handled : IsHandled o c s.world t.world before after r
 
 module _ (s t : DocState) (ls : List (Listener ℕ)) (there : OwnersAreThere s.names s.world) (at : AllByRecursion (IsListenerAt s.names) ls) where
   -- listeners hear in the state behind as before
@@ -71,17 +76,19 @@ module _ (s t : DocState) (ls : List (Listener ℕ)) (there : OwnersAreThere s.n
   heard_kept kept = ap (λ of. heard of t.world) (sym (own-kept s.names t.names kept ls at))
 
   -- such a command
-  pub plain_handled : IsReached false (machine_now s ls).world → (o : Owner) (c : Command) → is_plain c ≡ true →
-      (before after : List ℕ) (r : Result (Unit {0}) Fault) → KeepsNames s.names t.names r → IsHandled o c s.world t.world before after r →
-      IsHandled o c (machine_now s ls).world (machine_now t ls).world before after r
-  plain_handled reached o c plain before after r kept h =
-      by r kept (handled-heard of s.world t.world fits o c plain (λ e. made_new of s.world fits reached o c e) before after r h)
+  pub plain_handled : {o : Owner} {c : Command} {before after : List ℕ} {r : Result (Unit {0}) Fault} → IsCarriedOut s t o c before after r →
+      IsReached false (machine_now s ls).world → is_plain c ≡ true → IsHandled o c (machine_now s ls).world (machine_now t ls).world before after r
+  plain_handled {o = o} {c = c} {before = before} {after = after} {r = r} done reached plain =
+      by r done.names (handled-heard of t.world heard_plain before after r done.handled)
     where
       of : Owner → List (Listener NodeName)
       of = own_listeners s.names ls
 
       fits : FitsIn of s.world
       fits = fits-own s.names s.world there ls at
+
+      heard_plain : IsHeardPlain of s.world o c
+      heard_plain = record { fits = fits; plain = plain; new = λ e. made_new of s.world fits reached o c e }
 
       by : (r : Result (Unit {0}) Fault) → KeepsNames s.names t.names r → IsHandled o c (heard of s.world) (heard of t.world) before after r →
           IsHandled o c (machine_now s ls).world (machine_now t ls).world before after r

@@ -29,15 +29,20 @@ use Rattle.dom_commands.proofs.EventCommands.{named_alike, reached-opening, whol
 use Rattle.dom_commands.proofs.HeardCommands.{opening-heard}
 use Rattle.dom_text.proofs.OutputLaws.{output_text-append}
 
+-- An owner's turn is opened in a state.
+pub record IsOpened (s t : DocState) (o : Owner) : Type 0 where
+  pub names : t.names ≡ s.names
+  pub world : t.world ≡ opening_turn s.world o
+
 -- a machine stays sound when a turn is opened
-pub opened_sound : (s t : DocState) (ls : List (Listener ℕ)) (o : Owner) → t.names ≡ s.names → t.world ≡ opening_turn s.world o →
-    is_there (machine_now s ls).world o ≡ true → IsAtRest (machine_now s ls) → IsAtRest (machine_now t ls)
-opened_sound s t ls o names world there sound =
+pub opened_sound : {s t : DocState} {o : Owner} (ls : List (Listener ℕ)) → IsOpened s t o → is_there (machine_now s ls).world o ≡ true →
+    IsAtRest (machine_now s ls) → IsAtRest (machine_now t ls)
+opened_sound {s = s} {t = t} {o = o} ls opened there sound =
     let of = own_listeners s.names ls in
     let is : opening_turn (heard of s.world) o ≡ (machine_now t ls).world =
-    opening-heard of s.world o ∙ ap (heard of) (sym world) ∙ ap (λ (ns : List NodeName). heard (own_listeners ns ls) t.world) (sym names) in
+    opening-heard of s.world o ∙ ap (heard of) (sym opened.world) ∙ ap (λ (ns : List NodeName). heard (own_listeners ns ls) t.world) (sym opened.names) in
     record {
-      listeners = subst (λ (ns : List NodeName). AllByRecursion (IsListenerAt ns) ls) (sym names) sound.listeners;
+      listeners = subst (λ (ns : List NodeName). AllByRecursion (IsListenerAt ns) ls) (sym opened.names) sound.listeners;
       reached = subst (IsReached false) is (reached-opening (heard of s.world) o there sound.reached);
       whole = subst IsWhole is (whole-opening (heard of s.world) o sound.whole);
       bounds = subst IsBounded is (bounded-opening (heard of s.world) o sound.bounds);
@@ -52,18 +57,30 @@ pub opened_names : (w v : World) (o : Owner) (r : Option line.NodeWord) →
 opened_names w v o None = refl
 opened_names w v o (Some x) = ap Some (opened_name w v o (word_view x))
 
--- what a dispatch does: its world, its lines, and then its answer
-pub dispatch_handled : (w : World) (o : Owner) (x : NodeWord) (e : EventWords) (related : Option NodeWord) (d : Dispatched World) →
-    refusal w o (Command.dispatch x e related) ≡ None →
-    d ≡ dispatch_in (opening_turn w o) (named (part_of (opening_turn w o) o) x) (option_map (named (part_of (opening_turn w o) o)) related) e →
-    (end : World) (before middle after : List ℕ) (answer : Bool) →
-    end ≡ d.run.0 → middle ≡ before ++ output_text d.run.1 → answer ≡ d.answer → after ≡ middle ++ output_text (says o (replied (a_truth answer)) ∷ []) →
+-- What a dispatch did in its owner's turn: its world, its lines, up to the text in the middle, and then its answer.
+pub record HasDispatched (w : World) (o : Owner) (x : NodeWord) (e : EventWords) (related : Option NodeWord) (end : World)
+    (before after : List ℕ) : Type 0 where
+  pub dispatched : Dispatched World
+  pub same : dispatched ≡ dispatch_in (opening_turn w o) (named (part_of (opening_turn w o) o) x)
+      (option_map (named (part_of (opening_turn w o) o)) related) e
+  pub middle : List ℕ
+  pub answer : Bool
+  pub world : end ≡ dispatched.run.0
+  pub text : middle ≡ before ++ output_text dispatched.run.1
+  pub truth : answer ≡ dispatched.answer
+  pub ending : after ≡ middle ++ output_text (says o (replied (a_truth answer)) ∷ [])
+
+-- it is handled, where it is not refused
+pub dispatch_handled : {w : World} {o : Owner} {x : NodeWord} {e : EventWords} {related : Option NodeWord} {end : World} {before after : List ℕ} →
+    HasDispatched w o x e related end before after → refusal w o (Command.dispatch x e related) ≡ None →
     IsHandled o (Command.dispatch x e related) w end before after (Ok tt)
-dispatch_handled w o x e related d none same end before middle after answer world text truth ending =
-    let reply = says o (replied (a_truth d.answer)) ∷ [] in (
+dispatch_handled {o = o} {before = before} done none =
+    let run = done.dispatched.run in
+    let reply = says o (replied (a_truth done.dispatched.answer)) ∷ [] in (
       none,
-      world ∙ ap (λ (q : Dispatched World). q.run.0) same,
-      ending ∙ ap (λ (b : Bool). middle ++ output_text (says o (replied (a_truth b)) ∷ [])) truth ∙ ap (λ (t : List ℕ). t ++ output_text reply) text
-          ∙ append_assoc before (output_text d.run.1) (output_text reply) ∙ ap (λ (t : List ℕ). before ++ t) (sym (output_text-append d.run.1 reply))
-          ∙ ap (λ (q : Dispatched World). before ++ output_text (q.run.1 ++ says o (replied (a_truth q.answer)) ∷ [])) same,
+      done.world ∙ ap (λ (q : Dispatched World). q.run.0) done.same,
+      done.ending ∙ ap (λ (b : Bool). done.middle ++ output_text (says o (replied (a_truth b)) ∷ [])) done.truth
+          ∙ ap (λ (t : List ℕ). t ++ output_text reply) done.text ∙ append_assoc before (output_text run.1) (output_text reply)
+          ∙ ap (λ (t : List ℕ). before ++ t) (sym (output_text-append run.1 reply))
+          ∙ ap (λ (q : Dispatched World). before ++ output_text (q.run.1 ++ says o (replied (a_truth q.answer)) ∷ [])) done.same,
     )

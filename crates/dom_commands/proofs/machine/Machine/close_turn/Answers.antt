@@ -1,6 +1,3 @@
-use Rattle.dom_model.specs.Runs.{run_each}
-use Rattle.dom_model.specs.Turns.{running_task, ending_turn}
-use Rattle.dom_commands.specs.Machine.{machine_now}
 use Rattle.dom_commands.proofs.Closing.{closed_sound, closed_there, closed_run, ended_world, ended_text}
 use Rattle.dom_commands.proofs.machine.Machine.close_turn.Goals as goal
 
@@ -17,8 +14,6 @@ run_tasks-requires-clause-there c =
 pub returns-clause-text : goal.returns-clause-text
 returns-clause-text c =
     ended_text c.run_tasks.result c.args.out.now.items c.run_tasks.new.out.items
-    (run_each running_task (machine_now c.take_tasks-tasks.new.self c.self.inside.listeners).world c.take_tasks-tasks.result)
-    (ending_turn c.args.self.now.world)
     (closed_run c.self.inside.state c.take_tasks-tasks.new.self c.self.inside.listeners c.args.self.now c.self.view_is c.requires
     c.take_tasks-tasks.ensures.names c.take_tasks-tasks.ensures.world c.take_tasks-tasks.result c.take_tasks-tasks.ensures.tasks)
     c.run_tasks.ensures.text
@@ -26,8 +21,6 @@ returns-clause-text c =
 pub returns-clause-world : goal.returns-clause-world
 returns-clause-world c =
     ended_world c.run_tasks.result c.run_tasks.new.self.world
-    (run_each running_task (machine_now c.take_tasks-tasks.new.self c.self.inside.listeners).world c.take_tasks-tasks.result)
-    (ending_turn c.args.self.now.world)
     (closed_run c.self.inside.state c.take_tasks-tasks.new.self c.self.inside.listeners c.args.self.now c.self.view_is c.requires
     c.take_tasks-tasks.ensures.names c.take_tasks-tasks.ensures.world c.take_tasks-tasks.result c.take_tasks-tasks.ensures.tasks)
     c.run_tasks.ensures.world

@@ -21,7 +21,7 @@ use Rattle.dom_commands.proofs.ListenerWorlds.{there-heard}
 use Rattle.dom_commands.proofs.HeardCommands.{refusal-heard}
 use Rattle.dom_commands.proofs.Listening.{fits-own}
 use Rattle.dom_commands.proofs.Machines.{seen_at}
-use Rattle.dom_commands.proofs.Opening.{opened_name, opened_names, dispatch_handled}
+use Rattle.dom_commands.proofs.Opening.{HasDispatched, opened_name, opened_names, dispatch_handled}
 use Rattle.dom_commands.proofs.machine.Machine.dispatch.Goals as goal
 
 pub returns-in_err-admit_event-clause-handled : goal.returns-in_err-admit_event-clause-handled
@@ -76,6 +76,14 @@ returns-clause-handled c =
     let d = dispatch_in opened.world (name_at opened.names c.key-target.result) (option_map (name_at opened.names) init.related) (event_words init) in
     let same : d ≡ dispatch_in (opening_turn m.world o) (named p x) (option_map (named p) related) e =
     λ j. dispatch_in (c.open_turn.ensures.world j) (target j) (other j) (c.event_init.ensures.words j) in
-    dispatch_handled m.world o x e related d none same c.fire.new.self.world c.args.out.now.items c.fire.new.out.items c.put_reply.new.out.items
-    c.in_ok-answer.answer
-    c.in_ok-answer.ensures.world c.in_ok-answer.ensures.text c.in_ok-answer.ensures.answer c.in_ok-put_reply.ensures.ok
+    let done : HasDispatched m.world o x e related c.fire.new.self.world c.args.out.now.items c.put_reply.new.out.items = record {
+      dispatched = d;
+      same = same;
+      middle = c.fire.new.out.items;
+      answer = c.in_ok-answer.answer;
+      world = c.in_ok-answer.ensures.world;
+      text = c.in_ok-answer.ensures.text;
+      truth = c.in_ok-answer.ensures.answer;
+      ending = c.in_ok-put_reply.ensures.ok;
+    } in
+    dispatch_handled done none

@@ -23,34 +23,46 @@ put_lines-requires-clause-nodes c =
 
 pub returns-clause-world : goal.returns-clause-world
 returns-clause-world c =
-    let all = fired c.self.inside.state c.self.inside.listeners c.dispatch.new.self c.args.self.now c.self.view_is c.requires.sound
-    c.forest_and_slots.result.0.now c.forest_and_slots.result.1.now.hosts c.forest_and_slots.ensures.names
-    c.law_names_tell_nodes.ensures.there c.forest_and_slots.ensures.shown c.args.target c.args.event.related (event_words c.args.event)
-    c.in_ok-outcome.outcome c.in_ok-outcome.ensures.keys c.in_ok-outcome.ensures.names in
+    let all = fired c.self.inside.state c.args.self.now c.in_ok-outcome.ensures.keys c.in_ok-outcome.ensures.names (record {
+      seen = c.self.view_is;
+      sound = c.requires.sound;
+      names = c.forest_and_slots.ensures.names;
+      there = c.law_names_tell_nodes.ensures.there;
+      shown = c.forest_and_slots.ensures.shown;
+    }) in
     all.1
 
 pub returns-clause-answer : goal.returns-clause-answer
 returns-clause-answer c =
-    let all = fired c.self.inside.state c.self.inside.listeners c.dispatch.new.self c.args.self.now c.self.view_is c.requires.sound
-    c.forest_and_slots.result.0.now c.forest_and_slots.result.1.now.hosts c.forest_and_slots.ensures.names
-    c.law_names_tell_nodes.ensures.there c.forest_and_slots.ensures.shown c.args.target c.args.event.related (event_words c.args.event)
-    c.in_ok-outcome.outcome c.in_ok-outcome.ensures.keys c.in_ok-outcome.ensures.names in
+    let all = fired c.self.inside.state c.args.self.now c.in_ok-outcome.ensures.keys c.in_ok-outcome.ensures.names (record {
+      seen = c.self.view_is;
+      sound = c.requires.sound;
+      names = c.forest_and_slots.ensures.names;
+      there = c.law_names_tell_nodes.ensures.there;
+      shown = c.forest_and_slots.ensures.shown;
+    }) in
     all.3
 
 pub returns-clause-listeners : goal.returns-clause-listeners
 returns-clause-listeners c =
-    let all = fired c.self.inside.state c.self.inside.listeners c.dispatch.new.self c.args.self.now c.self.view_is c.requires.sound
-    c.forest_and_slots.result.0.now c.forest_and_slots.result.1.now.hosts c.forest_and_slots.ensures.names
-    c.law_names_tell_nodes.ensures.there c.forest_and_slots.ensures.shown c.args.target c.args.event.related (event_words c.args.event)
-    c.in_ok-outcome.outcome c.in_ok-outcome.ensures.keys c.in_ok-outcome.ensures.names in
+    let all = fired c.self.inside.state c.args.self.now c.in_ok-outcome.ensures.keys c.in_ok-outcome.ensures.names (record {
+      seen = c.self.view_is;
+      sound = c.requires.sound;
+      names = c.forest_and_slots.ensures.names;
+      there = c.law_names_tell_nodes.ensures.there;
+      shown = c.forest_and_slots.ensures.shown;
+    }) in
     all.0
 
 pub returns-clause-text : goal.returns-clause-text
 returns-clause-text c =
-    let all = fired c.self.inside.state c.self.inside.listeners c.dispatch.new.self c.args.self.now c.self.view_is c.requires.sound
-    c.forest_and_slots.result.0.now c.forest_and_slots.result.1.now.hosts c.forest_and_slots.ensures.names
-    c.law_names_tell_nodes.ensures.there c.forest_and_slots.ensures.shown c.args.target c.args.event.related (event_words c.args.event)
-    c.in_ok-outcome.outcome c.in_ok-outcome.ensures.keys c.in_ok-outcome.ensures.names in
+    let all = fired c.self.inside.state c.args.self.now c.in_ok-outcome.ensures.keys c.in_ok-outcome.ensures.names (record {
+      seen = c.self.view_is;
+      sound = c.requires.sound;
+      names = c.forest_and_slots.ensures.names;
+      there = c.law_names_tell_nodes.ensures.there;
+      shown = c.forest_and_slots.ensures.shown;
+    }) in
     let names = c.forest_and_slots.result.0.now.names in
     c.in_ok-put_lines.ensures
     ∙ ap (λ (ls : List LogLine). c.args.out.now.items ++ output_text (map (line_shown names) ls)) c.as_slice.ensures.value

@@ -11,7 +11,7 @@ use Rattle.dom_admission.specs.declared.admission.Operand.TheVariants.{Any}
 use Rattle.dom_admission.specs.Handled.{IsHandled}
 use Rattle.dom_commands.specs.WithListeners.{heard, own_listeners}
 use Rattle.dom_commands.specs.Machine.{MachineNow, machine_now, IsAtRest}
-use Rattle.dom_commands.proofs.EventCommands.{stopped-heard, listen_handled}
+use Rattle.dom_commands.proofs.EventCommands.{stopped-heard, listens, listening}
 use Rattle.dom_admission.proofs.Handling.{refused}
 use Rattle.dom_admission.proofs.Refusing.{namings}
 use Rattle.dom_commands.proofs.Listening.{fits-own, at-listened}
@@ -49,11 +49,10 @@ returns-clause-handled c =
     let sound = subst IsAtRest (sym c.self.view_is) c.requires in
     let Done : MachineNow → List NodeName → List (Listener ℕ) → Type 0 =
     λ m names ms. IsHandled o said m.world (heard (own_listeners names ms) end) before after r in
-    let done : Done (machine_now s ls) s.names now =
-    listen_handled s.names ls s.world c.law_names_tell_nodes.ensures.distinct c.law_names_tell_nodes.ensures.there at sound.reached o
+    let changing = listening s.names ls s.world c.law_names_tell_nodes.ensures.distinct c.law_names_tell_nodes.ensures.there at sound.reached o
     (word_view c.args.node) k c.key-node.ensures.node c.key-node.ensures.name
-    (Any c.args.node ∷ []) (sym c.admit.ensures ∙ c.in_ok-admit.was) (listener_view c.args.words)
-    (search namings) end before after r c.accept.ensures.done in
+    (Any c.args.node ∷ []) (sym c.admit.ensures ∙ c.in_ok-admit.was) (listener_view c.args.words) (search namings) in
+    let done : Done (machine_now s ls) s.names now = listens changing end before after r c.accept.ensures.done in
     subst (λ (m : MachineNow). Done m c.accept.new.self.names c.listen.new.self) c.self.view_is
     (subst (λ (names : List NodeName). Done (machine_now s ls) names c.listen.new.self) (sym c.accept.ensures.names)
     (subst (λ (ms : List (Listener ℕ)). Done (machine_now s ls) s.names ms)

@@ -1,7 +1,7 @@
 use Rattle.std.proofs.Common.{◌≡◌, true, subst}
 use Rattle.dom_model.specs.World.{is_there}
 use Rattle.dom_commands.specs.Machine.{MachineNow, machine_now, IsAtRest}
-use Rattle.dom_commands.proofs.Opening.{opened_sound}
+use Rattle.dom_commands.proofs.Opening.{IsOpened, opened_sound}
 use Rattle.dom_commands.proofs.machine.Machine.open_turn.Goals as goal
 
 pub returns-clause-sound : goal.returns-clause-sound
@@ -10,5 +10,6 @@ returns-clause-sound c =
     let ls = c.self.inside.listeners in
     let t = c.open_turn.new.self in
     let o = c.args.owner in
-    subst (λ (m : MachineNow). is_there m.world o ≡ true → IsAtRest m → IsAtRest (machine_now t ls)) c.self.view_is
-    (opened_sound s t ls o c.open_turn.ensures.names c.open_turn.ensures.world) c.requires.owner_is_there c.requires.sound
+    let opened : IsOpened s t o = record { names = c.open_turn.ensures.names; world = c.open_turn.ensures.world } in
+    subst (λ (m : MachineNow). is_there m.world o ≡ true → IsAtRest m → IsAtRest (machine_now t ls)) c.self.view_is (opened_sound ls opened)
+    c.requires.owner_is_there c.requires.sound

@@ -2,7 +2,8 @@ use Rattle.std.proofs.Common.{subst}
 use Rattle.dom_reader.specs.Views.{command_view}
 use Rattle.dom_admission.specs.Handled.{IsHandled}
 use Rattle.dom_commands.specs.Machine.{MachineNow, machine_now}
-use Rattle.dom_commands.proofs.Machines.{plain_handled, kept_at, seen_at, seen_reached, seen_bounds, seen_first_nodes, seen_range_ends, seen_shadow_roots}
+use Rattle.dom_commands.proofs.Machines.{IsCarriedOut, plain_handled, kept_at, seen_at, seen_reached, seen_bounds, seen_first_nodes, seen_range_ends}
+use Rattle.dom_commands.proofs.Machines.{seen_shadow_roots}
 use Rattle.dom_commands.proofs.machine.Machine.perform_plain.Goals as goal
 
 pub perform-requires-clause-bounds : goal.perform-requires-clause-bounds
@@ -30,10 +31,10 @@ returns-clause-handled c =
     let said = command_view c.args.command in
     let before = c.args.out.now.items in
     let after = c.perform.new.out.items in
+    let done : IsCarriedOut s t o said before after c.perform.result = record { names = c.perform.ensures.names; handled = c.perform.ensures.handled } in
     subst (λ (m : MachineNow). IsHandled o said m.world (machine_now t ls).world before after c.perform.result) c.self.view_is
-    (plain_handled s t ls c.law_names_tell_nodes.ensures.there (seen_at s ls c.args.self.now c.self.view_is c.requires.sound)
-    (seen_reached s ls c.args.self.now c.self.view_is c.requires.sound) o said c.requires.plain before after c.perform.result
-    c.perform.ensures.names c.perform.ensures.handled)
+    (plain_handled s t ls c.law_names_tell_nodes.ensures.there (seen_at s ls c.args.self.now c.self.view_is c.requires.sound) done
+    (seen_reached s ls c.args.self.now c.self.view_is c.requires.sound) c.requires.plain)
 
 pub returns-clause-listeners : goal.returns-clause-listeners
 returns-clause-listeners c =

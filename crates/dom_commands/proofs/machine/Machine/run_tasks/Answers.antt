@@ -16,8 +16,7 @@ loop-task-preserved c =
     let first : ts ≡ t ∷ us = first_rest ts us t c.in-Some.ensures.task c.in-Some.ensures.rest in
     let ran = subst (λ (xs : List Task). Ran running_task was now c.args.tasks xs c.args.out.now.items c.loop-task.out.items) first c.loop-task.invariant.0 in
     let there = subst (AreThere now) first c.loop-task.invariant.2 in (
-      ran_more running_task was now c.run_task.new.self.world c.args.tasks us t c.args.out.now.items c.loop-task.out.items
-          c.run_task.new.out.items ran c.in_ok-run_task.ensures.world c.in_ok-run_task.ensures.text,
+      ran_more running_task ran c.in_ok-run_task.ensures.world c.in_ok-run_task.ensures.text,
       c.in_ok-run_task.ensures.sound,
       there_after now c.run_task.new.self.world t us there c.in_ok-run_task.ensures.world,
     )

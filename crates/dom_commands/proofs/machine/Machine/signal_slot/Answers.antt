@@ -20,5 +20,5 @@ returns-clause-world c =
 
 pub returns-clause-sound : goal.returns-clause-sound
 returns-clause-sound c =
-    fired_sound c.args.self.now c.fire.new.self (name_at c.args.self.now.names c.args.slot) c.requires.sound (returns-clause-world c)
-    c.in_ok-fire.ensures.listeners
+    fired_sound c.args.self.now c.fire.new.self c.requires.sound c.in_ok-fire.ensures.listeners (name_at c.args.self.now.names c.args.slot)
+    (returns-clause-world c)
