@@ -47,10 +47,9 @@ pub owner-named : (w : World) (o : Owner) (s : NodeWord) → (named (part_of w o
 owner-named w o s = ap (λ (y : NodeName). y.owner) (named-number_in (part_of w o) s) ∙ owner-part_of w o
 
 -- what is read of a node in the trees of all owners, where it is read so in its owner's trees
-pub read_at : {A : Type 0} (f : Trees → NodeName → A) (names : List NodeName) (ts : Trees) (w : World) (o : Owner) (s : NodeWord) (key : ℕ) →
-    name_at names key ≡ named (part_of w o) s → ((p : Owner) → trees_of_owner p ts ≡ (part_of w p).trees) →
-    f ts (named (part_of w o) s) ≡ f (trees_of_owner o ts) (named (part_of w o) s) → f ts (name_at names key) ≡ f (part_of w o).trees (named (part_of w o) s)
-read_at f names ts w o s key here own_trees same = ap (f ts) here ∙ same ∙ ap (λ (us : Trees). f us (named (part_of w o) s)) (own_trees o)
+pub read_at : {A : Type 0} {x y : NodeName} {own shown : Trees} (f : Trees → NodeName → A) (ts : Trees) → x ≡ y → own ≡ shown → f ts y ≡ f own y →
+    f ts x ≡ f shown y
+read_at {y = y} f ts here own_trees same = ap (f ts) here ∙ same ∙ ap (λ us. f us y) own_trees
 
 -- the node of a name, where the look-up found one
 pub found_node : (names : List NodeName) (x : NodeName) (r : Option ℕ) → ForSome r (λ k. slice_get names k ≡ Some x) →
@@ -58,40 +57,39 @@ pub found_node : (names : List NodeName) (x : NodeName) (r : Option ℕ) → For
 found_node names x r found k e = let is = found k e in (slice_get_within names k x is, get_or_from_slice_get names k x (node_of Page 0) is)
 
 -- the look-up finds the nodes that are there
-pub is_found : (names : List NodeName) (ts : Trees) (x : NodeName) (r : Option ℕ) → FindsNames names ts →
-    ForSome r (λ k. slice_get names k ≡ Some x) → ((k : ℕ) → slice_get names k ≡ Some x → r ≡ Some k) → is_some r ≡ has_node ts x
-is_found names ts x (Some k) finds found kept =
+pub is_found : {names : List NodeName} {ts : Trees} (x : NodeName) (r : Option ℕ) → FindsNames names ts → ForSome r (λ k. slice_get names k ≡ Some x) →
+    ((k : ℕ) → slice_get names k ≡ Some x → r ≡ Some k) → is_some r ≡ has_node ts x
+is_found {names = names} {ts = ts} x (Some k) finds found kept =
     let is = found_node names x (Some k) found k refl in
     let once : count_by (λ n. name_eq n.name x) (nodes ts) ≡ 1 =
     ap (λ (y : NodeName). count_by (λ n. name_eq n.name y) (nodes ts)) (sym is.1) ∙ finds.once k is.0 in
     sym (counted (nodes ts) x once)
-is_found names ts x None finds found kept = cases (has_node ts x) refl
+is_found {ts = ts} x None finds found kept = cases (has_node ts x) refl
   where
     cases : (b : Bool) → has_node ts x ≡ b → false ≡ b
     cases true h = let there = finds.only x h in let no : None ≡ Some there.0 = kept there.0 there.1 in absurd cc
     cases false h = refl
 
--- Trees by their names, and a world that shows them.
-module _ (names : List NodeName) (ts : Trees) (w : World) (finds : FindsNames names ts) (owned : AreOwned ts)
-    (own_trees : ((o : Owner) → trees_of_owner o ts ≡ (part_of w o).trees)) where
+-- Trees of all owners, and a world that shows them.
+module _ (ts : Trees) (w : World) (owned : AreOwned ts) (own_trees : (o : Owner) → trees_of_owner o ts ≡ (part_of w o).trees) where
   -- a node is found in an owner's own trees, as a line of the owner spells it
-  pub find_own : (o : Owner) (s : NodeWord) (n : ℕ) → n ≡ number_in s → (r : Option ℕ) → ForSome r (λ k. slice_get names k ≡ Some (node_of o n)) →
-      ((k : ℕ) → slice_get names k ≡ Some (node_of o n) → r ≡ Some k) → ForSome r (λ k. (k < length names) × (name_at names k ≡ named (part_of w o) s))
+  pub find_own : {names : List NodeName} {n : ℕ} {r : Option ℕ} (o : Owner) (s : NodeWord) → FindsNames names ts → n ≡ number_in s →
+      ForSome r (λ k. slice_get names k ≡ Some (node_of o n)) → ((k : ℕ) → slice_get names k ≡ Some (node_of o n) → r ≡ Some k) →
+      ForSome r (λ k. (k < length names) × (name_at names k ≡ named (part_of w o) s))
       × (is_some r ≡ has_node (part_of w o).trees (named (part_of w o) s))
-  find_own o s n e r found kept =
+  find_own {names = names} {n = n} {r = r} o s finds e found kept =
       let x = node_of o n in
       let spelled : named (part_of w o) s ≡ x =
       named-number_in (part_of w o) s ∙ ap (λ (p : Owner). node_of p (number_in s)) (owner-part_of w o) ∙ ap (node_of o) (sym e) in
       let here : has_node ts x ≡ has_node (part_of w o).trees x = (read_own ts owned o x refl).presence ∙ ap (λ (us : Trees). has_node us x) (own_trees o) in
-      rw spelled (found_node names x r found, is_found names ts x r finds found kept ∙ here)
+      rw spelled (found_node names x r found, is_found x r finds found kept ∙ here)
 
--- a node of an owner is the same in its own trees
-pub node_own : (ts : Trees) (w : World) → AreOwned ts → ((o : Owner) → trees_of_owner o ts ≡ (part_of w o).trees) → (o : Owner) (s : NodeWord) →
-    node_in ts (named (part_of w o) s) ≡ node_in (part_of w o).trees (named (part_of w o) s)
-node_own ts w owned own_trees o s =
-    let x = named (part_of w o) s in
-    let of : x.owner ≡ o = ap (λ (y : NodeName). y.owner) (named-number_in (part_of w o) s) ∙ owner-part_of w o in
-    (read_own ts owned o x of).node ∙ ap (λ (us : Trees). node_in us x) (own_trees o)
+  -- a node of an owner is the same in its own trees
+  pub node_own : (o : Owner) (s : NodeWord) → node_in ts (named (part_of w o) s) ≡ node_in (part_of w o).trees (named (part_of w o) s)
+  node_own o s =
+      let x = named (part_of w o) s in
+      let of : x.owner ≡ o = ap (λ (y : NodeName). y.owner) (named-number_in (part_of w o) s) ∙ owner-part_of w o in
+      (read_own ts owned o x of).node ∙ ap (λ (us : Trees). node_in us x) (own_trees o)
 
 -- a name that no node has is not found
 absent : (ns : List Node) (x : NodeName) → is_in name_eq x (names_of ns) ≡ false → find (λ n. name_eq n.name x) ns ≡ None

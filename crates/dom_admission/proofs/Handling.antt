@@ -23,7 +23,7 @@ use Rattle.dom_model.specs.CommandRefusals.{own_refusal}
 use Rattle.dom_model.specs.DocumentMachine.{effect_in, refusal, accepted, is_busy}
 use Rattle.dom_model.proofs.OwnerLaws.{owner_eq-same, owner_eq-true}
 use Rattle.dom_text.specs.Text.{output_text}
-use Rattle.dom_mutation.specs.Doc.{DocState, made, Makes, MakesSaying}
+use Rattle.dom_mutation.specs.Doc.{DocState, made, MakesSaying}
 use Rattle.dom_admission.specs.declared.admission.Operand.{Operand}
 use Rattle.dom_admission.specs.Handled.{IsDone, IsHandled, let_pass}
 use Rattle.dom_admission.specs.Refusals.{is_there_as, is_fit, has_foreign, are_there, are_fitting, early_refusal}
@@ -88,49 +88,61 @@ module _ (w : World) (o : Owner) (c : Command) (names : List Operand) (text : Li
   pub refused : IsNaming c names → let_pass (early_refusal w o names) ≡ Err f → IsHandled o c w w text text (Err f)
   refused is h = refused_own (naming_of o c names is) h
 
+-- what a command led to: its world, the text before it and after it, and its result
+pub record Outcome : Type 0 where
+  pub world : World
+  pub before : List ℕ
+  pub after : List ℕ
+  pub result : Result (Unit {0}) Fault
+
 -- what is done by a command that passes is its own refusal, or its run
-pub handled_own : (w new : World) (o : Owner) (c : Command) (names : List Operand) (before after : List ℕ) (r : Result (Unit {0}) Fault) →
-    IsNamingOf o c names →
-    let_pass (early_refusal w o names) ≡ Ok tt → IsDone (own_refusal (part_of w o) c) (accepted w o c) w new before after r → IsHandled o c w new before after r
-handled_own w new o c names before after r is pass done =
+pub handled_own : {c : Command} {names : List Operand} (w : World) (o : Owner) (q : Outcome) → IsNamingOf o c names →
+    let_pass (early_refusal w o names) ≡ Ok tt → IsDone (own_refusal (part_of w o) c) (accepted w o c) w q.world q.before q.after q.result →
+    IsHandled o c w q.world q.before q.after q.result
+handled_own {c = c} {names = names} w o q is pass done =
     let own : refusal w o c ≡ own_refusal (part_of w o) c =
     refusal-of_own w o c names is ∙ ap (λ e. option_or e (own_refusal (part_of w o) c)) (passed (early_refusal w o names) pass) in
-    subst (λ e. IsDone e (accepted w o c) w new before after r) (sym own) done
+    subst (λ e. IsDone e (accepted w o c) w q.world q.before q.after q.result) (sym own) done
 
-pub handled : (w new : World) (o : Owner) (c : Command) (names : List Operand) (before after : List ℕ) (r : Result (Unit {0}) Fault) → IsNaming c names →
-    let_pass (early_refusal w o names) ≡ Ok tt → IsDone (own_refusal (part_of w o) c) (accepted w o c) w new before after r → IsHandled o c w new before after r
-handled w new o c names before after r is pass done = handled_own w new o c names before after r (naming_of o c names is) pass done
+pub handled : {c : Command} {names : List Operand} (w : World) (o : Owner) (q : Outcome) → IsNaming c names →
+    let_pass (early_refusal w o names) ≡ Ok tt → IsDone (own_refusal (part_of w o) c) (accepted w o c) w q.world q.before q.after q.result →
+    IsHandled o c w q.world q.before q.after q.result
+handled {c = c} {names = names} w o q is pass done = handled_own w o q (naming_of o c names is) pass done
 
 -- ---- the end of a command
 
 -- a refusal of a command's own, which changed nothing, or want of memory
-pub faulted : (own : Option Refusal) (run : Run World) (old new : World) (text : List ℕ) (f : Fault) →
+pub faulted : {own : Option Refusal} (run : Run World) (old new : World) (text : List ℕ) (f : Fault) →
     ((r : Refusal) → f ≡ Refused r → (own ≡ Some r) × (new ≡ old)) →
     IsDone own run old new text text (Err f)
-faulted own run old new text (Refused r) h = let e = h r refl in (e.0, e.1, refl)
-faulted own run old new text Memory h = tt
+faulted run old new text (Refused r) h = let e = h r refl in (e.0, e.1, refl)
+faulted run old new text Memory h = tt
 
 -- a command without a refusal of its own does what its ending does
-pub finished : (own : Option Refusal) (run goal : Run World) (old mid new : World) (before after : List ℕ) (r : Result (Unit {0}) Fault) →
-    own ≡ None → run ≡ goal →
-    IsDone None run mid new before after r → IsDone own goal old new before after r
-finished own run goal old mid new before after (Ok x) none e h =
-    (none, h.1 ∙ ap (λ (q : Run World). q.0) e, h.2 ∙ ap (λ (q : Run World). before ++ output_text q.1) e)
-finished own run goal old mid new before after (Err (Refused q)) none e h = let no : None ≡ Some q = h.0 in absurd cc
-finished own run goal old mid new before after (Err Memory) none e h = tt
+pub finished : {own : Option Refusal} {run goal : Run World} (old mid : World) (q : Outcome) → own ≡ None → run ≡ goal →
+    IsDone None run mid q.world q.before q.after q.result → IsDone own goal old q.world q.before q.after q.result
+finished {own = own} {run = run} {goal = goal} old mid q none e h = by q.result h
+  where
+    by : (r : Result (Unit {0}) Fault) → IsDone None run mid q.world q.before q.after r → IsDone own goal old q.world q.before q.after r
+    by (Ok x) h = (none, h.1 ∙ ap (λ (run : Run World). run.0) e, h.2 ∙ ap (λ (run : Run World). q.before ++ output_text run.1) e)
+    by (Err (Refused r)) h = let no : None ≡ Some r = h.0 in absurd cc
+    by (Err Memory) h = tt
 
 -- lines that were put before an ending are said with it
-said_before : (lines more : List Output) (end old new : World) (before between after : List ℕ) (r : Result (Unit {0}) Fault) →
-    between ≡ before ++ output_text lines →
-    IsDone None (end, more) old new between after r → IsDone None (end, lines ++ more) old new before after r
-said_before lines more end old new before between after (Ok x) put h = (
-  h.0,
-  h.1,
-  h.2 ∙ ap (λ text. text ++ output_text more) put ∙ append_assoc before (output_text lines) (output_text more) ∙
-      ap (λ text. before ++ text) (sym (output_text-append lines more)),
-)
-said_before lines more end old new before between after (Err (Refused q)) put h = let no : None ≡ Some q = h.0 in absurd cc
-said_before lines more end old new before between after (Err Memory) put h = tt
+said_before : {between : List ℕ} (lines : List Output) (run : Run World) (old : World) (q : Outcome) → between ≡ q.before ++ output_text lines →
+    IsDone None run old q.world between q.after q.result → IsDone None (run.0, lines ++ run.1) old q.world q.before q.after q.result
+said_before {between = between} lines run old q put h = by q.result h
+  where
+    by : (r : Result (Unit {0}) Fault) → IsDone None run old q.world between q.after r →
+        IsDone None (run.0, lines ++ run.1) old q.world q.before q.after r
+    by (Ok x) h = (
+      h.0,
+      h.1,
+      h.2 ∙ ap (λ text. text ++ output_text run.1) put ∙ append_assoc q.before (output_text lines) (output_text run.1) ∙
+          ap (λ text. q.before ++ text) (sym (output_text-append lines run.1)),
+    )
+    by (Err (Refused r)) h = let no : None ≡ Some r = h.0 in absurd cc
+    by (Err Memory) h = tt
 
 -- a command that is done
 abbrev pub done : Unit {0} → Result (Unit {0}) Fault
@@ -152,88 +164,100 @@ opened (Some x) w o = refl
 abbrev pub planning : World → Owner → Plan → (Part → Value) → Run World
 planning w o plan v = let u = opening_turn w o in effect_in u o (changes (plan (part_of u o)) (v (part_of u o)))
 
--- the turn may be opened after the plan
-pub changed : (t : Option Owner) (w new : World) (o : Owner) (plan : Plan) (v : Part → Value) (reply : Value) → new ≡ made o plan w → reply ≡ v (part_of w o) →
-    (opening_turn (with_turn t new) o, says o (replied reply) ∷ []) ≡ planning (with_turn t w) o plan v
-changed t w new o plan v reply e is =
-    let run : World → List Output → Run World = λ u lines. (u, lines) in
-    rw (opened t w o) (ap (λ (u : World). run u (says o (replied reply) ∷ []))
-    (opened t new o ∙ ap (with_turn (opened_turn t o)) e ∙ sym (after_turned (opened_turn t o) o w (plan (part_of w o))))
-    ∙ ap (λ (a : Value). run (made o plan (with_turn (opened_turn t o) w)) (says o (replied a) ∷ [])) is)
-
 -- what an accepted command of one part does
 abbrev pub effecting : World → Owner → Command → Run World
 effecting w o c = let u = opening_turn w o in effect_in u o (effect (part_of u o) c)
 
--- the turn may be opened after a command that changes its owner's tables alone, and says lines
-pub tables_changed : (t : Option Owner) (w new : World) (o : Owner) (c : Command) (lines : List Said) (v : Value) → MakesSaying o c lines v w new →
-    (opening_turn (with_turn t new) o, map (says o) lines ++ says o (replied v) ∷ []) ≡ effecting (with_turn t w) o c
-tables_changed t w new o c lines v is =
-    let run : World → Run World = λ u. (u, map (says o) lines ++ says o (replied v) ∷ []) in
-    ap run (opened t new o ∙ ap (with_turn (opened_turn t o)) is.1)
-    ∙ sym (ap (λ (u : World). effect_in u o (effect (part_of u o) c)) (opened t w o) ∙ ap (effect_in (with_turn (opened_turn t o) w) o) is.0)
+-- A world with this turn, and an owner.
+module _ (t : Option Owner) (w : World) (o : Owner) where
+  -- the turn may be opened after the plan
+  pub changed : {new : World} {reply : Value} (plan : Plan) (v : Part → Value) → new ≡ made o plan w → reply ≡ v (part_of w o) →
+      (opening_turn (with_turn t new) o, says o (replied reply) ∷ []) ≡ planning (with_turn t w) o plan v
+  changed {new = new} {reply = reply} plan v e is =
+      let run : World → List Output → Run World = λ u lines. (u, lines) in
+      rw (opened t w o) (ap (λ (u : World). run u (says o (replied reply) ∷ []))
+      (opened t new o ∙ ap (with_turn (opened_turn t o)) e ∙ sym (after_turned (opened_turn t o) o w (plan (part_of w o))))
+      ∙ ap (λ (a : Value). run (made o plan (with_turn (opened_turn t o) w)) (says o (replied a) ∷ [])) is)
+
+  -- the turn may be opened after a command that changes its owner's tables alone, and says lines
+  tables_changed : (new : World) (c : Command) (lines : List Said) (v : Value) → MakesSaying o c lines v w new →
+      (opening_turn (with_turn t new) o, map (says o) lines ++ says o (replied v) ∷ []) ≡ effecting (with_turn t w) o c
+  tables_changed new c lines v is =
+      let run : World → Run World = λ u. (u, map (says o) lines ++ says o (replied v) ∷ []) in
+      ap run (opened t new o ∙ ap (with_turn (opened_turn t o)) is.1)
+      ∙ sym (ap (λ (u : World). effect_in u o (effect (part_of u o) c)) (opened t w o) ∙ ap (effect_in (with_turn (opened_turn t o) w) o) is.0)
+
+-- an accepted command that makes a plan: it is not refused, the new world is made by the plan, and the reply is its value
+pub record IsPlanning (t : Option Owner) (w : World) (o : Owner) (c : Command) (new : World) : Type 0 where
+  pub plan : Plan
+  pub value : Part → Value
+  pub reply : Value
+  pub runs : accepted (with_turn t w) o c ≡ planning (with_turn t w) o plan value
+  pub unrefused : own_refusal (part_of w o) c ≡ None
+  pub follows : new ≡ made o plan w
+  pub replies : reply ≡ value (part_of w o)
+
+-- an accepted command that changes its owner's tables alone: it is not refused, it says these lines, and the reply is its value
+pub record IsEffecting (t : Option Owner) (w : World) (o : Owner) (c : Command) (lines : List Said) (new : World) : Type 0 where
+  pub value : Value
+  pub reply : Value
+  pub runs : accepted (with_turn t w) o c ≡ effecting (with_turn t w) o c
+  pub unrefused : own_refusal (part_of w o) c ≡ None
+  pub follows : MakesSaying o c lines value w new
+  pub replies : reply ≡ value
 
 -- In a state, a line that passes: its command names these nodes.
 module _ (t : Option Owner) (d s : DocState) (seen : turned t d ≡ s) (o : Owner) (c : Command) (names : List Operand) (is : IsNaming c names)
     (pass : let_pass (early_refusal s.world o names) ≡ Ok tt) where
   -- what is done in the world of its documents is done in its world
-  pub in_state : (new : World) (before after : List ℕ) (r : Result (Unit {0}) Fault) →
-      IsDone (own_refusal (part_of d.world o) c) (accepted (with_turn t d.world) o c) (with_turn t d.world) new before after r →
-      IsHandled o c s.world new before after r
-  in_state new before after r h =
-      let Done : DocState → Type 0 = λ u. IsDone (own_refusal (part_of u.world o) c) (accepted u.world o c) u.world new before after r in
-      handled s.world new o c names before after r is pass (subst Done seen h)
+  pub in_state : (q : Outcome) →
+      IsDone (own_refusal (part_of d.world o) c) (accepted (with_turn t d.world) o c) (with_turn t d.world) q.world q.before q.after q.result →
+      IsHandled o c s.world q.world q.before q.after q.result
+  in_state q h =
+      let Done : DocState → Type 0 = λ u. IsDone (own_refusal (part_of u.world o) c) (accepted u.world o c) u.world q.world q.before q.after q.result in
+      handled s.world o q is pass (subst Done seen h)
 
   -- the command makes a plan
-  pub plans : (mid new : World) (plan : Plan) (v : Part → Value) (reply : Value) (before after : List ℕ) (r : Result (Unit {0}) Fault) →
-      accepted (with_turn t d.world) o c ≡ planning (with_turn t d.world) o plan v → own_refusal (part_of d.world o) c ≡ None → mid ≡ made o plan d.world →
-      reply ≡ v (part_of d.world o) → IsDone None (opening_turn (with_turn t mid) o, says o (replied reply) ∷ []) (with_turn t mid) new before
-      after r → IsHandled o c s.world new before after r
-  plans mid new plan v reply before after r runs none e value ending =
-      in_state new before after r
-      (finished (own_refusal (part_of d.world o) c) (opening_turn (with_turn t mid) o, says o (replied reply) ∷ [])
-      (accepted (with_turn t d.world) o c) (with_turn t d.world) (with_turn t mid) new before after r none
-      (changed t d.world mid o plan v reply e value ∙ sym runs) ending)
+  pub plans : (mid : World) (how : IsPlanning t d.world o c mid) (q : Outcome) →
+      IsDone None (opening_turn (with_turn t mid) o, says o (replied how.reply) ∷ []) (with_turn t mid) q.world q.before q.after q.result →
+      IsHandled o c s.world q.world q.before q.after q.result
+  plans mid how q ending =
+      in_state q
+      (finished (with_turn t d.world) (with_turn t mid) q how.unrefused (changed t d.world o how.plan how.value how.follows how.replies ∙ sym how.runs) ending)
 
   -- the command changes its owner's tables alone, and says lines
-  pub tabled_saying : (mid new : World) (lines : List Said) (v reply : Value) (before between after : List ℕ) (r : Result (Unit {0}) Fault) →
-      accepted (with_turn t d.world) o c ≡ effecting (with_turn t d.world) o c → own_refusal (part_of d.world o) c ≡ None →
-      MakesSaying o c lines v d.world mid →
-      reply ≡ v → between ≡ before ++ output_text (map (says o) lines) →
-      IsDone None (opening_turn (with_turn t mid) o, says o (replied reply) ∷ []) (with_turn t mid) new between after r →
-      IsHandled o c s.world new before after r
-  tabled_saying mid new lines v reply before between after r runs none makes value put ending =
+  pub tabled_saying : {between : List ℕ} (mid : World) (lines : List Said) (how : IsEffecting t d.world o c lines mid) (q : Outcome) →
+      between ≡ q.before ++ output_text (map (says o) lines) →
+      IsDone None (opening_turn (with_turn t mid) o, says o (replied how.reply) ∷ []) (with_turn t mid) q.world between q.after q.result →
+      IsHandled o c s.world q.world q.before q.after q.result
+  tabled_saying mid lines how q put ending =
       let run : Value → Run World = λ a. (opening_turn (with_turn t mid) o, map (says o) lines ++ says o (replied a) ∷ []) in
-      in_state new before after r
-      (finished (own_refusal (part_of d.world o) c) (run reply) (accepted (with_turn t d.world) o c) (with_turn t d.world) (with_turn t mid) new
-      before after r none
-      (ap run value ∙ tables_changed t d.world mid o c lines v makes ∙ sym runs)
-      (said_before (map (says o) lines) (says o (replied reply) ∷ []) (opening_turn (with_turn t mid) o) (with_turn t mid) new before between
-      after r put ending))
+      in_state q
+      (finished (with_turn t d.world) (with_turn t mid) q how.unrefused
+      (ap run how.replies ∙ tables_changed t d.world o mid c lines how.value how.follows ∙ sym how.runs)
+      (said_before (map (says o) lines) (opening_turn (with_turn t mid) o, says o (replied how.reply) ∷ []) (with_turn t mid) q put ending))
 
   -- it says none
-  pub tabled : (mid new : World) (v reply : Value) (before after : List ℕ) (r : Result (Unit {0}) Fault) →
-      accepted (with_turn t d.world) o c ≡ effecting (with_turn t d.world) o c → own_refusal (part_of d.world o) c ≡ None → Makes o c v d.world mid →
-      reply ≡ v → IsDone None (opening_turn (with_turn t mid) o, says o (replied reply) ∷ []) (with_turn t mid) new before after r →
-      IsHandled o c s.world new before after r
-  tabled mid new v reply before after r runs none makes value ending =
-      tabled_saying mid new [] v reply before before after r runs none makes value (sym (append-nil before)) ending
+  pub tabled : (mid : World) (how : IsEffecting t d.world o c [] mid) (q : Outcome) →
+      IsDone None (opening_turn (with_turn t mid) o, says o (replied how.reply) ∷ []) (with_turn t mid) q.world q.before q.after q.result →
+      IsHandled o c s.world q.world q.before q.after q.result
+  tabled mid how q ending = tabled_saying mid [] how q (sym (append-nil q.before)) ending
 
   -- the command answers what its owner's tables say, and changes nothing
-  pub told : (new : World) (v reply : Value) (before after : List ℕ) (r : Result (Unit {0}) Fault) →
-      accepted (with_turn t d.world) o c ≡ effecting (with_turn t d.world) o c → own_refusal (part_of d.world o) c ≡ None → Makes o c v d.world d.world →
-      reply ≡ v → IsDone None (opening_turn s.world o, says o (replied reply) ∷ []) s.world new before after r → IsHandled o c s.world new before after r
-  told new v reply before after r runs none makes value ending =
-      let Ends : DocState → Type 0 = λ u. IsDone None (opening_turn u.world o, says o (replied reply) ∷ []) u.world new before after r in
-      tabled d.world new v reply before after r runs none makes value (subst Ends (sym seen) ending)
+  pub told : (how : IsEffecting t d.world o c [] d.world) (q : Outcome) →
+      IsDone None (opening_turn s.world o, says o (replied how.reply) ∷ []) s.world q.world q.before q.after q.result →
+      IsHandled o c s.world q.world q.before q.after q.result
+  told how q ending =
+      let Ends : DocState → Type 0 = λ u.
+      IsDone None (opening_turn u.world o, says o (replied how.reply) ∷ []) u.world q.world q.before q.after q.result in
+      tabled d.world how q (subst Ends (sym seen) ending)
 
   -- the command is refused by tests of its own, which changed nothing, or memory was refused
   pub faults : (mid : World) (text : List ℕ) (f : Fault) → ((r : Refusal) → f ≡ Refused r → (own_refusal (part_of d.world o) c ≡ Some r) × (mid ≡ d.world)) →
       IsHandled o c s.world (with_turn t mid) text text (Err f)
   faults mid text f h =
-      in_state (with_turn t mid) text text (Err f)
-      (faulted (own_refusal (part_of d.world o) c) (accepted (with_turn t d.world) o c) (with_turn t d.world) (with_turn t mid) text f
-      (λ r e. ((h r e).0, ap (with_turn t) (h r e).1)))
+      in_state (record { world = with_turn t mid; before = text; after = text; result = Err f })
+      (faulted (accepted (with_turn t d.world) o c) (with_turn t d.world) (with_turn t mid) text f (λ r e. ((h r e).0, ap (with_turn t) (h r e).1)))
 
 -- ---- commands that only answer
 
@@ -307,31 +331,28 @@ answered w o v reply there is =
 module _ (w : World) (o : Owner) (c : Command) (names : List Operand) (pass : let_pass (early_refusal w o names) ≡ Ok tt)
     (none : own_refusal (part_of w o) c ≡ None) where
   -- the command only answers
-  pub reads : (new : World) (v : Part → Value) (reply : Value) (before after : List ℕ) (r : Result (Unit {0}) Fault) → IsNaming c names →
-      accepted w o c ≡ answering_only w o v → reply ≡ v (part_of w o) →
-      IsDone None (opening_turn w o, says o (replied reply) ∷ []) w new before after r → IsHandled o c w new before after r
-  reads new v reply before after r is runs value ending =
-      handled w new o c names before after r is pass
-      (finished (own_refusal (part_of w o) c) (opening_turn w o, says o (replied reply) ∷ []) (accepted w o c) w w new before after r none
-      (answered w o v reply (admitted w o names pass) value ∙ sym runs) ending)
+  pub reads : {reply : Value} (v : Part → Value) (q : Outcome) → IsNaming c names → accepted w o c ≡ answering_only w o v → reply ≡ v (part_of w o) →
+      IsDone None (opening_turn w o, says o (replied reply) ∷ []) w q.world q.before q.after q.result → IsHandled o c w q.world q.before q.after q.result
+  reads {reply = reply} v q is runs value ending =
+      handled w o q is pass (finished w w q none (answered w o v reply (admitted w o names pass) value ∙ sym runs) ending)
 
   -- it only answers, and reads more than its owner's part
-  pub asks_own : (new : World) (v : World → Value) (reply : Value) (before after : List ℕ) (r : Result (Unit {0}) Fault) → IsNamingOf o c names →
+  pub asks_own : {reply : Value} (v : World → Value) (q : Outcome) → IsNamingOf o c names →
       accepted w o c ≡ (opening_turn w o, says o (replied (v (opening_turn w o))) ∷ []) → reply ≡ v (opening_turn w o) →
-      IsDone None (opening_turn w o, says o (replied reply) ∷ []) w new before after r → IsHandled o c w new before after r
-  asks_own new v reply before after r is runs value ending =
+      IsDone None (opening_turn w o, says o (replied reply) ∷ []) w q.world q.before q.after q.result → IsHandled o c w q.world q.before q.after q.result
+  asks_own v q is runs value ending =
       let run : Value → Run World = λ a. (opening_turn w o, says o (replied a) ∷ []) in
-      handled_own w new o c names before after r is pass
-      (finished (own_refusal (part_of w o) c) (run reply) (accepted w o c) w w new before after r none (ap run value ∙ sym runs) ending)
+      handled_own w o q is pass (finished w w q none (ap run value ∙ sym runs) ending)
 
-  pub asks : (new : World) (v : World → Value) (reply : Value) (before after : List ℕ) (r : Result (Unit {0}) Fault) → IsNaming c names →
+  pub asks : {reply : Value} (v : World → Value) (q : Outcome) → IsNaming c names →
       accepted w o c ≡ (opening_turn w o, says o (replied (v (opening_turn w o))) ∷ []) → reply ≡ v (opening_turn w o) →
-      IsDone None (opening_turn w o, says o (replied reply) ∷ []) w new before after r → IsHandled o c w new before after r
-  asks new v reply before after r is runs value ending = asks_own new v reply before after r (naming_of o c names is) runs value ending
+      IsDone None (opening_turn w o, says o (replied reply) ∷ []) w q.world q.before q.after q.result → IsHandled o c w q.world q.before q.after q.result
+  asks v q is runs value ending = asks_own v q (naming_of o c names is) runs value ending
 
 -- a command that only answers, and is refused by tests of its own, or memory was refused
-pub unanswered : (w : World) (o : Owner) (c : Command) (names : List Operand) (text : List ℕ) (f : Fault) → IsNaming c names →
+pub unanswered : {c : Command} {names : List Operand} {f : Fault} (w : World) (o : Owner) (text : List ℕ) → IsNaming c names →
     let_pass (early_refusal w o names) ≡ Ok tt →
     ((r : Refusal) → f ≡ Refused r → own_refusal (part_of w o) c ≡ Some r) → IsHandled o c w w text text (Err f)
-unanswered w o c names text f is pass own =
-    handled w w o c names text text (Err f) is pass (faulted (own_refusal (part_of w o) c) (accepted w o c) w w text f (λ r e. (own r e, refl)))
+unanswered {c = c} {f = f} w o text is pass own =
+    handled w o (record { world = w; before = text; after = text; result = Err f }) is pass
+    (faulted (accepted w o c) w w text f (λ r e. (own r e, refl)))

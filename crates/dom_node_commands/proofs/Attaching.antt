@@ -1,5 +1,5 @@
 -- Attaching shadow roots, and what is assigned to slots: with an open turn as without.
-use Rattle.std.proofs.Common.{◌≡◌, ℕ, List, [], ◌∷◌, Option, None, Some, Result, Ok, Err, refl, sym, ap, subst, ◌∙◌}
+use Rattle.std.proofs.Common.{◌≡◌, ℕ, List, [], ◌∷◌, Option, None, Some, Ok, Err, refl, sym, ap, ◌∙◌}
 use Rattle.std.specs.Prelude.{length, is_some, if◌then◌else◌}
 use Rattle.dom_base.specs.declared.Fault.{Fault}
 use Rattle.dom_base.specs.declared.Fault.TheVariants.{Refused}
@@ -24,7 +24,7 @@ use Rattle.dom_admission.specs.declared.admission.Operand.TheVariants.{Element}
 use Rattle.dom_admission.specs.Handled.{IsDone, IsHandled, let_pass}
 use Rattle.dom_admission.specs.Refusals.{early_refusal}
 use Rattle.dom_admission.specs.Turned.{with_turn, turned}
-use Rattle.dom_admission.proofs.Handling.{handled, faulted, finished, opened, opened-part}
+use Rattle.dom_admission.proofs.Handling.{Outcome, in_state, faults, finished, opened, opened-part}
 use Rattle.dom_admission.proofs.Refusing.{namings}
 
 -- In a state, a line of an owner that passes: it names this host.
@@ -40,22 +40,12 @@ module _ (o : Owner) (t : Option Owner) (d s : DocState) (seen : turned t d ≡ 
   own_is : attaching_refusal (part_of d.world o) y ≡ own_refusal (part_of d.world o) c
   own_is = ap (attaching_refusal (part_of d.world o)) host_is
 
-  -- what is done in the world of its documents is done in its world
-  in_world : (new : World) (before after : List ℕ) (r : Result (Unit {0}) Fault) →
-      IsDone (own_refusal (part_of d.world o) c) (accepted (with_turn t d.world) o c) (with_turn t d.world) new before after r →
-      IsHandled o c s.world new before after r
-  in_world new before after r h =
-      let Done : DocState → Type 0 = λ u. IsDone (own_refusal (part_of u.world o) c) (accepted u.world o c) u.world new before after r in
-      handled s.world new o c (Element x ∷ []) before after r (search namings) pass (subst Done seen h)
-
   -- the attaching is refused, which changed nothing, or memory was refused
   pub attach-faults : (mid : World) (text : List ℕ) (f : Fault) →
       ((r : Refusal) → f ≡ Refused r → (attaching_refusal (part_of d.world o) y ≡ Some r) × (mid ≡ d.world)) →
       IsHandled o c s.world (with_turn t mid) text text (Err f)
   attach-faults mid text f h =
-      in_world (with_turn t mid) text text (Err f)
-      (faulted (own_refusal (part_of d.world o) c) (accepted (with_turn t d.world) o c) (with_turn t d.world) (with_turn t mid) text f
-      (λ r e. (sym own_is ∙ (h r e).0, ap (with_turn t) (h r e).1)))
+      faults t d s seen o c (Element x ∷ []) (search namings) pass mid text f (λ r e. (sym own_is ∙ (h r e).0, (h r e).1))
 
   -- the run, with the turn open after it
   attached : (mid : World) (q : Owner) → mid ≡ (attaching d.world o y).0 → q ≡ component_made o (length (part_of d.world o).attached) →
@@ -69,16 +59,13 @@ module _ (o : Owner) (t : Option Owner) (d s : DocState) (seen : turned t d ≡ 
       ∙ sym (ap (λ (u : World). attaching u o (named (part_of u o) (word_view x))) (opened t d.world o))
 
   -- a component is made, and answered
-  pub attach-done : (mid new : World) (q : Owner) (before after : List ℕ) (r : Result (Unit {0}) Fault) →
-      attaching_refusal (part_of d.world o) y ≡ None → mid ≡ (attaching d.world o y).0 →
+  pub attach-done : {mid : World} {q : Owner} (end : Outcome) → attaching_refusal (part_of d.world o) y ≡ None → mid ≡ (attaching d.world o y).0 →
       q ≡ component_made o (length (part_of d.world o).attached) →
-      IsDone None (opening_turn (with_turn t mid) o, says o (replied (a_component q)) ∷ []) (with_turn t mid) new before after r →
-      IsHandled o c s.world new before after r
-  attach-done mid new q before after r none e is ending =
-      in_world new before after r
-      (finished (own_refusal (part_of d.world o) c) (opening_turn (with_turn t mid) o, says o (replied (a_component q)) ∷ [])
-      (accepted (with_turn t d.world) o c) (with_turn t d.world) (with_turn t mid) new before after r
-      (sym own_is ∙ none) (attached mid q e is) ending)
+      IsDone None (opening_turn (with_turn t mid) o, says o (replied (a_component q)) ∷ []) (with_turn t mid) end.world end.before end.after end.result →
+      IsHandled o c s.world end.world end.before end.after end.result
+  attach-done {mid = mid} {q = q} end none e is ending =
+      in_state t d s seen o c (Element x ∷ []) (search namings) pass end
+      (finished (with_turn t d.world) (with_turn t mid) end (sym own_is ∙ none) (attached mid q e is) ending)
 
 -- what is assigned to a slot that a line names, when its turn is open
 pub assigned-opened : (w : World) (o : Owner) (s : NodeWord) →

@@ -21,7 +21,7 @@ use Rattle.dom_model.specs.World.{World, part_of}
 use Rattle.dom_tree.specs.Forest.{name_at}
 use Rattle.dom_mutation.specs.Doc.{made, adding_refusal, adoption_refusal, splitting_refusal}
 use Rattle.dom_admission.proofs.Finding.{owner-named, IsKey}
-use Rattle.dom_admission.proofs.Handling.{done, handled}
+use Rattle.dom_admission.proofs.Handling.{handled}
 use Rattle.dom_model.specs.Runs.{Run}
 use Rattle.dom_model.specs.DocumentMachine.{accepted}
 use Rattle.dom_node_commands.specs.Making.{making}
@@ -29,45 +29,52 @@ use Rattle.dom_admission.specs.Handled.{IsDone, IsHandled, let_pass}
 use Rattle.dom_admission.specs.Refusals.{early_refusal}
 use Rattle.dom_admission.proofs.Refusing.{IsNaming}
 
+-- a node that a line of an owner names, with the key of its name
+pub record KeyedNode (names : List NodeName) (w : World) (o : Owner) : Type 0 where
+  pub word : NodeWord
+  pub key : ℕ
+  pub is : IsKey names w o key word
+
 module _ (names : List NodeName) (w : World) (o : Owner) where
-  pub append-refused : (a x : NodeWord) (parent node : ℕ) → IsKey names w o parent a → IsKey names w o node x →
-      insertion_refusal (part_of w (name_at names parent).owner).trees (name_at names parent) (name_at names node) None ≡ own_refusal
-      (part_of w o) (Command.append a x)
-  append-refused a x parent node parent_is node_is = rw (parent_is, node_is, owner-named w o a) refl
+  pub append-refused : (parent node : KeyedNode names w o) →
+      insertion_refusal (part_of w (name_at names parent.key).owner).trees (name_at names parent.key) (name_at names node.key) None ≡ own_refusal
+      (part_of w o) (Command.append parent.word node.word)
+  append-refused parent node = rw (parent.is, node.is, owner-named w o parent.word) refl
 
-  pub append-made : (a x : NodeWord) (parent node : ℕ) → IsKey names w o parent a → IsKey names w o node x → (new : World) →
-      new ≡ made (name_at names parent).owner (pre_inserting (name_at names node) (name_at names parent) None) w →
-      new ≡ made o (λ p. pre_inserting (named p x) (named p a) None p) w
-  append-made a x parent node parent_is node_is new e = rw (parent_is, node_is, owner-named w o a) at e
+  pub append-made : (parent node : KeyedNode names w o) (new : World) →
+      new ≡ made (name_at names parent.key).owner (pre_inserting (name_at names node.key) (name_at names parent.key) None) w →
+      new ≡ made o (λ p. pre_inserting (named p node.word) (named p parent.word) None p) w
+  append-made parent node new e = rw (parent.is, node.is, owner-named w o parent.word) at e
 
-  pub insert-refused : (a x b : NodeWord) (parent node child : ℕ) → IsKey names w o parent a → IsKey names w o node x → IsKey names w o child b →
-      insertion_refusal (part_of w (name_at names parent).owner).trees (name_at names parent) (name_at names node)
-      (Some (name_at names child)) ≡ own_refusal (part_of w o) (Command.insert a x b)
-  insert-refused a x b parent node child parent_is node_is child_is = rw (parent_is, node_is, child_is, owner-named w o a) refl
+  pub insert-refused : (parent node child : KeyedNode names w o) →
+      insertion_refusal (part_of w (name_at names parent.key).owner).trees (name_at names parent.key) (name_at names node.key)
+      (Some (name_at names child.key)) ≡ own_refusal (part_of w o) (Command.insert parent.word node.word child.word)
+  insert-refused parent node child = rw (parent.is, node.is, child.is, owner-named w o parent.word) refl
 
-  pub insert-made : (a x b : NodeWord) (parent node child : ℕ) → IsKey names w o parent a → IsKey names w o node x → IsKey names w o child b → (new : World) →
-      new ≡ made (name_at names parent).owner (pre_inserting (name_at names node) (name_at names parent) (Some (name_at names child))) w →
-      new ≡ made o (λ p. pre_inserting (named p x) (named p a) (Some (named p b)) p) w
-  insert-made a x b parent node child parent_is node_is child_is new e = rw (parent_is, node_is, child_is, owner-named w o a) at e
+  pub insert-made : (parent node child : KeyedNode names w o) (new : World) →
+      new ≡ made (name_at names parent.key).owner (pre_inserting (name_at names node.key) (name_at names parent.key) (Some (name_at names child.key))) w →
+      new ≡ made o (λ p. pre_inserting (named p node.word) (named p parent.word) (Some (named p child.word)) p) w
+  insert-made parent node child new e = rw (parent.is, node.is, child.is, owner-named w o parent.word) at e
 
-  pub replace-refused : (a x b : NodeWord) (parent node child : ℕ) → IsKey names w o parent a → IsKey names w o node x → IsKey names w o child b →
-      replacement_refusal (part_of w (name_at names parent).owner).trees (name_at names parent) (name_at names node)
-      (name_at names child) ≡ own_refusal (part_of w o) (Command.replace a x b)
-  replace-refused a x b parent node child parent_is node_is child_is = rw (parent_is, node_is, child_is, owner-named w o a) refl
+  pub replace-refused : (parent node child : KeyedNode names w o) →
+      replacement_refusal (part_of w (name_at names parent.key).owner).trees (name_at names parent.key) (name_at names node.key)
+      (name_at names child.key) ≡ own_refusal (part_of w o) (Command.replace parent.word node.word child.word)
+  replace-refused parent node child = rw (parent.is, node.is, child.is, owner-named w o parent.word) refl
 
-  pub replace-made : (a x b : NodeWord) (parent node child : ℕ) → IsKey names w o parent a → IsKey names w o node x → IsKey names w o child b → (new : World) →
-      new ≡ made (name_at names parent).owner (replacing (name_at names parent) (name_at names node) (name_at names child)) w →
-      new ≡ made o (λ p. replacing (named p a) (named p x) (named p b) p) w
-  replace-made a x b parent node child parent_is node_is child_is new e = rw (parent_is, node_is, child_is, owner-named w o a) at e
+  pub replace-made : (parent node child : KeyedNode names w o) (new : World) →
+      new ≡ made (name_at names parent.key).owner (replacing (name_at names parent.key) (name_at names node.key) (name_at names child.key)) w →
+      new ≡ made o (λ p. replacing (named p parent.word) (named p node.word) (named p child.word) p) w
+  replace-made parent node child new e = rw (parent.is, node.is, child.is, owner-named w o parent.word) at e
 
   -- a plan for one node
   pub node-made : (plan : NodeName → Plan) (x : NodeWord) (node : ℕ) → IsKey names w o node x → (new : World) →
       new ≡ made (name_at names node).owner (plan (name_at names node)) w → new ≡ made o (λ p. plan (named p x) p) w
   node-made plan x node node_is new e = rw (node_is, owner-named w o x) at e
 
-  pub adopt-refused : (a x : NodeWord) (node : ℕ) → IsKey names w o node x →
-      adoption_refusal (kind_of (part_of w (name_at names node).owner).trees (name_at names node)) ≡ own_refusal (part_of w o) (Command.adopt a x)
-  adopt-refused a x node node_is = rw (node_is, owner-named w o x) (by (kind_of (part_of w o).trees (named (part_of w o) x)))
+  pub adopt-refused : (a : NodeWord) (node : KeyedNode names w o) →
+      adoption_refusal (kind_of (part_of w (name_at names node.key).owner).trees (name_at names node.key)) ≡ own_refusal (part_of w o)
+      (Command.adopt a node.word)
+  adopt-refused a node = rw (node.is, owner-named w o node.word) (by (kind_of (part_of w o).trees (named (part_of w o) node.word)))
     where
       by : (k : Kind) → adoption_refusal k ≡ first_refusal ((is_shadow k, Hierarchy) ∷ (is_document k, NotSupported) ∷ [])
       by Document = refl
@@ -77,14 +84,14 @@ module _ (names : List NodeName) (w : World) (o : Owner) where
       by Text = refl
       by Comment = refl
 
-  pub adopt-made : (a x : NodeWord) (document node : ℕ) → IsKey names w o document a → IsKey names w o node x → (new : World) →
-      new ≡ made (name_at names node).owner (adopting (name_at names document) (name_at names node)) w →
-      new ≡ made o (λ p. adopting (named p a) (named p x) p) w
-  adopt-made a x document node document_is node_is new e =
-      let d = named (part_of w o) a in
-      let first = subst (λ (y : NodeName). new ≡ made (name_at names node).owner (adopting y (name_at names node)) w) document_is e in
-      let second = subst (λ (y : NodeName). new ≡ made y.owner (adopting d y) w) node_is first in
-      subst (λ (q : Owner). new ≡ made q (adopting d (named (part_of w o) x)) w) (owner-named w o x) second
+  pub adopt-made : (document node : KeyedNode names w o) (new : World) →
+      new ≡ made (name_at names node.key).owner (adopting (name_at names document.key) (name_at names node.key)) w →
+      new ≡ made o (λ p. adopting (named p document.word) (named p node.word) p) w
+  adopt-made document node new e =
+      let d = named (part_of w o) document.word in
+      let first = subst (λ (y : NodeName). new ≡ made (name_at names node.key).owner (adopting y (name_at names node.key)) w) document.is e in
+      let second = subst (λ (y : NodeName). new ≡ made y.owner (adopting d y) w) node.is first in
+      subst (λ (q : Owner). new ≡ made q (adopting d (named (part_of w o) node.word)) w) (owner-named w o node.word) second
 
   pub has_data-key : (x : NodeWord) (node : ℕ) → IsKey names w o node x →
       has_data (kind_of (part_of w (name_at names node).owner).trees (name_at names node)) ≡ has_data
@@ -111,8 +118,9 @@ module _ (names : List NodeName) (w : World) (o : Owner) where
   next-key x node node_is = ap (λ (y : NodeName). next_name (part_of w y.owner)) node_is ∙ ap (λ (p : Owner). next_name (part_of w p)) (owner-named w o x)
 
 -- the name of the node that was made last
-pub name-last : (names more : List NodeName) (x made : NodeName) (key : ℕ) → more ≡ names ++ x ∷ [] → key ≡ length names → name_at more key ≡ made → made ≡ x
-name-last names more x made key all last is =
+pub name-last : {more : List NodeName} {made : NodeName} {key : ℕ} (names : List NodeName) (x : NodeName) → more ≡ names ++ x ∷ [] → key ≡ length names →
+    name_at more key ≡ made → made ≡ x
+name-last {key = key} names x all last is =
     sym is ∙ ap (λ (ns : List NodeName). name_at ns key) all ∙ ap (name_at (names ++ x ∷ [])) last ∙ get_or-append_seam names x [] (node_of Page 0)
 
 -- a lone test of what is to hold
@@ -151,7 +159,7 @@ pub record NodeCommand : Type 0 where
 pub makes_node : (h : NodeCommand) → IsHandled h.owner h.command h.world h.now h.before h.after h.result
 makes_node h =
     let run : making o k a s w ≡ accepted w o c = ap (λ (b : Word). making o k b s w) element ∙ ap (λ (v : DomString). making o k e v w) text ∙ sym runs in
-    handled w new o c [] before after r is pass
+    handled w o (record { world = new; before = before; after = after; result = r }) is pass
     (subst (λ q. IsDone q (accepted w o c) w new before after r) (sym own)
     (subst (λ (q : Run World). IsDone (adding_refusal (part_of w o) k a) q w new before after r) run done))
   where

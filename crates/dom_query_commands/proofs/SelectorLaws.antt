@@ -158,9 +158,9 @@ module _ (ts : Trees) (owned : AreOwned ts) (o : Owner) where
 -- ---- what was read
 
 -- a text that is no selector is refused
-pub unread : (text units : List ℕ) (f : Fault) → units ≡ text → IsRefusalWhere (parse_selectors units ≡ None) f → (r : Refusal) → f ≡ Refused r →
+pub unread : {text units : List ℕ} (f : Fault) → units ≡ text → IsRefusalWhere (parse_selectors units ≡ None) f → (r : Refusal) → f ≡ Refused r →
     first_refusal ((is_none (parse_selectors text), Selector) ∷ []) ≡ Some r
-unread text units f same none r e =
+unread {text = text} {units = units} f same none r e =
     let h = subst (IsRefusalWhere (parse_selectors units ≡ None)) e none in
     lone_holds (is_none (parse_selectors text)) Selector (ap (λ (u : List ℕ). is_none (parse_selectors u)) (sym same) ∙ ap is_none h.1) ∙ ap Some (sym h.0)
 

@@ -1,6 +1,6 @@
 -- What the operations on live ranges do, from the keys of the nodes that they name.
 use Rattle.std.proofs.Common.{◌≡◌, ℕ, suc, true, List, [], ◌∷◌, ◌++◌, length, Option, Some, None, Result, Ok, Err, is_some, refl, sym, ap, ◌∙◌}
-use Rattle.std.specs.Prelude.{take}
+use Rattle.std.specs.Prelude.{take, unwrap_or}
 use Rattle.std.proofs.Math.Seq.{get_or-append_seam}
 use Rattle.std.specs.Option.{ForSome, option_map_or}
 use Rattle.dom_base.specs.declared.Fault.{Fault}
@@ -15,10 +15,10 @@ use Rattle.dom_model.specs.Effects.{answers}
 use Rattle.dom_model.specs.Extract.{clone_count, made_by_extracting, pieces_of}
 use Rattle.dom_model.specs.Names.{DomString, node_of}
 use Rattle.dom_model.specs.Output.{nothing, a_string}
-use Rattle.dom_model.specs.Part.{Part, range_at, next_name}
+use Rattle.dom_model.specs.Part.{Part, range_at, next_name, empty_part}
 use Rattle.dom_model.specs.RangeOps.{range_text_of}
 use Rattle.dom_model.specs.Ranges.{Range}
-use Rattle.dom_model.specs.World.{World, part_of, is_there}
+use Rattle.dom_model.specs.World.{World, part_of, find_part, is_there}
 use Rattle.dom_model.proofs.PartLaws.{owner-part_of}
 use Rattle.dom_mutation.specs.Doc.{made, Makes}
 use Rattle.dom_range_ops.specs.Insertions.{inserting_node, inserting_refusal}
@@ -34,21 +34,29 @@ keeps_names names more (Ok x) h = h
 keeps_names names more (Err (Refused q)) h = h
 keeps_names names more (Err Memory) h = tt
 
+-- an owner that has a range is there
+owner-there : (w : World) (o : Owner) (k : ℕ) → is_some (range_at (part_of w o) k) ≡ true → is_there w o ≡ true
+owner-there w o k known = by (find_part w.parts o) known
+  where
+    by : (m : Option Part) → is_some (range_at (unwrap_or m (empty_part o)) k) ≡ true → is_some m ≡ true
+    by None known = absurd cc
+    by (Some p) known = refl
+
 -- the text of a range is answered, and nothing is changed
-pub text_told : (w : World) (o : Owner) (k : ℕ) (text : DomString) → is_there w o ≡ true → is_some (range_at (part_of w o) k) ≡ true →
+pub text_told : (w : World) (o : Owner) (k : ℕ) (text : DomString) → is_some (range_at (part_of w o) k) ≡ true →
     ForSome (range_at (part_of w o) k) (λ r. text ≡ range_text_of (part_of w o).trees r) → Makes o (Command.range_text k) (a_string text) w w
-text_told w o k text there known is = by (range_at (part_of w o) k) refl known is
+text_told w o k text known is = by (range_at (part_of w o) k) refl known is
   where
     p : Part
     p = part_of w o
 
     by : (m : Option (Range NodeName)) → range_at p k ≡ m → is_some m ≡ true → ForSome m (λ r. text ≡ range_text_of p.trees r) →
         Makes o (Command.range_text k) (a_string text) w w
-    by None e known is = absurd cc
-    by (Some r) e known is = (
+    by None e some is = absurd cc
+    by (Some r) e some is = (
       ap (λ m. option_map_or (λ (range : Range NodeName). answers p (a_string (range_text_of p.trees range))) m (answers p nothing)) e ∙
           ap (λ s. answers p (a_string s)) (sym (is r refl)),
-      sym (with_part-same w o there),
+      sym (with_part-same w o (owner-there w o k known)),
     )
 
 -- What an extraction names: the fragment has its owner's next name, and the names before it stay.

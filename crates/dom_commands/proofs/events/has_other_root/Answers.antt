@@ -23,10 +23,10 @@ returns c =
     let node_here = ap (λ (names : List NodeName). name_at names c.key-node.result) c.forest-forest.ensures.names ∙ node_is in
     let other_here = ap (λ (names : List NodeName). name_at names c.key-other.result) c.forest-forest.ensures.names ∙ other_is in
     let root = c.root-root.ensures.value
-    ∙ read_at root_of f.names f.trees w o (word_view c.args.node) c.key-node.result node_here c.forest-forest.ensures.trees
+    ∙ read_at root_of f.trees node_here (c.forest-forest.ensures.trees o)
     (read_own f.trees c.forest-forest.ensures.owned o (at c.args.node) (owner-named w o (word_view c.args.node))).root in
     let other_root = c.root-other_root.ensures.value
-    ∙ read_at root_of f.names f.trees w o (word_view c.args.other) c.key-other.result other_here c.forest-forest.ensures.trees
+    ∙ read_at root_of f.trees other_here (c.forest-forest.ensures.trees o)
     (read_own f.trees c.forest-forest.ensures.owned o (at c.args.other) (owner-named w o (word_view c.args.other))).root in
     rw (← c.state.view_is)
     (c.ne.ensures ∙ ap not (key-test f.names c.law_nodes_stand_once.ensures.distinct c.root-root.result c.root-other_root.result

@@ -6,7 +6,6 @@ use Rattle.dom_model.specs.Command.{Command}
 use Rattle.dom_model.specs.CommandNames.{named}
 use Rattle.dom_model.specs.Effects.{string_or_null}
 use Rattle.dom_model.specs.World.{part_of}
-use Rattle.dom_printer.specs.Replies.{value_view}
 use Rattle.dom_reader.specs.Views.{word_view}
 use Rattle.dom_admission.specs.declared.admission.Operand.TheVariants.{Element}
 use Rattle.dom_admission.proofs.Handling.{refused, reads}
@@ -23,10 +22,12 @@ returns-in_err-admit-clause-handled c =
 pub returns-clause-handled : goal.returns-clause-handled
 returns-clause-handled c =
     reads c.args.state.now.world c.args.owner (Command.attribute (word_view c.args.element) (string_bytes c.args.name)) (Element c.args.element ∷ [])
-    (sym c.admit.ensures ∙ c.in_ok-admit.was) refl c.open_turn.new.self.world
+    (sym c.admit.ensures ∙ c.in_ok-admit.was) refl
     (λ p. string_or_null (attribute_value (node_in p.trees (named p (word_view c.args.element))) (string_bytes c.args.name)))
-    (value_view c.attribute_value.result) c.args.out.now.items c.put_reply.new.out.items (Ok tt) (search namings) refl (c.attribute_value.ensures
-    ∙ ap (λ a. string_or_null
+    (record { world = c.open_turn.new.self.world; before = c.args.out.now.items; after = c.put_reply.new.out.items; result = Ok tt })
+    (search namings) refl
+    (c.attribute_value.ensures ∙ ap (λ a. string_or_null
     (attribute_value (node_in (part_of c.args.state.now.world c.args.owner).trees
-    (named (part_of c.args.state.now.world c.args.owner) (word_view c.args.element))) a)) c.deref.ensures)
+    (named (part_of c.args.state.now.world c.args.owner) (word_view c.args.element))) a))
+    c.deref.ensures)
     (refl, c.open_turn.ensures.world, c.in_ok-put_reply.ensures.ok)

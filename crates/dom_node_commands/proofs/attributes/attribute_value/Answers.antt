@@ -20,8 +20,8 @@ returns-in-Some c =
     let here = ap (λ (names : List NodeName). name_at names c.key.result) c.forest.ensures.names ∙ is in
     let own = read_own f.trees c.forest.ensures.owned c.args.owner x (owner-named w c.args.owner s) in
     rw (← c.state.view_is)
-    (ap string_or_null (c.in-Some.ensures ∙ read_at (λ ts y. attribute_value (node_in ts y) c.args.name.now) f.names f.trees w c.args.owner s
-    c.key.result here c.forest.ensures.trees (own.attribute c.args.name.now)))
+    (ap string_or_null (c.in-Some.ensures ∙ read_at (λ ts y. attribute_value (node_in ts y) c.args.name.now) f.trees here
+    (c.forest.ensures.trees c.args.owner) (own.attribute c.args.name.now)))
 
 pub returns-in-None : goal.returns-in-None
 returns-in-None c =
@@ -33,5 +33,5 @@ returns-in-None c =
     let here = ap (λ (names : List NodeName). name_at names c.key.result) c.forest.ensures.names ∙ is in
     let own = read_own f.trees c.forest.ensures.owned c.args.owner x (owner-named w c.args.owner s) in
     rw (← c.state.view_is)
-    (ap string_or_null (c.in-None.ensures ∙ read_at (λ ts y. attribute_value (node_in ts y) c.args.name.now) f.names f.trees w c.args.owner s
-    c.key.result here c.forest.ensures.trees (own.attribute c.args.name.now)))
+    (ap string_or_null (c.in-None.ensures ∙ read_at (λ ts y. attribute_value (node_in ts y) c.args.name.now) f.trees here
+    (c.forest.ensures.trees c.args.owner) (own.attribute c.args.name.now)))

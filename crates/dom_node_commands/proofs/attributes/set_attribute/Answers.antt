@@ -55,15 +55,19 @@ returns-clause-handled c =
     let element_is : IsKey d.names d.world c.args.owner c.key-element.result (word_view c.args.element) =
     rw (← c.state.view_is) at c.key-element.ensures.name in
     plans c.state.inside.turn d c.args.state.now c.state.view_is c.args.owner
-    (Command.set_attribute (word_view c.args.element) (string_bytes c.args.name) c.args.value.items) (Element c.args.element ∷ [])
-    (search namings) (sym c.admit.ensures ∙ c.in_ok-admit.was)
-    c.set_attr.new.self.world c.accept.new.self.world
-    (λ p. setting_attribute (named p (word_view c.args.element)) (string_bytes c.args.name) c.args.value.items p) (λ p. nothing) nothing
-    c.args.out.now.items c.accept.new.out.items c.accept.result refl
-    (lacks_none (is_name (string_bytes c.args.name)) InvalidCharacter
-    (λ h. accepted_not InvalidCharacter (c.in_ok-set_attr.ensures.refused.1 (ap is_name c.deref.ensures ∙ h))))
-    (node-made d.names d.world c.args.owner (λ x. setting_attribute x (string_bytes c.args.name) c.args.value.items) (word_view c.args.element)
-    c.key-element.result element_is c.set_attr.new.self.world
-    (c.in_ok-set_attr.ensures.world ∙
-    ap (λ a. made (name_at d.names c.key-element.result).owner (setting_attribute (name_at d.names c.key-element.result) a c.args.value.items)
-    d.world) c.deref.ensures)) refl c.accept.ensures.done
+    (Command.set_attribute (word_view c.args.element) (string_bytes c.args.name) c.args.value.items) (Element c.args.element ∷ []) (search namings)
+    (sym c.admit.ensures ∙ c.in_ok-admit.was) c.set_attr.new.self.world (record {
+      plan = λ p. setting_attribute (named p (word_view c.args.element)) (string_bytes c.args.name) c.args.value.items p;
+      value = λ p. nothing;
+      reply = nothing;
+      runs = refl;
+      unrefused = lacks_none (is_name (string_bytes c.args.name)) InvalidCharacter
+          (λ h. accepted_not InvalidCharacter (c.in_ok-set_attr.ensures.refused.1 (ap is_name c.deref.ensures ∙ h)));
+      follows = node-made d.names d.world c.args.owner (λ x. setting_attribute x (string_bytes c.args.name) c.args.value.items) (word_view c.args.element)
+          c.key-element.result element_is c.set_attr.new.self.world (c.in_ok-set_attr.ensures.world
+          ∙ ap (λ a. made (name_at d.names c.key-element.result).owner (setting_attribute (name_at d.names c.key-element.result) a c.args.value.items) d.world)
+          c.deref.ensures);
+      replies = refl;
+    })
+    (record { world = c.accept.new.self.world; before = c.args.out.now.items; after = c.accept.new.out.items; result = c.accept.result })
+    c.accept.ensures.done

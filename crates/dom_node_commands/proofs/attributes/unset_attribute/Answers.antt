@@ -27,14 +27,17 @@ returns-clause-handled c =
     let d = c.state.inside.doc in
     let element_is : IsKey d.names d.world c.args.owner c.key-element.result (word_view c.args.element) =
     rw (← c.state.view_is) at c.key-element.ensures.name in
-    plans c.state.inside.turn d c.args.state.now c.state.view_is c.args.owner
-    (Command.unset_attribute (word_view c.args.element) (string_bytes c.args.name)) (Element c.args.element ∷ [])
-    (search namings) (sym c.admit.ensures ∙ c.in_ok-admit.was) c.remove_attr.new.self.world
-    c.accept.new.self.world (λ p. unsetting_attribute (named p (word_view c.args.element)) (string_bytes c.args.name) p) (λ p. nothing)
-    nothing c.args.out.now.items c.accept.new.out.items c.accept.result refl
-    (refl)
-    (node-made d.names d.world c.args.owner (λ x. unsetting_attribute x (string_bytes c.args.name)) (word_view c.args.element)
-    c.key-element.result element_is c.remove_attr.new.self.world
-    (c.in_ok-remove_attr.ensures.world ∙
-    ap (λ a. made (name_at d.names c.key-element.result).owner (unsetting_attribute (name_at d.names c.key-element.result) a) d.world)
-    c.deref.ensures)) refl c.accept.ensures.done
+    plans c.state.inside.turn d c.args.state.now c.state.view_is c.args.owner (Command.unset_attribute (word_view c.args.element) (string_bytes c.args.name))
+    (Element c.args.element ∷ []) (search namings) (sym c.admit.ensures ∙ c.in_ok-admit.was) c.remove_attr.new.self.world (record {
+      plan = λ p. unsetting_attribute (named p (word_view c.args.element)) (string_bytes c.args.name) p;
+      value = λ p. nothing;
+      reply = nothing;
+      runs = refl;
+      unrefused = refl;
+      follows = node-made d.names d.world c.args.owner (λ x. unsetting_attribute x (string_bytes c.args.name)) (word_view c.args.element)
+          c.key-element.result element_is c.remove_attr.new.self.world (c.in_ok-remove_attr.ensures.world
+          ∙ ap (λ a. made (name_at d.names c.key-element.result).owner (unsetting_attribute (name_at d.names c.key-element.result) a) d.world) c.deref.ensures);
+      replies = refl;
+    })
+    (record { world = c.accept.new.self.world; before = c.args.out.now.items; after = c.accept.new.out.items; result = c.accept.result })
+    c.accept.ensures.done

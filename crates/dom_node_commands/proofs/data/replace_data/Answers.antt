@@ -51,16 +51,20 @@ returns-clause-handled c =
     let d = c.state.inside.doc in
     let node_is : IsKey d.names d.world c.args.owner c.key-node.result (word_view c.args.node) = rw (← c.state.view_is) at c.key-node.ensures.name in
     plans c.state.inside.turn d c.args.state.now c.state.view_is c.args.owner
-    (Command.replace_data (word_view c.args.node) c.args.offset c.args.count c.args.text.items) (Data c.args.node ∷ [])
-    (search namings) (sym c.admit.ensures ∙ c.in_ok-admit.was)
-    c.replace_data.new.self.world c.accept.new.self.world
-    (λ p. replacing_data (named p (word_view c.args.node)) c.args.offset c.args.count c.args.text.items p) (λ p. nothing) nothing
-    c.args.out.now.items c.accept.new.out.items c.accept.result refl
-    (lone_fails _ IndexSize (λ h. accepted_not IndexSize
-    (c.in_ok-replace_data.ensures.refused.1
-    ((past_end-key d.names d.world c.args.owner (word_view c.args.node) c.key-node.result c.args.offset node_is) ∙ h))))
-    (node-made d.names d.world c.args.owner (λ x. replacing_data x c.args.offset c.args.count c.args.text.items) (word_view c.args.node)
-    c.key-node.result node_is c.replace_data.new.self.world c.in_ok-replace_data.ensures.world) refl c.accept.ensures.done
+    (Command.replace_data (word_view c.args.node) c.args.offset c.args.count c.args.text.items) (Data c.args.node ∷ []) (search namings)
+    (sym c.admit.ensures ∙ c.in_ok-admit.was) c.replace_data.new.self.world (record {
+      plan = λ p. replacing_data (named p (word_view c.args.node)) c.args.offset c.args.count c.args.text.items p;
+      value = λ p. nothing;
+      reply = nothing;
+      runs = refl;
+      unrefused = lone_fails _ IndexSize (λ h. accepted_not IndexSize (c.in_ok-replace_data.ensures.refused.1
+          ((past_end-key d.names d.world c.args.owner (word_view c.args.node) c.key-node.result c.args.offset node_is) ∙ h)));
+      follows = node-made d.names d.world c.args.owner (λ x. replacing_data x c.args.offset c.args.count c.args.text.items) (word_view c.args.node)
+          c.key-node.result node_is c.replace_data.new.self.world c.in_ok-replace_data.ensures.world;
+      replies = refl;
+    })
+    (record { world = c.accept.new.self.world; before = c.args.out.now.items; after = c.accept.new.out.items; result = c.accept.result })
+    c.accept.ensures.done
 
 pub replace_data-requires-clause-bounds : goal.replace_data-requires-clause-bounds
 replace_data-requires-clause-bounds c = bounded-inside c.state.inside.turn c.state.inside.doc c.args.state.now c.state.view_is c.requires.bounds

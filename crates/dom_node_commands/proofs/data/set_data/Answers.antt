@@ -26,12 +26,18 @@ returns-clause-handled c =
     let d = c.state.inside.doc in
     let node_is : IsKey d.names d.world c.args.owner c.key-node.result (word_view c.args.node) = rw (← c.state.view_is) at c.key-node.ensures.name in
     plans c.state.inside.turn d c.args.state.now c.state.view_is c.args.owner (Command.set_data (word_view c.args.node) c.args.text.items)
-    (Data c.args.node ∷ []) (search namings) (sym c.admit.ensures ∙ c.in_ok-admit.was)
-    c.set_data.new.self.world c.accept.new.self.world (λ p. replacing_all_data (named p (word_view c.args.node)) c.args.text.items p)
-    (λ p. nothing) nothing c.args.out.now.items c.accept.new.out.items c.accept.result refl
-    (refl)
-    (node-made d.names d.world c.args.owner (λ x. replacing_all_data x c.args.text.items) (word_view c.args.node) c.key-node.result node_is
-    c.set_data.new.self.world c.in_ok-set_data.ensures.world) refl c.accept.ensures.done
+    (Data c.args.node ∷ []) (search namings) (sym c.admit.ensures ∙ c.in_ok-admit.was) c.set_data.new.self.world (record {
+      plan = λ p. replacing_all_data (named p (word_view c.args.node)) c.args.text.items p;
+      value = λ p. nothing;
+      reply = nothing;
+      runs = refl;
+      unrefused = refl;
+      follows = node-made d.names d.world c.args.owner (λ x. replacing_all_data x c.args.text.items) (word_view c.args.node) c.key-node.result node_is
+          c.set_data.new.self.world c.in_ok-set_data.ensures.world;
+      replies = refl;
+    })
+    (record { world = c.accept.new.self.world; before = c.args.out.now.items; after = c.accept.new.out.items; result = c.accept.result })
+    c.accept.ensures.done
 
 pub set_data-requires-clause-has_data : goal.set_data-requires-clause-has_data
 set_data-requires-clause-has_data c =

@@ -47,14 +47,19 @@ returns-clause-handled c =
     let d = c.state.inside.doc in
     let node_is : IsKey d.names d.world c.args.owner c.key-node.result (word_view c.args.node) = rw (← c.state.view_is) at c.key-node.ensures.name in
     plans c.state.inside.turn d c.args.state.now c.state.view_is c.args.owner (Command.set_text (word_view c.args.node) c.args.text.items)
-    (Any c.args.node ∷ []) (search namings) (sym c.admit.ensures ∙ c.in_ok-admit.was) c.set_text.new.self.world
-    c.accept.new.self.world (λ p. setting_text (named p (word_view c.args.node)) c.args.text.items p) (λ p. nothing) nothing
-    c.args.out.now.items c.accept.new.out.items c.accept.result refl
-    (lone_fails _ Limit (λ h. accepted_not Limit
-    (c.in_ok-set_text.ensures.refused.1
-    ((text-limit d.names d.world c.args.owner (word_view c.args.node) c.key-node.result c.args.text.items node_is) ∙ h))))
-    (node-made d.names d.world c.args.owner (λ x. setting_text x c.args.text.items) (word_view c.args.node) c.key-node.result node_is
-    c.set_text.new.self.world c.in_ok-set_text.ensures.world) refl c.accept.ensures.done
+    (Any c.args.node ∷ []) (search namings) (sym c.admit.ensures ∙ c.in_ok-admit.was) c.set_text.new.self.world (record {
+      plan = λ p. setting_text (named p (word_view c.args.node)) c.args.text.items p;
+      value = λ p. nothing;
+      reply = nothing;
+      runs = refl;
+      unrefused = lone_fails _ Limit (λ h. accepted_not Limit (c.in_ok-set_text.ensures.refused.1
+          ((text-limit d.names d.world c.args.owner (word_view c.args.node) c.key-node.result c.args.text.items node_is) ∙ h)));
+      follows = node-made d.names d.world c.args.owner (λ x. setting_text x c.args.text.items) (word_view c.args.node) c.key-node.result node_is
+          c.set_text.new.self.world c.in_ok-set_text.ensures.world;
+      replies = refl;
+    })
+    (record { world = c.accept.new.self.world; before = c.args.out.now.items; after = c.accept.new.out.items; result = c.accept.result })
+    c.accept.ensures.done
 
 pub set_text-requires-clause-bounds : goal.set_text-requires-clause-bounds
 set_text-requires-clause-bounds c = bounded-inside c.state.inside.turn c.state.inside.doc c.args.state.now c.state.view_is c.requires.bounds

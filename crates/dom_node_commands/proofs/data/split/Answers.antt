@@ -42,17 +42,22 @@ pub returns-clause-handled : goal.returns-clause-handled
 returns-clause-handled c =
     let d = c.state.inside.doc in
     let node_is : IsKey d.names d.world c.args.owner c.key-node.result (word_view c.args.node) = rw (← c.state.view_is) at c.key-node.ensures.name in
-    plans c.state.inside.turn d c.args.state.now c.state.view_is c.args.owner (Command.split (word_view c.args.node) c.args.offset)
-    (Text c.args.node ∷ []) (search namings) (sym c.admit.ensures ∙ c.in_ok-admit.was) c.split.new.self.world
-    c.accept.new.self.world (λ p. splitting (named p (word_view c.args.node)) c.args.offset p) (λ p. a_node (next_name p))
-    (a_node c.name-made.result) c.args.out.now.items c.accept.new.out.items c.accept.result refl
-    (sym (split-refused d.names d.world c.args.owner (word_view c.args.node) c.key-node.result c.args.offset node_is) ∙
-    none_stopped c.in_ok-tail.tail _ c.in_ok-tail.ensures.stopped)
-    (node-made d.names d.world c.args.owner (λ x. splitting x c.args.offset) (word_view c.args.node) c.key-node.result node_is
-    c.split.new.self.world c.in_ok-tail.ensures.world)
-    (ap a_node (name-last d.names c.forest.result.now.names (next_name (part_of d.world (name_at d.names c.key-node.result).owner))
-    c.name-made.result c.in_ok-tail.tail (c.forest.ensures.names ∙ c.in_ok-tail.ensures.names) c.in_ok-tail.ensures.key
-    c.name-made.ensures.at ∙ next-key d.names d.world c.args.owner (word_view c.args.node) c.key-node.result node_is)) c.accept.ensures.done
+    plans c.state.inside.turn d c.args.state.now c.state.view_is c.args.owner (Command.split (word_view c.args.node) c.args.offset) (Text c.args.node ∷ [])
+    (search namings) (sym c.admit.ensures ∙ c.in_ok-admit.was) c.split.new.self.world (record {
+      plan = λ p. splitting (named p (word_view c.args.node)) c.args.offset p;
+      value = λ p. a_node (next_name p);
+      reply = a_node c.name-made.result;
+      runs = refl;
+      unrefused = sym (split-refused d.names d.world c.args.owner (word_view c.args.node) c.key-node.result c.args.offset node_is) ∙ none_stopped
+          c.in_ok-tail.tail _ c.in_ok-tail.ensures.stopped;
+      follows = node-made d.names d.world c.args.owner (λ x. splitting x c.args.offset) (word_view c.args.node) c.key-node.result node_is
+          c.split.new.self.world c.in_ok-tail.ensures.world;
+      replies = ap a_node (name-last d.names (next_name (part_of d.world (name_at d.names c.key-node.result).owner))
+          (c.forest.ensures.names ∙ c.in_ok-tail.ensures.names) c.in_ok-tail.ensures.key c.name-made.ensures.at ∙ next-key
+          d.names d.world c.args.owner (word_view c.args.node) c.key-node.result node_is);
+    })
+    (record { world = c.accept.new.self.world; before = c.args.out.now.items; after = c.accept.new.out.items; result = c.accept.result })
+    c.accept.ensures.done
 
 pub split-requires-clause-bounds : goal.split-requires-clause-bounds
 split-requires-clause-bounds c = bounded-inside c.state.inside.turn c.state.inside.doc c.args.state.now c.state.view_is c.requires.bounds

@@ -1,16 +1,14 @@
-use Rattle.std.proofs.Common.{◌≡◌, Err, inl, List, [], ◌∷◌, Option, refl, sym, ap, subst, ◌∙◌, string_bytes}
+use Rattle.std.proofs.Common.{◌≡◌, Err, inl, List, [], Option, sym, ap, subst, ◌∙◌, string_bytes}
 use Rattle.std.proofs.lemmas.Result.{err_from_is_err_and}
 use Rattle.std.specs.Option.{option_map}
 use Rattle.dom_base.specs.declared.NodeName.{NodeName}
 use Rattle.dom_model.specs.Changes.{Plan, doing}
 use Rattle.dom_model.specs.Effects.{new_node}
-use Rattle.dom_model.specs.Output.{a_node, says, replied}
+use Rattle.dom_model.specs.Output.{a_node}
 use Rattle.dom_model.specs.Part.{next_name}
-use Rattle.dom_model.specs.Runs.{Run}
 use Rattle.dom_model.specs.Steps.{make}
 use Rattle.dom_model.specs.Tree.{Attribute, Node}
-use Rattle.dom_model.specs.Turns.{opening_turn}
-use Rattle.dom_model.specs.World.{World, part_of}
+use Rattle.dom_model.specs.World.{part_of}
 use Rattle.dom_mutation.specs.Doc.{DocState, adding_refusal, made}
 use Rattle.dom_tree.specs.Forest.{attributes_from, name_at}
 use Rattle.dom_admission.specs.Handled.{IsDone}
@@ -31,9 +29,8 @@ returns-in_err-key-clause-done c =
     let text = c.args.out.now.items in
     rw (p.1, p.2) (subst (λ (s : DocState). IsDone (adding_refusal (part_of s.world o) c.args.kind a)
     (making o c.args.kind a c.args.text.items s.world) s.world (with_turn t c.add.new.self.world) text text (Err c.in_err-key.field-0.0)) c.state.view_is
-    (faulted (adding_refusal (part_of d.world o) c.args.kind a) (making o c.args.kind a c.args.text.items (with_turn t d.world))
-    (with_turn t d.world) (with_turn t c.add.new.self.world) text c.in_err-key.field-0.0
-    (λ r e. ((c.in_err-key.ensures.refused r).0 (ap Err e), ap (λ (s : DocState). with_turn t s.world) c.in_err-key.ensures.err))))
+    (faulted (making o c.args.kind a c.args.text.items (with_turn t d.world)) (with_turn t d.world) (with_turn t c.add.new.self.world) text
+    c.in_err-key.field-0.0 (λ r e. ((c.in_err-key.ensures.refused r).0 (ap Err e), ap (λ (s : DocState). with_turn t s.world) c.in_err-key.ensures.err))))
 
 pub returns-clause-done : goal.returns-clause-done
 returns-clause-done c =
@@ -44,7 +41,6 @@ returns-clause-done c =
     let a = string_bytes c.args.element in
     let own = part_of d.world o in
     let plan : Plan = λ p. doing (make (new_node p k a c.args.text.items (document_for k p))) p in
-    let run : Run World = (opening_turn (with_turn t c.add.new.self.world) o, says o (replied (a_node c.name-made.result)) ∷ []) in
     let build : List Attribute → Option NodeName → Node = λ bs e. record {
       name = next_name own;
       kind = k;
@@ -58,12 +54,10 @@ returns-clause-done c =
     c.document_for.ensures.value in
     let held = ap (λ es. build (attributes_from es) (option_map (name_at d.names) c.document_for.result)) c.new.ensures.empty ∙ ap (build []) document in
     let done : c.add.new.self.world ≡ made o plan d.world = c.in_ok-key.ensures.world ∙ ap (λ (n : Node). made o (doing (make n)) d.world) held in
-    let named = name-last d.names c.forest.result.now.names (next_name own) c.name-made.result c.in_ok-key.key
-    (c.forest.ensures.names ∙ c.in_ok-key.ensures.names) c.in_ok-key.ensures.key c.name-made.ensures.at in
+    let named = name-last d.names (next_name own) (c.forest.ensures.names ∙ c.in_ok-key.ensures.names) c.in_ok-key.ensures.key c.name-made.ensures.at in
     subst (λ (s : DocState). IsDone (adding_refusal (part_of s.world o) k a) (making o k a c.args.text.items s.world) s.world
     c.accept.new.self.world c.args.out.now.items c.accept.new.out.items c.accept.result) c.state.view_is
-    (finished (adding_refusal own k a) run (making o k a c.args.text.items (with_turn t d.world)) (with_turn t d.world)
-    (with_turn t c.add.new.self.world) c.accept.new.self.world c.args.out.now.items c.accept.new.out.items c.accept.result
+    (finished (with_turn t d.world) (with_turn t c.add.new.self.world)
+    (record { world = c.accept.new.self.world; before = c.args.out.now.items; after = c.accept.new.out.items; result = c.accept.result })
     (none_stopped c.in_ok-key.key (adding_refusal own k a) (λ r e. inl ((c.in_ok-key.ensures.refused r).1 e)))
-    (changed t d.world c.add.new.self.world o plan (λ p. a_node (next_name p)) (a_node c.name-made.result) done (ap a_node named))
-    c.accept.ensures.done)
+    (changed t d.world o plan (λ p. a_node (next_name p)) done (ap a_node named)) c.accept.ensures.done)

@@ -11,9 +11,8 @@ use Rattle.dom_tree.specs.Forest.{name_at}
 use Rattle.dom_reader.specs.Views.{word_view}
 use Rattle.dom_admission.specs.declared.admission.Operand.TheVariants.{Any, Document}
 use Rattle.dom_admission.proofs.Handling.{refused, plans, faults, accepted_none}
-use Rattle.dom_admission.proofs.Finding.{IsKey}
 use Rattle.dom_admission.proofs.Refusing.{namings}
-use Rattle.dom_node_commands.proofs.CommandPlans.{adopt-refused, adopt-made}
+use Rattle.dom_node_commands.proofs.CommandPlans.{KeyedNode, adopt-refused, adopt-made}
 use Rattle.dom_node_commands.proofs.moving.adopt.Goals as goal
 
 pub returns-in_err-admit-clause-handled : goal.returns-in_err-admit-clause-handled
@@ -27,15 +26,14 @@ pub returns-in_err-adopt-clause-handled : goal.returns-in_err-adopt-clause-handl
 returns-in_err-adopt-clause-handled c =
     let p = err_from_is_err_and c.from_residual-in_err-adopt.result c.from_residual-in_err-adopt.ensures.1 in
     let d = c.state.inside.doc in
-    let document_is : IsKey d.names d.world c.args.owner c.key-document.result (word_view c.args.document) =
-    rw (← c.state.view_is) at c.key-document.ensures.name in
-    let node_is : IsKey d.names d.world c.args.owner c.key-node.result (word_view c.args.node) = rw (← c.state.view_is) at c.key-node.ensures.name in
+    let node : KeyedNode d.names d.world c.args.owner =
+    record { word = word_view c.args.node; key = c.key-node.result; is = rw (← c.state.view_is) at c.key-node.ensures.name } in
     rw (p.1, p.2) (faults c.state.inside.turn d c.args.state.now c.state.view_is c.args.owner
     (Command.adopt (word_view c.args.document) (word_view c.args.node)) (Document c.args.document ∷ Any c.args.node ∷ [])
     (search namings) (sym c.admit.ensures ∙ c.in_ok-admit.was) c.adopt.new.self.world c.args.out.now.items
     c.in_err-adopt.field-0.0
     (λ r e. (
-      sym (adopt-refused d.names d.world c.args.owner (word_view c.args.document) (word_view c.args.node) c.key-node.result node_is)
+      sym (adopt-refused d.names d.world c.args.owner (word_view c.args.document) node)
           ∙ (c.in_err-adopt.ensures.refused r).0 (ap Err e),
       ap (λ s. s.world) (c.in_err-adopt.ensures.unchanged r (ap Err e)),
     )))
@@ -43,17 +41,21 @@ returns-in_err-adopt-clause-handled c =
 pub returns-clause-handled : goal.returns-clause-handled
 returns-clause-handled c =
     let d = c.state.inside.doc in
-    let document_is : IsKey d.names d.world c.args.owner c.key-document.result (word_view c.args.document) =
-    rw (← c.state.view_is) at c.key-document.ensures.name in
-    let node_is : IsKey d.names d.world c.args.owner c.key-node.result (word_view c.args.node) = rw (← c.state.view_is) at c.key-node.ensures.name in
-    plans c.state.inside.turn d c.args.state.now c.state.view_is c.args.owner
-    (Command.adopt (word_view c.args.document) (word_view c.args.node)) (Document c.args.document ∷ Any c.args.node ∷ [])
-    (search namings) (sym c.admit.ensures ∙ c.in_ok-admit.was) c.adopt.new.self.world c.accept.new.self.world
-    (λ p. adopting (named p (word_view c.args.document)) (named p (word_view c.args.node)) p) (λ p. nothing) nothing
-    c.args.out.now.items c.accept.new.out.items c.accept.result refl
-    (sym (adopt-refused d.names d.world c.args.owner (word_view c.args.document) (word_view c.args.node) c.key-node.result node_is) ∙
-    accepted_none tt (adoption_refusal
-    (kind_of (part_of d.world (name_at d.names c.key-node.result).owner).trees (name_at d.names c.key-node.result)))
-    (λ r. (c.in_ok-adopt.ensures.refused r).1))
-    (adopt-made d.names d.world c.args.owner (word_view c.args.document) (word_view c.args.node) c.key-document.result c.key-node.result
-    document_is node_is c.adopt.new.self.world c.in_ok-adopt.ensures.world) refl c.accept.ensures.done
+    let document : KeyedNode d.names d.world c.args.owner =
+    record { word = word_view c.args.document; key = c.key-document.result; is = rw (← c.state.view_is) at c.key-document.ensures.name } in
+    let node : KeyedNode d.names d.world c.args.owner =
+    record { word = word_view c.args.node; key = c.key-node.result; is = rw (← c.state.view_is) at c.key-node.ensures.name } in
+    plans c.state.inside.turn d c.args.state.now c.state.view_is c.args.owner (Command.adopt (word_view c.args.document) (word_view c.args.node))
+    (Document c.args.document ∷ Any c.args.node ∷ []) (search namings) (sym c.admit.ensures ∙ c.in_ok-admit.was) c.adopt.new.self.world (record {
+      plan = λ p. adopting (named p (word_view c.args.document)) (named p (word_view c.args.node)) p;
+      value = λ p. nothing;
+      reply = nothing;
+      runs = refl;
+      unrefused = sym (adopt-refused d.names d.world c.args.owner (word_view c.args.document) node) ∙ accepted_none tt
+          (adoption_refusal (kind_of (part_of d.world (name_at d.names c.key-node.result).owner).trees (name_at d.names c.key-node.result)))
+          (λ r. (c.in_ok-adopt.ensures.refused r).1);
+      follows = adopt-made d.names d.world c.args.owner document node c.adopt.new.self.world c.in_ok-adopt.ensures.world;
+      replies = refl;
+    })
+    (record { world = c.accept.new.self.world; before = c.args.out.now.items; after = c.accept.new.out.items; result = c.accept.result })
+    c.accept.ensures.done

@@ -12,9 +12,8 @@ use Rattle.dom_reader.specs.Views.{word_view}
 use Rattle.dom_admission.specs.declared.admission.Operand.TheVariants.{Any}
 use Rattle.dom_admission.proofs.Turned.{bounded-inside}
 use Rattle.dom_admission.proofs.Handling.{refused, plans, faults, accepted_none}
-use Rattle.dom_admission.proofs.Finding.{IsKey}
 use Rattle.dom_admission.proofs.Refusing.{namings}
-use Rattle.dom_node_commands.proofs.CommandPlans.{append-refused, append-made}
+use Rattle.dom_node_commands.proofs.CommandPlans.{KeyedNode, append-refused, append-made}
 use Rattle.dom_node_commands.proofs.moving.append.Goals as goal
 
 pub returns-in_err-admit-clause-handled : goal.returns-in_err-admit-clause-handled
@@ -28,15 +27,16 @@ pub returns-in_err-insert-clause-handled : goal.returns-in_err-insert-clause-han
 returns-in_err-insert-clause-handled c =
     let p = err_from_is_err_and c.from_residual-in_err-insert.result c.from_residual-in_err-insert.ensures.1 in
     let d = c.state.inside.doc in
-    let parent_is : IsKey d.names d.world c.args.owner c.key-parent.result (word_view c.args.parent) = rw (← c.state.view_is) at c.key-parent.ensures.name in
-    let node_is : IsKey d.names d.world c.args.owner c.key-node.result (word_view c.args.node) = rw (← c.state.view_is) at c.key-node.ensures.name in
+    let parent : KeyedNode d.names d.world c.args.owner =
+    record { word = word_view c.args.parent; key = c.key-parent.result; is = rw (← c.state.view_is) at c.key-parent.ensures.name } in
+    let node : KeyedNode d.names d.world c.args.owner =
+    record { word = word_view c.args.node; key = c.key-node.result; is = rw (← c.state.view_is) at c.key-node.ensures.name } in
     rw (p.1, p.2) (faults c.state.inside.turn d c.args.state.now c.state.view_is c.args.owner
     (Command.append (word_view c.args.parent) (word_view c.args.node)) (Any c.args.parent ∷ Any c.args.node ∷ [])
     (search namings) (sym c.admit.ensures ∙ c.in_ok-admit.was) c.insert.new.self.world c.args.out.now.items
     c.in_err-insert.field-0.0
     (λ r e. (
-      sym (append-refused d.names d.world c.args.owner (word_view c.args.parent) (word_view c.args.node) c.key-parent.result
-          c.key-node.result parent_is node_is) ∙ (c.in_err-insert.ensures.refused r).0 (ap Err e),
+      sym (append-refused d.names d.world c.args.owner parent node) ∙ (c.in_err-insert.ensures.refused r).0 (ap Err e),
       ap (λ s. s.world)
           (c.in_err-insert.ensures.unchanged r (ap Err e)),
     )))
@@ -44,19 +44,24 @@ returns-in_err-insert-clause-handled c =
 pub returns-clause-handled : goal.returns-clause-handled
 returns-clause-handled c =
     let d = c.state.inside.doc in
-    let parent_is : IsKey d.names d.world c.args.owner c.key-parent.result (word_view c.args.parent) = rw (← c.state.view_is) at c.key-parent.ensures.name in
-    let node_is : IsKey d.names d.world c.args.owner c.key-node.result (word_view c.args.node) = rw (← c.state.view_is) at c.key-node.ensures.name in
-    plans c.state.inside.turn d c.args.state.now c.state.view_is c.args.owner
-    (Command.append (word_view c.args.parent) (word_view c.args.node)) (Any c.args.parent ∷ Any c.args.node ∷ [])
-    (search namings) (sym c.admit.ensures ∙ c.in_ok-admit.was) c.insert.new.self.world c.accept.new.self.world
-    (λ p. pre_inserting (named p (word_view c.args.node)) (named p (word_view c.args.parent)) None p) (λ p. nothing) nothing
-    c.args.out.now.items c.accept.new.out.items c.accept.result refl
-    (sym (append-refused d.names d.world c.args.owner (word_view c.args.parent) (word_view c.args.node) c.key-parent.result
-    c.key-node.result parent_is node_is) ∙
-    accepted_none tt (insertion_refusal (part_of d.world (name_at d.names c.key-parent.result).owner).trees
-    (name_at d.names c.key-parent.result) (name_at d.names c.key-node.result) None) (λ r. (c.in_ok-insert.ensures.refused r).1))
-    (append-made d.names d.world c.args.owner (word_view c.args.parent) (word_view c.args.node) c.key-parent.result c.key-node.result
-    parent_is node_is c.insert.new.self.world c.in_ok-insert.ensures.world) refl c.accept.ensures.done
+    let parent : KeyedNode d.names d.world c.args.owner =
+    record { word = word_view c.args.parent; key = c.key-parent.result; is = rw (← c.state.view_is) at c.key-parent.ensures.name } in
+    let node : KeyedNode d.names d.world c.args.owner =
+    record { word = word_view c.args.node; key = c.key-node.result; is = rw (← c.state.view_is) at c.key-node.ensures.name } in
+    plans c.state.inside.turn d c.args.state.now c.state.view_is c.args.owner (Command.append (word_view c.args.parent) (word_view c.args.node))
+    (Any c.args.parent ∷ Any c.args.node ∷ []) (search namings) (sym c.admit.ensures ∙ c.in_ok-admit.was) c.insert.new.self.world (record {
+      plan = λ p. pre_inserting (named p (word_view c.args.node)) (named p (word_view c.args.parent)) None p;
+      value = λ p. nothing;
+      reply = nothing;
+      runs = refl;
+      unrefused = sym (append-refused d.names d.world c.args.owner parent node) ∙ accepted_none tt
+          (insertion_refusal (part_of d.world (name_at d.names c.key-parent.result).owner).trees (name_at d.names c.key-parent.result)
+          (name_at d.names c.key-node.result) None) (λ r. (c.in_ok-insert.ensures.refused r).1);
+      follows = append-made d.names d.world c.args.owner parent node c.insert.new.self.world c.in_ok-insert.ensures.world;
+      replies = refl;
+    })
+    (record { world = c.accept.new.self.world; before = c.args.out.now.items; after = c.accept.new.out.items; result = c.accept.result })
+    c.accept.ensures.done
 
 pub insert-requires-clause-bounds : goal.insert-requires-clause-bounds
 insert-requires-clause-bounds c = bounded-inside c.state.inside.turn c.state.inside.doc c.args.state.now c.state.view_is c.requires.bounds

@@ -23,9 +23,15 @@ returns-clause-handled c =
     let d = c.state.inside.doc in
     let node_is : IsKey d.names d.world c.args.owner c.key-node.result (word_view c.args.node) = rw (← c.state.view_is) at c.key-node.ensures.name in
     plans c.state.inside.turn d c.args.state.now c.state.view_is c.args.owner (Command.remove (word_view c.args.node)) (Child c.args.node ∷ [])
-    (search namings) (sym c.admit.ensures ∙ c.in_ok-admit.was) c.remove.new.self.world c.accept.new.self.world
-    (λ p. removing observed (named p (word_view c.args.node)) p) (λ p. nothing) nothing c.args.out.now.items c.accept.new.out.items
-    c.accept.result refl
-    (refl)
-    (node-made d.names d.world c.args.owner (removing observed) (word_view c.args.node) c.key-node.result node_is c.remove.new.self.world
-    c.in_ok-remove.ensures.world) refl c.accept.ensures.done
+    (search namings) (sym c.admit.ensures ∙ c.in_ok-admit.was) c.remove.new.self.world (record {
+      plan = λ p. removing observed (named p (word_view c.args.node)) p;
+      value = λ p. nothing;
+      reply = nothing;
+      runs = refl;
+      unrefused = refl;
+      follows = node-made d.names d.world c.args.owner (removing observed) (word_view c.args.node) c.key-node.result node_is c.remove.new.self.world
+          c.in_ok-remove.ensures.world;
+      replies = refl;
+    })
+    (record { world = c.accept.new.self.world; before = c.args.out.now.items; after = c.accept.new.out.items; result = c.accept.result })
+    c.accept.ensures.done

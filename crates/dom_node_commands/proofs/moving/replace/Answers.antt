@@ -12,9 +12,8 @@ use Rattle.dom_reader.specs.Views.{word_view}
 use Rattle.dom_admission.specs.declared.admission.Operand.TheVariants.{Any}
 use Rattle.dom_admission.proofs.Turned.{bounded-inside}
 use Rattle.dom_admission.proofs.Handling.{refused, plans, faults, accepted_none}
-use Rattle.dom_admission.proofs.Finding.{IsKey}
 use Rattle.dom_admission.proofs.Refusing.{namings}
-use Rattle.dom_node_commands.proofs.CommandPlans.{replace-refused, replace-made}
+use Rattle.dom_node_commands.proofs.CommandPlans.{KeyedNode, replace-refused, replace-made}
 use Rattle.dom_node_commands.proofs.moving.replace.Goals as goal
 
 pub returns-in_err-admit-clause-handled : goal.returns-in_err-admit-clause-handled
@@ -29,39 +28,45 @@ pub returns-in_err-replace-clause-handled : goal.returns-in_err-replace-clause-h
 returns-in_err-replace-clause-handled c =
     let p = err_from_is_err_and c.from_residual-in_err-replace.result c.from_residual-in_err-replace.ensures.1 in
     let d = c.state.inside.doc in
-    let parent_is : IsKey d.names d.world c.args.owner c.key-parent.result (word_view c.args.parent) = rw (← c.state.view_is) at c.key-parent.ensures.name in
-    let node_is : IsKey d.names d.world c.args.owner c.key-node.result (word_view c.args.node) = rw (← c.state.view_is) at c.key-node.ensures.name in
-    let child_is : IsKey d.names d.world c.args.owner c.key-child.result (word_view c.args.child) = rw (← c.state.view_is) at c.key-child.ensures.name in
+    let parent : KeyedNode d.names d.world c.args.owner =
+    record { word = word_view c.args.parent; key = c.key-parent.result; is = rw (← c.state.view_is) at c.key-parent.ensures.name } in
+    let node : KeyedNode d.names d.world c.args.owner =
+    record { word = word_view c.args.node; key = c.key-node.result; is = rw (← c.state.view_is) at c.key-node.ensures.name } in
+    let child : KeyedNode d.names d.world c.args.owner =
+    record { word = word_view c.args.child; key = c.key-child.result; is = rw (← c.state.view_is) at c.key-child.ensures.name } in
     rw (p.1, p.2) (faults c.state.inside.turn d c.args.state.now c.state.view_is c.args.owner
     (Command.replace (word_view c.args.parent) (word_view c.args.node) (word_view c.args.child))
     (Any c.args.parent ∷ Any c.args.node ∷ Any c.args.child ∷ []) (search namings)
     (sym c.admit.ensures ∙ c.in_ok-admit.was) c.replace.new.self.world c.args.out.now.items c.in_err-replace.field-0.0
     (λ r e. (
-      sym (replace-refused d.names d.world c.args.owner (word_view c.args.parent) (word_view c.args.node) (word_view c.args.child)
-          c.key-parent.result c.key-node.result c.key-child.result parent_is node_is child_is) ∙ (c.in_err-replace.ensures.refused r).0 (ap Err e),
+      sym (replace-refused d.names d.world c.args.owner parent node child) ∙ (c.in_err-replace.ensures.refused r).0 (ap Err e),
       ap (λ s. s.world) (c.in_err-replace.ensures.unchanged r (ap Err e)),
     )))
 
 pub returns-clause-handled : goal.returns-clause-handled
 returns-clause-handled c =
     let d = c.state.inside.doc in
-    let parent_is : IsKey d.names d.world c.args.owner c.key-parent.result (word_view c.args.parent) = rw (← c.state.view_is) at c.key-parent.ensures.name in
-    let node_is : IsKey d.names d.world c.args.owner c.key-node.result (word_view c.args.node) = rw (← c.state.view_is) at c.key-node.ensures.name in
-    let child_is : IsKey d.names d.world c.args.owner c.key-child.result (word_view c.args.child) = rw (← c.state.view_is) at c.key-child.ensures.name in
+    let parent : KeyedNode d.names d.world c.args.owner =
+    record { word = word_view c.args.parent; key = c.key-parent.result; is = rw (← c.state.view_is) at c.key-parent.ensures.name } in
+    let node : KeyedNode d.names d.world c.args.owner =
+    record { word = word_view c.args.node; key = c.key-node.result; is = rw (← c.state.view_is) at c.key-node.ensures.name } in
+    let child : KeyedNode d.names d.world c.args.owner =
+    record { word = word_view c.args.child; key = c.key-child.result; is = rw (← c.state.view_is) at c.key-child.ensures.name } in
     plans c.state.inside.turn d c.args.state.now c.state.view_is c.args.owner
-    (Command.replace (word_view c.args.parent) (word_view c.args.node) (word_view c.args.child))
-    (Any c.args.parent ∷ Any c.args.node ∷ Any c.args.child ∷ []) (search namings)
-    (sym c.admit.ensures ∙ c.in_ok-admit.was) c.replace.new.self.world c.accept.new.self.world
-    (λ p. replacing (named p (word_view c.args.parent)) (named p (word_view c.args.node)) (named p (word_view c.args.child)) p)
-    (λ p. nothing) nothing c.args.out.now.items c.accept.new.out.items c.accept.result refl
-    (sym (replace-refused d.names d.world c.args.owner (word_view c.args.parent) (word_view c.args.node) (word_view c.args.child)
-    c.key-parent.result c.key-node.result c.key-child.result parent_is node_is child_is) ∙
-    accepted_none tt (replacement_refusal (part_of d.world (name_at d.names c.key-parent.result).owner).trees
-    (name_at d.names c.key-parent.result) (name_at d.names c.key-node.result) (name_at d.names c.key-child.result))
-    (λ r. (c.in_ok-replace.ensures.refused r).1))
-    (replace-made d.names d.world c.args.owner (word_view c.args.parent) (word_view c.args.node) (word_view c.args.child)
-    c.key-parent.result c.key-node.result c.key-child.result parent_is node_is child_is c.replace.new.self.world
-    c.in_ok-replace.ensures.world) refl c.accept.ensures.done
+    (Command.replace (word_view c.args.parent) (word_view c.args.node) (word_view c.args.child)) (Any c.args.parent ∷ Any c.args.node ∷ Any c.args.child ∷ [])
+    (search namings) (sym c.admit.ensures ∙ c.in_ok-admit.was) c.replace.new.self.world (record {
+      plan = λ p. replacing (named p (word_view c.args.parent)) (named p (word_view c.args.node)) (named p (word_view c.args.child)) p;
+      value = λ p. nothing;
+      reply = nothing;
+      runs = refl;
+      unrefused = sym (replace-refused d.names d.world c.args.owner parent node child) ∙ accepted_none tt
+          (replacement_refusal (part_of d.world (name_at d.names c.key-parent.result).owner).trees (name_at d.names c.key-parent.result)
+          (name_at d.names c.key-node.result) (name_at d.names c.key-child.result)) (λ r. (c.in_ok-replace.ensures.refused r).1);
+      follows = replace-made d.names d.world c.args.owner parent node child c.replace.new.self.world c.in_ok-replace.ensures.world;
+      replies = refl;
+    })
+    (record { world = c.accept.new.self.world; before = c.args.out.now.items; after = c.accept.new.out.items; result = c.accept.result })
+    c.accept.ensures.done
 
 pub replace-requires-clause-bounds : goal.replace-requires-clause-bounds
 replace-requires-clause-bounds c = bounded-inside c.state.inside.turn c.state.inside.doc c.args.state.now c.state.view_is c.requires.bounds

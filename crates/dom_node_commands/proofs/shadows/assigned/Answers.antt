@@ -24,10 +24,11 @@ returns-clause-handled c =
     let w = c.args.state.now.world in
     let o = c.args.owner in
     let s = word_view c.args.slot in
-    asks_own w o (Command.assigned s) (Slot c.args.slot ∷ []) (sym c.admit.ensures ∙ c.in_ok-admit.was) refl c.accept.new.self.world
-    (λ v. a_list (assigned v (named (part_of v o) s))) (a_list c.deref.result.now) c.args.out.now.items c.accept.new.out.items c.accept.result
-    (naming-assigned o (sym c.is_page.ensures ∙ c.if-is_page.false) c.args.slot) refl (ap a_list (c.deref.ensures.value ∙ c.in_ok-nodes.ensures
-    ∙ assigned-opened w o s)) c.accept.ensures.done
+    asks_own w o (Command.assigned s) (Slot c.args.slot ∷ []) (sym c.admit.ensures ∙ c.in_ok-admit.was) refl
+    (λ v. a_list (assigned v (named (part_of v o) s)))
+    (record { world = c.accept.new.self.world; before = c.args.out.now.items; after = c.accept.new.out.items; result = c.accept.result })
+    (naming-assigned o (sym c.is_page.ensures ∙ c.if-is_page.false) c.args.slot) refl
+    (ap a_list (c.deref.ensures.value ∙ c.in_ok-nodes.ensures ∙ assigned-opened w o s)) c.accept.ensures.done
 
 pub assigned_to-requires : goal.assigned_to-requires
 assigned_to-requires c = one_there c.args.state.now.world c.args.owner (Slot c.args.slot) (sym c.admit.ensures ∙ c.in_ok-admit.was)

@@ -47,12 +47,11 @@ returns-clause-handled c =
     let root = c.in_ok-root.root in
     let component = component_made o (length (part_of d.world o).attached) in
     attach-done o c.state.inside.turn d c.args.state.now c.state.view_is c.args.host c.key-host.result host_is
-    (sym c.admit.ensures ∙ c.in_ok-admit.was) c.attach.new.self.world c.accept.new.self.world c.name-component.result.owner
-    c.args.out.now.items c.accept.new.out.items c.accept.result
+    (sym c.admit.ensures ∙ c.in_ok-admit.was)
+    (record { world = c.accept.new.self.world; before = c.args.out.now.items; after = c.accept.new.out.items; result = c.accept.result })
     (subst (λ (q : Owner). attaching_refusal (part_of d.world q) (name_in d c.key-host.result) ≡ None) own
     (none_stopped root _ (λ r e. inl ((c.in_ok-root.ensures.refused r).1 e))))
     (c.in_ok-root.ensures.world ∙ ap (λ (q : Owner). (attaching d.world q (name_in d c.key-host.result)).0) own)
-    (ap (λ (x : NodeName). x.owner) (name-last d.names c.forest.result.now.names (shadow_root_of component) c.name-component.result root
-    (c.forest.ensures.names ∙ c.in_ok-root.ensures.names
+    (ap (λ (x : NodeName). x.owner) (name-last d.names (shadow_root_of component) (c.forest.ensures.names ∙ c.in_ok-root.ensures.names
     ∙ ap (λ (q : Owner). d.names ++ shadow_root_of (component_made q (length (part_of d.world q).attached)) ∷ []) own)
     c.in_ok-root.ensures.key c.name-component.ensures.at)) c.accept.ensures.done

@@ -16,6 +16,7 @@ returns-in_err-admit-clause-handled c =
 
 pub returns-clause-handled : goal.returns-clause-handled
 returns-clause-handled c =
-    reads c.args.state.now.world c.args.owner (Command.slot_of (word_view c.args.node)) (Slottable c.args.node ∷ []) (sym c.admit.ensures
-    ∙ c.in_ok-admit.was) refl c.accept.new.self.world (λ p. null) null c.args.out.now.items c.accept.new.out.items c.accept.result (search namings) refl refl
-    c.accept.ensures.done
+    reads c.args.state.now.world c.args.owner (Command.slot_of (word_view c.args.node)) (Slottable c.args.node ∷ []) (sym c.admit.ensures ∙ c.in_ok-admit.was)
+    refl (λ p. null)
+    (record { world = c.accept.new.self.world; before = c.args.out.now.items; after = c.accept.new.out.items; result = c.accept.result })
+    (search namings) refl refl c.accept.ensures.done

@@ -29,10 +29,17 @@ returns-in_err-number-clause-handled c =
 pub returns-clause-handled : goal.returns-clause-handled
 returns-clause-handled c =
     let d = c.state.inside.doc in
-    tabled c.state.inside.turn d c.args.state.now c.state.view_is c.args.owner Command.observer [] (search namings)
-    (sym c.admit.ensures ∙ c.in_ok-admit.was) c.observer_make.new.self.world c.accept.new.self.world
-    (an_observer c.in_ok-number.number) (an_observer c.in_ok-number.number) c.args.out.now.items c.accept.new.out.items c.accept.result refl
-    (lone_fails _ Limit (λ h. given_not c.in_ok-number.number Limit (c.in_ok-number.ensures.limit.1 h))) c.in_ok-number.ensures.world refl c.accept.ensures.done
+    tabled c.state.inside.turn d c.args.state.now c.state.view_is c.args.owner Command.observer [] (search namings) (sym c.admit.ensures ∙ c.in_ok-admit.was)
+    c.observer_make.new.self.world (record {
+      value = an_observer c.in_ok-number.number;
+      reply = an_observer c.in_ok-number.number;
+      runs = refl;
+      unrefused = lone_fails _ Limit (λ h. given_not c.in_ok-number.number Limit (c.in_ok-number.ensures.limit.1 h));
+      follows = c.in_ok-number.ensures.world;
+      replies = refl;
+    })
+    (record { world = c.accept.new.self.world; before = c.args.out.now.items; after = c.accept.new.out.items; result = c.accept.result })
+    c.accept.ensures.done
 
 pub observer_make-requires : goal.observer_make-requires
 observer_make-requires c = rw (← c.state.view_is) at (admitted c.args.state.now.world c.args.owner [] (sym c.admit.ensures ∙ c.in_ok-admit.was))

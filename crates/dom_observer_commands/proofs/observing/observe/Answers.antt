@@ -45,14 +45,18 @@ returns-clause-handled c =
     let node_is : IsKey d.names d.world c.args.owner c.key-node.result (word_view c.args.node) = rw (← c.state.view_is) at c.key-node.ensures.name in
     let same_test = ap (λ (w : ObserveWords). asks_for_nothing (options_of w)) c.observer_options.ensures in
     tabled c.state.inside.turn d c.args.state.now c.state.view_is c.args.owner
-    (Command.observe c.args.number (word_view c.args.node) (observe_view c.args.words)) (Any c.args.node ∷ Observer c.args.number ∷ [])
-    (search namings)
-    (sym c.admit.ensures ∙ c.in_ok-admit.was) c.observe.new.self.world c.accept.new.self.world nothing nothing c.args.out.now.items
-    c.accept.new.out.items c.accept.result refl
-    (lone_fails _ TypeFault (λ h. accepted_not TypeFault (c.in_ok-observe.ensures.no_kind.1 (same_test ∙ h))))
-    (observe-made d.names d.world c.observe.new.self.world c.args.owner (word_view c.args.node) c.key-node.result node_is c.args.number
-    (words_of c.observer_options.result) (observe_view c.args.words) nothing c.observer_options.ensures c.in_ok-observe.ensures.world)
-    refl c.accept.ensures.done
+    (Command.observe c.args.number (word_view c.args.node) (observe_view c.args.words)) (Any c.args.node ∷ Observer c.args.number ∷ []) (search namings)
+    (sym c.admit.ensures ∙ c.in_ok-admit.was) c.observe.new.self.world (record {
+      value = nothing;
+      reply = nothing;
+      runs = refl;
+      unrefused = lone_fails _ TypeFault (λ h. accepted_not TypeFault (c.in_ok-observe.ensures.no_kind.1 (same_test ∙ h)));
+      follows = observe-made d.names d.world c.observe.new.self.world c.args.owner (word_view c.args.node) c.key-node.result node_is c.args.number
+          (words_of c.observer_options.result) (observe_view c.args.words) nothing c.observer_options.ensures c.in_ok-observe.ensures.world;
+      replies = refl;
+    })
+    (record { world = c.accept.new.self.world; before = c.args.out.now.items; after = c.accept.new.out.items; result = c.accept.result })
+    c.accept.ensures.done
 
 pub observe-requires-clause-own : goal.observe-requires-clause-own
 observe-requires-clause-own c =

@@ -27,10 +27,16 @@ returns-clause-handled c =
     let records = c.take_records-records.result.items in
     let names = c.forest-forest.result.now.names in
     tabled_saying c.state.inside.turn d c.args.state.now c.state.view_is o (Command.take k) (Observer k ∷ []) (search namings)
-    (sym c.admit.ensures ∙ c.in_ok-admit.was) c.take_records-records.new.self.world c.accept.new.self.world
-    (map (λ r. recorded k (change_in d r)) records) (a_count (length records)) (a_count c.len.result) before c.put_records.new.out.items
-    c.accept.new.out.items c.accept.result refl refl c.take_records-records.ensures.world
-    (ap a_count (c.len.ensures ∙ sym c.as_slice.ensures.len ∙ ap length c.as_slice.ensures.value))
+    (sym c.admit.ensures ∙ c.in_ok-admit.was) c.take_records-records.new.self.world (map (λ r. recorded k (change_in d r)) records) (record {
+      value = a_count (length records);
+      reply = a_count c.len.result;
+      runs = refl;
+      unrefused = refl;
+      follows = c.take_records-records.ensures.world;
+      replies = ap a_count (c.len.ensures ∙ sym c.as_slice.ensures.len ∙ ap length c.as_slice.ensures.value);
+    })
+    (record { world = c.accept.new.self.world; before = before; after = c.accept.new.out.items; result = c.accept.result })
     (c.in_ok-put_records.ensures ∙ ap (λ rs. before ++ output_text (record_lines names o k rs)) c.as_slice.ensures.value
     ∙ ap (λ (ns : List NodeName). before ++ output_text (record_lines ns o k records)) (c.forest-forest.ensures.names ∙ c.take_records-records.ensures.names)
-    ∙ ap (λ (lines : List Output). before ++ output_text lines) (record_lines_are d o k records)) c.accept.ensures.done
+    ∙ ap (λ (lines : List Output). before ++ output_text lines) (record_lines_are d o k records))
+    c.accept.ensures.done

@@ -40,16 +40,18 @@ pub returns-clause-handled : goal.returns-clause-handled
 returns-clause-handled c =
     let d = c.state.inside.doc in
     let root_is : IsKey d.names d.world c.args.owner c.key-root.result (word_view c.args.root) = rw (← c.state.view_is) at c.key-root.ensures.name in
-    tabled c.state.inside.turn d c.args.state.now c.state.view_is c.args.owner
-    (Command.iterator_new (word_view c.args.root) (filter_view c.args.filter)) (Any c.args.root ∷ [])
-    (search namings) (sym c.admit.ensures ∙ c.in_ok-admit.was) c.iter_make.new.self.world
-    c.accept.new.self.world
-    (an_iterator c.in_ok-number.number) (an_iterator c.in_ok-number.number) c.args.out.now.items c.accept.new.out.items c.accept.result refl
-    (lone_fails _ Limit (λ h. given_not c.in_ok-number.number Limit (c.in_ok-number.ensures.limit.1 h)))
-    (new_iterator-made d.names d.world c.iter_make.new.self.world c.args.owner (word_view c.args.root) c.key-root.result root_is
-    (filter_of c.node_filter.result) (filter_view c.args.filter) (an_iterator c.in_ok-number.number) c.node_filter.ensures
-    c.in_ok-number.ensures.world)
-    refl c.accept.ensures.done
+    tabled c.state.inside.turn d c.args.state.now c.state.view_is c.args.owner (Command.iterator_new (word_view c.args.root) (filter_view c.args.filter))
+    (Any c.args.root ∷ []) (search namings) (sym c.admit.ensures ∙ c.in_ok-admit.was) c.iter_make.new.self.world (record {
+      value = an_iterator c.in_ok-number.number;
+      reply = an_iterator c.in_ok-number.number;
+      runs = refl;
+      unrefused = lone_fails _ Limit (λ h. given_not c.in_ok-number.number Limit (c.in_ok-number.ensures.limit.1 h));
+      follows = new_iterator-made d.names d.world c.iter_make.new.self.world c.args.owner (word_view c.args.root) c.key-root.result root_is
+          (filter_of c.node_filter.result) (filter_view c.args.filter) (an_iterator c.in_ok-number.number) c.node_filter.ensures c.in_ok-number.ensures.world;
+      replies = refl;
+    })
+    (record { world = c.accept.new.self.world; before = c.args.out.now.items; after = c.accept.new.out.items; result = c.accept.result })
+    c.accept.ensures.done
 
 pub iter_make-requires-clause-own : goal.iter_make-requires-clause-own
 iter_make-requires-clause-own c =

@@ -40,16 +40,18 @@ pub returns-clause-handled : goal.returns-clause-handled
 returns-clause-handled c =
     let d = c.state.inside.doc in
     let root_is : IsKey d.names d.world c.args.owner c.key-root.result (word_view c.args.root) = rw (← c.state.view_is) at c.key-root.ensures.name in
-    tabled c.state.inside.turn d c.args.state.now c.state.view_is c.args.owner
-    (Command.walker_new (word_view c.args.root) (filter_view c.args.filter)) (Any c.args.root ∷ [])
-    (search namings) (sym c.admit.ensures ∙ c.in_ok-admit.was) c.walk_make.new.self.world
-    c.accept.new.self.world
-    (a_walker c.in_ok-number.number) (a_walker c.in_ok-number.number) c.args.out.now.items c.accept.new.out.items c.accept.result refl
-    (lone_fails _ Limit (λ h. given_not c.in_ok-number.number Limit (c.in_ok-number.ensures.limit.1 h)))
-    (new_walker-made d.names d.world c.walk_make.new.self.world c.args.owner (word_view c.args.root) c.key-root.result root_is
-    (filter_of c.node_filter.result) (filter_view c.args.filter) (a_walker c.in_ok-number.number) c.node_filter.ensures
-    c.in_ok-number.ensures.world)
-    refl c.accept.ensures.done
+    tabled c.state.inside.turn d c.args.state.now c.state.view_is c.args.owner (Command.walker_new (word_view c.args.root) (filter_view c.args.filter))
+    (Any c.args.root ∷ []) (search namings) (sym c.admit.ensures ∙ c.in_ok-admit.was) c.walk_make.new.self.world (record {
+      value = a_walker c.in_ok-number.number;
+      reply = a_walker c.in_ok-number.number;
+      runs = refl;
+      unrefused = lone_fails _ Limit (λ h. given_not c.in_ok-number.number Limit (c.in_ok-number.ensures.limit.1 h));
+      follows = new_walker-made d.names d.world c.walk_make.new.self.world c.args.owner (word_view c.args.root) c.key-root.result root_is
+          (filter_of c.node_filter.result) (filter_view c.args.filter) (a_walker c.in_ok-number.number) c.node_filter.ensures c.in_ok-number.ensures.world;
+      replies = refl;
+    })
+    (record { world = c.accept.new.self.world; before = c.args.out.now.items; after = c.accept.new.out.items; result = c.accept.result })
+    c.accept.ensures.done
 
 pub walk_make-requires-clause-own : goal.walk_make-requires-clause-own
 walk_make-requires-clause-own c =

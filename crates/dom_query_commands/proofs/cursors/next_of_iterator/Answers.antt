@@ -21,8 +21,14 @@ pub returns-clause-handled : goal.returns-clause-handled
 returns-clause-handled c =
     let d = c.state.inside.doc in
     tabled c.state.inside.turn d c.args.state.now c.state.view_is c.args.owner (Command.iterator_next c.args.number) (Iterator c.args.number ∷ [])
-    (search namings) (sym c.admit.ensures ∙ c.in_ok-admit.was) c.iter_next-next.new.self.world c.accept.new.self.world
-    (node_or_null (option_map (name_at d.names) c.iter_next-next.result)) (value_view c.node_or_null-value.result) c.args.out.now.items
-    c.accept.new.out.items c.accept.result refl refl c.iter_next-next.ensures.world
-    (c.node_or_null-value.ensures ∙ ap (λ (names : List NodeName). node_or_null (option_map (name_at names) c.iter_next-next.result))
-    c.iter_next-next.ensures.names) c.accept.ensures.done
+    (search namings) (sym c.admit.ensures ∙ c.in_ok-admit.was) c.iter_next-next.new.self.world (record {
+      value = node_or_null (option_map (name_at d.names) c.iter_next-next.result);
+      reply = value_view c.node_or_null-value.result;
+      runs = refl;
+      unrefused = refl;
+      follows = c.iter_next-next.ensures.world;
+      replies = c.node_or_null-value.ensures ∙ ap (λ (names : List NodeName). node_or_null (option_map (name_at names) c.iter_next-next.result))
+          c.iter_next-next.ensures.names;
+    })
+    (record { world = c.accept.new.self.world; before = c.args.out.now.items; after = c.accept.new.out.items; result = c.accept.result })
+    c.accept.ensures.done

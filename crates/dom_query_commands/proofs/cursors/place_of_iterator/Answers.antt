@@ -19,10 +19,14 @@ pub returns-clause-handled : goal.returns-clause-handled
 returns-clause-handled c =
     let d = c.state.inside.doc in
     told c.state.inside.turn d c.args.state.now c.state.view_is c.args.owner (Command.iterator_at c.args.number) (Iterator c.args.number ∷ [])
-    (search namings) (sym c.admit.ensures ∙ c.in_ok-admit.was) c.accept.new.self.world
-    (reference (name_at d.names c.iter_at-reference.result.0) c.iter_at-reference.result.1)
-    (reference c.name-node.result c.iter_at-reference.result.1) c.args.out.now.items c.accept.new.out.items c.accept.result refl refl
-    c.iter_at-reference.ensures.value
-    (ap (λ (x : NodeName). reference x c.iter_at-reference.result.1)
-    (sym c.name-node.ensures.at ∙ ap (λ (names : List NodeName). name_at names c.iter_at-reference.result.0) c.forest.ensures.names))
+    (search namings) (sym c.admit.ensures ∙ c.in_ok-admit.was) (record {
+      value = reference (name_at d.names c.iter_at-reference.result.0) c.iter_at-reference.result.1;
+      reply = reference c.name-node.result c.iter_at-reference.result.1;
+      runs = refl;
+      unrefused = refl;
+      follows = c.iter_at-reference.ensures.value;
+      replies = ap (λ (x : NodeName). reference x c.iter_at-reference.result.1)
+          (sym c.name-node.ensures.at ∙ ap (λ (names : List NodeName). name_at names c.iter_at-reference.result.0) c.forest.ensures.names);
+    })
+    (record { world = c.accept.new.self.world; before = c.args.out.now.items; after = c.accept.new.out.items; result = c.accept.result })
     c.accept.ensures.done

@@ -18,9 +18,14 @@ returns-in_err-admit-clause-handled c =
 pub returns-clause-handled : goal.returns-clause-handled
 returns-clause-handled c =
     let d = c.state.inside.doc in
-    told c.state.inside.turn d c.args.state.now c.state.view_is c.args.owner (Command.walker_at c.args.number) (Walker c.args.number ∷ [])
-    (search namings) (sym c.admit.ensures ∙ c.in_ok-admit.was) c.accept.new.self.world
-    (a_node (name_at d.names c.walk_at-current.result)) (a_node c.name-node.result) c.args.out.now.items c.accept.new.out.items c.accept.result
-    refl refl c.walk_at-current.ensures.value
-    (ap a_node (sym c.name-node.ensures.at ∙ ap (λ (names : List NodeName). name_at names c.walk_at-current.result) c.forest.ensures.names))
+    told c.state.inside.turn d c.args.state.now c.state.view_is c.args.owner (Command.walker_at c.args.number) (Walker c.args.number ∷ []) (search namings)
+    (sym c.admit.ensures ∙ c.in_ok-admit.was) (record {
+      value = a_node (name_at d.names c.walk_at-current.result);
+      reply = a_node c.name-node.result;
+      runs = refl;
+      unrefused = refl;
+      follows = c.walk_at-current.ensures.value;
+      replies = ap a_node (sym c.name-node.ensures.at ∙ ap (λ (names : List NodeName). name_at names c.walk_at-current.result) c.forest.ensures.names);
+    })
+    (record { world = c.accept.new.self.world; before = c.args.out.now.items; after = c.accept.new.out.items; result = c.accept.result })
     c.accept.ensures.done

@@ -25,11 +25,17 @@ returns-clause-handled c =
     let current_is : IsKey d.names d.world c.args.owner c.key-current.result (word_view c.args.current) =
     rw (← c.state.view_is) at c.key-current.ensures.name in
     tabled c.state.inside.turn d c.args.state.now c.state.view_is c.args.owner (Command.walker_set c.args.number (word_view c.args.current))
-    (Any c.args.current ∷ Walker c.args.number ∷ []) (search namings)
-    (sym c.admit.ensures ∙ c.in_ok-admit.was) c.walk_set.new.self.world c.accept.new.self.world nothing nothing c.args.out.now.items
-    c.accept.new.out.items c.accept.result refl refl
-    (set_walker-made d.names d.world c.walk_set.new.self.world c.args.owner (word_view c.args.current) c.key-current.result current_is
-    c.args.number nothing c.walk_set.ensures.world) refl c.accept.ensures.done
+    (Any c.args.current ∷ Walker c.args.number ∷ []) (search namings) (sym c.admit.ensures ∙ c.in_ok-admit.was) c.walk_set.new.self.world (record {
+      value = nothing;
+      reply = nothing;
+      runs = refl;
+      unrefused = refl;
+      follows = set_walker-made d.names d.world c.walk_set.new.self.world c.args.owner (word_view c.args.current) c.key-current.result current_is
+          c.args.number nothing c.walk_set.ensures.world;
+      replies = refl;
+    })
+    (record { world = c.accept.new.self.world; before = c.args.out.now.items; after = c.accept.new.out.items; result = c.accept.result })
+    c.accept.ensures.done
 
 pub walk_set-requires-clause-own : goal.walk_set-requires-clause-own
 walk_set-requires-clause-own c =

@@ -20,10 +20,15 @@ returns-in_err-admit-clause-handled c =
 pub returns-clause-handled : goal.returns-clause-handled
 returns-clause-handled c =
     let d = c.state.inside.doc in
-    tabled c.state.inside.turn d c.args.state.now c.state.view_is c.args.owner (Command.walk c.args.number c.args.step)
-    (Walker c.args.number ∷ []) (search namings) (sym c.admit.ensures ∙ c.in_ok-admit.was) c.walk-moved.new.self.world
-    c.accept.new.self.world
-    (node_or_null (option_map (name_at d.names) c.walk-moved.result)) (value_view c.node_or_null-value.result) c.args.out.now.items
-    c.accept.new.out.items c.accept.result refl refl c.walk-moved.ensures.world
-    (c.node_or_null-value.ensures ∙ ap (λ (names : List NodeName). node_or_null (option_map (name_at names) c.walk-moved.result))
-    c.walk-moved.ensures.names) c.accept.ensures.done
+    tabled c.state.inside.turn d c.args.state.now c.state.view_is c.args.owner (Command.walk c.args.number c.args.step) (Walker c.args.number ∷ [])
+    (search namings) (sym c.admit.ensures ∙ c.in_ok-admit.was) c.walk-moved.new.self.world (record {
+      value = node_or_null (option_map (name_at d.names) c.walk-moved.result);
+      reply = value_view c.node_or_null-value.result;
+      runs = refl;
+      unrefused = refl;
+      follows = c.walk-moved.ensures.world;
+      replies = c.node_or_null-value.ensures ∙ ap (λ (names : List NodeName). node_or_null (option_map (name_at names) c.walk-moved.result))
+          c.walk-moved.ensures.names;
+    })
+    (record { world = c.accept.new.self.world; before = c.args.out.now.items; after = c.accept.new.out.items; result = c.accept.result })
+    c.accept.ensures.done

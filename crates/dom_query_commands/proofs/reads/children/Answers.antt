@@ -18,7 +18,7 @@ returns-in_err-admit-clause-handled c =
 
 pub returns-clause-handled : goal.returns-clause-handled
 returns-clause-handled c =
-    reads c.args.state.now.world c.args.owner (Command.children (word_view c.args.node)) (Any c.args.node ∷ []) (sym c.admit.ensures
-    ∙ c.in_ok-admit.was) refl c.accept.new.self.world (λ p. a_list (children_of p.trees (named p (word_view c.args.node)))) (a_list c.deref.result.now)
-    c.args.out.now.items c.accept.new.out.items (c.accept.result) (search namings) refl (ap a_list (c.deref.ensures.value ∙ c.in_ok-children.ensures))
-    c.accept.ensures.done
+    reads c.args.state.now.world c.args.owner (Command.children (word_view c.args.node)) (Any c.args.node ∷ []) (sym c.admit.ensures ∙ c.in_ok-admit.was) refl
+    (λ p. a_list (children_of p.trees (named p (word_view c.args.node))))
+    (record { world = c.accept.new.self.world; before = c.args.out.now.items; after = c.accept.new.out.items; result = c.accept.result })
+    (search namings) refl (ap a_list (c.deref.ensures.value ∙ c.in_ok-children.ensures)) c.accept.ensures.done

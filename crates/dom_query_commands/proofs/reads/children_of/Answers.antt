@@ -19,6 +19,6 @@ returns c =
     let is : name_at c.state.inside.doc.names c.key-key.result ≡ x = rw (← c.state.view_is) at c.key-key.ensures.name in
     let here = ap (λ (names : List NodeName). name_at names c.key-key.result) c.forest.ensures.names ∙ is in
     let own = read_own f.trees c.forest.ensures.owned c.args.owner x (owner-named w c.args.owner s) in
-    let same = read_at children_of f.names f.trees w c.args.owner s c.key-key.result here c.forest.ensures.trees own.children in
+    let same = read_at children_of f.trees here (c.forest.ensures.trees c.args.owner) own.children in
     rw (← c.state.view_is) (IfOk-weaker c.child_names.result (λ names. names.items ≡ children_of f.trees (name_at f.names c.key-key.result))
     (λ names. names.items ≡ children_of (part_of w c.args.owner).trees x) (λ names e. e ∙ same) c.child_names.ensures)

@@ -29,6 +29,7 @@ returns-clause-handled c =
     let here : c.is_connected-connected.result ≡ is_connected w (named (part_of w o) s) =
     subst (λ (e : DocState). c.is_connected-connected.result ≡ is_connected e.world (named (part_of e.world o) s)) c.state.view_is
     (c.is_connected-connected.ensures ∙ ap (is_connected d.world) node_is ∙ sym (connected-turned c.state.inside.turn d.world (named (part_of d.world o) s))) in
-    asks w o (Command.connected (word_view c.args.node)) (Any c.args.node ∷ []) (sym c.admit.ensures ∙ c.in_ok-admit.was) refl c.accept.new.self.world
-    (λ v. a_truth (is_connected v (named (part_of v o) s))) (a_truth c.is_connected-connected.result) c.args.out.now.items c.accept.new.out.items
-    c.accept.result (search namings) refl (ap a_truth (here ∙ connected-opened w o s)) c.accept.ensures.done
+    asks w o (Command.connected (word_view c.args.node)) (Any c.args.node ∷ []) (sym c.admit.ensures ∙ c.in_ok-admit.was) refl
+    (λ v. a_truth (is_connected v (named (part_of v o) s)))
+    (record { world = c.accept.new.self.world; before = c.args.out.now.items; after = c.accept.new.out.items; result = c.accept.result })
+    (search namings) refl (ap a_truth (here ∙ connected-opened w o s)) c.accept.ensures.done

@@ -20,6 +20,7 @@ returns-in_err-admit-clause-handled c =
 pub returns-clause-handled : goal.returns-clause-handled
 returns-clause-handled c =
     reads c.args.state.now.world c.args.owner (Command.contains (word_view c.args.above) (word_view c.args.node)) (Any c.args.above ∷ Any c.args.node ∷ [])
-    (sym c.admit.ensures ∙ c.in_ok-admit.was) refl c.accept.new.self.world
-    (λ p. a_truth (is_inclusive_ancestor p.trees (named p (word_view c.args.above)) (named p (word_view c.args.node)))) (a_truth c.is_above-truth.result)
-    c.args.out.now.items c.accept.new.out.items (c.accept.result) (search namings) refl (ap a_truth c.is_above-truth.ensures) c.accept.ensures.done
+    (sym c.admit.ensures ∙ c.in_ok-admit.was) refl
+    (λ p. a_truth (is_inclusive_ancestor p.trees (named p (word_view c.args.above)) (named p (word_view c.args.node))))
+    (record { world = c.accept.new.self.world; before = c.args.out.now.items; after = c.accept.new.out.items; result = c.accept.result })
+    (search namings) refl (ap a_truth c.is_above-truth.ensures) c.accept.ensures.done

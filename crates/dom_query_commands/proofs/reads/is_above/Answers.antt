@@ -24,5 +24,4 @@ returns c =
     let own = read_own f.trees c.forest.ensures.owned o x (owner-named w o (word_view c.args.node)) in
     rw (← c.state.view_is)
     (c.is_inclusive_ancestor.ensures ∙ ap (λ (y : NodeName). is_inclusive_ancestor f.trees y (name_at f.names c.key-node.result)) above_here
-    ∙ read_at (λ ts y. is_inclusive_ancestor ts a y) f.names f.trees w o (word_view c.args.node) c.key-node.result node_here
-    c.forest.ensures.trees (ap (is_in name_eq a) own.path))
+    ∙ read_at (λ ts y. is_inclusive_ancestor ts a y) f.trees node_here (c.forest.ensures.trees o) (ap (is_in name_eq a) own.path))

@@ -4,7 +4,6 @@ use Rattle.dom_model.specs.Tree.{parent_of}
 use Rattle.dom_model.specs.Command.{Command}
 use Rattle.dom_model.specs.CommandNames.{named}
 use Rattle.dom_model.specs.Effects.{node_or_null}
-use Rattle.dom_printer.specs.Replies.{value_view}
 use Rattle.dom_reader.specs.Views.{word_view}
 use Rattle.dom_admission.specs.declared.admission.Operand.TheVariants.{Any}
 use Rattle.dom_admission.proofs.Handling.{refused, reads}
@@ -19,7 +18,7 @@ returns-in_err-admit-clause-handled c =
 
 pub returns-clause-handled : goal.returns-clause-handled
 returns-clause-handled c =
-    reads c.args.state.now.world c.args.owner (Command.parent (word_view c.args.node)) (Any c.args.node ∷ []) (sym c.admit.ensures
-    ∙ c.in_ok-admit.was) refl c.accept.new.self.world (λ p. node_or_null (parent_of p.trees (named p (word_view c.args.node))))
-    (value_view c.node_or_null-value.result) c.args.out.now.items c.accept.new.out.items (c.accept.result) (search namings) refl (c.node_or_null-value.ensures
-    ∙ ap node_or_null c.parent_of.ensures.value) c.accept.ensures.done
+    reads c.args.state.now.world c.args.owner (Command.parent (word_view c.args.node)) (Any c.args.node ∷ []) (sym c.admit.ensures ∙ c.in_ok-admit.was) refl
+    (λ p. node_or_null (parent_of p.trees (named p (word_view c.args.node))))
+    (record { world = c.accept.new.self.world; before = c.args.out.now.items; after = c.accept.new.out.items; result = c.accept.result })
+    (search namings) refl (c.node_or_null-value.ensures ∙ ap node_or_null c.parent_of.ensures.value) c.accept.ensures.done

@@ -20,5 +20,5 @@ returns c =
     let here = ap (λ (names : List NodeName). name_at names c.key-key.result) c.forest.ensures.names ∙ is in
     let own = read_own f.trees c.forest.ensures.owned c.args.owner x (owner-named w c.args.owner s) in
     let value = ap (λ (names : List NodeName). option_map (name_at names) c.parent.result) (sym c.forest.ensures.names) ∙ c.parent.ensures.value
-    ∙ read_at parent_of f.names f.trees w c.args.owner s c.key-key.result here c.forest.ensures.trees own.parent in
+    ∙ read_at parent_of f.trees here (c.forest.ensures.trees c.args.owner) own.parent in
     rw (← c.state.view_is) (record { value = value; node = λ k e. rw (c.forest.ensures.names) at (c.parent.ensures.node k e) })

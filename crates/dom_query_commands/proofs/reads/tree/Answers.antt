@@ -4,7 +4,6 @@ use Rattle.dom_model.specs.Tree.{subtree}
 use Rattle.dom_model.specs.Command.{Command}
 use Rattle.dom_model.specs.CommandNames.{named}
 use Rattle.dom_model.specs.Output.{a_tree}
-use Rattle.dom_model.specs.World.{part_of}
 use Rattle.dom_reader.specs.Views.{word_view}
 use Rattle.dom_admission.specs.declared.admission.Operand.TheVariants.{Any}
 use Rattle.dom_admission.proofs.Handling.{refused, reads}
@@ -19,7 +18,7 @@ returns-in_err-admit-clause-handled c =
 
 pub returns-clause-handled : goal.returns-clause-handled
 returns-clause-handled c =
-    reads c.args.state.now.world c.args.owner (Command.tree (word_view c.args.node)) (Any c.args.node ∷ []) (sym c.admit.ensures
-    ∙ c.in_ok-admit.was) refl c.open_turn.new.self.world (λ p. a_tree (subtree p.trees (named p (word_view c.args.node))))
-    (a_tree (subtree (part_of c.args.state.now.world c.args.owner).trees (named (part_of c.args.state.now.world c.args.owner) (word_view c.args.node))))
-    c.args.out.now.items c.reply_tree.new.out.items (Ok tt) (search namings) refl (refl) (refl, c.open_turn.ensures.world, c.in_ok-reply_tree.ensures)
+    reads c.args.state.now.world c.args.owner (Command.tree (word_view c.args.node)) (Any c.args.node ∷ []) (sym c.admit.ensures ∙ c.in_ok-admit.was) refl
+    (λ p. a_tree (subtree p.trees (named p (word_view c.args.node))))
+    (record { world = c.open_turn.new.self.world; before = c.args.out.now.items; after = c.reply_tree.new.out.items; result = Ok tt })
+    (search namings) refl refl (refl, c.open_turn.ensures.world, c.in_ok-reply_tree.ensures)

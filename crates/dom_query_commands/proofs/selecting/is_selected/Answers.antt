@@ -21,4 +21,4 @@ returns c =
     let here = ap (λ (names : List NodeName). name_at names c.key-key.result) c.forest.ensures.names ∙ is in
     let own = selector_own f.trees c.forest.ensures.owned c.args.owner sel x (owner-named w c.args.owner s) in
     rw (← c.state.view_is)
-    (c.matches.ensures ∙ read_at (λ ts y. selector_matches ts sel y) f.names f.trees w c.args.owner s c.key-key.result here c.forest.ensures.trees own)
+    (c.matches.ensures ∙ read_at (λ ts y. selector_matches ts sel y) f.trees here (c.forest.ensures.trees c.args.owner) own)

@@ -22,7 +22,7 @@ returns c =
     let is : name_at c.state.inside.doc.names c.key-key.result ≡ x = rw (← c.state.view_is) at c.key-key.ensures.name in
     let here = ap (λ (names : List NodeName). name_at names c.key-key.result) c.forest-forest.ensures.names ∙ is in
     let own = query_own f.trees c.forest-forest.ensures.owned c.args.owner sel x (owner-named w c.args.owner s) in
-    let same = read_at (λ ts y. query_all ts sel y) f.names f.trees w c.args.owner s c.key-key.result here c.forest-forest.ensures.trees own in
+    let same = read_at (λ ts y. query_all ts sel y) f.trees here (c.forest-forest.ensures.trees c.args.owner) own in
     rw (← c.state.view_is)
     (IfOk-weaker c.names_of.result (λ names. names.items ≡ map (name_at f.names) c.deref.result.now)
     (λ names. names.items ≡ query_all (part_of w c.args.owner).trees sel x)

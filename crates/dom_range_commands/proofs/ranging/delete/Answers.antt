@@ -1,13 +1,11 @@
-use Rattle.std.proofs.Common.{◌≡◌, [], ◌∷◌, refl, sym, ◌∙◌}
+use Rattle.std.proofs.Common.{[], ◌∷◌, refl, sym, ◌∙◌}
 use Rattle.std.proofs.lemmas.Result.{err_from_is_err_and}
-use Rattle.dom_base.specs.declared.Fault.TheVariants.{Refused, Memory}
 use Rattle.dom_model.specs.Command.{Command}
 use Rattle.dom_model.specs.Effects.{plan_of_range}
 use Rattle.dom_model.specs.Output.{nothing}
 use Rattle.dom_model.specs.RangeOps.{deleting}
 use Rattle.dom_admission.specs.declared.admission.Operand.TheVariants.{Range}
-use Rattle.dom_admission.proofs.Turned.{bounded-inside}
-use Rattle.dom_admission.proofs.Handling.{refused, plans, faults}
+use Rattle.dom_admission.proofs.Handling.{refused, plans}
 use Rattle.dom_admission.proofs.Refusing.{namings}
 use Rattle.dom_range_commands.proofs.ranging.delete.Goals as goal
 
@@ -19,8 +17,15 @@ returns-in_err-admit-clause-handled c =
 
 pub returns-clause-handled : goal.returns-clause-handled
 returns-clause-handled c =
-    plans c.state.inside.turn c.state.inside.doc c.args.state.now c.state.view_is c.args.owner (Command.delete c.args.number)
-    (Range c.args.number ∷ []) (search namings) (sym c.admit.ensures ∙ c.in_ok-admit.was) c.delete.new.doc.world
-    c.accept.new.self.world
-    (λ p. plan_of_range p c.args.number (deleting c.args.number)) (λ p. nothing) nothing c.args.out.now.items c.accept.new.out.items
-    c.accept.result refl refl c.in_ok-delete.ensures.world refl c.accept.ensures.done
+    plans c.state.inside.turn c.state.inside.doc c.args.state.now c.state.view_is c.args.owner (Command.delete c.args.number) (Range c.args.number ∷ [])
+    (search namings) (sym c.admit.ensures ∙ c.in_ok-admit.was) c.delete.new.doc.world (record {
+      plan = λ p. plan_of_range p c.args.number (deleting c.args.number);
+      value = λ p. nothing;
+      reply = nothing;
+      runs = refl;
+      unrefused = refl;
+      follows = c.in_ok-delete.ensures.world;
+      replies = refl;
+    })
+    (record { world = c.accept.new.self.world; before = c.args.out.now.items; after = c.accept.new.out.items; result = c.accept.result })
+    c.accept.ensures.done

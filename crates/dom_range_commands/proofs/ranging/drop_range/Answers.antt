@@ -16,6 +16,14 @@ returns-in_err-admit-clause-handled c =
 pub returns-clause-handled : goal.returns-clause-handled
 returns-clause-handled c =
     let d = c.state.inside.doc in
-    tabled c.state.inside.turn d c.args.state.now c.state.view_is c.args.owner (Command.range_drop c.args.number) (Range c.args.number ∷ [])
-    (search namings) (sym c.admit.ensures ∙ c.in_ok-admit.was) c.range_remove.new.self.world c.accept.new.self.world
-    nothing nothing c.args.out.now.items c.accept.new.out.items c.accept.result refl refl c.range_remove.ensures.world refl c.accept.ensures.done
+    tabled c.state.inside.turn d c.args.state.now c.state.view_is c.args.owner (Command.range_drop c.args.number) (Range c.args.number ∷ []) (search namings)
+    (sym c.admit.ensures ∙ c.in_ok-admit.was) c.range_remove.new.self.world (record {
+      value = nothing;
+      reply = nothing;
+      runs = refl;
+      unrefused = refl;
+      follows = c.range_remove.ensures.world;
+      replies = refl;
+    })
+    (record { world = c.accept.new.self.world; before = c.args.out.now.items; after = c.accept.new.out.items; result = c.accept.result })
+    c.accept.ensures.done

@@ -1,4 +1,4 @@
-use Rattle.std.proofs.Common.{◌≡◌, true, Err, List, [], ◌∷◌, is_some, refl, sym, ap, subst, ◌∙◌}
+use Rattle.std.proofs.Common.{◌≡◌, true, List, [], ◌∷◌, is_some, refl, sym, ap, subst, ◌∙◌}
 use Rattle.dom_base.specs.declared.NodeName.{NodeName}
 use Rattle.std.proofs.lemmas.Result.{err_from_is_err_and}
 use Rattle.dom_model.specs.Command.{Command}
@@ -11,9 +11,8 @@ use Rattle.dom_mutation.specs.Doc.{DocState}
 use Rattle.dom_tree.specs.Forest.{name_at}
 use Rattle.dom_admission.specs.Handled.{BeginsWith}
 use Rattle.dom_admission.specs.declared.admission.Operand.TheVariants.{Range}
-use Rattle.dom_admission.proofs.Turned.{bounded-inside}
 use Rattle.dom_admission.proofs.OwnRefusals.{none_stopped}
-use Rattle.dom_admission.proofs.Handling.{refused, plans, faults, one_there}
+use Rattle.dom_admission.proofs.Handling.{refused, plans, one_there}
 use Rattle.dom_admission.proofs.Refusing.{namings}
 use Rattle.dom_range_commands.proofs.RangePlans.{extracted-name, extracted-kept, keeps_names}
 use Rattle.dom_range_commands.proofs.ranging.extract.Goals as goal
@@ -34,12 +33,17 @@ returns-clause-handled c =
     let fragment : name_at c.extract.new.doc.names c.in_ok-fragment.fragment ≡ next_name (part_of d.world o) =
     extracted-name d.names c.extract.new.doc.names d.world o c.args.number known c.in_ok-fragment.ensures.names c.in_ok-fragment.fragment
     c.in_ok-fragment.ensures.key in
-    plans c.state.inside.turn d c.args.state.now c.state.view_is o (Command.extract c.args.number) (Range c.args.number ∷ [])
-    (search namings) pass c.extract.new.doc.world c.accept.new.self.world
-    (λ p. plan_of_range p c.args.number (extracting c.args.number)) (λ p. a_node (next_name p)) (a_node c.name-made.result) c.args.out.now.items
-    c.accept.new.out.items c.accept.result refl
-    (none_stopped c.in_ok-fragment.fragment _ c.in_ok-fragment.ensures.stopped) c.in_ok-fragment.ensures.world
-    (ap a_node (sym c.name-made.ensures.at ∙ ap (λ (ns : List NodeName). name_at ns c.in_ok-fragment.fragment) c.forest.ensures.names ∙ fragment))
+    plans c.state.inside.turn d c.args.state.now c.state.view_is o (Command.extract c.args.number) (Range c.args.number ∷ []) (search namings) pass
+    c.extract.new.doc.world (record {
+      plan = λ p. plan_of_range p c.args.number (extracting c.args.number);
+      value = λ p. a_node (next_name p);
+      reply = a_node c.name-made.result;
+      runs = refl;
+      unrefused = none_stopped c.in_ok-fragment.fragment _ c.in_ok-fragment.ensures.stopped;
+      follows = c.in_ok-fragment.ensures.world;
+      replies = ap a_node (sym c.name-made.ensures.at ∙ ap (λ (ns : List NodeName). name_at ns c.in_ok-fragment.fragment) c.forest.ensures.names ∙ fragment);
+    })
+    (record { world = c.accept.new.self.world; before = c.args.out.now.items; after = c.accept.new.out.items; result = c.accept.result })
     c.accept.ensures.done
 
 pub returns-clause-names : goal.returns-clause-names

@@ -1,4 +1,4 @@
-use Rattle.std.proofs.Common.{◌≡◌, Err, [], ◌∷◌, refl, sym, ap, ◌∙◌}
+use Rattle.std.proofs.Common.{Err, [], ◌∷◌, refl, sym, ap, ◌∙◌}
 use Rattle.std.proofs.lemmas.Result.{err_from_is_err_and}
 use Rattle.dom_model.specs.Command.{Command}
 use Rattle.dom_model.specs.CommandNames.{named}
@@ -47,9 +47,16 @@ returns-clause-handled c =
     let x = word_view c.args.node in
     let node_is : IsKey d.names d.world c.args.owner c.key-node.result x = rw (← c.state.view_is) at c.key-node.ensures.name in
     plans c.state.inside.turn d c.args.state.now c.state.view_is c.args.owner (Command.insert_node c.args.number x)
-    (Any c.args.node ∷ Range c.args.number ∷ []) (search namings) (sym c.admit.ensures ∙ c.in_ok-admit.was)
-    c.insert_node.new.doc.world c.accept.new.self.world
-    (λ p. inserting_node c.args.number (named p x) p) (λ p. nothing) nothing c.args.out.now.items c.accept.new.out.items c.accept.result refl
-    (sym (inserted-refused d.names d.world c.args.owner c.args.number x c.key-node.result node_is) ∙ none_stopped tt _ c.in_ok-insert_node.ensures.stopped)
-    (inserted-made d.names d.world c.args.owner c.args.number x c.key-node.result node_is c.insert_node.new.doc.world
-    c.in_ok-insert_node.ensures.world) refl c.accept.ensures.done
+    (Any c.args.node ∷ Range c.args.number ∷ []) (search namings) (sym c.admit.ensures ∙ c.in_ok-admit.was) c.insert_node.new.doc.world (record {
+      plan = λ p. inserting_node c.args.number (named p x) p;
+      value = λ p. nothing;
+      reply = nothing;
+      runs = refl;
+      unrefused = sym (inserted-refused d.names d.world c.args.owner c.args.number x c.key-node.result node_is) ∙ none_stopped tt _
+          c.in_ok-insert_node.ensures.stopped;
+      follows = inserted-made d.names d.world c.args.owner c.args.number x c.key-node.result node_is c.insert_node.new.doc.world
+          c.in_ok-insert_node.ensures.world;
+      replies = refl;
+    })
+    (record { world = c.accept.new.self.world; before = c.args.out.now.items; after = c.accept.new.out.items; result = c.accept.result })
+    c.accept.ensures.done

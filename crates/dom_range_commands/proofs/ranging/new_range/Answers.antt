@@ -33,10 +33,17 @@ returns-in_err-number-clause-handled c =
 pub returns-clause-handled : goal.returns-clause-handled
 returns-clause-handled c =
     let d = c.state.inside.doc in
-    tabled c.state.inside.turn d c.args.state.now c.state.view_is c.args.owner Command.range_new [] (search namings)
-    (sym c.admit.ensures ∙ c.in_ok-admit.was) c.range_make.new.self.world c.accept.new.self.world
-    (a_range c.in_ok-number.number) (a_range c.in_ok-number.number) c.args.out.now.items c.accept.new.out.items c.accept.result refl
-    (lone_fails _ Limit (λ h. given_not c.in_ok-number.number Limit (c.in_ok-number.ensures.limit.1 h))) c.in_ok-number.ensures.world refl c.accept.ensures.done
+    tabled c.state.inside.turn d c.args.state.now c.state.view_is c.args.owner Command.range_new [] (search namings) (sym c.admit.ensures ∙ c.in_ok-admit.was)
+    c.range_make.new.self.world (record {
+      value = a_range c.in_ok-number.number;
+      reply = a_range c.in_ok-number.number;
+      runs = refl;
+      unrefused = lone_fails _ Limit (λ h. given_not c.in_ok-number.number Limit (c.in_ok-number.ensures.limit.1 h));
+      follows = c.in_ok-number.ensures.world;
+      replies = refl;
+    })
+    (record { world = c.accept.new.self.world; before = c.args.out.now.items; after = c.accept.new.out.items; result = c.accept.result })
+    c.accept.ensures.done
 
 pub range_make-requires-clause-is_first : goal.range_make-requires-clause-is_first
 range_make-requires-clause-is_first c =

@@ -3,9 +3,9 @@ use Rattle.std.proofs.lemmas.Result.{err_from_is_err_and}
 use Rattle.dom_model.specs.Command.{Command}
 use Rattle.dom_model.specs.Output.{a_string}
 use Rattle.dom_model.specs.Part.{range_at}
-use Rattle.dom_model.specs.World.{part_of, is_there}
+use Rattle.dom_model.specs.World.{part_of}
 use Rattle.dom_admission.specs.declared.admission.Operand.TheVariants.{Range}
-use Rattle.dom_admission.proofs.Handling.{refused, told, one_there, admitted}
+use Rattle.dom_admission.proofs.Handling.{refused, told, one_there}
 use Rattle.dom_admission.proofs.Refusing.{namings}
 use Rattle.dom_range_commands.proofs.RangePlans.{text_told}
 use Rattle.dom_range_commands.proofs.ranging.text_of_range.Goals as goal
@@ -21,11 +21,16 @@ returns-clause-handled c =
     let d = c.state.inside.doc in
     let o = c.args.owner in
     let pass = sym c.admit.ensures ∙ c.in_ok-admit.was in
-    let there : is_there d.world o ≡ true = rw (← c.state.view_is) at (admitted c.args.state.now.world o (Range c.args.number ∷ []) pass) in
     let known : is_some (range_at (part_of d.world o) c.args.number) ≡ true =
     rw (← c.state.view_is) at (one_there c.args.state.now.world o (Range c.args.number) pass) in
-    told c.state.inside.turn d c.args.state.now c.state.view_is o (Command.range_text c.args.number) (Range c.args.number ∷ [])
-    (search namings) pass c.accept.new.self.world (a_string c.in_ok-text.text.items) (a_string c.deref.result.now)
-    c.args.out.now.items c.accept.new.out.items c.accept.result refl refl
-    (text_told d.world o c.args.number c.in_ok-text.text.items there known c.in_ok-text.ensures) (ap a_string c.deref.ensures.value)
+    told c.state.inside.turn d c.args.state.now c.state.view_is o (Command.range_text c.args.number) (Range c.args.number ∷ []) (search namings) pass
+    (record {
+      value = a_string c.in_ok-text.text.items;
+      reply = a_string c.deref.result.now;
+      runs = refl;
+      unrefused = refl;
+      follows = text_told d.world o c.args.number c.in_ok-text.text.items known c.in_ok-text.ensures;
+      replies = ap a_string c.deref.ensures.value;
+    })
+    (record { world = c.accept.new.self.world; before = c.args.out.now.items; after = c.accept.new.out.items; result = c.accept.result })
     c.accept.ensures.done

@@ -6,15 +6,13 @@ returns-clause-found c =
     let finds : FindsNames c.forest-forest.result.now.names c.forest-forest.result.now.trees =
     record { once = c.law_nodes_stand_once.ensures.once; only = c.law_nodes_stand_once.ensures.only } in
     rw (← c.self.view_is, ← c.forest-forest.ensures.names)
-    (find_own c.forest-forest.result.now.names c.forest-forest.result.now.trees c.self.inside.doc.world finds c.forest-forest.ensures.owned
-    c.forest-forest.ensures.trees
-    c.args.owner _ c.number_in-number.result c.number_in-number.ensures c.find.result c.find.ensures.found c.find.ensures.kept).0
+    (find_own c.forest-forest.result.now.trees c.self.inside.doc.world c.forest-forest.ensures.owned c.forest-forest.ensures.trees
+    c.args.owner _ finds c.number_in-number.ensures c.find.ensures.found c.find.ensures.kept).0
 
 pub returns-clause-presence : goal.returns-clause-presence
 returns-clause-presence c =
     let finds : FindsNames c.forest-forest.result.now.names c.forest-forest.result.now.trees =
     record { once = c.law_nodes_stand_once.ensures.once; only = c.law_nodes_stand_once.ensures.only } in
     rw (← c.self.view_is)
-    (find_own c.forest-forest.result.now.names c.forest-forest.result.now.trees c.self.inside.doc.world finds c.forest-forest.ensures.owned
-    c.forest-forest.ensures.trees
-    c.args.owner _ c.number_in-number.result c.number_in-number.ensures c.find.result c.find.ensures.found c.find.ensures.kept).1
+    (find_own c.forest-forest.result.now.trees c.self.inside.doc.world c.forest-forest.ensures.owned c.forest-forest.ensures.trees
+    c.args.owner _ finds c.number_in-number.ensures c.find.ensures.found c.find.ensures.kept).1
