@@ -92,7 +92,7 @@ after_opening ts top s at once inside =
       inside,
     )
     by (tree n c r) e =
-        let at_child = IsSpot-child ts [] [] s n c r at e in (
+        let at_child = IsSpot-child ts [] [] s at e in (
           ap (λ t. shown_steps t ++ rest_behind ts s.node.name) (subtree-spot ts s at once ∙ ap (λ b. tree s.node b none) e)
               ∙ (ap (λ m. opens (shown m) ∷ ((shown_steps (tree n c r) ++ closes ∷ []) ++ rest_behind ts s.node.name)) (sym (node_in-spot ts s at once))
               ∙ ap (λ ys. opens (shown (node_in ts s.node.name)) ∷ ys) (append_assoc (shown_steps (tree n c r)) (closes ∷ []) (rest_behind ts s.node.name)
@@ -103,55 +103,58 @@ after_opening ts top s at once inside =
 
 -- ---- behind a closing
 
--- in a node's tree, but not that node itself
-above-within : (ts : Trees) (top : NodeName) (s : Spot) → IsSpot ts [] [] s → IsUnique ts → is_within ts top (opening s.node.name) ≡ true →
-    name_eq s.node.name top ≡ false → is_in name_eq top s.above ≡ true
-above-within ts top s at once inside other = elim (or_cases (name_eq top s.node.name) (is_in name_eq top s.above) (spot-within ts top s at once inside)) [
-  | inl h ↦ absurd (true≢false (sym h ∙ (name_eq-turned top s.node.name ∙ other)))
-  | inr h ↦ h
-]
-
 -- the next sibling, or else the parent
 abbrev sibling_or_parent : Option NodeName → Option NodeName → Option NamedPlace
 sibling_or_parent next parent = option_map_or (λ x. Some (opening x)) next (option_map closing parent)
 
--- behind the closing of a child comes its next sibling, or else its parent closes
-after_child : (ts : Trees) (top : NodeName) (p s : Spot) → IsSpot ts [] [] p → IsSpot ts [] [] s → IsUnique ts → IsChild p s → is_in name_eq top s.above ≡ true
-    → Follows ts top (closing s.node.name) (sibling_or_parent (next_sibling ts s.node.name) (parent_of ts s.node.name))
-after_child ts top p s at_p at once child inside =
-    let P : Option NodeName → Type 0 = λ o. Follows ts top (closing s.node.name) (sibling_or_parent o (parent_of ts s.node.name)) in
-    let Q : Option NodeName → Type 0 = λ o. Follows ts top (closing s.node.name) (sibling_or_parent (first_of (names_of (roots s.right))) o) in
-    subst P (sym (next-child ts p s at_p at once child)) (subst Q (sym (parent-spot ts s at once ∙ ap first_of above)) (by s.right refl))
-  where
-    above : s.above ≡ p.node.name ∷ p.above
-    above = above-root p.below (p.node.name ∷ p.above) (closed p.right p.after) s child
+-- Trees in which each name stands once, and a node whose tree is walked.
+module _ (ts : Trees) (top : NodeName) (once : IsUnique ts) where
+  -- in a node's tree, but not that node itself
+  above-within : (s : Spot) → IsSpot ts [] [] s → is_within ts top (opening s.node.name) ≡ true →
+      name_eq s.node.name top ≡ false → is_in name_eq top s.above ≡ true
+  above-within s at inside other = elim (or_cases (name_eq top s.node.name) (is_in name_eq top s.above) (spot-within ts top s at once inside)) [
+    | inl h ↦ absurd (true≢false (sym h ∙ (name_eq-turned top s.node.name ∙ other)))
+    | inr h ↦ h
+  ]
 
-    by : (r : Trees) → s.right ≡ r → Follows ts top (closing s.node.name) (sibling_or_parent (first_of (names_of (roots r))) (Some p.node.name))
-    by none e = (
-      ap (λ ys. closes ∷ ys)
-          (rest_behind-spot ts s at once
-          ∙ (ap (λ t. shown_steps t ++ s.after) e
-          ∙ (after-root p.below (p.node.name ∷ p.above) (closed p.right p.after) s child ∙ ap (λ ys. closes ∷ ys) (sym (rest_behind-spot ts p at_p once))))),
-      within-spot ts top p at_p once (sym (ap (is_in name_eq top) above) ∙ inside),
-    )
-    by (tree n c r) e =
-        let at_next = IsSpot-next ts [] [] s n c r at e in (
-          ap (λ ys. closes ∷ ys) (rest_behind-spot ts s at once ∙ (ap (λ t. shown_steps t ++ s.after) e ∙ sym (rest-spot ts (next_spot s n c r) at_next once))),
-          within-spot ts top (next_spot s n c r) at_next once (or_right (name_eq top n.name) _ inside),
-        )
+  -- behind the closing of a child comes its next sibling, or else its parent closes
+  after_child : (p s : Spot) → IsSpot ts [] [] p → IsSpot ts [] [] s → IsChild p s → is_in name_eq top s.above ≡ true →
+      Follows ts top (closing s.node.name) (sibling_or_parent (next_sibling ts s.node.name) (parent_of ts s.node.name))
+  after_child p s at_p at child inside =
+      let P : Option NodeName → Type 0 = λ o. Follows ts top (closing s.node.name) (sibling_or_parent o (parent_of ts s.node.name)) in
+      let Q : Option NodeName → Type 0 = λ o. Follows ts top (closing s.node.name) (sibling_or_parent (first_of (names_of (roots s.right))) o) in
+      subst P (sym (next-child ts s at once p at_p child)) (subst Q (sym (parent-spot ts s at once ∙ ap first_of above)) (by s.right refl))
+    where
+      above : s.above ≡ p.node.name ∷ p.above
+      above = above-root p.below (p.node.name ∷ p.above) (closed p.right p.after) s child
 
--- behind a closing comes what `place_after` says
-after_closing : (ts : Trees) (top : NodeName) (s : Spot) → IsSpot ts [] [] s → IsUnique ts → is_within ts top (closing s.node.name) ≡ true →
-    Follows ts top (closing s.node.name) (place_after ts top (closing s.node.name))
-after_closing ts top s at once inside = elim (cases_Bool (name_eq s.node.name top)) [
-  | inl e ↦ rw e (ap (λ x. closes ∷ rest_behind ts x) (name_eq-true s.node.name top e), refl)
-  | inr e ↦
-      let there = above-within ts top s at once inside e in
-      rw e (elim (cases_root ts [] [] s at) [
-        | inl h ↦ absurd (true≢false (sym there ∙ ap (is_in name_eq top) (above-root ts [] [] s h)))
-        | inr h ↦ after_child ts top h.0 s h.1 at once h.2 there
-      ])
-]
+      by : (r : Trees) → s.right ≡ r → Follows ts top (closing s.node.name) (sibling_or_parent (first_of (names_of (roots r))) (Some p.node.name))
+      by none e = (
+        ap (λ ys. closes ∷ ys)
+            (rest_behind-spot ts s at once
+            ∙ (ap (λ t. shown_steps t ++ s.after) e
+            ∙ (after-root p.below (p.node.name ∷ p.above) (closed p.right p.after) s child ∙ ap (λ ys. closes ∷ ys) (sym (rest_behind-spot ts p at_p once))))),
+        within-spot ts top p at_p once (sym (ap (is_in name_eq top) above) ∙ inside),
+      )
+      by (tree n c r) e =
+          let at_next = IsSpot-next ts [] [] s at e in (
+            ap (λ ys. closes ∷ ys)
+                (rest_behind-spot ts s at once ∙ (ap (λ t. shown_steps t ++ s.after) e ∙ sym (rest-spot ts (next_spot s n c r) at_next once))),
+            within-spot ts top (next_spot s n c r) at_next once (or_right (name_eq top n.name) _ inside),
+          )
+
+  -- behind a closing comes what `place_after` says
+  after_closing : (s : Spot) → IsSpot ts [] [] s → is_within ts top (closing s.node.name) ≡ true →
+      Follows ts top (closing s.node.name) (place_after ts top (closing s.node.name))
+  after_closing s at inside = elim (cases_Bool (name_eq s.node.name top)) [
+    | inl e ↦ rw e (ap (λ x. closes ∷ rest_behind ts x) (name_eq-true s.node.name top e), refl)
+    | inr e ↦
+        let there = above-within s at inside e in
+        rw e (elim (cases_root ts [] [] s at) [
+          | inl h ↦ absurd (true≢false (sym there ∙ ap (is_in name_eq top) (above-root ts [] [] s h)))
+          | inr h ↦ after_child h.0 s h.1 at h.2 there
+        ])
+  ]
 
 -- ---- the law
 
@@ -165,7 +168,7 @@ next_place ts top (opening x) once here inside =
 next_place ts top (closing x) once here inside =
     let s = spot_there ts [] [] x here in
     let P : NodeName → Type 0 = λ y. is_within ts top (closing y) ≡ true → Follows ts top (closing y) (place_after ts top (closing y)) in
-    subst P s.2 (after_closing ts top s.0 s.1 once) inside
+    subst P s.2 (after_closing ts top once s.0 s.1) inside
 
 -- the name of the node of a place stands where that of its key does
 here_named : (names : List NodeName) (ts : Trees) (place : Place) → 1 ≤ times ts (name_at names (key_of place)) →

@@ -32,51 +32,51 @@ IsChildOf ts parent (Some x) = parent_of ts x ≡ Some parent
 abbrev pub AreFrom : Trees → NodeName → Option NodeName → List NodeName → Type 0
 AreFrom ts parent o xs = (from_or ts o ≡ xs) × IsChildOf ts parent o
 
--- from the first child on
-pub first_child : (ts : Trees) (x : NodeName) → IsUnique ts → (s : Spot) → IsSpot ts [] [] s → s.node.name ≡ x →
-    AreFrom ts x (first_of (children_of ts x)) (children_of ts x)
-first_child ts x once s at is =
-    let P : List NodeName → Type 0 = λ ys. AreFrom ts x (first_of ys) ys in
-    subst P (sym (ap (children_of ts) (sym is) ∙ children-spot ts s at once)) (by s.below refl)
-  where
-    by : (b : Trees) → s.below ≡ b → AreFrom ts x (first_of (names_of (roots b))) (names_of (roots b))
-    by none e = (refl, tt)
-    by (tree n c r) e =
-        let child = IsSpot-child ts [] [] s n c r at e in
-        (from-spot ts (child_spot s n c r) child once, parent-spot ts (child_spot s n c r) child once ∙ ap Some is)
+-- Trees in which each name stands once, and a node there.
+module _ (ts : Trees) (parent : NodeName) (once : IsUnique ts) where
+  -- from the first child on
+  pub first_child : (s : Spot) → IsSpot ts [] [] s → s.node.name ≡ parent → AreFrom ts parent (first_of (children_of ts parent)) (children_of ts parent)
+  first_child s at is =
+      let P : List NodeName → Type 0 = λ ys. AreFrom ts parent (first_of ys) ys in
+      subst P (sym (ap (children_of ts) (sym is) ∙ children-spot ts s at once)) (by s.below refl)
+    where
+      by : (b : Trees) → s.below ≡ b → AreFrom ts parent (first_of (names_of (roots b))) (names_of (roots b))
+      by none e = (refl, tt)
+      by (tree n c r) e =
+          let child = IsSpot-child ts [] [] s at e in
+          (from-spot ts (child_spot s n c r) child once, parent-spot ts (child_spot s n c r) child once ∙ ap Some is)
 
--- from the next sibling on
-next_from : (ts : Trees) (parent : NodeName) → IsUnique ts → (p s : Spot) → IsSpot ts [] [] p → IsSpot ts [] [] s → IsChild p s →
-    parent_of ts s.node.name ≡ Some parent →
-    AreFrom ts parent (next_sibling ts s.node.name) (names_of (roots s.right))
-next_from ts parent once p s at_p at child up =
-    let P : Option NodeName → Type 0 = λ o. AreFrom ts parent o (names_of (roots s.right)) in
-    subst P (sym (next-child ts p s at_p at once child)) (by s.right refl)
-  where
-    by : (r : Trees) → s.right ≡ r → AreFrom ts parent (first_of (names_of (roots r))) (names_of (roots r))
-    by none e = (refl, tt)
-    by (tree n c q) e =
-        let next = IsSpot-next ts [] [] s n c q at e in
-        (from-spot ts (next_spot s n c q) next once, parent-spot ts (next_spot s n c q) next once ∙ sym (parent-spot ts s at once) ∙ up)
+  -- from the next sibling on
+  next_from : (p s : Spot) → IsSpot ts [] [] p → IsSpot ts [] [] s → IsChild p s → parent_of ts s.node.name ≡ Some parent →
+      AreFrom ts parent (next_sibling ts s.node.name) (names_of (roots s.right))
+  next_from p s at_p at child up =
+      let P : Option NodeName → Type 0 = λ o. AreFrom ts parent o (names_of (roots s.right)) in
+      subst P (sym (next-child ts s at once p at_p child)) (by s.right refl)
+    where
+      by : (r : Trees) → s.right ≡ r → AreFrom ts parent (first_of (names_of (roots r))) (names_of (roots r))
+      by none e = (refl, tt)
+      by (tree n c q) e =
+          let next = IsSpot-next ts [] [] s at e in
+          (from-spot ts (next_spot s n c q) next once, parent-spot ts (next_spot s n c q) next once ∙ sym (parent-spot ts s at once) ∙ up)
 
--- a child's siblings from it on are the child, and those from its next sibling on
-pub next_child : (ts : Trees) (parent x : NodeName) → IsUnique ts → (s : Spot) → IsSpot ts [] [] s → s.node.name ≡ x → parent_of ts x ≡ Some parent →
-    (siblings_from ts x ≡ x ∷ from_or ts (next_sibling ts x)) × IsChildOf ts parent (next_sibling ts x)
-next_child ts parent x once s at is up =
-    let P : NodeName → Type 0 = λ y. parent_of ts y ≡ Some parent → (siblings_from ts y ≡ y ∷ from_or ts (next_sibling ts y)) ×
-    IsChildOf ts parent (next_sibling ts y) in
-    subst P is here up
-  where
-    here : parent_of ts s.node.name ≡ Some parent → (siblings_from ts s.node.name ≡ s.node.name ∷ from_or ts (next_sibling ts s.node.name)) ×
-        IsChildOf ts parent (next_sibling ts s.node.name)
-    here h = elim (cases_root ts [] [] s at) [
-      | inl root ↦
-          let no : None ≡ Some parent = sym (parent-spot ts s at once ∙ ap first_of (above-root ts [] [] s root)) ∙ h in
-          absurd cc
-      | inr child ↦
-          let next = next_from ts parent once child.0 s child.1 at child.2 h in
-          (from-spot ts s at once ∙ ap (λ ys. s.node.name ∷ ys) (sym next.0), next.1)
-    ]
+  -- a child's siblings from it on are the child, and those from its next sibling on
+  pub next_child : (x : NodeName) (s : Spot) → IsSpot ts [] [] s → s.node.name ≡ x → parent_of ts x ≡ Some parent →
+      (siblings_from ts x ≡ x ∷ from_or ts (next_sibling ts x)) × IsChildOf ts parent (next_sibling ts x)
+  next_child x s at is up =
+      let P : NodeName → Type 0 = λ y. parent_of ts y ≡ Some parent → (siblings_from ts y ≡ y ∷ from_or ts (next_sibling ts y)) ×
+      IsChildOf ts parent (next_sibling ts y) in
+      subst P is here up
+    where
+      here : parent_of ts s.node.name ≡ Some parent → (siblings_from ts s.node.name ≡ s.node.name ∷ from_or ts (next_sibling ts s.node.name)) ×
+          IsChildOf ts parent (next_sibling ts s.node.name)
+      here h = elim (cases_root ts [] [] s at) [
+        | inl root ↦
+            let no : None ≡ Some parent = sym (parent-spot ts s at once ∙ ap first_of (above-root ts [] [] s root)) ∙ h in
+            absurd cc
+        | inr child ↦
+            let next = next_from child.0 s child.1 at child.2 h in
+            (from-spot ts s at once ∙ ap (λ ys. s.node.name ∷ ys) (sym next.0), next.1)
+      ]
 
 -- ---- along the keys
 
@@ -91,17 +91,17 @@ module _ (names : List NodeName) (ts : Trees) (once : StandOnce names ts) (only 
       subst (λ o. AreFrom ts x o (children_of ts x)) (sym is) (first_child ts x (IsUnique-forest names ts once only) s.0 s.1 s.2)
 
   -- and from the next one on
-  pub goes_on : (parent : NodeName) (k : ℕ) → k < length names → (at next : Option ℕ) → at ≡ Some k →
+  pub goes_on : {k : ℕ} {at : Option ℕ} (parent : NodeName) → k < length names → (next : Option ℕ) → at ≡ Some k →
       option_map (name_at names) next ≡ next_sibling ts (name_at names k) →
       IsChildOf ts parent (option_map (name_at names) at) →
       (from_or ts (option_map (name_at names) at) ≡ name_at names k ∷ from_or ts (option_map (name_at names) next)) ×
       IsChildOf ts parent (option_map (name_at names) next)
-  goes_on parent k inside at next is follows child =
+  goes_on {k = k} {at = at} parent inside next is follows child =
       let x = name_at names k in
       let one = times-key names ts once k inside in
       let s = spot_there ts [] [] x (omega (arith, one)) in
       let here : IsChildOf ts parent (Some x) = subst (λ o. IsChildOf ts parent (option_map (name_at names) o)) is child in
-      let law = next_child ts parent x (IsUnique-forest names ts once only) s.0 s.1 s.2 here in (
+      let law = next_child ts parent (IsUnique-forest names ts once only) x s.0 s.1 s.2 here in (
         ap (λ o. from_or ts (option_map (name_at names) o)) is ∙ law.0 ∙ ap (λ o. x ∷ from_or ts o) (sym follows),
         subst (IsChildOf ts parent) (sym follows) law.1,
       )

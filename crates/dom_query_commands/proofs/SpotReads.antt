@@ -61,12 +61,6 @@ abbrev IsPath : List NodeName → NodeName → List NodeName → Option Spot →
 IsPath above x path None = path ≡ []
 IsPath above x path (Some s) = (others : List NodeName) × (path ≡ x ∷ others) × (others ++ above ≡ s.above)
 
--- a path to one of two spots, where the first one is below a node
-IsPath-or : (above : List NodeName) (x y : NodeName) (o p : Option Spot) (path others : List NodeName) → IsPath (y ∷ above) x path o →
-    IsPath above x others p → IsPath above x (on_top path y others) (option_or o p)
-IsPath-or above x y None p path others h k = subst (λ ys. IsPath above x (on_top ys y others) p) (sym h) k
-IsPath-or above x y (Some s) p path others h k = (h.0 ++ y ∷ [], ap (λ ys. on_top ys y others) h.1, append_assoc h.0 (y ∷ []) above ∙ h.2)
-
 -- the inclusive ancestors of a name are a path to its first spot
 ancestors-first : (ts : Trees) (above : List NodeName) (after : List TreeStep) (x : NodeName) →
     IsPath above x (inclusive_ancestors ts x) (spot_of ts above after x)
@@ -74,9 +68,16 @@ ancestors-first none above after x = refl
 ancestors-first (tree n c r) above after x = elim (cases_Bool (name_eq n.name x)) [
   | inl e ↦ rw e ([], refl, refl)
   | inr e ↦
-      rw e (IsPath-or above x n.name (spot_of c (n.name ∷ above) (closed r after) x) (spot_of r above after x) (inclusive_ancestors c x)
-      (inclusive_ancestors r x) (ancestors-first c (n.name ∷ above) (closed r after) x) (ancestors-first r above after x))
+      rw e (either (spot_of c (n.name ∷ above) (closed r after) x) (spot_of r above after x) (inclusive_ancestors c x) (inclusive_ancestors r x)
+      (ancestors-first c (n.name ∷ above) (closed r after) x) (ancestors-first r above after x))
 ]
+  where
+    -- a path to one of two spots, where the first one is below the node
+    either : (o p : Option Spot) (path others : List NodeName) → IsPath (n.name ∷ above) x path o → IsPath above x others p →
+        IsPath above x (on_top path n.name others) (option_or o p)
+    either None p path others h k = subst (λ ys. IsPath above x (on_top ys n.name others) p) (sym h) k
+    either (Some s) p path others h k =
+        (h.0 ++ n.name ∷ [], ap (λ ys. on_top ys n.name others) h.1, append_assoc h.0 (n.name ∷ []) above ∙ h.2)
 
 -- ---- reads at a spot of whole trees
 
@@ -122,24 +123,25 @@ items_after-root (tree n c r) above after s (inr h) once =
           rw apart (items_after-root r above after s h (omega arith))
     ]
 
--- a root has no next sibling
-pub next-root : (ts : Trees) (s : Spot) → IsSpot ts [] [] s → IsUnique ts → IsRoot ts [] [] s → next_sibling ts s.node.name ≡ None
-next-root ts s at once h =
-    let alone : siblings ts s.node.name ≡ s.node.name ∷ [] =
-    ap (λ o. option_map_or (children_of ts) o (s.node.name ∷ [])) (parent-spot ts s at once ∙ ap first_of (above-root ts [] [] s h)) in
-    ap (λ ys. first_of (items_after name_eq s.node.name ys)) alone ∙ rw (name_eq-same s.node.name) refl
+-- At a spot of whole trees: the next sibling.
+module _ (ts : Trees) (s : Spot) (at : IsSpot ts [] [] s) (once : IsUnique ts) where
+  -- a root has none
+  pub next-root : IsRoot ts [] [] s → next_sibling ts s.node.name ≡ None
+  next-root h =
+      let alone : siblings ts s.node.name ≡ s.node.name ∷ [] =
+      ap (λ o. option_map_or (children_of ts) o (s.node.name ∷ [])) (parent-spot ts s at once ∙ ap first_of (above-root ts [] [] s h)) in
+      ap (λ ys. first_of (items_after name_eq s.node.name ys)) alone ∙ rw (name_eq-same s.node.name) refl
 
--- the next sibling of a child is the first root right of it
-pub next-child : (ts : Trees) (p s : Spot) → IsSpot ts [] [] p → IsSpot ts [] [] s → IsUnique ts → IsChild p s →
-    next_sibling ts s.node.name ≡ first_of (names_of (roots s.right))
-next-child ts p s at_p at once h =
-    let above = above-root p.below (p.node.name ∷ p.above) (closed p.right p.after) s h in
-    let among : siblings ts s.node.name ≡ names_of (roots p.below) =
-    ap (λ o. option_map_or (children_of ts) o (s.node.name ∷ [])) (parent-spot ts s at once ∙ ap first_of above) ∙
-    children-spot ts p at_p once in
-    ap (λ ys. first_of (items_after name_eq s.node.name ys)) among
-    ∙ ap first_of (items_after-root p.below (p.node.name ∷ p.above) (closed p.right p.after) s h
-    (let below = times-below ts [] [] p at_p s.node.name in let few = once s.node.name in omega arith))
+  -- that of a child is the first root right of it
+  pub next-child : (p : Spot) → IsSpot ts [] [] p → IsChild p s → next_sibling ts s.node.name ≡ first_of (names_of (roots s.right))
+  next-child p at_p h =
+      let above = above-root p.below (p.node.name ∷ p.above) (closed p.right p.after) s h in
+      let among : siblings ts s.node.name ≡ names_of (roots p.below) =
+      ap (λ o. option_map_or (children_of ts) o (s.node.name ∷ [])) (parent-spot ts s at once ∙ ap first_of above) ∙
+      children-spot ts p at_p once in
+      ap (λ ys. first_of (items_after name_eq s.node.name ys)) among
+      ∙ ap first_of (items_after-root p.below (p.node.name ∷ p.above) (closed p.right p.after) s h
+      (let below = times-below ts [] [] p at_p s.node.name in let few = once s.node.name in omega arith))
 
 -- ---- names
 

@@ -143,29 +143,29 @@ abbrev pub child_spot : Spot → Node → Trees → Trees → Spot
 child_spot s n c r = spot_at n c r (s.node.name ∷ s.above) (closed s.right s.after)
 
 -- it is a spot there too
-pub IsSpot-child : (ts : Trees) (above : List NodeName) (after : List TreeStep) (s : Spot) (n : Node) (c r : Trees) → IsSpot ts above after s →
+pub IsSpot-child : {n : Node} {c r : Trees} (ts : Trees) (above : List NodeName) (after : List TreeStep) (s : Spot) → IsSpot ts above after s →
     s.below ≡ tree n c r → IsSpot ts above after (child_spot s n c r)
-IsSpot-child none above after s n c r at e = absurd at
-IsSpot-child (tree m d q) above after s n c r (inl h) e =
+IsSpot-child none above after s at e = absurd at
+IsSpot-child {n = n} {c = c} {r = r} (tree m d q) above after s (inl h) e =
     let P : Spot → Type 0 = λ t. t.below ≡ tree n c r → IsSpot (tree m d q) above after (child_spot t n c r) in
     subst P (sym h) (λ f. inr (inl (subst
     (λ (ts : Trees). IsSpot ts (m.name ∷ above) (closed q after) (spot_at n c r (m.name ∷ above) (closed q after))) (sym f) (inl refl)))) e
-IsSpot-child (tree m d q) above after s n c r (inr (inl i)) e = inr (inl (IsSpot-child d (m.name ∷ above) (closed q after) s n c r i e))
-IsSpot-child (tree m d q) above after s n c r (inr (inr i)) e = inr (inr (IsSpot-child q above after s n c r i e))
+IsSpot-child (tree m d q) above after s (inr (inl i)) e = inr (inl (IsSpot-child d (m.name ∷ above) (closed q after) s i e))
+IsSpot-child (tree m d q) above after s (inr (inr i)) e = inr (inr (IsSpot-child q above after s i e))
 
 -- the sibling just after a node
 abbrev pub next_spot : Spot → Node → Trees → Trees → Spot
 next_spot s n c r = spot_at n c r s.above s.after
 
 -- it is a spot there too
-pub IsSpot-next : (ts : Trees) (above : List NodeName) (after : List TreeStep) (s : Spot) (n : Node) (c r : Trees) → IsSpot ts above after s →
+pub IsSpot-next : {n : Node} {c r : Trees} (ts : Trees) (above : List NodeName) (after : List TreeStep) (s : Spot) → IsSpot ts above after s →
     s.right ≡ tree n c r → IsSpot ts above after (next_spot s n c r)
-IsSpot-next none above after s n c r at e = absurd at
-IsSpot-next (tree m d q) above after s n c r (inl h) e =
+IsSpot-next none above after s at e = absurd at
+IsSpot-next {n = n} {c = c} {r = r} (tree m d q) above after s (inl h) e =
     let P : Spot → Type 0 = λ t. t.right ≡ tree n c r → IsSpot (tree m d q) above after (next_spot t n c r) in
     subst P (sym h) (λ f. inr (inr (subst (λ (ts : Trees). IsSpot ts above after (spot_at n c r above after)) (sym f) (inl refl)))) e
-IsSpot-next (tree m d q) above after s n c r (inr (inl i)) e = inr (inl (IsSpot-next d (m.name ∷ above) (closed q after) s n c r i e))
-IsSpot-next (tree m d q) above after s n c r (inr (inr i)) e = inr (inr (IsSpot-next q above after s n c r i e))
+IsSpot-next (tree m d q) above after s (inr (inl i)) e = inr (inl (IsSpot-next d (m.name ∷ above) (closed q after) s i e))
+IsSpot-next (tree m d q) above after s (inr (inr i)) e = inr (inr (IsSpot-next q above after s i e))
 
 -- a spot of a root, with what stands above and behind all trees
 abbrev pub IsRoot : Trees → List NodeName → List TreeStep → Spot → Type 0

@@ -23,8 +23,8 @@ loop-at-smaller c =
     let f = c.args.forest.now in
     let law = c.law_nodes_stand_once.ensures in
     let i = c.loop-at.invariant in
-    let from = goes_on f.names f.trees law.once law.only (name_at f.names c.args.node) c.in-Some.child (i.node c.in-Some.child c.in-Some.is)
-    c.loop-at.at c.next-at.result c.in-Some.is c.next-at.ensures.value i.child in
+    let from = goes_on f.names f.trees law.once law.only (name_at f.names c.args.node) (i.node c.in-Some.child c.in-Some.is)
+    c.next-at.result c.in-Some.is c.next-at.ensures.value i.child in
     omega (arith, ap (length {A = NodeName}) from.0)
 
 pub loop-at-preserved : goal.loop-at-preserved
@@ -32,8 +32,8 @@ loop-at-preserved c =
     let f = c.args.forest.now in
     let law = c.law_nodes_stand_once.ensures in
     let i = c.loop-at.invariant in
-    let from = goes_on f.names f.trees law.once law.only (name_at f.names c.args.node) c.in-Some.child (i.node c.in-Some.child c.in-Some.is)
-    c.loop-at.at c.next-at.result c.in-Some.is c.next-at.ensures.value i.child in
+    let from = goes_on f.names f.trees law.once law.only (name_at f.names c.args.node) (i.node c.in-Some.child c.in-Some.is)
+    c.next-at.result c.in-Some.is c.next-at.ensures.value i.child in
     let rest = from_or f.trees (option_map (name_at f.names) c.next-at.result) in
     record {
       node = c.next-at.ensures.node;

@@ -9,7 +9,6 @@ use Rattle.dom_model.specs.Names.{Word, DomString, node_of}
 use Rattle.dom_model.specs.Tree.{Attribute, Node, node_in}
 use Rattle.dom_tree.specs.Forest.{name_at}
 use Rattle.dom_printer.specs.declared.trees.NodeContent.{NodeContent}
-use Rattle.dom_printer.specs.declared.trees.NodeContent.TheVariants as words
 use Rattle.dom_printer.specs.Steps.{name_in, attributes_in, data_in, shown, shown_as}
 use Rattle.dom_query_commands.proofs.SpotReads.{node_in-name}
 use Rattle.dom_query_commands.proofs.tree_text.opening.Goals as goal
@@ -24,9 +23,9 @@ abbrev told_by : NodeName → Kind → NodeContent → Node
 told_by x k w = told x k (name_in w) (attributes_in w) (data_in w)
 
 -- the opening of an element
-shown-element : (n : Node) (k : Kind) (e : Word) (a : List Attribute) → k ≡ kinds.Element → k ≡ n.kind → e ≡ n.element → a ≡ n.attributes →
+shown-element : {k : Kind} {e : Word} {a : List Attribute} (n : Node) → k ≡ kinds.Element → k ≡ n.kind → e ≡ n.element → a ≡ n.attributes →
     told n.name k e a [] ≡ shown n
-shown-element n k e a is kind element attributes =
+shown-element {k = k} {e = e} {a = a} n is kind element attributes =
     ap (λ j. told n.name j e a []) is
     ∙ (ap (λ f. told n.name kinds.Element f a []) element ∙
     (ap (λ b. told n.name kinds.Element n.element b []) attributes ∙ ap (λ j. shown_as j n) (sym is ∙ kind)))
@@ -53,8 +52,7 @@ returns c =
     ap (λ x. told_by x kind c.match-kind.words) name ∙ elim c.match-kind.branch [
       | in-Element+in_ok-attributes-in-Element w ↦
           ap (told_by node.name kind) w.words-is
-          ∙ shown-element node kind w.element.result.now (attributes_in (words.Element w.element.result w.in_ok-attributes-in-Element.field-0))
-          w.in-Element.is c.kind-kind.ensures w.element.ensures w.in_ok-attributes-in-Element.ensures
+          ∙ shown-element node w.in-Element.is c.kind-kind.ensures w.element.ensures w.in_ok-attributes-in-Element.ensures
       | in-Text w ↦ ap (told_by node.name kind) w.words-is ∙ shown-data node kind w.text.result.now w.in-Text.is c.kind-kind.ensures w.text.ensures
       | in-Document w ↦ ap (told_by node.name kind) w.words-is ∙ shown-plain node kind w.in-Document.is c.kind-kind.ensures
     ]
