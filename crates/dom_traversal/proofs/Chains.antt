@@ -78,6 +78,7 @@ not_both a b (x ∷ xs) i j = elim (same_or_not b x) [
     by other apart (inr p) (inl e) more = other e
     by other apart (inr p) (inr q) more = more p q
 
+-- Two nodes, and one of some trees in which each node stands once.
 module _ (ts : Trees) (a b x : NodeName) (once : Once ts) (h : Has ts x) where
   -- of two nodes above x one stands above the other
   pub above-chain : In a (inclusive_ancestors ts x) → In b (inclusive_ancestors ts x) → In a (inclusive_ancestors ts b) ⊎ In b (inclusive_ancestors ts a)

@@ -100,6 +100,7 @@ climb_step {f} {top} {k} p i last up node =
 pub climb_ends : {f : NamedTrees} {top k : ℕ} → IsInner f top k → None ≡ parent_of f.trees (name_at f.names k) → ⊥
 climb_ends {f} {top} {k} i up = within-root f.trees (name_at f.names top) (name_at f.names k) (inner-within i) i.other (sym up)
 
+-- Two keys of a forest whose names differ.
 module _ (f : NamedTrees) (apart : TellApart f.names) (j k : ℕ) (at_j : j < length f.names) (at_k : k < length f.names) where
   -- two keys that differ have names that differ
   pub other_name : not (eqb j k) ≡ true → name_at f.names j ≡ name_at f.names k → ⊥

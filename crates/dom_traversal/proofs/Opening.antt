@@ -49,6 +49,7 @@ proper-parent ts x p once h e =
     let up = above-parent ts x p once h e in
     (ap (drop 1) up.0 ∙ above-proper ts p up.1, up.1)
 
+-- A node of trees in which each stands once.
 module _ (ts : Trees) (x : NodeName) (once : Once ts) (h : Has ts x) where
   -- no node stands above itself
   pub not_above_itself : In x (ancestors ts x) → ⊥

@@ -156,6 +156,7 @@ above-behind_first m d ts y off =
     ap (λ b. if b then y ∷ [] else on_top (inclusive_ancestors d y) m.name (inclusive_ancestors ts y)) (name_eq-other m.name y (λ same. off (inl same)))
     ∙ ap (λ path. on_top path m.name (inclusive_ancestors ts y)) (above-absent d y (λ i. off (inr (inl i))))
 
+-- A tree put among the roots, at the place of a name.
 module _ (x : NodeName) (m : Node) (d : Trees) where
   -- a tree among the roots: above a node of the others
   pub above-put_others : (ts : Trees) (y : NodeName) → (Has (tree m d none) y → ⊥) →

@@ -56,6 +56,7 @@ last-miss p xs x e = filter-append p xs (x ∷ []) ∙ (ap (λ ys. filter p xs +
 
 -- ---- where keys stand, and a step of a search along the whole order
 
+-- Keys of a forest in which each node stands once.
 module _ (f : NamedTrees) (once : StandOnce f) (only : StandAlone f) where
   -- a node that stands in a tree by a forest's word
   pub IsWithin-key : (top k : ℕ) → StandsIn f top k → IsWithin f.trees (name_at f.names top) (name_at f.names k)
@@ -95,6 +96,7 @@ preceding_step {f} once only {top} {k} prev s is node =
       StandsIn-found f top prev is node (λ y e. (preceding_place f.trees (name_at f.names top) (name_at f.names k) y w e).0),
     )
 
+-- A search forward has come to a key, and goes on to what is behind it.
 module _ (f : NamedTrees) (top k : ℕ) (at next : Option ℕ) (is : at ≡ Some k)
     (e : behind f.trees (name_at f.names top) (name_at f.names k) ≡ from_node f.trees (name_at f.names top) (option_map (name_at f.names) next)) where
   -- what is left to search is less
@@ -114,6 +116,7 @@ module _ (f : NamedTrees) (top k : ℕ) (at next : Option ℕ) (is : at ≡ Some
       sym (ap (λ o. first_of (filter p (from_node f.trees (name_at f.names top) (option_map (name_at f.names) o)))) is ∙
       first-miss p (name_at f.names k) _ _ passed e)
 
+-- A search backward has come to a key, and goes on to what is before it.
 module _ {k : ℕ} {at : Option ℕ} (f : NamedTrees) (top : ℕ) (prev : Option ℕ) (is : at ≡ Some k)
     (e : ahead_of f.trees (name_at f.names top) (name_at f.names k) ≡ up_to_node f.trees (name_at f.names top) (option_map (name_at f.names) prev)) where
   -- a search backward has one node less before it at each step

@@ -57,6 +57,7 @@ top_places ts top w =
 
 -- ---- down, by the place of a child among the children
 
+-- A node p in the tree of top, and x among its children.
 module _ (ts : Trees) (top p x : NodeName) where
   -- before a child stand its parent and the trees of the children before, beyond it those behind
   pub child_places : (before after : List NodeName) → IsWithin ts top p → children_of ts p ≡ before ++ x ∷ after
@@ -116,6 +117,7 @@ no_last_child ts x e = ap (joined ts) (no_last (children_of ts x) e)
 
 -- ---- aside
 
+-- A node x in the tree of top, other than top.
 module _ (ts : Trees) (top x : NodeName) where
   -- the parent stands there too, but for that of the top
   pub within-parent : (p : NodeName) → IsWithin ts top x → (x ≡ top → ⊥) → parent_of ts x ≡ Some p → IsWithin ts top p

@@ -15,6 +15,7 @@ use Rattle.dom_traversal.proofs.Searching.{IsWithin-key, preceding_step}
 use Rattle.dom_traversal.proofs.Chains.{above-chain, beyond-outside, ahead-outside, some_ahead}
 use Rattle.dom_traversal.proofs.iter.Iter.on_remove.Goals as goal
 
+-- A node that does not stand above the root.
 module _ (f : NamedTrees) (once : StandOnce f) (only : StandAlone f) (root node : ℕ)
     (off : is_inclusive_ancestor f.trees (name_at f.names node) (name_at f.names root) ≡ false) where
   -- a node above the reference and not above the root stands in the root's tree
