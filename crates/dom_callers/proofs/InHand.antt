@@ -25,14 +25,20 @@ pub range-still : (d e : DocState) (o : Owner) (number : ℕ) → HasStillAll d 
 range-still d e o number s r = (s.tables o).ranges number r
 
 -- a Text that a call made has the next key
-pub text-new : (e : DocState) (o : Owner) (k n : ℕ) → k ≡ n → n < length e.names → owner_in e n ≡ o → kind_of (trees_in e n) (name_in e n) ≡ Text →
+pub text-new : {o : Owner} {k n : ℕ} (e : DocState) → k ≡ n → n < length e.names → owner_in e n ≡ o → kind_of (trees_in e n) (name_in e n) ≡ Text →
     IsTextOf e o k
-text-new e o k n same there owner kind =
+text-new {o = o} e same there owner kind =
     subst (IsTextOf e o) (sym same) (record { node = record { node = there; owner = owner }; kind = kind })
+
+-- a plan was made for an owner, and no node
+pub record MakesNoNode (was now : DocState) (o : Owner) (plan : Plan) : Type 0 where
+  pub before : HasNodes was
+  pub after : HasNodes now
+  pub names : now.names ≡ was.names
+  pub world : now.world ≡ made o plan was.world
 
 -- The law's clause on plans, where no node is made.
 pub still-same : ((was now : DocState) (o : Owner) (plan : Plan) (more : List NodeName) → HasNodes was → HasNodes now → now.names ≡ was.names ++ more →
     now.world ≡ made o plan was.world → HasStillAll was now) →
-    (was now : DocState) (o : Owner) (plan : Plan) → HasNodes was → HasNodes now → now.names ≡ was.names → now.world ≡ made o plan was.world →
-    HasStillAll was now
-still-same law was now o plan h g e w = law was now o plan [] h g (e ∙ sym (append-nil was.names)) w
+    (was now : DocState) (o : Owner) (plan : Plan) → MakesNoNode was now o plan → HasStillAll was now
+still-same law was now o plan m = law was now o plan [] m.before m.after (m.names ∙ sym (append-nil was.names)) m.world

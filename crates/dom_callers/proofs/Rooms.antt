@@ -1,5 +1,5 @@
 -- Live ranges keep their ends at nodes, and their offsets below a bound, while nodes leave and come.
-use Rattle.std.proofs.Common.{◌≡◌, ℕ, suc, ◌+◌, ◌^◌, ◌<◌, ◌≤◌, List, length, Option, Some, None, refl, sym, ap, subst, ◌∙◌, arith}
+use Rattle.std.proofs.Common.{◌≡◌, ℕ, suc, ◌+◌, ◌<◌, ◌≤◌, List, length, Option, Some, None, refl, sym, ap, subst, ◌∙◌, arith}
 use Rattle.std.specs.Prelude.{nat_eq, option_map}
 use Rattle.std.specs.Option.{ForSome}
 use Rattle.dom_base.specs.declared.NodeName.{NodeName}
@@ -54,15 +54,21 @@ module _ (same : SameWithin) (removal : RemovalWithin) {f : NamedTrees} {node : 
 -- ---- a node comes before the child at an index
 
 -- there is room for it
-pub in-fits : InsertWithin → (f : NamedTrees) (parent index : ℕ) (was : RangeLists) → parent < length f.names → HasRoom 1 f was →
+pub in-fits : {f : NamedTrees} {was : RangeLists} → InsertWithin → (parent index : ℕ) → parent < length f.names → HasRoom 1 f was →
     FitBy (after_insert nat_eq parent index 1) was
-in-fits insert f parent index was node h = (insert f.names h.most parent index 1 node was h.within).0 h.fits
+in-fits {f = f} {was = was} insert parent index node h = (insert f.names h.most parent index 1 node was h.within).0 h.fits
 
 -- the live ranges before and after it
 pub record NodeComes (f g : NamedTrees) (parent index : ℕ) (was now : RangeLists) : Type 0 where
   pub names : g.names ≡ f.names
   pub there : parent < length f.names
   pub moved : HasMoved (after_insert nat_eq parent index 1) was now
+
+-- the child before which it comes, among nodes with names of their own, and room for it
+pub record ComesBefore (f : NamedTrees) (index child : ℕ) (was : RangeLists) : Type 0 where
+  pub apart : TellApart f.names
+  pub index_is : index ≡ index_of f.trees (name_at f.names child)
+  pub room : HasRoom 1 f was
 
 module _ {f g : NamedTrees} {parent index : ℕ} {was now : RangeLists} (comes : NodeComes f g parent index was now) where
   -- it takes room
@@ -79,12 +85,12 @@ module _ {f g : NamedTrees} {parent index : ℕ} {was now : RangeLists} (comes :
       }
 
   -- where an owner's live ranges stand then, by names
-  pub in-shown : InsertNamed → WithinAtNodes → TellApart f.names → (child : ℕ) → index ≡ index_of f.trees (name_at f.names child) → HasRoom 1 f was →
+  pub in-shown : InsertNamed → WithinAtNodes → (child : ℕ) → ComesBefore f index child was →
       (o : Owner) → shown_ranges g now o ≡ with_coming f.trees (name_at f.names parent) (name_at f.names child) (shown_ranges f was o)
-  in-shown named at_nodes apart child is h o =
+  in-shown named at_nodes child b o =
       ap (λ (ns : List NodeName). named_ranges ns (ranges_of now o)) comes.names ∙ ap (named_ranges f.names) (comes.moved o)
-      ∙ (named f.names apart parent index 1 comes.there).0 (ranges_of was o) (at_nodes f.names h.most was h.within o)
-      ∙ ap (λ i. named_ends_by (after_insert name_eq (name_at f.names parent) i 1) (shown_ranges f was o)) is
+      ∙ (named f.names b.apart parent index 1 comes.there).0 (ranges_of was o) (at_nodes f.names b.room.most was b.room.within o)
+      ∙ ap (λ i. named_ends_by (after_insert name_eq (name_at f.names parent) i 1) (shown_ranges f was o)) b.index_is
 
 -- ---- less room
 

@@ -39,41 +39,54 @@ module _ {view view' : Option Owner} {w w' : World} {done : List (List ℕ)} (at
   pub shown-behind : (more : List (List ℕ)) → shown view w (done ++ more) ≡ shown view w done ++ shown view' w' more
   shown-behind more = rw (at.same, at.world) (shown-append view w done more)
 
-  -- the world behind more lines
-  pub world-behind : (more all : List (List ℕ)) (v : World) → all ≡ done ++ more → v ≡ world_after w' more → v ≡ world_after w all
-  world-behind more all v e h = h ∙ ap (λ x. world_after x more) at.world ∙ sym (world_after-append w done more) ∙ ap (world_after w) (sym e)
+  -- All lines are these, and then more.
+  module _ (more : List (List ℕ)) {all : List (List ℕ)} (whole : all ≡ done ++ more) where
+    -- the world behind them
+    pub world-behind : {v : World} → v ≡ world_after w' more → v ≡ world_after w all
+    world-behind h = h ∙ ap (λ x. world_after x more) at.world ∙ sym (world_after-append w done more) ∙ ap (world_after w) (sym whole)
 
-  -- more lines are run
-  pub lines_done : (more all : List (List ℕ)) (a b c : Option (List ℕ)) → all ≡ done ++ more → Appends a b (shown view w done) →
-      Appends b c (shown view' w' more) → Appends a c (shown view w all)
-  lines_done more all a b c e before h =
-      subst (Appends a c) (sym (ap (shown view w) e ∙ shown-behind more))
-      (Appends-trans a b c (shown view w done) (shown view' w' more) before h)
+    -- the text of these is written, and then that of the others
+    pub lines_done : (a b c : Option (List ℕ)) → Appends a b (shown view w done) → Appends b c (shown view' w' more) → Appends a c (shown view w all)
+    lines_done a b c before h =
+        subst (Appends a c) (sym (ap (shown view w) whole ∙ shown-behind more))
+        (Appends-trans a b c (shown view w done) (shown view' w' more) before h)
 
-  -- some lines behind these, of which more were to come
-  pub some_behind : (more rest all : List (List ℕ)) (a b c : Option (List ℕ)) → all ≡ (done ++ more) ++ rest → Appends a b (shown view w done) →
-      WritesSome b c (shown view' w') more →
-      (some : WritesSome a c (shown view w) all) × (length done ≤ some.count) × (some.count ≤ length (done ++ more))
-  some_behind more rest all a b c e before h =
-      let few : length done + h.count ≤ length (done ++ more) = omega (arith, length-append done more, h.within) in
-      let front : take (length done + h.count) all ≡ done ++ take h.count more =
-      ap (take (length done + h.count)) e ∙ take-append-le (length done + h.count) (done ++ more) rest few ∙ take-append-add done more h.count in
-      let all_shown = sym (ap (shown view w) front ∙ shown-behind (take h.count more)) in (
-        record {
-          count = length done + h.count;
-          within = omega (arith, few, ap length e, length-append (done ++ more) rest);
-          appends = subst (Appends a c) all_shown (Appends-trans a b c (shown view w done) (shown view' w' (take h.count more)) before h.appends);
-        },
-        omega arith,
-        few,
-      )
+  -- All lines are these, more, and the rest. The text of these was written.
+  module _ (more rest : List (List ℕ)) {all : List (List ℕ)} (whole : all ≡ (done ++ more) ++ rest) where
+    -- some of the others are written, of which more were to come
+    pub some_behind : (a b c : Option (List ℕ)) → Appends a b (shown view w done) → WritesSome b c (shown view' w') more →
+        (some : WritesSome a c (shown view w) all) × (length done ≤ some.count) × (some.count ≤ length (done ++ more))
+    some_behind a b c before h =
+        let few : length done + h.count ≤ length (done ++ more) = omega (arith, length-append done more, h.within) in
+        let front : take (length done + h.count) all ≡ done ++ take h.count more =
+        ap (take (length done + h.count)) whole ∙ take-append-le (length done + h.count) (done ++ more) rest few ∙ take-append-add done more h.count in
+        let all_shown = sym (ap (shown view w) front ∙ shown-behind (take h.count more)) in (
+          record {
+            count = length done + h.count;
+            within = omega (arith, few, ap length whole, length-append (done ++ more) rest);
+            appends = subst (Appends a c) all_shown (Appends-trans a b c (shown view w done) (shown view' w' (take h.count more)) before h.appends);
+          },
+          omega arith,
+          few,
+        )
+
+    -- a fault stops them
+    pub lines_between : {f₀ f₁ : ℕ} {a b : Option (List ℕ)} → HasWritten f₀ f₁ a b (shown view w done) → (e : RunFault) (f₂ : ℕ) (c : Option (List ℕ)) →
+        StopsWriting e f₁ f₂ b c (shown view' w' more) (WritesSome b c (shown view' w') more) →
+        StopsWriting e f₀ f₂ a c (shown view w all) (WritesSome a c (shown view w) all)
+    lines_between {f₀ = f₀} {a = a} {b = b} before e f₂ c h =
+        let later = shown view (world_after w (done ++ more)) rest in
+        let split : shown view w all ≡ (shown view w done ++ shown view' w' more) ++ later =
+        ap (shown view w) whole ∙ shown-append view w (done ++ more) rest ∙ ap (λ (x : List ℕ). x ++ later) (shown-behind more) in
+        stops_as f₀ f₂ a c (sym split) (λ some. (some_behind a b c before.appends some).0) e
+        (stops_between before c (shown view' w' more) later e f₂ (WritesSome b c (shown view' w') more) h)
 
   -- The ending behind these lines is written.
   pub ending_behind : {A : Type 0} {f₀ f₁ : ℕ} {a b : Option (List ℕ)} (before : HasWritten f₀ f₁ a b (shown view w done)) (r : Result A RunFault) (f₂ : ℕ)
       (c : Option (List ℕ)) → EndsWriting r f₁ f₂ b c (viewed view' (ending w')) (Appends b c []) →
       EndsWriting r f₀ f₂ a c (shown view w done ++ viewed view (ending (world_after w done))) (WritesSome a c (shown view w) done)
   ending_behind {f₀ = f₀} {f₁ = f₁} {a = a} {b = b} before r f₂ c h =
-      ends_as (ap (λ (x : List ℕ). shown view w done ++ x) same_ending) all r f₀ f₂ a c
+      ends_as f₀ f₂ a c (ap (λ (x : List ℕ). shown view w done ++ x) same_ending) all r
       (ends_behind before r f₂ c (viewed view' (ending w')) (Appends b c []) h)
     where
       same_ending : viewed view' (ending w') ≡ viewed view (ending (world_after w done))
@@ -87,29 +100,17 @@ module _ {view view' : Option Owner} {w w' : World} {done : List (List ℕ)} (at
             (Appends-trans a b c (shown view w done) [] before.appends none);
       }
 
-  -- Lines behind these, of which the text was written, and before more meet a fault.
-  module _ {f₀ f₁ : ℕ} {a b : Option (List ℕ)} (before : HasWritten f₀ f₁ a b (shown view w done)) where
-    pub lines_between : (e : RunFault) (more rest all : List (List ℕ)) (f₂ : ℕ) (c : Option (List ℕ)) → all ≡ (done ++ more) ++ rest
-        → StopsWriting e f₁ f₂ b c (shown view' w' more) (WritesSome b c (shown view' w') more) →
-        StopsWriting e f₀ f₂ a c (shown view w all) (WritesSome a c (shown view w) all)
-    lines_between e more rest all f₂ c whole h =
-        let later = shown view (world_after w (done ++ more)) rest in
-        let split : shown view w all ≡ (shown view w done ++ shown view' w' more) ++ later =
-        ap (shown view w) whole ∙ shown-append view w (done ++ more) rest ∙ ap (λ (x : List ℕ). x ++ later) (shown-behind more) in
-        stops_as (sym split) (λ some. (some_behind more rest all a b c whole before.appends some).0) e f₀ f₂ a c
-        (stops_between before e f₂ c (shown view' w' more) later (WritesSome b c (shown view' w') more) h)
+-- One of some lines, and its text.
+module _ {V : Type 0} (bytes : V → List ℕ) (lines : List V) (i : ℕ) (line : V) (text : List ℕ) (within : i < length lines)
+    (is : line ≡ get_or lines i line) (said : text ≡ bytes line) where
+  -- the lines as far as it
+  pub one_more : map bytes (take (i + 1) lines) ≡ map bytes (take i lines) ++ text ∷ []
+  one_more =
+      ap (map bytes) (take_more lines i line within) ∙ map-append bytes (take i lines) (get_or lines i line ∷ []) ∙
+      ap (λ (x : List ℕ). map bytes (take i lines) ++ x ∷ []) (ap bytes (sym is) ∙ sym said)
 
-module _ {V : Type 0} (bytes : V → List ℕ) where
-  -- one more of some lines
-  pub one_more : (lines : List V) (i : ℕ) (line : V) (text : List ℕ) → i < length lines → line ≡ get_or lines i line → text ≡ bytes line →
-      map bytes (take (i + 1) lines) ≡ map bytes (take i lines) ++ text ∷ []
-  one_more lines i line text h e t =
-      ap (map bytes) (take_more lines i line h) ∙ map-append bytes (take i lines) (get_or lines i line ∷ []) ∙
-      ap (λ (x : List ℕ). map bytes (take i lines) ++ x ∷ []) (ap bytes (sym e) ∙ sym t)
-
-  -- lines around one of them
-  pub around : (lines : List V) (i : ℕ) (line : V) (text : List ℕ) → i < length lines → line ≡ get_or lines i line → text ≡ bytes line
-      → map bytes lines ≡ (map bytes (take i lines) ++ text ∷ []) ++ map bytes (drop (i + 1) lines)
-  around lines i line text h e t =
+  -- the lines around it
+  pub around : map bytes lines ≡ (map bytes (take i lines) ++ text ∷ []) ++ map bytes (drop (i + 1) lines)
+  around =
       ap (map bytes) (sym (take-append-drop (i + 1) lines)) ∙ map-append bytes (take (i + 1) lines) (drop (i + 1) lines)
-      ∙ ap (λ (x : List (List ℕ)). x ++ map bytes (drop (i + 1) lines)) (one_more lines i line text h e t)
+      ∙ ap (λ (x : List (List ℕ)). x ++ map bytes (drop (i + 1) lines)) one_more

@@ -95,17 +95,16 @@ page-ended bytes more = page-more (cut_of bytes).finished (lines_of ((cut_of byt
 
 -- ---- faults
 
--- A view, and what is written from one state of a sink to the next.
-module _ (view : Option Owner) (old new : Option (List ℕ)) where
-  -- what the page sees is at the front of what it would see
-  sees-front : (seen rest all : List ℕ) → all ≡ seen ++ rest → PageSees view old new seen → PageSeesFront view old new all
-  sees-front seen rest all e s =
-      record { written = s.written; appends = s.appends; back = rest; split = e ∙ ap (λ (x : List ℕ). x ++ rest) (sym s.seen) }
+-- A view, what is written from one state of a sink to the next, and a text at the front of another one.
+module _ (view : Option Owner) (old new : Option (List ℕ)) (seen rest all : List ℕ) (e : all ≡ seen ++ rest) where
+  -- what the page sees is the one, so it is at the front of the other
+  sees-front : PageSees view old new seen → PageSeesFront view old new all
+  sees-front s = record { written = s.written; appends = s.appends; back = rest; split = e ∙ ap (λ (x : List ℕ). x ++ rest) (sym s.seen) }
 
-  -- some first bytes of a text, of which the page sees some first bytes of its own
-  sees-cut : (text front back seen rest all : List ℕ) → text ≡ front ++ back → page_seen view text ≡ seen → all ≡ seen ++ rest → Appends old new front →
+  -- some first bytes of a text of which the page sees the one
+  sees-cut : {text : List ℕ} (front back : List ℕ) → text ≡ front ++ back → page_seen view text ≡ seen → Appends old new front →
       PageSeesFront view old new all
-  sees-cut text front back seen rest all split is e written =
+  sees-cut front back split is written =
       let cut = seen-front view front back in
       record {
         written = front;
@@ -138,10 +137,10 @@ page-sees_lines_named view from to old new Memory s p whole h =
 page-sees_lines_named view from to old new Write s p whole h = absurd whole
 
 -- A write failed: at lines that are ended, or at the end.
-write-prefix : (view : Option Owner) (from to old new : Option (List ℕ)) (s : StopsAtWrite view from to old new) → HasPage view →
+write-prefix : {view : Option Owner} {from to old new : Option (List ℕ)} (s : StopsAtWrite view from to old new) → HasPage view →
     IsTrue (no_component_stops decode (lines_of (s.early ++ s.late))) → (more : List ℕ) → (IsAtEnd to → more ≡ []) →
     PageSeesFront view old new (page_text ((s.early ++ s.late) ++ more))
-write-prefix view from to old new s p h more end =
+write-prefix {view = view} {old = old} {new = new} s p h more end =
     let read = s.early ++ s.late in
     let ended = (cut_of read).finished in
     let front = finished_text view s.early ++ s.front in
@@ -150,12 +149,12 @@ write-prefix view from to old new s p h more end =
           let quiet = first_lines-stop_nothing decode ended (last_line (cut_of read).rest)
           (subst (λ ls. IsTrue (no_component_stops decode ls)) (lines_of-cut read) h) in
           let on = page-ended read more in
-          sees-cut view old new (finished_text view read) front s.back (page_text_so_far ended) on.0 (page_text (read ++ more)) e
-          (seen-viewed view (answers first_world ended) p ∙ answers-page ended quiet) on.1 s.written
+          sees-cut view old new (page_text_so_far ended) on.0 (page_text (read ++ more)) on.1 front s.back e
+          (seen-viewed view (answers first_world ended) p ∙ answers-page ended quiet) s.written
       | inr e ↦
-          sees-cut view old new (run_text view read) front s.back (page_text read) [] (page_text (read ++ more)) e.0
-          (seen-viewed view (answers_to_end (lines_of read)) p ∙ page_text-agrees read h)
-          (ap (λ x. page_text (read ++ x)) (end e.1) ∙ ap page_text (append-nil read) ∙ sym (append-nil (page_text read))) s.written
+          sees-cut view old new (page_text read) [] (page_text (read ++ more))
+          (ap (λ x. page_text (read ++ x)) (end e.1) ∙ ap page_text (append-nil read) ∙ sym (append-nil (page_text read))) front s.back e.0
+          (seen-viewed view (answers_to_end (lines_of read)) p ∙ page_text-agrees read h) s.written
     ]
 
 -- The prefix.
@@ -176,4 +175,4 @@ page-sees_prefix view from to old new Memory s p h more follows =
     let on = page-more (take s.count (lines_of read)) others.0 (lines_of (read ++ more)) others.1 in
     sees-front view old new (page_text_so_far (take s.count (lines_of read))) on.0 (page_text (read ++ more)) on.1
     (page-sees_lines_named view from to old new Memory s p tt h)
-page-sees_prefix view from to old new Write s p h more follows = write-prefix view from to old new s p h more follows
+page-sees_prefix view from to old new Write s p h more follows = write-prefix s p h more follows

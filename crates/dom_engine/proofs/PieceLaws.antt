@@ -18,19 +18,18 @@ module _ (kept kept' passed piece all : List ℕ) (k : kept' ≡ (fed kept passe
       ap (λ x. (fed kept x).rest) e ∙ ap (λ cut. cut.rest) (fed-pieces kept passed piece) ∙ ap (λ x. (fed x piece).rest) (sym k)
 
 -- bytes of which a front of the rest more has passed
-pub front-behind : (bytes passed rest front later : List ℕ) → bytes ≡ passed ++ rest → rest ≡ front ++ later → bytes ≡ (passed ++ front) ++ later
-front-behind bytes passed rest front later e cut = e ∙ ap (λ x. passed ++ x) cut ∙ sym (append_assoc passed front later)
+pub front-behind : {bytes rest : List ℕ} (passed front later : List ℕ) → bytes ≡ passed ++ rest → rest ≡ front ++ later → bytes ≡ (passed ++ front) ++ later
+front-behind passed front later e cut = e ∙ ap (λ x. passed ++ x) cut ∙ sym (append_assoc passed front later)
 
 -- the same of a front that was taken
-pub piece-behind : (bytes passed rest piece later : List ℕ) (n : ℕ) → bytes ≡ passed ++ rest → piece ≡ take n rest → later ≡ drop n rest →
+pub piece-behind : {bytes piece later : List ℕ} (passed rest : List ℕ) (n : ℕ) → bytes ≡ passed ++ rest → piece ≡ take n rest → later ≡ drop n rest →
     bytes ≡ (passed ++ piece) ++ later
-piece-behind bytes passed rest piece later n e here behind =
-    front-behind bytes passed rest piece later e
-    (sym (take-append-drop n rest) ∙ ap (λ x. x ++ drop n rest) (sym here) ∙ ap (λ x. piece ++ x) (sym behind))
+piece-behind {piece = piece} {later = later} passed rest n e here behind =
+    front-behind passed piece later e (sym (take-append-drop n rest) ∙ ap (λ x. x ++ drop n rest) (sym here) ∙ ap (λ x. piece ++ x) (sym behind))
 
 -- the lines of bytes around a piece
-pub fed-around : (kept kept' bytes passed piece later : List ℕ) → kept' ≡ (fed kept passed).rest → bytes ≡ (passed ++ piece) ++ later
+pub fed-around : {kept' bytes : List ℕ} (kept passed piece later : List ℕ) → kept' ≡ (fed kept passed).rest → bytes ≡ (passed ++ piece) ++ later
     → (fed kept bytes).finished ≡ ((fed kept passed).finished ++ (fed kept' piece).finished) ++ (fed (fed kept (passed ++ piece)).rest later).finished
-fed-around kept kept' bytes passed piece later k e =
+fed-around {kept'} {bytes} kept passed piece later k e =
     fed-lines kept (fed kept (passed ++ piece)).rest (passed ++ piece) later bytes refl e
     ∙ ap (λ x. x ++ (fed (fed kept (passed ++ piece)).rest later).finished) (fed-lines kept kept' passed piece (passed ++ piece) k refl)

@@ -28,9 +28,9 @@ pub start-kept : IsKept []
 start-kept = record { one_line = tt; short = omega arith }
 
 -- nothing was read yet
-pub read-none : (view : Option Owner) (from old : Option (List ℕ)) (kept : List ℕ) (w : World) → kept ≡ [] → w ≡ first_world →
+pub read-none : {kept : List ℕ} {w : World} (view : Option Owner) (from old : Option (List ℕ)) → kept ≡ [] → w ≡ first_world →
     HasRead [] view from from old old kept w
-read-none view from old kept w k e =
+read-none view from old k e =
     let none = fed-none [] start-kept in
     let no_lines = ap (λ cut. cut.finished) none in
     let at = behind-none view first_world _ no_lines in
@@ -79,15 +79,6 @@ record CameNext (given bytes : List ℕ) (mid to : Option (List ℕ)) : Type 0 w
   near : length bytes ≤ read_size
   few : length (given ++ bytes) ≤ input_limit
   consumed : Consumes mid to bytes
-
--- bytes for which there was room
-came_next : {given bytes : List ℕ} {mid to : Option (List ℕ)} (room : ℕ) → room ≤ read_size → length given + room ≤ input_limit → length bytes ≤ room →
-    Consumes mid to bytes → CameNext given bytes mid to
-came_next {given} {bytes} room one most within consumed = record {
-  near = omega (arith, within, one);
-  few = omega (arith, within, most, length-append given bytes);
-  consumed = consumed;
-}
 
 -- no bytes at all
 nothing_next : {given : List ℕ} {mid : Option (List ℕ)} → length given ≤ input_limit → CameNext given [] mid mid
@@ -162,27 +153,31 @@ module _ {given : List ℕ} {view : Option Owner} {from mid old between : Option
     behind_read : Behind view first_world (fed [] given).finished view' w
     behind_read = record { same = same; world = read.world_is }
 
-    -- more bytes were read
-    pub read-more : (bytes : List ℕ) (to new : Option (List ℕ)) (kept' : List ℕ) (w' : World) → Consumes mid to bytes → kept' ≡ (fed kept bytes).rest →
-        w' ≡ world_after w (fed kept bytes).finished → Appends between new (shown view' w (fed kept bytes).finished) →
-        HasRead (given ++ bytes) view from to old new kept' w'
-    read-more bytes to new kept' w' consumed k e written =
-        let lines = fed-lines [] kept given bytes (given ++ bytes) read.kept_is refl in
-        record {
-          consumed = Consumes-trans from mid to given bytes read.consumed consumed;
-          kept_is = k ∙ sym (fed-rest [] kept given bytes (given ++ bytes) read.kept_is refl);
-          world_is = world-behind behind_read _ _ w' lines e;
-          written = lines_done behind_read _ _ old between new lines read.written written;
-        }
+    -- Bytes come behind them.
+    module _ (bytes : List ℕ) where
+      -- the lines that are ended then
+      lines-more : (fed [] (given ++ bytes)).finished ≡ (fed [] given).finished ++ (fed kept bytes).finished
+      lines-more = fed-lines [] kept given bytes (given ++ bytes) read.kept_is refl
+
+      -- they were read
+      pub read-more : {kept' : List ℕ} {w' : World} (to new : Option (List ℕ)) → Consumes mid to bytes → kept' ≡ (fed kept bytes).rest →
+          w' ≡ world_after w (fed kept bytes).finished → Appends between new (shown view' w (fed kept bytes).finished) →
+          HasRead (given ++ bytes) view from to old new kept' w'
+      read-more to new consumed k e written = record {
+        consumed = Consumes-trans from mid to given bytes read.consumed consumed;
+        kept_is = k ∙ sym (fed-rest [] kept given bytes (given ++ bytes) read.kept_is refl);
+        world_is = world-behind behind_read _ lines-more e;
+        written = lines_done behind_read _ lines-more old between new read.written written;
+      }
 
     -- memory is refused to lines behind those of the bytes that were read
-    stops-memory : {bytes : List ℕ} {to : Option (List ℕ)} (new : Option (List ℕ)) (more rest : List (List ℕ)) → CameNext given bytes mid to
+    stops-memory : {bytes : List ℕ} {to new : Option (List ℕ)} {more : List (List ℕ)} (rest : List (List ℕ)) → CameNext given bytes mid to
         → map kept_line (lines_of (given ++ bytes)) ≡ ((fed [] given).finished ++ more) ++ rest
         → (length ((fed [] given).finished ++ more) ≤ length (cut_of (given ++ bytes)).finished) ⊎ IsAtEnd to →
         WritesSome between new (shown view' w) more → StopsAtMemory view from to old new
-    stops-memory {bytes} {to} new more rest next e ended some =
+    stops-memory {bytes} {to} {new} {more} rest next e ended some =
         let all = lines_of (given ++ bytes) in
-        let found = some_behind behind_read more rest (map kept_line all) old between new e read.written some in
+        let found = some_behind behind_read more rest e old between new read.written some in
         let front : shown view first_world (take found.0.count (map kept_line all)) ≡ viewed view (answers first_world (take found.0.count all)) =
         ap (shown view first_world) (take-map kept_line found.0.count all) ∙ ap (viewed view) (answers-kept first_world (take found.0.count all)) in
         record {
@@ -198,25 +193,34 @@ module _ {given : List ℕ} {view : Option Owner} {from mid old between : Option
           written = subst (Appends old new) front found.0.appends;
         }
 
-    -- One read more, for which there is so much room, meets a fault.
-    pub stops-one_read : (e : RunFault) (room : ℕ) (to new : Option (List ℕ)) (failed fails : ℕ) → room ≤ read_size → length given + room ≤ input_limit →
-        StopsOneRead e room (shown view' w) kept mid to failed fails between new → StopsRun e view from to old new
-    stops-one_read Read room to new failed fails one most stops = stops-read to new (omega (arith, most)) stops.0 stops.1
-    stops-one_read InputLimit room to new failed fails one most stops = absurd stops
-    stops-one_read Memory room to new failed fails one most stops =
-        let bytes = stops.0 in
-        let next : CameNext given bytes mid to = came_next room one most stops.1 stops.2 in
-        let lines = fed-lines [] kept given bytes (given ++ bytes) read.kept_is refl in
-        let ended : length ((fed [] given).finished ++ (fed kept bytes).finished) ≤ length (cut_of (given ++ bytes)).finished =
-        omega (arith, ap length lines, length-map (cut_of (given ++ bytes)).finished kept_line) in
-        let last = last_line (fed [] (given ++ bytes)).rest in
-        stops-memory new _ last next (all-kept (given ++ bytes) ∙ ap (λ x. x ++ last) lines) (inl ended) stops.3.1
-    stops-one_read Write room to new failed fails one most stops =
-        let bytes = stops.0 in
-        let next : CameNext given bytes mid to = came_next room one most stops.1 stops.2 in
-        let lines = fed-lines [] kept given bytes (given ++ bytes) read.kept_is refl in
-        let text = sym (finished-shown view (given ++ bytes)) ∙ ap (shown view first_world) lines ∙ shown-behind behind_read _ in
-        stops-write new _ next (inl text) stops.3.1
+    -- There is so much room for one read more.
+    module _ (room : ℕ) (one : room ≤ read_size) (most : length given + room ≤ input_limit) where
+      -- it gives bytes
+      came_next : {bytes : List ℕ} {to : Option (List ℕ)} → length bytes ≤ room → Consumes mid to bytes → CameNext given bytes mid to
+      came_next {bytes} within consumed = record {
+        near = omega (arith, within, one);
+        few = omega (arith, within, most, length-append given bytes);
+        consumed = consumed;
+      }
+
+      -- it meets a fault
+      pub stops-one_read : (e : RunFault) (to new : Option (List ℕ)) (failed fails : ℕ)
+          → StopsOneRead e room (shown view' w) kept mid to failed fails between new → StopsRun e view from to old new
+      stops-one_read Read to new failed fails stops = stops-read to new (omega (arith, most)) stops.0 stops.1
+      stops-one_read InputLimit to new failed fails stops = absurd stops
+      stops-one_read Memory to new failed fails stops =
+          let bytes = stops.0 in
+          let next : CameNext given bytes mid to = came_next stops.1 stops.2 in
+          let lines = lines-more bytes in
+          let ended : length ((fed [] given).finished ++ (fed kept bytes).finished) ≤ length (cut_of (given ++ bytes)).finished =
+          omega (arith, ap length lines, length-map (cut_of (given ++ bytes)).finished kept_line) in
+          let last = last_line (fed [] (given ++ bytes)).rest in
+          stops-memory last next (all-kept (given ++ bytes) ∙ ap (λ x. x ++ last) lines) (inl ended) stops.3.1
+      stops-one_read Write to new failed fails stops =
+          let bytes = stops.0 in
+          let next : CameNext given bytes mid to = came_next stops.1 stops.2 in
+          let text = sym (finished-shown view (given ++ bytes)) ∙ ap (shown view first_world) (lines-more bytes) ∙ shown-behind behind_read _ in
+          stops-write new _ next (inl text) stops.3.1
 
     -- ---- at the end of the input
 
@@ -245,7 +249,7 @@ module _ {given : List ℕ} {view : Option Owner} {from mid old between : Option
       stops-end Memory new failed fails stops =
           let whole = ap (λ x. map kept_line (lines_of x)) (append-nil given) ∙ all-kept given ∙ ap (λ r. (fed [] given).finished ++ last_line r)
           (sym read.kept_is) ∙ no_lines-behind _ in
-          stops-memory new (last_line kept) [] (nothing_next few) whole (inr end) stops.1
+          stops-memory [] (nothing_next few) whole (inr end) stops.1
       stops-end Write new failed fails stops =
           let text = ap (run_text view) (append-nil given) ∙ run_text-split view given kept w read.kept_is read.world_is in
           let at_view = subst (λ x. AppendsFront between new (shown x w (last_line kept) ++ viewed x (ending (world_after w (last_line kept))))) same stops.1 in

@@ -24,17 +24,26 @@ pub record HasWritten (failed fails : ℕ) (old new : Option (List ℕ)) (front 
 -- ---- behind a front that was written
 
 module _ {f₀ f₁ : ℕ} {a b : Option (List ℕ)} {front : List ℕ} (before : HasWritten f₀ f₁ a b front) where
-  -- some first bytes of a text are written, of which more was to come
-  front_behind : (c : Option (List ℕ)) (text back : List ℕ) → AppendsFront b c text → AppendsFront a c ((front ++ text) ++ back)
-  front_behind c text back h = record {
-    front = front ++ h.front;
-    back = h.back ++ back;
-    split =
-        ap (λ (x : List ℕ). (front ++ x) ++ back) h.split
-        ∙ ap (λ (x : List ℕ). x ++ back) (sym (append_assoc front h.front h.back))
-        ∙ append_assoc (front ++ h.front) h.back back;
-    appends = Appends-trans a b c front h.front before.appends h.appends;
-  }
+  -- A text is begun, behind which another one was to come.
+  module _ (c : Option (List ℕ)) (text back : List ℕ) where
+    -- some first bytes of both are written
+    front_behind : AppendsFront b c text → AppendsFront a c ((front ++ text) ++ back)
+    front_behind h = record {
+      front = front ++ h.front;
+      back = h.back ++ back;
+      split =
+          ap (λ (x : List ℕ). (front ++ x) ++ back) h.split
+          ∙ ap (λ (x : List ℕ). x ++ back) (sym (append_assoc front h.front h.back))
+          ∙ append_assoc (front ++ h.front) h.back back;
+      appends = Appends-trans a b c front h.front before.appends h.appends;
+    }
+
+    -- a fault stops it
+    pub stops_between : (e : RunFault) (f₂ : ℕ) (some : Type 0) → StopsWriting e f₁ f₂ b c text some → StopsWriting e f₀ f₂ a c ((front ++ text) ++ back) some
+    stops_between Write f₂ some h = (h.0 ∙ ap (λ n. n + 1) before.none_failed, front_behind h.1)
+    stops_between Memory f₂ some h = (h.0 ∙ before.none_failed, h.1)
+    stops_between Read f₂ some h = h
+    stops_between InputLimit f₂ some h = h
 
   -- A text is written.
   pub ends_behind : {A : Type 0} (r : Result A RunFault) (f₂ : ℕ) (c : Option (List ℕ)) (text : List ℕ) (some : Type 0)
@@ -46,35 +55,28 @@ module _ {f₀ f₁ : ℕ} {a b : Option (List ℕ)} {front : List ℕ} (before 
   ends_behind (Err Read) f₂ c text some h = h
   ends_behind (Err InputLimit) f₂ c text some h = h
 
-  -- A text before another one meets a fault.
-  pub stops_between : (e : RunFault) (f₂ : ℕ) (c : Option (List ℕ)) (text back : List ℕ) (some : Type 0)
-      → StopsWriting e f₁ f₂ b c text some → StopsWriting e f₀ f₂ a c ((front ++ text) ++ back) some
-  stops_between Write f₂ c text back some h =
-      (h.0 ∙ ap (λ n. n + 1) before.none_failed, front_behind c text back h.1)
-  stops_between Memory f₂ c text back some h = (h.0 ∙ before.none_failed, h.1)
-  stops_between Read f₂ c text back some h = h
-  stops_between InputLimit f₂ c text back some h = h
+-- ---- a text is written, with the sink's count of failed calls and what it holds, before and after
 
--- ---- the text under another name, and less said of what is written where memory is refused
+module _ (f₀ f₁ : ℕ) (a b : Option (List ℕ)) where
+  -- the two ends of the writing
+  pub ends_cases : {A : Type 0} (r : Result A RunFault) (text : List ℕ) (some : Type 0) → EndsWriting r f₀ f₁ a b text some →
+      MatchResult r (λ _. (f₁ ≡ f₀) × Appends a b text) (λ e. StopsWriting e f₀ f₁ a b text some)
+  ends_cases (Ok x) text some h = h
+  ends_cases (Err e) text some h = h
 
-module _ {text all : List ℕ} {some some' : Type 0} (same : text ≡ all) (weaker : some → some') where
-  -- A fault stops the writing.
-  pub stops_as : (e : RunFault) (f₀ f₁ : ℕ) (a b : Option (List ℕ)) → StopsWriting e f₀ f₁ a b text some → StopsWriting e f₀ f₁ a b all some'
-  stops_as Write f₀ f₁ a b h = (h.0, subst (AppendsFront a b) same h.1)
-  stops_as Memory f₀ f₁ a b h = (h.0, weaker h.1)
-  stops_as Read f₀ f₁ a b h = h
-  stops_as InputLimit f₀ f₁ a b h = h
+  -- The text has another name, and less is said of what is written where memory is refused.
+  module _ {text all : List ℕ} {some some' : Type 0} (same : text ≡ all) (weaker : some → some') where
+    -- A fault stops the writing.
+    pub stops_as : (e : RunFault) → StopsWriting e f₀ f₁ a b text some → StopsWriting e f₀ f₁ a b all some'
+    stops_as Write h = (h.0, subst (AppendsFront a b) same h.1)
+    stops_as Memory h = (h.0, weaker h.1)
+    stops_as Read h = h
+    stops_as InputLimit h = h
 
-  -- The writing ends.
-  pub ends_as : {A : Type 0} (r : Result A RunFault) (f₀ f₁ : ℕ) (a b : Option (List ℕ)) → EndsWriting r f₀ f₁ a b text some → EndsWriting r f₀ f₁ a b all some'
-  ends_as (Ok x) f₀ f₁ a b h = (h.0, subst (Appends a b) same h.1)
-  ends_as (Err e) f₀ f₁ a b h = stops_as e f₀ f₁ a b h
-
--- the two ends of the writing of a text
-pub ends_cases : {A : Type 0} (r : Result A RunFault) (f₀ f₁ : ℕ) (a b : Option (List ℕ)) (text : List ℕ) (some : Type 0)
-    → EndsWriting r f₀ f₁ a b text some → MatchResult r (λ _. (f₁ ≡ f₀) × Appends a b text) (λ e. StopsWriting e f₀ f₁ a b text some)
-ends_cases (Ok x) f₀ f₁ a b text some h = h
-ends_cases (Err e) f₀ f₁ a b text some h = h
+    -- The writing ends.
+    pub ends_as : {A : Type 0} (r : Result A RunFault) → EndsWriting r f₀ f₁ a b text some → EndsWriting r f₀ f₁ a b all some'
+    ends_as (Ok x) h = (h.0, subst (Appends a b) same h.1)
+    ends_as (Err e) h = stops_as e h
 
 -- what always holds
 pub on_ok : {T E P : Type 0} (r : Result T E) → P → OnOk r P

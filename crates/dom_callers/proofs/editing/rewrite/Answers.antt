@@ -111,8 +111,8 @@ returns-clause-still c =
     let h_nodes : HasNodes h = record { parts = c.laws.ensures.parts; stand = c.laws.ensures.stand } in
     let i_nodes : HasNodes i = record { parts = c.laws-2.ensures.parts; stand = c.laws-2.ensures.stand } in
     let replaced : HasStillAll h i = still-same c.law_still.ensures.plans h i (owner_in h c.args.paragraph)
-    (replacing (name_in h c.args.paragraph) (name_in h c.in_ok-written.written.0) (name_in h c.in_ok-written.written.1)) h_nodes i_nodes
-    c.in_ok-replace.ensures.names c.in_ok-replace.ensures.world in
+    (replacing (name_in h c.args.paragraph) (name_in h c.in_ok-written.written.0) (name_in h c.in_ok-written.written.1))
+    record { before = h_nodes; after = i_nodes; names = c.in_ok-replace.ensures.names; world = c.in_ok-replace.ensures.world } in
     c.law_still.ensures.next d h i all replaced
 
 pub returns-clause-text : goal.returns-clause-text
@@ -128,8 +128,8 @@ returns-clause-text c =
     let h_nodes : HasNodes h = record { parts = c.laws.ensures.parts; stand = c.laws.ensures.stand } in
     let i_nodes : HasNodes i = record { parts = c.laws-2.ensures.parts; stand = c.laws-2.ensures.stand } in
     let replaced : HasStillAll h i = still-same c.law_still.ensures.plans h i (owner_in h c.args.paragraph)
-    (replacing (name_in h c.args.paragraph) (name_in h c.in_ok-written.written.0) (name_in h c.in_ok-written.written.1)) h_nodes i_nodes
-    c.in_ok-replace.ensures.names c.in_ok-replace.ensures.world in
+    (replacing (name_in h c.args.paragraph) (name_in h c.in_ok-written.written.0) (name_in h c.in_ok-written.written.1))
+    record { before = h_nodes; after = i_nodes; names = c.in_ok-replace.ensures.names; world = c.in_ok-replace.ensures.world } in
     text-still h i o c.in_ok-written.written.0 replaced (text-still e h o c.in_ok-written.written.0 to_h c.in_ok-written.ensures.text)
 
 pub returns-clause-range : goal.returns-clause-range
@@ -141,7 +141,7 @@ returns-clause-range c =
     let h_nodes : HasNodes h = record { parts = c.laws.ensures.parts; stand = c.laws.ensures.stand } in
     let i_nodes : HasNodes i = record { parts = c.laws-2.ensures.parts; stand = c.laws-2.ensures.stand } in
     let replaced : HasStillAll h i = still-same c.law_still.ensures.plans h i (owner_in h c.args.paragraph)
-    (replacing (name_in h c.args.paragraph) (name_in h c.in_ok-written.written.0) (name_in h c.in_ok-written.written.1)) h_nodes i_nodes
-    c.in_ok-replace.ensures.names c.in_ok-replace.ensures.world in
+    (replacing (name_in h c.args.paragraph) (name_in h c.in_ok-written.written.0) (name_in h c.in_ok-written.written.1))
+    record { before = h_nodes; after = i_nodes; names = c.in_ok-replace.ensures.names; world = c.in_ok-replace.ensures.world } in
     range-still h i o c.in_ok-range.range replaced
     (range-still g h o c.in_ok-range.range c.in_ok-tidy.ensures.still c.in_ok-take_and_put_back.ensures.range)

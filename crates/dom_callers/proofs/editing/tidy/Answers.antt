@@ -15,8 +15,7 @@ returns-clause-still c =
     let e_nodes : HasNodes e = record { parts = c.laws-2.ensures.parts; stand = c.laws-2.ensures.stand } in
     let f_nodes : HasNodes f = record { parts = c.laws-3.ensures.parts; stand = c.laws-3.ensures.stand } in
     let deleted : HasStillAll d e = still-same c.law_still.ensures.plans d e c.args.owner (λ p. plan_of_range p c.args.range (deleting c.args.range))
-    d_nodes e_nodes
-    c.in_ok-delete.ensures.names c.in_ok-delete.ensures.world in
-    let normalized : HasStillAll e f = still-same c.law_still.ensures.plans e f (owner_in e c.args.top) (normalizing (name_in e c.args.top)) e_nodes f_nodes
-    c.in_ok-normalize.ensures.names c.in_ok-normalize.ensures.world in
+    record { before = d_nodes; after = e_nodes; names = c.in_ok-delete.ensures.names; world = c.in_ok-delete.ensures.world } in
+    let normalized : HasStillAll e f = still-same c.law_still.ensures.plans e f (owner_in e c.args.top) (normalizing (name_in e c.args.top))
+    record { before = e_nodes; after = f_nodes; names = c.in_ok-normalize.ensures.names; world = c.in_ok-normalize.ensures.world } in
     c.law_still.ensures.next d e f deleted normalized

@@ -1,4 +1,4 @@
-use Rattle.std.proofs.Common.{None, drop, ap, refl, ◌∙◌, length}
+use Rattle.std.proofs.Common.{None, drop, ap, refl, ◌∙◌}
 use Rattle.dom_callers.proofs.InHand.{text-still, text-new, still-same}
 use Rattle.dom_callers.specs.Editing.{IsTextOf}
 use Rattle.dom_model.specs.Changes.{doing, pre_inserting}
@@ -26,9 +26,9 @@ returns-clause-ready c =
     let e_nodes : HasNodes e = record { parts = c.laws-2.ensures.parts; stand = c.laws-2.ensures.stand } in
     let f_nodes : HasNodes f = record { parts = c.laws-3.ensures.parts; stand = c.laws-3.ensures.stand } in
     let inserted : HasStillAll e f = still-same c.law_still.ensures.plans e f (owner_in e c.args.paragraph)
-    (pre_inserting (name_in e text) (name_in e c.args.paragraph) None) e_nodes f_nodes
-    c.in_ok-insert.ensures.names c.in_ok-insert.ensures.world in
-    let new : IsTextOf e o text = text-new e o text (length d.names) c.in_ok-text.ensures.key
+    (pre_inserting (name_in e text) (name_in e c.args.paragraph) None)
+    record { before = e_nodes; after = f_nodes; names = c.in_ok-insert.ensures.names; world = c.in_ok-insert.ensures.world } in
+    let new : IsTextOf e o text = text-new e c.in_ok-text.ensures.key
     (c.law_new_node.ensures.node d e _ _ c.in_ok-text.ensures.names) (c.law_new_node.ensures.owner d e o _ c.in_ok-text.ensures.names)
     (c.law_new_node.ensures.kind d e o (doing (make n)) n _ d_nodes e_nodes c.in_ok-text.ensures.names c.in_ok-text.ensures.world refl
     ∙ c.requires.is_text) in
@@ -51,8 +51,8 @@ returns-clause-still c =
     let g_nodes : HasNodes g = record { parts = c.laws-4.ensures.parts; stand = c.laws-4.ensures.stand } in
     let added : HasStillAll d e = c.law_still.ensures.plans d e o (doing (make n)) _ d_nodes e_nodes c.in_ok-text.ensures.names c.in_ok-text.ensures.world in
     let inserted : HasStillAll e f = still-same c.law_still.ensures.plans e f (owner_in e c.args.paragraph)
-    (pre_inserting (name_in e text) (name_in e c.args.paragraph) None) e_nodes f_nodes
-    c.in_ok-insert.ensures.names c.in_ok-insert.ensures.world in
+    (pre_inserting (name_in e text) (name_in e c.args.paragraph) None)
+    record { before = e_nodes; after = f_nodes; names = c.in_ok-insert.ensures.names; world = c.in_ok-insert.ensures.world } in
     let split : HasStillAll f g = c.law_still.ensures.plans f g (owner_in f text) (splitting (name_in f text) 1) _ f_nodes g_nodes
     c.in_ok-tail.ensures.names c.in_ok-tail.ensures.world in
     c.law_still.ensures.next d f g (c.law_still.ensures.next d e f added inserted) split
@@ -71,11 +71,11 @@ returns-clause-text c =
     let f_nodes : HasNodes f = record { parts = c.laws-3.ensures.parts; stand = c.laws-3.ensures.stand } in
     let g_nodes : HasNodes g = record { parts = c.laws-4.ensures.parts; stand = c.laws-4.ensures.stand } in
     let inserted : HasStillAll e f = still-same c.law_still.ensures.plans e f (owner_in e c.args.paragraph)
-    (pre_inserting (name_in e text) (name_in e c.args.paragraph) None) e_nodes f_nodes
-    c.in_ok-insert.ensures.names c.in_ok-insert.ensures.world in
+    (pre_inserting (name_in e text) (name_in e c.args.paragraph) None)
+    record { before = e_nodes; after = f_nodes; names = c.in_ok-insert.ensures.names; world = c.in_ok-insert.ensures.world } in
     let split : HasStillAll f g = c.law_still.ensures.plans f g (owner_in f text) (splitting (name_in f text) 1) _ f_nodes g_nodes
     c.in_ok-tail.ensures.names c.in_ok-tail.ensures.world in
-    let new : IsTextOf e o text = text-new e o text (length d.names) c.in_ok-text.ensures.key
+    let new : IsTextOf e o text = text-new e c.in_ok-text.ensures.key
     (c.law_new_node.ensures.node d e _ _ c.in_ok-text.ensures.names) (c.law_new_node.ensures.owner d e o _ c.in_ok-text.ensures.names)
     (c.law_new_node.ensures.kind d e o (doing (make n)) n _ d_nodes e_nodes c.in_ok-text.ensures.names c.in_ok-text.ensures.world refl
     ∙ c.requires.is_text) in
@@ -96,9 +96,9 @@ returns-clause-tail c =
     let f_nodes : HasNodes f = record { parts = c.laws-3.ensures.parts; stand = c.laws-3.ensures.stand } in
     let g_nodes : HasNodes g = record { parts = c.laws-4.ensures.parts; stand = c.laws-4.ensures.stand } in
     let inserted : HasStillAll e f = still-same c.law_still.ensures.plans e f (owner_in e c.args.paragraph)
-    (pre_inserting (name_in e text) (name_in e c.args.paragraph) None) e_nodes f_nodes
-    c.in_ok-insert.ensures.names c.in_ok-insert.ensures.world in
-    let new : IsTextOf e o text = text-new e o text (length d.names) c.in_ok-text.ensures.key
+    (pre_inserting (name_in e text) (name_in e c.args.paragraph) None)
+    record { before = e_nodes; after = f_nodes; names = c.in_ok-insert.ensures.names; world = c.in_ok-insert.ensures.world } in
+    let new : IsTextOf e o text = text-new e c.in_ok-text.ensures.key
     (c.law_new_node.ensures.node d e _ _ c.in_ok-text.ensures.names) (c.law_new_node.ensures.owner d e o _ c.in_ok-text.ensures.names)
     (c.law_new_node.ensures.kind d e o (doing (make n)) n _ d_nodes e_nodes c.in_ok-text.ensures.names c.in_ok-text.ensures.world refl
     ∙ c.requires.is_text) in
@@ -106,7 +106,7 @@ returns-clause-tail c =
     let q = part_of f.world (owner_in f text) in
     let old = node_in q.trees (name_in f text) in
     let tail_node = new_text_node (next_name q) old.document (drop 1 old.text) in
-    text-new g o c.in_ok-tail.tail (length f.names) c.in_ok-tail.ensures.key (c.law_new_node.ensures.node f g _ _ c.in_ok-tail.ensures.names)
+    text-new g c.in_ok-tail.ensures.key (c.law_new_node.ensures.node f g _ _ c.in_ok-tail.ensures.names)
     (c.law_new_node.ensures.owner f g (owner_in f text) _ c.in_ok-tail.ensures.names ∙ written.node.owner)
     (c.law_new_node.ensures.kind f g (owner_in f text) (splitting (name_in f text) 1) tail_node _ f_nodes g_nodes
     c.in_ok-tail.ensures.names c.in_ok-tail.ensures.world refl)

@@ -3,7 +3,7 @@ use Rattle.dom_callers.proofs.moving.put_before.Goals as goal
 
 pub on_insert-requires : goal.on_insert-requires
 on_insert-requires c =
-    in-fits c.law_ends_stay.ensures.insert c.args.forest.now c.args.parent c.index-index.result c.args.ranges.now c.requires.parent_is_node c.requires.room
+    in-fits c.law_ends_stay.ensures.insert c.args.parent c.index-index.result c.requires.parent_is_node c.requires.room
 
 pub returns-clause-ranges : goal.returns-clause-ranges
 returns-clause-ranges c =
@@ -12,8 +12,8 @@ returns-clause-ranges c =
       there = c.requires.parent_is_node;
       moved = c.on_insert.ensures;
     } in
-    in-shown comes c.law_keys_stand_for_names.ensures.insert c.law_ends_stay.ensures.at_nodes c.law_nodes_stand_once.ensures.distinct c.args.child
-    c.index-index.ensures c.requires.room
+    in-shown comes c.law_keys_stand_for_names.ensures.insert c.law_ends_stay.ensures.at_nodes c.args.child
+    record { apart = c.law_nodes_stand_once.ensures.distinct; index_is = c.index-index.ensures; room = c.requires.room }
 
 pub returns-clause-room : goal.returns-clause-room
 returns-clause-room c =

@@ -34,8 +34,8 @@ returns-in_err-write_all_to g c =
     c.split_at.ensures.front c.split_at.ensures.back (sym c.starts_with.ensures.value ∙ c.if-starts_with.true) in
     let p = err_from_is_err_and c.from_residual.result c.from_residual.ensures.1 in
     rw (p.1, p.2)
-    (stops_as (sym (i.1 ∙ ap (λ x. i.0 ++ x) step ∙ sym (append_assoc i.0 line _))) (λ (x : ⊥). x) _ _ _ _ _
-    (stops_between (record { none_failed = i.3; appends = i.2 }) _ _ _ line (kept_by c.args.prefix.now c.split_at.result.1.now) ⊥
+    (stops_as _ _ _ _ (sym (i.1 ∙ ap (λ x. i.0 ++ x) step ∙ sym (append_assoc i.0 line _))) (λ (x : ⊥). x) _
+    (stops_between (record { none_failed = i.3; appends = i.2 }) _ line (kept_by c.args.prefix.now c.split_at.result.1.now) _ _ ⊥
     c.in_err-write_all_to.ensures))
 
 pub returns : goal.returns

@@ -7,7 +7,7 @@ use Rattle.dom_engine.proofs.ReadLaws.{read-none, read-kept, read-more, stops-on
 use Rattle.dom_engine.proofs.runner.Runner.read_all.Goals as goal
 
 pub loop-left-init : goal.loop-left-init
-loop-left-init g c = ([], read-none c.args.self.now.view _ _ _ _ c.requires.splitter c.requires.world, refl, refl, refl, refl)
+loop-left-init g c = ([], read-none c.args.self.now.view _ _ c.requires.splitter c.requires.world, refl, refl, refl, refl)
 
 pub take_read-requires-clause-kept : goal.take_read-requires-clause-kept
 take_read-requires-clause-kept g c = let i = c.loop-left.invariant in read-kept i.1
@@ -18,7 +18,7 @@ returns-in_err-n-clause-stops g c =
     let p = err_from_is_err_and c.from_residual.result c.from_residual.ensures.1 in
     let few = length-take c.min-room.result c.loop-left.buffer in
     rw (p.1, p.2)
-    (stops-one_read i.1 i.2 _ _ _ _ _ _ (omega (arith, c.min-room.ensures, few)) (omega (arith, c.min-room.ensures, few, i.3))
+    (stops-one_read i.1 i.2 _ (omega (arith, c.min-room.ensures, few)) (omega (arith, c.min-room.ensures, few, i.3)) _ _ _ _ _
     c.in_err-n.ensures.stops)
 
 pub returns-then-n-eq0-clause-read : goal.returns-then-n-eq0-clause-read
@@ -27,7 +27,7 @@ returns-then-n-eq0-clause-read g c =
     let e = c.in_ok-n.ensures in
     let bytes = take c.in_ok-n.n c.take_read.new.buffer in (
       i.0 ++ bytes,
-      read-more i.1 i.2 bytes _ _ _ _ e.consumed e.splitter e.world e.written,
+      read-more i.1 i.2 bytes _ _ e.consumed e.splitter e.world e.written,
       e.end c.if-n-eq0.true,
       omega
           (arith, i.3, e.bound.1, c.if-n-eq0.true, length-append i.0 bytes),
@@ -39,7 +39,7 @@ loop-left-preserved g c =
     let e = c.in_ok-n.ensures in
     let bytes = take c.in_ok-n.n c.take_read.new.buffer in (
       i.0 ++ bytes,
-      read-more i.1 i.2 bytes _ _ _ _ e.consumed e.splitter e.world e.written,
+      read-more i.1 i.2 bytes _ _ e.consumed e.splitter e.world e.written,
       e.view ∙
           i.2,
       omega (

@@ -10,11 +10,11 @@ pub returns-in_err-write : goal.returns-in_err-write
 returns-in_err-write g c =
     let text = c.deref.ensures.value ∙ c.in_ok-text.ensures.text ∙ sym (ending-is c.args.self.now.session.world) in
     let p = err_from_is_err_and c.from_residual-in_err-write.result c.from_residual-in_err-write.ensures.1 in
-    rw (p.1, p.2) (stops_as (ap (viewed c.args.self.now.view) text) (λ (x : ⊥). absurd x) _ _ _ _ _ c.in_err-write.ensures)
+    rw (p.1, p.2) (stops_as _ _ _ _ (ap (viewed c.args.self.now.view) text) (λ (x : ⊥). absurd x) _ c.in_err-write.ensures)
 
 pub returns : goal.returns
 returns g c =
     let text = c.deref.ensures.value ∙ c.in_ok-text.ensures.text ∙ sym (ending-is c.args.self.now.session.world) in
     let shown = ap (viewed c.args.self.now.view) text in
-    ends_as (append-nil _ ∙ shown) (λ (x : ⊥). absurd x) c.flush.result _ _ _ _
+    ends_as _ _ _ _ (append-nil _ ∙ shown) (λ (x : ⊥). absurd x) c.flush.result
     (ends_behind (record { none_failed = c.in_ok-write.ensures.0; appends = c.in_ok-write.ensures.1 }) c.flush.result _ _ [] ⊥ c.flush.ensures)

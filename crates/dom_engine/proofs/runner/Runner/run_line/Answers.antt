@@ -20,7 +20,7 @@ returns-clause-written g c =
     let said = output_text (step w (decode c.args.line.now)).1 in
     let text = c.deref.ensures.value ∙ c.in_ok-put_line.ensures.text ∙ ap (λ (xs : List ℕ). xs ++ said) c.clear.ensures.items ∙
     sym (answers-one w c.args.line.now) in
-    ends_as (ap (viewed c.args.self.now.view) text) (λ (x : ⊥). absurd x) c.write.result _ _ _ _ c.write.ensures
+    ends_as _ _ _ _ (ap (viewed c.args.self.now.view) text) (λ (x : ⊥). absurd x) c.write.result c.write.ensures
 
 pub returns-clause-world : goal.returns-clause-world
 returns-clause-world g c = on_ok c.write.result

@@ -21,7 +21,7 @@ loop-line-preserved g c =
     record { same = i.2; world = i.0 } in
     let more = one_more (λ line. line.items) c.args.lines.now c.loop-line.line-index c.line-item.result _ c.loop-line-test.true c.line-item.is
     c.deref.ensures.value in
-    (world-behind at _ _ _ more e.world, e.splitter ∙ i.1, e.view ∙ i.2, e.written.0 ∙ i.3, lines_done at _ _ _ _ _ more i.4 e.written.1)
+    (world-behind at _ more e.world, e.splitter ∙ i.1, e.view ∙ i.2, e.written.0 ∙ i.3, lines_done at _ more _ _ _ i.4 e.written.1)
 
 pub returns-in_err-run_line-clause-written : goal.returns-in_err-run_line-clause-written
 returns-in_err-run_line-clause-written g c =
@@ -31,6 +31,5 @@ returns-in_err-run_line-clause-written g c =
     c.loop-line.self.view c.loop-line.self.session.world =
     record { same = i.2; world = i.0 } in
     rw (p.1, p.2)
-    (lines_between at (record { none_failed = i.3; appends = i.4 }) _ _ _ _ _ _
-    (around (λ line. line.items) c.args.lines.now c.loop-line.line-index c.line-item.result _ c.loop-line-test.true c.line-item.is
-    c.deref.ensures.value) c.in_err-run_line.ensures.written)
+    (lines_between at _ _ (around (λ line. line.items) c.args.lines.now c.loop-line.line-index c.line-item.result _ c.loop-line-test.true
+    c.line-item.is c.deref.ensures.value) (record { none_failed = i.3; appends = i.4 }) _ _ _ c.in_err-run_line.ensures.written)

@@ -29,11 +29,11 @@ loop-rest-preserved-in-Some g c =
     let lines = fed-lines kept c.loop-rest.self.splitter i.0 taken.0 all i.2 refl ∙ ap (λ cut. (fed kept i.0).finished ++ cut.finished) taken.2 in
     let rest = fed-rest kept c.loop-rest.self.splitter i.0 taken.0 all i.2 refl ∙ ap (λ cut. cut.rest) taken.2 in (
       all,
-      front-behind _ i.0 c.loop-rest.rest.now taken.0 c.in-Some.later.now i.1 taken.1,
+      front-behind i.0 taken.0 c.in-Some.later.now i.1 taken.1,
       e.splitter ∙ whole.fresh ∙ sym rest,
-      record { same = e.view ∙ i.3.same; world = world-behind i.3 _ _ _ lines e.world },
+      record { same = e.view ∙ i.3.same; world = world-behind i.3 _ lines e.world },
       e.written.0 ∙ i.4,
-      lines_done i.3 _ _ _ _ _ lines i.5 e.written.1,
+      lines_done i.3 _ lines _ _ _ i.5 e.written.1,
     )
 
 pub returns-in_err-run_line-clause-written : goal.returns-in_err-run_line-clause-written
@@ -43,10 +43,10 @@ returns-in_err-run_line-clause-written g c =
     let taken = whole_line-fed c.in-Some.ensures.some in
     let later = c.in-Some.later.now in
     let p = err_from_is_err_and c.from_residual.result c.from_residual.ensures.1 in
-    let passed = front-behind _ i.0 c.loop-rest.rest.now taken.0 later i.1 taken.1 in
-    let around = fed-around kept c.loop-rest.self.splitter c.args.bytes.now i.0 taken.0 later i.2 passed
+    let passed = front-behind i.0 taken.0 later i.1 taken.1 in
+    let around = fed-around kept i.0 taken.0 later i.2 passed
     ∙ ap (λ cut. ((fed kept i.0).finished ++ cut.finished) ++ (fed (fed kept (i.0 ++ taken.0)).rest later).finished) taken.2 in
-    rw (p.1, p.2) (lines_between i.3 (record { none_failed = i.4; appends = i.5 }) _ _ _ _ _ _ around c.in_err-run_line.ensures.written)
+    rw (p.1, p.2) (lines_between i.3 _ _ around (record { none_failed = i.4; appends = i.5 }) _ _ _ c.in_err-run_line.ensures.written)
 
 pub loop-rest-preserved : goal.loop-rest-preserved
 loop-rest-preserved g c =
@@ -56,11 +56,11 @@ loop-rest-preserved g c =
     let piece = c.split_at.result.0.now in
     let lines = fed-lines kept c.loop-rest.self.splitter i.0 piece (i.0 ++ piece) i.2 refl in (
       i.0 ++ piece,
-      piece-behind _ i.0 c.loop-rest.rest.now piece c.split_at.result.1.now c.piece_len.result i.1 c.split_at.ensures.front c.split_at.ensures.back,
+      piece-behind i.0 c.loop-rest.rest.now c.piece_len.result i.1 c.split_at.ensures.front c.split_at.ensures.back,
       e.splitter ∙ sym (fed-rest kept c.loop-rest.self.splitter i.0 piece (i.0 ++ piece) i.2 refl),
-      record { same = e.view ∙ i.3.same; world = world-behind i.3 _ _ _ lines e.world },
+      record { same = e.view ∙ i.3.same; world = world-behind i.3 _ lines e.world },
       e.written.0 ∙ i.4,
-      lines_done i.3 _ _ _ _ _ lines i.5 e.written.1,
+      lines_done i.3 _ lines _ _ _ i.5 e.written.1,
     )
 
 pub returns-in_err-take_piece-clause-written : goal.returns-in_err-take_piece-clause-written
@@ -70,7 +70,7 @@ returns-in_err-take_piece-clause-written g c =
     let piece = c.split_at.result.0.now in
     let later = c.split_at.result.1.now in
     let p = err_from_is_err_and c.from_residual-in_err-take_piece.result c.from_residual-in_err-take_piece.ensures.1 in
-    let whole = piece-behind _ i.0 c.loop-rest.rest.now piece later c.piece_len.result i.1 c.split_at.ensures.front c.split_at.ensures.back in
+    let whole = piece-behind i.0 c.loop-rest.rest.now c.piece_len.result i.1 c.split_at.ensures.front c.split_at.ensures.back in
     rw (p.1, p.2)
-    (lines_between i.3 (record { none_failed = i.4; appends = i.5 }) _ _ _ _ _ _
-    (fed-around kept c.loop-rest.self.splitter c.args.bytes.now i.0 piece later i.2 whole) c.in_err-take_piece.ensures.written)
+    (lines_between i.3 _ _ (fed-around kept i.0 piece later i.2 whole) (record { none_failed = i.4; appends = i.5 }) _ _ _
+    c.in_err-take_piece.ensures.written)
