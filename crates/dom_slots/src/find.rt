@@ -9,7 +9,7 @@ ghost use Rattle.dom_tree.specs.Forest.{IsNode, name_of};
 ghost use Rattle.dom_slots.specs.Shadows.{looks_for};
 
 use dom_base::Kind;
-use dom_tree::Forest;
+use dom_tree::{Forest, is_same_string};
 use node_arena::Key;
 use std::alloc::{AllocError, Global};
 
@@ -62,7 +62,7 @@ fn has_name(forest: &Forest, key: Key, name: &[u16]) -> bool
     requires { IsNode forest.now key }
     ensures { result ≡ has_slot_name name.now (node_in forest.now.trees (name_of forest.now key)) }
 {
-    is_slot(forest, key) && is_same(slot_name(forest, key), name)
+    is_slot(forest, key) && is_same_string(slot_name(forest, key), name)
 }
 
 /// The name of a slot, empty without the attribute (DOM Standard, concept: slot, name).
@@ -98,7 +98,7 @@ pub(crate) fn looks_for(forest: &Forest, key: Key, name: &[u16]) -> bool
     ensures { result ≡ looks_for name.now (node_in forest.now.trees (name_of forest.now key)) }
 {
     match slottable_name(forest, key) {
-        Some(wanted) => is_same(wanted, name),
+        Some(wanted) => is_same_string(wanted, name),
         None => false,
     }
 }
@@ -144,11 +144,4 @@ fn is_slot_word(text: &str) -> bool
     ensures { result ≡ text_eq text.now (codes "slot") }
 {
     matches!(text.as_bytes(), [b's', b'l', b'o', b't'])
-}
-
-/// Whether two strings of code units are the same.
-fn is_same(text: &[u16], other: &[u16]) -> bool
-    ensures { result ≡ text_eq text.now other.now }
-{
-    text == other
 }
