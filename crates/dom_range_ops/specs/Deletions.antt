@@ -6,10 +6,10 @@ use Rattle.dom_worlds.specs.Tables.{HasEnds}
 use Rattle.dom_model.specs.Changes.{Plan, steps_of}
 use Rattle.dom_model.specs.Names.{name_eq, is_in}
 use Rattle.dom_model.specs.TextChanges.{replacing_data}
-use Rattle.dom_model.specs.Tree.{kind_of, has_data, children_of, inclusive_ancestors}
+use Rattle.dom_model.specs.Tree.{kind_of, has_data, children_of}
 use Rattle.dom_mutation.specs.Doc.{DocState, owner_in, trees_in}
 use Rattle.dom_ranges.specs.declared.table.Points.{Points}
-use Rattle.dom_tree.specs.Forest.{NamedTrees, name_at}
+use Rattle.dom_tree.specs.Forest.{NamedTrees}
 use Rattle.dom_range_ops.specs.Texts.{range_at_points, nodes_around}
 
 -- no Text and no Comment of a range's tree has children
