@@ -7,4 +7,8 @@ mod arena;
 #[cfg(test)]
 mod callers;
 #[cfg(test)]
+mod paths;
+#[cfg(test)]
 mod refusals;
+#[cfg(test)]
+mod tasks;

@@ -1,0 +1,33 @@
+use Rattle.std.proofs.Common.{◌≡◌, Bool, ◌&&◌, not, false, List, [], ◌∷◌, None, filter, refl, sym, ap, ◌∙◌}
+use Rattle.std.specs.Prelude.{if◌then◌else◌, codes}
+use Rattle.std.specs.Option.{option_map}
+use Rattle.dom_base.specs.declared.NodeName.{NodeName}
+use Rattle.dom_model.specs.Names.{first_of, text_eq}
+use Rattle.dom_model.specs.Slots.{is_slot_element}
+use Rattle.dom_model.specs.Tree.{node_in, is_element}
+use Rattle.dom_tree.specs.Forest.{name_at}
+use Rattle.dom_traversal.specs.Within.{behind}
+use Rattle.dom_traversal.proofs.Climbing.{was_none}
+use Rattle.dom_traversal.proofs.Counts.{Once-forest}
+use Rattle.dom_slots.proofs.NamesOfNodes.{named-filter}
+use Rattle.dom_slots.proofs.Walks.{from-top}
+use Rattle.dom_layer_tests.proofs.paths.scene.is_alone.Goals as goal
+
+-- a list without a first item
+no_first : (xs : List NodeName) → first_of xs ≡ None → xs ≡ []
+no_first [] e = refl
+no_first (x ∷ xs) e = cc
+
+pub returns : goal.returns
+returns c = λ none.
+    let f = c.args.forest.now in
+    let e = c.law_nodes_stand_once.ensures in
+    let n = name_at f.names c.args.root in
+    let test : NodeName → Bool = λ y. is_slot_element (node_in f.trees y) in
+    let last : c.following.result ≡ None = was_none c.following.result (c.is_none.ensures ∙ ap not none) in
+    let alone : behind f.trees n n ≡ [] = no_first (behind f.trees n n) (sym c.following.ensures.value ∙ ap (option_map (name_at f.names)) last) in
+    let no_slot : test n ≡ false = ap (λ k. is_element k && text_eq (node_in f.trees n).element (codes "slot")) (sym c.kind.ensures ∙ c.in-Shadow.is) in
+    named-filter f.trees (Once-forest f e.once e.only) is_slot_element n
+    ∙ ap (filter test) (sym (from-top f e.once e.only c.args.root c.requires))
+    ∙ ap (λ xs. filter test (n ∷ xs)) alone
+    ∙ ap (λ (b : Bool). if b then n ∷ [] else []) no_slot
