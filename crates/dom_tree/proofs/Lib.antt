@@ -14,6 +14,7 @@ mod Children
 mod Placing
 pub mod Attributes
 mod FewAttributes
+mod FirstAttribute
 mod Boxed
 pub mod Once
 mod Within

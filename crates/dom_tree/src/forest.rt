@@ -15,6 +15,7 @@ mod order;
 mod validity;
 
 use crate::data::NodeData;
+use crate::kept_names::Names;
 use crate::shared::SharedTable;
 use crate::stored::StoredNode;
 use crate::table::KeyTable;
@@ -29,6 +30,7 @@ pub struct Forest {
     arena: Arena<StoredNode>,
     keys: KeyTable,
     shared: SharedTable,
+    attribute_names: Names,
     alloc: Global,
 }
 
@@ -55,6 +57,7 @@ impl Forest {
             arena: Arena::new(alloc),
             keys: KeyTable::new(alloc),
             shared: SharedTable::new(alloc),
+            attribute_names: Names::new(alloc),
             alloc,
         }
     }
