@@ -1,8 +1,8 @@
 -- Attributes of which the first few stand in a list of the code: what is found among them, set there and taken from there.
 use Rattle.std.proofs.Common.{◌≡◌, ℕ, zero, suc, ◌+◌, ◌<◌, ◌≤◌, Bool, true, false, cond, not, List, [], ◌∷◌, ◌++◌, set, length}
-use Rattle.std.proofs.Common.{Option, Some, None, Result, Ok, Err, ◌⊎◌, inl, inr, refl, sym, ap, subst, ◌∙◌}
+use Rattle.std.proofs.Common.{Option, Some, None, refl, sym, ap, subst, ◌∙◌}
 use Rattle.std.proofs.Common.{arith}
-use Rattle.std.specs.Prelude.{slice_index_or, nat_lt, if◌then◌else◌, OnOk, OnErr}
+use Rattle.std.specs.Prelude.{slice_index_or, nat_lt, if◌then◌else◌}
 use Rattle.std.specs.List.{AllByRecursion, position, position_or_len, remove}
 use Rattle.std.specs.Str.{bytes_eq}
 use Rattle.std.proofs.lemmas.Bool.{ltb-true, ltb-false}
@@ -111,19 +111,6 @@ module _ {K V : Type 0} (text_of : K → List ℕ) (items_of : V → List ℕ) (
       ∙ subst (λ bs. (record { name = a; value = items_of v } ∷ bs) ≡ attributes_with a (items_of v) bs) (sym none) refl
   off-added (x ∷ es) k v same none off =
       rw (told x false off.0) (ap (λ bs. record { name = text_of x.0; value = items_of x.1 } ∷ bs) (off-added es k v same none off.1))
-
--- ---- the attributes behind others, after a call that may be refused
-
-module _ {E X : Type 0} where
-  -- what holds of the two lists holds of what is there now
-  pub either : (r : Result X E) (new with old : List Attribute) → OnOk r (new ≡ with) → OnErr r (new ≡ old) → (new ≡ with) ⊎ (new ≡ old)
-  either (Ok x) new with old ok err = inl ok
-  either (Err e) new with old ok err = inr err
-
-  pub on-ok : (r : Result X E) (new with : List Attribute) {after : List Attribute} → OnOk r (new ≡ with) → (f : List Attribute → List Attribute) →
-      f with ≡ after → OnOk r (f new ≡ after)
-  on-ok (Ok x) new with ok f e = ap f ok ∙ e
-  on-ok (Err x) new with ok f e = tt
 
 -- ---- no two of one name
 

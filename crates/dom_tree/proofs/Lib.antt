@@ -14,7 +14,6 @@ mod Children
 mod Placing
 pub mod Attributes
 mod FewAttributes
-mod FirstAttribute
 mod Boxed
 pub mod Once
 mod Within

@@ -15,7 +15,6 @@ mod order;
 mod validity;
 
 use crate::data::NodeData;
-use crate::kept_names::Names;
 use crate::shared::SharedTable;
 use crate::stored::StoredNode;
 use crate::table::KeyTable;
@@ -30,7 +29,6 @@ pub struct Forest {
     arena: Arena<StoredNode>,
     keys: KeyTable,
     shared: SharedTable,
-    attribute_names: Names,
     alloc: Global,
 }
 
@@ -57,7 +55,6 @@ impl Forest {
             arena: Arena::new(alloc),
             keys: KeyTable::new(alloc),
             shared: SharedTable::new(alloc),
-            attribute_names: Names::new(alloc),
             alloc,
         }
     }

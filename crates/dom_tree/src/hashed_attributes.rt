@@ -1,6 +1,7 @@
 //! Attributes that are found by a hash.
 ghost use Rattle.std.specs.Prelude.{◌≡◌, ◌↔◌, [], slice_get, IsTrue, IfOk, OnOk, OnErr};
 ghost use Rattle.std.specs.Option.{option_map};
+ghost use Rattle.std.specs.String.{string_bytes};
 ghost use Rattle.dom_model.specs.TreeChanges.{attributes_with, attributes_without};
 ghost use Rattle.dom_tree.specs.Attributes.{HaveOwnNames, value_among};
 ghost use Rattle.dom_tree.specs.Forest.{attribute_from, attributes_from};
@@ -93,13 +94,12 @@ impl HashedAttributes {
     pub(crate) fn set(
         &mut self,
         alloc: Global,
-        name: &str,
+        name: String,
         value: DomStr,
     ) -> Result<(), AllocError>
-        ensures ok { OnOk result (self.new ≡ attributes_with name.now value.items self.old) }
+        ensures ok { OnOk result (self.new ≡ attributes_with (string_bytes name) value.items self.old) }
         ensures err { OnErr result (self.new ≡ self.old) }
     {
-        let name = String::from_str(alloc, name)?;
         if let Some(attributes) = &mut self.boxed {
             attributes.insert(name, value)?;
             return Ok(());

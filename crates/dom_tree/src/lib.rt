@@ -10,8 +10,6 @@ mod attribute_list;
 mod data;
 mod forest;
 mod hashed_attributes;
-mod kept_names;
-mod later_attributes;
 mod owners;
 mod shared;
 mod stored;

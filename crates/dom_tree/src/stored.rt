@@ -1,7 +1,7 @@
 //! A node as the arena keeps it.
 ghost use Rattle.std.specs.Prelude.{◌≡◌, IfOk, OnOk, OnErr};
 ghost use Rattle.std.specs.Option.{option_map};
-ghost use Rattle.std.specs.Rc.{rc_str_bytes};
+ghost use Rattle.std.specs.String.{string_bytes};
 ghost use Rattle.dom_model.specs.TreeChanges.{attributes_with, attributes_without};
 ghost use Rattle.dom_tree.specs.Attributes.{value_among};
 ghost use Rattle.dom_tree.specs.Contents.{stored_from};
@@ -14,7 +14,7 @@ use dom_base::{DomStr, Kind, NodeName};
 use node_arena::Key;
 use std::alloc::{AllocError, Global};
 use std::marker::Model;
-use std::rc::{Rc, RcStr};
+use std::rc::Rc;
 
 /// A node under its name. What it shares with others and its attributes stand elsewhere, since elements are many and
 /// attributes few. Its data stands here: `Forest::set_data` asks for no memory, so it can make no box.
@@ -29,7 +29,7 @@ pub(crate) struct StoredNode {
 }
 
 impl Model for StoredNode {
-    ghost use Rattle.std.specs.Rc.{rc_str_bytes};
+    ghost use Rattle.std.specs.String.{string_bytes};
     ghost use Rattle.dom_tree.specs.Contents.{Stored, stored_code};
 
     ghost Value = { Stored };
@@ -40,7 +40,7 @@ impl Model for StoredNode {
       name = record { owner = s.shared.value.owner; number = s.number };
       node = record {
         kind = s.kind;
-        element = rc_str_bytes s.shared.value.element;
+        element = string_bytes s.shared.value.element;
         attributes = s.attributes;
         text = s.text.items;
         document = s.document;
@@ -138,11 +138,11 @@ impl StoredNode {
     pub(crate) fn set_attribute(
         &mut self,
         alloc: Global,
-        name: RcStr,
+        name: String,
         value: DomStr,
     ) -> Result<(), AllocError>
         ensures ok { OnOk result (self.new ≡ stored_from self.old.name
-            (record self.old.node { attributes = attributes_with (rc_str_bytes name) value.items self.old.node.attributes })) }
+            (record self.old.node { attributes = attributes_with (string_bytes name) value.items self.old.node.attributes })) }
         ensures err { OnErr result (self.new ≡ self.old) }
     {
         self.attributes.set(alloc, name, value)

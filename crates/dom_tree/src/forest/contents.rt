@@ -100,8 +100,8 @@ impl Forest {
         ensures ok { OnOk result (self.new.trees ≡ change_node (with_attribute name.now (Some value.items)) (name_of self.old key) self.old.trees) }
         ensures err { OnErr result (self.new ≡ self.old) }
     {
-        let name = self.attribute_names.name(name)?;
         let alloc = self.alloc;
+        let name = String::from_str(alloc, name)?;
         self.arena
             .payload_mut(key)
             .set_attribute(alloc, name, value)?;

@@ -39,4 +39,4 @@ returns-clause-ok c = ap (λ f. f.trees) (set_done c.self.view_is c.self.invaria
     (with_attribute c.args.name.now (Some c.args.value.items)) (λ y. refl)
     (ap (λ (s : Stored). node_with c.args.self.now.names s.name s.node) c.in_ok-set_attribute.ensures.ok
     ∙ ap (λ a. holding c.args.self.now.names c.payload_mut.result.now (attributes_with a c.args.value.items c.payload_mut.result.now.node.attributes))
-    c.in_ok-name.ensures))
+    c.in_ok-name.ensures.ok))

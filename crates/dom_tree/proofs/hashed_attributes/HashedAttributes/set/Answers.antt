@@ -8,9 +8,8 @@ use Rattle.dom_tree.proofs.hashed_attributes.HashedAttributes.set.Goals as goal
 
 pub returns-in-Some-clause-ok : goal.returns-in-Some-clause-ok
 returns-in-Some-clause-ok c =
-    let old = c.deref_mut.result.now.entries in
     ap (attributes_in string_bytes (λ v. v.items)) c.in_ok-insert.ensures.entries
-    ∙ (insert-attributes string_bytes (λ v. v.items) string_eq (λ x y. refl) c.in_ok-name.name c.args.value old
-    ∙ (ap (λ n. attributes_with n c.args.value.items (attributes_from old)) c.in_ok-name.ensures.ok
-    ∙ ap (attributes_with c.args.name.now c.args.value.items)
-    (boxed_shows (λ b. b.value) (λ m. attributes_from m.entries) [] c.self.view_is (sym c.in-Some.is) c.deref_mut.ensures.value)))
+    ∙ (insert-attributes string_bytes (λ v. v.items) string_eq (λ x y. refl) c.args.name c.args.value c.deref_mut.result.now.entries
+    ∙ ap (attributes_with (string_bytes c.args.name) c.args.value.items)
+    (boxed_shows (λ b. b.value) (λ m. attributes_from m.entries) []
+    c.self.view_is (sym c.in-Some.is) c.deref_mut.ensures.value))
