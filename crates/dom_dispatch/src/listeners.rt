@@ -5,8 +5,8 @@ ghost use Rattle.std.specs.List.{list_any};
 ghost use Rattle.dom_dispatch.specs.Entries.{words_of, listener_of, hears_at};
 
 use crate::table::Table;
+use dom_attributes::is_same_text;
 use dom_base::Action;
-use dom_tree::is_same_text;
 use node_arena::Key;
 use std::alloc::{AllocError, Global};
 use std::marker::Model;

@@ -6,7 +6,7 @@ ghost use Rattle.dom_model.specs.Observers.{options_of, asks_for_nothing, asks_f
 ghost use Rattle.dom_observers.specs.Views.{words_of, change_of};
 
 use crate::change::Change;
-use dom_tree::is_same_text;
+use dom_attributes::is_same_text;
 
 /// The words of `observe` (DOM Standard, dictionary MutationObserverInit): the kinds of change asked for, whether
 /// those of descendants too, where old values are wanted, and the attributes to which those are limited, if they are.

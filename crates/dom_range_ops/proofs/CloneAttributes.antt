@@ -9,8 +9,8 @@ use Rattle.indexmap.specs.IndexMap.{insert_entry}
 use Rattle.dom_model.specs.Names.{text_eq}
 use Rattle.dom_model.specs.Tree.{Attribute}
 use Rattle.dom_model.specs.TreeChanges.{attributes_with}
-use Rattle.dom_tree.specs.Attributes.{HaveOwnNames}
-use Rattle.dom_tree.proofs.Attributes.{attributes_in, insert-attributes}
+use Rattle.dom_attributes.specs.Attributes.{HaveOwnNames}
+use Rattle.dom_attributes.proofs.Attributes.{attributes_in, insert-attributes}
 
 -- the next attribute goes behind those that were copied
 pub attributes-next : (bs : List Attribute) → HaveOwnNames bs → (n : ℕ) (b : Attribute) → slice_get bs n ≡ Some b →

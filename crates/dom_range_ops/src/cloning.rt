@@ -6,7 +6,8 @@ ghost use Rattle.dom_base.specs.declared.NodeName.{NodeName as Name};
 ghost use Rattle.dom_model.specs.Extract.{clone_part};
 ghost use Rattle.dom_model.specs.Tree.{kind_of, node_in};
 ghost use Rattle.dom_model.specs.TreeChanges.{with_name};
-ghost use Rattle.dom_tree.specs.Forest.{attribute_from, node_from, IsNode, name_of};
+ghost use Rattle.dom_attributes.specs.Attributes.{attribute_from};
+ghost use Rattle.dom_tree.specs.Forest.{node_from, IsNode, name_of};
 
 use crate::text::units_between;
 use dom_base::DomStr;

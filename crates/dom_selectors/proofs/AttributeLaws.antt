@@ -5,7 +5,7 @@ use Rattle.std.proofs.lemmas.List.{drop_all, drop_more}
 use Rattle.std.proofs.lemmas.Option.{slice_get_within, slice_get_cases, get_or_from_slice_get, none-some}
 use Rattle.dom_model.specs.Names.{Word, text_eq}
 use Rattle.dom_model.specs.Tree.{Attribute}
-use Rattle.dom_tree.specs.Attributes.{value_among}
+use Rattle.dom_attributes.specs.Attributes.{value_among}
 
 -- it has the first one's value
 first_value : (a : Word) (b : Attribute) (bs : List Attribute) → text_eq a b.name ≡ true → value_among a (b ∷ bs) ≡ Some b.value

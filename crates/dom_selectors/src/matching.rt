@@ -11,7 +11,8 @@ ghost use Rattle.dom_selectors.specs.Views.{test_view, simple_view, part_view, c
 use crate::selector::{AttributeTest, CompoundPart, Simple};
 use crate::siblings::{element_before, element_behind, is_element};
 use crate::values::value_passes;
-use dom_tree::{Forest, is_same_text};
+use dom_attributes::is_same_text;
+use dom_tree::Forest;
 use node_arena::Key;
 
 /// How many attributes of a node are compared by their names, before the others are looked up.

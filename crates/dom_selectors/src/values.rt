@@ -8,7 +8,7 @@ ghost use Rattle.dom_selectors.specs.Views.{test_view};
 
 use crate::selector::AttributeTest;
 use crate::tokens::is_space;
-use dom_tree::is_same_string;
+use dom_attributes::is_same_string;
 
 /// How many units stand before the first white space.
 fn word_len(text: &[u16]) -> usize

@@ -8,8 +8,9 @@ ghost use Rattle.dom_model.specs.Tree.{Node, node_in, nodes, subtree, parent_of,
 ghost use Rattle.dom_tree.specs.Forest.{IsNode, name_of};
 ghost use Rattle.dom_slots.specs.Shadows.{looks_for};
 
+use dom_attributes::is_same_string;
 use dom_base::Kind;
-use dom_tree::{Forest, is_same_string};
+use dom_tree::Forest;
 use node_arena::Key;
 use std::alloc::{AllocError, Global};
 

@@ -5,8 +5,9 @@ ghost use Rattle.dom_model.specs.Tree.{is_element, kind_of};
 ghost use Rattle.dom_tree.specs.Forest.{IsNode, name_of};
 ghost use Rattle.dom_traversal.specs.Filters.{filter_of, show_of};
 
+use dom_attributes::is_same_text;
 use dom_base::{Kind, Verdict};
-use dom_tree::{Forest, is_same_text};
+use dom_tree::Forest;
 use node_arena::Key;
 
 /// Which nodes are shown, and what is answered at an element with a name (DOM Standard, interface NodeFilter). Of `show`

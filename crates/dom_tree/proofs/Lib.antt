@@ -12,9 +12,7 @@ mod Setting
 mod Walks
 mod Children
 mod Placing
-pub mod Attributes
-mod FewAttributes
-mod Boxed
+mod Unchanged
 pub mod Once
 mod Within
 mod Order
@@ -25,5 +23,4 @@ mod OwnChanges
 pub mod OwnPlacings
 mod EachNode
 mod Ordered
-mod OwnNames
 mod Stays

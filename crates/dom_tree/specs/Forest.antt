@@ -1,9 +1,8 @@
 -- What a contract sees of a `Forest`: the names of the nodes by their keys, and the trees.
-use Rattle.std.specs.Prelude.{◌≡◌, ℕ, ◌^◌, ◌<◌, ◌≤◌, List, map, length, slice_get, slice_index_or, Option, Some, None, Result, Ok, Err, Vec, String}
+use Rattle.std.specs.Prelude.{◌≡◌, ℕ, ◌^◌, ◌<◌, ◌≤◌, List, map, length, slice_get, slice_index_or, Option, Some, None, Result, Ok, Err}
 use Rattle.std.specs.Prelude.{count_by, refl}
 use Rattle.std.specs.Option.{option_map}
 use Rattle.std.specs.String.{string_bytes}
-use Rattle.std.specs.declared.alloc.Global.{Global}
 use Rattle.std.specs.Coded.{Coded, code_by, coded×, coded_list}
 use Rattle.dom_base.specs.declared.Owner.{Owner}
 use Rattle.dom_base.specs.declared.Owner.TheVariants.{Page}
@@ -12,6 +11,7 @@ use Rattle.dom_model.specs.Names.{node_of, owner_eq}
 use Rattle.dom_model.specs.Tree.{Trees, Node, Attribute}
 use Rattle.dom_model.specs.Codes.{name_code, trees_code}
 use Rattle.node_arena.specs.Nodes.{IsForest}
+use Rattle.dom_attributes.specs.Attributes.{attributes_from}
 use Rattle.dom_tree.specs.declared.data.NodeData.{NodeData}
 use Rattle.dom_tree.specs.Contents.{Contents, Stored}
 
@@ -44,14 +44,6 @@ count_of o names = count_by (λ x. owner_eq x.owner o) names
 -- an owner's next name
 abbrev pub next_name : Owner → List NodeName → NodeName
 next_name o names = node_of o (count_of o names)
-
--- an attribute from its name and its value
-abbrev pub attribute_from : List ℕ → List ℕ → Attribute
-attribute_from a v = record { name = a; value = v }
-
--- attributes from the entries of the code's map
-abbrev pub attributes_from : List (String Global × Vec ℕ Global) → List Attribute
-attributes_from es = map (λ e. attribute_from (string_bytes e.0) e.1.items) es
 
 -- the attributes of a node that the code holds
 abbrev pub attributes_of : NodeData → List Attribute

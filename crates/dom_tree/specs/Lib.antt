@@ -6,4 +6,3 @@ pub mod Forest
 pub mod Owners
 pub mod Apart
 pub mod EachNode
-pub mod Attributes

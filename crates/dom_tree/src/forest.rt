@@ -18,6 +18,7 @@ use crate::data::NodeData;
 use crate::shared::SharedTable;
 use crate::stored::StoredNode;
 use crate::table::KeyTable;
+use dom_attributes::SharedNames;
 use dom_base::{Fault, MAX_NODES, NodeName, Owner, Refusal};
 use node_arena::{Arena, Key};
 use std::alloc::Global;
@@ -29,6 +30,7 @@ pub struct Forest {
     arena: Arena<StoredNode>,
     keys: KeyTable,
     shared: SharedTable,
+    attribute_names: SharedNames,
     alloc: Global,
 }
 
@@ -55,6 +57,7 @@ impl Forest {
             arena: Arena::new(alloc),
             keys: KeyTable::new(alloc),
             shared: SharedTable::new(alloc),
+            attribute_names: SharedNames::new(alloc),
             alloc,
         }
     }

@@ -6,17 +6,13 @@
 //! the key of a node of that forest.
 #![tactic(auto)]
 
-mod attribute_list;
 mod data;
 mod forest;
-mod hashed_attributes;
 mod owners;
 mod shared;
 mod stored;
 mod table;
-mod texts;
 
 pub use data::NodeData;
 pub use forest::Forest;
 pub use owners::{law_changes_add_up, law_changes_are_own, law_reads_are_own};
-pub use texts::{is_same_string, is_same_text};

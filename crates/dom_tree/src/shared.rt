@@ -1,17 +1,19 @@
 //! What many nodes have in common.
 ghost use Rattle.std.specs.Prelude.{◌≡◌, true, IfOk};
+ghost use Rattle.std.specs.Rc.{rc_str_bytes};
 ghost use Rattle.std.specs.String.{string_bytes};
 
+use dom_attributes::SharedNames;
 use dom_base::Owner;
 use std::alloc::{AllocError, Global};
 use std::collections::HashSet;
-use std::rc::Rc;
+use std::rc::{Rc, RcStr};
 
 /// The owner of some nodes and their local name, which is empty where they are no elements.
 #[derive(PartialEq, Eq, Hash, Drop)]
 pub(crate) struct Shared {
     pub(crate) owner: Owner,
-    pub(crate) element: String,
+    pub(crate) element: RcStr,
 }
 
 /// How many are compared one after another, before the others are found by a hash.
@@ -20,17 +22,19 @@ const FEW: usize = 8;
 impl Shared {
     /// Whether it is this owner with this local name.
     fn is(&self, owner: Owner, element: &str) -> bool
-        ensures { result ≡ true → (self.now.owner ≡ owner) × (string_bytes self.now.element ≡ element.now) }
+        ensures { result ≡ true → (self.now.owner ≡ owner) × (rc_str_bytes self.now.element ≡ element.now) }
     {
         self.owner == owner && self.element.as_str() == element
     }
 }
 
-/// What the nodes of a forest share: each owner with each of its local names is kept once, the first few apart from the others.
+/// What the nodes of a forest share: each owner with each of its local names is kept once, the first few apart from the
+/// others, and each of the first local names once for all owners.
 #[derive(Drop)]
 pub(crate) struct SharedTable {
     few: Vec<Rc<Shared>>,
     others: HashSet<Rc<Shared>>,
+    names: SharedNames,
     alloc: Global,
 }
 
@@ -40,6 +44,7 @@ impl SharedTable {
         SharedTable {
             few: Vec::new(alloc),
             others: HashSet::new(alloc),
+            names: SharedNames::new(alloc),
             alloc,
         }
     }
@@ -47,20 +52,21 @@ impl SharedTable {
     /// An owner with a local name, as it is kept, or from now on.
     pub(crate) fn shared(&mut self, owner: Owner, element: String) -> Result<Rc<Shared>, AllocError>
         ensures owner { IfOk result (λ shared. shared.value.owner ≡ owner) }
-        ensures element { IfOk result (λ shared. string_bytes shared.value.element ≡ string_bytes element) }
+        ensures element { IfOk result (λ shared. rc_str_bytes shared.value.element ≡ string_bytes element) }
     {
         for kept in &self.few {
             if kept.is(owner, element.as_str()) {
                 return kept.clone();
             }
         }
+        let element = self.names.name(element.as_str())?;
         self.kept(Rc::new(self.alloc, Shared { owner, element })?)
     }
 
     /// What is not among the few, as it is kept among the others, or from now on.
     fn kept(&mut self, shared: Rc<Shared>) -> Result<Rc<Shared>, AllocError>
         ensures owner { IfOk result (λ kept. kept.value.owner ≡ shared.value.owner) }
-        ensures element { IfOk result (λ kept. string_bytes kept.value.element ≡ string_bytes shared.value.element) }
+        ensures element { IfOk result (λ kept. rc_str_bytes kept.value.element ≡ rc_str_bytes shared.value.element) }
     {
         if self.few.len() < FEW {
             self.few.push(shared.clone()?)?;

@@ -1,15 +1,15 @@
 //! A node as the arena keeps it.
 ghost use Rattle.std.specs.Prelude.{◌≡◌, IfOk, OnOk, OnErr};
 ghost use Rattle.std.specs.Option.{option_map};
-ghost use Rattle.std.specs.String.{string_bytes};
+ghost use Rattle.std.specs.Rc.{rc_str_bytes};
 ghost use Rattle.dom_model.specs.TreeChanges.{attributes_with, attributes_without};
-ghost use Rattle.dom_tree.specs.Attributes.{value_among};
+ghost use Rattle.dom_attributes.specs.Attributes.{value_among};
 ghost use Rattle.dom_tree.specs.Contents.{stored_from};
 ghost use Rattle.dom_tree.specs.Forest.{contents_of};
 
-use crate::attribute_list::AttributeList;
 use crate::data::NodeData;
 use crate::shared::{Shared, SharedTable};
+use dom_attributes::{AttributeList, SharedNames};
 use dom_base::{DomStr, Kind, NodeName};
 use node_arena::Key;
 use std::alloc::{AllocError, Global};
@@ -29,7 +29,7 @@ pub(crate) struct StoredNode {
 }
 
 impl Model for StoredNode {
-    ghost use Rattle.std.specs.String.{string_bytes};
+    ghost use Rattle.std.specs.Rc.{rc_str_bytes};
     ghost use Rattle.dom_tree.specs.Contents.{Stored, stored_code};
 
     ghost Value = { Stored };
@@ -40,7 +40,7 @@ impl Model for StoredNode {
       name = record { owner = s.shared.value.owner; number = s.number };
       node = record {
         kind = s.kind;
-        element = string_bytes s.shared.value.element;
+        element = rc_str_bytes s.shared.value.element;
         attributes = s.attributes;
         text = s.text.items;
         document = s.document;
@@ -138,14 +138,15 @@ impl StoredNode {
     pub(crate) fn set_attribute(
         &mut self,
         alloc: Global,
-        name: String,
+        names: &mut SharedNames,
+        name: &str,
         value: DomStr,
     ) -> Result<(), AllocError>
         ensures ok { OnOk result (self.new ≡ stored_from self.old.name
-            (record self.old.node { attributes = attributes_with (string_bytes name) value.items self.old.node.attributes })) }
+            (record self.old.node { attributes = attributes_with name.now value.items self.old.node.attributes })) }
         ensures err { OnErr result (self.new ≡ self.old) }
     {
-        self.attributes.set(alloc, name, value)
+        self.attributes.set(alloc, names, name, value)
     }
 
     /// Takes an attribute away, and gives its value, if there is one of this name.

@@ -3,8 +3,8 @@ ghost use Rattle.std.specs.Prelude.{◌≡◌, Some, None, slice_get, OnOk, OnEr
 ghost use Rattle.std.specs.Option.{option_map, ForSome};
 ghost use Rattle.dom_model.specs.Tree.{kind_of, node_in, attribute_value};
 ghost use Rattle.dom_model.specs.TreeChanges.{change_node, with_text, under_document, with_attribute};
-ghost use Rattle.dom_tree.specs.Attributes.{HaveOwnNames};
-ghost use Rattle.dom_tree.specs.Forest.{attribute_from, IsNode, name_of};
+ghost use Rattle.dom_attributes.specs.Attributes.{HaveOwnNames, attribute_from};
+ghost use Rattle.dom_tree.specs.Forest.{IsNode, name_of};
 
 use crate::Forest;
 use dom_base::{DomStr, Kind};
@@ -101,10 +101,10 @@ impl Forest {
         ensures err { OnErr result (self.new ≡ self.old) }
     {
         let alloc = self.alloc;
-        let name = String::from_str(alloc, name)?;
+        let names = &mut self.attribute_names;
         self.arena
             .payload_mut(key)
-            .set_attribute(alloc, name, value)?;
+            .set_attribute(alloc, names, name, value)?;
         Ok(())
     }
 

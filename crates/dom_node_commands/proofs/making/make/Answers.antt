@@ -10,7 +10,8 @@ use Rattle.dom_model.specs.Steps.{make}
 use Rattle.dom_model.specs.Tree.{Attribute, Node}
 use Rattle.dom_model.specs.World.{part_of}
 use Rattle.dom_mutation.specs.Doc.{DocState, adding_refusal, made}
-use Rattle.dom_tree.specs.Forest.{attributes_from, name_at}
+use Rattle.dom_attributes.specs.Attributes.{attributes_from}
+use Rattle.dom_tree.specs.Forest.{name_at}
 use Rattle.dom_admission.specs.Handled.{IsDone}
 use Rattle.dom_admission.specs.Turned.{with_turn}
 use Rattle.dom_admission.proofs.Handling.{changed, faulted, finished}

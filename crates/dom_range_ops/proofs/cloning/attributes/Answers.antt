@@ -3,7 +3,8 @@ use Rattle.std.specs.Prelude.{slice_get}
 use Rattle.std.specs.Option.{option_map}
 use Rattle.std.specs.String.{string_bytes, string_eq}
 use Rattle.dom_model.specs.Tree.{node_in}
-use Rattle.dom_tree.specs.Forest.{name_at, attribute_from}
+use Rattle.dom_attributes.specs.Attributes.{attribute_from}
+use Rattle.dom_tree.specs.Forest.{name_at}
 use Rattle.dom_range_ops.proofs.CloneAttributes.{attributes-all, attributes-put}
 use Rattle.dom_range_ops.proofs.cloning.attributes.Goals as goal
 

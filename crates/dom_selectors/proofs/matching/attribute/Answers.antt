@@ -2,7 +2,8 @@
 use Rattle.std.proofs.Common.{sym, ap, ◌∙◌}
 use Rattle.std.specs.Option.{option_map}
 use Rattle.dom_model.specs.Tree.{node_in}
-use Rattle.dom_tree.specs.Forest.{name_at, attribute_from}
+use Rattle.dom_attributes.specs.Attributes.{attribute_from}
+use Rattle.dom_tree.specs.Forest.{name_at}
 use Rattle.dom_selectors.proofs.AttributeLaws.{value_here, value_later, value_nowhere}
 use Rattle.dom_selectors.proofs.matching.attribute.Goals as goal
 

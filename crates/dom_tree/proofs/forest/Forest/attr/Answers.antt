@@ -1,6 +1,6 @@
 use Rattle.std.proofs.Common.{ap, sym, ◌∙◌}
 use Rattle.dom_model.specs.Tree.{attribute_value}
-use Rattle.dom_tree.specs.Attributes.{value_among}
+use Rattle.dom_attributes.specs.Attributes.{value_among}
 use Rattle.dom_tree.proofs.Kept.{shows_node}
 use Rattle.dom_tree.proofs.forest.Forest.attr.Goals as goal
 

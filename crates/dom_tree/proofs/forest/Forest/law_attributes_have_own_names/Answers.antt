@@ -1,6 +1,6 @@
 use Rattle.std.proofs.Common.{sym, subst}
 use Rattle.dom_model.specs.Tree.{Node}
-use Rattle.dom_tree.specs.Attributes.{HaveOwnNames}
+use Rattle.dom_attributes.specs.Attributes.{HaveOwnNames}
 use Rattle.dom_tree.proofs.Kept.{shows_node}
 use Rattle.dom_tree.proofs.forest.Forest.law_attributes_have_own_names.Goals as goal
 

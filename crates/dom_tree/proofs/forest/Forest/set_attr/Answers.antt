@@ -1,10 +1,10 @@
-use Rattle.std.proofs.Common.{ap, ◌∙◌, refl, Some, Result, Ok, Err}
+use Rattle.std.proofs.Common.{ap, refl, Some, Result, Ok, Err}
 use Rattle.std.specs.Prelude.{OnErr}
-use Rattle.dom_model.specs.TreeChanges.{with_attribute, attributes_with}
+use Rattle.dom_model.specs.TreeChanges.{with_attribute}
 use Rattle.dom_tree.specs.Contents.{Stored}
 use Rattle.dom_tree.specs.Forest.{node_with}
 use Rattle.dom_tree.proofs.Setting.{IsKept-set_same, set_names, set_done}
-use Rattle.dom_tree.proofs.Attributes.{holding, set_same}
+use Rattle.dom_tree.proofs.Unchanged.{set_same}
 use Rattle.dom_tree.proofs.forest.Forest.set_attr.Goals as goal
 
 pub invariant_of-self : goal.invariant_of-self
@@ -20,7 +20,7 @@ returns-in_err-set_attribute-clause-names c = set_names c.self.view_is c.self.in
     (ap (λ (s : Stored). s.name) c.in_err-set_attribute.ensures.err)
 
 pub returns-in_err-set_attribute-clause-err : goal.returns-in_err-set_attribute-clause-err
-returns-in_err-set_attribute-clause-err c = on_any c.from_residual-in_err-set_attribute.result
+returns-in_err-set_attribute-clause-err c = on_any c.from_residual.result
     (set_same c.self.view_is c.self.invariant
     (record { at = c.payload_mut.ensures.value; name_kept = ap (λ (s : Stored). s.name) c.in_err-set_attribute.ensures.err })
     (ap (λ (s : Stored). node_with c.args.self.now.names s.name s.node) c.in_err-set_attribute.ensures.err))
@@ -37,6 +37,4 @@ pub returns-clause-ok : goal.returns-clause-ok
 returns-clause-ok c = ap (λ f. f.trees) (set_done c.self.view_is c.self.invariant
     (record { at = c.payload_mut.ensures.value; name_kept = ap (λ (s : Stored). s.name) c.in_ok-set_attribute.ensures.ok })
     (with_attribute c.args.name.now (Some c.args.value.items)) (λ y. refl)
-    (ap (λ (s : Stored). node_with c.args.self.now.names s.name s.node) c.in_ok-set_attribute.ensures.ok
-    ∙ ap (λ a. holding c.args.self.now.names c.payload_mut.result.now (attributes_with a c.args.value.items c.payload_mut.result.now.node.attributes))
-    c.in_ok-name.ensures.ok))
+    (ap (λ (s : Stored). node_with c.args.self.now.names s.name s.node) c.in_ok-set_attribute.ensures.ok))

@@ -1,0 +1,5 @@
+pub mod Attributes
+mod FewAttributes
+mod FirstAttribute
+mod Boxed
+mod OwnNames

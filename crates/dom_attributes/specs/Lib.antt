@@ -1,0 +1,2 @@
+-- Unmarked: own rules, about what the code holds and its contracts say.
+pub mod Attributes
