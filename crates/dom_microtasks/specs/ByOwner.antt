@@ -10,14 +10,14 @@ use Rattle.dom_microtasks.specs.declared.by_owner.OwnSlots.{OwnSlots}
 
 -- the numbers of the slots at a place of a list, and how many slots had been signalled when they were last taken
 abbrev pub numbers_at : List OwnSlots → ℕ → List ℕ
-numbers_at ws i = option_map_or (λ w. w.numbers.keys) (slice_get ws i) []
+numbers_at ws i = option_map_or (λ w. w.numbers) (slice_get ws i) []
 
 abbrev pub since_at : List OwnSlots → ℕ → ℕ
 since_at ws i = option_map_or (λ w. w.since) (slice_get ws i) 0
 
 -- the same of an owner by a map
 abbrev pub numbers_in : {S : Type 0} → HashMap Owner OwnSlots S → Owner → List ℕ
-numbers_in m o = option_map_or (λ w. w.numbers.keys) (get OwnerImpl.ghosts.eq m o) []
+numbers_in m o = option_map_or (λ w. w.numbers) (get OwnerImpl.ghosts.eq m o) []
 
 abbrev pub since_in : {S : Type 0} → HashMap Owner OwnSlots S → Owner → ℕ
 since_in m o = option_map_or (λ w. w.since) (get OwnerImpl.ghosts.eq m o) 0

@@ -3,3 +3,5 @@ pub mod Tasks
 pub mod ByOwner
 pub mod OwnerNumbers
 pub mod Signalled
+pub mod EachOnce
+pub mod SlotNumbers

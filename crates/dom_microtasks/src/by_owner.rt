@@ -7,42 +7,29 @@ ghost use Rattle.dom_model.specs.Names.{is_in, owner_eq};
 ghost use Rattle.dom_microtasks.specs.ByOwner.{since_of, numbers_of, since_at, numbers_at, since_in, numbers_in, IsThere};
 
 use crate::owner_numbers::place_of;
+use crate::slot_numbers::SlotNumbers;
 use dom_base::{NodeName, Owner};
-use indexmap::IndexSet;
 use std::alloc::{AllocError, Global};
 use std::collections::HashMap;
-
-/// How many slots of an owner are compared with another one in turn. Among more it is found by a hash.
-const FEW: usize = 8;
 
 /// An owner's signalled slots, by their numbers in the order of their signals, and how many slots had been signalled when
 /// they were last taken.
 #[derive(Drop)]
 pub(crate) struct OwnSlots {
     since: usize,
-    numbers: IndexSet<u32>,
+    numbers: SlotNumbers,
 }
 
 impl OwnSlots {
-    /// No slots.
+    /// No slots. Takes no memory yet.
     fn new(alloc: Global) -> Self
-        ensures numbers { result.numbers.keys ≡ [] }
+        ensures numbers { result.numbers ≡ [] }
         ensures since { result.since ≡ 0 }
     {
         OwnSlots {
             since: 0,
-            numbers: IndexSet::new(alloc),
+            numbers: SlotNumbers::new(alloc),
         }
-    }
-
-    /// Whether a slot is among them.
-    fn has(&self, number: u32) -> bool
-        ensures { result ≡ is_in nat_eq number self.now.numbers.keys }
-    {
-        if self.numbers.len() <= FEW {
-            return self.numbers.as_slice().contains(&number);
-        }
-        self.numbers.contains(&number)
     }
 }
 
@@ -70,7 +57,7 @@ impl ByOwner {
 
     /// What is kept of an owner, if it has had a slot.
     fn slots(&self, owner: Owner) -> Option<&OwnSlots>
-        ensures { option_map_or (λ own. own.now.numbers.keys) result [] ≡ numbers_of self.now owner }
+        ensures { option_map_or (λ own. own.now.numbers) result [] ≡ numbers_of self.now owner }
     {
         match place_of(owner) {
             Some(place) => self.components.get(place),
@@ -93,7 +80,7 @@ impl ByOwner {
         ensures { result ≡ is_in nat_eq slot.number (numbers_of self.now slot.owner) }
     {
         match self.slots(slot.owner) {
-            Some(own) => own.has(slot.number),
+            Some(own) => own.numbers.has(slot.number),
             None => false,
         }
     }
@@ -116,8 +103,8 @@ impl ByOwner {
     {
         self.prepare(slot.owner)?;
         match place_of(slot.owner) {
-            Some(place) => push_at(&mut self.components, place, slot.number),
-            None => push_other(&mut self.others, slot.owner, slot.number),
+            Some(place) => push_at(self.alloc, &mut self.components, place, slot.number),
+            None => push_other(self.alloc, &mut self.others, slot.owner, slot.number),
         }
     }
 
@@ -164,7 +151,12 @@ fn reach(alloc: Global, components: &mut Vec<OwnSlots>, place: usize) -> Result<
 }
 
 /// Puts a slot that is not among those at a place of a list behind them.
-fn push_at(components: &mut Vec<OwnSlots>, place: usize, number: u32) -> Result<(), AllocError>
+fn push_at(
+    alloc: Global,
+    components: &mut Vec<OwnSlots>,
+    place: usize,
+    number: u32,
+) -> Result<(), AllocError>
     requires there { place < length components.old.items }
     requires new { is_in nat_eq number (numbers_at components.old.items place) ≡ false }
     ensures numbers { OnOk result ((i : ℕ) → numbers_at components.new.items i ≡
@@ -172,8 +164,7 @@ fn push_at(components: &mut Vec<OwnSlots>, place: usize, number: u32) -> Result<
     ensures since { (i : ℕ) → since_at components.new.items i ≡ since_at components.old.items i }
     ensures err { OnErr result ((i : ℕ) → numbers_at components.new.items i ≡ numbers_at components.old.items i) }
 {
-    components[place].numbers.insert(number)?;
-    Ok(())
+    components[place].numbers.push(alloc, number)
 }
 
 /// Takes the slots at a place of a list away.
@@ -189,6 +180,7 @@ fn empty_at(components: &mut Vec<OwnSlots>, place: usize, since: usize)
 
 /// Puts a slot that is not among those of an owner behind them.
 fn push_other(
+    alloc: Global,
     others: &mut HashMap<Owner, OwnSlots>,
     owner: Owner,
     number: u32,
@@ -201,7 +193,7 @@ fn push_other(
     ensures err { OnErr result ((o : Owners) → numbers_in others.new o ≡ numbers_in others.old o) }
 {
     if let Some(own) = others.get_mut(&owner) {
-        own.numbers.insert(number)?;
+        own.numbers.push(alloc, number)?;
     }
     Ok(())
 }

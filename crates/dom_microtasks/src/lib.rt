@@ -11,6 +11,7 @@ ghost use Rattle.dom_microtasks.specs.Tasks.{task_of};
 mod by_owner;
 mod owner_numbers;
 mod signals;
+mod slot_numbers;
 
 use crate::owner_numbers::OwnerNumbers;
 use dom_base::Owner;
