@@ -34,4 +34,5 @@ mod Leaving
 mod Joining
 mod Parting
 mod Shortened
+mod InLine
 mod Unlisted

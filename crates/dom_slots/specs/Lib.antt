@@ -4,6 +4,7 @@ pub mod Shadows
 pub mod Tables
 pub mod KeyMaps
 pub mod Lists
+pub mod NodeSlots
 pub mod Steps
 pub mod Kept
 pub mod Fields

@@ -2,6 +2,7 @@
 use Rattle.std.specs.Prelude.{◌≡◌, ℕ, suc, List, [], ◌∷◌, nat_eq, Vec}
 use Rattle.dom_model.specs.Names.{is_in}
 use Rattle.dom_slots.specs.KeyMaps.{list_at}
+use Rattle.dom_slots.specs.NodeSlots.{slots_at}
 use Rattle.dom_slots.specs.Tables.{SlotTable}
 
 -- the table of lists that stand by the numbers of their slots, from a number on, and from 0 on
@@ -13,5 +14,5 @@ abbrev pub table_in : {A : Type 0} → List (Vec ℕ A) → SlotTable
 table_in rows = table_from 0 rows
 
 -- a node has just those slots by the other lists in whose lists it stands
-abbrev pub SlotsAgree : {A B : Type 0} → List (Vec ℕ A) → List (Vec ℕ B) → Type 0
-SlotsAgree lists slots = (k s : ℕ) → is_in nat_eq s (list_at slots k) ≡ is_in nat_eq k (list_at lists s)
+abbrev pub SlotsAgree : {A B : Type 0} → List (Vec ℕ A) → List ℕ → List (Vec ℕ B) → Type 0
+SlotsAgree lists first rest = (k s : ℕ) → is_in nat_eq s (slots_at first rest k) ≡ is_in nat_eq k (list_at lists s)

@@ -101,13 +101,6 @@ impl KeyLists {
         }
         Ok(())
     }
-
-    /// Makes each list empty.
-    pub(crate) fn clear(&mut self)
-        ensures { self.new.rows.items ≡ [] }
-    {
-        self.rows.clear();
-    }
 }
 
 /// Takes a node out of a list.

@@ -3,10 +3,11 @@ ghost use Rattle.std.specs.Prelude.{◌≡◌, ℕ, ◌&&◌, ◌||◌, [], true
 ghost use Rattle.std.specs.Option.{ForSome};
 ghost use Rattle.dom_model.specs.Names.{is_in, list_eq};
 ghost use Rattle.node_arena.specs.Nodes.{insert_before, without};
-ghost use Rattle.dom_slots.specs.KeyMaps.{list_at};
+ghost use Rattle.dom_slots.specs.NodeSlots.{slots_at};
 ghost use Rattle.dom_slots.specs.Tables.{list_of};
 
 use crate::key_lists::KeyLists;
+use crate::node_slots::NodeSlots;
 use node_arena::Key;
 use std::alloc::{AllocError, Global};
 use std::marker::Model;
@@ -16,7 +17,7 @@ use std::marker::Model;
 #[derive(Drop)]
 pub(crate) struct Table {
     lists: KeyLists,
-    slots: KeyLists,
+    slots: NodeSlots,
 }
 
 impl Model for Table {
@@ -28,7 +29,7 @@ impl Model for Table {
 
     ghost view = { λ t. table_in t.lists.rows.items };
 
-    ghost invariant = { λ t. SlotsAgree t.lists.rows.items t.slots.rows.items };
+    ghost invariant = { λ t. SlotsAgree t.lists.rows.items t.slots.first.items t.slots.rest.rows.items };
 }
 
 impl Table {
@@ -38,7 +39,7 @@ impl Table {
     {
         Table {
             lists: KeyLists::new(alloc),
-            slots: KeyLists::new(alloc),
+            slots: NodeSlots::new(alloc),
         }
     }
 
@@ -54,7 +55,7 @@ impl Table {
         ensures some { ForSome result (λ slot. is_in nat_eq node (list_of self.now slot) ≡ true) }
         ensures none { result ≡ None → (slot : ℕ) → is_in nat_eq node (list_of self.now slot) ≡ false }
     {
-        self.slots.of(node).first().copied()
+        self.slots.one(node)
     }
 
     /// Whether the list of a slot is another one than these nodes.
@@ -75,13 +76,11 @@ impl Table {
     {
         forget(&mut self.slots, self.lists.of(slot), slot);
         if remember(alloc, &mut self.slots, &list, slot).is_err() {
-            self.lists.clear();
-            self.slots.clear();
+            *self = Table::new(alloc);
             return Err(AllocError);
         }
         if self.lists.set(alloc, slot, list).is_err() {
-            self.lists.clear();
-            self.slots.clear();
+            *self = Table::new(alloc);
             return Err(AllocError);
         }
         Ok(())
@@ -92,7 +91,7 @@ impl Table {
         ensures stood { result ≡ is_in nat_eq node (list_of self.old slot) }
         ensures lists { (k : ℕ) → list_of self.new k ≡ (if nat_eq slot k then without node (list_of self.old k) else list_of self.old k) }
     {
-        let _ = self.slots.take_out(node, slot);
+        self.slots.take_out(node, slot);
         self.lists.take_out(slot, node)
     }
 
@@ -108,9 +107,8 @@ impl Table {
         ensures { OnOk result ((k : ℕ) → list_of self.new k ≡ (if nat_eq slot k then insert_before (list_of self.old k) node before else list_of self.old k)) }
     {
         self.lists.put(alloc, slot, node, before)?;
-        if self.slots.put(alloc, node, slot, None).is_err() {
-            self.lists.clear();
-            self.slots.clear();
+        if self.slots.put(alloc, node, slot).is_err() {
+            *self = Table::new(alloc);
             return Err(AllocError);
         }
         Ok(())
@@ -118,23 +116,27 @@ impl Table {
 }
 
 /// Takes this slot from these nodes.
-fn forget(slots: &mut KeyLists, nodes: &[Key], slot: Key)
-    ensures { (k s : ℕ) → is_in nat_eq s
-        (list_at slots.new.rows.items k) ≡
-        (is_in nat_eq s (list_at slots.old.rows.items k) && not (nat_eq slot s && is_in nat_eq k nodes.now)) }
+fn forget(slots: &mut NodeSlots, nodes: &[Key], slot: Key)
+    ensures { (k s : ℕ) → is_in nat_eq s (slots_at slots.new.first.items slots.new.rest.rows.items k) ≡
+        (is_in nat_eq s (slots_at slots.old.first.items slots.old.rest.rows.items k) && not (nat_eq slot s && is_in nat_eq k nodes.now)) }
 {
     for node in nodes {
-        let _ = slots.take_out(*node, slot);
+        slots.take_out(*node, slot);
     }
 }
 
 /// Gives these nodes this slot.
-fn remember(alloc: Global, slots: &mut KeyLists, nodes: &[Key], slot: Key) -> Result<(), AllocError>
-    ensures { OnOk result ((k s : ℕ) → is_in nat_eq s
-        (list_at slots.new.rows.items k) ≡ (is_in nat_eq s (list_at slots.old.rows.items k) || (nat_eq slot s && is_in nat_eq k nodes.now))) }
+fn remember(
+    alloc: Global,
+    slots: &mut NodeSlots,
+    nodes: &[Key],
+    slot: Key,
+) -> Result<(), AllocError>
+    ensures { OnOk result ((k s : ℕ) → is_in nat_eq s (slots_at slots.new.first.items slots.new.rest.rows.items k) ≡
+        (is_in nat_eq s (slots_at slots.old.first.items slots.old.rest.rows.items k) || (nat_eq slot s && is_in nat_eq k nodes.now))) }
 {
     for node in nodes {
-        slots.put(alloc, *node, slot, None)?;
+        slots.put(alloc, *node, slot)?;
     }
     Ok(())
 }
