@@ -35,4 +35,5 @@ mod Joining
 mod Parting
 mod Shortened
 mod InLine
+mod Counted
 mod Unlisted

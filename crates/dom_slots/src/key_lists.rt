@@ -44,10 +44,7 @@ impl KeyLists {
         if self.rows.len() <= key.index() {
             return false;
         }
-        let list = &mut self.rows[key.index()];
-        let stood = list.contains(&node);
-        remove_from(list, node);
-        stood
+        remove_from(&mut self.rows[key.index()], node)
     }
 
     /// Puts a node into the list of another one, just before one of its nodes or last. Where memory is refused, each list is as
@@ -103,11 +100,14 @@ impl KeyLists {
     }
 }
 
-/// Takes a node out of a list.
-fn remove_from(list: &mut Vec<Key>, node: Key)
-    ensures { list.new.items ≡ without node list.old.items }
+/// Takes a node out of a list, and tells whether it stood there. The list is gone through once.
+fn remove_from(list: &mut Vec<Key>, node: Key) -> bool
+    ensures stood { result ≡ is_in nat_eq node list.old.items }
+    ensures list { list.new.items ≡ without node list.old.items }
 {
+    let length = list.len();
     list.retain(|other| *other != node);
+    list.len() < length
 }
 
 /// The place just before a node of a list, or behind all.
