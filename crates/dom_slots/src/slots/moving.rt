@@ -9,10 +9,10 @@ ghost use Rattle.dom_slots.specs.Hosts.{HostsAreNodes, host_named};
 ghost use Rattle.dom_slots.specs.Insides.{own_slots};
 ghost use Rattle.dom_slots.specs.Renewals.{AreRenewed, IsButFor, names_but};
 ghost use Rattle.dom_slots.specs.Shadows.{shadows, slot_at, assigned_at};
-ghost use Rattle.dom_slots.specs.Steps.{StepHasNodes};
+ghost use Rattle.dom_slots.specs.Steps.{step_node, is_move};
 ghost use Rattle.dom_slots.specs.Tables.{SlotTable, list_of};
+ghost use Rattle.dom_slots.specs.declared.step.Step.{Step};
 
-use super::Begun;
 use crate::Slots;
 use crate::changes::add_once;
 use crate::find::next_looking_for;
@@ -21,36 +21,37 @@ use node_arena::Key;
 use std::alloc::AllocError;
 
 impl Slots {
-    /// Renews the lists of the old and of the new slot of a step's node, where all other nodes in the lists of slots stay, and
-    /// gives those of the two whose lists were others, in a list that is empty before. Where the two are one and the node is not
-    /// moved, no list is looked at.
+    /// Renews the lists of the slot that a step's node had and of the one that it has now, where all other nodes in the lists of
+    /// slots stay, and gives those of the two whose lists were others, in a list that is empty before. Where the two are one and
+    /// the node is not moved, no list is looked at.
     pub(super) fn moved_signals(
         &mut self,
         forest: &Forest,
-        begun: Begun,
+        node: Key,
+        moves: bool,
+        was: Option<Key>,
         mut signals: Vec<Key>,
     ) -> Result<Vec<Key>, AllocError>
         requires hosts { HostsAreNodes forest.now.names self.old.hosts }
-        requires nodes { StepHasNodes forest.now.names begun.step }
-        requires slot { ForSome begun.slot (IsNode forest.now) }
+        requires node { IsNode forest.now node }
+        requires slot { ForSome was (IsNode forest.now) }
         requires signals { signals.items ≡ [] }
         ensures hosts { IfOk result (λ keys. self.new.hosts ≡ self.old.hosts) }
         ensures begun { IfOk result (λ keys. self.new.begun ≡ self.old.begun) }
-        ensures renewed { (p : Name → Truth) → IsButFor forest.now self.old.hosts self.old.table begun.slot begun.step →
-            AreRenewed forest.now self.old.hosts p self.old.table [] [] self.old.table [] →
-            IfOk result (λ keys. AreRenewed forest.now self.old.hosts p self.old.table (own_slots forest.now self.old.hosts begun.slot begun.step)
-            (filter p (own_slots forest.now self.old.hosts begun.slot begun.step)) self.new.table keys.items) }
+        ensures renewed { (p : Name → Truth) (step : Step) → step_node step ≡ node → is_move step ≡ moves →
+            IsButFor forest.now self.old.hosts self.old.table was step → AreRenewed forest.now self.old.hosts p self.old.table [] [] self.old.table [] →
+            IfOk result (λ keys. AreRenewed forest.now self.old.hosts p self.old.table (own_slots forest.now self.old.hosts was step)
+            (filter p (own_slots forest.now self.old.hosts was step)) self.new.table keys.items) }
     {
         forest.law_nodes_stand_once();
-        let node = begun.step.node();
         let slot = self.slot_now(forest, node);
-        if slot == begun.slot {
-            if begun.step.is_move() {
-                return self.own_signals(forest, begun);
+        if slot == was {
+            if moves {
+                return self.own_signals(forest, node, was);
             }
             return Ok(signals);
         }
-        self.leave(forest, begun.slot, node, &mut signals)?;
+        self.leave(forest, was, node, &mut signals)?;
         self.join(forest, slot, node, &mut signals)?;
         Ok(signals)
     }

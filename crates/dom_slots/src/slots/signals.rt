@@ -9,8 +9,9 @@ ghost use Rattle.dom_slots.specs.Insides.{own_slots};
 ghost use Rattle.dom_slots.specs.Kept.{BegunStep, AreSlotsOf, IsBegun, IsEndOf};
 ghost use Rattle.dom_slots.specs.Renewals.{AreRenewed};
 ghost use Rattle.dom_slots.specs.Shadows.{shadows, shadow_trees};
-ghost use Rattle.dom_slots.specs.Steps.{StepHasNodes, step_signals};
+ghost use Rattle.dom_slots.specs.Steps.{StepHasNodes, step_node, step_signals};
 ghost use Rattle.dom_slots.specs.Tables.{SlotTable};
+ghost use Rattle.dom_slots.specs.declared.step.Step.{Step as StepOf};
 
 use super::Begun;
 use crate::Slots;
@@ -73,7 +74,8 @@ impl Slots {
             Some(begun) if self.is_apart(forest, begun.step, begun.left) => {
                 let mut signals = mem::replace(&mut self.spare, Vec::new(self.alloc));
                 signals.clear();
-                self.moved_signals(forest, begun, signals)
+                let node = begun.step.node();
+                self.moved_signals(forest, node, begun.step.is_move(), begun.slot, signals)
             }
             Some(begun) => self.inside_signals(forest, begun),
             None => Ok(Vec::new(self.alloc)),
@@ -88,25 +90,27 @@ impl Slots {
         self.spare = signals;
     }
 
-    /// Renews the lists of the old and of the new slot of a step's node, and gives those of the two whose lists were others.
+    /// Renews the lists of the slot that a step's node had and of the one that it has now, and gives those of the two whose lists were others.
     pub(super) fn own_signals(
         &mut self,
         forest: &Forest,
-        begun: Begun,
+        node: Key,
+        was: Option<Key>,
     ) -> Result<Vec<Key>, AllocError>
         requires hosts { HostsAreNodes forest.now.names self.old.hosts }
-        requires nodes { StepHasNodes forest.now.names begun.step }
-        requires slot { ForSome begun.slot (IsNode forest.now) }
+        requires node { IsNode forest.now node }
+        requires slot { ForSome was (IsNode forest.now) }
         ensures hosts { IfOk result (λ keys. self.new.hosts ≡ self.old.hosts) }
         ensures begun { IfOk result (λ keys. self.new.begun ≡ self.old.begun) }
-        ensures renewed { (p : Name → Truth) (old : SlotTable) → AreRenewed forest.now self.old.hosts p old [] [] self.old.table [] →
-            IfOk result (λ keys. AreRenewed forest.now self.old.hosts p old (own_slots forest.now self.old.hosts begun.slot begun.step)
-            (filter p (own_slots forest.now self.old.hosts begun.slot begun.step)) self.new.table keys.items) }
+        ensures renewed { (p : Name → Truth) (old : SlotTable) (step : StepOf) → step_node step ≡ node →
+            AreRenewed forest.now self.old.hosts p old [] [] self.old.table [] →
+            IfOk result (λ keys. AreRenewed forest.now self.old.hosts p old (own_slots forest.now self.old.hosts was step)
+            (filter p (own_slots forest.now self.old.hosts was step)) self.new.table keys.items) }
     {
         forest.law_nodes_stand_once();
-        let slot = self.slot_now(forest, begun.step.node());
+        let slot = self.slot_now(forest, node);
         let mut signals = Vec::new(self.alloc);
-        self.renew(forest, begun.slot.as_slice(), &mut signals)?;
+        self.renew(forest, was.as_slice(), &mut signals)?;
         self.renew(forest, slot.as_slice(), &mut signals)?;
         Ok(signals)
     }

@@ -124,7 +124,8 @@ module _ (c : After-moved_signals) where
         let seen : IsSeen (hosts_in c.self.inside.hosts.items) c.self.inside.table (begun_in c.in-Some.begun) s b =
         record { hosts_are = hosts_are; table_is = ap (λ (t : SlotsNow). t.table) c.self.view_is; same = same } in
         held was f s b h stands result new (Own was f s b h stands result new) (ButFor was f s b h stands result new) seen
-        (c.moved_signals.ensures.renewed (is_changed_at (shadow_trees f.names was s.hosts) (shadows f s.hosts)))
+        (c.moved_signals.ensures.renewed (is_changed_at (shadow_trees f.names was s.hosts) (shadows f s.hosts)) c.in-Some.begun.step
+        (sym c.node-node.ensures) (sym c.is_move.ensures))
         (apart-but-for was f s b h stands apart c.law_nodes_stand_once.ensures.distinct)
 
 pub returns-in-Some-clause-value : goal.returns-in-Some-clause-value

@@ -1,4 +1,4 @@
-use Rattle.std.proofs.Common.{◌≡◌, ℕ, ◌++◌, [], Some, map, filter, sym, ap, subst, ◌∙◌}
+use Rattle.std.proofs.Common.{◌≡◌, ℕ, ◌<◌, ◌++◌, [], Some, length, map, filter, sym, ap, subst, ◌∙◌}
 use Rattle.std.specs.Prelude.{option_to_list}
 use Rattle.std.specs.Option.{option_map}
 use Rattle.dom_base.specs.declared.NodeName.{NodeName}
@@ -9,39 +9,36 @@ use Rattle.dom_slots.specs.Renewals.{AreRenewed, names_but}
 use Rattle.dom_slots.specs.Shadows.{shadows, slot_at, assigned_at}
 use Rattle.dom_slots.specs.Steps.{step_node}
 use Rattle.dom_slots.specs.Tables.{list_of}
-use Rattle.dom_slots.proofs.Ended.{node-within}
 use Rattle.dom_slots.proofs.Joining.{same-option}
 use Rattle.dom_slots.proofs.Parting.{leaves-right, joins-right, both-slots, both-stay}
 use Rattle.dom_slots.proofs.slots.Slots.moved_signals.Goals as goal
 
 pub returns-then-eq-clause-renewed : goal.returns-then-eq-clause-renewed
 returns-then-eq-clause-renewed c =
-    λ p but start.
+    λ p step is moves but start.
     let f = c.args.forest.now in
     let s = c.args.self.now in
-    let step = c.args.begun.step in
-    let slot = c.args.begun.slot in
-    let own = c.slot_now-slot.ensures.value ∙ ap (λ k. slot_at (shadows f s.hosts) (name_at f.names k)) c.node-node.ensures in
+    let slot = c.args.was in
+    let own = c.slot_now-slot.ensures.value ∙ ap (λ k. slot_at (shadows f s.hosts) (name_at f.names k)) (sym is) in
     let same : c.slot_now-slot.result ≡ slot = same-option c.slot_now-slot.result slot (sym c.eq.ensures ∙ c.if-eq.true) in
-    let still = sym c.is_move.ensures ∙ c.if-is_move.false in
+    let still = moves ∙ c.if-moves.false in
     subst (λ keys. AreRenewed f s.hosts p s.table (own_slots f s.hosts slot step) (filter p (own_slots f s.hosts slot step)) s.table keys)
     (sym c.requires.signals)
-    (both-stay f c.law_nodes_stand_once.ensures.distinct s.hosts step (node-within f.names step c.requires.nodes) slot c.slot_now-slot.result
+    (both-stay f c.law_nodes_stand_once.ensures.distinct s.hosts step (subst (λ k. k < length f.names) (sym is) c.requires.node) slot c.slot_now-slot.result
     c.slot_now-slot.ensures.node own c.requires.slot p s.table
     (but.stays still (ap (option_map (name_at f.names)) (sym same) ∙ own)) start)
 
 pub returns-clause-renewed : goal.returns-clause-renewed
 returns-clause-renewed c =
-    λ p but start.
+    λ p step is moves but start.
     let f = c.args.forest.now in
     let distinct = c.law_nodes_stand_once.ensures.distinct in
     let s = c.args.self.now in
-    let step = c.args.begun.step in
-    let slot = c.args.begun.slot in
+    let slot = c.args.was in
     let new = c.slot_now-slot.result in
     let name : ℕ → NodeName = name_at f.names in
-    let node = node-within f.names step c.requires.nodes in
-    let node_is : c.node-node.result ≡ step_node step = c.node-node.ensures in
+    let node = subst (λ k. k < length f.names) (sym is) c.requires.node in
+    let node_is : c.args.node ≡ step_node step = (sym is) in
     let own = c.slot_now-slot.ensures.value ∙ ap (λ k. slot_at (shadows f s.hosts) (name k)) node_is in
     let apart = sym c.eq.ensures ∙ c.if-eq.false in
     let mine = option_to_list (option_map name slot) in
@@ -54,11 +51,11 @@ returns-clause-renewed c =
     (λ k was. ap (λ n. map name (without n (list_of s.table k))) node_is ∙ leaves-right f distinct s.hosts step node slot new
     c.slot_now-slot.ensures.node own s.table but start.nodes apart c.requires.slot k was)
     (subst (AreRenewed f s.hosts p s.table [] [] s.table) (sym c.requires.signals) start) in
-    let right : (k : ℕ) → new ≡ Some k → map name (list_of left k) ≡ names_but (name c.node-node.result) (assigned_at (shadows f hs) (name k)) =
+    let right : (k : ℕ) → new ≡ Some k → map name (list_of left k) ≡ names_but (name c.args.node) (assigned_at (shadows f hs) (name k)) =
     λ k now.
     joins-right f distinct s.hosts step node slot new c.slot_now-slot.ensures.node own s.table but start.nodes apart c.requires.slot first k now
     ∙ (ap (λ n. names_but (name n) (assigned_at (shadows f s.hosts) (name k))) (sym node_is) ∙
-    ap (λ hosts. names_but (name c.node-node.result) (assigned_at (shadows f hosts) (name k))) (sym same)) in
+    ap (λ hosts. names_but (name c.args.node) (assigned_at (shadows f hosts) (name k))) (sym same)) in
     let second = c.in_ok-join.ensures.renewed p s.table mine (filter p mine) right
     (subst (λ hosts. AreRenewed f hosts p s.table mine (filter p mine) left c.leave.new.signals.items) (sym same) first) in
     both-slots f distinct s.hosts step node slot new c.slot_now-slot.ensures.node own p s.table c.join.new.self.table c.join.new.signals.items

@@ -12,7 +12,7 @@ use Rattle.dom_slots.proofs.slots.Slots.own_signals.Goals as goal
 
 pub returns-clause-renewed : goal.returns-clause-renewed
 returns-clause-renewed c =
-    λ p old r.
+    λ p old step is r.
     let f = c.args.forest.now in
     let hosts = c.args.self.now.hosts in
     let name : ℕ → NodeName = name_at f.names in
@@ -29,9 +29,9 @@ returns-clause-renewed c =
     let both : AreRenewed f hosts p old (a ++ b) (filter p (a ++ b)) table keys =
     subst (λ hs. AreRenewed f hs p old (a ++ b) (filter p (a ++ b)) table keys) c.in_ok-renew.ensures.hosts
     (subst (λ xs. AreRenewed f c.renew.new.self.hosts p old (a ++ b) xs table keys) (sym (filter-append p a b)) second) in
-    let own : a ++ b ≡ option_to_list (option_map name c.args.begun.slot) ++ option_to_list (slot_at (shadows f hosts) (name (step_node c.args.begun.step))) =
-    ap (λ xs. xs ++ b) (ap (map name) (listed c.args.begun.slot c.as_slice.result.now c.as_slice.ensures) ∙ listed-named f.names c.args.begun.slot)
-    ∙ ap (λ xs. option_to_list (option_map name c.args.begun.slot) ++ xs)
+    let own : a ++ b ≡ option_to_list (option_map name c.args.was) ++ option_to_list (slot_at (shadows f hosts) (name (step_node step))) =
+    ap (λ xs. xs ++ b) (ap (map name) (listed c.args.was c.as_slice.result.now c.as_slice.ensures) ∙ listed-named f.names c.args.was)
+    ∙ ap (λ xs. option_to_list (option_map name c.args.was) ++ xs)
     (ap (map name) (listed c.slot_now-slot.result c.as_slice-2.result.now c.as_slice-2.ensures) ∙ (listed-named f.names c.slot_now-slot.result
-    ∙ (ap option_to_list c.slot_now-slot.ensures.value ∙ ap (λ k. option_to_list (slot_at (shadows f hosts) (name k))) c.node.ensures))) in
+    ∙ (ap option_to_list c.slot_now-slot.ensures.value ∙ ap (λ k. option_to_list (slot_at (shadows f hosts) (name k))) (sym is)))) in
     subst (λ xs. AreRenewed f hosts p old xs (filter p xs) table keys) own both

@@ -19,7 +19,7 @@ returns-clause-renewed c =
     let keys = c.in_ok-signals.signals.items in
     let same : c.own_signals.new.self.hosts ≡ hosts = c.in_ok-signals.ensures.hosts in
     let own : AreRenewed f hosts p old (own_slots f hosts slot step) (filter p (own_slots f hosts slot step)) table keys =
-    c.in_ok-signals.ensures.renewed p old r in
+    c.in_ok-signals.ensures.renewed p old step (sym c.node.ensures) r in
     elim c.match-around.branch [
       | in-Some+in_ok-add_bare+in_ok-renew_moved w ↦
           let a = w.in-Some.around in
