@@ -1,7 +1,7 @@
 //! The slots of each node.
 ghost use Rattle.std.specs.Prelude.{◌≡◌, ℕ, ◌<◌, [], length, nat_eq, slice_get, slice_index_or, None, if◌then◌else◌, OnOk};
 ghost use Rattle.node_arena.specs.Nodes.{insert_before, without};
-ghost use Rattle.dom_slots.specs.NodeSlots.{slots_at};
+ghost use Rattle.dom_slots.specs.NodeSlots.{slots_in};
 
 use crate::key_lists::KeyLists;
 use node_arena::Key;
@@ -29,7 +29,7 @@ impl NodeSlots {
 
     /// The first slot of a node, if it has one.
     pub(crate) fn one(&self, node: Key) -> Option<Key>
-        ensures { result ≡ slice_get (slots_at self.now.first.items self.now.rest.rows.items node) 0 }
+        ensures { result ≡ slice_get (slots_in self.now node) 0 }
     {
         match self.first.get(node.index()) {
             Some(slot) if *slot != Key::default() => Some(*slot),
@@ -39,9 +39,9 @@ impl NodeSlots {
 
     /// Takes a slot from a node.
     pub(crate) fn take_out(&mut self, node: Key, slot: Key)
-        ensures { (k : ℕ) → slots_at self.new.first.items self.new.rest.rows.items k ≡
-            (if nat_eq node k then without slot (slots_at self.old.first.items self.old.rest.rows.items k)
-            else slots_at self.old.first.items self.old.rest.rows.items k) }
+        ensures { (k : ℕ) → slots_in self.new k ≡
+            (if nat_eq node k then without slot (slots_in self.old k)
+            else slots_in self.old k) }
     {
         if self.first.get(node.index()).copied() == Some(slot) {
             self.first[node.index()] = Key::default();
@@ -51,9 +51,9 @@ impl NodeSlots {
 
     /// Gives a node one slot more.
     pub(crate) fn put(&mut self, alloc: Global, node: Key, slot: Key) -> Result<(), AllocError>
-        ensures { OnOk result ((k : ℕ) → slots_at self.new.first.items self.new.rest.rows.items k ≡
-            (if nat_eq node k then insert_before (slots_at self.old.first.items self.old.rest.rows.items k) slot None
-            else slots_at self.old.first.items self.old.rest.rows.items k)) }
+        ensures { OnOk result ((k : ℕ) → slots_in self.new k ≡
+            (if nat_eq node k then insert_before (slots_in self.old k) slot None
+            else slots_in self.old k)) }
     {
         if slot == Key::default() || self.one(node).is_some() {
             return self.rest.put(alloc, node, slot, None);

@@ -3,7 +3,7 @@ ghost use Rattle.std.specs.Prelude.{◌≡◌, ℕ, ◌&&◌, ◌||◌, [], true
 ghost use Rattle.std.specs.Option.{ForSome};
 ghost use Rattle.dom_model.specs.Names.{is_in, list_eq};
 ghost use Rattle.node_arena.specs.Nodes.{insert_before, without};
-ghost use Rattle.dom_slots.specs.NodeSlots.{slots_at};
+ghost use Rattle.dom_slots.specs.NodeSlots.{slots_in};
 ghost use Rattle.dom_slots.specs.Tables.{list_of};
 
 use crate::key_lists::KeyLists;
@@ -117,8 +117,8 @@ impl Table {
 
 /// Takes this slot from these nodes.
 fn forget(slots: &mut NodeSlots, nodes: &[Key], slot: Key)
-    ensures { (k s : ℕ) → is_in nat_eq s (slots_at slots.new.first.items slots.new.rest.rows.items k) ≡
-        (is_in nat_eq s (slots_at slots.old.first.items slots.old.rest.rows.items k) && not (nat_eq slot s && is_in nat_eq k nodes.now)) }
+    ensures { (k s : ℕ) → is_in nat_eq s (slots_in slots.new k) ≡
+        (is_in nat_eq s (slots_in slots.old k) && not (nat_eq slot s && is_in nat_eq k nodes.now)) }
 {
     for node in nodes {
         slots.take_out(*node, slot);
@@ -132,8 +132,8 @@ fn remember(
     nodes: &[Key],
     slot: Key,
 ) -> Result<(), AllocError>
-    ensures { OnOk result ((k s : ℕ) → is_in nat_eq s (slots_at slots.new.first.items slots.new.rest.rows.items k) ≡
-        (is_in nat_eq s (slots_at slots.old.first.items slots.old.rest.rows.items k) || (nat_eq slot s && is_in nat_eq k nodes.now))) }
+    ensures { OnOk result ((k s : ℕ) → is_in nat_eq s (slots_in slots.new k) ≡
+        (is_in nat_eq s (slots_in slots.old k) || (nat_eq slot s && is_in nat_eq k nodes.now))) }
 {
     for node in nodes {
         slots.put(alloc, *node, slot)?;

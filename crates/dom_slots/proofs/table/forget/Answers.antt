@@ -2,20 +2,20 @@ use Rattle.std.proofs.Common.{subst}
 use Rattle.std.specs.Prelude.{nat_eq}
 use Rattle.std.proofs.lemmas.List.{take_all}
 use Rattle.dom_model.specs.Names.{is_in}
-use Rattle.dom_slots.specs.NodeSlots.{slots_at}
+use Rattle.dom_slots.specs.NodeSlots.{slots_in}
 use Rattle.dom_slots.proofs.Mapping.{AreTaken, taken-more, none_taken}
 use Rattle.dom_slots.proofs.table.forget.Goals as goal
 
 pub loop-node-init : goal.loop-node-init
-loop-node-init c = λ k s. none_taken (is_in nat_eq s (slots_at c.args.slots.now.first.items c.args.slots.now.rest.rows.items k)) (nat_eq c.args.slot s)
+loop-node-init c = λ k s. none_taken (is_in nat_eq s (slots_in c.args.slots.now k)) (nat_eq c.args.slot s)
 
 pub loop-node-preserved : goal.loop-node-preserved
 loop-node-preserved c =
-    taken-more (λ k. slots_at c.args.slots.now.first.items c.args.slots.now.rest.rows.items k) c.args.slot c.args.nodes.now c.loop-node.node-index c.node-item.result
-    c.node-item.is c.loop-node-test.true (λ k. slots_at c.loop-node.slots.first.items c.loop-node.slots.rest.rows.items k)
-    (λ k. slots_at c.take_out.new.self.first.items c.take_out.new.self.rest.rows.items k) c.take_out.ensures c.loop-node.invariant
+    taken-more (slots_in c.args.slots.now) c.args.slot c.args.nodes.now c.loop-node.node-index c.node-item.result
+    c.node-item.is c.loop-node-test.true (slots_in c.loop-node.slots)
+    (slots_in c.take_out.new.self) c.take_out.ensures c.loop-node.invariant
 
 pub returns : goal.returns
 returns c =
-    subst (λ ks. AreTaken (λ k. slots_at c.args.slots.now.first.items c.args.slots.now.rest.rows.items k) c.args.slot ks (λ k. slots_at c.loop-node.slots.first.items c.loop-node.slots.rest.rows.items k))
+    subst (λ ks. AreTaken (slots_in c.args.slots.now) c.args.slot ks (slots_in c.loop-node.slots))
     (take_all c.loop-node.node-index c.args.nodes.now c.loop-node-test.false) c.loop-node.invariant

@@ -1,7 +1,7 @@
 use Rattle.std.proofs.Common.{take}
-use Rattle.dom_slots.specs.NodeSlots.{slots_at}
+use Rattle.dom_slots.specs.NodeSlots.{slots_in}
 use Rattle.dom_slots.proofs.Mapping.{AreTaken}
 use Rattle.dom_slots.proofs.table.forget.Given as goal
 
 abbrev pub invariant-loop-node : goal.invariant-loop-node
-invariant-loop-node l = AreTaken (λ k. slots_at l.fn.slots.first.items l.fn.slots.rest.rows.items k) l.slot (take l.node-index l.nodes) (λ k. slots_at l.slots.first.items l.slots.rest.rows.items k)
+invariant-loop-node l = AreTaken (slots_in l.fn.slots) l.slot (take l.node-index l.nodes) (slots_in l.slots)

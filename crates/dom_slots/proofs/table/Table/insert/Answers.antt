@@ -1,7 +1,7 @@
 use Rattle.std.proofs.Common.{sym, ap, subst, ◌∙◌}
 use Rattle.std.specs.Prelude.{nat_eq, if◌then◌else◌}
 use Rattle.dom_slots.specs.KeyMaps.{list_at}
-use Rattle.dom_slots.specs.NodeSlots.{slots_at}
+use Rattle.dom_slots.specs.NodeSlots.{slots_in}
 use Rattle.dom_slots.specs.Tables.{SlotTable, list_of}
 use Rattle.dom_slots.proofs.Mapping.{AreTaken, AreGiven, IsRelisted, agree-inserted}
 use Rattle.dom_slots.proofs.Tables.{changed-found, when-ok}
@@ -10,13 +10,13 @@ use Rattle.dom_slots.proofs.table.Table.insert.Goals as goal
 pub invariant_of-self-else-is_err-2 : goal.invariant_of-self-else-is_err-2
 invariant_of-self-else-is_err-2 c =
     let step : IsRelisted c.args.slot c.args.list.items (list_at c.self.inside.lists.rows.items) (list_at c.set.new.self.rows.items)
-    (slots_at c.self.inside.slots.first.items c.self.inside.slots.rest.rows.items) (slots_at c.remember.new.slots.first.items c.remember.new.slots.rest.rows.items) =
+    (slots_in c.self.inside.slots) (slots_in c.remember.new.slots) =
     (record {
-      mid = slots_at c.forget.new.slots.first.items c.forget.new.slots.rest.rows.items;
+      mid = slots_in c.forget.new.slots;
       by_slot = when-ok c.set.result _ (sym c.is_err-2.ensures.value ∙ c.if-is_err-2.false) c.set.ensures.ok;
-      taken = subst (λ xs. AreTaken (slots_at c.self.inside.slots.first.items c.self.inside.slots.rest.rows.items) c.args.slot xs (slots_at c.forget.new.slots.first.items c.forget.new.slots.rest.rows.items)) c.of.ensures
+      taken = subst (λ xs. AreTaken (slots_in c.self.inside.slots) c.args.slot xs (slots_in c.forget.new.slots)) c.of.ensures
           c.forget.ensures;
-      given = subst (λ xs. AreGiven (slots_at c.forget.new.slots.first.items c.forget.new.slots.rest.rows.items) c.args.slot xs (slots_at c.remember.new.slots.first.items c.remember.new.slots.rest.rows.items)) c.deref.ensures.value
+      given = subst (λ xs. AreGiven (slots_in c.forget.new.slots) c.args.slot xs (slots_in c.remember.new.slots)) c.deref.ensures.value
           (when-ok c.remember.result _ (sym c.is_err.ensures.value ∙ c.if-is_err.false) c.remember.ensures);
     }) in
     agree-inserted step c.self.invariant

@@ -3,7 +3,7 @@ use Rattle.std.specs.Prelude.{nat_eq, if◌then◌else◌}
 use Rattle.dom_model.specs.Names.{is_in}
 use Rattle.node_arena.specs.Nodes.{insert_before}
 use Rattle.dom_slots.specs.KeyMaps.{list_at}
-use Rattle.dom_slots.specs.NodeSlots.{slots_at}
+use Rattle.dom_slots.specs.NodeSlots.{slots_in}
 use Rattle.dom_slots.specs.Tables.{SlotTable, list_of}
 use Rattle.dom_slots.proofs.Mapping.{agree-put}
 use Rattle.dom_slots.proofs.Tables.{changed-found, when-ok}
@@ -15,7 +15,7 @@ invariant_of-self c = λ k s. c.self.invariant k s ∙ ap (is_in nat_eq k) (sym 
 pub invariant_of-self-else-is_err : goal.invariant_of-self-else-is_err
 invariant_of-self-else-is_err c =
     agree-put c.args.slot c.args.node (list_at c.self.inside.lists.rows.items) (list_at c.put.new.self.rows.items)
-    (slots_at c.self.inside.slots.first.items c.self.inside.slots.rest.rows.items) (slots_at c.put-2.new.self.first.items c.put-2.new.self.rest.rows.items) c.self.invariant c.args.before c.in_ok-put.ensures.ok
+    (slots_in c.self.inside.slots) (slots_in c.put-2.new.self) c.self.invariant c.args.before c.in_ok-put.ensures.ok
     (when-ok c.put-2.result _ (sym c.is_err.ensures.value ∙ c.if-is_err.false) c.put-2.ensures)
 
 pub returns : goal.returns

@@ -3,7 +3,7 @@ use Rattle.std.specs.Prelude.{nat_eq, if◌then◌else◌}
 use Rattle.dom_model.specs.Names.{is_in}
 use Rattle.node_arena.specs.Nodes.{without}
 use Rattle.dom_slots.specs.KeyMaps.{list_at}
-use Rattle.dom_slots.specs.NodeSlots.{slots_at}
+use Rattle.dom_slots.specs.NodeSlots.{slots_in}
 use Rattle.dom_slots.specs.Tables.{SlotTable, list_of}
 use Rattle.dom_slots.proofs.Mapping.{agree-taken_out}
 use Rattle.dom_slots.proofs.Tables.{list-found, changed-found}
@@ -12,7 +12,7 @@ use Rattle.dom_slots.proofs.table.Table.take_out.Goals as goal
 pub invariant_of-self : goal.invariant_of-self
 invariant_of-self c =
     agree-taken_out c.args.slot c.args.node (list_at c.self.inside.lists.rows.items) (list_at c.take_out-2.new.self.rows.items)
-    (slots_at c.self.inside.slots.first.items c.self.inside.slots.rest.rows.items) (slots_at c.take_out.new.self.first.items c.take_out.new.self.rest.rows.items)
+    (slots_in c.self.inside.slots) (slots_in c.take_out.new.self)
     c.self.invariant c.take_out-2.ensures.lists c.take_out.ensures
 
 pub returns-clause-stood : goal.returns-clause-stood
