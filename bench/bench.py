@@ -7,11 +7,14 @@ Each kind of script is made twice, the second one four times as long. For each i
 the program takes (the best of three runs), microseconds per line, and how many times as long as `wc -l` that is. Where the
 microseconds per line of the longer script are more than twice those of the shorter one, the kind is marked 'grows'.
 Then come the kinds with hosts and one with ranges, each at two sizes a factor of eight apart: the number of hosts, of one host's
-children, or of ranges. There the lines that make the page are timed alone too, and the microseconds are those of the lines behind them.
+children, or of ranges. There the lines that make the page are timed alone too, and the microseconds are those of the lines behind them. So
+are the instructions that these take, which `valgrind` counts where it is installed: no other work disturbs that. Behind each kind stands how
+many times as much a line takes at the larger size, and at last how many times as much among the most hosts as without any.
 Then comes the memory that an element takes, and at last short lines are answered one by one through a pipe and through the Python binding.
 Nothing here is part of the gate.
 """
 import os
+import shutil
 import subprocess
 import sys
 import tempfile
@@ -19,6 +22,7 @@ import time
 
 sys.dont_write_bytecode = True
 import kinds  # noqa: E402
+from apart import instructions_of  # noqa: E402
 from clock import peak_of, processor_seconds_of  # noqa: E402
 
 PROGRAM = os.path.join(os.path.dirname(os.path.abspath(__file__)), "..", "crates", "domrun", "out", "domrun")
@@ -37,15 +41,40 @@ def timed(program, kind, count, folder):
 
 
 def timed_behind(program, kind, size, folder):
-    """Makes a script with its first lines and one without the others, and gives those others and their microseconds per line."""
+    """Makes a script with its first lines and one without the others, and gives those others, their microseconds per line and, where
+    they can be counted, their instructions per line."""
     first, others = (list(lines) for lines in kind(size))
-    taken = []
+    taken, counted = [], []
     for lines in (first, first + others):
         path = os.path.join(folder, f"{kind.__name__}-{size}-{len(lines)}.txt")
         with open(path, "w", encoding="ascii") as script:
             script.write("\n".join(lines) + "\n")
         taken.append(processor_seconds_of([program, path]))
-    return len(others), taken[0], (taken[1] - taken[0]) / len(others) * 1e6
+        if shutil.which("valgrind"):
+            counted.append(instructions_of(program, lines)[0])
+    instructions = (counted[1] - counted[0]) / len(others) if counted else None
+    return len(others), taken[0], (taken[1] - taken[0]) / len(others) * 1e6, instructions
+
+
+def times_as_much(more, less):
+    """How many times as much time, and as many instructions, two pairs of figures are."""
+    counted = f"{more[1] / less[1]:.2f} times the instructions, " if more[1] and less[1] else ""
+    return f"{counted}{more[0] / less[0]:.2f} times the microseconds"
+
+
+def sized(program, folder):
+    """Times and counts the kinds that have a size, and prints how that grows."""
+    print(f"{'kind':<18}{'size':>6}{'lines':>9}{'made in':>10}{'us/line':>10}{'instructions':>14}")
+    at_most = {}
+    for kind, sizes in kinds.SIZED:
+        figures = []
+        for size in sizes:
+            lines, made, micros, counted = timed_behind(program, kind, size, folder)
+            figures.append((micros, counted))
+            print(f"{kind.__name__:<18}{size:>6}{lines:>9}{made:>10.3f}{micros:>10.2f}{f'{counted:,.0f}' if counted else '-':>14}")
+        at_most[kind] = figures[-1]
+        print(f"    a line at {sizes[1]} takes {times_as_much(figures[1], figures[0])} of one at {sizes[0]}")
+    print(f"    a line among hosts takes {times_as_much(at_most[kinds.slotted_hosts], at_most[kinds.plain_parents])} of one without")
 
 
 def memory(program, folder, count=900_000):
@@ -109,11 +138,7 @@ def main():
                 mark = "  grows" if len(per_line) == 2 and per_line[1] > 2 * per_line[0] else ""
                 print(f"{kind.__name__:<12}{lines:>9}{taken:>10.3f}{micros:>10.2f}{ratio:>10.1f}{mark}")
 
-        print(f"{'kind':<18}{'size':>6}{'lines':>9}{'made in':>10}{'us/line':>10}")
-        for kind, sizes in kinds.SIZED:
-            for size in sizes:
-                lines, made, micros = timed_behind(program, kind, size, folder)
-                print(f"{kind.__name__:<18}{size:>6}{lines:>9}{made:>10.3f}{micros:>10.2f}")
+        sized(program, folder)
         memory(program, folder)
     embedded(program)
 
