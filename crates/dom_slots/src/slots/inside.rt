@@ -61,10 +61,10 @@ impl Slots {
             AreRenewed forest.now self.old.hosts p self.old.table [] [] self.old.table [] →
             IfOk result (λ keys. IsInside forest.now self.old.hosts p self.old.table begun.step begun.left begun.slot self.new.table keys.items) }
     {
-        let step = begun.step;
+        let node = begun.step.node();
         let moves = begun.step.is_move();
         let empty = self.empty_list();
-        let mut signals = self.moved_signals(forest, step.node(), moves, begun.slot, empty)?;
+        let mut signals = self.moved_signals(forest, node, moves, begun.slot, empty)?;
         if let Some(around) = begun.step.around(begun.left) {
             self.add_bare(forest, begun.step, around, &mut signals)?;
         }
@@ -89,8 +89,7 @@ impl Slots {
         ensures renewed { (p : Name → Truth) (old : SlotTable) → AreRenewed forest.now self.old.hosts p old [] [] self.old.table [] →
             IfOk result (λ keys. IsInside forest.now self.old.hosts p old begun.step begun.left begun.slot self.new.table keys.items) }
     {
-        let moved_step = begun.step;
-        let mut signals = self.own_signals(forest, moved_step.node(), begun.slot)?;
+        let mut signals = self.own_signals(forest, begun.step.node(), begun.slot)?;
         if let Some(around) = begun.step.around(begun.left) {
             let step = begun.step;
             self.add_bare(forest, step, around, &mut signals)?;

@@ -90,7 +90,8 @@ impl Slots {
         self.spare = signals;
     }
 
-    /// Renews the lists of the slot that a step's node had and of the one that it has now, and gives those of the two whose lists were others.
+    /// Renews the lists of the slot that a step's node had and of the one that it has now, and gives those of the two whose lists
+    /// were others.
     pub(super) fn own_signals(
         &mut self,
         forest: &Forest,

@@ -19,7 +19,7 @@ returns-clause-renewed c =
     let keys = c.in_ok-signals.signals.items in
     let same = c.in_ok-signals.ensures.hosts in
     let own : AreRenewed f hosts p s.table (own_slots f hosts slot step) (filter p (own_slots f hosts slot step)) table keys =
-    c.in_ok-signals.ensures.renewed p step (sym c.node.ensures) (sym c.is_move-moves.ensures) but start in
+    c.in_ok-signals.ensures.renewed p step (sym c.node-node.ensures) (sym c.is_move-moves.ensures) but start in
     elim c.match-around.branch [
       | in-Some+in_ok-add_bare w ↦
           let a = w.in-Some.around in
