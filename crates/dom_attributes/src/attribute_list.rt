@@ -149,7 +149,7 @@ impl Model for AttributeList {
 }
 
 impl AttributeList {
-    /// The attributes of a map. Where there are some they get a box.
+    /// The attributes of a map. Where there are some they get a box, and where memory is refused for it there is no list.
     pub fn of(alloc: Global, attributes: IndexMap<String, DomStr>) -> Result<Self, AllocError>
         ensures { IfOk result (λ list. list ≡ attributes_from attributes.entries) }
     {

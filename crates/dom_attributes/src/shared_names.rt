@@ -25,7 +25,8 @@ impl SharedNames {
         }
     }
 
-    /// A name, as it is kept where it is.
+    /// A name, as it is kept where it is; that it is then the same block no clause says. It is refused only where memory is, and the
+    /// names that are kept stay.
     pub fn name(&mut self, name: &str) -> Result<RcStr, AllocError>
         ensures { IfOk result (λ shared. rc_str_bytes shared ≡ name.now) }
     {
