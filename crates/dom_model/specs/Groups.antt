@@ -1,10 +1,11 @@
--- Groups of owners: the page with whole families of components. What a group has of a world and of a run, and the run of a trace
+-- Groups of owners: the page, and with each component its maker. What a group has of a world and of a run, and the run of a trace
 -- in which all others are silent. All own rules.
-use Rattle.std.specs.Prelude.{◌≡◌, ◌≢◌, ℕ, Bool, true, not, ◌&&◌, ◌||◌, List, filter, get_or, Option, Some, None}
+use Rattle.std.specs.Prelude.{◌≡◌, ℕ, zero, suc, Bool, true, not, ◌&&◌, ◌||◌, List, [], ◌∷◌, filter, flat_map, get_or, Option, Some, None, option_to_list}
+use Rattle.std.specs.List.{list_any}
 use Rattle.dom_base.specs.declared.Owner.{Owner}
 use Rattle.dom_base.specs.declared.Owner.TheVariants.{Page, Component}
-use Rattle.dom_base.specs.Owners.{longer_path, no_path}
-use Rattle.dom_model.specs.Names.{owner_eq}
+use Rattle.dom_base.specs.Owners.{longer_path, no_path, made_by}
+use Rattle.dom_model.specs.Names.{owner_eq, owner_depth}
 use Rattle.dom_model.specs.Command.{Line, EventWords}
 use Rattle.dom_model.specs.Output.{Output}
 use Rattle.dom_model.specs.Runs.{Run}
@@ -28,10 +29,27 @@ is_in_family root o = owner_eq root (top_owner o)
 abbrev pub family_group : Owner → Owner → Bool
 family_group root o = is_page o || is_in_family root o
 
--- A group has the page, and with each component all that it makes, and nobody else: whole families.
-pub record KeepsFamilies (group : Owner → Bool) : Type 0 where
+-- An owner, whoever made it, whoever made that one, and so on out to the page; there are no more than its depth says.
+abbrev pub makers_from : ℕ → Owner → List Owner
+makers_from zero o = o ∷ []
+makers_from (suc depth) o = o ∷ flat_map (λ ((maker, k) : Owner × ℕ). makers_from depth maker) (option_to_list (made_by o))
+
+-- whether an owner is a component, or is made inside it, at any depth
+abbrev pub is_inside : Owner → Owner → Bool
+is_inside c o = list_any (owner_eq c) (makers_from (owner_depth o) o)
+
+-- the page, a component, and its makers: the least group that has the component
+abbrev pub makers_group : Owner → Owner → Bool
+makers_group c o = is_page o || is_inside o c
+
+-- all but a component and what is made inside it: the greatest group that lacks the component
+abbrev pub group_without : Owner → Owner → Bool
+group_without c o = not (is_inside c o)
+
+-- A group has the page, and with each component whoever made it, and so its makers out to the page.
+pub record KeepsMakers (group : Owner → Bool) : Type 0 where
   pub page : group Page ≡ true
-  pub made : (o : Owner) (k : ℕ) → MayAttach o → o ≢ Page → group (component_made o k) ≡ group o
+  pub made : (o : Owner) (k : ℕ) → MayAttach o → group (component_made o k) ≡ true → group o ≡ true
 
 -- whether a task is of a group (own rule)
 abbrev pub is_task_of : (Owner → Bool) → Task → Bool
