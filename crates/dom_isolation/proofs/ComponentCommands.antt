@@ -1,5 +1,5 @@
 -- A command of a component, as the page sees it: nothing, or an outward event.
-use Rattle.std.proofs.Common.{◌≡◌, ℕ, Bool, true, false, not, ◌&&◌, ◌||◌, List, [], ◌∷◌, ◌++◌, zero, suc, length, unwrap_or, flat_map, filter, map}
+use Rattle.std.proofs.Common.{◌≡◌, ℕ, Bool, true, false, not, ◌&&◌, ◌||◌, List, [], ◌∷◌, ◌++◌, zero, suc, length, find, flat_map, filter, map}
 use Rattle.std.proofs.Common.{Option, Some, None, option_map, refl, sym, ap, ◌∙◌, true≢false, subst, append-nil}
 use Rattle.std.specs.Prelude.{is_some, is_none, if◌then◌else◌, option_to_list}
 use Rattle.std.proofs.lemmas.List.Elements.{filter-append}
@@ -10,7 +10,7 @@ use Rattle.dom_base.specs.declared.NodeName.{NodeName}
 use Rattle.dom_base.specs.declared.Kind.TheVariants.{Shadow}
 use Rattle.dom_base.specs.declared.Refusal.{Refusal}
 use Rattle.dom_base.specs.declared.Refusal.TheVariants.{TypeFault}
-use Rattle.dom_model.specs.Names.{ComponentName, name_eq, owner_depth, last_of}
+use Rattle.dom_model.specs.Names.{ComponentName, name_eq, owner_depth}
 use Rattle.dom_model.specs.Tree.{node_in, root_of}
 use Rattle.dom_model.specs.Command.{Command, NodeWord, EventWords}
 use Rattle.dom_model.specs.Output.{says, nothing, a_truth}
@@ -19,11 +19,11 @@ use Rattle.dom_model.specs.Runs.{quiet, run_then, answering, unless_refused}
 use Rattle.dom_model.specs.CommandRefusals.{part_refusal, related_refusal, has_other_root}
 use Rattle.dom_model.specs.CommandNames.{named}
 use Rattle.dom_model.specs.Effects.{Effect, tables, changes, effect}
-use Rattle.dom_model.specs.World.{World, hosts_from, host_above, is_in_shadow_tree, micro_task, part_of, with_part, component_made}
+use Rattle.dom_model.specs.World.{World, hosts_from, host_above, micro_task, part_of, with_part, component_made}
 use Rattle.dom_model.specs.Dispatch.{dispatch_in}
 use Rattle.dom_model.specs.Turns.{ending_turn, opening_turn, is_page_turn}
 use Rattle.dom_model.specs.DocumentMachine.{refusal, effect_in, attaching, part_with_root, perform, accepted, run_command}
-use Rattle.dom_model.specs.Trace.{outputs_for, is_page, outward_of, outward_dispatch, outward_command}
+use Rattle.dom_model.specs.Trace.{outputs_for, is_page, boundary_host, outward_of, outward_dispatch, outward_command}
 use Rattle.dom_model.specs.PageMachine.{PageState, page_of, is_page_task}
 use Rattle.dom_model.proofs.OwnerLaws.{component_made-no_page, name_eq-true}
 use Rattle.dom_model.proofs.PartLaws.{part_of-with_part-other, owner-part_of}
@@ -85,18 +85,18 @@ related-same_root w k x e (Some y) g =
       tt,
     )
 
--- the outward event of a dispatch is that of its words
-pub outward-same : (w : World) (k : ComponentName) (x : NodeWord) (e : EventWords) (r : Option NodeWord) →
-    outward_at w (named (part_of w (Component k)) x) e (option_map (named (part_of w (Component k))) r) ≡
-    outward_dispatch w (Component k) (Command.dispatch x e r)
-outward-same w k x e None = refl
-outward-same w k x e (Some y) = refl
+-- the outward event of a dispatch outside a group is that of its words
+pub outward-same : (group : Owner → Bool) (w : World) {o : Owner} → group o ≡ false → (x : NodeWord) (e : EventWords) (r : Option NodeWord) →
+    outward_at group w (named (part_of w o) x) e (option_map (named (part_of w o)) r) ≡ outward_dispatch group w o (Command.dispatch x e r)
+outward-same group w {o} out x e None =
+    sym (ap (λ b. if not b && e.composed then option_map (outward_of e) (boundary_host group w (named (part_of w o) x)) else None) out)
+outward-same group w out x e (Some y) = refl
 
 -- A dispatch.
 dispatched-component : {w : World} (k : ComponentName) → IsQuiet w → (x : NodeWord) (e : EventWords) (related : Option NodeWord) →
     part_refusal (part_of w (Component k)) (Command.dispatch x e related) ≡ None →
     page_run (perform w (Component k) (Command.dispatch x e related)) ≡ outward_run (page_of w)
-    (outward_dispatch w (Component k) (Command.dispatch x e related))
+    (outward_dispatch is_page w (Component k) (Command.dispatch x e related))
 dispatched-component {w} k q x e related h =
     let p = part_of w (Component k) in
     let o = owner-part_of w (Component k) in
@@ -106,8 +106,8 @@ dispatched-component {w} k q x e related h =
     let seen = dispatch-component q target (option_map (named p) related) e (λ z. Component-IsNoPage k (sym mine ∙ z))
     (related-same_root w k x e related h) in
     run_then-square d.run (answering (Component k) (a_truth d.answer)) quiet refl
-    ∙ ap (λ r. run_then r quiet) seen ∙ run_then-quiet_end (outward_run (page_of w) (outward_at w target e (option_map (named p) related)))
-    ∙ ap (outward_run (page_of w)) (outward-same w k x e related)
+    ∙ ap (λ r. run_then r quiet) seen ∙ run_then-quiet_end (outward_run (page_of w) (outward_at is_page w target e (option_map (named p) related)))
+    ∙ ap (outward_run (page_of w)) (outward-same is_page w refl x e related)
 
 -- any component's
 pub component_dispatch-agrees : ComponentDispatchAgrees
@@ -130,7 +130,8 @@ attaching-component w k x =
 
 -- Any accepted command.
 pub perform-component : (w : World) (k : ComponentName) → IsQuiet w → is_page_turn w.turn ≡ false → (c : Command) →
-    part_refusal (part_of w (Component k)) c ≡ None → page_run (perform w (Component k) c) ≡ outward_run (page_of w) (outward_dispatch w (Component k) c)
+    part_refusal (part_of w (Component k)) c ≡ None →
+    page_run (perform w (Component k) c) ≡ outward_run (page_of w) (outward_dispatch is_page w (Component k) c)
 perform-component w k q t (Command.attach a) r = attaching-component w k (named (part_of w (Component k)) a)
 perform-component w k q t (Command.connected a) r = refl
 perform-component w k q t (Command.assigned a) r = refl
@@ -153,49 +154,48 @@ hosts-in_turn w t (suc depth) x =
     ap (λ ys. x ∷ ys) (each-same (hosts_from depth (record w { turn = t })) (hosts_from depth w) (hosts-in_turn w t depth) (option_to_list (host_above w x)))
 
 -- nor an outward event
-pub opened-event : (w : World) (k : ComponentName) (c : Command) →
-    outward_dispatch (opening_turn w (Component k)) (Component k) c ≡ outward_dispatch w (Component k) c
-opened-event w k c =
-    by_cases (is_some w.turn) (λ e. ap (λ v. outward_dispatch v (Component k) c) (cond-true (is_some w.turn) w (record w { turn = Some (Component k) }) e))
-    (λ e. ap (λ v. outward_dispatch v (Component k) c) (cond-false (is_some w.turn) w (record w { turn = Some (Component k) }) e) ∙ in_turn c)
+pub opened-event : (group : Owner → Bool) (w : World) (o : Owner) (c : Command) → outward_dispatch group (opening_turn w o) o c ≡ outward_dispatch group w o c
+opened-event group w o c =
+    by_cases (is_some w.turn) (λ e. ap (λ v. outward_dispatch group v o c) (cond-true (is_some w.turn) w (record w { turn = Some o }) e))
+    (λ e. ap (λ v. outward_dispatch group v o c) (cond-false (is_some w.turn) w (record w { turn = Some o }) e) ∙ in_turn c)
   where
-    in_turn : (c : Command) → outward_dispatch (record w { turn = Some (Component k) }) (Component k) c ≡ outward_dispatch w (Component k) c
+    in_turn : (c : Command) → outward_dispatch group (record w { turn = Some o }) o c ≡ outward_dispatch group w o c
     in_turn (Command.dispatch a b None) =
-        let x = named (part_of w (Component k)) a in
-        ap (λ xs. if b.composed then option_map (outward_of b)
-        (if is_in_shadow_tree w x && is_page (unwrap_or (last_of xs) x).owner then Some (unwrap_or (last_of xs) x) else None) else None)
-        (hosts-in_turn w (Some (Component k)) (owner_depth x.owner) x)
+        let x = named (part_of w o) a in
+        ap (λ xs. if not (group o) && b.composed then option_map (outward_of b) (find (λ y. group y.owner) xs) else None)
+        (hosts-in_turn w (Some o) (owner_depth x.owner) x)
     in_turn c = refl
 
 -- with the turn that it opens
 opened : (w : World) (k : ComponentName) → IsQuiet w → is_page_turn w.turn ≡ false → (c : Command) → part_refusal (part_of w (Component k)) c ≡ None →
-    page_run (perform (opening_turn w (Component k)) (Component k) c) ≡ outward_run (page_of w) (outward_dispatch w (Component k) c)
+    page_run (perform (opening_turn w (Component k)) (Component k) c) ≡ outward_run (page_of w) (outward_dispatch is_page w (Component k) c)
 opened w k q t c r =
     perform-component (opening_turn w (Component k)) k (quiet-opening w q (Component k))
     (ap (λ (s : PageState). s.is_open) (opening-component w k t) ∙ t) c
     (ap (λ p. part_refusal p c) (part_of-opening w (Component k) (Component k)) ∙ r)
-    ∙ ap (λ s. outward_run s (outward_dispatch (opening_turn w (Component k)) (Component k) c)) (opening-component w k t)
-    ∙ ap (outward_run (page_of w)) (opened-event w k c)
+    ∙ ap (λ s. outward_run s (outward_dispatch is_page (opening_turn w (Component k)) (Component k) c)) (opening-component w k t)
+    ∙ ap (outward_run (page_of w)) (opened-event is_page w (Component k) c)
 
 -- `.` apart, which opens none
 accepted-component : (w : World) (k : ComponentName) → IsQuiet w → is_page_turn w.turn ≡ false → (c : Command) →
-    part_refusal (part_of w (Component k)) c ≡ None → page_run (accepted w (Component k) c) ≡ outward_run (page_of w) (outward_dispatch w (Component k) c)
+    part_refusal (part_of w (Component k)) c ≡ None →
+    page_run (accepted w (Component k) c) ≡ outward_run (page_of w) (outward_dispatch is_page w (Component k) c)
 accepted-component w k q t Command.end_turn r = perform-component w k q t Command.end_turn r
 accepted-component w k q t c r = opened w k q t c r
 
 -- refused or accepted
 pub command-component : (w : World) (k : ComponentName) → IsQuiet w → (c : Command) →
-    page_run (run_command (Component k) c w) ≡ outward_run (page_of w) (outward_command w (Component k) c)
+    page_run (run_command (Component k) c w) ≡ outward_run (page_of w) (outward_command is_page w (Component k) c)
 command-component w k q c = from (refusal w (Component k) c) refl
   where
     from : (r : Option Refusal) → refusal w (Component k) c ≡ r →
         page_run (unless_refused (Component k) (refusal w (Component k) c) w (accepted w (Component k) c)) ≡ outward_run (page_of w)
-        (if is_none (refusal w (Component k) c) then outward_dispatch w (Component k) c else None)
+        (if is_none (refusal w (Component k) c) then outward_dispatch is_page w (Component k) c else None)
     from (Some r) e =
         ap (λ o. page_run (unless_refused (Component k) o w (accepted w (Component k) c))) e ∙
-        sym (ap (λ o. outward_run (page_of w) (if is_none o then outward_dispatch w (Component k) c else None)) e)
+        sym (ap (λ o. outward_run (page_of w) (if is_none o then outward_dispatch is_page w (Component k) c else None)) e)
     from None e =
         let a = accepted-facts w (Component k) c e in
         ap (λ o. page_run (unless_refused (Component k) o w (accepted w (Component k) c))) e
         ∙ accepted-component w k q (and-true_false (is_page_turn w.turn) a.calm) c a.part
-        ∙ sym (ap (λ o. outward_run (page_of w) (if is_none o then outward_dispatch w (Component k) c else None)) e)
+        ∙ sym (ap (λ o. outward_run (page_of w) (if is_none o then outward_dispatch is_page w (Component k) c else None)) e)

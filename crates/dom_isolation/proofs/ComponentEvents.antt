@@ -1,30 +1,30 @@
 -- A dispatch of a component, as the page sees it: nothing, or the outward event at its host.
 use Rattle.dom_isolation.proofs.PagePaths.{views-page}
-use Rattle.dom_model.proofs.OwnerLaws.{owner_eq-true, owner_eq-false}
-use Rattle.std.proofs.Common.{◌≡◌, Bool, true, false, ◌&&◌, [], ◌∷◌, filter, Option, Some, None, option_map, unwrap_or, refl, sym}
-use Rattle.std.proofs.Common.{ap, ◌∙◌, true≢false, subst, append-nil}
-use Rattle.std.specs.Prelude.{is_some, if◌then◌else◌, option_to_list}
+use Rattle.dom_model.proofs.OwnerLaws.{owner_eq-true, owner_eq-false, ne-owner_eq}
+use Rattle.std.proofs.Common.{◌≡◌, Bool, true, false, List, [], ◌∷◌, ◌++◌, filter, find, Option, Some, None, option_map, refl, sym}
+use Rattle.std.proofs.Common.{ap, ◌∙◌, subst, append-nil}
+use Rattle.std.specs.Prelude.{if◌then◌else◌, option_to_list}
+use Rattle.std.proofs.lemmas.Bool.{cond-false}
 use Rattle.std.specs.List.{AllByRecursion}
 use Rattle.std.specs.Option.{option_and_then}
 use Rattle.dom_base.specs.declared.Owner.{Owner}
 use Rattle.dom_base.specs.declared.Owner.TheVariants.{Page}
 use Rattle.dom_base.specs.declared.NodeName.{NodeName}
-use Rattle.dom_model.specs.Names.{name_eq, owner_depth, last_of}
+use Rattle.dom_model.specs.Names.{name_eq, owner_depth}
 use Rattle.dom_model.specs.Command.{EventWords}
 use Rattle.dom_model.specs.Runs.{Run, quiet, run_then, run_each}
-use Rattle.dom_model.specs.World.{World, part_of, root_at, host_of, host_above, host_chain, some_if, shadow_root_of, is_in_shadow_tree}
+use Rattle.dom_model.specs.World.{World, part_of, root_at, host_of, host_above, host_chain, some_if, shadow_root_of}
 use Rattle.dom_model.specs.Paths.{views, plain_views}
 use Rattle.dom_model.specs.Dispatch.{Dispatched, dispatch_in, visits_of}
-use Rattle.dom_model.specs.Trace.{is_page, outermost_host, outward_of, OutwardEvent}
+use Rattle.dom_model.specs.Trace.{is_page, boundary_host, outward_of, OutwardEvent}
 use Rattle.dom_model.specs.PageMachine.{PageState, page_of, page_dispatch, page_outward}
 use Rattle.dom_isolation.specs.Laws.{page_run, is_page_visit, PageVisitsAgree, OutwardVisitsAgree}
 use Rattle.dom_worlds.specs.Reached.{IsQuiet}
 use Rattle.dom_worlds.specs.Worlds.{IsForeignTo}
-use Rattle.dom_worlds.proofs.Chains.{HasChain, has-chain, below-host, hosts-alone, no_host}
+use Rattle.dom_worlds.proofs.Chains.{HasChain, has-chain, below-host, hosts-alone}
 use Rattle.dom_worlds.proofs.ShadowTrees.{IsInTree}
 use Rattle.dom_worlds.proofs.Lists.{all-append, all-then}
 use Rattle.dom_worlds.proofs.Tests.{by_cases}
-use Rattle.dom_worlds.proofs.Trees.{last-push}
 use Rattle.dom_isolation.proofs.ComponentPaths.{Foreign, IsUnder, views-kept_in, views-far, views-outward, views-related}
 use Rattle.dom_isolation.proofs.Dispatches.{is_page_view, dispatch-page, dispatch-nothing, page_visits_of}
 
@@ -45,12 +45,17 @@ outward_run s o = run_each page_outward s (option_to_list o)
 pub run_then-quiet_end : (r : Run PageState) → run_then r quiet ≡ r
 run_then-quiet_end r = ap (λ ls. (r.0, ls)) (append-nil r.1)
 
--- the outermost host of a node in a shadow tree is the last one of its chain, where that is a page node
-outermost-last : (w : World) (x : NodeName) → (k : HasChain w x) → is_in_shadow_tree w x ≡ true →
-    outermost_host w x ≡ (if is_page k.last.owner then Some k.last else None)
-outermost-last w x k h =
-    ap (λ b. if b && is_page (unwrap_or (last_of (host_chain w x)) x).owner then Some (unwrap_or (last_of (host_chain w x)) x) else None) h
-    ∙ ap (λ o. if is_page (unwrap_or o x).owner then Some (unwrap_or o x) else None) (ap last_of k.chain ∙ last-push None k.inner k.last)
+-- what is found behind nodes that do not pass
+pub find-past : (test : NodeName → Bool) (xs ys : List NodeName) → AllByRecursion (λ x. test x ≡ false) xs → find test (xs ++ ys) ≡ find test ys
+find-past test [] ys h = refl
+find-past test (x ∷ xs) ys h = cond-false (test x) (Some x) (find test (xs ++ ys)) h.0 ∙ find-past test xs ys h.1
+
+-- the boundary host of a node for the page is the last node of its chain, where that is a page node
+boundary-last : (w : World) (x : NodeName) → (k : HasChain w x) → boundary_host is_page w x ≡ (if is_page k.last.owner then Some k.last else None)
+boundary-last w x k =
+    ap (find (λ y. is_page y.owner)) k.chain
+    ∙ find-past (λ y. is_page y.owner) k.inner (k.last ∷ [])
+    (all-then (λ y. IsInTree w y.owner y) (λ y. is_page y.owner ≡ false) (λ y t. ne-owner_eq y.owner Page t.foreign) k.inner k.trees)
 
 -- an outward event is one at the host, as the page sees it
 outward-event : {w : World} {x : NodeName} (e : EventWords) → IsQuiet w → e.composed ≡ true → {host : NodeName} → IsUnder w x host →
@@ -61,29 +66,21 @@ outward-event {w} {x} e q c {host} u =
     ap (λ (d : Dispatched PageState). d.run) (dispatch-page w x None e (q.logs refl) host None seen)
     ∙ ap (λ e. (page_dispatch (page_of w) host None e).run) as_outward
 
--- The outward event of a dispatch in the words of its parts: the target, and whether there is a related node.
-abbrev pub outward_at : World → NodeName → EventWords → Option NodeName → Option OutwardEvent
-outward_at w x e None = if e.composed then option_map (outward_of e) (outermost_host w x) else None
-outward_at w x e (Some y) = None
+-- The outward event of a dispatch of an owner outside a group, in the words of its parts: the target, and whether there is a related node.
+abbrev pub outward_at : (Owner → Bool) → World → NodeName → EventWords → Option NodeName → Option OutwardEvent
+outward_at group w x e None = if e.composed then option_map (outward_of e) (boundary_host group w x) else None
+outward_at group w x e (Some y) = None
 
 -- an event that is not composed stays inside
-pub no_outward-kept : (w : World) (x : NodeName) (e : EventWords) (r : Option NodeName) → e.composed ≡ false → outward_at w x e r ≡ None
-no_outward-kept w x e None c = ap (λ b. if b then option_map (outward_of e) (outermost_host w x) else None) c
-no_outward-kept w x e (Some y) c = refl
+pub no_outward-kept : (group : Owner → Bool) (w : World) (x : NodeName) (e : EventWords) (r : Option NodeName) → e.composed ≡ false →
+    outward_at group w x e r ≡ None
+no_outward-kept group w x e None c = ap (λ b. if b then option_map (outward_of e) (boundary_host group w x) else None) c
+no_outward-kept group w x e (Some y) c = refl
 
--- so does one of a node in no shadow tree
-pub no_outward-outside : (w : World) (x : NodeName) (e : EventWords) (r : Option NodeName) → is_in_shadow_tree w x ≡ false → e.composed ≡ true →
-    outward_at w x e r ≡ None
-no_outward-outside w x e None h c =
-    ap (λ b. if b then option_map (outward_of e) (outermost_host w x) else None) c
-    ∙ ap (λ b. option_map (outward_of e)
-    (if b && is_page (unwrap_or (last_of (host_chain w x)) x).owner then Some (unwrap_or (last_of (host_chain w x)) x) else None)) h
-no_outward-outside w x e (Some y) h c = refl
-
--- a composed one is seen at the outermost host
-pub outward-composed : (w : World) (x : NodeName) (e : EventWords) → e.composed ≡ true → (o : Option NodeName) → outermost_host w x ≡ o →
-    outward_at w x e None ≡ option_map (outward_of e) o
-outward-composed w x e c o t = ap (λ b. if b then option_map (outward_of e) (outermost_host w x) else None) c ∙ ap (option_map (outward_of e)) t
+-- a composed one is seen at the boundary host
+pub outward-composed : (group : Owner → Bool) (w : World) (x : NodeName) (e : EventWords) → e.composed ≡ true →
+    outward_at group w x e None ≡ option_map (outward_of e) (boundary_host group w x)
+outward-composed group w x e c = ap (λ b. if b then option_map (outward_of e) (boundary_host group w x) else None) c
 
 -- where a related node is given, it has the target's root
 abbrev pub HasSameRoot : World → NodeName → Option NodeName → Type 0
@@ -95,35 +92,28 @@ NoView w x related composed = filter is_page_view (views w x related composed) �
 
 -- a dispatch of a component, as the page sees it
 pub dispatch-component : {w : World} → IsQuiet w → (x : NodeName) (related : Option NodeName) (e : EventWords) → IsForeignTo Page x → HasSameRoot w x related →
-    page_run (dispatch_in w x related e).run ≡ outward_run (page_of w) (outward_at w x e related)
-dispatch-component {w} q x related e f same =
-    by_cases e.composed (λ c. by_cases (is_in_shadow_tree w x) (λ h. inside c h) (λ h. outside c h)) (λ c. kept c)
+    page_run (dispatch_in w x related e).run ≡ outward_run (page_of w) (outward_at is_page w x e related)
+dispatch-component {w} q x related e f same = by_cases e.composed (λ c. by_related related c same) kept
   where
-    none : outward_at w x e related ≡ None → NoView w x related e.composed →
-        page_run (dispatch_in w x related e).run ≡ outward_run (page_of w) (outward_at w x e related)
-    none o h = dispatch-nothing w x related e (q.logs refl) h ∙ sym (ap (outward_run (page_of w)) o)
+    none : (r : Option NodeName) → outward_at is_page w x e r ≡ None → NoView w x r e.composed →
+        page_run (dispatch_in w x r e).run ≡ outward_run (page_of w) (outward_at is_page w x e r)
+    none r o h = dispatch-nothing w x r e (q.logs refl) h ∙ sym (ap (outward_run (page_of w)) o)
 
-    kept : e.composed ≡ false → page_run (dispatch_in w x related e).run ≡ outward_run (page_of w) (outward_at w x e related)
-    kept c = none (no_outward-kept w x e related c) (subst (NoView w x related) (sym c) (views-kept_in w q.world x related f))
+    kept : e.composed ≡ false → page_run (dispatch_in w x related e).run ≡ outward_run (page_of w) (outward_at is_page w x e related)
+    kept c = none related (no_outward-kept is_page w x e related c) (subst (NoView w x related) (sym c) (views-kept_in w q.world x related f))
 
-    outside : e.composed ≡ true → is_in_shadow_tree w x ≡ false → page_run (dispatch_in w x related e).run ≡ outward_run (page_of w) (outward_at w x e related)
-    outside c h =
-        none (no_outward-outside w x e related h c) (views-far w q.world x related e.composed
-        (subst (AllByRecursion Foreign) (sym (hosts-alone (owner_depth x.owner) w x (no_host (host_above w x) h))) (f, tt)))
+    last_is : (k : HasChain w x) → (p : Bool) → is_page k.last.owner ≡ p → boundary_host is_page w x ≡ (if p then Some k.last else None)
+    last_is k p t = boundary-last w x k ∙ ap (λ b. if b then Some k.last else None) t
 
-    outermost : is_in_shadow_tree w x ≡ true → (k : HasChain w x) → (p : Bool) → is_page k.last.owner ≡ p →
-        outermost_host w x ≡ (if p then Some k.last else None)
-    outermost h k p t = outermost-last w x k h ∙ ap (λ b. if b then Some k.last else None) t
-
-    alone : e.composed ≡ true → is_in_shadow_tree w x ≡ true → page_run (dispatch_in w x None e).run ≡ outward_run (page_of w) (outward_at w x e None)
-    alone c h =
+    alone : e.composed ≡ true → page_run (dispatch_in w x None e).run ≡ outward_run (page_of w) (outward_at is_page w x e None)
+    alone c =
         let k = has-chain w q.world x in
         by_cases (is_page k.last.owner)
         (λ p. outward-event {x = x} e q c (record { inner = k.inner; chain = k.chain; trees = k.trees; page = owner_eq-true k.last.owner Page p })
         ∙ sym (run_then-quiet_end (page_outward (page_of w) (outward_of e k.last)))
-        ∙ sym (ap (outward_run (page_of w)) (outward-composed w x e c (Some k.last) (outermost h k true p))))
-        (λ p. dispatch-nothing w x None e (q.logs refl) (views-far w q.world x None e.composed (far k p))
-        ∙ sym (ap (outward_run (page_of w)) (outward-composed w x e c None (outermost h k false p))))
+        ∙ sym (ap (outward_run (page_of w)) (outward-composed is_page w x e c ∙ ap (option_map (outward_of e)) (last_is k true p))))
+        (λ p. none None (outward-composed is_page w x e c ∙ ap (option_map (outward_of e)) (last_is k false p))
+        (views-far w q.world x None e.composed (far k p)))
       where
         far : (k : HasChain w x) → is_page k.last.owner ≡ false → AllByRecursion Foreign (host_chain w x)
         far k p =
@@ -131,20 +121,20 @@ dispatch-component {w} q x related e f same =
             (all-append Foreign k.inner (k.last ∷ []) (all-then (λ y. IsInTree w y.owner y) Foreign (λ y t. t.foreign) k.inner k.trees)
             (owner_eq-false k.last.owner Page p, tt))
 
-    by_related : (r : Option NodeName) → e.composed ≡ true → is_in_shadow_tree w x ≡ true → HasSameRoot w x r →
-        page_run (dispatch_in w x r e).run ≡ outward_run (page_of w) (outward_at w x e r)
-    by_related None c h s = alone c h
-    by_related (Some y) c h s = from (host_above w x) refl
+    by_related : (r : Option NodeName) → e.composed ≡ true → HasSameRoot w x r →
+        page_run (dispatch_in w x r e).run ≡ outward_run (page_of w) (outward_at is_page w x e r)
+    by_related None c s = alone c
+    by_related (Some y) c s = from (host_above w x) refl
       where
-        from : (o : Option NodeName) → host_above w x ≡ o → page_run (dispatch_in w x (Some y) e).run ≡ outward_run (page_of w) (outward_at w x e (Some y))
-        from None g = absurd (true≢false (sym h ∙ ap is_some g))
+        from : (o : Option NodeName) → host_above w x ≡ o →
+            page_run (dispatch_in w x (Some y) e).run ≡ outward_run (page_of w) (outward_at is_page w x e (Some y))
+        from None g =
+            none (Some y) refl (views-far w q.world x (Some y) e.composed
+            (subst (AllByRecursion Foreign) (sym (hosts-alone (owner_depth x.owner) w x g)) (f, tt)))
         from (Some host) g =
-            dispatch-nothing w x (Some y) e (q.logs refl)
+            none (Some y) refl
             (subst (NoView w x (Some y)) (sym c)
             (views-related w q.world x y host (below-host w q.world x host g) (below-host w q.world y host (above-sibling w x y g s.0.0 s.0.1))))
-
-    inside : e.composed ≡ true → is_in_shadow_tree w x ≡ true → page_run (dispatch_in w x related e).run ≡ outward_run (page_of w) (outward_at w x e related)
-    inside c h = by_related related c h same
 
 -- The visits at page nodes.
 pub page_visits-agree : PageVisitsAgree
@@ -153,26 +143,21 @@ page_visits-agree w q x related bubbles composed h g =
 
 -- of an event that goes out
 pub outward_visits-agree : OutwardVisitsAgree
-outward_visits-agree w q x host bubbles f e =
-    by_cases (is_in_shadow_tree w x) (λ h. by_cases (is_page k.last.owner) (goes_out h) (stays h))
-    (λ h. let last = unwrap_or (last_of (host_chain w x)) x in
-    let none_at : outermost_host w x ≡ None = ap (λ b. if b && is_page last.owner then Some last else None) h in
-    let both : None ≡ Some host = sym none_at ∙ e in
-    cc)
+outward_visits-agree w q x host bubbles f e = by_cases (is_page k.last.owner) goes_out stays
   where
     k : HasChain w x
     k = has-chain w q.world x
 
-    at : is_in_shadow_tree w x ≡ true → (p : Bool) → is_page k.last.owner ≡ p → (if p then Some k.last else None) ≡ Some host
-    at h p t = sym (outermost-last w x k h ∙ ap (λ b. if b then Some k.last else None) t) ∙ e
+    at : (p : Bool) → is_page k.last.owner ≡ p → (if p then Some k.last else None) ≡ Some host
+    at p t = sym (boundary-last w x k ∙ ap (λ b. if b then Some k.last else None) t) ∙ e
 
-    goes_out : is_in_shadow_tree w x ≡ true → is_page k.last.owner ≡ true →
+    goes_out : is_page k.last.owner ≡ true →
         filter is_page_visit (visits_of name_eq bubbles (views w x None true)) ≡ visits_of name_eq bubbles (plain_views (part_of w Page).trees host None)
-    goes_out h p =
-        let same : k.last ≡ host = let both : Some k.last ≡ Some host = at h true p in cc in
+    goes_out p =
+        let same : k.last ≡ host = let both : Some k.last ≡ Some host = at true p in cc in
         let u : IsUnder w x k.last = record { inner = k.inner; chain = k.chain; trees = k.trees; page = owner_eq-true k.last.owner Page p } in
         page_visits_of bubbles (views w x None true) ∙ ap (visits_of name_eq bubbles) (views-outward w q.world x host (subst (IsUnder w x) same u))
 
-    stays : is_in_shadow_tree w x ≡ true → is_page k.last.owner ≡ false →
+    stays : is_page k.last.owner ≡ false →
         filter is_page_visit (visits_of name_eq bubbles (views w x None true)) ≡ visits_of name_eq bubbles (plain_views (part_of w Page).trees host None)
-    stays h p = let both : None ≡ Some host = at h false p in cc
+    stays p = let both : None ≡ Some host = at false p in cc

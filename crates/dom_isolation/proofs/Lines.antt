@@ -39,7 +39,7 @@ line-page w q (command (Component k) c) h = absurd (true≢false (sym h))
 
 -- a line of another owner
 pub line-other : (w : World) → IsQuiet w → (l : Line) → is_of is_page (owner_of_line l) ≡ false →
-    page_run (step w l) ≡ outward_run (page_of w) (outward_event w l)
+    page_run (step w l) ≡ outward_run (page_of w) (outward_event is_page w l)
 line-other w q no_owner h = refl
 line-other w q (no_command Page) h = absurd (true≢false h)
 line-other w q (no_command (Component k)) h =
@@ -47,7 +47,7 @@ line-other w q (no_command (Component k)) h =
 line-other w q (command Page c) h = absurd (true≢false h)
 line-other w q (command (Component k) c) h =
     quiet_first (ending_other_turn w (Component k)) (page_of w) (run_command (Component k) c)
-    (λ s. outward_run s (outward_event w (command (Component k) c))) (ending_other-quiet w q (Component k))
+    (λ s. outward_run s (outward_event is_page w (command (Component k) c))) (ending_other-quiet w q (Component k))
     (command-component (ending_other_turn w (Component k)).0 k (quiet-ending_other w q (Component k)) c)
 
 -- One line, by its items of the trace.
@@ -61,9 +61,9 @@ module _ {L : Type 0} (read : L → Line) where
   pub line-items : (w : World) → IsQuiet w → (l : L) → page_run (step w (read l)) ≡ run_page read (page_of w) (items_of read is_page w l)
   line-items w q l =
       let kept = is_of is_page (owner_of_line (read l)) in
-      let others = map outward (option_to_list (outward_event w (read l))) in
+      let others = map outward (option_to_list (outward_event is_page w (read l))) in
       by_cases kept
       (λ h. line-page w q (read l) h ∙ sym (run_then-quiet_end (page_line (page_of w) (read l))) ∙
       sym (ap (run_page read (page_of w)) (cond-true kept (line l ∷ []) others h)))
-      (λ h. line-other w q (read l) h ∙ sym (items-outward (page_of w) (outward_event w (read l))) ∙
+      (λ h. line-other w q (read l) h ∙ sym (items-outward (page_of w) (outward_event is_page w (read l))) ∙
       sym (ap (run_page read (page_of w)) (cond-false kept (line l ∷ []) others h)))

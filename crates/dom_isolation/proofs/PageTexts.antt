@@ -60,7 +60,7 @@ module _ (read : List ℕ → Line) where
   lines_in-trace h w [] = refl
   lines_in-trace h w (l ∷ ls) =
       let kept = is_of is_page (owner_of_line (read l)) in
-      let others = map outward (option_to_list (outward_event w (read l))) in
+      let others = map outward (option_to_list (outward_event is_page w (read l))) in
       let rest = trace_from read is_page (step w (read l)).0 ls in
       let more = lines_in-trace h (step w (read l)).0 ls in
       let begins = begins_with (owner_prefix Page) l in
@@ -69,7 +69,7 @@ module _ (read : List ℕ → Line) where
       (λ e. ap (λ items. lines_in items ++ lines_in rest) (cond-true kept (line l ∷ []) others e) ∙ ap (λ xs. l ∷ xs) more ∙
       sym (cond-true begins (l ∷ page_lines ls) (page_lines ls) (sym (h l) ∙ e)))
       (λ e. ap (λ items. lines_in items ++ lines_in rest) (cond-false kept (line l ∷ []) others e) ∙
-      ap (λ xs. xs ++ lines_in rest) (lines_in-outward (outward_event w (read l))) ∙ more
+      ap (λ xs. xs ++ lines_in rest) (lines_in-outward (outward_event is_page w (read l))) ∙ more
       ∙ sym (cond-false begins (l ∷ page_lines ls) (page_lines ls) (sym (h l) ∙ e)))
 
   -- of a script

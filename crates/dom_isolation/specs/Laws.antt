@@ -16,7 +16,7 @@ use Rattle.dom_model.specs.World.{World, part_of}
 use Rattle.dom_model.specs.Dispatch.{Dispatched, dispatch_in, world_visit, visits_of}
 use Rattle.dom_model.specs.Turns.{notifying, ending_turn, ending_other_turn}
 use Rattle.dom_model.specs.DocumentMachine.{first_world, step, run_lines, perform, finish}
-use Rattle.dom_model.specs.Trace.{is_page, is_of, owner_of_line, outputs_for, outermost_host, outward_dispatch, outward_event, trace_from, trace_of}
+use Rattle.dom_model.specs.Trace.{is_page, is_of, owner_of_line, outputs_for, boundary_host, outward_dispatch, outward_event, trace_from, trace_of}
 use Rattle.dom_model.specs.Trace.{no_component_stops}
 use Rattle.dom_model.specs.PageMachine.{PageState, page_of, page_dispatch, page_outward, page_turn_end, page_finish, page_line, first_page, run_page}
 use Rattle.dom_model.specs.PageMachine.{page_outputs_of}
@@ -58,7 +58,7 @@ FoldSkipsComponents =
     page_going (fold (world_visit e) s vs) ≡ fold (visited name_eq e) (page_going s) (filter is_page_visit vs)
 
 -- The visits at page nodes, with what is seen there, are the page machine's: of an event of the page, and of one that goes
--- out of a shadow tree, which is the page machine's at the outermost host.
+-- out of a shadow tree, which is the page machine's at the boundary host for the page, the outermost one.
 abbrev pub PageVisitsAgree : Type 0
 PageVisitsAgree =
     (w : World) → IsQuiet w → (x : NodeName) (related : Option NodeName) (bubbles composed : Bool) → x.owner ≡ Page →
@@ -68,7 +68,7 @@ PageVisitsAgree =
 -- of one that goes out
 abbrev pub OutwardVisitsAgree : Type 0
 OutwardVisitsAgree =
-    (w : World) → IsQuiet w → (x host : NodeName) (bubbles : Bool) → x.owner ≢ Page → outermost_host w x ≡ Some host →
+    (w : World) → IsQuiet w → (x host : NodeName) (bubbles : Bool) → x.owner ≢ Page → boundary_host is_page w x ≡ Some host →
     filter is_page_visit (visits_of name_eq bubbles (views w x None true)) ≡ visits_of name_eq bubbles (plain_views (part_of w Page).trees host None)
 
 -- One dispatch: one of the page is the page machine's; one of a component is nothing, or its outward event.
@@ -84,7 +84,7 @@ ComponentDispatchAgrees =
     (w : World) (o : Owner) → o ≢ Page → IsQuiet w → (x : NodeWord) (e : EventWords) (related : Option NodeWord) →
     let c = Command.dispatch x e related in
     part_refusal (part_of w o) c ≡ None →
-    page_run (perform w o c) ≡ run_each page_outward (page_of w) (option_to_list (outward_dispatch w o c))
+    page_run (perform w o c) ≡ run_each page_outward (page_of w) (option_to_list (outward_dispatch is_page w o c))
 
 -- One notification of a component shows nothing; and the ending of a turn does to the page what its own tasks do.
 abbrev pub NotificationIsUnseen : Type 0
@@ -106,7 +106,7 @@ PageLineAgrees = (w : World) → IsQuiet w → (l : Line) → IsTrue (is_of is_p
 abbrev pub OtherLineAgrees : Type 0
 OtherLineAgrees =
     (w : World) → IsQuiet w → (l : Line) → is_of is_page (owner_of_line l) ≡ false →
-    page_run (step w l) ≡ run_each page_outward (page_of w) (option_to_list (outward_event w l))
+    page_run (step w l) ≡ run_each page_outward (page_of w) (option_to_list (outward_event is_page w l))
 
 -- the end of input
 abbrev pub FinishAgrees : Type 0
