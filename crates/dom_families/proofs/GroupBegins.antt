@@ -15,7 +15,7 @@ use Rattle.dom_model.specs.World.{World, Task, micro_task, notify_task, part_of,
 use Rattle.dom_model.specs.Dispatch.{dispatch_in, visits_of}
 use Rattle.dom_model.specs.Turns.{slotchange, firing_slotchange, is_owned_by, without_signals, notified, running_task, ending_turn, is_page_turn}
 use Rattle.dom_model.specs.Turns.{is_other_component, has_other_turn, ending_other_turn, ending_any_turn, opening_turn}
-use Rattle.dom_model.specs.Groups.{KeepsFamilies, group_world, group_turn, group_run, is_task_of}
+use Rattle.dom_model.specs.Groups.{KeepsMakers, group_world, group_turn, group_run, is_task_of}
 use Rattle.dom_model.specs.Trace.{is_of}
 use Rattle.dom_model.proofs.OwnerLaws.{owner_eq-true, ne-owner_eq}
 use Rattle.dom_model.proofs.TurnLaws.{turn-ending_turn}
@@ -63,7 +63,7 @@ no_other-ended w o =
 pub opened-quiet : (w : World) → IsQuiet w → (o : Owner) → IsQuiet (opening_turn w o)
 opened-quiet w q o = quiet-opening w q o
 
-module _ (g : Owner → Bool) (closed : KeepsFamilies g) where
+module _ (g : Owner → Bool) (closed : KeepsMakers g) where
   -- A turn of the group, and of none of it.
   pub turn-kept : (t : Option Owner) → is_of g t ≡ true → group_turn g t ≡ t
   turn-kept None h = absurd (true≢false (sym h))

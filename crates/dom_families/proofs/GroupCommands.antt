@@ -27,7 +27,7 @@ use Rattle.dom_model.specs.Slots.{assigned}
 use Rattle.dom_model.specs.Dispatch.{Dispatched, dispatch_in}
 use Rattle.dom_model.specs.Turns.{ending_turn, opening_turn, has_other_turn, is_page_turn}
 use Rattle.dom_model.specs.DocumentMachine.{refusal, effect_in, attaching, part_with_root, perform, accepted, run_command}
-use Rattle.dom_model.specs.Groups.{KeepsFamilies, group_world, group_outputs, group_run, is_task_of}
+use Rattle.dom_model.specs.Groups.{KeepsMakers, group_world, group_outputs, group_run, is_task_of}
 use Rattle.dom_model.proofs.PartLaws.{owner-part_of}
 use Rattle.dom_worlds.proofs.Owners.{owner-named}
 use Rattle.dom_worlds.proofs.TableEffects.{KeepsBase, base-effect}
@@ -46,7 +46,7 @@ last-all : (P : NodeName → Type 0) (d : Option NodeName) (xs : List NodeName) 
 last-all P d [] x a h = h
 last-all P d (y ∷ ys) x a h = last-all P (Some y) ys x a.1 a.0
 
-module _ (g : Owner → Bool) (closed : KeepsFamilies g) where
+module _ (g : Owner → Bool) (closed : KeepsMakers g) where
   -- Refusals are the same.
   pub refusal-in : (w v : World) → group_world g w ≡ group_world g v → (o : Owner) → g o ≡ true → (c : Command) → refusal w o c ≡ refusal v o c
   refusal-in w v same o h c =

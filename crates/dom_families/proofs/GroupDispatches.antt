@@ -1,31 +1,28 @@
 -- A dispatch as a group has it: of one of its nodes the same in two worlds of which it has the same, and of another node nothing, or the
 -- outward event at its host.
-use Rattle.std.proofs.Common.{◌≡◌, Bool, true, false, ◌&&◌, [], ◌++◌, filter, Option, Some, None, unwrap_or}
-use Rattle.std.proofs.Common.{refl, sym, ap, ◌∙◌, subst, true≢false, append-nil}
-use Rattle.std.specs.Prelude.{if◌then◌else◌, is_some, option_to_list}
+use Rattle.std.proofs.Common.{◌≡◌, Bool, true, false, [], ◌++◌, filter, Option, Some, None, option_map, refl, sym, ap, ◌∙◌, subst, append-nil}
+use Rattle.std.specs.Prelude.{option_to_list}
 use Rattle.std.specs.List.{AllByRecursion}
 use Rattle.std.proofs.lemmas.List.Elements.{filter-append}
 use Rattle.dom_base.specs.declared.Owner.{Owner}
-use Rattle.dom_base.specs.declared.Owner.TheVariants.{Page}
 use Rattle.dom_base.specs.declared.NodeName.{NodeName}
-use Rattle.dom_model.specs.Names.{owner_depth, last_of}
+use Rattle.dom_model.specs.Names.{owner_depth}
 use Rattle.dom_model.specs.Command.{EventWords}
 use Rattle.dom_model.specs.Output.{Output}
 use Rattle.dom_model.specs.Paths.{views}
 use Rattle.dom_model.specs.Runs.{Run, run_then, run_each}
-use Rattle.dom_model.specs.World.{World, host_above, host_chain, is_in_shadow_tree}
+use Rattle.dom_model.specs.World.{World, host_above}
 use Rattle.dom_model.specs.Dispatch.{Dispatched, dispatch_in}
-use Rattle.dom_model.specs.Groups.{KeepsFamilies, group_world, group_outputs, group_run, outward_words, outward_in}
-use Rattle.dom_model.specs.Trace.{OutwardEvent, is_page, is_of, owner_of_output, outermost_host, outward_of}
-use Rattle.dom_model.proofs.OwnerLaws.{owner_eq-true, owner_eq-false}
+use Rattle.dom_model.specs.Groups.{KeepsMakers, group_world, group_outputs, group_run, outward_words, outward_in}
+use Rattle.dom_model.specs.Trace.{OutwardEvent, is_of, owner_of_output, boundary_host, outward_of}
 use Rattle.dom_worlds.specs.Reached.{IsQuiet}
-use Rattle.dom_worlds.proofs.Chains.{below-host, hosts-alone, no_host}
-use Rattle.dom_isolation.proofs.ComponentEvents.{outward_at, HasSameRoot, above-sibling, no_outward-kept, no_outward-outside, outward-composed}
+use Rattle.dom_worlds.proofs.Chains.{below-host, hosts-alone}
+use Rattle.dom_isolation.proofs.ComponentEvents.{outward_at, HasSameRoot, above-sibling, no_outward-kept, outward-composed}
 use Rattle.dom_worlds.proofs.Tests.{by_cases}
 use Rattle.dom_families.proofs.GroupParts.{in_node}
 use Rattle.dom_families.proofs.GroupVisits.{in_view, group_dispatched, shown_by, dispatch-shown, no_dispatch}
 use Rattle.dom_families.proofs.GroupViews.{views-in}
-use Rattle.dom_families.proofs.OutsideViews.{HasExit, has-exit, exit-away, exit-host, views-exit, views-kept_in, views-far, views-related}
+use Rattle.dom_families.proofs.OutsideViews.{has-exit, exit-away, views-exit, views-kept_in, views-far, views-related}
 use Rattle.dom_families.proofs.GroupSteps.{IsSameGround}
 use Rattle.dom_families.proofs.GroupSlots.{ground-of}
 
@@ -37,21 +34,6 @@ outward_run w o = run_each outward_in w (option_to_list o)
 outward-alone : (w : World) (e : OutwardEvent) → outward_run w (Some e) ≡ outward_in w e
 outward-alone w e = ap (λ ls. ((outward_in w e).0, ls)) (append-nil (outward_in w e).1)
 
--- the outermost host is a page node
-pub outermost-page : (w : World) (x host : NodeName) → outermost_host w x ≡ Some host → host.owner ≡ Page
-outermost-page w x host h =
-    let last = unwrap_or (last_of (host_chain w x)) x in
-    by_test (is_in_shadow_tree w x) (is_page last.owner) refl h
-  where
-    by_test : (a b : Bool) → is_page (unwrap_or (last_of (host_chain w x)) x).owner ≡ b →
-        (if a && b then Some (unwrap_or (last_of (host_chain w x)) x) else None) ≡ Some host → host.owner ≡ Page
-    by_test true true t e =
-        let last = unwrap_or (last_of (host_chain w x)) x in
-        let same : last ≡ host = cc in
-        ap (λ (y : NodeName). y.owner) (sym same) ∙ owner_eq-true last.owner Page t
-    by_test true false t e = cc
-    by_test false b t e = cc
-
 -- Two worlds that are reached, of which a group sees the same.
 pub record IsSameView (g : Owner → Bool) (w v : World) : Type 0 where
   pub first : IsQuiet w
@@ -62,7 +44,7 @@ pub record IsSameView (g : Owner → Bool) (w v : World) : Type 0 where
 pub same-ground : {g : Owner → Bool} {w v : World} → IsSameView g w v → IsSameGround g w v
 same-ground {w} {v} a = record { first = ground-of w a.first.world; second = ground-of v a.second.world; same = a.same }
 
-module _ (g : Owner → Bool) (closed : KeepsFamilies g) where
+module _ (g : Owner → Bool) (closed : KeepsMakers g) where
   -- Two runs of which the group has the same, and then two more.
   pub runs-then : (r s : Run World) (f h : World → Run World) → group_run g r ≡ group_run g s → group_run g (f r.0) ≡ group_run g (h s.0) →
       group_run g (run_then r f) ≡ group_run g (run_then s h)
@@ -91,12 +73,12 @@ module _ (g : Owner → Bool) (closed : KeepsFamilies g) where
       ∙ ap (shown_by g closed (group_world g v) e) seen ∙ sym (dispatch-shown g closed v x r e (s.second.logs refl))
 
   -- an outward event, in two such worlds
-  pub outward-in : (w v : World) → IsSameView g w v → (o : Option OutwardEvent) → ((e : OutwardEvent) → o ≡ Some e → e.host.owner ≡ Page) →
+  pub outward-in : (w v : World) → IsSameView g w v → (o : Option OutwardEvent) → ((e : OutwardEvent) → o ≡ Some e → in_node g e.host ≡ true) →
       group_run g (outward_run w o) ≡ group_run g (outward_run v o)
-  outward-in w v s None page = ap (λ u. (u, [])) s.same
-  outward-in w v s (Some e) page =
+  outward-in w v s None inside = ap (λ u. (u, [])) s.same
+  outward-in w v s (Some e) inside =
       ap (group_run g) (outward-alone w e)
-      ∙ ap (λ (d : Dispatched World). d.run) (dispatch-in s e.host None (outward_words e) (ap g (page e refl) ∙ closed.page) tt)
+      ∙ ap (λ (d : Dispatched World). d.run) (dispatch-in s e.host None (outward_words e) (inside e refl) tt)
       ∙ ap (group_run g) (sym (outward-alone v e))
 
   -- no view at a node of the group
@@ -105,53 +87,43 @@ module _ (g : Owner → Bool) (closed : KeepsFamilies g) where
 
   -- A dispatch at another node.
   pub dispatch-out : {w : World} → IsQuiet w → (x : NodeName) (r : Option NodeName) (e : EventWords) → in_node g x ≡ false → HasSameRoot w x r →
-      group_run g (dispatch_in w x r e).run ≡ group_run g (outward_run w (outward_at w x e r))
-  dispatch-out {w} q x r e h same =
-      by_cases e.composed (λ c. by_cases (is_in_shadow_tree w x) (λ t. inside c t r same) (λ t. outside c t)) kept
+      group_run g (dispatch_in w x r e).run ≡ group_run g (outward_run w (outward_at g w x e r))
+  dispatch-out {w} q x r e h same = by_cases e.composed (λ c. sent c r same) kept
     where
-      none : (r : Option NodeName) → outward_at w x e r ≡ None → NoView w x r e.composed →
-          group_run g (dispatch_in w x r e).run ≡ group_run g (outward_run w (outward_at w x e r))
+      none : (r : Option NodeName) → outward_at g w x e r ≡ None → NoView w x r e.composed →
+          group_run g (dispatch_in w x r e).run ≡ group_run g (outward_run w (outward_at g w x e r))
       none r o k = no_dispatch g closed w x r e (q.logs refl) k ∙ sym (ap (λ o. group_run g (outward_run w o)) o)
 
-      kept : e.composed ≡ false → group_run g (dispatch_in w x r e).run ≡ group_run g (outward_run w (outward_at w x e r))
-      kept c = none r (no_outward-kept w x e r c) (subst (NoView w x r) (sym c) (views-kept_in g closed w q.world x r h))
+      kept : e.composed ≡ false → group_run g (dispatch_in w x r e).run ≡ group_run g (outward_run w (outward_at g w x e r))
+      kept c = none r (no_outward-kept g w x e r c) (subst (NoView w x r) (sym c) (views-kept_in g closed w q.world x r h))
 
-      outside : e.composed ≡ true → is_in_shadow_tree w x ≡ false → group_run g (dispatch_in w x r e).run ≡ group_run g (outward_run w (outward_at w x e r))
-      outside c t =
-          none r (no_outward-outside w x e r t c) (views-far g closed w q.world x r e.composed
-          (subst (AllByRecursion (λ y. in_node g y ≡ false)) (sym (hosts-alone (owner_depth x.owner) w x (no_host (host_above w x) t))) (h, tt)))
+      event_is : e.composed ≡ true → (b : Option NodeName) → boundary_host g w x ≡ b → outward_at g w x e None ≡ option_map (outward_of e) b
+      event_is c b t = outward-composed g w x e c ∙ ap (option_map (outward_of e)) t
 
-      exit_is : is_in_shadow_tree w x ≡ true → (k : HasExit g closed w q.world x) → (b : Bool) → is_page k.last.owner ≡ b →
-          outermost_host w x ≡ (if b then Some k.last else None)
-      exit_is t k b p = exit-host g closed w q.world x k t ∙ ap (λ b. if b then Some k.last else None) p
-
-      alone : e.composed ≡ true → is_in_shadow_tree w x ≡ true →
-          group_run g (dispatch_in w x None e).run ≡ group_run g (outward_run w (outward_at w x e None))
-      alone c t =
-          let k = has-exit g closed w q.world x h in
-          let host = k.last in
-          by_cases (is_page host.owner)
-          (λ p. let page = owner_eq-true host.owner Page p in
+      alone : e.composed ≡ true → (b : Option NodeName) → boundary_host g w x ≡ b →
+          group_run g (dispatch_in w x None e).run ≡ group_run g (outward_run w (outward_at g w x e None))
+      alone c None t = none None (event_is c None t) (views-far g closed w q.world x None e.composed (exit-away g closed w q.world x t))
+      alone c (Some host) t =
           let seen = subst (λ b. filter (in_view g) (views w x None b) ≡ filter (in_view g) (views w host None b)) (sym c)
-          (views-exit g closed w q.world x k page) in
+          (views-exit g closed w q.world x host (has-exit g closed w q.world x host t)) in
           let words : e ≡ outward_words (outward_of e host) = ap (λ b. record e { composed = b }) c in
           ap (λ (d : Dispatched World). d.run)
           (dispatch-shown g closed w x None e (q.logs refl) ∙ ap (shown_by g closed (group_world g w) e) seen ∙ sym
           (dispatch-shown g closed w host None e (q.logs refl)))
           ∙ ap (λ e. group_run g (dispatch_in w host None e).run) words
           ∙ sym (ap (group_run g) (outward-alone w (outward_of e host)))
-          ∙ sym (ap (λ o. group_run g (outward_run w o)) (outward-composed w x e c (Some host) (exit_is t k true p))))
-          (λ p. none None (outward-composed w x e c None (exit_is t k false p))
-          (views-far g closed w q.world x None e.composed (exit-away g closed w q.world x k (owner_eq-false host.owner Page p))))
+          ∙ sym (ap (λ o. group_run g (outward_run w o)) (event_is c (Some host) t))
 
-      inside : e.composed ≡ true → is_in_shadow_tree w x ≡ true → (r : Option NodeName) → HasSameRoot w x r →
-          group_run g (dispatch_in w x r e).run ≡ group_run g (outward_run w (outward_at w x e r))
-      inside c t None s = alone c t
-      inside c t (Some y) s = from (host_above w x) refl
+      sent : e.composed ≡ true → (r : Option NodeName) → HasSameRoot w x r →
+          group_run g (dispatch_in w x r e).run ≡ group_run g (outward_run w (outward_at g w x e r))
+      sent c None s = alone c (boundary_host g w x) refl
+      sent c (Some y) s = from (host_above w x) refl
         where
           from : (o : Option NodeName) → host_above w x ≡ o →
-              group_run g (dispatch_in w x (Some y) e).run ≡ group_run g (outward_run w (outward_at w x e (Some y)))
-          from None k = absurd (true≢false (sym t ∙ ap is_some k))
+              group_run g (dispatch_in w x (Some y) e).run ≡ group_run g (outward_run w (outward_at g w x e (Some y)))
+          from None k =
+              none (Some y) refl (views-far g closed w q.world x (Some y) e.composed
+              (subst (AllByRecursion (λ y. in_node g y ≡ false)) (sym (hosts-alone (owner_depth x.owner) w x k)) (h, tt)))
           from (Some host) k =
               none (Some y) refl (subst (NoView w x (Some y)) (sym c)
               (views-related g closed w q.world x y host h (below-host w q.world x host k)

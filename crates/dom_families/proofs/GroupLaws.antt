@@ -1,16 +1,8 @@
 -- The laws, from the lemmas on their pieces.
-use Rattle.std.proofs.Common.{◌≡◌, true, Some, None, sym, ap, ◌∙◌, true≢false}
-use Rattle.std.specs.Prelude.{if◌then◌else◌, unwrap_or, ◌&&◌}
+use Rattle.std.proofs.Common.{true, None, sym, ap, ◌∙◌, true≢false}
 use Rattle.dom_base.specs.declared.Owner.TheVariants.{Page, Component}
-use Rattle.dom_base.specs.declared.NodeName.{NodeName}
 use Rattle.dom_model.specs.Dispatch.{Dispatched}
-use Rattle.dom_model.specs.Groups.{group_world}
-use Rattle.dom_model.specs.Names.{last_of}
-use Rattle.dom_model.specs.Paths.{views}
-use Rattle.dom_model.specs.Trace.{is_page, outermost_host}
-use Rattle.dom_model.specs.World.{World, host_chain, is_in_shadow_tree}
-use Rattle.dom_model.proofs.OwnerLaws.{owner_eq-true}
-use Rattle.dom_worlds.proofs.Tests.{by_cases}
+use Rattle.dom_model.specs.World.{World}
 use Rattle.dom_families.specs.Laws.{AssignedAgree, SignalsAgree, StepAgrees, ViewsAgree, OutwardViewsAgree, DispatchAgrees, OtherDispatchAgrees, EndingAgrees}
 use Rattle.dom_families.specs.Laws.{LineAgrees, OtherLineAgrees, FinishAgrees}
 use Rattle.dom_families.proofs.GroupBegins.{ending_any-in}
@@ -22,7 +14,7 @@ use Rattle.dom_families.proofs.GroupSteps.{step-in}
 use Rattle.dom_families.proofs.GroupTurns.{ending-in}
 use Rattle.dom_families.proofs.GroupViews.{views-in}
 use Rattle.dom_families.proofs.OutsideCommands.{dispatched-out}
-use Rattle.dom_families.proofs.OutsideViews.{has-exit, exit-host, views-exit}
+use Rattle.dom_families.proofs.OutsideViews.{has-exit, views-exit}
 
 -- slots
 pub assigned-agree : AssignedAgree
@@ -40,27 +32,11 @@ step-agrees g closed o h w i s = step-in g closed o h w (ground-of w i) s
 pub views-agree : ViewsAgree
 views-agree g closed w i x related composed h k = views-in g closed w i x related h k composed
 
--- a node with an outermost host is in a shadow tree
-hosted-in_tree : (w : World) (x host : NodeName) → outermost_host w x ≡ Some host → is_in_shadow_tree w x ≡ true
-hosted-in_tree w x host e =
-    by_cases (is_in_shadow_tree w x) (λ h. h)
-    (λ h. let last = unwrap_or (last_of (host_chain w x)) x in
-    let none_at : outermost_host w x ≡ None = ap (λ b. if b && is_page last.owner then Some last else None) h in
-    let both : None ≡ Some host = sym none_at ∙ e in
-    cc)
-
 -- views of an event that goes out
 pub outward_views-agree : OutwardViewsAgree
 outward_views-agree g closed w i x host h e =
-    let k = has-exit g closed w i x h in
-    let at = exit-host g closed w i x k (hosted-in_tree w x host e) in
-    by_cases (is_page k.last.owner)
-    (λ p. let found : Some k.last ≡ Some host = sym (at ∙ ap (λ b. if b then Some k.last else None) p) ∙ e in
-    let same : k.last ≡ host = cc in
-    let page = owner_eq-true k.last.owner Page p in
-    views-exit g closed w i x k page ∙ views-in g closed w i k.last None (ap g page ∙ closed.page) tt true
-    ∙ ap (λ y. views (group_world g w) y None true) same)
-    (λ p. let both : None ≡ Some host = sym (at ∙ ap (λ b. if b then Some k.last else None) p) ∙ e in cc)
+    let k = has-exit g closed w i x host e in
+    views-exit g closed w i x host k ∙ views-in g closed w i host None k.inside tt true
 
 -- a dispatch
 pub dispatch-agrees : DispatchAgrees

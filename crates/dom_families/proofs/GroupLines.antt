@@ -16,7 +16,7 @@ use Rattle.dom_model.specs.World.{World, part_of}
 use Rattle.dom_model.specs.CommandNames.{named}
 use Rattle.dom_model.specs.Turns.{ending_turn, has_other_turn, ending_other_turn, opening_turn}
 use Rattle.dom_model.specs.DocumentMachine.{refusal, effect_in, perform, accepted, run_command, step}
-use Rattle.dom_model.specs.Groups.{KeepsFamilies, group_world, group_turn, group_outputs, group_run, is_task_of, outward_words, ends_group_turn}
+use Rattle.dom_model.specs.Groups.{KeepsMakers, group_world, group_turn, group_outputs, group_run, is_task_of, outward_words, ends_group_turn}
 use Rattle.dom_model.specs.Trace.{OutwardEvent, is_page, is_log, is_of, owner_of_line, owner_of_output, outward_event, outward_command, may_stop, line_may_stop}
 use Rattle.dom_model.proofs.TurnLaws.{turn-dispatch_in}
 use Rattle.dom_worlds.specs.Reached.{IsQuiet, IsReached}
@@ -30,12 +30,12 @@ use Rattle.dom_worlds.proofs.TableRegisters.{holds-effect}
 use Rattle.dom_worlds.proofs.Tests.{by_cases}
 use Rattle.dom_worlds.proofs.WorldSteps.{turn-world_after}
 use Rattle.dom_families.specs.Laws.{IsCalm}
-use Rattle.dom_families.proofs.GroupParts.{filter-away}
+use Rattle.dom_families.proofs.GroupParts.{in_node, filter-away}
 use Rattle.dom_families.proofs.GroupDispatches.{IsSameView, outward_run, runs-then, quiet-then, outward-in}
 use Rattle.dom_families.proofs.GroupBegins.{tasks-dispatch, tasks-ending_turn, no_other-ended, ending_other-in, ending_other-out, calm-ended, opening-own}
 use Rattle.dom_families.proofs.GroupBegins.{turn-kept}
 use Rattle.dom_families.proofs.GroupCommands.{refusal-in, command-in}
-use Rattle.dom_families.proofs.OutsideCommands.{ShowsNothing, command-out, command_event-page}
+use Rattle.dom_families.proofs.OutsideCommands.{ShowsNothing, command-out, command_event-inside}
 
 -- an effect leaves the turn
 turn-effect : (w : World) (o : Owner) (e : Effect) → (effect_in w o e).0.turn ≡ w.turn
@@ -53,7 +53,7 @@ may_stop-same : (w v : World) (o : Owner) (c : Command) → refusal w o c ≡ re
 may_stop-same w v o (Command.listen x words) e = ap (λ r. not (is_page o || is_log words.action) && is_none r) e
 may_stop-same w v o c e = refl
 
-module _ (g : Owner → Bool) (closed : KeepsFamilies g) where
+module _ (g : Owner → Bool) (closed : KeepsMakers g) where
   -- A line of the group.
   pub line-in : (w v : World) → IsSameView g w v → IsCalm g w → (l : Line) → is_of g (owner_of_line l) ≡ true → group_run g (step w l) ≡ group_run g (step v l)
   line-in w v s calm no_owner h = absurd (true≢false (sym h))
@@ -87,7 +87,7 @@ module _ (g : Owner → Bool) (closed : KeepsFamilies g) where
 
   -- such a line
   pub line-out : {w : World} → IsReached true w → IsWhole w → IsCalm g w → (l : Line) → is_of g (owner_of_line l) ≡ false → ends_group_turn g w l ≡ false →
-      group_run g (step w l) ≡ group_run g (outward_run w (outward_event w l))
+      group_run g (step w l) ≡ group_run g (outward_run w (outward_event g w l))
   line-out r k calm no_owner h t = refl
   line-out {w} r k calm (no_command o) h t =
       let first = ended-out w (sound w r) calm o (sym (ap (λ b. not b && (is_of g w.turn && has_other_turn w o)) h) ∙ t) in
@@ -102,11 +102,11 @@ module _ (g : Owner → Bool) (closed : KeepsFamilies g) where
       let u = (ending_other_turn w o).0 in
       let p = quiet-ending_other w q o in
       let same = ap (λ (r : Run World). r.0) first in
-      let e = outward_command u o c in
+      let e = outward_command g u o c in
       quiet-then g closed (ending_other_turn w o) w (run_command o c) (outward_run w e) first
       (command-out g closed j (record { quiet = p; outside = h }) (calm-ended g closed w calm o) (no_other-ended w o) c
       (fits u (ending-keeps_reached true w o r) (ending-keeps_whole true w o r k) o c)
-      ∙ outward-in g closed u w (record { first = p; second = q; same = same }) e (command_event-page u o c))
+      ∙ outward-in g closed u w (record { first = p; second = q; same = same }) e (command_event-inside g u o c))
 
   -- Where the group has tasks, a turn of its own is open: outward events keep that,
   pub calm-outward : (w : World) → IsCalm g w → (o : Option OutwardEvent) → IsCalm g (outward_run w o).0
@@ -151,8 +151,8 @@ module _ (g : Owner → Bool) (closed : KeepsFamilies g) where
       from (Some r) = calm-ended g closed w calm o
       from None = accepted-calm u o h (no_other-ended w o) c
 
--- the host of a line's outward event is a page node
-pub event-host : (w : World) (l : Line) (e : OutwardEvent) → outward_event w l ≡ Some e → e.host.owner ≡ Page
-event-host w no_owner e h = cc
-event-host w (no_command o) e h = cc
-event-host w (command o c) e h = command_event-page (ending_other_turn w o).0 o c e h
+-- the host of a line's outward event is of the group
+pub event-host : (g : Owner → Bool) (w : World) (l : Line) (e : OutwardEvent) → outward_event g w l ≡ Some e → in_node g e.host ≡ true
+event-host g w no_owner e h = cc
+event-host g w (no_command o) e h = cc
+event-host g w (command o c) e h = command_event-inside g (ending_other_turn w o).0 o c e h

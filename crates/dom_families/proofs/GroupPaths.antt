@@ -15,7 +15,7 @@ use Rattle.dom_model.specs.World.{World, root_at, ancestors_at, host_above, host
 use Rattle.dom_model.specs.World.{is_in_shadow_tree}
 use Rattle.dom_model.specs.Slots.{slot_of}
 use Rattle.dom_model.specs.Paths.{is_hidden_from, retarget, retarget_related, with_slots, way_up, whole_path}
-use Rattle.dom_model.specs.Groups.{KeepsFamilies, group_world}
+use Rattle.dom_model.specs.Groups.{KeepsMakers, group_world}
 use Rattle.dom_model.proofs.OwnerLaws.{name_eq-true}
 use Rattle.dom_worlds.specs.Worlds.{IsOf}
 use Rattle.dom_worlds.proofs.Chains.{above-host}
@@ -76,7 +76,7 @@ module _ {X : Type 0} where
       ∙ sym (ap (filter q) (filter-here t x xs h) ∙ filter-away q x (filter t xs) (sym (same x h) ∙ e))))
       (λ h. filter-away p x xs (a.0 h) ∙ filter-within t p q same xs a.1 ∙ sym (ap (filter q) (filter-away t x xs h)))
 
-module _ (g : Owner → Bool) (closed : KeepsFamilies g) (w : World) (ground : IsGround w) where
+module _ (g : Owner → Bool) (closed : KeepsMakers g) (w : World) (ground : IsGround w) where
   -- what is of the group, and what is not
   abbrev pub In : NodeName → Type 0
   In x = in_node g x ≡ true

@@ -1,22 +1,16 @@
 -- Whole scripts: a group has of a script what it has of its trace where all others are silent. So two scripts with one trace show it the same.
-use Rattle.std.proofs.Common.{◌≡◌, Bool, true, false, not, ◌&&◌, List, [], ◌∷◌, map, Option, Some, None, refl, sym, ap, ◌∙◌, append-nil, subst}
+use Rattle.std.proofs.Common.{◌≡◌, Bool, true, false, not, List, [], ◌∷◌, map, Option, Some, None, refl, sym, ap, ◌∙◌, append-nil, subst}
 use Rattle.std.specs.Prelude.{option_to_list}
 use Rattle.std.proofs.lemmas.Bool.{cond-true, cond-false, and_parts, not-true}
 use Rattle.dom_base.specs.declared.Owner.{Owner}
-use Rattle.dom_model.specs.Names.{owner_eq}
 use Rattle.dom_model.specs.Command.{Line}
-use Rattle.dom_model.specs.Output.{Output}
 use Rattle.dom_model.specs.Runs.{Run, run_each}
 use Rattle.dom_model.specs.World.{World}
 use Rattle.dom_model.specs.DocumentMachine.{first_world, step, finish, run_lines}
-use Rattle.dom_model.specs.Groups.{KeepsFamilies, is_in_family, family_group, group_world, group_outputs, group_run, outward_words, silent_step}
-use Rattle.dom_model.specs.Groups.{ends_other_turn}
-use Rattle.dom_model.specs.Groups.{ends_group_turn}
-use Rattle.dom_model.specs.Trace.{OutwardEvent, line, outward, is_page, is_of, owner_of_line, owner_of_output, outputs_for, outward_event, line_may_stop}
+use Rattle.dom_model.specs.Groups.{KeepsMakers, group_world, group_outputs, group_run, outward_words, silent_step, ends_group_turn}
+use Rattle.dom_model.specs.Trace.{OutwardEvent, line, outward, is_of, owner_of_line, outward_event, line_may_stop}
 use Rattle.dom_model.specs.Trace.{items_of, trace_from, no_component_stops, no_component_stops_from}
-use Rattle.dom_model.specs.Isolation.{output_of, turns_are_closed_from, group_turns_stand}
-use Rattle.dom_model.specs.Isolation.{group_turns_stand_from, silent_output, GroupSeesItsTrace, SameGroup, SameFamily, SameFamilyWhileTurnsStand}
-use Rattle.dom_model.proofs.OwnerLaws.{owner_eq-true}
+use Rattle.dom_model.specs.Isolation.{output_of, group_turns_stand, group_turns_stand_from, silent_output, GroupSeesItsTrace, SameGroup}
 use Rattle.dom_worlds.specs.Reached.{IsQuiet, IsReached}
 use Rattle.dom_worlds.specs.Tables.{IsWhole}
 use Rattle.dom_worlds.proofs.FirstWorld.{quiet-first}
@@ -24,22 +18,19 @@ use Rattle.dom_isolation.proofs.PageRuns.{run_each-append}
 use Rattle.dom_worlds.proofs.Reached.{sound, first-is_reached, step-keeps_reached}
 use Rattle.dom_worlds.proofs.StepKeeps.{quiet-step}
 use Rattle.dom_worlds.proofs.TableLines.{first-is_whole, step-keeps_whole}
-use Rattle.dom_worlds.proofs.Tests.{by_cases, or-second}
+use Rattle.dom_worlds.proofs.Tests.{by_cases}
 use Rattle.dom_worlds.proofs.TurnEndings.{quiet-dispatch}
 use Rattle.dom_families.specs.Laws.{IsCalm}
-use Rattle.dom_families.proofs.Families.{family-is_group}
 use Rattle.dom_families.proofs.GroupDispatches.{IsSameView, outward_run, runs-then, outward-in}
-use Rattle.dom_families.proofs.GroupTurns.{filter-sub}
 use Rattle.dom_families.proofs.GroupBegins.{same-calm, ending_any-in}
 use Rattle.dom_families.proofs.GroupLines.{line-in, line-out, may_stop-in, calm-in, calm-outward, event-host}
-use Rattle.dom_families.proofs.GroupViews.{and-no}
 
 -- one item alone
 run_each-one : {S A : Type 0} (f : S → A → Run S) (s : S) (x : A) → run_each f s (x ∷ []) ≡ f s x
 run_each-one f s x = ap (λ ls. ((f s x).0, ls)) (append-nil (f s x).1)
 
 -- The world of a script, and the one of its trace where all others are silent: of both the group has the same.
-pub record IsPair (g : Owner → Bool) (closed : KeepsFamilies g) (w v : World) : Type 0 where
+pub record IsPair (g : Owner → Bool) (closed : KeepsMakers g) (w v : World) : Type 0 where
   pub same : group_world g w ≡ group_world g v
   pub left : IsReached true w
   pub whole : IsWhole w
@@ -47,15 +38,15 @@ pub record IsPair (g : Owner → Bool) (closed : KeepsFamilies g) (w v : World) 
   pub calm : IsCalm g w
 
 -- the group sees the same in them
-pair-view : {g : Owner → Bool} {closed : KeepsFamilies g} {w v : World} → IsPair g closed w v → IsSameView g w v
+pair-view : {g : Owner → Bool} {closed : KeepsMakers g} {w v : World} → IsPair g closed w v → IsSameView g w v
 pair-view {w} k = record { first = sound w k.left; second = k.right; same = k.same }
 
 -- runs to two such worlds, of which the group has the same
-pub record AreRuns (g : Owner → Bool) (closed : KeepsFamilies g) (r s : Run World) : Type 0 where
+pub record AreRuns (g : Owner → Bool) (closed : KeepsMakers g) (r s : Run World) : Type 0 where
   pub shown : group_run g r ≡ group_run g s
   pub pair : IsPair g closed r.0 s.0
 
-module _ (g : Owner → Bool) (closed : KeepsFamilies g) where
+module _ (g : Owner → Bool) (closed : KeepsMakers g) where
   -- an outward event keeps what the other run asks
   outward-quiet : (v : World) → IsQuiet v → (o : Option OutwardEvent) → IsQuiet (outward_run v o).0
   outward-quiet v p None = p
@@ -79,11 +70,11 @@ module _ (g : Owner → Bool) (closed : KeepsFamilies g) where
 
   -- a line of another owner
   line-other : {w v : World} → IsPair g closed w v → (l : Line) → line_may_stop w l ≡ false → is_of g (owner_of_line l) ≡ false →
-      ends_group_turn g w l ≡ false → AreRuns g closed (step w l) (outward_run v (outward_event w l))
+      ends_group_turn g w l ≡ false → AreRuns g closed (step w l) (outward_run v (outward_event g w l))
   line-other {w} {v} k l stops h t =
-      let e = outward_event w l in
+      let e = outward_event g w l in
       let own = line-out g closed k.left k.whole k.calm l h t in
-      let shown = own ∙ outward-in g closed w v (pair-view k) e (event-host w l) in
+      let shown = own ∙ outward-in g closed w v (pair-view k) e (event-host g w l) in
       record {
         shown = shown;
         pair = record {
@@ -106,13 +97,13 @@ module _ (g : Owner → Bool) (closed : KeepsFamilies g) where
         AreRuns g closed (step w (read l)) (run_each (silent_step read) v (items_of read g w l))
     line-items w v k l stops t =
         let kept = is_of g (owner_of_line (read l)) in
-        let others = map outward (option_to_list (outward_event w (read l))) in
+        let others = map outward (option_to_list (outward_event g w (read l))) in
         let silent = run_each (silent_step read) v in
         by_cases kept
         (λ h. subst (AreRuns g closed (step w (read l)))
         (sym (ap silent (cond-true kept (line l ∷ []) others h) ∙ run_each-one (silent_step read) v (line l))) (line-own w v k (read l) stops h))
         (λ h. subst (AreRuns g closed (step w (read l)))
-        (sym (ap silent (cond-false kept (line l ∷ []) others h) ∙ items-outward v (outward_event w (read l)))) (line-other k (read l) stops h t))
+        (sym (ap silent (cond-false kept (line l ∷ []) others h) ∙ items-outward v (outward_event g w (read l)))) (line-other k (read l) stops h t))
 
     -- lines from a world on
     pub lines-group : (ls : List L) (w v : World) → IsPair g closed w v → no_component_stops_from read w ls ≡ true →
@@ -149,15 +140,6 @@ module _ (g : Owner → Bool) (closed : KeepsFamilies g) where
         (runs-then g closed all silent finish finish k.shown
         (ending_any-in g closed all.0 silent.0 (record { first = sound all.0 k.pair.left; second = k.pair.right; same = k.pair.same }) k.pair.calm))
 
--- a member's lines are among those of its group
-member-outputs : (g : Owner → Bool) (o : Owner) → g o ≡ true → (ls : List Output) → outputs_for o (group_outputs g ls) ≡ outputs_for o ls
-member-outputs g o h ls =
-    filter-sub (λ l. is_of (owner_eq o) (owner_of_output l)) (λ l. is_of g (owner_of_output l)) (λ l e. from (owner_of_output l) e) ls
-  where
-    from : (m : Option Owner) → is_of (owner_eq o) m ≡ true → is_of g m ≡ true
-    from None e = e
-    from (Some a) e = ap g (sym (owner_eq-true o a e)) ∙ h
-
 module _ {L : Type 0} (read : L → Line) where
   -- a group sees its trace
   pub group-sees_its_trace : GroupSeesItsTrace read
@@ -167,28 +149,3 @@ module _ {L : Type 0} (read : L → Line) where
   pub same-group : SameGroup read
   same-group g closed ls ms a b c d e =
       group-sees g closed read ls a c ∙ ap (λ items. group_outputs g (silent_output read items)) e ∙ sym (group-sees g closed read ms b d)
-
-  -- of a family
-  pub same-family_while_turns_stand : SameFamilyWhileTurnsStand read
-  same-family_while_turns_stand root member m ls ms a b c d e =
-      let g = family_group root in
-      let h : g member ≡ true = or-second (is_page member) (is_in_family root member) m in
-      sym (member-outputs g member h (output_of read ls)) ∙ ap (outputs_for member) (same-group g (family-is_group root) ls ms a b c d e)
-      ∙ member-outputs g member h (output_of read ms)
-
-  -- closed turns stand
-  turns-stand : (g : Owner → Bool) (ls : List L) (w : World) → turns_are_closed_from read w ls ≡ true → group_turns_stand_from read g w ls ≡ true
-  turns-stand g [] w h = refl
-  turns-stand g (l ∷ ls) w h =
-      let u = (step w (read l)).0 in
-      let both = and_parts (not (ends_other_turn w (read l))) (turns_are_closed_from read u ls) h in
-      let none : ends_group_turn g w (read l) ≡ false =
-      ap (λ b. not (is_of g (owner_of_line (read l))) && (is_of g w.turn && b)) (not-true (ends_other_turn w (read l)) both.0)
-      ∙ ap (λ b. not (is_of g (owner_of_line (read l))) && b) (and-no (is_of g w.turn)) ∙ and-no (not (is_of g (owner_of_line (read l)))) in
-      ap (λ b. not b && group_turns_stand_from read g u ls) none ∙ turns-stand g ls u both.1
-
-  -- with closed turns
-  pub same-family : SameFamily read
-  same-family root member off m ls ms a b c d e =
-      let g = family_group root in
-      same-family_while_turns_stand root member m ls ms a b (turns-stand g ls first_world c) (turns-stand g ms first_world d) e

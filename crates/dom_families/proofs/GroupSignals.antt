@@ -12,7 +12,7 @@ use Rattle.dom_model.specs.Part.{Part}
 use Rattle.dom_model.specs.World.{World, part_of, trees_with, node_at, root_at, component_at, component_made, shadow_root_of, is_in_shadow_tree}
 use Rattle.dom_model.specs.World.{components_below}
 use Rattle.dom_model.specs.Slots.{assigned, is_changed, slot_of, slots_among, is_slot_element, is_bare_slot, own_slots, other_slots, signals}
-use Rattle.dom_model.specs.Groups.{KeepsFamilies, group_world}
+use Rattle.dom_model.specs.Groups.{KeepsMakers, group_world}
 use Rattle.dom_model.proofs.OwnerLaws.{name_eq-true}
 use Rattle.dom_worlds.specs.Worlds.{IsOf}
 use Rattle.dom_worlds.proofs.Lists.{all-filter, all-then, all-passed, all-distinct, all-map, filter_all, filter_none, filter_same, filter-filter}
@@ -47,7 +47,7 @@ module _ {X : Type 0} where
       apart : (y : X) → test y ≡ true → test x ≡ false → same x y ≡ false
       apart y t h = by_cases (same x y) (λ e. absurd (true≢false (sym t ∙ sym (alike x y e) ∙ h))) (λ e. e)
 
-module _ (g : Owner → Bool) (closed : KeepsFamilies g) where
+module _ (g : Owner → Bool) (closed : KeepsMakers g) where
   -- whether the assigned nodes of a slot changed is the same
   changed-in : (was now : World) → IsGround was → IsGround now → (s : NodeName) → in_node g s ≡ true →
       is_changed (group_world g was) (group_world g now) s ≡ is_changed was now s

@@ -8,14 +8,14 @@ use Rattle.std.specs.Option.{option_and_then, option_map_or}
 use Rattle.dom_base.specs.declared.Owner.{Owner}
 use Rattle.dom_base.specs.declared.Owner.TheVariants.{Page}
 use Rattle.dom_base.specs.declared.NodeName.{NodeName}
-use Rattle.dom_model.specs.Names.{DomString, name_eq, owner_eq, is_in}
+use Rattle.dom_model.specs.Names.{DomString, name_eq, is_in}
 use Rattle.dom_model.specs.Tree.{none, Node, nodes, node_in, parent_of, root_of, inclusive_ancestors, subtree, children_of, times_in}
 use Rattle.dom_model.specs.Part.{Part}
 use Rattle.dom_model.specs.World.{World, part_of, trees_with, node_at, root_at, parent_at, component_at, component_made, made_by, host_of, MayAttach}
 use Rattle.dom_model.specs.World.{host_above, some_if, shadow_root_of, shadow_tree}
 use Rattle.dom_model.specs.Slots.{slot_of, slot_in, slottable_name, has_slot_name, assigned, assigned_below, is_assigned_to}
-use Rattle.dom_model.specs.Groups.{KeepsFamilies, group_world}
-use Rattle.dom_model.proofs.OwnerLaws.{owner_eq-true, owner_eq-false, made_by-is, name_eq-true}
+use Rattle.dom_model.specs.Groups.{KeepsMakers, group_world}
+use Rattle.dom_model.proofs.OwnerLaws.{made_by-is, name_eq-true}
 use Rattle.dom_worlds.specs.Worlds.{IsPart, IsWorld, IsOf, HasMakers}
 use Rattle.dom_model.proofs.PartLaws.{owner-part_of}
 use Rattle.dom_worlds.proofs.ShadowTrees.{slot_in-there}
@@ -107,20 +107,20 @@ slot_in-none n = from (slottable_name n)
     from None = refl
     from (Some name) = refl
 
-module _ (g : Owner → Bool) (closed : KeepsFamilies g) where
+module _ (g : Owner → Bool) (closed : KeepsMakers g) where
   -- no one outside is the page
   pub outside-no_page : (o : Owner) → g o ≡ false → o ≢ Page
   outside-no_page o h e = true≢false (sym closed.page ∙ ap g (sym e) ∙ h)
 
-  -- The component at a node of a component is of the group just where that one is.
-  pub component-group : (w : World) → IsGround w → (x : NodeName) (c : Owner) → component_at w x ≡ Some c → x.owner ≢ Page → g c ≡ g x.owner
-  component-group w i x c h off =
-      let k = component-made w x c h in
-      ap g (sym k.made) ∙ closed.made x.owner k.number (component-maker w i.makers x c h) off
+  -- what an owner outside makes is outside
+  pub made-outside : (o : Owner) (k : ℕ) → MayAttach o → g o ≡ false → g (component_made o k) ≡ false
+  made-outside o k may h = by_cases (g (component_made o k)) (λ t. absurd (true≢false (sym (closed.made o k may t) ∙ h))) (λ t. t)
 
-  -- the one at a node outside is outside
+  -- so the component at a node outside is
   pub component-outside : (w : World) → IsGround w → (x : NodeName) (c : Owner) → component_at w x ≡ Some c → g x.owner ≡ false → g c ≡ false
-  component-outside w i x c h out = component-group w i x c h (outside-no_page x.owner out) ∙ out
+  component-outside w i x c h out =
+      let k = component-made w x c h in
+      ap g (sym k.made) ∙ made-outside x.owner k.number (component-maker w i.makers x c h) out
 
   -- the slot of a node outside is outside
   pub slot-outside : (w : World) → IsGround w → (x s : NodeName) → slot_of w x ≡ Some s → g x.owner ≡ false → g s.owner ≡ false
@@ -181,11 +181,9 @@ module _ (g : Owner → Bool) (closed : KeepsFamilies g) where
           ap (λ (p : Part). option_to_list (slot_from v (node_in p.trees x) (option_and_then (component_at v) (parent_of p.trees x)))) (part-in g w x.owner h)
           ∙ by_parent h (parent_at w x) refl
 
-  -- Whoever made one of the group is of it, or is the page.
+  -- Whoever made one of the group is of it.
   pub maker-inside : (o m : Owner) (k : ℕ) → made_by o ≡ Some (m, k) → MayAttach m → g o ≡ true → g m ≡ true
-  maker-inside o m k e may h =
-      by_cases (owner_eq m Page) (λ t. ap g (owner_eq-true m Page t) ∙ closed.page)
-      (λ t. sym (closed.made m k may (owner_eq-false m Page t)) ∙ ap g (made_by-is o m k e) ∙ h)
+  maker-inside o m k e may h = closed.made m k may (ap g (made_by-is o m k e) ∙ h)
 
   -- so its host is
   pub host-inside : (w : World) → IsGround w → (o : Owner) (host : NodeName) → host_of w o ≡ Some host → g o ≡ true → in_node g host ≡ true

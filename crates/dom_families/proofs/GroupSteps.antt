@@ -16,7 +16,7 @@ use Rattle.dom_model.specs.World.{World, Task, micro_task, notify_task, part_of,
 use Rattle.dom_model.specs.World.{components_below, shadow_root_of, is_in_shadow_tree}
 use Rattle.dom_model.specs.Slots.{signals, with_signal, assigned, is_slot_element, is_changed, own_slots, other_slots}
 use Rattle.dom_model.specs.WorldSteps.{world_step, world_after, stepped, with_signals, with_removal_signals, with_notify_if, with_shadow_document}
-use Rattle.dom_model.specs.Groups.{KeepsFamilies, group_world, is_task_of}
+use Rattle.dom_model.specs.Groups.{KeepsMakers, group_world, is_task_of}
 use Rattle.dom_model.proofs.OwnerLaws.{owner_eq-true, name_eq-same}
 use Rattle.dom_model.proofs.PartLaws.{owner-part_of}
 use Rattle.dom_model.proofs.StepLaws.{owner-part_step}
@@ -121,7 +121,7 @@ module _ (g : Owner → Bool) where
   with_notify-out o h w = ap (λ ts. record (group_world g w) { tasks = ts }) (queued-out o h w.tasks)
 
   -- Signals of slots.
-  signalled-in : (s : NodeName) → in_node g s ≡ true → (closed : KeepsFamilies g) → (xs : List NodeName) →
+  signalled-in : (s : NodeName) → in_node g s ≡ true → (closed : KeepsMakers g) → (xs : List NodeName) →
       filter (in_node g) (append_once name_eq xs s) ≡ append_once name_eq (filter (in_node g) xs) s
   signalled-in s h closed xs =
       let mine = filter (in_node g) xs in
@@ -168,7 +168,7 @@ pub record IsSameGround (g : Owner → Bool) (w v : World) : Type 0 where
   pub second : IsGround v
   pub same : group_world g w ≡ group_world g v
 
-module _ (g : Owner → Bool) (closed : KeepsFamilies g) where
+module _ (g : Owner → Bool) (closed : KeepsMakers g) where
   -- a signal
   signal-in : (s : NodeName) → in_node g s ≡ true → (w : World) → group_world g (with_signal w s) ≡ with_signal (group_world g w) s
   signal-in s h w =

@@ -10,7 +10,7 @@ use Rattle.dom_model.specs.Runs.{Run, run_each}
 use Rattle.dom_model.specs.World.{World, Task, micro_task, notify_task, part_of, with_part}
 use Rattle.dom_model.specs.Dispatch.{Dispatched}
 use Rattle.dom_model.specs.Turns.{slotchange, firing_slotchange, is_owned_by, without_signals, notifying, notified, notified_lines, running_task, ending_turn}
-use Rattle.dom_model.specs.Groups.{KeepsFamilies, group_world, group_turn, group_outputs, group_run, is_task_of}
+use Rattle.dom_model.specs.Groups.{KeepsMakers, group_world, group_turn, group_outputs, group_run, is_task_of}
 use Rattle.dom_model.specs.Trace.{is_of, owner_of_output}
 use Rattle.dom_model.proofs.OwnerLaws.{owner_eq-true}
 use Rattle.dom_model.proofs.PartLaws.{owner-part_of}
@@ -31,7 +31,7 @@ filter-sub p t f xs =
     filter-filter p t xs ∙ filter_all t (filter p xs) (all-then (λ x. p x ≡ true) (λ x. t x ≡ true) f (filter p xs) (all-passed (λ x. p x ≡ true) p
     (λ x h. h) xs))
 
-module _ (g : Owner → Bool) (closed : KeepsFamilies g) where
+module _ (g : Owner → Bool) (closed : KeepsMakers g) where
   -- an owner's nodes are of the group where the owner is
   owned-in : (o : Owner) → g o ≡ true → (s : NodeName) → is_owned_by o s ≡ true → in_node g s ≡ true
   owned-in o h s e = ap g (owner_eq-true s.owner o e) ∙ h

@@ -9,7 +9,7 @@ use Rattle.dom_model.specs.Names.{name_eq, max_depth}
 use Rattle.dom_model.specs.World.{World, ancestors_at}
 use Rattle.dom_model.specs.Paths.{is_hidden_from, retarget, retarget_related, is_node, with_slots, way_up, whole_path, ends_at, event_path, view_at, views}
 use Rattle.dom_model.specs.Paths.{View}
-use Rattle.dom_model.specs.Groups.{KeepsFamilies, group_world}
+use Rattle.dom_model.specs.Groups.{KeepsMakers, group_world}
 use Rattle.dom_model.proofs.OwnerLaws.{name_eq-true}
 use Rattle.dom_worlds.specs.Worlds.{IsWorld}
 use Rattle.dom_worlds.proofs.Lists.{all-then, all-passed, all-flat_map, all-take_while, filter-map, map_same}
@@ -27,7 +27,7 @@ pub and-no : (b : Bool) → (b && false) ≡ false
 and-no true = refl
 and-no false = refl
 
-module _ (g : Owner → Bool) (closed : KeepsFamilies g) (w : World) (i : IsWorld w) where
+module _ (g : Owner → Bool) (closed : KeepsMakers g) (w : World) (i : IsWorld w) where
   -- what the laws on ways ask of a world
   abbrev pub ground : IsGround w
   ground = ground-of w i

@@ -15,7 +15,7 @@ use Rattle.dom_model.specs.Part.{Part}
 use Rattle.dom_model.specs.Paths.{View, views}
 use Rattle.dom_model.specs.World.{World, part_of, with_part}
 use Rattle.dom_model.specs.Dispatch.{Dispatched, world_visit, visits_of, visit_of, is_at_target, event_output, dispatch_in}
-use Rattle.dom_model.specs.Groups.{KeepsFamilies, group_world, group_outputs, group_run}
+use Rattle.dom_model.specs.Groups.{KeepsMakers, group_world, group_outputs, group_run}
 use Rattle.dom_model.specs.Trace.{is_of, owner_of_output}
 use Rattle.dom_model.proofs.PartLaws.{owner-part_of}
 use Rattle.dom_worlds.specs.Worlds.{OnlyLogs, ComponentsOnlyLog}
@@ -170,7 +170,7 @@ module _ (g : Owner → Bool) where
   abbrev pub group_dispatched : Dispatched World → Dispatched World
   group_dispatched d = record { run = group_run g d.run; answer = d.answer }
 
-module _ (g : Owner → Bool) (closed : KeepsFamilies g) where
+module _ (g : Owner → Bool) (closed : KeepsMakers g) where
   -- all visits: those at nodes of the group, from any state of which the group has the same
   visits-group : (e : EventWords) (vs : List (Visit NodeName)) (s t : InWorld) → ComponentsOnlyLog s.0 → group_going g s ≡ group_going g t →
       group_going g (fold (world_visit e) s vs) ≡ group_going g (fold (world_visit e) t (filter (in_visit g) vs))

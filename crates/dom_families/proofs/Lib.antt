@@ -7,6 +7,7 @@ mod GroupVisits
 mod GroupPaths
 mod GroupViews
 mod OutsideViews
+mod FamilyHosts
 mod GroupDispatches
 mod GroupTurns
 mod GroupBegins
@@ -14,6 +15,7 @@ mod GroupCommands
 mod OutsideCommands
 mod GroupLines
 pub mod GroupRuns
+pub mod GroupMembers
 mod GroupLaws
 mod WordedRuns
-pub mod FamilyTexts
+pub mod GroupTexts

@@ -18,16 +18,15 @@ use Rattle.dom_model.specs.Runs.{Run, run_then, answering, unless_refused}
 use Rattle.dom_model.specs.CommandRefusals.{part_refusal}
 use Rattle.dom_model.specs.CommandNames.{named}
 use Rattle.dom_model.specs.Effects.{Effect, tables, changes, effect}
-use Rattle.dom_model.specs.World.{World, micro_task, part_of, with_part, component_made}
+use Rattle.dom_model.specs.World.{World, micro_task, part_of, with_part, component_made, host_chain}
 use Rattle.dom_model.specs.WorldSteps.{world_after}
 use Rattle.dom_model.specs.Dispatch.{dispatch_in}
 use Rattle.dom_model.specs.Turns.{ending_turn, opening_turn, has_other_turn, is_other_component, is_page_turn}
 use Rattle.dom_model.specs.DocumentMachine.{refusal, effect_in, attaching, part_with_root, perform, accepted, run_command}
-use Rattle.dom_model.specs.Groups.{KeepsFamilies, group_world, group_outputs, group_run, is_task_of}
-use Rattle.dom_model.specs.Trace.{OutwardEvent, is_page, is_of, owner_of_output, outward_of, outward_dispatch, outward_command, outermost_host}
+use Rattle.dom_model.specs.Groups.{KeepsMakers, group_world, group_outputs, group_run, is_task_of}
+use Rattle.dom_model.specs.Trace.{OutwardEvent, is_of, owner_of_output, outward_of, outward_dispatch, outward_command, boundary_host}
 use Rattle.dom_model.proofs.OwnerLaws.{owner_eq-true}
 use Rattle.dom_model.proofs.PartLaws.{owner-part_of}
-use Rattle.dom_model.proofs.StepLaws.{Component-IsNoPage}
 use Rattle.dom_worlds.specs.Reached.{IsQuiet}
 use Rattle.dom_worlds.proofs.Acceptance.{accepted-facts, attach-may}
 use Rattle.dom_isolation.proofs.ComponentCommands.{opened-event, related-same_root, outward-same}
@@ -38,34 +37,36 @@ use Rattle.dom_worlds.proofs.TableCommands.{Holds}
 use Rattle.dom_worlds.proofs.TableEffects.{KeepsBase, base-effect}
 use Rattle.dom_worlds.proofs.Tests.{by_cases, and-true_false}
 use Rattle.dom_families.specs.Laws.{IsCalm}
-use Rattle.dom_families.proofs.GroupParts.{with_part-out, filter-away}
-use Rattle.dom_families.proofs.GroupSlots.{IsGround, ground-of}
+use Rattle.dom_families.proofs.GroupParts.{in_node, with_part-out, filter-away}
+use Rattle.dom_families.proofs.GroupSlots.{IsGround, ground-of, made-outside}
 use Rattle.dom_families.proofs.GroupSteps.{steps-out}
-use Rattle.dom_families.proofs.GroupDispatches.{outward_run, quiet-then, outward-in, dispatch-out, outermost-page}
+use Rattle.dom_families.proofs.GroupDispatches.{outward_run, quiet-then, outward-in, dispatch-out}
+use Rattle.dom_families.proofs.OutsideViews.{found-passes}
 use Rattle.dom_families.proofs.GroupTurns.{ending-out}
 use Rattle.dom_families.proofs.GroupBegins.{turn-none, same-turn, same-calm, opening-out, opened-quiet}
 
--- the host of an outward event is a page node
-pub event-page : (w : World) (o : Owner) (c : Command) (e : OutwardEvent) → outward_dispatch w o c ≡ Some e → e.host.owner ≡ Page
-event-page w o (Command.dispatch x words None) e h =
-    by_test (not (is_page o) && words.composed) (outermost_host w (named (part_of w o) x)) refl h
+-- the host of an outward event is of the group
+pub event-inside : (g : Owner → Bool) (w : World) (o : Owner) (c : Command) (e : OutwardEvent) → outward_dispatch g w o c ≡ Some e → in_node g e.host ≡ true
+event-inside g w o (Command.dispatch x words None) e h =
+    by_test (not (g o) && words.composed) (boundary_host g w (named (part_of w o) x)) refl h
   where
-    by_test : (b : Bool) (m : Option NodeName) → outermost_host w (named (part_of w o) x) ≡ m →
-        (if b then option_map (outward_of words) m else None) ≡ Some e → e.host.owner ≡ Page
+    by_test : (b : Bool) (m : Option NodeName) → boundary_host g w (named (part_of w o) x) ≡ m →
+        (if b then option_map (outward_of words) m else None) ≡ Some e → in_node g e.host ≡ true
     by_test true None t k = cc
     by_test true (Some host) t k =
         let same : outward_of words host ≡ e = cc in
-        ap (λ (e : OutwardEvent). e.host.owner) (sym same) ∙ outermost-page w (named (part_of w o) x) host t
+        ap (λ (e : OutwardEvent). g e.host.owner) (sym same) ∙ found-passes (in_node g) (host_chain w (named (part_of w o) x)) host t
     by_test false m t k = cc
-event-page w o (Command.dispatch x words (Some y)) e h = cc
-event-page w o c e h = cc
+event-inside g w o (Command.dispatch x words (Some y)) e h = cc
+event-inside g w o c e h = cc
 
 -- of a command, where it is accepted
-pub command_event-page : (w : World) (o : Owner) (c : Command) (e : OutwardEvent) → outward_command w o c ≡ Some e → e.host.owner ≡ Page
-command_event-page w o c e h = by_test (is_none (refusal w o c)) h
+pub command_event-inside : (g : Owner → Bool) (w : World) (o : Owner) (c : Command) (e : OutwardEvent) → outward_command g w o c ≡ Some e →
+    in_node g e.host ≡ true
+command_event-inside g w o c e h = by_test (is_none (refusal w o c)) h
   where
-    by_test : (b : Bool) → (if b then outward_dispatch w o c else None) ≡ Some e → e.host.owner ≡ Page
-    by_test true k = event-page w o c e k
+    by_test : (b : Bool) → (if b then outward_dispatch g w o c else None) ≡ Some e → in_node g e.host ≡ true
+    by_test true k = event-inside g w o c e k
     by_test false k = cc
 
 -- a command of a component outside the group passes, in a quiet world that is calm and whose open turn is not the group's
@@ -77,7 +78,7 @@ record PassesOutside (g : Owner → Bool) (w : World) (k : ComponentName) (c : C
   passes : part_refusal (part_of w (Component k)) c ≡ None
   fits : Holds (part_of w (Component k)) (effect (part_of w (Component k)) c)
 
-module _ (g : Owner → Bool) (closed : KeepsFamilies g) where
+module _ (g : Owner → Bool) (closed : KeepsMakers g) where
   -- a run of which the group has nothing
   abbrev pub ShowsNothing : World → Run World → Type 0
   ShowsNothing w r = group_run g r ≡ (group_world g w, [])
@@ -126,15 +127,15 @@ module _ (g : Owner → Bool) (closed : KeepsFamilies g) where
   -- A dispatch.
   pub dispatched-out : {w : World} (k : ComponentName) → StandsOutside w k → (x : NodeWord) (e : EventWords) (r : Option NodeWord) →
       part_refusal (part_of w (Component k)) (Command.dispatch x e r) ≡ None →
-      Shows w (perform w (Component k) (Command.dispatch x e r)) (outward_dispatch w (Component k) (Command.dispatch x e r))
+      Shows w (perform w (Component k) (Command.dispatch x e r)) (outward_dispatch g w (Component k) (Command.dispatch x e r))
   dispatched-out {w} k stands x e r a =
       let o = Component k in
       let p = part_of w o in
       let d = dispatch_in w (named p x) (option_map (named p) r) e in
       let shown = dispatch-out g closed stands.quiet (named p x) (option_map (named p) r) e
       (ap g (owner-named p x ∙ owner-part_of w o) ∙ stands.outside) (related-same_root w k x e r a) in
-      after_reply d.run (outward_run w (outward_at w (named p x) e (option_map (named p) r))) (a_truth d.answer) shown
-      ∙ ap (λ v. group_run g (outward_run w v)) (outward-same w k x e r)
+      after_reply d.run (outward_run w (outward_at g w (named p x) e (option_map (named p) r))) (a_truth d.answer) shown
+      ∙ ap (λ v. group_run g (outward_run w v)) (outward-same g w stands.outside x e r)
     where
       after_reply : (u s : Run World) (v : Value) → group_run g u ≡ group_run g s → group_run g (run_then u (answering (Component k) v)) ≡ group_run g s
       after_reply u s v same =
@@ -145,11 +146,12 @@ module _ (g : Owner → Bool) (closed : KeepsFamilies g) where
           ∙ same
 
   -- Any accepted command.
-  perform-out : (w : World) (k : ComponentName) (c : Command) → PassesOutside g w k c → Shows w (perform w (Component k) c) (outward_dispatch w (Component k) c)
+  perform-out : (w : World) (k : ComponentName) (c : Command) → PassesOutside g w k c →
+      Shows w (perform w (Component k) c) (outward_dispatch g w (Component k) c)
   perform-out w k (Command.attach a) out =
       let o = Component k in
       attaching-out w o out.outside (named (part_of w o) a)
-      (closed.made o (length (part_of w o).attached) (attach-may w o a out.passes) (λ e. Component-IsNoPage k e) ∙ out.outside)
+      (made-outside g closed o (length (part_of w o).attached) (attach-may w o a out.passes) out.outside)
   perform-out w k (Command.connected a) out = answered-out (Component k) out.outside _ w w refl
   perform-out w k (Command.assigned a) out = answered-out (Component k) out.outside _ w w refl
   perform-out w k (Command.dispatch a b c) out = dispatched-out k (record { quiet = out.quiet; outside = out.outside }) a b c out.passes
@@ -183,7 +185,7 @@ module _ (g : Owner → Bool) (closed : KeepsFamilies g) where
 
   -- with the turn that it opens
   opened : (w : World) (k : ComponentName) (c : Command) → has_other_turn w (Component k) ≡ false → PassesOutside g w k c →
-      Shows w (perform (opening_turn w (Component k)) (Component k) c) (outward_dispatch w (Component k) c)
+      Shows w (perform (opening_turn w (Component k)) (Component k) c) (outward_dispatch g w (Component k) c)
   opened w k c a out =
       let o = Component k in
       let u = opening_turn w o in
@@ -200,28 +202,28 @@ module _ (g : Owner → Bool) (closed : KeepsFamilies g) where
         fits = subst (λ x. Holds x (effect x c)) (sym (part_of-opening w o o)) out.fits;
       } in
       perform-out u k c after
-      ∙ outward-in g closed u w (record { first = p; second = out.quiet; same = same }) (outward_dispatch u o c) (event-page u o c)
-      ∙ ap (λ e. group_run g (outward_run w e)) (opened-event w k c)
+      ∙ outward-in g closed u w (record { first = p; second = out.quiet; same = same }) (outward_dispatch g u o c) (event-inside g u o c)
+      ∙ ap (λ e. group_run g (outward_run w e)) (opened-event g w o c)
 
   -- `.` apart, which opens none
   accepted-out : (w : World) (k : ComponentName) (c : Command) → has_other_turn w (Component k) ≡ false → PassesOutside g w k c →
-      Shows w (accepted w (Component k) c) (outward_dispatch w (Component k) c)
+      Shows w (accepted w (Component k) c) (outward_dispatch g w (Component k) c)
   accepted-out w k Command.end_turn a out = perform-out w k Command.end_turn out
   accepted-out w k c a out = opened w k c a out
 
   -- A command, refused or accepted. What it does fits where it is accepted.
   pub command-out : {w : World} (k : ComponentName) → StandsOutside w k → IsCalm g w → has_other_turn w (Component k) ≡ false →
       (c : Command) → (refusal w (Component k) c ≡ None → Holds (part_of w (Component k)) (effect (part_of w (Component k)) c)) →
-      Shows w (run_command (Component k) c w) (outward_command w (Component k) c)
+      Shows w (run_command (Component k) c w) (outward_command g w (Component k) c)
   command-out {w} k stands calm a c f = from (refusal w (Component k) c) refl
     where
       from : (r : Option Refusal) → refusal w (Component k) c ≡ r →
           Shows w (unless_refused (Component k) (refusal w (Component k) c) w (accepted w (Component k) c))
-          (if is_none (refusal w (Component k) c) then outward_dispatch w (Component k) c else None)
+          (if is_none (refusal w (Component k) c) then outward_dispatch g w (Component k) c else None)
       from (Some r) e =
           ap (λ o. group_run g (unless_refused (Component k) o w (accepted w (Component k) c))) e
           ∙ ap (λ ls. (group_world g w, ls)) (filter-away (λ l. is_of g (owner_of_output l)) (says (Component k) (refused r)) [] stands.outside)
-          ∙ sym (ap (λ o. group_run g (outward_run w (if is_none o then outward_dispatch w (Component k) c else None))) e)
+          ∙ sym (ap (λ o. group_run g (outward_run w (if is_none o then outward_dispatch g w (Component k) c else None))) e)
       from None e =
           let known = accepted-facts w (Component k) c e in
           let out : PassesOutside g w k c = record {
@@ -234,4 +236,4 @@ module _ (g : Owner → Bool) (closed : KeepsFamilies g) where
           } in
           ap (λ o. group_run g (unless_refused (Component k) o w (accepted w (Component k) c))) e
           ∙ accepted-out w k c a out
-          ∙ sym (ap (λ o. group_run g (outward_run w (if is_none o then outward_dispatch w (Component k) c else None))) e)
+          ∙ sym (ap (λ o. group_run g (outward_run w (if is_none o then outward_dispatch g w (Component k) c else None))) e)

@@ -1,39 +1,64 @@
--- What an event of a node outside the group shows at the group's nodes: nothing, or where it goes out, what it shows at its outermost host.
-use Rattle.std.proofs.Common.{◌≡◌, ◌≢◌, ℕ, zero, suc, ◌≤◌, Bool, true, false, not, ◌&&◌, List, [], ◌∷◌, ◌++◌, filter, find, flat_map, map}
-use Rattle.std.proofs.Common.{Option, Some, None, unwrap_or, refl, sym, ap, ◌∙◌, subst, true≢false, append-nil, arith}
+-- What an event of a node outside the group shows at the group's nodes: nothing, or where it goes out, what one at its boundary host shows.
+use Rattle.std.proofs.Common.{◌≡◌, ℕ, zero, suc, ◌≤◌, Bool, true, false, not, ◌&&◌, List, [], ◌∷◌, ◌++◌, filter, find, flat_map, map}
+use Rattle.std.proofs.Common.{Option, Some, None, unwrap_or, refl, sym, ap, ◌∙◌, subst, arith}
 use Rattle.std.specs.Prelude.{if◌then◌else◌, is_some}
 use Rattle.std.specs.List.{AllByRecursion}
 use Rattle.std.proofs.lemmas.Bool.{cond-true, cond-false}
 use Rattle.std.proofs.lemmas.Grind.{flat_map-append}
 use Rattle.dom_base.specs.declared.Owner.{Owner}
-use Rattle.dom_base.specs.declared.Owner.TheVariants.{Page}
 use Rattle.dom_base.specs.declared.NodeName.{NodeName}
 use Rattle.dom_model.specs.Tree.{times_in}
-use Rattle.dom_model.specs.Names.{owner_eq, owner_depth, max_depth, last_of}
-use Rattle.dom_model.specs.World.{World, trees_with, ancestors_at, host_above, host_chain, is_in_shadow_tree}
+use Rattle.dom_model.specs.Names.{name_eq, owner_depth, max_depth, is_in}
+use Rattle.dom_model.specs.World.{World, trees_with, root_at, ancestors_at, host_above, host_chain, shadow_including_ancestors}
 use Rattle.dom_model.specs.Paths.{View, is_hidden_from, retarget, retarget_related, is_node, with_slots, way_up, whole_path, ends_at, event_path, view_at}
 use Rattle.dom_model.specs.Paths.{views}
-use Rattle.dom_model.specs.Groups.{KeepsFamilies}
-use Rattle.dom_model.specs.Trace.{is_page, outermost_host}
-use Rattle.dom_model.proofs.OwnerLaws.{owner_eq-true, owner_eq-false, made_by-is}
+use Rattle.dom_model.specs.Groups.{KeepsMakers}
+use Rattle.dom_model.specs.Trace.{boundary_host}
 use Rattle.dom_worlds.specs.Worlds.{IsWorld}
-use Rattle.dom_worlds.proofs.Chains.{IsBelow, below-host, hosts-alone, chain-below, chain-first, absent-host, above-host}
+use Rattle.dom_worlds.proofs.Chains.{IsBelow, has-chain, below-host, hosts-alone, chain-below, chain-first, absent-host}
 use Rattle.dom_isolation.proofs.ComponentPaths.{cut_at, ends-at_host, no_end}
 use Rattle.dom_worlds.proofs.ShadowTrees.{IsInTree, ancestors-in_tree}
-use Rattle.dom_isolation.proofs.Hiding.{host_chain-page, page-not_hidden}
+use Rattle.dom_isolation.proofs.ComponentEvents.{find-past}
 use Rattle.dom_worlds.proofs.Lists.{all-append, all-then, all-from, all-passed, all-flat_map, all-take_while, all-before, filter-map, filter_none, map_same}
-use Rattle.dom_worlds.proofs.Makers.{hosted, hosted-owned, hosted-maker}
 use Rattle.dom_isolation.proofs.PagePaths.{IsInSome, slot_way-in_some, uncut}
 use Rattle.dom_worlds.proofs.ShadowTrees.{slot_way, slots-behind, slots-first}
 use Rattle.dom_worlds.proofs.Tests.{by_cases, either_way}
-use Rattle.dom_worlds.proofs.Trees.{by_times, all-both, ancestors-absent, ancestors-present, last-push}
+use Rattle.dom_worlds.proofs.Trees.{by_times, all-both, ancestors-absent, ancestors-present}
 use Rattle.std.proofs.lemmas.List.Elements.{filter-append}
 use Rattle.dom_families.proofs.GroupParts.{in_node}
 use Rattle.dom_families.proofs.GroupVisits.{in_view}
 use Rattle.dom_families.proofs.GroupPaths.{hidden-outside, way-outside}
 use Rattle.dom_families.proofs.GroupViews.{ground, Inside, Outside, veiled-hidden}
 
-module _ (g : Owner → Bool) (closed : KeepsFamilies g) (w : World) (i : IsWorld w) where
+-- what is found passes
+pub found-passes : (test : NodeName → Bool) (xs : List NodeName) (y : NodeName) → find test xs ≡ Some y → test y ≡ true
+found-passes test [] y e = cc
+found-passes test (x ∷ xs) y e =
+    by_cases (test x)
+    (λ t. let both : Some x ≡ Some y = sym (cond-true (test x) (Some x) (find test xs) t) ∙ e in let same : x ≡ y = cc in ap test (sym same) ∙ t)
+    (λ t. found-passes test xs y (sym (cond-false (test x) (Some x) (find test xs) t) ∙ e))
+
+-- where nothing is found, nothing passes
+pub none-found : (test : NodeName → Bool) (xs : List NodeName) → find test xs ≡ None → AllByRecursion (λ x. test x ≡ false) xs
+none-found test [] e = tt
+none-found test (x ∷ xs) e =
+    by_cases (test x) (λ t. let both : Some x ≡ None = sym (cond-true (test x) (Some x) (find test xs) t) ∙ e in cc)
+    (λ t. (t, none-found test xs (sym (cond-false (test x) (Some x) (find test xs) t) ∙ e)))
+
+-- where the last one passes, something is found
+last-found : (test : NodeName → Bool) (xs : List NodeName) (last : NodeName) → test last ≡ true → (a b : NodeName) →
+    unwrap_or (find test (xs ++ last ∷ [])) a ≡ unwrap_or (find test (xs ++ last ∷ [])) b
+last-found test [] last h a b =
+    let found = cond-true (test last) (Some last) None h in
+    ap (λ o. unwrap_or o a) found ∙ sym (ap (λ o. unwrap_or o b) found)
+last-found test (x ∷ xs) last h a b = from (test x) (last-found test xs last h a b)
+  where
+    from : (t : Bool) → unwrap_or (find test (xs ++ last ∷ [])) a ≡ unwrap_or (find test (xs ++ last ∷ [])) b →
+        unwrap_or (if t then Some x else find test (xs ++ last ∷ [])) a ≡ unwrap_or (if t then Some x else find test (xs ++ last ∷ [])) b
+    from true later = refl
+    from false later = later
+
+module _ (g : Owner → Bool) (closed : KeepsMakers g) (w : World) (i : IsWorld w) where
   -- nodes outside
   abbrev Away : NodeName → Type 0
   Away y = Outside g closed w i y
@@ -99,120 +124,109 @@ module _ (g : Owner → Bool) (closed : KeepsFamilies g) (w : World) (i : IsWorl
           subst (λ xs. AllByRecursion Away (cut_at w x (Some y) xs)) (sym whole)
           (all-before Away (λ z. not (ends_at w x (Some y) z)) (way_up w x) host (more ++ outer) (ap not (ends-at_host w i x y host u v)) way)
 
-  -- The way out of a node outside: hosts outside in shadow trees, and the last one, which is the page's or outside too.
-  pub record HasExit (x : NodeName) : Type 0 where
+  -- The way out of a node to the group: hosts outside in shadow trees, and then the chain of hosts of a node of the group.
+  pub record HasExit (x host : NodeName) : Type 0 where
     pub inner : List NodeName
-    pub last : NodeName
-    pub chain : host_chain w x ≡ inner ++ last ∷ []
+    pub chain : host_chain w x ≡ inner ++ host_chain w host
     pub trees : AllByRecursion (λ y. IsInTree w y.owner y) inner
     pub away : AllByRecursion Away inner
-    pub out : last.owner ≢ Page → Away last
-    pub start : last.owner ≡ Page → x.owner ≢ Page → is_in_shadow_tree w x ≡ true
+    pub inside : Inside g closed w i host
 
-  -- a host outside, or the page's
-  host-away : (x host : NodeName) → Away x → host_above w x ≡ Some host → host.owner ≢ Page → Away host
-  host-away x host h e off =
-      let k = hosted w x.owner host (above-host w x host e).0 in
-      let owned = hosted-owned w i x.owner host k in
-      by_cases (in_node g host)
-      (λ t. let made = closed.made k.maker k.number (hosted-maker w i.makers x.owner host k) (λ p. off (owned ∙ p)) in
-      absurd (true≢false (sym t ∙ ap g owned ∙ sym made ∙ ap g (made_by-is x.owner k.maker k.number k.named) ∙ h)))
-      (λ t. t)
+  -- a node of the group is its own boundary host
+  pub boundary-here : (x : NodeName) → in_node g x ≡ true → boundary_host g w x ≡ Some x
+  boundary-here x h =
+      let at = chain-first (owner_depth x.owner) w x in
+      ap (find (in_node g)) at.1 ∙ cond-true (in_node g x) (Some x) (find (in_node g) at.0) h
 
-  -- each node outside has one
-  climb : (depth : ℕ) (x : NodeName) → Away x → owner_depth x.owner ≤ depth → (o : Option NodeName) → host_above w x ≡ o → HasExit x
-  climb depth x h d None e =
-      record {
-        inner = [];
-        last = x;
-        chain = hosts-alone (owner_depth x.owner) w x e;
-        trees = tt;
-        away = tt;
-        out = λ off. h;
-        start = λ page off. absurd (off page);
-      }
-  climb zero x h d (Some host) e = let b = (below-host w i x host e).deeper in absurd (omega (arith, d, b))
-  climb (suc depth) x h d (Some host) e =
-      let b = below-host w i x host e in
-      by_cases (owner_eq host.owner Page)
-      (λ t. let page = owner_eq-true host.owner Page t in
-      record {
-        inner = x ∷ [];
-        last = host;
-        chain = chain-below w x host b ∙ ap (λ xs. x ∷ xs) (host_chain-page w host page);
-        trees = (b.tree, tt);
-        away = (h, tt);
-        out = λ off. absurd (off page);
-        start = λ p off. ap is_some e;
-      })
-      (λ t. let off = owner_eq-false host.owner Page t in
-      let deep = b.deeper in
-      let k = climb depth host (host-away x host h e off) (omega (arith, d, deep)) (host_above w host) refl in
-      record {
-        inner = x ∷ k.inner;
-        last = k.last;
-        chain = chain-below w x host b ∙ ap (λ xs. x ∷ xs) k.chain;
-        trees = (b.tree, k.trees);
-        away = (h, k.away);
-        out = k.out;
-        start = λ p f. ap is_some e;
-      })
+  -- a node outside has that of the host above,
+  pub boundary-above : (x up : NodeName) → Away x → IsBelow w x up → boundary_host g w x ≡ boundary_host g w up
+  boundary-above x up h b = ap (find (in_node g)) (chain-below w x up b) ∙ cond-false (in_node g x) (Some x) (find (in_node g) (host_chain w up)) h
+
+  -- and without one it has none
+  pub boundary-alone : (x : NodeName) → Away x → host_above w x ≡ None → boundary_host g w x ≡ None
+  boundary-alone x h e = ap (find (in_node g)) (hosts-alone (owner_depth x.owner) w x e) ∙ cond-false (in_node g x) (Some x) None h
+
+  -- the way out of a node of the group is no step,
+  exit-here : (x host : NodeName) → in_node g x ≡ true → boundary_host g w x ≡ Some host → HasExit x host
+  exit-here x host h b =
+      let both : Some x ≡ Some host = sym (boundary-here x h) ∙ b in
+      let same : x ≡ host = cc in
+      subst (HasExit x) same (record { inner = []; chain = refl; trees = tt; away = tt; inside = h })
+
+  -- and that of a node outside begins with it, and goes on at the host above
+  exit-above : (x host : NodeName) → Away x → boundary_host g w x ≡ Some host →
+      ((up : NodeName) → IsBelow w x up → boundary_host g w up ≡ Some host → HasExit up host) → HasExit x host
+  exit-above x host h b more = from (host_above w x) refl
+    where
+      from : (o : Option NodeName) → host_above w x ≡ o → HasExit x host
+      from None e = let both : None ≡ Some host = sym (boundary-alone x h e) ∙ b in cc
+      from (Some up) e =
+          let below = below-host w i x up e in
+          let k = more up below (sym (boundary-above x up h below) ∙ b) in
+          record {
+            inner = x ∷ k.inner;
+            chain = chain-below w x up below ∙ ap (λ xs. x ∷ xs) k.chain;
+            trees = (below.tree, k.trees);
+            away = (h, k.away);
+            inside = k.inside;
+          }
+
+  -- each node with a boundary host has one
+  climb : (depth : ℕ) (x host : NodeName) → owner_depth x.owner ≤ depth → boundary_host g w x ≡ Some host → HasExit x host
+  climb zero x host d b =
+      by_cases (in_node g x) (λ h. exit-here x host h b)
+      (λ h. exit-above x host h b (λ up below c. let deep = below.deeper in absurd (omega (arith, d, deep))))
+  climb (suc depth) x host d b =
+      by_cases (in_node g x) (λ h. exit-here x host h b)
+      (λ h. exit-above x host h b (λ up below c. let deep = below.deeper in climb depth up host (omega (arith, d, deep)) c))
 
   -- any
-  pub has-exit : (x : NodeName) → Away x → HasExit x
-  has-exit x h = climb (owner_depth x.owner) x h (omega arith) (host_above w x) refl
+  pub has-exit : (x host : NodeName) → boundary_host g w x ≡ Some host → HasExit x host
+  has-exit x host b = climb (owner_depth x.owner) x host (omega arith) b
 
-  -- an exit at no page node has no node of the group
-  pub exit-away : (x : NodeName) → (k : HasExit x) → k.last.owner ≢ Page → AllByRecursion Away (host_chain w x)
-  exit-away x k off = subst (AllByRecursion Away) (sym k.chain) (all-append Away k.inner (k.last ∷ []) k.away (k.out off, tt))
+  -- A node without a boundary host has no node of the group in its chain.
+  pub exit-away : (x : NodeName) → boundary_host g w x ≡ None → AllByRecursion Away (host_chain w x)
+  exit-away x b = none-found (in_node g) (host_chain w x) b
 
-  -- the outermost host is the exit, where that is a page node
-  pub exit-host : (x : NodeName) → (k : HasExit x) → is_in_shadow_tree w x ≡ true → outermost_host w x ≡ (if is_page k.last.owner then Some k.last else None)
-  exit-host x k h =
-      ap (λ b. if b && is_page (unwrap_or (last_of (host_chain w x)) x).owner then Some (unwrap_or (last_of (host_chain w x)) x) else None) h
-      ∙ ap (λ o. if is_page (unwrap_or o x).owner then Some (unwrap_or o x) else None) (ap last_of k.chain ∙ last-push None k.inner k.last)
-
-  -- An event that goes out shows the group what it shows at that host.
+  -- An event that goes out shows the group what one at that host shows.
   -- the path
-  path-exit : (x : NodeName) → (k : HasExit x) → event_path w x None true ≡ flat_map (way_up w) k.inner ++ way_up w k.last
-  path-exit x k =
-      uncut w x None (whole_path w x true) (all-from (λ y. ends_at w x None y ≡ false) (no_end w x) (whole_path w x true))
-      ∙ ap (flat_map (way_up w)) k.chain ∙ flat_map-append (way_up w) k.inner (k.last ∷ [])
-      ∙ ap (λ xs. flat_map (way_up w) k.inner ++ xs) (append-nil (way_up w k.last))
+  path-chain : (x : NodeName) → event_path w x None true ≡ flat_map (way_up w) (host_chain w x)
+  path-chain x = uncut w x None (whole_path w x true) (all-from (λ y. ends_at w x None y ≡ false) (no_end w x) (whole_path w x true))
 
-  -- of the event at the host
-  path-host : (host : NodeName) → host.owner ≡ Page → event_path w host None true ≡ way_up w host
-  path-host host p =
-      uncut w host None (whole_path w host true) (all-from (λ y. ends_at w host None y ≡ false) (no_end w host) (whole_path w host true))
-      ∙ ap (flat_map (way_up w)) (host_chain-page w host p) ∙ append-nil (way_up w host)
+  -- with an exit
+  path-exit : (x host : NodeName) → (k : HasExit x host) →
+      event_path w x None true ≡ flat_map (way_up w) k.inner ++ flat_map (way_up w) (host_chain w host)
+  path-exit x host k = path-chain x ∙ ap (flat_map (way_up w)) k.chain ∙ flat_map-append (way_up w) k.inner (host_chain w host)
 
-  -- what is seen in its place
-  retarget-exit : (x y : NodeName) → (k : HasExit x) → k.last.owner ≡ Page → Inside g closed w i y → retarget w x y ≡ k.last
-  retarget-exit x y k p h =
-      ap (λ xs. unwrap_or (find (λ z. not (is_hidden_from w y z)) xs) x) k.chain ∙ ap (λ o. unwrap_or o x) (outermost k.inner k.trees k.away)
-    where
-      outermost : (inner : List NodeName) → AllByRecursion (λ z. IsInTree w z.owner z) inner → AllByRecursion Away inner →
-          find (λ z. not (is_hidden_from w y z)) (inner ++ k.last ∷ []) ≡ Some k.last
-      outermost [] t a = cond-true (not (is_hidden_from w y k.last)) (Some k.last) None (ap not (page-not_hidden w y k.last p))
-      outermost (z ∷ zs) t a =
-          cond-false (not (is_hidden_from w y z)) (Some z) (find (λ z. not (is_hidden_from w y z)) (zs ++ k.last ∷ []))
-          (ap not (hidden-outside g closed w (ground g closed w i) z.owner y z h a.0 t.0))
-          ∙ outermost zs t.1 a.1
+  -- Of each chain of hosts something is seen: its last node is in no shadow tree.
+  something-seen : (x y other : NodeName) →
+      unwrap_or (find (λ z. not (is_hidden_from w y z)) (host_chain w x)) other ≡ unwrap_or (find (λ z. not (is_hidden_from w y z)) (host_chain w x)) x
+  something-seen x y other =
+      let k = has-chain w i x in
+      let seen : NodeName → Bool = λ z. not (is_hidden_from w y z) in
+      let last : seen k.last ≡ true = ap (λ (o : Option NodeName).
+      not (is_some o && not (is_in name_eq (root_at w k.last) (shadow_including_ancestors w y)))) k.out in
+      subst (λ xs. unwrap_or (find seen xs) other ≡ unwrap_or (find seen xs) x) (sym k.chain) (last-found seen k.inner k.last last other x)
 
-  -- of the host
-  retarget-host : (host y : NodeName) → host.owner ≡ Page → retarget w host y ≡ host
-  retarget-host host y p =
-      ap (λ xs. unwrap_or (find (λ z. not (is_hidden_from w y z)) xs) host) (host_chain-page w host p)
-      ∙ ap (λ o. unwrap_or o host) (cond-true (not (is_hidden_from w y host)) (Some host) None (ap not (page-not_hidden w y host p)))
+  -- so it is seen as the host is
+  retarget-exit : (x host y : NodeName) → HasExit x host → Inside g closed w i y → retarget w x y ≡ retarget w host y
+  retarget-exit x host y k h =
+      let seen : NodeName → Bool = λ z. not (is_hidden_from w y z) in
+      let hidden : AllByRecursion (λ z. seen z ≡ false) k.inner =
+      all-then (λ z. Away z × IsInTree w z.owner z) (λ z. seen z ≡ false)
+      (λ z both. ap not (hidden-outside g closed w (ground g closed w i) z.owner y z h both.0 both.1)) k.inner
+      (all-both Away (λ z. IsInTree w z.owner z) k.inner k.away k.trees) in
+      ap (λ xs. unwrap_or (find seen xs) x) k.chain ∙ ap (λ o. unwrap_or o x) (find-past seen k.inner (host_chain w host) hidden)
+      ∙ something-seen host y x
 
   -- the ways up inside are outside and in shadow trees
-  inner-away : (x : NodeName) → (k : HasExit x) → AllByRecursion Away (flat_map (way_up w) k.inner)
-  inner-away x k =
+  inner-away : (x host : NodeName) → (k : HasExit x host) → AllByRecursion Away (flat_map (way_up w) k.inner)
+  inner-away x host k =
       all-flat_map Away (way_up w) k.inner (all-then Away (λ y. AllByRecursion Away (way_up w y)) (way-outside g closed w (ground g closed w i)) k.inner k.away)
 
   -- in shadow trees
-  inner-veiled : (x : NodeName) → (k : HasExit x) → AllByRecursion (IsInSome w) (flat_map (way_up w) k.inner)
-  inner-veiled x k =
+  inner-veiled : (x host : NodeName) → (k : HasExit x host) → AllByRecursion (IsInSome w) (flat_map (way_up w) k.inner)
+  inner-veiled x host k =
       all-flat_map (IsInSome w) (way_up w) k.inner (all-then (λ y. IsInTree w y.owner y) (λ y. AllByRecursion (IsInSome w) (way_up w y)) up k.inner k.trees)
     where
       up : (y : NodeName) → IsInTree w y.owner y → AllByRecursion (IsInSome w) (way_up w y)
@@ -223,30 +237,28 @@ module _ (g : Owner → Bool) (closed : KeepsFamilies g) (w : World) (i : IsWorl
           (ancestors-in_tree w i y.owner y t))
 
   -- the views
-  pub views-exit : (x : NodeName) → (k : HasExit x) → k.last.owner ≡ Page →
-      filter (in_view g) (views w x None true) ≡ filter (in_view g) (views w k.last None true)
-  views-exit x k p =
+  pub views-exit : (x host : NodeName) → HasExit x host → filter (in_view g) (views w x None true) ≡ filter (in_view g) (views w host None true)
+  views-exit x host k =
       let inner = flat_map (way_up w) k.inner in
-      let outer = way_up w k.last in
+      let outer = flat_map (way_up w) (host_chain w host) in
       let mine = filter (in_node g) outer in
       let kept : filter (in_node g) (inner ++ outer) ≡ mine =
-      filter-append (in_node g) inner outer ∙ ap (λ xs. xs ++ mine) (filter_none (in_node g) inner (inner-away x k)) in
+      filter-append (in_node g) inner outer ∙ ap (λ xs. xs ++ mine) (filter_none (in_node g) inner (inner-away x host k)) in
       let hidden : (y : NodeName) → Inside g closed w i y →
       filter (λ z. not (is_hidden_from w y z)) (inner ++ outer) ≡ filter (λ z. not (is_hidden_from w y z)) outer =
       λ y h. filter-append (λ z. not (is_hidden_from w y z)) inner outer
       ∙ ap (λ xs. xs ++ filter (λ z. not (is_hidden_from w y z)) outer)
       (filter_none (λ z. not (is_hidden_from w y z)) inner
       (all-then (λ z. Away z × IsInSome w z) (λ z. not (is_hidden_from w y z) ≡ false) (λ z both. veiled-hidden g closed w i y h z (λ q. both.1) both.0) inner
-      (all-both Away (IsInSome w) inner (inner-away x k) (inner-veiled x k)))) in
+      (all-both Away (IsInSome w) inner (inner-away x host k) (inner-veiled x host k)))) in
       let shown : NodeName → NodeName → List NodeName → View NodeName = λ y t q. record { node = y; target = t; related = None; path = q } in
-      let at : (y : NodeName) → Inside g closed w i y → view_at w x None (inner ++ outer) y ≡ view_at w k.last None outer y =
-      λ y h. ap (λ t. shown y t (filter (λ z. not (is_hidden_from w y z)) (inner ++ outer)))
-      (retarget-exit x y k p h ∙ sym (retarget-host k.last y p))
-      ∙ ap (shown y (retarget w k.last y)) (hidden y h) in
-      ap (λ path. filter (in_view g) (map (view_at w x None path) path)) (path-exit x k)
+      let at : (y : NodeName) → Inside g closed w i y → view_at w x None (inner ++ outer) y ≡ view_at w host None outer y =
+      λ y h. ap (λ t. shown y t (filter (λ z. not (is_hidden_from w y z)) (inner ++ outer))) (retarget-exit x host y k h)
+      ∙ ap (shown y (retarget w host y)) (hidden y h) in
+      ap (λ path. filter (in_view g) (map (view_at w x None path) path)) (path-exit x host k)
       ∙ filter-map (in_view g) (view_at w x None (inner ++ outer)) (inner ++ outer) ∙ ap (map (view_at w x None (inner ++ outer))) kept
-      ∙ map_same (view_at w x None (inner ++ outer)) (view_at w k.last None outer) mine
-      (all-then (Inside g closed w i) (λ y. view_at w x None (inner ++ outer) y ≡ view_at w k.last None outer y) at mine
+      ∙ map_same (view_at w x None (inner ++ outer)) (view_at w host None outer) mine
+      (all-then (Inside g closed w i) (λ y. view_at w x None (inner ++ outer) y ≡ view_at w host None outer y) at mine
       (all-passed (Inside g closed w i) (in_node g) (λ y e. e) outer))
-      ∙ sym (ap (λ path. filter (in_view g) (map (view_at w k.last None path) path)) (path-host k.last p)
-      ∙ filter-map (in_view g) (view_at w k.last None outer) outer)
+      ∙ sym (ap (λ path. filter (in_view g) (map (view_at w host None path) path)) (path-chain host)
+      ∙ filter-map (in_view g) (view_at w host None outer) outer)

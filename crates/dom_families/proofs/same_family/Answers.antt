@@ -1,8 +1,5 @@
-use Rattle.dom_families.proofs.GroupRuns.{same-group, same-family_while_turns_stand, same-family}
+use Rattle.dom_families.proofs.GroupMembers.{same-family_while_turns_stand, same-family}
 use Rattle.dom_families.proofs.same_family.Goals as goal
-
-pub returns-clause-group : goal.returns-clause-group
-returns-clause-group c = λ read. same-group read
 
 pub returns-clause-standing : goal.returns-clause-standing
 returns-clause-standing c = λ read. same-family_while_turns_stand read

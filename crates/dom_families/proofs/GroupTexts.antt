@@ -1,5 +1,4 @@
--- Texts: an owner's lines of output are those that begin with its word and a space, so two texts that agree for a family have equal lines of
--- each member.
+-- Texts: an owner's lines of output are those that begin with its word and a space, so two texts that agree for a group give each member the same.
 use Rattle.std.proofs.Common.{◌≡◌, ◌<◌, ◌^◌, ℕ, List, [], ◌∷◌, map, Some, refl, sym, ap, ◌∙◌, inl, inr, arith, subst}
 use Rattle.std.proofs.lemmas.Bool.{cases_eq}
 use Rattle.std.specs.List.{AllByRecursion}
@@ -12,7 +11,8 @@ use Rattle.dom_model.specs.Command.{Line, no_owner, no_command, command}
 use Rattle.dom_model.specs.DocumentMachine.{outputs_of}
 use Rattle.dom_model.specs.Names.{owner_eq}
 use Rattle.dom_model.specs.Output.{Output, bad_owner, says}
-use Rattle.dom_model.specs.Trace.{is_of, owner_of_line, owner_of_output}
+use Rattle.dom_model.specs.Groups.{is_in_family, family_group, makers_group, group_without}
+use Rattle.dom_model.specs.Trace.{is_page, is_of, owner_of_line, owner_of_output}
 use Rattle.dom_model.proofs.OwnerLaws.{owner_eq-true, owner_eq-same, owner_eq-false, ne-owner_eq}
 use Rattle.dom_text.specs.Decode.{decode}
 use Rattle.dom_text.specs.Grammar.{Says, BelongsTo}
@@ -25,9 +25,12 @@ use Rattle.dom_text.proofs.TextLaws.{HasWord, IsOwner-owner_word, IsNumber-decim
 use Rattle.dom_isolation.specs.Words.{ReadsPlainWords}
 use Rattle.dom_worlds.proofs.Lists.{all-from, all-map, filter_same}
 use Rattle.dom_isolation.proofs.PlainTexts.{output-has_its_lines}
-use Rattle.dom_worlds.proofs.Tests.{by_cases}
+use Rattle.dom_worlds.proofs.Tests.{by_cases, or-second}
 use Rattle.dom_families.specs.Texts.{IsWordOf, ReadsOwners, DecodeReadsOwners, OwnLinesHaveTheirPrefix, SameFamilyText, SameFamilyTextWhileTurnsStand}
-use Rattle.dom_families.proofs.GroupRuns.{same-family, same-family_while_turns_stand}
+use Rattle.dom_families.specs.Texts.{SameGroupText, SameGroupTextWhileTurnsStand, SameComponentText, SameComponentTextWhileTurnsStand}
+use Rattle.dom_families.specs.Texts.{SameAroundText, SameAroundTextWhileTurnsStand}
+use Rattle.dom_families.proofs.Families.{family-is_group, makers-are_group, others-are_group, own-maker}
+use Rattle.dom_families.proofs.GroupMembers.{same-member_while_turns_stand, agree-standing}
 use Rattle.dom_families.proofs.WordedRuns.{IsWordedInput, worded-outputs}
 
 -- a number of one to nine digits that does not begin with 0 is not 0
@@ -88,16 +91,46 @@ module _ (read : List ℕ → Line) where
       ∙ ap (map output_line) (filter_same (is_line_of o) (λ l. is_of (owner_eq o) (owner_of_output l)) outputs
       (all-from (λ l. is_line_of o l ≡ is_of (owner_eq o) (owner_of_output l)) (line-is_of o) outputs))
 
-  -- two texts
+  -- Two texts: a member of a group,
+  pub same-group_text_while_turns_stand : ReadsOwners read → ReadsPlainWords read → SameGroupTextWhileTurnsStand read
+  same-group_text_while_turns_stand owners plain g closed member m t first second k =
+      own_lines-have_their_prefix owners plain member t first
+      ∙ ap (map output_line) (same-member_while_turns_stand read g closed member m (lines_of first) (lines_of second) k)
+      ∙ sym (own_lines-have_their_prefix owners plain member t second)
+
+  -- with closed turns
+  pub same-group_text : ReadsOwners read → ReadsPlainWords read → SameGroupText read
+  same-group_text owners plain g closed member m t first second k =
+      same-group_text_while_turns_stand owners plain g closed member m t first second (agree-standing read g (lines_of first) (lines_of second) k)
+
+  -- of a family,
   pub same-family_text_while_turns_stand : ReadsOwners read → ReadsPlainWords read → SameFamilyTextWhileTurnsStand read
   same-family_text_while_turns_stand owners plain root member m t first second a b c d e =
-      own_lines-have_their_prefix owners plain member t first
-      ∙ ap (map output_line) (same-family_while_turns_stand read root member m (lines_of first) (lines_of second) a b c d e)
-      ∙ sym (own_lines-have_their_prefix owners plain member t second)
+      same-group_text_while_turns_stand owners plain (family_group root) (family-is_group root) member
+      (or-second (is_page member) (is_in_family root member) m) t first second ((a, b, e), c, d)
 
   -- with closed turns
   pub same-family_text : ReadsOwners read → ReadsPlainWords read → SameFamilyText read
   same-family_text owners plain root member off m t first second a b c d e =
-      own_lines-have_their_prefix owners plain member t first
-      ∙ ap (map output_line) (same-family read root member off m (lines_of first) (lines_of second) a b c d e)
-      ∙ sym (own_lines-have_their_prefix owners plain member t second)
+      same-group_text owners plain (family_group root) (family-is_group root) member
+      (or-second (is_page member) (is_in_family root member) m) t first second ((a, b, e), c, d)
+
+  -- a component with its makers,
+  pub same-component_text_while_turns_stand : ReadsOwners read → ReadsPlainWords read → SameComponentTextWhileTurnsStand read
+  same-component_text_while_turns_stand owners plain c t first second k =
+      same-group_text_while_turns_stand owners plain (makers_group c) (makers-are_group c) c (own-maker c) t first second k
+
+  -- with closed turns
+  pub same-component_text : ReadsOwners read → ReadsPlainWords read → SameComponentText read
+  same-component_text owners plain c t first second k =
+      same-group_text owners plain (makers_group c) (makers-are_group c) c (own-maker c) t first second k
+
+  -- and around a component
+  pub same-around_text_while_turns_stand : ReadsOwners read → ReadsPlainWords read → SameAroundTextWhileTurnsStand read
+  same-around_text_while_turns_stand owners plain c o off out t first second k =
+      same-group_text_while_turns_stand owners plain (group_without c) (others-are_group c off) o out t first second k
+
+  -- with closed turns
+  pub same-around_text : ReadsOwners read → ReadsPlainWords read → SameAroundText read
+  same-around_text owners plain c o off out t first second k =
+      same-group_text owners plain (group_without c) (others-are_group c off) o out t first second k
