@@ -15,7 +15,7 @@ use Rattle.dom_model.specs.Tree.{node_in, root_of}
 use Rattle.dom_model.specs.Command.{Command, NodeWord, EventWords}
 use Rattle.dom_model.specs.Output.{says, nothing, a_truth}
 use Rattle.dom_model.specs.Part.{Part}
-use Rattle.dom_model.specs.Runs.{quiet, run_then, answering, unless_refused}
+use Rattle.dom_model.specs.Runs.{Run, quiet, run_then, answering, unless_refused}
 use Rattle.dom_model.specs.CommandRefusals.{part_refusal, related_refusal, has_other_root}
 use Rattle.dom_model.specs.CommandNames.{named}
 use Rattle.dom_model.specs.Effects.{Effect, tables, changes, effect}
@@ -28,8 +28,11 @@ use Rattle.dom_model.specs.PageMachine.{PageState, page_of, is_page_task}
 use Rattle.dom_model.proofs.OwnerLaws.{component_made-no_page, name_eq-true}
 use Rattle.dom_model.proofs.PartLaws.{part_of-with_part-other, owner-part_of}
 use Rattle.dom_model.proofs.StepLaws.{Component-IsNoPage}
-use Rattle.dom_isolation.specs.Laws.{ComponentDispatchAgrees, page_run}
-use Rattle.dom_worlds.specs.Reached.{IsQuiet}
+use Rattle.dom_isolation.specs.Laws.{page_run}
+use Rattle.dom_worlds.specs.Reached.{Invariant}
+use Rattle.dom_worlds.specs.Worlds.{IsWorld}
+use Rattle.dom_isolation.specs.Interference.{Interference, first_record, interference_at, accepted_records, command_records}
+use Rattle.dom_isolation.proofs.Dispatches.{done_to}
 use Rattle.dom_worlds.proofs.Tests.{by_cases, and-true_false}
 use Rattle.dom_isolation.proofs.SeenRuns.{run_then-square, same_page_of, outputs_for_page-other}
 use Rattle.dom_isolation.proofs.PageSteps.{page_of-world_after-other}
@@ -92,27 +95,26 @@ outward-same group w {o} out x e None =
     sym (ap (λ b. if not b && e.composed then option_map (outward_of e) (boundary_host group w (named (part_of w o) x)) else None) out)
 outward-same group w out x e (Some y) = refl
 
+-- what the page sees of a command is its outward event, as far as others let it come
+abbrev IsOutwardCommand : World → ComponentName → Command → Type 0
+IsOutwardCommand w k c =
+    page_run (perform w (Component k) c) ≡ outward_run (done_to w (Component k) c).reached (page_of w) (outward_dispatch is_page w (Component k) c)
+
 -- A dispatch.
-dispatched-component : {w : World} (k : ComponentName) → IsQuiet w → (x : NodeWord) (e : EventWords) (related : Option NodeWord) →
-    part_refusal (part_of w (Component k)) (Command.dispatch x e related) ≡ None →
-    page_run (perform w (Component k) (Command.dispatch x e related)) ≡ outward_run (page_of w)
-    (outward_dispatch is_page w (Component k) (Command.dispatch x e related))
-dispatched-component {w} k q x e related h =
+pub dispatched-component : {w : World} (k : ComponentName) → IsWorld w → (x : NodeWord) (e : EventWords) (related : Option NodeWord) →
+    part_refusal (part_of w (Component k)) (Command.dispatch x e related) ≡ None → IsOutwardCommand w k (Command.dispatch x e related)
+dispatched-component {w} k i x e related h =
     let p = part_of w (Component k) in
     let o = owner-part_of w (Component k) in
     let target = named p x in
+    let near = option_map (named p) related in
     let mine : target.owner ≡ Component k = owner-named p x ∙ o in
-    let d = dispatch_in w target (option_map (named p) related) e in
-    let seen = dispatch-component q target (option_map (named p) related) e (λ z. Component-IsNoPage k (sym mine ∙ z))
-    (related-same_root w k x e related h) in
+    let d = dispatch_in w target near e in
+    let seen = dispatch-component i target near e (λ z. Component-IsNoPage k (sym mine ∙ z)) (related-same_root w k x e related h) in
+    let reached = (interference_at is_page w target near e).reached in
     run_then-square d.run (answering (Component k) (a_truth d.answer)) quiet refl
-    ∙ ap (λ r. run_then r quiet) seen ∙ run_then-quiet_end (outward_run (page_of w) (outward_at is_page w target e (option_map (named p) related)))
-    ∙ ap (outward_run (page_of w)) (outward-same is_page w refl x e related)
-
--- any component's
-pub component_dispatch-agrees : ComponentDispatchAgrees
-component_dispatch-agrees w Page off q x e related h = absurd (off refl)
-component_dispatch-agrees w (Component k) off q x e related h = dispatched-component k q x e related h
+    ∙ ap (λ r. run_then r quiet) seen ∙ run_then-quiet_end (outward_run reached (page_of w) (outward_at is_page w target e near))
+    ∙ ap (outward_run reached (page_of w)) (outward-same is_page w refl x e related)
 
 -- An attach writes two parts, neither of which is the page's.
 attaching-component : (w : World) (k : ComponentName) (x : NodeName) → page_run (attaching w (Component k) x) ≡ quiet (page_of w)
@@ -129,13 +131,12 @@ attaching-component w k x =
     refl refl)
 
 -- Any accepted command.
-pub perform-component : (w : World) (k : ComponentName) → IsQuiet w → is_page_turn w.turn ≡ false → (c : Command) →
-    part_refusal (part_of w (Component k)) c ≡ None →
-    page_run (perform w (Component k) c) ≡ outward_run (page_of w) (outward_dispatch is_page w (Component k) c)
+perform-component : {only_log : Bool} (w : World) (k : ComponentName) → Invariant only_log w → is_page_turn w.turn ≡ false → (c : Command) →
+    part_refusal (part_of w (Component k)) c ≡ None → IsOutwardCommand w k c
 perform-component w k q t (Command.attach a) r = attaching-component w k (named (part_of w (Component k)) a)
 perform-component w k q t (Command.connected a) r = refl
 perform-component w k q t (Command.assigned a) r = refl
-perform-component w k q t (Command.dispatch a b c) r = dispatched-component k q a b c r
+perform-component w k q t (Command.dispatch a b c) r = dispatched-component k q.world a b c r
 perform-component w k q t (Command.micro a) r =
     ap quiet (same_page_of (record w { tasks = w.tasks ++ micro_task (Component k) a ∷ [] }) w refl
     (filter-append is_page_task w.tasks (micro_task (Component k) a ∷ []) ∙ append-nil (filter is_page_task w.tasks)) refl)
@@ -166,36 +167,47 @@ opened-event group w o c =
         (hosts-in_turn w (Some o) (owner_depth x.owner) x)
     in_turn c = refl
 
--- with the turn that it opens
-opened : (w : World) (k : ComponentName) → IsQuiet w → is_page_turn w.turn ≡ false → (c : Command) → part_refusal (part_of w (Component k)) c ≡ None →
-    page_run (perform (opening_turn w (Component k)) (Component k) c) ≡ outward_run (page_of w) (outward_dispatch is_page w (Component k) c)
-opened w k q t c r =
-    perform-component (opening_turn w (Component k)) k (quiet-opening w q (Component k))
-    (ap (λ (s : PageState). s.is_open) (opening-component w k t) ∙ t) c
-    (ap (λ p. part_refusal p c) (part_of-opening w (Component k) (Component k)) ∙ r)
-    ∙ ap (λ s. outward_run s (outward_dispatch is_page (opening_turn w (Component k)) (Component k) c)) (opening-component w k t)
-    ∙ ap (outward_run (page_of w)) (opened-event is_page w (Component k) c)
+-- what the page sees of an accepted command, by what is told of it
+abbrev Shows : List Interference → World → ComponentName → Command → Type 0
+Shows told w k c = page_run (accepted w (Component k) c) ≡ outward_run (first_record told).reached (page_of w) (outward_dispatch is_page w (Component k) c)
 
--- `.` apart, which opens none
-accepted-component : (w : World) (k : ComponentName) → IsQuiet w → is_page_turn w.turn ≡ false → (c : Command) →
-    part_refusal (part_of w (Component k)) c ≡ None →
-    page_run (accepted w (Component k) c) ≡ outward_run (page_of w) (outward_dispatch is_page w (Component k) c)
-accepted-component w k q t Command.end_turn r = perform-component w k q t Command.end_turn r
-accepted-component w k q t c r = opened w k q t c r
+-- The same of an accepted command, and of one that may be refused.
+module _ {only_log : Bool} where
+  -- with the turn that it opens
+  opened : (w : World) (k : ComponentName) → Invariant only_log w → is_page_turn w.turn ≡ false → (c : Command) →
+      part_refusal (part_of w (Component k)) c ≡ None →
+      page_run (perform (opening_turn w (Component k)) (Component k) c)
+      ≡ outward_run (done_to (opening_turn w (Component k)) (Component k) c).reached (page_of w) (outward_dispatch is_page w (Component k) c)
+  opened w k q t c r =
+      let v = opening_turn w (Component k) in
+      let reached = (done_to v (Component k) c).reached in
+      perform-component v k (quiet-opening w q (Component k)) (ap (λ (s : PageState). s.is_open) (opening-component w k t) ∙ t) c
+      (ap (λ p. part_refusal p c) (part_of-opening w (Component k) (Component k)) ∙ r)
+      ∙ ap (λ s. outward_run reached s (outward_dispatch is_page v (Component k) c)) (opening-component w k t)
+      ∙ ap (outward_run reached (page_of w)) (opened-event is_page w (Component k) c)
 
--- refused or accepted
-pub command-component : (w : World) (k : ComponentName) → IsQuiet w → (c : Command) →
-    page_run (run_command (Component k) c w) ≡ outward_run (page_of w) (outward_command is_page w (Component k) c)
-command-component w k q c = from (refusal w (Component k) c) refl
-  where
-    from : (r : Option Refusal) → refusal w (Component k) c ≡ r →
-        page_run (unless_refused (Component k) (refusal w (Component k) c) w (accepted w (Component k) c)) ≡ outward_run (page_of w)
-        (if is_none (refusal w (Component k) c) then outward_dispatch is_page w (Component k) c else None)
-    from (Some r) e =
-        ap (λ o. page_run (unless_refused (Component k) o w (accepted w (Component k) c))) e ∙
-        sym (ap (λ o. outward_run (page_of w) (if is_none o then outward_dispatch is_page w (Component k) c else None)) e)
-    from None e =
-        let a = accepted-facts w (Component k) c e in
-        ap (λ o. page_run (unless_refused (Component k) o w (accepted w (Component k) c))) e
-        ∙ accepted-component w k q (and-true_false (is_page_turn w.turn) a.calm) c a.part
-        ∙ sym (ap (λ o. outward_run (page_of w) (if is_none o then outward_dispatch is_page w (Component k) c else None)) e)
+  -- `.` apart, which opens none
+  accepted-component : (w : World) (k : ComponentName) → Invariant only_log w → is_page_turn w.turn ≡ false → (c : Command) →
+      part_refusal (part_of w (Component k)) c ≡ None → Shows (accepted_records is_page w (Component k) c) w k c
+  accepted-component w k q t Command.end_turn r = perform-component w k q t Command.end_turn r
+  accepted-component w k q t c r = opened w k q t c r
+
+  -- refused or accepted
+  pub command-component : (w : World) (k : ComponentName) → Invariant only_log w → (c : Command) →
+      page_run (run_command (Component k) c w)
+      ≡ outward_run (first_record (command_records is_page w (Component k) c)).reached (page_of w) (outward_command is_page w (Component k) c)
+  command-component w k q c = from (refusal w (Component k) c) refl
+    where
+      shown : Option Refusal → Run PageState
+      shown r =
+          outward_run (first_record (if is_none r then accepted_records is_page w (Component k) c else [])).reached (page_of w)
+          (if is_none r then outward_dispatch is_page w (Component k) c else None)
+
+      from : (r : Option Refusal) → refusal w (Component k) c ≡ r →
+          page_run (unless_refused (Component k) (refusal w (Component k) c) w (accepted w (Component k) c)) ≡ shown (refusal w (Component k) c)
+      from (Some r) e =
+          ap (λ o. page_run (unless_refused (Component k) o w (accepted w (Component k) c))) e ∙ sym (ap shown e)
+      from None e =
+          let a = accepted-facts w (Component k) c e in
+          ap (λ o. page_run (unless_refused (Component k) o w (accepted w (Component k) c))) e
+          ∙ accepted-component w k q (and-true_false (is_page_turn w.turn) a.calm) c a.part ∙ sym (ap shown e)

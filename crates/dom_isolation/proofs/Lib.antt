@@ -1,5 +1,9 @@
 mod SeenRuns
 mod PageSteps
+pub mod GroupParts
+pub mod OwnVisits
+pub mod Touches
+pub mod Untouched
 mod PageVisits
 mod Dispatches
 pub mod Hiding
@@ -10,6 +14,8 @@ mod PageCommands
 pub mod ComponentEvents
 pub mod ComponentCommands
 mod Lines
+pub mod FullTraces
+mod QuietPages
 pub mod PageRuns
 pub mod PageTexts
 mod PlainWords

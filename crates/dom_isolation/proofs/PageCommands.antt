@@ -1,7 +1,7 @@
 -- A command of the page in the world does to the page's part what it does in the page machine.
 use Rattle.std.proofs.Common.{◌≡◌, Bool, true, false, not, ◌&&◌, List, [], ◌∷◌, ◌++◌, length, map, Option, Some, None, option_map, unwrap_or, refl, sym, ap}
 use Rattle.std.proofs.Common.{◌∙◌, true≢false, subst}
-use Rattle.std.specs.Prelude.{option_to_list}
+use Rattle.std.specs.Prelude.{is_none, option_to_list, if◌then◌else◌}
 use Rattle.std.specs.List.{AllByRecursion, last_or}
 use Rattle.std.specs.Option.{option_or}
 use Rattle.std.proofs.lemmas.List.Elements.{filter-append}
@@ -24,19 +24,21 @@ use Rattle.dom_model.specs.World.{World, micro_task, part_of, with_part, is_ther
 use Rattle.dom_model.specs.Dispatch.{Dispatched, dispatch_in}
 use Rattle.dom_model.specs.Turns.{ending_turn, opening_turn, is_page_turn}
 use Rattle.dom_model.specs.DocumentMachine.{refusal, is_busy, effect_in, attaching, part_with_root, perform, accepted, run_command}
-use Rattle.dom_model.specs.Trace.{outputs_for}
-use Rattle.dom_model.specs.PageMachine.{PageState, page_of, is_page_task, page_refusal, page_effect, page_attaching, page_perform, page_accepted, page_command}
+use Rattle.dom_model.specs.Trace.{is_page, outputs_for}
+use Rattle.dom_isolation.specs.Interference.{Interference, first_record, accepted_records, command_records}
+use Rattle.dom_isolation.specs.TouchedMachines.{page_perform_under, page_accepted_under, page_command_under}
+use Rattle.dom_model.specs.PageMachine.{PageState, page_of, is_page_task, page_refusal, page_effect, page_attaching}
 use Rattle.dom_model.proofs.PartLaws.{part_of-with_part, part_of-with_part-other, owner-part_of}
 use Rattle.dom_model.proofs.OwnerLaws.{component_made-no_page}
 use Rattle.dom_isolation.specs.Laws.{page_run}
-use Rattle.dom_worlds.specs.Reached.{IsQuiet}
+use Rattle.dom_worlds.specs.Reached.{Invariant}
 use Rattle.dom_worlds.specs.Worlds.{IsWorld, IsOf}
 use Rattle.dom_isolation.proofs.SeenRuns.{run_then-square, outputs_for_page-says}
 use Rattle.dom_isolation.proofs.PageSteps.{page_of-world_after}
 use Rattle.dom_worlds.proofs.ShadowTrees.{ancestors-owned}
 use Rattle.dom_isolation.proofs.Hiding.{shadow_including-page}
 use Rattle.dom_isolation.proofs.PagePaths.{views-page}
-use Rattle.dom_isolation.proofs.Dispatches.{dispatch-page}
+use Rattle.dom_isolation.proofs.Dispatches.{done_to, dispatch-page}
 use Rattle.dom_isolation.proofs.PageTurns.{ending_turn-page}
 use Rattle.dom_worlds.proofs.LineBegins.{IsPageTime, opening-page, quiet-opening}
 use Rattle.dom_worlds.proofs.TableEffects.{KeepsBase, base-effect}
@@ -107,39 +109,44 @@ page_related w None = tt
 page_related w (Some x) = (page_named w x, tt)
 
 -- a dispatch of the page
-pub dispatched-page : (w : World) → IsQuiet w → (x : NodeWord) (e : EventWords) (related : Option NodeWord) →
-    page_run (perform w Page (Command.dispatch x e related)) ≡ page_perform (page_of w) (Command.dispatch x e related)
-dispatched-page w q x e related =
+dispatched-page : (w : World) → IsWorld w → (x : NodeWord) (e : EventWords) (related : Option NodeWord) →
+    let c = Command.dispatch x e related in page_run (perform w Page c) ≡ page_perform_under (done_to w Page c) (page_of w) c
+dispatched-page w i x e related =
     let p = part_of w Page in
     let d = dispatch_in w (named p x) (option_map (named p) related) e in
-    let same = dispatch-page w (named p x) (option_map (named p) related) e (q.logs refl) (named p x) (option_map (named p) related)
-    (views-page q.world (named p x) (option_map (named p) related) e.composed (page_named w x) (page_related w related)) in
+    let same = dispatch-page w (named p x) (option_map (named p) related) e i.page (named p x) (option_map (named p) related)
+    (views-page i (named p x) (option_map (named p) related) e.composed (page_named w x) (page_related w related)) in
     run_then-square d.run (answering Page (a_truth d.answer)) (answering Page (a_truth d.answer)) refl
     ∙ ap (λ (f : Dispatched PageState). run_then f.run (answering Page (a_truth f.answer))) same
 
--- every accepted command of the page
-pub perform-page : (w : World) → IsQuiet w → (c : Command) → is_command_of Page c ≡ true → page_run (perform w Page c) ≡ page_perform (page_of w) c
-perform-page w q (Command.attach a) h = attaching-page w (named (part_of w Page) a)
-perform-page w q (Command.connected a) h =
-    ap (λ b. answering Page (a_truth b) (page_of w)) (connected-page w q.world (named (part_of w Page) a) (page_named w a))
-perform-page w q (Command.assigned a) h = absurd (true≢false (sym h))
-perform-page w q (Command.dispatch a b c) h = dispatched-page w q a b c
-perform-page w q (Command.micro a) h = ap (λ ts. answering Page nothing (record (page_of w) { tasks = ts }))
-    (filter-append is_page_task w.tasks (micro_task Page a ∷ []))
-perform-page w q Command.end_turn h = run_then-square (ending_turn w) (answering Page nothing) (answering Page nothing) refl ∙
-    ap (λ r. run_then r (answering Page nothing)) (ending_turn-page w q)
-perform-page w q c h = effect-page w (effect (part_of w Page) c) (base-effect (part_of w Page) c)
+-- Every accepted command of the page.
+module _ {only_log : Bool} where
+  -- in the turn that is open
+  perform-page : (w : World) → Invariant only_log w → (c : Command) → is_command_of Page c ≡ true →
+      page_run (perform w Page c) ≡ page_perform_under (done_to w Page c) (page_of w) c
+  perform-page w q (Command.attach a) h = attaching-page w (named (part_of w Page) a)
+  perform-page w q (Command.connected a) h =
+      ap (λ b. answering Page (a_truth b) (page_of w)) (connected-page w q.world (named (part_of w Page) a) (page_named w a))
+  perform-page w q (Command.assigned a) h = absurd (true≢false (sym h))
+  perform-page w q (Command.dispatch a b c) h = dispatched-page w q.world a b c
+  perform-page w q (Command.micro a) h = ap (λ ts. answering Page nothing (record (page_of w) { tasks = ts }))
+      (filter-append is_page_task w.tasks (micro_task Page a ∷ []))
+  perform-page w q Command.end_turn h = run_then-square (ending_turn w) (answering Page nothing) (answering Page nothing) refl ∙
+      ap (λ r. run_then r (answering Page nothing)) (ending_turn-page w q)
+  perform-page w q c h = effect-page w (effect (part_of w Page) c) (base-effect (part_of w Page) c)
 
--- with the turn that it opens
-opened : (w : World) → IsQuiet w → IsPageTime w → (c : Command) → is_command_of Page c ≡ true →
-    page_run (perform (opening_turn w Page) Page c) ≡ page_perform (record (page_of w) { is_open = true }) c
-opened w q t c h = perform-page (opening_turn w Page) (quiet-opening w q Page) c h ∙ ap (λ s. page_perform s c) (opening-page w t)
+  -- with the turn that it opens
+  opened : (w : World) → Invariant only_log w → IsPageTime w → (c : Command) → is_command_of Page c ≡ true →
+      page_run (perform (opening_turn w Page) Page c) ≡ page_perform_under (done_to (opening_turn w Page) Page c) (record (page_of w) { is_open = true }) c
+  opened w q t c h =
+      perform-page (opening_turn w Page) (quiet-opening w q Page) c h
+      ∙ ap (λ s. page_perform_under (done_to (opening_turn w Page) Page c) s c) (opening-page w t)
 
--- the turn is opened by every command but `.`
-pub accepted-page : (w : World) → IsQuiet w → IsPageTime w → (c : Command) → is_command_of Page c ≡ true →
-    page_run (accepted w Page c) ≡ page_accepted (page_of w) c
-accepted-page w q t Command.end_turn h = perform-page w q Command.end_turn h
-accepted-page w q t c h = opened w q t c h
+  -- the turn is opened by every command but `.`
+  accepted-page : (w : World) → Invariant only_log w → IsPageTime w → (c : Command) → is_command_of Page c ≡ true →
+      page_run (accepted w Page c) ≡ page_accepted_under (first_record (accepted_records is_page w Page c)) (page_of w) c
+  accepted-page w q t Command.end_turn h = perform-page w q Command.end_turn h
+  accepted-page w q t c h = opened w q t c h
 
 -- A command of the page, refused or accepted.
 not-refused : (b : Bool) (ts : List (Bool × Refusal)) (r : Option Refusal) → option_or (first_refusal ((not b, Syntax) ∷ ts)) r ≡ None → b ≡ true
@@ -147,17 +154,25 @@ not-refused true ts r h = refl
 not-refused false ts r h = cc
 
 -- refused or accepted
-pub command-page : (w : World) → IsQuiet w → IsPageTime w → (c : Command) → page_run (run_command Page c w) ≡ page_command (page_of w) c
+pub command-page : {only_log : Bool} (w : World) → Invariant only_log w → IsPageTime w → (c : Command) →
+    page_run (run_command Page c w) ≡ page_command_under (first_record (command_records is_page w Page c)) (page_of w) c
 command-page w q t c = from (refusal w Page c) refl
   where
+    all : List Interference
+    all = accepted_records is_page w Page c
+
+    told : Option Refusal → Interference
+    told r = first_record (if is_none r then all else [])
+
     from : (r : Option Refusal) → refusal w Page c ≡ r →
         page_run (unless_refused Page (refusal w Page c) w (accepted w Page c)) ≡ unless_refused Page (page_refusal (page_of w) c) (page_of w)
-        (page_accepted (page_of w) c)
+        (page_accepted_under (told (refusal w Page c)) (page_of w) c)
     from (Some r) e =
         ap (λ o. page_run (unless_refused Page o w (accepted w Page c))) e ∙
-        sym (ap (λ o. unless_refused Page o (page_of w) (page_accepted (page_of w) c)) (sym (refusal-page w q.world c) ∙ e))
+        sym (ap (λ o. unless_refused Page o (page_of w) (page_accepted_under (told (refusal w Page c)) (page_of w) c)) (sym (refusal-page w q.world c) ∙ e))
     from None e =
         let mine = not-refused (is_command_of Page c)
         ((is_busy w Page, Busy) ∷ (names_foreign c, Foreign) ∷ (not (is_there w Page), Unknown) ∷ []) (part_refusal (part_of w Page) c) e in
         ap (λ o. page_run (unless_refused Page o w (accepted w Page c))) e ∙ accepted-page w q t c mine
-        ∙ sym (ap (λ o. unless_refused Page o (page_of w) (page_accepted (page_of w) c)) (sym (refusal-page w q.world c) ∙ e))
+        ∙ ap (λ o. page_accepted_under (told o) (page_of w) c) (sym e)
+        ∙ sym (ap (λ o. unless_refused Page o (page_of w) (page_accepted_under (told (refusal w Page c)) (page_of w) c)) (sym (refusal-page w q.world c) ∙ e))

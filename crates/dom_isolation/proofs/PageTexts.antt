@@ -1,5 +1,5 @@
 -- Texts: the page's lines of input and of output are those that begin with `p `.
-use Rattle.std.proofs.Common.{◌≡◌, ◌≢◌, ℕ, true, List, [], ◌∷◌, ◌++◌, map, Option, Some, None, refl, sym, ap, ◌∙◌, true≢false}
+use Rattle.std.proofs.Common.{◌≡◌, ◌≢◌, ℕ, true, List, [], ◌∷◌, ◌++◌, map, flat_map, Option, Some, None, refl, sym, ap, ◌∙◌, true≢false}
 use Rattle.std.specs.Prelude.{option_to_list}
 use Rattle.std.proofs.lemmas.Bool.{cond-true, cond-false, false_from_ne_true}
 use Rattle.dom_base.specs.declared.Owner.{Owner}
@@ -18,8 +18,13 @@ use Rattle.dom_text.specs.Text.{output_line}
 use Rattle.dom_text.proofs.TextLaws.{IsSaidBy, begins-says, says-begins}
 use Rattle.dom_isolation.specs.Texts.{ReadsPrefix, lines_in, OutputHasPageLines, PageViewIsItsOutput, TraceHasPageLines, PageLinesAgree}
 use Rattle.dom_isolation.specs.Texts.{PageLinesAgreeSoFar, PageTextAgrees, SamePageText, ForeignLineIsRefused}
+use Rattle.dom_isolation.specs.Interference.{FullItem, line_with, outward_with, turn_ended, plain_items, full_trace_of}
+use Rattle.dom_isolation.specs.TouchedMachines.{page_outputs_under}
+use Rattle.dom_isolation.specs.FullIsolation.{full_lines_in, FullTraceHasPageLines, PageLinesAgreeInFull, PageLinesAgreeSoFarInFull, PageTextAgreesInFull}
+use Rattle.dom_isolation.specs.FullIsolation.{SamePageTextInFull}
 use Rattle.dom_worlds.proofs.Tests.{by_cases}
-use Rattle.dom_isolation.proofs.PageRuns.{page_run-agrees, page-sees_its_trace}
+use Rattle.dom_isolation.proofs.FullTraces.{full_trace-is_trace}
+use Rattle.dom_isolation.proofs.PageRuns.{page_run-agrees_in_full, page-sees_its_full_trace, page_run-agrees, page-sees_its_trace}
 use Rattle.dom_model.proofs.TurnLaws.{foreign_is_refused}
 
 -- a line is the page's just where it says something of the page
@@ -92,6 +97,42 @@ output-has_page_lines (o ∷ os) = page_lines-output o os (output-has_page_lines
 pub page_view-is_its_output : PageViewIsItsOutput
 page_view-is_its_output outputs = ap text_of_lines (output-has_page_lines outputs)
 
+-- the lines in a full trace are those of the trace
+lines-plain : {L : Type 0} (items : List (FullItem L)) → full_lines_in items ≡ lines_in (flat_map plain_items items)
+lines-plain [] = refl
+lines-plain (line_with l records ∷ items) = ap (λ ls. l ∷ ls) (lines-plain items)
+lines-plain (outward_with e reached ∷ items) = lines-plain items
+lines-plain (turn_ended records ∷ items) = lines-plain items
+
+-- With interference.
+module _ (read : List ℕ → Line) where
+  -- the lines in a full trace
+  pub full_trace-has_page_lines : ReadsPrefix read → FullTraceHasPageLines read
+  full_trace-has_page_lines h lines =
+      lines-plain (full_trace_of read lines) ∙ ap lines_in (full_trace-is_trace read is_page first_world lines) ∙ trace-has_page_lines read h lines
+
+  -- the page's lines of a script's output
+  pub page_lines-agree_in_full : PageLinesAgreeInFull read
+  page_lines-agree_in_full lines =
+      output-has_page_lines (outputs_of (map read lines)) ∙ ap (map output_line) (page-sees_its_full_trace read lines)
+
+  -- of the lines so far
+  pub page_lines-agree_so_far_in_full : PageLinesAgreeSoFarInFull read
+  page_lines-agree_so_far_in_full lines =
+      output-has_page_lines (run_lines first_world (map read lines)).1
+      ∙ ap (λ (r : Run PageState). map output_line r.1) (page_run-agrees_in_full read lines)
+
+  -- as text
+  pub page_text-agrees_in_full : PageTextAgreesInFull read
+  page_text-agrees_in_full bytes = ap text_of_lines (page_lines-agree_in_full (lines_of bytes))
+
+  -- of two texts
+  pub same-page_text_in_full : SamePageTextInFull read
+  same-page_text_in_full first second e =
+      page_text-agrees_in_full first ∙ ap (λ items. text_of_lines (map output_line (page_outputs_under read items))) e
+      ∙ sym (page_text-agrees_in_full second)
+
+-- Where no component listener stops or cancels.
 module _ (read : List ℕ → Line) where
   -- the page's lines of a script's output
   pub page_lines-agree : PageLinesAgree read

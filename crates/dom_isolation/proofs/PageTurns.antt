@@ -1,6 +1,7 @@
 -- Notifications and the endings of turns: the tasks of components show the page nothing, and those of the page do what they do alone.
 -- So the ending of another component's turn before a line is unseen.
-use Rattle.std.proofs.Common.{◌≡◌, true, false, List, [], ◌∷◌, filter, Option, Some, None, refl, sym, ap, ◌∙◌, true≢false, ◌≢◌, ℕ, map, flat_map, append-nil}
+use Rattle.std.proofs.Common.{◌≡◌, Bool, true, false, List, [], ◌∷◌, filter, Option, Some, None, refl, sym, ap, ◌∙◌, true≢false, ◌≢◌}
+use Rattle.std.proofs.Common.{ℕ, map, flat_map, append-nil}
 use Rattle.std.specs.Prelude.{is_some, if◌then◌else◌}
 use Rattle.std.specs.Option.{option_map_or}
 use Rattle.std.proofs.lemmas.Bool.{cond-true, cond-false}
@@ -14,7 +15,7 @@ use Rattle.dom_model.specs.Turns.{slotchange, firing_slotchange, is_owned_by, wi
 use Rattle.dom_model.specs.Turns.{has_other_turn, ending_other_turn, ending_any_turn, opening_turn, is_page_turn, records_of, notified_lines, notifying}
 use Rattle.dom_model.specs.PageMachine.{page_of, page_task, page_turn_end, page_finish, is_page_task, PageState}
 use Rattle.dom_isolation.specs.Laws.{page_run}
-use Rattle.dom_worlds.specs.Reached.{IsQuiet}
+use Rattle.dom_worlds.specs.Reached.{Invariant}
 use Rattle.dom_worlds.proofs.Tests.{by_cases}
 use Rattle.std.specs.List.{AllByRecursion}
 use Rattle.dom_model.specs.Output.{Output, Change, says, recorded}
@@ -31,8 +32,9 @@ use Rattle.dom_isolation.proofs.ComponentPaths.{views-kept_in}
 use Rattle.dom_worlds.proofs.TurnEndings.{quiet-dispatch, told_in, quiet-told, quiet-running, at_end, quiet-at_end}
 
 -- The events at the slots of components.
-firing-quiet : (w : World) → IsQuiet w → (s : NodeName) → IsForeignTo Page s → page_run (firing_slotchange w s) ≡ quiet (page_of w)
-firing-quiet w q s f = dispatch-nothing w s None slotchange (q.logs refl) (views-kept_in w q.world s None f)
+firing-quiet : {only_log : Bool} (w : World) → Invariant only_log w → (s : NodeName) → IsForeignTo Page s →
+    page_run (firing_slotchange w s) ≡ quiet (page_of w)
+firing-quiet w q s f = dispatch-nothing w s None slotchange q.world.page (views-kept_in w q.world s None f)
 
 -- a run and then another that both show nothing
 pub quiet_then : (r : Run World) (s : PageState) (f : World → Run World) → page_run r ≡ quiet s → page_run (f r.0) ≡ quiet (page_of r.0) →
@@ -40,7 +42,7 @@ pub quiet_then : (r : Run World) (s : PageState) (f : World → Run World) → p
 quiet_then r s f a b = run_then-quiet r f b ∙ ap (λ (x : Run PageState). run_then x quiet) a
 
 -- all of them show nothing
-firings-quiet : (ss : List NodeName) (w : World) → IsQuiet w → AllByRecursion (IsForeignTo Page) ss →
+firings-quiet : {only_log : Bool} (ss : List NodeName) (w : World) → Invariant only_log w → AllByRecursion (IsForeignTo Page) ss →
     page_run (run_each firing_slotchange w ss) ≡ quiet (page_of w)
 firings-quiet [] w q h = refl
 firings-quiet (s ∷ ss) w q h =
@@ -88,7 +90,7 @@ slots-owned : (o : Owner) → o ≢ Page → (ss : List NodeName) → AllByRecur
 slots-owned o f ss = all-passed (IsForeignTo Page) (is_owned_by o) (λ s h e. f (sym (owner_eq-true s.owner o h) ∙ e)) ss
 
 -- a component's notification shows nothing
-pub notifying-other : (w : World) (o : Owner) → o ≢ Page → IsQuiet w → page_run (notifying w o) ≡ quiet (page_of w)
+pub notifying-other : {only_log : Bool} (w : World) (o : Owner) → o ≢ Page → Invariant only_log w → page_run (notifying w o) ≡ quiet (page_of w)
 notifying-other w o f q =
     let first : page_run (told_in w o, notified_lines (part_of w o)) ≡ quiet (page_of w) =
     ap (λ s. (s, outputs_for Page (notified_lines (part_of w o))))
@@ -104,7 +106,7 @@ no_page_slots w i = filter_none (is_owned_by Page) w.signalled
     (all-then (IsForeignTo Page) (λ s. is_owned_by Page s ≡ false) (λ s f. ne-owner_eq s.owner Page f) w.signalled i.signalled)
 
 -- the page's notification is the page machine's
-notifying-page : (w : World) → IsQuiet w → page_run (notifying w Page) ≡ page_task (page_of w) (notify_task Page)
+notifying-page : {only_log : Bool} (w : World) → Invariant only_log w → page_run (notifying w Page) ≡ page_task (page_of w) (notify_task Page)
 notifying-page w q =
     let p = part_of w Page in
     let told : Run World = (told_in w Page, notified_lines p) in
@@ -114,21 +116,23 @@ notifying-page w q =
     ∙ ap (λ q. (record (page_of w) { part = q }, notified_lines p)) (part_of-with_part (without_signals w Page) (notified p) Page (owner-part_of w Page))
 
 -- A task.
-running-page : (w : World) → IsQuiet w → (t : Task) → is_page_task t ≡ true → page_run (running_task w t) ≡ page_task (page_of w) t
+running-page : {only_log : Bool} (w : World) → Invariant only_log w → (t : Task) → is_page_task t ≡ true →
+    page_run (running_task w t) ≡ page_task (page_of w) t
 running-page w q (micro_task Page label) h = refl
 running-page w q (micro_task (Component k) label) h = absurd (true≢false (sym h))
 running-page w q (notify_task Page) h = notifying-page w q
 running-page w q (notify_task (Component k)) h = absurd (true≢false (sym h))
 
 -- a component's task shows nothing
-running-other : (w : World) → IsQuiet w → (t : Task) → is_page_task t ≡ false → page_run (running_task w t) ≡ quiet (page_of w)
+running-other : {only_log : Bool} (w : World) → Invariant only_log w → (t : Task) → is_page_task t ≡ false → page_run (running_task w t) ≡ quiet (page_of w)
 running-other w q (micro_task Page label) h = absurd (true≢false h)
 running-other w q (micro_task (Component k) label) h = refl
 running-other w q (notify_task Page) h = absurd (true≢false h)
 running-other w q (notify_task (Component k)) h = notifying-other w (Component k) (Component-IsNoPage k) q
 
 -- The tasks of a turn, in their order.
-running-all : (ts : List Task) (w : World) → IsQuiet w → page_run (run_each running_task w ts) ≡ run_each page_task (page_of w) (filter is_page_task ts)
+running-all : {only_log : Bool} (ts : List Task) (w : World) → Invariant only_log w →
+    page_run (run_each running_task w ts) ≡ run_each page_task (page_of w) (filter is_page_task ts)
 running-all [] w q = refl
 running-all (t ∷ ts) w q =
     let v = (running_task w t).0 in
@@ -141,11 +145,11 @@ running-all (t ∷ ts) w q =
     ap (run_each page_task (page_of w)) (sym (cond-false (is_page_task t) (t ∷ filter is_page_task ts) (filter is_page_task ts) h)))
 
 -- the ending, as the page sees it
-pub ending_turn-page : (w : World) → IsQuiet w → page_run (ending_turn w) ≡ page_turn_end (page_of w)
+pub ending_turn-page : {only_log : Bool} (w : World) → Invariant only_log w → page_run (ending_turn w) ≡ page_turn_end (page_of w)
 ending_turn-page w q = running-all w.tasks (at_end w) (quiet-at_end w q)
 
 -- An ending of a component's turn shows nothing.
-pub ending-component : (w : World) → IsQuiet w → is_page_turn w.turn ≡ false → page_run (ending_turn w) ≡ quiet (page_of w)
+pub ending-component : {only_log : Bool} (w : World) → Invariant only_log w → is_page_turn w.turn ≡ false → page_run (ending_turn w) ≡ quiet (page_of w)
 ending-component w q h =
     ending_turn-page w q ∙ ap (λ ts. run_each page_task (record { part = part_of w Page; tasks = []; is_open = false }) ts) (q.world.tasks h)
     ∙ ap (λ ts. quiet (record { part = part_of w Page; tasks = ts; is_open = false })) (sym (q.world.tasks h))
@@ -161,7 +165,7 @@ other-no_page w o h = from w.turn h
     from (Some (Component k)) h = refl
 
 -- before a line it shows nothing
-pub ending_other-quiet : (w : World) → IsQuiet w → (o : Owner) → page_run (ending_other_turn w o) ≡ quiet (page_of w)
+pub ending_other-quiet : {only_log : Bool} (w : World) → Invariant only_log w → (o : Owner) → page_run (ending_other_turn w o) ≡ quiet (page_of w)
 ending_other-quiet w q o =
     by_cases (has_other_turn w o)
     (λ h. ap page_run (cond-true (has_other_turn w o) (ending_turn w) (quiet w) h) ∙ ending-component w q (other-no_page w o h))
@@ -174,7 +178,7 @@ opening-component w k h =
     (λ e. ap page_of (cond-false (is_some w.turn) w (record w { turn = Some (Component k) }) e) ∙ ap (λ b. record (page_of w) { is_open = b }) (sym h))
 
 -- The end of input.
-pub ending_any-page : (w : World) → IsQuiet w → page_run (ending_any_turn w) ≡ page_finish (page_of w)
+pub ending_any-page : {only_log : Bool} (w : World) → Invariant only_log w → page_run (ending_any_turn w) ≡ page_finish (page_of w)
 ending_any-page w q = from w.turn refl
   where
     from : (t : Option Owner) → w.turn ≡ t →

@@ -7,6 +7,11 @@ ghost use Rattle.dom_model.specs.Command.{Line};
 ghost use Rattle.dom_model.specs.Isolation.{ForeignIsRefused, PagePartAgrees, PageSeesItsTrace, SamePage};
 ghost use Rattle.dom_isolation.specs.Laws.{VisitIsUnseen, FoldSkipsComponents, PageVisitsAgree, OutwardVisitsAgree, PageDispatchAgrees};
 ghost use Rattle.dom_isolation.specs.Laws.{ComponentDispatchAgrees, NotificationIsUnseen, TurnEndingAgrees, OtherEndingIsUnseen, PageLineAgrees};
+ghost use Rattle.dom_isolation.specs.FullLaws.{InterferenceIsEnough, InterferenceIsOnPurpose, InterferenceIsSmall, FullTraceIsTrace, NothingTouches};
+ghost use Rattle.dom_isolation.specs.FullLaws.{PageDispatchAgreesInFull, PageLineAgreesInFull, OtherLineAgreesInFull};
+ghost use Rattle.dom_isolation.specs.FullIsolation.{PageRunAgreesInFull, PageAgreesInFull, PageSeesItsFullTrace, SamePageInFull, FullTraceGoesOn};
+ghost use Rattle.dom_isolation.specs.FullIsolation.{PageOutputGoesOnInFull, FullTraceHasPageLines, PageLinesAgreeInFull, PageLinesAgreeSoFarInFull};
+ghost use Rattle.dom_isolation.specs.FullIsolation.{PageTextAgreesInFull, SamePageTextInFull, PickedLinesAgreeInFull, PickedLinesAgreeSoFarInFull};
 ghost use Rattle.dom_isolation.specs.Laws.{OtherLineAgrees, FinishAgrees, PageRunAgrees, TraceGoesOn, PageOutputGoesOn, FirstLinesStopNothing};
 ghost use Rattle.dom_isolation.specs.Texts.{ReadsPrefix, DecodeReadsPrefix, TraceHasPageLines, OutputHasPageLines, PageViewIsItsOutput};
 ghost use Rattle.dom_isolation.specs.Texts.{PageLinesAgree, PageLinesAgreeSoFar, PageTextAgrees, SamePageText, ForeignLineIsRefused};
@@ -18,14 +23,26 @@ pub fn one_visit()
     ensures { VisitIsUnseen }
 {}
 
+/// Interference is what others' listeners did to an event: before which visit of a group's nodes one of them stopped it, and whether one cancelled
+/// it. It is enough to tell what the group has of the event; others have to act to leave any; it is small; and it only adds to a trace, where
+/// nothing is told if no component listener stops or cancels. Lines are bytes, and `read` is any reading of them.
+pub fn one_interference()
+    ensures enough { InterferenceIsEnough }
+    ensures purpose { InterferenceIsOnPurpose }
+    ensures small { InterferenceIsSmall }
+    ensures trace { (read : List ℕ → Line) → FullTraceIsTrace read }
+    ensures nothing { (read : List ℕ → Line) → NothingTouches read }
+{}
+
 /// Of all visits the page sees those at its own nodes, and these are the page machine's; so a dispatch of the page is the
-/// page machine's, and one of a component is nothing, or its outward event.
+/// page machine's, and one of a component is nothing, or its outward event. With interference that is so whatever others' listeners do.
 pub fn one_dispatch()
     ensures visits { FoldSkipsComponents }
     ensures page_visits { PageVisitsAgree }
     ensures outward_visits { OutwardVisitsAgree }
     ensures page { PageDispatchAgrees }
     ensures component { ComponentDispatchAgrees }
+    ensures page_in_full { PageDispatchAgreesInFull }
 {}
 
 /// A component's notification is unseen, and the ending of a turn does to the page what the page's own tasks do.
@@ -35,11 +52,42 @@ pub fn one_ending()
     ensures other { OtherEndingIsUnseen }
 {}
 
-/// A line of the page is the page machine's, another's is its outward event; so is the end of input.
+/// A line of the page is the page machine's, another's is its outward event; so is the end of input. With interference that is so whatever others'
+/// listeners do.
 pub fn one_line()
     ensures page { PageLineAgrees }
     ensures other { OtherLineAgrees }
     ensures finish { FinishAgrees }
+    ensures page_in_full { PageLineAgreesInFull }
+    ensures other_in_full { OtherLineAgreesInFull }
+{}
+
+/// After every script the page's part is the state of the page machine that is told the full trace: the page's lines, the outward events, and the
+/// interference. The page's output is this machine's. More lines only add to the full trace, and to what the machine writes. Lines are bytes, and `read`
+/// is any reading of them.
+pub fn page_agrees_in_full()
+    ensures run { (read : List ℕ → Line) → PageRunAgreesInFull read }
+    ensures part { (read : List ℕ → Line) → PageAgreesInFull read }
+    ensures output { (read : List ℕ → Line) → PageSeesItsFullTrace read }
+    ensures longer { (read : List ℕ → Line) → FullTraceGoesOn read }
+    ensures front { (read : List ℕ → Line) → PageOutputGoesOnInFull read }
+{}
+
+/// Two scripts with equal page lines, equal outward events and equal interference have equal output of the page: lists of lines, and texts.
+pub fn same_page_in_full()
+    ensures lines { (read : List ℕ → Line) → SamePageInFull read }
+    ensures text { (read : List ℕ → Line) → SamePageTextInFull read }
+{}
+
+/// Of a text the page's output is the page machine's on the full trace: line by line, as text, and picked by the prefix `p ` out of the whole output, at
+/// the end of input and before it. The lines in a full trace are those that begin with `p `.
+pub fn page_text_agrees_in_full()
+    ensures trace { (read : List ℕ → Line) → ReadsPrefix read → FullTraceHasPageLines read }
+    ensures lines { (read : List ℕ → Line) → PageLinesAgreeInFull read }
+    ensures so_far { (read : List ℕ → Line) → PageLinesAgreeSoFarInFull read }
+    ensures text { (read : List ℕ → Line) → PageTextAgreesInFull read }
+    ensures picked { (read : List ℕ → Line) → ReadsPlainWords read → PickedLinesAgreeInFull read }
+    ensures picked_so_far { (read : List ℕ → Line) → ReadsPlainWords read → PickedLinesAgreeSoFarInFull read }
 {}
 
 /// After every script in which no component listener stops or cancels the page's part is the page machine's state after

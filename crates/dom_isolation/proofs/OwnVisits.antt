@@ -1,0 +1,249 @@
+-- Visits as a group has them: one at a node of the group does what it does where no others are, and one at another node does nothing to the
+-- group but to the flags of the event.
+use Rattle.std.proofs.Common.{◌≡◌, Bool, true, false, ◌||◌, List, [], ◌∷◌, ◌++◌, filter, fold, refl, sym, ap, ◌∙◌, append-nil, true≢false, subst}
+use Rattle.std.proofs.lemmas.Bool.{cond-true, cond-false}
+use Rattle.std.proofs.lemmas.List.Elements.{filter-append}
+use Rattle.dom_base.specs.declared.Owner.{Owner}
+use Rattle.dom_base.specs.declared.Action.{Action}
+use Rattle.dom_base.specs.declared.Action.TheVariants.{Log, Stop, StopNow, Cancel}
+use Rattle.dom_base.specs.declared.NodeName.{NodeName}
+use Rattle.dom_model.specs.Names.{name_eq}
+use Rattle.dom_model.specs.Command.{EventWords}
+use Rattle.dom_model.specs.Output.{EventLine}
+use Rattle.dom_model.specs.Listeners.{Listener, Visit, visited, called, hears, kept_after, after_action, may_cancel, line_of}
+use Rattle.dom_model.specs.Part.{Part}
+use Rattle.dom_model.specs.World.{part_of, with_part}
+use Rattle.dom_model.specs.Dispatch.{world_visit}
+use Rattle.dom_model.specs.Groups.{group_world}
+use Rattle.dom_model.proofs.PartLaws.{owner-part_of}
+use Rattle.dom_worlds.proofs.Tests.{by_cases}
+use Rattle.dom_worlds.proofs.Visits.{Going, InWorld, with_listeners, call, call-of, no_call, sifted-after_action}
+use Rattle.dom_isolation.specs.Interference.{is_own_visit}
+use Rattle.dom_isolation.proofs.GroupParts.{part-in, with_part-in, with_part-out, group-twice, filter-here, filter-away, filter-twice}
+
+-- A visit leaves as it is what is told by the calls alone: what each call keeps all calls keep, and so the visit.
+module _ (P : Going → Type 0) (e : EventWords) (v : Visit NodeName) (keeps : (d : Going) (l : Listener NodeName) → P d → P (call e v d l)) where
+  -- a call, or none
+  kept-called : (d : Going) (l : Listener NodeName) → P d → P (called name_eq e v d l)
+  kept-called d l h =
+      by_cases d.stopped_now (λ s. subst P (sym (no_call e v d l s)) h) (λ s. subst P (sym (call-of e v d l s)) (keeps d l h))
+
+  -- calls of all that hear
+  kept-calls : (ls : List (Listener NodeName)) (d : Going) → P d → P (fold (called name_eq e v) d ls)
+  kept-calls [] d h = h
+  kept-calls (l ∷ ls) d h = kept-calls ls (called name_eq e v d l) (kept-called d l h)
+
+  -- a visit
+  pub kept-visited : (d : Going) → P d → P (visited name_eq e d v)
+  kept-visited d h =
+      let hearing = filter (hears name_eq e v) d.listeners in
+      by_cases d.stopped (λ s. subst P (sym (cond-true d.stopped d (fold (called name_eq e v) d hearing) s)) h)
+      (λ s. subst P (sym (cond-false d.stopped d (fold (called name_eq e v) d hearing) s)) (kept-calls hearing d h))
+
+-- Once an event is stopped a visit makes no call.
+pub visited-stopped : (e : EventWords) (v : Visit NodeName) (d : Going) → d.stopped ≡ true → visited name_eq e d v ≡ d
+visited-stopped e v d s = cond-true d.stopped d (fold (called name_eq e v) d (filter (hears name_eq e v) d.listeners)) s
+
+-- Who stops the other listeners at once stops the event.
+abbrev pub IsOrdered : Going → Type 0
+IsOrdered d = d.stopped ≡ false → d.stopped_now ≡ false
+
+-- an action keeps that
+ordered-after_action : (a : Action) (c : Bool) (d : Going) → IsOrdered d → IsOrdered (after_action a c d)
+ordered-after_action Log c d h = h
+ordered-after_action Stop c d h = λ s. absurd (true≢false s)
+ordered-after_action StopNow c d h = λ s. absurd (true≢false s)
+ordered-after_action Cancel c d h = h
+
+-- a call
+ordered-call : (e : EventWords) (v : Visit NodeName) (d : Going) (l : Listener NodeName) → IsOrdered d → IsOrdered (call e v d l)
+unfolding call
+ordered-call e v d l h =
+    ordered-after_action l.words.action (may_cancel e l.words)
+    (record d { listeners = kept_after name_eq l d.listeners; lines = d.lines ++ line_of v l.words ∷ [] }) h
+
+-- a visit in the world
+pub ordered-visit : (e : EventWords) (s : InWorld) (v : Visit NodeName) → IsOrdered s.1 → IsOrdered (world_visit e s v).1
+ordered-visit e s v h = kept-visited IsOrdered e v (ordered-call e v) (record s.1 { listeners = (part_of s.0 v.current.owner).listeners }) h
+
+-- A dispatch that was cancelled already, where `c` says so.
+abbrev pub with_cancel : Bool → Going → Going
+with_cancel c d = record d { cancelled = c || d.cancelled }
+
+-- in the world
+abbrev pub cancelled_as : Bool → InWorld → InWorld
+cancelled_as c s = (s.0, with_cancel c s.1)
+
+-- one of three
+or_assoc : (a b c : Bool) → (a || (b || c)) ≡ ((a || b) || c)
+or_assoc true b c = refl
+or_assoc false b c = refl
+
+-- no action asks whether it was
+cancel-after_action : (c : Bool) (a : Action) (m : Bool) (d : Going) → with_cancel c (after_action a m d) ≡ after_action a m (with_cancel c d)
+cancel-after_action c Log m d = refl
+cancel-after_action c Stop m d = refl
+cancel-after_action c StopNow m d = refl
+cancel-after_action c Cancel m d = ap (λ b. record d { cancelled = b }) (or_assoc c d.cancelled m)
+
+-- no call
+cancel-call : (c : Bool) (e : EventWords) (v : Visit NodeName) (d : Going) (l : Listener NodeName) → with_cancel c (call e v d l) ≡ call e v (with_cancel c d) l
+unfolding call
+cancel-call c e v d l =
+    cancel-after_action c l.words.action (may_cancel e l.words)
+    (record d { listeners = kept_after name_eq l d.listeners; lines = d.lines ++ line_of v l.words ∷ [] })
+
+-- made or not
+cancel-called : (c : Bool) (e : EventWords) (v : Visit NodeName) (d : Going) (l : Listener NodeName) →
+    with_cancel c (called name_eq e v d l) ≡ called name_eq e v (with_cancel c d) l
+cancel-called c e v d l =
+    by_cases d.stopped_now (λ s. ap (with_cancel c) (no_call e v d l s) ∙ sym (no_call e v (with_cancel c d) l s))
+    (λ s. ap (with_cancel c) (call-of e v d l s) ∙ cancel-call c e v d l ∙ sym (call-of e v (with_cancel c d) l s))
+
+-- nor all calls
+cancel-calls : (c : Bool) (e : EventWords) (v : Visit NodeName) (ls : List (Listener NodeName)) (d : Going) →
+    with_cancel c (fold (called name_eq e v) d ls) ≡ fold (called name_eq e v) (with_cancel c d) ls
+cancel-calls c e v [] d = refl
+cancel-calls c e v (l ∷ ls) d =
+    cancel-calls c e v ls (called name_eq e v d l) ∙ ap (λ s. fold (called name_eq e v) s ls) (cancel-called c e v d l)
+
+-- nor a visit
+cancel-visited : (c : Bool) (e : EventWords) (v : Visit NodeName) (d : Going) → with_cancel c (visited name_eq e d v) ≡ visited name_eq e (with_cancel c d) v
+cancel-visited c e v d =
+    let hearing = filter (hears name_eq e v) d.listeners in
+    by_cases d.stopped
+    (λ s. ap (with_cancel c) (cond-true d.stopped d (fold (called name_eq e v) d hearing) s)
+    ∙ sym (cond-true d.stopped (with_cancel c d) (fold (called name_eq e v) (with_cancel c d) hearing) s))
+    (λ s. ap (with_cancel c) (cond-false d.stopped d (fold (called name_eq e v) d hearing) s) ∙ cancel-calls c e v hearing d
+    ∙ sym (cond-false d.stopped (with_cancel c d) (fold (called name_eq e v) (with_cancel c d) hearing) s))
+
+-- in the world
+pub cancel-visit : (c : Bool) (e : EventWords) (s : InWorld) (v : Visit NodeName) →
+    world_visit e (cancelled_as c s) v ≡ cancelled_as c (world_visit e s v)
+cancel-visit c e s v =
+    let p = part_of s.0 v.current.owner in
+    ap (λ (d : Going). (with_part s.0 (with_listeners p d.listeners), d)) (sym (cancel-visited c e v (record s.1 { listeners = p.listeners })))
+
+-- what was cancelled stays so
+pub cancelled-visit : (e : EventWords) (s : InWorld) (v : Visit NodeName) → s.1.cancelled ≡ true → (world_visit e s v).1.cancelled ≡ true
+cancelled-visit e s v h =
+    let same : s ≡ cancelled_as true s = ap (λ b. (s.0, record s.1 { cancelled = b })) h in
+    ap (λ (r : InWorld). r.1.cancelled) (ap (λ r. world_visit e r v) same ∙ cancel-visit true e s v)
+
+module _ (g : Owner → Bool) where
+  -- whether a line of a listener is of the group
+  abbrev pub in_line : EventLine NodeName → Bool
+  in_line l = g l.current.owner
+
+  -- what the group has of the lines of a dispatch
+  abbrev pub seen : Going → Going
+  seen d = record d { lines = filter in_line d.lines }
+
+  -- a call
+  seen-call : (e : EventWords) (v : Visit NodeName) → is_own_visit g v ≡ true → (d : Going) (l : Listener NodeName) →
+      seen (call e v d l) ≡ call e v (seen d) l
+  unfolding call
+  seen-call e v h d l =
+      sifted-after_action in_line l.words.action (may_cancel e l.words)
+      (record d { listeners = kept_after name_eq l d.listeners; lines = d.lines ++ line_of v l.words ∷ [] })
+      ∙ ap (λ ls. after_action l.words.action (may_cancel e l.words) (record d { listeners = kept_after name_eq l d.listeners; lines = ls }))
+      (filter-append in_line d.lines (line_of v l.words ∷ []) ∙ ap (λ ls. filter in_line d.lines ++ ls) (filter-here in_line (line_of v l.words) [] h))
+
+  -- a call at a node of the group is seen as it is alone, stopped or not
+  seen-called : (e : EventWords) (v : Visit NodeName) → is_own_visit g v ≡ true → (d : Going) (l : Listener NodeName) →
+      seen (called name_eq e v d l) ≡ called name_eq e v (seen d) l
+  seen-called e v h d l =
+      by_cases d.stopped_now (λ s. ap seen (no_call e v d l s) ∙ sym (no_call e v (seen d) l s))
+      (λ s. ap seen (call-of e v d l s) ∙ seen-call e v h d l ∙ sym (call-of e v (seen d) l s))
+
+  -- calls of all that hear
+  seen-calls : (e : EventWords) (v : Visit NodeName) → is_own_visit g v ≡ true → (ls : List (Listener NodeName)) (d : Going) →
+      seen (fold (called name_eq e v) d ls) ≡ fold (called name_eq e v) (seen d) ls
+  seen-calls e v h [] d = refl
+  seen-calls e v h (l ∷ ls) d = seen-calls e v h ls (called name_eq e v d l) ∙ ap (λ s. fold (called name_eq e v) s ls) (seen-called e v h d l)
+
+  -- a visit
+  pub seen-visited : (e : EventWords) (v : Visit NodeName) → is_own_visit g v ≡ true → (d : Going) → seen (visited name_eq e d v) ≡ visited name_eq e (seen d) v
+  seen-visited e v h d =
+      let hearing = filter (hears name_eq e v) d.listeners in
+      by_cases d.stopped
+      (λ s. ap seen (cond-true d.stopped d (fold (called name_eq e v) d hearing) s)
+      ∙ sym (cond-true d.stopped (seen d) (fold (called name_eq e v) (seen d) hearing) s))
+      (λ s. ap seen (cond-false d.stopped d (fold (called name_eq e v) d hearing) s) ∙ seen-calls e v h hearing d
+      ∙ sym (cond-false d.stopped (seen d) (fold (called name_eq e v) (seen d) hearing) s))
+
+  -- A visit at a node outside adds no line of the group.
+  module _ (e : EventWords) (v : Visit NodeName) (f : is_own_visit g v ≡ false) where
+    -- no action adds a line
+    same-lines : (a : Action) (c : Bool) (d : Going) → (after_action a c d).lines ≡ d.lines
+    same-lines Log c d = refl
+    same-lines Stop c d = refl
+    same-lines StopNow c d = refl
+    same-lines Cancel c d = refl
+
+    -- a call adds one of another's
+    call-outside : (d : Going) (l : Listener NodeName) → filter in_line (call e v d l).lines ≡ filter in_line d.lines
+    unfolding call
+    call-outside d l =
+        ap (filter in_line) (same-lines l.words.action (may_cancel e l.words)
+        (record d { listeners = kept_after name_eq l d.listeners; lines = d.lines ++ line_of v l.words ∷ [] }))
+        ∙ filter-append in_line d.lines (line_of v l.words ∷ [])
+        ∙ ap (λ ls. filter in_line d.lines ++ ls) (filter-away in_line (line_of v l.words) [] f) ∙ append-nil (filter in_line d.lines)
+
+    -- a visit
+    pub lines-outside : (d : Going) → filter in_line (visited name_eq e d v).lines ≡ filter in_line d.lines
+    lines-outside d =
+        kept-visited (λ c. filter in_line c.lines ≡ filter in_line d.lines) e v (λ c l h. call-outside c l ∙ h) d refl
+
+  -- What the group has of a dispatch on its way: its world, the flags and its lines. The listeners are each visit's own.
+  abbrev pub group_going : InWorld → InWorld
+  group_going s = (group_world g s.0, record s.1 { listeners = []; lines = filter in_line s.1.lines })
+
+  -- a visit at a node of the group does what it does where no others are
+  pub visit-in : (e : EventWords) (s : InWorld) (v : Visit NodeName) → is_own_visit g v ≡ true →
+      group_going (world_visit e s v) ≡ group_going (world_visit e (group_going s) v)
+  visit-in e s v h =
+      let o = v.current.owner in
+      let u = group_world g s.0 in
+      let p = part_of s.0 o in
+      let start : Going = record s.1 { listeners = p.listeners } in
+      let heard = visited name_eq e start v in
+      let q = with_listeners p heard.listeners in
+      let mine : g q.owner ≡ true = ap g (owner-part_of s.0 o) ∙ h in
+      let left : group_going (world_visit e s v) ≡ (with_part u q, record (seen heard) { listeners = [] }) =
+      ap (λ w. (w, record (seen heard) { listeners = [] })) (with_part-in g s.0 q mine) in
+      let right : world_visit e (group_going s) v ≡ (with_part u q, seen heard) =
+      ap (λ (p : Part). let d = visited name_eq e (record (seen s.1) { listeners = p.listeners }) v in (with_part u (with_listeners p d.listeners), d))
+      (part-in g s.0 o h)
+      ∙ ap (λ (d : Going). (with_part u (with_listeners p d.listeners), d)) (sym (seen-visited e v h start)) in
+      let again : group_going (with_part u q, seen heard) ≡ (with_part u q, record (seen heard) { listeners = [] }) =
+      ap (λ w. (w, record (seen heard) { listeners = []; lines = filter in_line (filter in_line heard.lines) }))
+      (with_part-in g u q mine ∙ ap (λ w. with_part w q) (group-twice g s.0))
+      ∙ ap (λ ls. (with_part u q, record (seen heard) { listeners = []; lines = ls })) (filter-twice in_line heard.lines) in
+      left ∙ sym again ∙ sym (ap group_going right)
+
+  -- Two dispatches that the group has alike, but for what others cancelled in the first.
+  pub record AreAlike (c : Bool) (s t : InWorld) : Type 0 where
+    pub ordered : IsOrdered s.1
+    pub same : group_going s ≡ cancelled_as c (group_going t)
+
+  -- a visit at a node of the group keeps them so
+  pub visit-alike : {c : Bool} {s t : InWorld} (e : EventWords) (v : Visit NodeName) → is_own_visit g v ≡ true → AreAlike c s t →
+      AreAlike c (world_visit e s v) (world_visit e t v)
+  visit-alike {c} {s} {t} e v h a = record {
+    ordered = ordered-visit e s v a.ordered;
+    same =
+        visit-in e s v h ∙ ap (λ r. group_going (world_visit e r v)) a.same ∙ ap group_going (cancel-visit c e (group_going t) v)
+        ∙ ap (cancelled_as c) (sym (visit-in e t v h));
+  }
+
+  -- a visit at another node does nothing but to the flags
+  pub visit-out : (e : EventWords) (s : InWorld) (v : Visit NodeName) → is_own_visit g v ≡ false →
+      group_going (world_visit e s v) ≡ (group_world g s.0, record (world_visit e s v).1 { listeners = []; lines = filter in_line s.1.lines })
+  visit-out e s v f =
+      let p = part_of s.0 v.current.owner in
+      let start : Going = record s.1 { listeners = p.listeners } in
+      let heard = visited name_eq e start v in
+      ap (λ w. (w, record (seen heard) { listeners = [] })) (with_part-out g s.0 (with_listeners p heard.listeners)
+      (ap g (owner-part_of s.0 v.current.owner) ∙ f))
+      ∙ ap (λ ls. (group_world g s.0, record heard { listeners = []; lines = ls })) (lines-outside e v f start)
