@@ -32,7 +32,7 @@ use Rattle.dom_model.proofs.PartLaws.{owner-part_of}
 use Rattle.dom_worlds.proofs.Owners.{owner-named}
 use Rattle.dom_worlds.proofs.TableEffects.{KeepsBase, base-effect}
 use Rattle.dom_worlds.proofs.Tests.{by_cases}
-use Rattle.dom_families.proofs.GroupParts.{in_node, part-in, there-in, with_part-in, with_part-out, filter-here}
+use Rattle.dom_isolation.proofs.GroupParts.{in_node, part-in, there-in, with_part-in, with_part-out, filter-here}
 use Rattle.dom_families.proofs.GroupSlots.{IsGround, ground-of, assigned-in}
 use Rattle.dom_families.proofs.GroupSteps.{IsSameGround, steps-in}
 use Rattle.dom_families.proofs.GroupPaths.{In, including-in, including-inside}

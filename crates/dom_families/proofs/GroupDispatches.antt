@@ -19,7 +19,7 @@ use Rattle.dom_worlds.specs.Reached.{IsQuiet}
 use Rattle.dom_worlds.proofs.Chains.{below-host, hosts-alone}
 use Rattle.dom_isolation.proofs.ComponentEvents.{outward_at, HasSameRoot, above-sibling, no_outward-kept, outward-composed}
 use Rattle.dom_worlds.proofs.Tests.{by_cases}
-use Rattle.dom_families.proofs.GroupParts.{in_node}
+use Rattle.dom_isolation.proofs.GroupParts.{in_node}
 use Rattle.dom_families.proofs.GroupVisits.{in_view, group_dispatched, shown_by, dispatch-shown, no_dispatch}
 use Rattle.dom_families.proofs.GroupViews.{views-in}
 use Rattle.dom_families.proofs.OutsideViews.{has-exit, exit-away, views-exit, views-kept_in, views-far, views-related}

@@ -30,7 +30,7 @@ use Rattle.dom_worlds.proofs.TableRegisters.{holds-effect}
 use Rattle.dom_worlds.proofs.Tests.{by_cases}
 use Rattle.dom_worlds.proofs.WorldSteps.{turn-world_after}
 use Rattle.dom_families.specs.Laws.{IsCalm}
-use Rattle.dom_families.proofs.GroupParts.{in_node, filter-away}
+use Rattle.dom_isolation.proofs.GroupParts.{in_node, filter-away}
 use Rattle.dom_families.proofs.GroupDispatches.{IsSameView, outward_run, runs-then, quiet-then, outward-in}
 use Rattle.dom_families.proofs.GroupBegins.{tasks-dispatch, tasks-ending_turn, no_other-ended, ending_other-in, ending_other-out, calm-ended, opening-own}
 use Rattle.dom_families.proofs.GroupBegins.{turn-kept}

@@ -22,7 +22,7 @@ use Rattle.dom_worlds.proofs.Chains.{above-host}
 use Rattle.dom_worlds.proofs.ShadowTrees.{IsInTree, in_tree}
 use Rattle.dom_worlds.proofs.Lists.{all-append, all-then, all-flat_map, filter_none, take_while-yes, take_while-no}
 use Rattle.dom_worlds.proofs.Tests.{by_cases, either_way}
-use Rattle.dom_families.proofs.GroupParts.{in_node, part-in, filter-here, filter-away}
+use Rattle.dom_isolation.proofs.GroupParts.{in_node, part-in, filter-here, filter-away}
 use Rattle.dom_families.proofs.GroupSlots.{IsGround, ancestors-of, slot-outside, slot-group, host-inside, host_above-in}
 
 module _ {X : Type 0} where

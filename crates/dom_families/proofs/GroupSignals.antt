@@ -17,7 +17,7 @@ use Rattle.dom_model.proofs.OwnerLaws.{name_eq-true}
 use Rattle.dom_worlds.specs.Worlds.{IsOf}
 use Rattle.dom_worlds.proofs.Lists.{all-filter, all-then, all-passed, all-distinct, all-map, filter_all, filter_none, filter_same, filter-filter}
 use Rattle.dom_worlds.proofs.Tests.{by_cases}
-use Rattle.dom_families.proofs.GroupParts.{in_node, part-in, part-out, filter-here, filter-away}
+use Rattle.dom_isolation.proofs.GroupParts.{in_node, part-in, part-out, filter-here, filter-away}
 use Rattle.dom_families.proofs.GroupSlots.{IsGround, nodes-of, component-outside, slot-group, host_above-in, assigned-in}
 
 module _ {X : Type 0} where

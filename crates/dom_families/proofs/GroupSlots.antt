@@ -25,7 +25,7 @@ use Rattle.dom_worlds.proofs.Chains.{above-host}
 use Rattle.dom_worlds.proofs.Makers.{component-made, component-maker, hosted, hosted-maker}
 use Rattle.dom_worlds.proofs.Tests.{by_cases}
 use Rattle.dom_worlds.proofs.Trees.{ancestors-there, times-subtree, nodes-there}
-use Rattle.dom_families.proofs.GroupParts.{in_node, part-in, part-out, filter-here, filter-away}
+use Rattle.dom_isolation.proofs.GroupParts.{in_node, part-in, part-out, filter-here, filter-away}
 
 -- What is asked of a world: nodes and hosts are their owners', and whoever has hosts may attach.
 pub record IsGround (w : World) : Type 0 where

@@ -28,7 +28,7 @@ use Rattle.dom_worlds.proofs.TableWorlds.{Ground, ground-stepped, ground-world_s
 use Rattle.dom_worlds.proofs.Tests.{by_cases}
 use Rattle.dom_worlds.proofs.WorldParts.{IsKeptIn, holds-world_after}
 use Rattle.dom_worlds.proofs.WorldSteps.{attached-with_part}
-use Rattle.dom_families.proofs.GroupParts.{in_node, part-in, part-out, with_part-in, with_part-out, group-twice, filter-here, filter-away}
+use Rattle.dom_isolation.proofs.GroupParts.{in_node, part-in, part-out, with_part-in, with_part-out, group-twice, filter-here, filter-away}
 use Rattle.dom_families.proofs.GroupSlots.{IsGround, owned-by, parent-in, is_in-kept}
 use Rattle.dom_families.proofs.GroupSignals.{signals-group, below-outside, below-group}
 

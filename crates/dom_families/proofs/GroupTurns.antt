@@ -20,7 +20,7 @@ use Rattle.dom_worlds.proofs.Tests.{by_cases}
 use Rattle.dom_worlds.proofs.TurnEndings.{told_in, quiet-told, quiet-dispatch, quiet-running, quiet-at_end}
 use Rattle.dom_isolation.proofs.PageTurns.{IsLineOf, lines-notified}
 use Rattle.dom_families.specs.Laws.{IsCalm}
-use Rattle.dom_families.proofs.GroupParts.{in_node, part-in, with_part-in, with_part-out, filter-here, filter-away}
+use Rattle.dom_isolation.proofs.GroupParts.{in_node, part-in, with_part-in, with_part-out, filter-here, filter-away}
 use Rattle.dom_families.proofs.GroupVisits.{no_dispatch}
 use Rattle.dom_families.proofs.OutsideViews.{views-kept_in}
 use Rattle.dom_families.proofs.GroupDispatches.{IsSameView, runs-then, quiet-then, dispatch-in}

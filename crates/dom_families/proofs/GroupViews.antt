@@ -16,7 +16,7 @@ use Rattle.dom_worlds.proofs.Lists.{all-then, all-passed, all-flat_map, all-take
 use Rattle.dom_isolation.proofs.PagePaths.{IsInSome, slot_way-in_some}
 use Rattle.dom_worlds.proofs.ShadowTrees.{slot_way, slots-behind}
 use Rattle.dom_worlds.proofs.Tests.{by_cases, either_way}
-use Rattle.dom_families.proofs.GroupParts.{in_node}
+use Rattle.dom_isolation.proofs.GroupParts.{in_node}
 use Rattle.dom_families.proofs.GroupSlots.{IsGround, ground-of}
 use Rattle.dom_families.proofs.GroupVisits.{in_view}
 use Rattle.dom_families.proofs.GroupPaths.{AreIn, begins, begins-inside, ancestors-inside, hidden-in, hidden-outside, retarget-inside, retarget-in}

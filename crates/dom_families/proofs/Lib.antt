@@ -1,5 +1,4 @@
 mod Families
-mod GroupParts
 mod GroupSlots
 mod GroupSignals
 mod GroupSteps

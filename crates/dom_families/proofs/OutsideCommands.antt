@@ -37,7 +37,7 @@ use Rattle.dom_worlds.proofs.TableCommands.{Holds}
 use Rattle.dom_worlds.proofs.TableEffects.{KeepsBase, base-effect}
 use Rattle.dom_worlds.proofs.Tests.{by_cases, and-true_false}
 use Rattle.dom_families.specs.Laws.{IsCalm}
-use Rattle.dom_families.proofs.GroupParts.{in_node, with_part-out, filter-away}
+use Rattle.dom_isolation.proofs.GroupParts.{in_node, with_part-out, filter-away}
 use Rattle.dom_families.proofs.GroupSlots.{IsGround, ground-of, made-outside}
 use Rattle.dom_families.proofs.GroupSteps.{steps-out}
 use Rattle.dom_families.proofs.GroupDispatches.{outward_run, quiet-then, outward-in, dispatch-out}

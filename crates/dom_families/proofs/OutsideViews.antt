@@ -25,7 +25,7 @@ use Rattle.dom_worlds.proofs.ShadowTrees.{slot_way, slots-behind, slots-first}
 use Rattle.dom_worlds.proofs.Tests.{by_cases, either_way}
 use Rattle.dom_worlds.proofs.Trees.{by_times, all-both, ancestors-absent, ancestors-present}
 use Rattle.std.proofs.lemmas.List.Elements.{filter-append}
-use Rattle.dom_families.proofs.GroupParts.{in_node}
+use Rattle.dom_isolation.proofs.GroupParts.{in_node}
 use Rattle.dom_families.proofs.GroupVisits.{in_view}
 use Rattle.dom_families.proofs.GroupPaths.{hidden-outside, way-outside}
 use Rattle.dom_families.proofs.GroupViews.{ground, Inside, Outside, veiled-hidden}
