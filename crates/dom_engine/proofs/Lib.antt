@@ -5,4 +5,4 @@ mod ReadLaws
 mod PageRuns
 mod PagePrefixes
 mod ForeignLines
-mod FamilyRuns
+mod GroupRuns

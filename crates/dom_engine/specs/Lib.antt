@@ -3,4 +3,4 @@ pub mod Session
 pub mod Run
 pub mod Reading
 pub mod PageLaws
-pub mod FamilyLaws
+pub mod GroupLaws

@@ -1,9 +1,12 @@
 //! Laws of runs, over the definitions that the contract of `run` cites. They make no calls.
 ghost use Rattle.std.specs.Prelude.{ℕ, List};
 ghost use Rattle.dom_model.specs.Command.{Line};
-ghost use Rattle.dom_model.specs.Isolation.{SamePage, SameFamily, SameFamilyWhileTurnsStand};
+ghost use Rattle.dom_model.specs.Isolation.{SamePage, SameFamily, SameFamilyWhileTurnsStand, SameComponent, SameComponentWhileTurnsStand};
+ghost use Rattle.dom_model.specs.Isolation.{SameAround, SameAroundWhileTurnsStand};
+ghost use Rattle.dom_families.specs.Agreement.{SameMember, SameMemberWhileTurnsStand};
 ghost use Rattle.dom_engine.specs.Session.{ForeignLinesAreRefused};
-ghost use Rattle.dom_engine.specs.FamilyLaws.{SameFamilyRuns, SameFamilyRunsWhileTurnsStand};
+ghost use Rattle.dom_engine.specs.GroupLaws.{SameGroupRuns, SameGroupRunsWhileTurnsStand, SameFamilyRuns, SameFamilyRunsWhileTurnsStand};
+ghost use Rattle.dom_engine.specs.GroupLaws.{SameComponentRuns, SameComponentRunsWhileTurnsStand, SameAroundRuns, SameAroundRunsWhileTurnsStand};
 ghost use Rattle.dom_engine.specs.PageLaws.{PageTextIsThePageMachines, SamePageText, PageSeesLinesNamed, PageSeesPrefix};
 
 /// What a run writes with the page's view is the page machine's output on the trace of the lines read, where no component
@@ -19,6 +22,17 @@ pub fn law_same_page()
     ensures text { SamePageText }
 {}
 
+/// Two scripts that agree for a group of owners, which has the page and with each component its maker, give each member equal output, where no
+/// component listener stops or cancels, and each component's turn is ended by its own `.`, or at least no line of an owner outside ends a
+/// member's. They agree in the members' lines, and in the outward events of all others, each at the first host that is a member's: lists of
+/// lines, by whatever reading, and the text that runs of two inputs write with the member's view.
+pub fn law_same_group()
+    ensures lines { (read : List ℕ → Line) → SameMember read }
+    ensures standing_lines { (read : List ℕ → Line) → SameMemberWhileTurnsStand read }
+    ensures text { SameGroupRuns }
+    ensures standing_text { SameGroupRunsWhileTurnsStand }
+{}
+
 /// Two scripts that agree for a family of components, in the page's lines, in its members' lines and in the outward events of all others, give each
 /// member equal output, where no component listener stops or cancels, and each component's turn is ended by its own `.`, or at least
 /// no line of another owner ends a member's: lists of lines, by whatever reading, and the text that runs of two inputs write with the member's view.
@@ -27,6 +41,24 @@ pub fn law_same_family()
     ensures standing_lines { (read : List ℕ → Line) → SameFamilyWhileTurnsStand read }
     ensures text { SameFamilyRuns }
     ensures standing_text { SameFamilyRunsWhileTurnsStand }
+{}
+
+/// Two scripts that agree for a component and its makers give the component equal output, under the same premises: what it is told hangs neither on
+/// its siblings, nor on what it attached, nor on other families, but for the outward events that they send out.
+pub fn law_same_component()
+    ensures lines { (read : List ℕ → Line) → SameComponent read }
+    ensures standing_lines { (read : List ℕ → Line) → SameComponentWhileTurnsStand read }
+    ensures text { SameComponentRuns }
+    ensures standing_text { SameComponentRunsWhileTurnsStand }
+{}
+
+/// Two scripts that agree for all owners who are not inside a component give each of them equal output, under the same premises: of what happens
+/// inside the component nobody else is told anything but the events that it sends out of its host, its maker neither.
+pub fn law_same_around()
+    ensures lines { (read : List ℕ → Line) → SameAround read }
+    ensures standing_lines { (read : List ℕ → Line) → SameAroundWhileTurnsStand read }
+    ensures text { SameAroundRuns }
+    ensures standing_text { SameAroundRunsWhileTurnsStand }
 {}
 
 /// What a fault leaves of a run, where no component listener of its lines stops or cancels: on `Read`, `Memory` and `InputLimit` the

@@ -1,5 +1,5 @@
-use Rattle.dom_families.proofs.GroupRuns.{same-family, same-family_while_turns_stand}
-use Rattle.dom_engine.proofs.FamilyRuns.{family_runs-same, family_runs-same_while_turns_stand}
+use Rattle.dom_families.proofs.GroupMembers.{same-family, same-family_while_turns_stand}
+use Rattle.dom_engine.proofs.GroupRuns.{family_runs-same, family_runs-same_while_turns_stand}
 use Rattle.dom_engine.proofs.laws.law_same_family.Goals as goal
 
 pub returns-clause-lines : goal.returns-clause-lines

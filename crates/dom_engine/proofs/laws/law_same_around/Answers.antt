@@ -1,0 +1,15 @@
+use Rattle.dom_families.proofs.GroupMembers.{same-around, same-around_while_turns_stand}
+use Rattle.dom_engine.proofs.GroupRuns.{around_runs-same, around_runs-same_while_turns_stand}
+use Rattle.dom_engine.proofs.laws.law_same_around.Goals as goal
+
+pub returns-clause-lines : goal.returns-clause-lines
+returns-clause-lines c = λ read. same-around read
+
+pub returns-clause-standing_lines : goal.returns-clause-standing_lines
+returns-clause-standing_lines c = λ read. same-around_while_turns_stand read
+
+pub returns-clause-text : goal.returns-clause-text
+returns-clause-text c = around_runs-same
+
+pub returns-clause-standing_text : goal.returns-clause-standing_text
+returns-clause-standing_text c = around_runs-same_while_turns_stand

@@ -1,0 +1,15 @@
+use Rattle.dom_families.proofs.GroupMembers.{same-component, same-component_while_turns_stand}
+use Rattle.dom_engine.proofs.GroupRuns.{component_runs-same, component_runs-same_while_turns_stand}
+use Rattle.dom_engine.proofs.laws.law_same_component.Goals as goal
+
+pub returns-clause-lines : goal.returns-clause-lines
+returns-clause-lines c = λ read. same-component read
+
+pub returns-clause-standing_lines : goal.returns-clause-standing_lines
+returns-clause-standing_lines c = λ read. same-component_while_turns_stand read
+
+pub returns-clause-text : goal.returns-clause-text
+returns-clause-text c = component_runs-same
+
+pub returns-clause-standing_text : goal.returns-clause-standing_text
+returns-clause-standing_text c = component_runs-same_while_turns_stand

@@ -1,0 +1,15 @@
+use Rattle.dom_families.proofs.GroupMembers.{same-member, same-member_while_turns_stand}
+use Rattle.dom_engine.proofs.GroupRuns.{group_runs-same, group_runs-same_while_turns_stand}
+use Rattle.dom_engine.proofs.laws.law_same_group.Goals as goal
+
+pub returns-clause-lines : goal.returns-clause-lines
+returns-clause-lines c = λ read. same-member read
+
+pub returns-clause-standing_lines : goal.returns-clause-standing_lines
+returns-clause-standing_lines c = λ read. same-member_while_turns_stand read
+
+pub returns-clause-text : goal.returns-clause-text
+returns-clause-text c = group_runs-same
+
+pub returns-clause-standing_text : goal.returns-clause-standing_text
+returns-clause-standing_text c = group_runs-same_while_turns_stand
