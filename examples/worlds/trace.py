@@ -1,11 +1,11 @@
-"""Reads the trace of a script, written apart from the engine: its page lines, and the events that its components send out.
+"""Reads the trace of a script for a group of owners, written apart from the engine: the members' lines, and what all others send out.
 
-An outward event is an accepted `dispatch` of a component with `composed` and without a related node, whose target is below the
-component's shadow root, whose host, where it is a component's, is below that one's, and so on up to a host of the page; the trace has
-this outermost host, the type, and whether it bubbles and is cancelable (docs/ISOLATION.md). Which lines
-were accepted is read from the replies; where a component's nodes stand is followed here, by the commands that move them. After a
-command that changes what is in a range this reader knows only what has no parent and what is placed anew, and it stops where it would
-have to know more.
+An outward event is an accepted `dispatch` of a component outside with `composed` and without a related node, whose target is below the
+component's shadow root, whose host, where it is of a component outside, is below that one's, and so on up to a member's node. The trace has
+this boundary host, the type, and whether it bubbles and is cancelable (docs/ISOLATION.md). The group is the page alone, if no other is
+given. Which lines were accepted is read from the replies; where a component's nodes stand is followed here, by the commands that move
+them. After a command that changes what is in a range this reader knows only what has no parent and what is placed anew, and it stops where
+it would have to know more.
 """
 import os
 import re
@@ -104,42 +104,67 @@ def is_page(owner):
     return owner == "p"
 
 
-def is_in_family(component, owner):
-    """Whether the words of two components begin with one number."""
-    return owner.partition(".")[0] == component.partition(".")[0]
+def maker_of(component):
+    """Whoever attached a component: the page, or the component whose word lacks the last number."""
+    return component.rpartition(".")[0] or "p"
+
+
+def accepted_of(line, reply):
+    """Of an accepted line the owner, the command, its other words, and the value of the reply; nothing of another one."""
+    begins = OWNER.match(line)
+    if not begins or not reply.startswith(begins[1] + " ok") or grammar.answer_class(line.encode("latin-1")) != "read":
+        return None
+    command, *words = line[begins.end() :].split(" ")
+    return begins[1], command, words, reply[len(begins[1]) + 4 :]
+
+
+def listens_that_stop(script, output):
+    """The accepted lines of components by which a listener may stop or cancel an event."""
+    said = [(line, *found) for line, reply in answered(script, output) if (found := accepted_of(line, reply))]
+    return [line for line, owner, command, words, _ in said if not is_page(owner) and command == "listen" and words[3] != "log"]
+
+
+def ends_of_turns(script, output, is_kept):
+    """The lines of owners outside that end a member's turn: any other owner's line ends a component's turn, refused or not."""
+    turn, ends = None, []
+    for line, reply in answered(script, output):
+        begins = OWNER.match(line)
+        if not begins or reply == "! owner":
+            continue
+        if turn and not is_page(turn) and turn != begins[1]:
+            ends += [line] if is_kept(turn) and not is_kept(begins[1]) else []
+            turn = None
+        if reply.startswith(begins[1] + " ok"):
+            turn = None if line[begins.end() :] == "." else turn or begins[1]
+    return ends
 
 
 def trace_of(script, output, is_kept=is_page, may_stop=False):
-    """The trace of a script that the program answered with this output: the lines of the owners that are kept, and tuples for the outward
-    events of all others. A component's listener that may stop an event is read on where `may_stop` says so."""
+    """The trace of a script that the program answered with this output: the lines of the owners that are kept, of whom the page is one, and
+    tuples for the outward events of all others. A component's listener that may stop an event is read on where `may_stop` says so."""
+    stops = [] if may_stop else listens_that_stop(script, output)
+    if stops:
+        raise Unread(f"a listener may stop an event: {stops[0]}")
     hosts, trees, trace = {}, {}, []
     for line, reply in answered(script, output):
         begins = OWNER.match(line)
-        if not begins:
-            continue
-        owner, rest = begins[1], line[begins.end() :]
-        if is_kept(owner):
+        if begins and is_kept(begins[1]):
             trace.append(line)
-        if not reply.startswith(owner + " ok") or grammar.answer_class(line.encode("latin-1")) != "read":
-            continue
-        command, *words = rest.split(" ")
-        value = reply[len(owner) + 4 :]
+        owner, command, words, value = accepted_of(line, reply) or (None, None, [], None)
         if command == "attach":
             hosts[value], trees[value] = (owner, words[0]), Trees()
-        elif not is_page(owner):
+        elif owner and not is_page(owner):
             trees[owner].follow(command, words, value)
             if not is_kept(owner) and command == "dispatch" and "composed" in words[2:] and words[-2] != "related":
-                host = outermost_host(hosts, trees, owner, words[0])
+                host = boundary_host(hosts, trees, is_kept, owner, words[0])
                 trace.extend([(host, words[1], "bubbles" in words[2:], "cancelable" in words[2:])] if host else [])
-            if command == "listen" and words[3] != "log" and not may_stop:
-                raise Unread(f"a listener may stop an event: {line}")
     return trace
 
 
-def outermost_host(hosts, trees, owner, node):
-    """The page's node above a component's node, from host to host, or nothing where one of these stands in no tree."""
-    while not is_page(owner):
+def boundary_host(hosts, trees, is_kept, owner, node):
+    """The first member's node above a node of an owner outside, from host to host, or nothing where one on the way stands in no tree."""
+    while not is_kept(owner):
         if not trees[owner].is_inside(node):
             return None
         owner, node = hosts[owner]
-    return node
+    return node if is_page(owner) else f"{owner}:{node}"

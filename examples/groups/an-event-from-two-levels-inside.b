@@ -1,0 +1,15 @@
+p new element section
+p append n0 n1
+p attach n1
+p listen n1 e page log
+p .
+c1 new element section
+c1 append m0 m1
+c1 attach m1
+c1 listen m1 e host log
+c1 .
+c1.1 new element p
+c1.1 append m0 m1
+c1.1 attach m1
+c1.1 .
+c1.1.1 micro a
