@@ -1,5 +1,5 @@
 -- One line, as the page sees it: a line of the page is the page machine's, another's is its outward event, each as far as others let it come.
-use Rattle.std.proofs.Common.{◌≡◌, ℕ, Bool, true, false, List, [], ◌∷◌, ◌++◌, filter, map, Option, Some, None, refl, sym, ap, ◌∙◌, true≢false}
+use Rattle.std.proofs.Common.{◌≡◌, ℕ, Bool, true, false, List, [], ◌∷◌, ◌++◌, map, Option, Some, None, refl, sym, ap, ◌∙◌, true≢false}
 use Rattle.std.specs.Prelude.{option_to_list, if◌then◌else◌}
 use Rattle.std.proofs.lemmas.Bool.{cond-true, cond-false}
 use Rattle.dom_base.specs.declared.Owner.TheVariants.{Page, Component}
@@ -7,21 +7,21 @@ use Rattle.dom_base.specs.declared.Refusal.TheVariants.{Syntax}
 use Rattle.dom_model.specs.Command.{Line, no_owner, no_command, command}
 use Rattle.dom_model.specs.Runs.{Run, quiet, run_then, refusing}
 use Rattle.dom_model.specs.World.{World, Task, micro_task, notify_task, part_of, with_part}
-use Rattle.dom_model.specs.Turns.{firing_slotchange, is_owned_by, without_signals, notified, ending_other_turn, running_task, is_page_turn}
+use Rattle.dom_model.specs.Turns.{firing_slotchange, without_signals, notified, ending_other_turn, running_task}
 use Rattle.dom_model.specs.DocumentMachine.{step, run_command}
 use Rattle.dom_model.specs.Trace.{is_page, is_of, owner_of_line, outward_event, OutwardEvent}
 use Rattle.dom_model.specs.Groups.{ends_other_turn, ends_group_turn}
-use Rattle.dom_model.specs.PageMachine.{PageState, page_of, is_page_task}
+use Rattle.dom_model.specs.PageMachine.{PageState, page_of}
 use Rattle.dom_isolation.specs.Interference.{Interference, FullItem, line_with, outward_with, turn_ended, records_each, first_record, slot_record, task_records}
 use Rattle.dom_isolation.specs.Interference.{ending_records, before_records, own_records, others_items, full_items}
 use Rattle.dom_isolation.specs.TouchedMachines.{page_line_under, page_command_under, run_page_under}
 use Rattle.dom_isolation.specs.Laws.{page_run}
 use Rattle.dom_worlds.specs.Reached.{Invariant}
-use Rattle.dom_worlds.specs.Worlds.{IsWorld}
+use Rattle.dom_isolation.specs.FullLaws.{EndingsAreNotTold}
 use Rattle.dom_worlds.proofs.Tests.{by_cases}
-use Rattle.dom_worlds.proofs.TurnEndings.{at_end}
+use Rattle.dom_worlds.proofs.TurnEndings.{at_end, quiet-running, quiet-at_end}
 use Rattle.dom_isolation.proofs.SeenRuns.{run_then-square}
-use Rattle.dom_isolation.proofs.PageTurns.{ending_other-quiet, other-no_page}
+use Rattle.dom_isolation.proofs.PageTurns.{ending_other-quiet, no_page_slots}
 use Rattle.dom_worlds.proofs.LineBegins.{quiet-ending_other, page_time}
 use Rattle.dom_isolation.proofs.PageCommands.{command-page}
 use Rattle.dom_isolation.proofs.ComponentEvents.{outward_run, run_then-quiet_end}
@@ -60,33 +60,36 @@ module _ {only_log : Bool} where
       (λ s. outward_run reached s (outward_event is_page w (command (Component k) c))) (ending_other-quiet w q (Component k))
       (command-component (ending_other_turn w (Component k)).0 k (quiet-ending_other w q (Component k)) c)
 
--- Before a line of the page nothing is told: the turn that is ended then is a component's, in which the page has no tasks.
-no-task : (w : World) (t : Task) → is_page_task t ≡ false → task_records is_page w t ≡ []
-no-task w (micro_task o label) h = refl
-no-task w (notify_task o) h =
-    let told = with_part (without_signals w o) (notified (part_of w o)) in
-    cond-false (is_page o) (records_each firing_slotchange (slot_record is_page) told (filter (is_owned_by o) w.signalled)) [] h
+-- No task fires an event at a page node: the page has no slots.
+module _ {only_log : Bool} where
+  -- so nothing is told of a task,
+  no-task : (w : World) → Invariant only_log w → (t : Task) → task_records is_page w t ≡ []
+  no-task w q (micro_task o label) = refl
+  no-task w q (notify_task Page) =
+      let told = with_part (without_signals w Page) (notified (part_of w Page)) in
+      ap (records_each firing_slotchange (slot_record is_page) told) (no_page_slots w q.world)
+  no-task w q (notify_task (Component k)) = refl
 
--- of tasks among which none is the page's
-no-records : (ts : List Task) → filter is_page_task ts ≡ [] → (w : World) → records_each running_task (task_records is_page) w ts ≡ []
-no-records [] h w = refl
-no-records (t ∷ ts) h w =
-    let mine = filter is_page_task ts in
-    by_cases (is_page_task t) (λ p. let some : t ∷ mine ≡ [] = sym (cond-true (is_page_task t) (t ∷ mine) mine p) ∙ h in cc)
-    (λ p. ap (λ is. is ++ records_each running_task (task_records is_page) (running_task w t).0 ts) (no-task w t p)
-    ∙ no-records ts (sym (cond-false (is_page_task t) (t ∷ mine) mine p) ∙ h) (running_task w t).0)
+  -- nor of all,
+  no-tasks : (ts : List Task) (w : World) → Invariant only_log w → records_each running_task (task_records is_page) w ts ≡ []
+  no-tasks [] w q = refl
+  no-tasks (t ∷ ts) w q =
+      let v = (running_task w t).0 in
+      ap (λ records. records ++ records_each running_task (task_records is_page) v ts) (no-task w q t) ∙ no-tasks ts v (quiet-running w q t)
 
--- so nothing is told of the ending before a line of the page
-pub none-before : (w : World) → IsWorld w → (l : Line) → before_records is_page w l ≡ []
-none-before w i l =
-    by_cases (ends_other_turn w l)
-    (λ h. cond-true (ends_other_turn w l) (ending_records is_page w) [] h ∙ no-records w.tasks (i.tasks (calm l h)) (at_end w))
-    (λ h. cond-false (ends_other_turn w l) (ending_records is_page w) [] h)
-  where
-    calm : (l : Line) → ends_other_turn w l ≡ true → is_page_turn w.turn ≡ false
-    calm no_owner h = absurd (true≢false (sym h))
-    calm (no_command o) h = other-no_page w o h
-    calm (command o c) h = other-no_page w o h
+  -- nor of the ending of a turn,
+  no-ending : (w : World) → Invariant only_log w → ending_records is_page w ≡ []
+  no-ending w q = no-tasks w.tasks (at_end w) (quiet-at_end w q)
+
+  -- nor of the one before a line.
+  no-before : (w : World) → Invariant only_log w → (l : Line) → before_records is_page w l ≡ []
+  no-before w q l =
+      by_cases (ends_other_turn w l) (λ h. cond-true (ends_other_turn w l) (ending_records is_page w) [] h ∙ no-ending w q)
+      (λ h. cond-false (ends_other_turn w l) (ending_records is_page w) [] h)
+
+-- the law
+pub endings-are_not_told : EndingsAreNotTold
+endings-are_not_told w i = no-ending {only_log = false} w (record { world = i; logs = λ y. absurd (true≢false (sym y)) })
 
 -- One line, by its items of the full trace.
 module _ {L : Type 0} (read : L → Line) where
@@ -113,7 +116,7 @@ module _ {L : Type 0} (read : L → Line) where
       let others = others_items read is_page w l in
       by_cases kept
       (λ h. line-page w q (read l) h ∙ sym (run_then-quiet_end (page_line_under (first_record own) (page_of w) (read l)))
-      ∙ ap (λ is. run_page_under read (page_of w) (line_with l (is ++ own) ∷ [])) (sym (none-before w q.world (read l)))
+      ∙ ap (λ is. run_page_under read (page_of w) (line_with l (is ++ own) ∷ [])) (sym (no-before w q (read l)))
       ∙ sym (ap (run_page_under read (page_of w)) (cond-true kept mine others h)))
       (λ h. line-other w q (read l) h
       ∙ sym (items-outward (first_record own).reached (page_of w) (outward_event is_page w (read l)))

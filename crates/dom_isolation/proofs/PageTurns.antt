@@ -101,7 +101,7 @@ notifying-other w o f q =
     (firings-quiet (filter (is_owned_by o) w.signalled) (told_in w o) (quiet-told w o q) (slots-owned o f w.signalled))
 
 -- the page has no signalled slots
-no_page_slots : (w : World) → IsWorld w → filter (is_owned_by Page) w.signalled ≡ []
+pub no_page_slots : (w : World) → IsWorld w → filter (is_owned_by Page) w.signalled ≡ []
 no_page_slots w i = filter_none (is_owned_by Page) w.signalled
     (all-then (IsForeignTo Page) (λ s. is_owned_by Page s ≡ false) (λ s f. ne-owner_eq s.owner Page f) w.signalled i.signalled)
 
@@ -156,7 +156,7 @@ ending-component w q h =
     ∙ ap (λ b. quiet (record { part = part_of w Page; tasks = filter is_page_task w.tasks; is_open = b })) (sym h)
 
 -- another component's turn is not the page's
-pub other-no_page : (w : World) (o : Owner) → has_other_turn w o ≡ true → is_page_turn w.turn ≡ false
+other-no_page : (w : World) (o : Owner) → has_other_turn w o ≡ true → is_page_turn w.turn ≡ false
 other-no_page w o h = from w.turn h
   where
     from : (t : Option Owner) → option_map_or (is_other_component o) t false ≡ true → is_page_turn t ≡ false

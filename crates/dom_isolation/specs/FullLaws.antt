@@ -19,7 +19,7 @@ use Rattle.dom_model.specs.Trace.{is_page, is_of, owner_of_line, outward_event, 
 use Rattle.dom_model.specs.PageMachine.{page_of}
 use Rattle.dom_worlds.specs.Worlds.{IsOf, IsThere, IsWorld, OnlyLogs, ComponentsOnlyLog}
 use Rattle.dom_isolation.specs.Laws.{page_run, page_dispatched}
-use Rattle.dom_isolation.specs.Interference.{untouched, first_record, is_own_visit, interference_from, interference_at, own_records}
+use Rattle.dom_isolation.specs.Interference.{untouched, first_record, is_own_visit, interference_from, interference_at, ending_records, own_records}
 use Rattle.dom_isolation.specs.Interference.{plain_items, FullItem}
 use Rattle.dom_isolation.specs.Interference.{line_with, outward_with, turn_ended, full_trace_from}
 use Rattle.dom_isolation.specs.TouchedMachines.{first_visits, page_dispatch_under, page_line_under, page_outward_under}
@@ -61,6 +61,10 @@ InterferenceIsSmall =
     (group : Owner → Bool) (w : World) (x : NodeName) (related : Option NodeName) (e : EventWords) (k : ℕ) →
     (interference_at group w x related e).reached ≡ Some k →
     k ≤ length (filter (is_own_visit group) (visits_of name_eq e.bubbles (views w x related e.composed)))
+
+-- No event of the ending of a turn comes to a page node, so nothing is told of it: a line of the page has one record at most, that of its dispatch.
+abbrev pub EndingsAreNotTold : Type 0
+EndingsAreNotTold = (w : World) → IsWorld w → ending_records is_page w ≡ []
 
 -- nothing was done
 abbrev pub IsUntouched : {L : Type 0} → FullItem L → Type 0

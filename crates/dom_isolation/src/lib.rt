@@ -8,7 +8,7 @@ ghost use Rattle.dom_model.specs.Isolation.{ForeignIsRefused, PagePartAgrees, Pa
 ghost use Rattle.dom_isolation.specs.Laws.{VisitIsUnseen, FoldSkipsComponents, PageVisitsAgree, OutwardVisitsAgree, PageDispatchAgrees};
 ghost use Rattle.dom_isolation.specs.Laws.{ComponentDispatchAgrees, NotificationIsUnseen, TurnEndingAgrees, OtherEndingIsUnseen, PageLineAgrees};
 ghost use Rattle.dom_isolation.specs.FullLaws.{InterferenceIsEnough, InterferenceIsOnPurpose, InterferenceIsSmall, FullTraceIsTrace, NothingTouches};
-ghost use Rattle.dom_isolation.specs.FullLaws.{PageDispatchAgreesInFull, PageLineAgreesInFull, OtherLineAgreesInFull};
+ghost use Rattle.dom_isolation.specs.FullLaws.{EndingsAreNotTold, PageDispatchAgreesInFull, PageLineAgreesInFull, OtherLineAgreesInFull};
 ghost use Rattle.dom_isolation.specs.FullIsolation.{PageRunAgreesInFull, PageAgreesInFull, PageSeesItsFullTrace, SamePageInFull, FullTraceGoesOn};
 ghost use Rattle.dom_isolation.specs.FullIsolation.{PageOutputGoesOnInFull, FullTraceHasPageLines, PageLinesAgreeInFull, PageLinesAgreeSoFarInFull};
 ghost use Rattle.dom_isolation.specs.FullIsolation.{PageTextAgreesInFull, SamePageTextInFull, PickedLinesAgreeInFull, PickedLinesAgreeSoFarInFull};
@@ -24,12 +24,13 @@ pub fn one_visit()
 {}
 
 /// Interference is what others' listeners did to an event: before which visit of a group's nodes one of them stopped it, and whether one cancelled
-/// it. It is enough to tell what the group has of the event; others have to act to leave any; it is small; and it only adds to a trace, where
-/// nothing is told if no component listener stops or cancels. Lines are bytes, and `read` is any reading of them.
+/// it. It is enough to tell what the group has of the event; others have to act to leave any; it is small; of the ending of a turn none is told to the
+/// page; and it only adds to a trace, where nothing is told if no component listener stops or cancels. Lines are bytes, and `read` is any reading of them.
 pub fn one_interference()
     ensures enough { InterferenceIsEnough }
     ensures purpose { InterferenceIsOnPurpose }
     ensures small { InterferenceIsSmall }
+    ensures endings { EndingsAreNotTold }
     ensures trace { (read : List ℕ → Line) → FullTraceIsTrace read }
     ensures nothing { (read : List ℕ → Line) → NothingTouches read }
 {}
