@@ -44,6 +44,38 @@ module _ (P : Going → Type 0) (e : EventWords) (v : Visit NodeName) (keeps : (
 pub visited-stopped : (e : EventWords) (v : Visit NodeName) (d : Going) → d.stopped ≡ true → visited name_eq e d v ≡ d
 visited-stopped e v d s = cond-true d.stopped d (fold (called name_eq e v) d (filter (hears name_eq e v) d.listeners)) s
 
+-- What is made of a dispatch on its way, such as some of its lines, where it keeps the listeners and the stop flags, and each call does to it what it
+-- does to the dispatch.
+record IsThrough (f : Going → Going) (e : EventWords) (v : Visit NodeName) : Type 0 where
+  listeners : (d : Going) → (f d).listeners ≡ d.listeners
+  stopped : (d : Going) → (f d).stopped ≡ d.stopped
+  stopped_now : (d : Going) → (f d).stopped_now ≡ d.stopped_now
+  call : (d : Going) (l : Listener NodeName) → f (call e v d l) ≡ call e v (f d) l
+
+-- So does the visit.
+module _ {f : Going → Going} {e : EventWords} {v : Visit NodeName} (k : IsThrough f e v) where
+  -- a call, or none
+  through-called : (d : Going) (l : Listener NodeName) → f (called name_eq e v d l) ≡ called name_eq e v (f d) l
+  through-called d l =
+      by_cases d.stopped_now (λ s. ap f (no_call e v d l s) ∙ sym (no_call e v (f d) l (k.stopped_now d ∙ s)))
+      (λ s. ap f (call-of e v d l s) ∙ k.call d l ∙ sym (call-of e v (f d) l (k.stopped_now d ∙ s)))
+
+  -- calls of all that hear
+  through-calls : (ls : List (Listener NodeName)) (d : Going) → f (fold (called name_eq e v) d ls) ≡ fold (called name_eq e v) (f d) ls
+  through-calls [] d = refl
+  through-calls (l ∷ ls) d =
+      through-calls ls (called name_eq e v d l) ∙ ap (λ s. fold (called name_eq e v) s ls) (through-called d l)
+
+  -- a visit
+  through-visited : (d : Going) → f (visited name_eq e d v) ≡ visited name_eq e (f d) v
+  through-visited d =
+      let all : List (Listener NodeName) → Going = λ ls. fold (called name_eq e v) (f d) (filter (hears name_eq e v) ls) in
+      let hearing = filter (hears name_eq e v) d.listeners in
+      by_cases d.stopped
+      (λ s. ap f (visited-stopped e v d s) ∙ sym (visited-stopped e v (f d) (k.stopped d ∙ s)))
+      (λ s. ap f (cond-false d.stopped d (fold (called name_eq e v) d hearing) s) ∙ through-calls hearing d ∙ ap all (sym (k.listeners d))
+      ∙ sym (cond-false (f d).stopped (f d) (all (f d).listeners) (k.stopped d ∙ s)))
+
 -- Who stops the other listeners at once stops the event.
 abbrev pub IsOrdered : Going → Type 0
 IsOrdered d = d.stopped ≡ false → d.stopped_now ≡ false
@@ -93,29 +125,10 @@ cancel-call c e v d l =
     cancel-after_action c l.words.action (may_cancel e l.words)
     (record d { listeners = kept_after name_eq l d.listeners; lines = d.lines ++ line_of v l.words ∷ [] })
 
--- made or not
-cancel-called : (c : Bool) (e : EventWords) (v : Visit NodeName) (d : Going) (l : Listener NodeName) →
-    with_cancel c (called name_eq e v d l) ≡ called name_eq e v (with_cancel c d) l
-cancel-called c e v d l =
-    by_cases d.stopped_now (λ s. ap (with_cancel c) (no_call e v d l s) ∙ sym (no_call e v (with_cancel c d) l s))
-    (λ s. ap (with_cancel c) (call-of e v d l s) ∙ cancel-call c e v d l ∙ sym (call-of e v (with_cancel c d) l s))
-
--- nor all calls
-cancel-calls : (c : Bool) (e : EventWords) (v : Visit NodeName) (ls : List (Listener NodeName)) (d : Going) →
-    with_cancel c (fold (called name_eq e v) d ls) ≡ fold (called name_eq e v) (with_cancel c d) ls
-cancel-calls c e v [] d = refl
-cancel-calls c e v (l ∷ ls) d =
-    cancel-calls c e v ls (called name_eq e v d l) ∙ ap (λ s. fold (called name_eq e v) s ls) (cancel-called c e v d l)
-
 -- nor a visit
 cancel-visited : (c : Bool) (e : EventWords) (v : Visit NodeName) (d : Going) → with_cancel c (visited name_eq e d v) ≡ visited name_eq e (with_cancel c d) v
 cancel-visited c e v d =
-    let hearing = filter (hears name_eq e v) d.listeners in
-    by_cases d.stopped
-    (λ s. ap (with_cancel c) (cond-true d.stopped d (fold (called name_eq e v) d hearing) s)
-    ∙ sym (cond-true d.stopped (with_cancel c d) (fold (called name_eq e v) (with_cancel c d) hearing) s))
-    (λ s. ap (with_cancel c) (cond-false d.stopped d (fold (called name_eq e v) d hearing) s) ∙ cancel-calls c e v hearing d
-    ∙ sym (cond-false d.stopped (with_cancel c d) (fold (called name_eq e v) (with_cancel c d) hearing) s))
+    through-visited (record { listeners = λ d. refl; stopped = λ d. refl; stopped_now = λ d. refl; call = cancel-call c e v }) d
 
 -- in the world
 pub cancel-visit : (c : Bool) (e : EventWords) (s : InWorld) (v : Visit NodeName) →
@@ -149,28 +162,10 @@ module _ (g : Owner → Bool) where
       ∙ ap (λ ls. after_action l.words.action (may_cancel e l.words) (record d { listeners = kept_after name_eq l d.listeners; lines = ls }))
       (filter-append in_line d.lines (line_of v l.words ∷ []) ∙ ap (λ ls. filter in_line d.lines ++ ls) (filter-here in_line (line_of v l.words) [] h))
 
-  -- a call at a node of the group is seen as it is alone, stopped or not
-  seen-called : (e : EventWords) (v : Visit NodeName) → is_own_visit g v ≡ true → (d : Going) (l : Listener NodeName) →
-      seen (called name_eq e v d l) ≡ called name_eq e v (seen d) l
-  seen-called e v h d l =
-      by_cases d.stopped_now (λ s. ap seen (no_call e v d l s) ∙ sym (no_call e v (seen d) l s))
-      (λ s. ap seen (call-of e v d l s) ∙ seen-call e v h d l ∙ sym (call-of e v (seen d) l s))
-
-  -- calls of all that hear
-  seen-calls : (e : EventWords) (v : Visit NodeName) → is_own_visit g v ≡ true → (ls : List (Listener NodeName)) (d : Going) →
-      seen (fold (called name_eq e v) d ls) ≡ fold (called name_eq e v) (seen d) ls
-  seen-calls e v h [] d = refl
-  seen-calls e v h (l ∷ ls) d = seen-calls e v h ls (called name_eq e v d l) ∙ ap (λ s. fold (called name_eq e v) s ls) (seen-called e v h d l)
-
-  -- a visit
+  -- a visit at a node of the group is seen as it is alone
   pub seen-visited : (e : EventWords) (v : Visit NodeName) → is_own_visit g v ≡ true → (d : Going) → seen (visited name_eq e d v) ≡ visited name_eq e (seen d) v
   seen-visited e v h d =
-      let hearing = filter (hears name_eq e v) d.listeners in
-      by_cases d.stopped
-      (λ s. ap seen (cond-true d.stopped d (fold (called name_eq e v) d hearing) s)
-      ∙ sym (cond-true d.stopped (seen d) (fold (called name_eq e v) (seen d) hearing) s))
-      (λ s. ap seen (cond-false d.stopped d (fold (called name_eq e v) d hearing) s) ∙ seen-calls e v h hearing d
-      ∙ sym (cond-false d.stopped (seen d) (fold (called name_eq e v) (seen d) hearing) s))
+      through-visited (record { listeners = λ d. refl; stopped = λ d. refl; stopped_now = λ d. refl; call = seen-call e v h }) d
 
   -- A visit at a node outside adds no line of the group.
   module _ (e : EventWords) (v : Visit NodeName) (f : is_own_visit g v ≡ false) where
