@@ -19,7 +19,7 @@ use Rattle.dom_model.specs.Groups.{KeepsMakers, group_world, group_turn, group_r
 use Rattle.dom_model.specs.Trace.{is_of}
 use Rattle.dom_model.proofs.OwnerLaws.{owner_eq-true, ne-owner_eq}
 use Rattle.dom_model.proofs.TurnLaws.{turn-ending_turn}
-use Rattle.dom_worlds.specs.Reached.{IsQuiet}
+use Rattle.dom_worlds.specs.Reached.{Invariant}
 use Rattle.dom_worlds.proofs.LineBegins.{quiet-opening}
 use Rattle.dom_worlds.proofs.Tests.{by_cases}
 use Rattle.dom_worlds.proofs.Visits.{rest-visits}
@@ -60,7 +60,7 @@ no_other-ended w o =
     (λ h. subst (λ (r : Run World). has_other_turn r.0 o ≡ false) (sym (cond-false (has_other_turn w o) (ending_turn w) (quiet w) h)) h)
 
 -- so a line may open a turn
-pub opened-quiet : (w : World) → IsQuiet w → (o : Owner) → IsQuiet (opening_turn w o)
+pub opened-quiet : {only_log : Bool} (w : World) → Invariant only_log w → (o : Owner) → Invariant only_log (opening_turn w o)
 opened-quiet w q o = quiet-opening w q o
 
 module _ (g : Owner → Bool) (closed : KeepsMakers g) where
@@ -106,7 +106,7 @@ module _ (g : Owner → Bool) (closed : KeepsMakers g) where
   same-page_turn w v same = sym (page_turn-group w.turn) ∙ ap (λ (u : World). is_page_turn u.turn) same ∙ page_turn-group v.turn
 
   -- Where no turn of the group is open, the ending of another's before a line, or at the end, does nothing.
-  pub ending_other-out : (w : World) → IsQuiet w → IsCalm g w → is_of g w.turn ≡ false → (o : Owner) →
+  pub ending_other-out : {only_log : Bool} (w : World) → Invariant only_log w → IsCalm g w → is_of g w.turn ≡ false → (o : Owner) →
       group_run g (ending_other_turn w o) ≡ (group_world g w, [])
   ending_other-out w q calm h o =
       by_cases (has_other_turn w o)
@@ -114,7 +114,8 @@ module _ (g : Owner → Bool) (closed : KeepsMakers g) where
       (λ e. ap (group_run g) (cond-false (has_other_turn w o) (ending_turn w) (quiet w) e))
 
   -- at the end
-  ending_any-out : (w : World) → IsQuiet w → IsCalm g w → is_of g w.turn ≡ false → group_run g (ending_any_turn w) ≡ (group_world g w, [])
+  ending_any-out : {only_log : Bool} (w : World) → Invariant only_log w → IsCalm g w → is_of g w.turn ≡ false →
+      group_run g (ending_any_turn w) ≡ (group_world g w, [])
   ending_any-out w q calm h =
       by_cases (is_some w.turn)
       (λ e. ap (group_run g) (cond-true (is_some w.turn) (ending_turn w) (quiet w) e) ∙ ending-out g closed w q calm (turn-none w.turn h))

@@ -36,7 +36,8 @@ use Rattle.dom_isolation.proofs.GroupParts.{in_node, part-in, there-in, with_par
 use Rattle.dom_families.proofs.GroupSlots.{IsGround, ground-of, assigned-in}
 use Rattle.dom_families.proofs.GroupSteps.{IsSameGround, steps-in}
 use Rattle.dom_families.proofs.GroupPaths.{In, including-in, including-inside}
-use Rattle.dom_families.proofs.GroupDispatches.{same-ground, IsSameView, runs-then, dispatch-in}
+use Rattle.dom_families.proofs.GroupDispatches.{same-world, same-ground, IsSameView, runs-then, dispatch-in}
+use Rattle.dom_families.proofs.TouchedDispatches.{IsSameWorld}
 use Rattle.dom_families.proofs.GroupTurns.{same-part, ending-in}
 use Rattle.dom_families.proofs.GroupBegins.{same-page_turn, opening-in, opened-quiet}
 
@@ -102,9 +103,9 @@ module _ (g : Owner → Bool) (closed : KeepsMakers g) where
       (part-in g w last.owner (last-all (In g closed w i) None (shadow_including_ancestors w x) x (including-inside g closed w i x h) h))
 
   -- a target and a related node of the group
-  record AreOfGroup (x : NodeName) (r : Option NodeName) : Type 0 where
-    target : in_node g x ≡ true
-    related : AllByRecursion (λ y. in_node g y ≡ true) (option_to_list r)
+  pub record AreOfGroup (x : NodeName) (r : Option NodeName) : Type 0 where
+    pub target : in_node g x ≡ true
+    pub related : AllByRecursion (λ y. in_node g y ≡ true) (option_to_list r)
 
   -- a dispatch with its answer
   dispatched-in : {w v : World} → IsSameView g w v → (o : Owner) → (x : NodeName) (r : Option NodeName) (e : EventWords) → AreOfGroup x r →
@@ -128,45 +129,71 @@ module _ (g : Owner → Bool) (closed : KeepsMakers g) where
       ap (λ ts. record (group_world g w) { tasks = ts }) (more w) ∙ ap (λ (u : World). record u { tasks = u.tasks ++ micro_task o label ∷ [] }) same
       ∙ sym (ap (λ ts. record (group_world g v) { tasks = ts }) (more v))
 
+  -- The commands without events, in two worlds of which the group has the same.
+  module _ {w v : World} (s : IsSameWorld g w v) (o : Owner) (h : g o ≡ true) where
+    -- a word of the owner names a node of the group
+    named-inside : (a : NodeWord) → in_node g (named (part_of w o) a) ≡ true
+    named-inside a = ap g (owner-named (part_of w o) a ∙ owner-part_of w o) ∙ h
+
+    -- an attach
+    pub attach-alike : (a : NodeWord) → group_run g (perform w o (Command.attach a)) ≡ group_run g (perform v o (Command.attach a))
+    attach-alike a =
+        attaching-in w v s.same o h (named (part_of w o) a) ∙ ap (λ x. group_run g (attaching v o (named x a))) (same-part g closed w v s.same o h)
+
+    -- whether a node is connected
+    pub connected-alike : (a : NodeWord) → group_run g (perform w o (Command.connected a)) ≡ group_run g (perform v o (Command.connected a))
+    connected-alike a =
+        let x = named (part_of w o) a in
+        let mine = named-inside a in
+        answered o (a_truth (is_connected w x)) w v s.same
+        ∙ ap (λ b. group_run g (answering o (a_truth b) v))
+        (sym (connected-group w (ground-of w s.first.world) x mine) ∙ ap (λ u. is_connected u x) s.same ∙ connected-group v (ground-of v s.second.world) x mine)
+        ∙ ap (λ r. group_run g (answering o (a_truth (is_connected v (named r a))) v)) (same-part g closed w v s.same o h)
+
+    -- what is assigned to a slot
+    pub assigned-alike : (a : NodeWord) → group_run g (perform w o (Command.assigned a)) ≡ group_run g (perform v o (Command.assigned a))
+    assigned-alike a =
+        let x = named (part_of w o) a in
+        let mine = named-inside a in
+        answered o (a_list (assigned w x)) w v s.same
+        ∙ ap (λ b. group_run g (answering o (a_list b) v))
+        (sym (assigned-in g closed w (ground-of w s.first.world) x mine) ∙ ap (λ u. assigned u x) s.same
+        ∙ assigned-in g closed v (ground-of v s.second.world) x mine)
+        ∙ ap (λ r. group_run g (answering o (a_list (assigned v (named r a))) v)) (same-part g closed w v s.same o h)
+
+    -- a microtask
+    pub micro-alike : (a : Word) → group_run g (perform w o (Command.micro a)) ≡ group_run g (perform v o (Command.micro a))
+    micro-alike a =
+        answered o nothing (record w { tasks = w.tasks ++ micro_task o a ∷ [] }) (record v { tasks = v.tasks ++ micro_task o a ∷ [] })
+        (micro-in w v s.same o h a)
+
+    -- any other
+    pub effect-alike : (c : Command) → group_run g (effect_in w o (effect (part_of w o) c)) ≡ group_run g (effect_in v o (effect (part_of v o) c))
+    effect-alike c =
+        effect-in (same-ground s) o h (effect (part_of w o) c) (base-effect (part_of w o) c)
+        ∙ ap (λ x. group_run g (effect_in v o (effect x c))) (same-part g closed w v s.same o h)
+
+    -- the target and the related node of a dispatch are of the group
+    pub words-inside : (a : NodeWord) (r : Option NodeWord) → AreOfGroup (named (part_of w o) a) (option_map (named (part_of w o)) r)
+    words-inside a None = record { target = named-inside a; related = tt }
+    words-inside a (Some b) = record { target = named-inside a; related = (named-inside b, tt) }
+
   -- What an accepted command does.
   pub perform-in : (w v : World) → IsSameView g w v → (o : Owner) → g o ≡ true → (c : Command) → group_run g (perform w o c) ≡ group_run g (perform v o c)
-  perform-in w v s o h (Command.attach a) =
-      attaching-in w v s.same o h (named (part_of w o) a) ∙ ap (λ x. group_run g (attaching v o (named x a))) (same-part g closed w v s.same o h)
-  perform-in w v s o h (Command.connected a) =
-      let x = named (part_of w o) a in
-      let mine = ap g (owner-named (part_of w o) a ∙ owner-part_of w o) ∙ h in
-      answered o (a_truth (is_connected w x)) w v s.same
-      ∙ ap (λ b. group_run g (answering o (a_truth b) v))
-      (sym (connected-group w (ground-of w s.first.world) x mine) ∙ ap (λ u. is_connected u x) s.same ∙ connected-group v (ground-of v s.second.world) x mine)
-      ∙ ap (λ r. group_run g (answering o (a_truth (is_connected v (named r a))) v)) (same-part g closed w v s.same o h)
-  perform-in w v s o h (Command.assigned a) =
-      let x = named (part_of w o) a in
-      let mine = ap g (owner-named (part_of w o) a ∙ owner-part_of w o) ∙ h in
-      answered o (a_list (assigned w x)) w v s.same
-      ∙ ap (λ b. group_run g (answering o (a_list b) v))
-      (sym (assigned-in g closed w (ground-of w s.first.world) x mine) ∙ ap (λ u. assigned u x) s.same ∙ assigned-in g closed v
-      (ground-of v s.second.world) x mine)
-      ∙ ap (λ r. group_run g (answering o (a_list (assigned v (named r a))) v)) (same-part g closed w v s.same o h)
+  perform-in w v s o h (Command.attach a) = attach-alike (same-world s) o h a
+  perform-in w v s o h (Command.connected a) = connected-alike (same-world s) o h a
+  perform-in w v s o h (Command.assigned a) = assigned-alike (same-world s) o h a
   perform-in w v k o h (Command.dispatch a e r) =
       let x = part_of w o in
-      let mine : (s : NodeWord) → in_node g (named x s) ≡ true = λ s. ap g (owner-named x s ∙ owner-part_of w o) ∙ h in
       let done : Part → Run World = λ y. let d = dispatch_in v (named y a) (option_map (named y) r) e in run_then d.run (answering o (a_truth d.answer)) in
-      dispatched-in k o (named x a) (option_map (named x) r) e (record { target = mine a; related = near mine r })
+      dispatched-in k o (named x a) (option_map (named x) r) e (words-inside (same-world k) o h a r)
       ∙ ap (λ y. group_run g (done y)) (same-part g closed w v k.same o h)
-    where
-      near : ((s : NodeWord) → in_node g (named (part_of w o) s) ≡ true) → (r : Option NodeWord) →
-          AllByRecursion (λ y. in_node g y ≡ true) (option_to_list (option_map (named (part_of w o)) r))
-      near mine None = tt
-      near mine (Some s) = (mine s, tt)
-  perform-in w v s o h (Command.micro a) =
-      answered o nothing (record w { tasks = w.tasks ++ micro_task o a ∷ [] }) (record v { tasks = v.tasks ++ micro_task o a ∷ [] }) (micro-in w v s.same o h a)
+  perform-in w v s o h (Command.micro a) = micro-alike (same-world s) o h a
   perform-in w v s o h Command.end_turn =
       let first = ending-in g closed w v s in
       runs-then g closed (ending_turn w) (ending_turn v) (answering o nothing) (answering o nothing) first
       (answered o nothing (ending_turn w).0 (ending_turn v).0 (ap (λ (r : Run World). r.0) first))
-  perform-in w v s o h c =
-      effect-in (same-ground s) o h (effect (part_of w o) c) (base-effect (part_of w o) c)
-      ∙ ap (λ x. group_run g (effect_in v o (effect x c))) (same-part g closed w v s.same o h)
+  perform-in w v s o h c = effect-alike (same-world s) o h c
 
   -- Two quiet worlds that show the group the same, and an owner of the group, whose turn may be opened in both.
   module _ {w v : World} (s : IsSameView g w v) (o : Owner) (h : g o ≡ true) (a : has_other_turn w o ≡ false) (b : has_other_turn v o ≡ false) where

@@ -43,7 +43,8 @@ turn-effect w o (tables p lines a) = refl
 turn-effect w o (changes steps a) = turn-world_after o steps w
 
 -- what a command of a component does fits where it is accepted
-fits : (w : World) → IsReached true w → IsWhole w → (o : Owner) (c : Command) → refusal w o c ≡ None → Holds (part_of w o) (effect (part_of w o) c)
+pub fits : {only_log : Bool} (w : World) → IsReached only_log w → IsWhole w → (o : Owner) (c : Command) → refusal w o c ≡ None →
+    Holds (part_of w o) (effect (part_of w o) c)
 fits w r k o c e =
     let known = accepted-facts w o c e in
     holds-effect (part_of w o) (r.world.parts o) (k.tables o) (k.first o known.there) c known.part

@@ -17,9 +17,11 @@ use Rattle.dom_model.specs.Isolation.{output_of, turns_are_closed_from, group_tu
 use Rattle.dom_model.specs.Isolation.{SameFamily, SameFamilyWhileTurnsStand, SameComponent, SameComponentWhileTurnsStand, SameAround, SameAroundWhileTurnsStand}
 use Rattle.dom_model.proofs.OwnerLaws.{owner_eq-true}
 use Rattle.dom_worlds.proofs.Tests.{or-second}
+use Rattle.dom_families.specs.FullGroups.{SameMemberInFull, SameFamilyInFull, SameComponentInFull, SameAroundInFull}
 use Rattle.dom_families.specs.Agreement.{AgreeWhileTurnsStand, AgreeWithClosedTurns, SameMember, SameMemberWhileTurnsStand}
 use Rattle.dom_families.proofs.Families.{page-is_group, family-is_group, makers-are_group, others-are_group, own-maker}
 use Rattle.dom_families.proofs.GroupRuns.{same-group}
+use Rattle.dom_families.proofs.TouchedRuns.{same-group_in_full}
 use Rattle.dom_families.proofs.GroupTurns.{filter-sub}
 use Rattle.dom_families.proofs.GroupViews.{and-no}
 
@@ -109,3 +111,22 @@ module _ {L : Type 0} (read : L → Line) where
   -- with closed turns
   pub same-around : SameAround read
   same-around p o off out ls ms a b c d e = same-member (group_without p) (others-are_group p off) o out ls ms ((a, b, e), c, d)
+
+  -- Whatever others' listeners do, and whose turns they end: a member,
+  pub same-member_in_full : SameMemberInFull read
+  same-member_in_full g closed o h ls ms k =
+      sym (member-outputs g o h (output_of read ls)) ∙ ap (outputs_for o) (same-group_in_full read g closed ls ms k)
+      ∙ member-outputs g o h (output_of read ms)
+
+  -- of a family,
+  pub same-family_in_full : SameFamilyInFull read
+  same-family_in_full root member m ls ms k =
+      same-member_in_full (family_group root) (family-is_group root) member (or-second (is_page member) (is_in_family root member) m) ls ms k
+
+  -- a component with its makers,
+  pub same-component_in_full : SameComponentInFull read
+  same-component_in_full o ls ms k = same-member_in_full (makers_group o) (makers-are_group o) o (own-maker o) ls ms k
+
+  -- and around a component
+  pub same-around_in_full : SameAroundInFull read
+  same-around_in_full p o off out ls ms k = same-member_in_full (group_without p) (others-are_group p off) o out ls ms k

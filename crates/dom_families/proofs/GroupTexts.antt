@@ -28,9 +28,10 @@ use Rattle.dom_isolation.proofs.PlainTexts.{output-has_its_lines}
 use Rattle.dom_worlds.proofs.Tests.{by_cases, or-second}
 use Rattle.dom_families.specs.Texts.{IsWordOf, ReadsOwners, DecodeReadsOwners, OwnLinesHaveTheirPrefix, SameFamilyText, SameFamilyTextWhileTurnsStand}
 use Rattle.dom_families.specs.Texts.{SameGroupText, SameGroupTextWhileTurnsStand, SameComponentText, SameComponentTextWhileTurnsStand}
-use Rattle.dom_families.specs.Texts.{SameAroundText, SameAroundTextWhileTurnsStand}
+use Rattle.dom_families.specs.Texts.{SameAroundText, SameAroundTextWhileTurnsStand, SameGroupTextInFull, SameFamilyTextInFull}
+use Rattle.dom_families.specs.Texts.{SameComponentTextInFull, SameAroundTextInFull}
 use Rattle.dom_families.proofs.Families.{family-is_group, makers-are_group, others-are_group, own-maker}
-use Rattle.dom_families.proofs.GroupMembers.{same-member_while_turns_stand, agree-standing}
+use Rattle.dom_families.proofs.GroupMembers.{same-member_while_turns_stand, agree-standing, same-member_in_full}
 use Rattle.dom_families.proofs.WordedRuns.{IsWordedInput, worded-outputs}
 
 -- a number of one to nine digits that does not begin with 0 is not 0
@@ -134,3 +135,26 @@ module _ (read : List ℕ → Line) where
   pub same-around_text : ReadsOwners read → ReadsPlainWords read → SameAroundText read
   same-around_text owners plain c o off out t first second k =
       same-group_text owners plain (group_without c) (others-are_group c off) o out t first second k
+
+  -- Whatever others' listeners do, and whose turns they end: a member of a group,
+  pub same-group_text_in_full : ReadsOwners read → ReadsPlainWords read → SameGroupTextInFull read
+  same-group_text_in_full owners plain g closed member m t first second k =
+      own_lines-have_their_prefix owners plain member t first
+      ∙ ap (map output_line) (same-member_in_full read g closed member m (lines_of first) (lines_of second) k)
+      ∙ sym (own_lines-have_their_prefix owners plain member t second)
+
+  -- of a family,
+  pub same-family_text_in_full : ReadsOwners read → ReadsPlainWords read → SameFamilyTextInFull read
+  same-family_text_in_full owners plain root member m t first second k =
+      same-group_text_in_full owners plain (family_group root) (family-is_group root) member
+      (or-second (is_page member) (is_in_family root member) m) t first second k
+
+  -- a component with its makers,
+  pub same-component_text_in_full : ReadsOwners read → ReadsPlainWords read → SameComponentTextInFull read
+  same-component_text_in_full owners plain c t first second k =
+      same-group_text_in_full owners plain (makers_group c) (makers-are_group c) c (own-maker c) t first second k
+
+  -- and around a component
+  pub same-around_text_in_full : ReadsOwners read → ReadsPlainWords read → SameAroundTextInFull read
+  same-around_text_in_full owners plain c o off out t first second k =
+      same-group_text_in_full owners plain (group_without c) (others-are_group c off) o out t first second k

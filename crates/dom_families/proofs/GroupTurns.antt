@@ -14,14 +14,14 @@ use Rattle.dom_model.specs.Groups.{KeepsMakers, group_world, group_turn, group_o
 use Rattle.dom_model.specs.Trace.{is_of, owner_of_output}
 use Rattle.dom_model.proofs.OwnerLaws.{owner_eq-true}
 use Rattle.dom_model.proofs.PartLaws.{owner-part_of}
-use Rattle.dom_worlds.specs.Reached.{IsQuiet}
+use Rattle.dom_worlds.specs.Reached.{Invariant}
 use Rattle.dom_worlds.proofs.Lists.{all-then, all-passed, filter_all, filter_none, filter-filter}
 use Rattle.dom_worlds.proofs.Tests.{by_cases}
-use Rattle.dom_worlds.proofs.TurnEndings.{told_in, quiet-told, quiet-dispatch, quiet-running, quiet-at_end}
+use Rattle.dom_worlds.proofs.TurnEndings.{told_in, quiet-told, quiet-dispatch, quiet-running, at_end, quiet-at_end}
 use Rattle.dom_isolation.proofs.PageTurns.{IsLineOf, lines-notified}
 use Rattle.dom_families.specs.Laws.{IsCalm}
 use Rattle.dom_isolation.proofs.GroupParts.{in_node, part-in, with_part-in, with_part-out, filter-here, filter-away}
-use Rattle.dom_families.proofs.GroupVisits.{no_dispatch}
+use Rattle.dom_families.proofs.TouchedDispatches.{no_dispatch}
 use Rattle.dom_families.proofs.OutsideViews.{views-kept_in}
 use Rattle.dom_families.proofs.GroupDispatches.{IsSameView, runs-then, quiet-then, dispatch-in}
 
@@ -62,12 +62,12 @@ module _ (g : Owner → Bool) (closed : KeepsMakers g) where
       h.1)
 
   -- and at others'
-  firings-out : (ss : List NodeName) (w : World) → IsQuiet w → AllByRecursion (λ s. in_node g s ≡ false) ss →
+  firings-out : {only_log : Bool} (ss : List NodeName) (w : World) → Invariant only_log w → AllByRecursion (λ s. in_node g s ≡ false) ss →
       group_run g (run_each firing_slotchange w ss) ≡ (group_world g w, [])
   firings-out [] w q h = refl
   firings-out (s ∷ ss) w q h =
       let first : group_run g (firing_slotchange w s) ≡ (group_world g w, []) =
-      no_dispatch g closed w s None slotchange (q.logs refl) (views-kept_in g closed w q.world s None h.0) in
+      no_dispatch g w q.world s None slotchange (views-kept_in g closed w q.world s None h.0) in
       quiet-then g closed (firing_slotchange w s) w (λ u. run_each firing_slotchange u ss) (w, []) first
       (firings-out ss (firing_slotchange w s).0 (quiet-dispatch w s None slotchange q) h.1 ∙ ap (λ (r : Run World). (r.0, [])) first)
 
@@ -79,22 +79,37 @@ module _ (g : Owner → Bool) (closed : KeepsMakers g) where
       (filter-filter (in_node g) (λ s. not (is_owned_by o s)) w.signalled)
       ∙ ap (λ p. with_part (without_signals (group_world g w) o) (notified p)) (sym (part-in g w o h))
 
+  -- the signalled slots of an owner
+  abbrev pub slots : Owner → World → List NodeName
+  slots o u = filter (is_owned_by o) u.signalled
+
+  -- In two worlds of which the group has the same: the first part of a notification, and the slots.
+  module _ (w v : World) (same : group_world g w ≡ group_world g v) (o : Owner) (h : g o ≡ true) where
+    -- the world and the lines
+    pub told-in : group_run g (told_in w o, notified_lines (part_of w o)) ≡ group_run g (told_in v o, notified_lines (part_of v o))
+    told-in =
+        ap (λ u. (u, group_outputs g (notified_lines (part_of w o)))) (told-group w o h ∙ ap (λ u. told_in u o) same ∙ sym (told-group v o h))
+        ∙ ap (λ a. (group_world g (told_in v o), group_outputs g (notified_lines a))) (same-part w v same o h)
+
+    -- the slots
+    pub slots-in : slots o w ≡ slots o v
+    slots-in =
+        sym (filter-sub (is_owned_by o) (in_node g) (owned-in o h) w.signalled) ∙ ap (slots o) same
+        ∙ filter-sub (is_owned_by o) (in_node g) (owned-in o h) v.signalled
+
+    -- which are of the group
+    pub slots-inside : AllByRecursion (λ s. in_node g s ≡ true) (slots o w)
+    slots-inside = all-passed (λ s. in_node g s ≡ true) (is_owned_by o) (owned-in o h) w.signalled
+
   -- a notification of the group
   notifying-in : (w v : World) → IsSameView g w v → (o : Owner) → g o ≡ true → group_run g (notifying w o) ≡ group_run g (notifying v o)
   notifying-in w v k o h =
-      let slots : World → List NodeName = λ u. filter (is_owned_by o) u.signalled in
-      let told = told-group w o h ∙ ap (λ u. told_in u o) k.same ∙ sym (told-group v o h) in
-      let first : group_run g (told_in w o, notified_lines (part_of w o)) ≡ group_run g (told_in v o, notified_lines (part_of v o)) =
-      ap (λ u. (u, group_outputs g (notified_lines (part_of w o)))) told
-      ∙ ap (λ a. (group_world g (told_in v o), group_outputs g (notified_lines a))) (same-part w v k.same o h) in
-      let same_slots : slots w ≡ slots v =
-      sym (filter-sub (is_owned_by o) (in_node g) (owned-in o h) w.signalled) ∙ ap slots k.same
-      ∙ filter-sub (is_owned_by o) (in_node g) (owned-in o h) v.signalled in
+      let first = told-in w v k.same o h in
       runs-then g closed (told_in w o, notified_lines (part_of w o)) (told_in v o, notified_lines (part_of v o))
-      (λ u. run_each firing_slotchange u (slots w)) (λ u. run_each firing_slotchange u (slots v)) first
-      (firings-in (slots w) (told_in w o) (told_in v o) (record { first = quiet-told w o k.first; second = quiet-told v o k.second; same = told })
-      (all-passed (λ s. in_node g s ≡ true) (is_owned_by o) (owned-in o h) w.signalled)
-      ∙ ap (λ ss. group_run g (run_each firing_slotchange (told_in v o) ss)) same_slots)
+      (λ u. run_each firing_slotchange u (slots o w)) (λ u. run_each firing_slotchange u (slots o v)) first
+      (firings-in (slots o w) (told_in w o) (told_in v o)
+      (record { first = quiet-told w o k.first; second = quiet-told v o k.second; same = ap (λ (r : Run World). r.0) first }) (slots-inside w v k.same o h)
+      ∙ ap (λ ss. group_run g (run_each firing_slotchange (told_in v o) ss)) (slots-in w v k.same o h))
 
   -- another's lines are not the group's
   lines-out : (p : Part) → g p.owner ≡ false → group_outputs g (notified_lines p) ≡ []
@@ -103,7 +118,7 @@ module _ (g : Owner → Bool) (closed : KeepsMakers g) where
       (all-then (IsLineOf p.owner) (λ l. is_of g (owner_of_output l) ≡ false) (λ l e. ap (is_of g) e ∙ h) (notified_lines p) (lines-notified p))
 
   -- a notification of another owner
-  notifying-out : (w : World) → IsQuiet w → (o : Owner) → g o ≡ false → group_run g (notifying w o) ≡ (group_world g w, [])
+  notifying-out : {only_log : Bool} (w : World) → Invariant only_log w → (o : Owner) → g o ≡ false → group_run g (notifying w o) ≡ (group_world g w, [])
   notifying-out w q o h =
       let slots = filter (is_owned_by o) w.signalled in
       let away = ap g (owner-part_of w o) ∙ h in
@@ -125,7 +140,8 @@ module _ (g : Owner → Bool) (closed : KeepsMakers g) where
   running-in w v s (notify_task o) h = notifying-in w v s o h
 
   -- and one of another owner
-  running-out : (w : World) → IsQuiet w → (t : Task) → is_task_of g t ≡ false → group_run g (running_task w t) ≡ (group_world g w, [])
+  pub running-out : {only_log : Bool} (w : World) → Invariant only_log w → (t : Task) → is_task_of g t ≡ false →
+      group_run g (running_task w t) ≡ (group_world g w, [])
   running-out w q (micro_task o label) h =
       ap (λ ls. (group_world g w, ls)) (filter-away (λ l. is_of g (owner_of_output l)) (says o (micro_ran label)) [] h)
   running-out w q (notify_task o) h = notifying-out w q o h
@@ -147,20 +163,30 @@ module _ (g : Owner → Bool) (closed : KeepsMakers g) where
       (record { first = quiet-running w s.first t; second = s.second; same = ap (λ (r : Run World). r.0) first ∙ s.same }))
       ∙ sym (ap (λ us. group_run g (run_each running_task v us)) (filter-away (is_task_of g) t ts h)))
 
+  -- of which none is of the group
+  running-none : {only_log : Bool} (ts : List Task) (w : World) → Invariant only_log w → filter (is_task_of g) ts ≡ [] →
+      group_run g (run_each running_task w ts) ≡ (group_world g w, [])
+  running-none [] w q h = refl
+  running-none (t ∷ ts) w q h =
+      by_cases (is_task_of g t) (λ e. let some : t ∷ filter (is_task_of g) ts ≡ [] = sym (filter-here (is_task_of g) t ts e) ∙ h in cc)
+      (λ e. let first = running-out w q t e in
+      quiet-then g closed (running_task w t) w (λ u. run_each running_task u ts) (w, []) first
+      (running-none ts (running_task w t).0 (quiet-running w q t) (sym (filter-away (is_task_of g) t ts e) ∙ h) ∙ ap (λ (r : Run World). (r.0, [])) first))
+
+  -- A world with neither a turn nor tasks of the group, as it is when its turn ends.
+  pub at_end-calm : (w : World) → IsCalm g w → group_turn g w.turn ≡ None → group_world g (at_end w) ≡ group_world g w
+  at_end-calm w calm h =
+      ap (λ ts. record (group_world g w) { tasks = ts; turn = None }) (sym (calm h)) ∙ ap (λ t. record (group_world g w) { turn = t }) (sym h)
+
   -- The ending of a turn: in two worlds of which the group has the same,
   pub ending-in : (w v : World) → IsSameView g w v → group_run g (ending_turn w) ≡ group_run g (ending_turn v)
   ending-in w v s =
-      let at_end : World → World = λ u. record u { tasks = []; turn = None } in
       let same_end = ap at_end s.same in
       running-all w.tasks (at_end w) (at_end v) (record { first = quiet-at_end w s.first; second = quiet-at_end v s.second; same = same_end })
       ∙ ap (λ ts. group_run g (run_each running_task (at_end v) ts)) (ap (λ (u : World). u.tasks) s.same)
       ∙ sym (running-all v.tasks (at_end v) (at_end v) (record { first = quiet-at_end v s.second; second = quiet-at_end v s.second; same = refl }))
 
   -- Where no turn of the group is open, and so it has no tasks, the ending of a turn does nothing.
-  pub ending-out : (w : World) → IsQuiet w → IsCalm g w → group_turn g w.turn ≡ None → group_run g (ending_turn w) ≡ (group_world g w, [])
-  ending-out w q calm h =
-      let at_end : World → World = λ u. record u { tasks = []; turn = None } in
-      running-all w.tasks (at_end w) (at_end w) (record { first = quiet-at_end w q; second = quiet-at_end w q; same = refl })
-      ∙ ap (λ ts. group_run g (run_each running_task (at_end w) ts)) (calm h)
-      ∙ ap (λ ts. (record (group_world g w) { tasks = ts; turn = None }, [])) (sym (calm h))
-      ∙ ap (λ t. (record (group_world g w) { turn = t }, [])) (sym h)
+  pub ending-out : {only_log : Bool} (w : World) → Invariant only_log w → IsCalm g w → group_turn g w.turn ≡ None →
+      group_run g (ending_turn w) ≡ (group_world g w, [])
+  ending-out w q calm h = running-none w.tasks (at_end w) (quiet-at_end w q) (calm h) ∙ ap (λ u. (u, [])) (at_end-calm w calm h)

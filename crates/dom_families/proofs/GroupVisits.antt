@@ -1,6 +1,6 @@
 -- Visits as a group has them: one at a node of the group does what it does where no others are, and one at another node, whose listeners
 -- only log, does nothing.
-use Rattle.std.proofs.Common.{◌≡◌, Bool, true, false, not, ◌||◌, List, [], ◌∷◌, ◌++◌, filter, fold, map, reverse, Option, refl, sym, ap, ◌∙◌}
+use Rattle.std.proofs.Common.{◌≡◌, Bool, true, false, not, ◌||◌, List, [], ◌∷◌, ◌++◌, filter, fold, map, reverse, Option, sym, ap, ◌∙◌}
 use Rattle.std.specs.List.{AllByRecursion}
 use Rattle.std.proofs.lemmas.List.Elements.{filter-append}
 use Rattle.dom_base.specs.declared.Owner.{Owner}
@@ -53,7 +53,7 @@ module _ (g : Owner → Bool) where
       ∙ ap (map (visit_of name_eq false)) (filter-filter in_view (λ v. bubbles || is_at_target name_eq v) vs))
 
   -- the group's lines of a dispatch
-  outputs-event_lines : (ls : List (EventLine NodeName)) → group_outputs g (map event_output ls) ≡ map event_output (filter (in_line g) ls)
+  pub outputs-event_lines : (ls : List (EventLine NodeName)) → group_outputs g (map event_output ls) ≡ map event_output (filter (in_line g) ls)
   outputs-event_lines ls = filter-map (λ l. is_of g (owner_of_output l)) event_output ls
 
   -- what the group has of how a dispatch ends
@@ -91,15 +91,3 @@ module _ (g : Owner → Bool) (closed : KeepsMakers g) where
       ∙ ap ending (visits-group e (visits_of name_eq e.bubbles vs) (w, begun []) (group_world g w, begun []) logs
       (ap (λ a. (a, begun [])) (sym (group-twice g w)))
       ∙ ap (λ us. group_going g (fold (world_visit e) (group_world g w, begun []) us)) (group_visits g e.bubbles vs))
-
-  -- a dispatch without views at its nodes shows it nothing
-  pub no_dispatch : (w : World) (x : NodeName) (r : Option NodeName) (e : EventWords) → ComponentsOnlyLog w →
-      filter (in_view g) (views w x r e.composed) ≡ [] → group_run g (dispatch_in w x r e).run ≡ (group_world g w, [])
-  no_dispatch w x r e logs none =
-      let vs = visits_of name_eq e.bubbles (views w x r e.composed) in
-      let end = fold (world_visit e) (w, begun []) vs in
-      ap (λ ls. (group_world g end.0, ls)) (outputs-event_lines g end.1.lines)
-      ∙ ap (λ (t : InWorld). (t.0, map event_output t.1.lines))
-      (visits-group e vs (w, begun []) (w, begun []) logs refl
-      ∙ ap (λ us. group_going g (fold (world_visit e) (w, begun []) us))
-      (group_visits g e.bubbles (views w x r e.composed) ∙ ap (visits_of name_eq e.bubbles) none))

@@ -1,5 +1,6 @@
 -- A command of a component outside the group does nothing to the group, or what its outward event does.
-use Rattle.std.proofs.Common.{◌≡◌, Bool, true, false, not, ◌&&◌, List, [], ◌∷◌, ◌++◌, length, map, filter, Option, Some, None, option_map, refl, sym, ap, ◌∙◌}
+use Rattle.std.proofs.Common.{◌≡◌, ℕ, Bool, true, false, not, ◌&&◌, List, [], ◌∷◌, ◌++◌, length, map, filter, Option, Some, None, option_map}
+use Rattle.std.proofs.Common.{refl, sym, ap, ◌∙◌}
 use Rattle.std.proofs.Common.{subst, true≢false, append-nil}
 use Rattle.std.specs.Prelude.{is_none, if◌then◌else◌}
 use Rattle.std.specs.Option.{option_map_or}
@@ -9,7 +10,7 @@ use Rattle.dom_base.specs.declared.Owner.TheVariants.{Page, Component}
 use Rattle.dom_base.specs.declared.NodeName.{NodeName}
 use Rattle.dom_base.specs.declared.Kind.TheVariants.{Shadow}
 use Rattle.dom_base.specs.declared.Refusal.{Refusal}
-use Rattle.dom_model.specs.Names.{ComponentName, owner_eq}
+use Rattle.dom_model.specs.Names.{Word, ComponentName, owner_eq}
 use Rattle.dom_model.specs.Tree.{node_in}
 use Rattle.dom_model.specs.Command.{Command, NodeWord, EventWords}
 use Rattle.dom_model.specs.Output.{Output, Said, Value, says, replied, refused, nothing, a_truth, a_component}
@@ -27,7 +28,8 @@ use Rattle.dom_model.specs.Groups.{KeepsMakers, group_world, group_outputs, grou
 use Rattle.dom_model.specs.Trace.{OutwardEvent, is_of, owner_of_output, outward_of, outward_dispatch, outward_command, boundary_host}
 use Rattle.dom_model.proofs.OwnerLaws.{owner_eq-true}
 use Rattle.dom_model.proofs.PartLaws.{owner-part_of}
-use Rattle.dom_worlds.specs.Reached.{IsQuiet}
+use Rattle.dom_worlds.specs.Reached.{Invariant, IsQuiet}
+use Rattle.dom_isolation.specs.Interference.{first_record, interference_at, accepted_records, command_records}
 use Rattle.dom_worlds.proofs.Acceptance.{accepted-facts, attach-may}
 use Rattle.dom_isolation.proofs.ComponentCommands.{opened-event, related-same_root, outward-same}
 use Rattle.dom_isolation.proofs.ComponentEvents.{outward_at}
@@ -40,7 +42,8 @@ use Rattle.dom_families.specs.Laws.{IsCalm}
 use Rattle.dom_isolation.proofs.GroupParts.{in_node, with_part-out, filter-away}
 use Rattle.dom_families.proofs.GroupSlots.{IsGround, ground-of, made-outside}
 use Rattle.dom_families.proofs.GroupSteps.{steps-out}
-use Rattle.dom_families.proofs.GroupDispatches.{outward_run, quiet-then, outward-in, dispatch-out}
+use Rattle.dom_families.proofs.GroupDispatches.{outward_run, outward_told, quiet-then, outward-in, dispatch-out, touched-out}
+use Rattle.dom_families.proofs.TouchedDispatches.{IsSameWorld, any_world}
 use Rattle.dom_families.proofs.OutsideViews.{found-passes}
 use Rattle.dom_families.proofs.GroupTurns.{ending-out}
 use Rattle.dom_families.proofs.GroupBegins.{turn-none, same-turn, same-calm, opening-out, opened-quiet}
@@ -69,9 +72,9 @@ command_event-inside g w o c e h = by_test (is_none (refusal w o c)) h
     by_test true k = event-inside g w o c e k
     by_test false k = cc
 
--- a command of a component outside the group passes, in a quiet world that is calm and whose open turn is not the group's
+-- a command of a component outside the group passes, in a world that is calm and whose open turn is not the group's
 record PassesOutside (g : Owner → Bool) (w : World) (k : ComponentName) (c : Command) : Type 0 where
-  quiet : IsQuiet w
+  invariant : Invariant false w
   outside : g (Component k) ≡ false
   calm : IsCalm g w
   other_turn : is_of g w.turn ≡ false
@@ -124,6 +127,16 @@ module _ (g : Owner → Bool) (closed : KeepsMakers g) where
     pub quiet : IsQuiet w
     pub outside : g (Component k) ≡ false
 
+  -- a reply that is not the group's, after a run
+  quiet_reply : (o : Owner) → g o ≡ false → (u s : Run World) (v : Value) → group_run g u ≡ group_run g s →
+      group_run g (run_then u (answering o v)) ≡ group_run g s
+  quiet_reply o h u s v same =
+      let test : Output → Bool = λ l. is_of g (owner_of_output l) in
+      ap (λ ls. (group_world g u.0, ls))
+      (filter-append test u.1 (says o (replied v) ∷ []) ∙ ap (λ ls. group_outputs g u.1 ++ ls) (filter-away test (says o (replied v)) [] h)
+      ∙ append-nil (group_outputs g u.1))
+      ∙ same
+
   -- A dispatch.
   pub dispatched-out : {w : World} (k : ComponentName) → StandsOutside w k → (x : NodeWord) (e : EventWords) (r : Option NodeWord) →
       part_refusal (part_of w (Component k)) (Command.dispatch x e r) ≡ None →
@@ -134,41 +147,56 @@ module _ (g : Owner → Bool) (closed : KeepsMakers g) where
       let d = dispatch_in w (named p x) (option_map (named p) r) e in
       let shown = dispatch-out g closed stands.quiet (named p x) (option_map (named p) r) e
       (ap g (owner-named p x ∙ owner-part_of w o) ∙ stands.outside) (related-same_root w k x e r a) in
-      after_reply d.run (outward_run w (outward_at g w (named p x) e (option_map (named p) r))) (a_truth d.answer) shown
+      quiet_reply o stands.outside d.run (outward_run w (outward_at g w (named p x) e (option_map (named p) r))) (a_truth d.answer) shown
       ∙ ap (λ v. group_run g (outward_run w v)) (outward-same g w stands.outside x e r)
-    where
-      after_reply : (u s : Run World) (v : Value) → group_run g u ≡ group_run g s → group_run g (run_then u (answering (Component k) v)) ≡ group_run g s
-      after_reply u s v same =
-          let test : Output → Bool = λ l. is_of g (owner_of_output l) in
-          ap (λ ls. (group_world g u.0, ls))
-          (filter-append test u.1 (says (Component k) (replied v) ∷ [])
-          ∙ ap (λ ls. group_outputs g u.1 ++ ls) (filter-away test (says (Component k) (replied v)) [] stands.outside) ∙ append-nil (group_outputs g u.1))
-          ∙ same
 
-  -- Any accepted command.
-  perform-out : (w : World) (k : ComponentName) (c : Command) → PassesOutside g w k c →
+  -- The commands without events, which show the group nothing.
+  module _ {w : World} {k : ComponentName} {c : Command} (out : PassesOutside g w k c) where
+    -- an attach
+    attach-silent : (a : NodeWord) → part_refusal (part_of w (Component k)) (Command.attach a) ≡ None →
+        ShowsNothing w (perform w (Component k) (Command.attach a))
+    attach-silent a passes =
+        let o = Component k in
+        attaching-out w o out.outside (named (part_of w o) a)
+        (made-outside g closed o (length (part_of w o).attached) (attach-may w o a passes) out.outside)
+
+    -- a reply
+    reply-silent : (a : Value) → ShowsNothing w (answering (Component k) a w)
+    reply-silent a = answered-out (Component k) out.outside a w w refl
+
+    -- a microtask
+    micro-silent : (a : Word) → ShowsNothing w (perform w (Component k) (Command.micro a))
+    micro-silent a =
+        let u : World = record w { tasks = w.tasks ++ micro_task (Component k) a ∷ [] } in
+        answered-out (Component k) out.outside nothing w u
+        (ap (λ ts. record (group_world g w) { tasks = ts })
+        (filter-append (is_task_of g) w.tasks (micro_task (Component k) a ∷ [])
+        ∙ ap (λ ts. filter (is_task_of g) w.tasks ++ ts) (filter-away (is_task_of g) (micro_task (Component k) a) [] out.outside)
+        ∙ append-nil (filter (is_task_of g) w.tasks)))
+
+    -- the ending of its turn
+    end_turn-silent : ShowsNothing w (perform w (Component k) Command.end_turn)
+    end_turn-silent =
+        let first = ending-out g closed w out.invariant out.calm (turn-none g closed w.turn out.other_turn) in
+        quiet-then g closed (ending_turn w) w (answering (Component k) nothing) (w, []) first
+        (answered-out (Component k) out.outside nothing w (ending_turn w).0 (ap (λ (r : Run World). r.0) first))
+
+    -- any other
+    effect-silent : ShowsNothing w (effect_in w (Component k) (effect (part_of w (Component k)) c))
+    effect-silent =
+        effect-out (ground-of w out.invariant.world) (Component k) out.outside (effect (part_of w (Component k)) c) (base-effect (part_of w (Component k)) c)
+        out.fits
+
+  -- Any accepted command, where components' listeners only log.
+  perform-out : (w : World) (k : ComponentName) (c : Command) → IsQuiet w → PassesOutside g w k c →
       Shows w (perform w (Component k) c) (outward_dispatch g w (Component k) c)
-  perform-out w k (Command.attach a) out =
-      let o = Component k in
-      attaching-out w o out.outside (named (part_of w o) a)
-      (made-outside g closed o (length (part_of w o).attached) (attach-may w o a out.passes) out.outside)
-  perform-out w k (Command.connected a) out = answered-out (Component k) out.outside _ w w refl
-  perform-out w k (Command.assigned a) out = answered-out (Component k) out.outside _ w w refl
-  perform-out w k (Command.dispatch a b c) out = dispatched-out k (record { quiet = out.quiet; outside = out.outside }) a b c out.passes
-  perform-out w k (Command.micro a) out =
-      let u : World = record w { tasks = w.tasks ++ micro_task (Component k) a ∷ [] } in
-      answered-out (Component k) out.outside nothing w u
-      (ap (λ ts. record (group_world g w) { tasks = ts })
-      (filter-append (is_task_of g) w.tasks (micro_task (Component k) a ∷ [])
-      ∙ ap (λ ts. filter (is_task_of g) w.tasks ++ ts) (filter-away (is_task_of g) (micro_task (Component k) a) [] out.outside)
-      ∙ append-nil (filter (is_task_of g) w.tasks)))
-  perform-out w k Command.end_turn out =
-      let first = ending-out g closed w out.quiet out.calm (turn-none g closed w.turn out.other_turn) in
-      quiet-then g closed (ending_turn w) w (answering (Component k) nothing) (w, []) first
-      (answered-out (Component k) out.outside nothing w (ending_turn w).0 (ap (λ (r : Run World). r.0) first))
-  perform-out w k c out =
-      effect-out (ground-of w out.quiet.world) (Component k) out.outside (effect (part_of w (Component k)) c) (base-effect (part_of w (Component k)) c)
-      out.fits
+  perform-out w k (Command.attach a) q out = attach-silent out a out.passes
+  perform-out w k (Command.connected a) q out = reply-silent out _
+  perform-out w k (Command.assigned a) q out = reply-silent out _
+  perform-out w k (Command.dispatch a b c) q out = dispatched-out k (record { quiet = q; outside = out.outside }) a b c out.passes
+  perform-out w k (Command.micro a) q out = micro-silent out a
+  perform-out w k Command.end_turn q out = end_turn-silent out
+  perform-out w k c q out = effect-silent out
 
   -- The turn that is open before a line of a component outside, where it is not the page's, is not the group's.
   turn-out : (w : World) (k : ComponentName) → g (Component k) ≡ false → has_other_turn w (Component k) ≡ false → is_page_turn w.turn ≡ false →
@@ -183,33 +211,55 @@ module _ (g : Owner → Bool) (closed : KeepsMakers g) where
           by_cases (owner_eq (Component j) (Component k))
           (λ s. ap g (owner_eq-true (Component j) (Component k) s) ∙ h) (λ s. absurd (true≢false (sym (ap not s) ∙ a)))
 
-  -- with the turn that it opens
-  opened : (w : World) (k : ComponentName) (c : Command) → has_other_turn w (Component k) ≡ false → PassesOutside g w k c →
-      Shows w (perform (opening_turn w (Component k)) (Component k) c) (outward_dispatch g w (Component k) c)
-  opened w k c a out =
+  -- In the turn that a command opens it passes too,
+  passes-opened : {w : World} {k : ComponentName} {c : Command} → PassesOutside g w k c → PassesOutside g (opening_turn w (Component k)) k c
+  passes-opened {w} {k} {c} out =
       let o = Component k in
       let u = opening_turn w o in
       let same = opening-out g closed w o out.outside in
-      let p = opened-quiet w out.quiet o in
-      let still : is_of g u.turn ≡ false = by_cases (is_of g u.turn)
-      (λ e. absurd (true≢false (sym e ∙ ap (is_of g) (same-turn g closed u w same e) ∙ out.other_turn))) (λ e. e) in
-      let after : PassesOutside g u k c = record {
-        quiet = p;
+      record {
+        invariant = opened-quiet w out.invariant o;
         outside = out.outside;
         calm = same-calm g closed w u (sym same) out.calm;
-        other_turn = still;
+        other_turn = by_cases (is_of g u.turn)
+            (λ e. absurd (true≢false (sym e ∙ ap (is_of g) (same-turn g closed u w same e) ∙ out.other_turn))) (λ e. e);
         passes = ap (λ x. part_refusal x c) (part_of-opening w o o) ∙ out.passes;
         fits = subst (λ x. Holds x (effect x c)) (sym (part_of-opening w o o)) out.fits;
-      } in
-      perform-out u k c after
-      ∙ outward-in g closed u w (record { first = p; second = out.quiet; same = same }) (outward_dispatch g u o c) (event-inside g u o c)
+      }
+
+  -- with the turn that it opens
+  opened : (w : World) (k : ComponentName) (c : Command) → IsQuiet w → PassesOutside g w k c →
+      Shows w (perform (opening_turn w (Component k)) (Component k) c) (outward_dispatch g w (Component k) c)
+  opened w k c q out =
+      let o = Component k in
+      let u = opening_turn w o in
+      let p = opened-quiet w q o in
+      perform-out u k c p (passes-opened out)
+      ∙ outward-in g closed u w (record { first = p; second = q; same = opening-out g closed w o out.outside }) (outward_dispatch g u o c)
+      (event-inside g u o c)
       ∙ ap (λ e. group_run g (outward_run w e)) (opened-event g w o c)
 
   -- `.` apart, which opens none
-  accepted-out : (w : World) (k : ComponentName) (c : Command) → has_other_turn w (Component k) ≡ false → PassesOutside g w k c →
+  accepted-out : (w : World) (k : ComponentName) (c : Command) → IsQuiet w → PassesOutside g w k c →
       Shows w (accepted w (Component k) c) (outward_dispatch g w (Component k) c)
-  accepted-out w k Command.end_turn a out = perform-out w k Command.end_turn out
-  accepted-out w k c a out = opened w k c a out
+  accepted-out w k Command.end_turn q out = perform-out w k Command.end_turn q out
+  accepted-out w k c q out = opened w k c q out
+
+  -- What an accepted command passes.
+  module _ {w : World} {k : ComponentName} (q : Invariant false w) (h : g (Component k) ≡ false) (calm : IsCalm g w) where
+    -- where no other component's turn is open
+    accepted-passes : has_other_turn w (Component k) ≡ false → (c : Command) → refusal w (Component k) c ≡ None →
+        Holds (part_of w (Component k)) (effect (part_of w (Component k)) c) → PassesOutside g w k c
+    accepted-passes a c e f =
+        let known = accepted-facts w (Component k) c e in
+        record {
+          invariant = q;
+          outside = h;
+          calm = calm;
+          other_turn = turn-out w k h a (and-true_false (is_page_turn w.turn) known.calm);
+          passes = known.part;
+          fits = f;
+        }
 
   -- A command, refused or accepted. What it does fits where it is accepted.
   pub command-out : {w : World} (k : ComponentName) → StandsOutside w k → IsCalm g w → has_other_turn w (Component k) ≡ false →
@@ -225,15 +275,84 @@ module _ (g : Owner → Bool) (closed : KeepsMakers g) where
           ∙ ap (λ ls. (group_world g w, ls)) (filter-away (λ l. is_of g (owner_of_output l)) (says (Component k) (refused r)) [] stands.outside)
           ∙ sym (ap (λ o. group_run g (outward_run w (if is_none o then outward_dispatch g w (Component k) c else None))) e)
       from None e =
-          let known = accepted-facts w (Component k) c e in
-          let out : PassesOutside g w k c = record {
-            quiet = stands.quiet;
-            outside = stands.outside;
-            calm = calm;
-            other_turn = turn-out w k stands.outside a (and-true_false (is_page_turn w.turn) known.calm);
-            passes = known.part;
-            fits = f e;
-          } in
           ap (λ o. group_run g (unless_refused (Component k) o w (accepted w (Component k) c))) e
-          ∙ accepted-out w k c a out
+          ∙ accepted-out w k c stands.quiet (accepted-passes (any_world stands.quiet.world) stands.outside calm a c e (f e))
           ∙ sym (ap (λ o. group_run g (outward_run w (if is_none o then outward_dispatch g w (Component k) c else None))) e)
+
+  -- Whatever others' listeners do: how far they let the event of a command come, if it has one.
+  abbrev reached_in : World → Owner → Command → Option ℕ
+  reached_in w o (Command.dispatch x e r) = (interference_at g w (named (part_of w o) x) (option_map (named (part_of w o)) r) e).reached
+  reached_in w o c = None
+
+  -- what the group has of a run, and what outward events do in the silent run
+  abbrev pub ShowsTold : World → Run World → Option ℕ → Option OutwardEvent → Type 0
+  ShowsTold v r reached e = group_run g r ≡ group_run g (outward_told g closed reached v e)
+
+  -- a run that shows nothing, in another world of which the group has the same
+  nothing-told : {w v : World} → IsSameWorld g w v → (r : Run World) → ShowsNothing w r → ShowsTold v r None None
+  nothing-told s r h = h ∙ ap (λ u. (u, [])) s.same
+
+  -- Two worlds of which the group has the same, and a component outside.
+  module _ {w v : World} (s : IsSameWorld g w v) (k : ComponentName) where
+    -- a dispatch
+    touched_dispatch-out : g (Component k) ≡ false → (x : NodeWord) (e : EventWords) (r : Option NodeWord) →
+        part_refusal (part_of w (Component k)) (Command.dispatch x e r) ≡ None →
+        ShowsTold v (perform w (Component k) (Command.dispatch x e r)) (reached_in w (Component k) (Command.dispatch x e r))
+        (outward_dispatch g w (Component k) (Command.dispatch x e r))
+    touched_dispatch-out h x e r a =
+        let o = Component k in
+        let p = part_of w o in
+        let d = dispatch_in w (named p x) (option_map (named p) r) e in
+        let reached = reached_in w o (Command.dispatch x e r) in
+        let shown = touched-out g closed s (named p x) (option_map (named p) r) e (ap g (owner-named p x ∙ owner-part_of w o) ∙ h)
+        (related-same_root w k x e r a) in
+        quiet_reply o h d.run (outward_told g closed reached v (outward_at g w (named p x) e (option_map (named p) r))) (a_truth d.answer) shown
+        ∙ ap (λ b. group_run g (outward_told g closed reached v b)) (outward-same g w h x e r)
+
+    -- Any accepted command.
+    touched_perform-out : (c : Command) → PassesOutside g w k c →
+        ShowsTold v (perform w (Component k) c) (reached_in w (Component k) c) (outward_dispatch g w (Component k) c)
+    touched_perform-out (Command.attach a) out = nothing-told s (perform w (Component k) (Command.attach a)) (attach-silent out a out.passes)
+    touched_perform-out (Command.connected a) out = nothing-told s (perform w (Component k) (Command.connected a)) (reply-silent out _)
+    touched_perform-out (Command.assigned a) out = nothing-told s (perform w (Component k) (Command.assigned a)) (reply-silent out _)
+    touched_perform-out (Command.dispatch a b c) out = touched_dispatch-out out.outside a b c out.passes
+    touched_perform-out (Command.micro a) out = nothing-told s (perform w (Component k) (Command.micro a)) (micro-silent out a)
+    touched_perform-out Command.end_turn out = nothing-told s (perform w (Component k) Command.end_turn) (end_turn-silent out)
+    touched_perform-out c out = nothing-told s (perform w (Component k) c) (effect-silent out)
+
+  -- with the turn that it opens
+  touched_opened : {w v : World} → IsSameWorld g w v → (k : ComponentName) (c : Command) → PassesOutside g w k c →
+      ShowsTold v (perform (opening_turn w (Component k)) (Component k) c) (reached_in (opening_turn w (Component k)) (Component k) c)
+      (outward_dispatch g w (Component k) c)
+  touched_opened {w} {v} s k c out =
+      let o = Component k in
+      let u = opening_turn w o in
+      touched_perform-out (record { first = opened-quiet w s.first o; second = s.second; same = opening-out g closed w o out.outside ∙ s.same }) k c
+      (passes-opened out)
+      ∙ ap (λ e. group_run g (outward_told g closed (reached_in u o c) v e)) (opened-event g w o c)
+
+  -- `.` apart, which opens none
+  touched_accepted-out : {w v : World} → IsSameWorld g w v → (k : ComponentName) (c : Command) → PassesOutside g w k c →
+      ShowsTold v (accepted w (Component k) c) (first_record (accepted_records g w (Component k) c)).reached (outward_dispatch g w (Component k) c)
+  touched_accepted-out s k Command.end_turn out = touched_perform-out s k Command.end_turn out
+  touched_accepted-out s k c out = touched_opened s k c out
+
+  -- A command, refused or accepted.
+  module _ {w v : World} (s : IsSameWorld g w v) (k : ComponentName) (h : g (Component k) ≡ false) where
+    -- what it does fits where it is accepted
+    pub touched_command-out : IsCalm g w → has_other_turn w (Component k) ≡ false →
+        (c : Command) → (refusal w (Component k) c ≡ None → Holds (part_of w (Component k)) (effect (part_of w (Component k)) c)) →
+        ShowsTold v (run_command (Component k) c w) (first_record (command_records g w (Component k) c)).reached (outward_command g w (Component k) c)
+    touched_command-out calm a c f = from (refusal w (Component k) c) refl
+      where
+        Case : Option Refusal → Type 0
+        Case r =
+            ShowsTold v (unless_refused (Component k) r w (accepted w (Component k) c))
+            (first_record (if is_none r then accepted_records g w (Component k) c else [])).reached
+            (if is_none r then outward_dispatch g w (Component k) c else None)
+
+        from : (r : Option Refusal) → refusal w (Component k) c ≡ r → Case r
+        from (Some r) e =
+            ap (λ ls. (group_world g w, ls)) (filter-away (λ l. is_of g (owner_of_output l)) (says (Component k) (refused r)) [] h)
+            ∙ ap (λ u. (u, [])) s.same
+        from None e = touched_accepted-out s k c (accepted-passes s.first h calm a c e (f e))

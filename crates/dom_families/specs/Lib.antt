@@ -2,4 +2,6 @@
 pub mod Groups
 pub mod Laws
 pub mod Agreement
+pub mod SilentRuns
+pub mod FullGroups
 pub mod Texts

@@ -13,6 +13,7 @@ use Rattle.dom_text.specs.Text.{output_line, output_text}
 use Rattle.dom_text.specs.Tokens.{IsOwner}
 use Rattle.dom_text.specs.Words.{owner_word}
 use Rattle.dom_families.specs.Agreement.{AgreeWhileTurnsStand, AgreeWithClosedTurns}
+use Rattle.dom_families.specs.FullGroups.{AgreeInFull}
 
 -- an owner whose word is read as that owner (own rule: a component's numbers are not 0, and have at most nine digits each)
 abbrev pub IsWordOf : Owner → Type 0
@@ -97,3 +98,26 @@ module _ (read : List ℕ → Line) where
   SameAroundText =
       (c o : Owner) → c ≢ Page → IsTrue (not (is_inside c o)) → IsWordOf o → (first second : List ℕ) →
       AgreeWithClosedTurns read (group_without c) (lines_of first) (lines_of second) → GiveTheSame o first second
+
+  -- Two texts that agree in full for a group that keeps makers give each member the same,
+  abbrev pub SameGroupTextInFull : Type 0
+  SameGroupTextInFull =
+      (group : Owner → Bool) → KeepsMakers group → (member : Owner) → IsTrue (group member) → IsWordOf member → (first second : List ℕ) →
+      AgreeInFull read group (lines_of first) (lines_of second) → GiveTheSame member first second
+
+  -- for a family,
+  abbrev pub SameFamilyTextInFull : Type 0
+  SameFamilyTextInFull =
+      (root member : Owner) → IsTrue (is_in_family root member) → IsWordOf member → (first second : List ℕ) →
+      AgreeInFull read (family_group root) (lines_of first) (lines_of second) → GiveTheSame member first second
+
+  -- for a component with its makers,
+  abbrev pub SameComponentTextInFull : Type 0
+  SameComponentTextInFull =
+      (c : Owner) → IsWordOf c → (first second : List ℕ) → AgreeInFull read (makers_group c) (lines_of first) (lines_of second) → GiveTheSame c first second
+
+  -- and around a component.
+  abbrev pub SameAroundTextInFull : Type 0
+  SameAroundTextInFull =
+      (c o : Owner) → c ≢ Page → IsTrue (not (is_inside c o)) → IsWordOf o → (first second : List ℕ) →
+      AgreeInFull read (group_without c) (lines_of first) (lines_of second) → GiveTheSame o first second

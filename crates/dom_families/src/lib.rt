@@ -11,6 +11,9 @@ ghost use Rattle.dom_families.specs.Groups.{PageIsGroup, FamilyIsGroup, MakersAr
 ghost use Rattle.dom_families.specs.Laws.{AssignedAgree, SignalsAgree, StepAgrees, ViewsAgree, OutwardViewsAgree, DispatchAgrees, OtherDispatchAgrees};
 ghost use Rattle.dom_families.specs.Laws.{EndingAgrees, LineAgrees, OtherLineAgrees, FinishAgrees};
 ghost use Rattle.dom_families.specs.Agreement.{SameMember, SameMemberWhileTurnsStand};
+ghost use Rattle.dom_families.specs.FullGroups.{GroupSeesItsFullTrace, SameGroupInFull, SameMemberInFull, SameFamilyInFull, SameComponentInFull};
+ghost use Rattle.dom_families.specs.FullGroups.{SameAroundInFull};
+ghost use Rattle.dom_families.specs.Texts.{SameGroupTextInFull, SameFamilyTextInFull, SameComponentTextInFull, SameAroundTextInFull};
 ghost use Rattle.dom_families.specs.Texts.{ReadsOwners, DecodeReadsOwners, OwnLinesHaveTheirPrefix, SameGroupText, SameGroupTextWhileTurnsStand};
 ghost use Rattle.dom_families.specs.Texts.{SameFamilyText, SameFamilyTextWhileTurnsStand, SameComponentText, SameComponentTextWhileTurnsStand};
 ghost use Rattle.dom_families.specs.Texts.{SameAroundText, SameAroundTextWhileTurnsStand};
@@ -119,4 +122,28 @@ pub fn same_component_text()
 pub fn same_around_text()
     ensures standing { (read : List ℕ → Line) → ReadsOwners read → ReadsPlainWords read → SameAroundTextWhileTurnsStand read }
     ensures closed { (read : List ℕ → Line) → ReadsOwners read → ReadsPlainWords read → SameAroundText read }
+{}
+
+/// Without any premise on listeners or turns: a group that keeps makers sees of a script what the silent run writes that is told, of each event at
+/// the group's nodes, how far others let it come and whether they cancelled it, and where others end a turn of the group.
+pub fn group_sees_its_full_trace()
+    ensures { (read : List ℕ → Line) → GroupSeesItsFullTrace read }
+{}
+
+/// So two scripts with equal lines of the group, equal outward events and equal interference have equal output of it, and of each member: of a
+/// family, of a component by the lines of it and its makers, and of all who are not inside a component.
+pub fn same_group_in_full()
+    ensures group { (read : List ℕ → Line) → SameGroupInFull read }
+    ensures member { (read : List ℕ → Line) → SameMemberInFull read }
+    ensures family { (read : List ℕ → Line) → SameFamilyInFull read }
+    ensures component { (read : List ℕ → Line) → SameComponentInFull read }
+    ensures around { (read : List ℕ → Line) → SameAroundInFull read }
+{}
+
+/// Two texts with equal lines of a group, equal outward events and equal interference give each member the same.
+pub fn same_group_text_in_full()
+    ensures member { (read : List ℕ → Line) → ReadsOwners read → ReadsPlainWords read → SameGroupTextInFull read }
+    ensures family { (read : List ℕ → Line) → ReadsOwners read → ReadsPlainWords read → SameFamilyTextInFull read }
+    ensures component { (read : List ℕ → Line) → ReadsOwners read → ReadsPlainWords read → SameComponentTextInFull read }
+    ensures around { (read : List ℕ → Line) → ReadsOwners read → ReadsPlainWords read → SameAroundTextInFull read }
 {}

@@ -62,7 +62,7 @@ outputs_for-event_lines (l ∷ ls) =
     (λ h. rw (page_eq-sym l.current.owner, h) (outputs_for-event_lines ls))
 
 -- Of the first visits holds what holds of all, and of none there are none.
-all-first : {X : Type 0} (P : X → Type 0) (reached : Option ℕ) (xs : List X) → AllByRecursion P xs → AllByRecursion P (first_visits reached xs)
+pub all-first : {X : Type 0} (P : X → Type 0) (reached : Option ℕ) (xs : List X) → AllByRecursion P xs → AllByRecursion P (first_visits reached xs)
 all-first P None xs h = h
 all-first {X = X} P (Some k) xs h = some k xs h
   where
@@ -72,7 +72,7 @@ all-first {X = X} P (Some k) xs h = some k xs h
     some (suc k) (x ∷ xs) h = (h.0, some k xs h.1)
 
 -- of none
-first-none : {X : Type 0} (reached : Option ℕ) → first_visits {A = X} reached [] ≡ []
+pub first-none : {X : Type 0} (reached : Option ℕ) → first_visits {A = X} reached [] ≡ []
 first-none None = refl
 first-none (Some zero) = refl
 first-none (Some (suc k)) = refl

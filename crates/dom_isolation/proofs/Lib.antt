@@ -5,7 +5,7 @@ pub mod OwnVisits
 pub mod Touches
 pub mod Untouched
 mod PageVisits
-mod Dispatches
+pub mod Dispatches
 pub mod Hiding
 pub mod PagePaths
 pub mod ComponentPaths
