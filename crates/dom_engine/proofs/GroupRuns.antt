@@ -10,8 +10,10 @@ use Rattle.dom_families.specs.Texts.{text_of, GiveTheSame}
 use Rattle.dom_families.proofs.GroupTexts.{decode-reads_owners, same-group_text, same-group_text_while_turns_stand, same-family_text}
 use Rattle.dom_families.proofs.GroupTexts.{same-family_text_while_turns_stand, same-component_text, same-component_text_while_turns_stand}
 use Rattle.dom_families.proofs.GroupTexts.{same-around_text, same-around_text_while_turns_stand}
+use Rattle.dom_families.proofs.GroupTexts.{same-group_text_in_full, same-family_text_in_full, same-component_text_in_full, same-around_text_in_full}
 use Rattle.dom_engine.specs.GroupLaws.{SameGroupRuns, SameGroupRunsWhileTurnsStand, SameFamilyRuns, SameFamilyRunsWhileTurnsStand}
 use Rattle.dom_engine.specs.GroupLaws.{SameComponentRuns, SameComponentRunsWhileTurnsStand, SameAroundRuns, SameAroundRunsWhileTurnsStand}
+use Rattle.dom_engine.specs.GroupLaws.{SameGroupRunsInFull, SameFamilyRunsInFull, SameComponentRunsInFull, SameAroundRunsInFull}
 use Rattle.dom_engine.specs.Run.{run_text, answers_to_end}
 use Rattle.dom_engine.proofs.PageRuns.{lines_of-ended}
 
@@ -66,3 +68,23 @@ around_runs-same_while_turns_stand c o off out t first second k =
 pub around_runs-same : SameAroundRuns
 around_runs-same c o off out t first second k =
     runs-same o first second (same-around_text decode decode-reads_owners decode-reads_plain_words c o off out t first second k)
+
+-- Whatever others' listeners do: a group,
+pub group_runs-same_in_full : SameGroupRunsInFull
+group_runs-same_in_full g closed member m t first second k =
+    runs-same member first second (same-group_text_in_full decode decode-reads_owners decode-reads_plain_words g closed member m t first second k)
+
+-- a family,
+pub family_runs-same_in_full : SameFamilyRunsInFull
+family_runs-same_in_full root member m t first second k =
+    runs-same member first second (same-family_text_in_full decode decode-reads_owners decode-reads_plain_words root member m t first second k)
+
+-- a component with its makers,
+pub component_runs-same_in_full : SameComponentRunsInFull
+component_runs-same_in_full c t first second k =
+    runs-same c first second (same-component_text_in_full decode decode-reads_owners decode-reads_plain_words c t first second k)
+
+-- and around a component
+pub around_runs-same_in_full : SameAroundRunsInFull
+around_runs-same_in_full c o off out t first second k =
+    runs-same o first second (same-around_text_in_full decode decode-reads_owners decode-reads_plain_words c o off out t first second k)

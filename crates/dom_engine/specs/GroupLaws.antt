@@ -8,6 +8,7 @@ use Rattle.dom_model.specs.Trace.{is_page, no_component_stops}
 use Rattle.dom_text.specs.Decode.{decode}
 use Rattle.dom_text.specs.Lines.{lines_of}
 use Rattle.dom_families.specs.Agreement.{AgreeWhileTurnsStand, AgreeWithClosedTurns}
+use Rattle.dom_families.specs.FullGroups.{AgreeInFull}
 use Rattle.dom_families.specs.Texts.{IsWordOf}
 use Rattle.dom_engine.specs.Run.{run_text}
 
@@ -66,3 +67,27 @@ abbrev pub SameAroundRuns : Type 0
 SameAroundRuns =
     (c o : Owner) → c ≢ Page → IsTrue (not (is_inside c o)) → IsWordOf o → (first second : List ℕ) →
     AgreeWithClosedTurns decode (group_without c) (lines_of first) (lines_of second) → run_text (Some o) first ≡ run_text (Some o) second
+
+-- Whatever others' listeners do, and whose turns they end: two inputs that agree in full for a group have equal text of each member,
+abbrev pub SameGroupRunsInFull : Type 0
+SameGroupRunsInFull =
+    (group : Owner → Bool) → KeepsMakers group → (member : Owner) → IsTrue (group member) → IsWordOf member → (first second : List ℕ) →
+    AgreeInFull decode group (lines_of first) (lines_of second) → run_text (Some member) first ≡ run_text (Some member) second
+
+-- for a family,
+abbrev pub SameFamilyRunsInFull : Type 0
+SameFamilyRunsInFull =
+    (root member : Owner) → IsTrue (is_in_family root member) → IsWordOf member → (first second : List ℕ) →
+    AgreeInFull decode (family_group root) (lines_of first) (lines_of second) → run_text (Some member) first ≡ run_text (Some member) second
+
+-- for a component with its makers,
+abbrev pub SameComponentRunsInFull : Type 0
+SameComponentRunsInFull =
+    (c : Owner) → IsWordOf c → (first second : List ℕ) →
+    AgreeInFull decode (makers_group c) (lines_of first) (lines_of second) → run_text (Some c) first ≡ run_text (Some c) second
+
+-- and around a component.
+abbrev pub SameAroundRunsInFull : Type 0
+SameAroundRunsInFull =
+    (c o : Owner) → c ≢ Page → IsTrue (not (is_inside c o)) → IsWordOf o → (first second : List ℕ) →
+    AgreeInFull decode (group_without c) (lines_of first) (lines_of second) → run_text (Some o) first ≡ run_text (Some o) second

@@ -4,8 +4,10 @@ ghost use Rattle.dom_model.specs.Command.{Line};
 ghost use Rattle.dom_model.specs.Isolation.{SamePage, SameFamily, SameFamilyWhileTurnsStand, SameComponent, SameComponentWhileTurnsStand};
 ghost use Rattle.dom_model.specs.Isolation.{SameAround, SameAroundWhileTurnsStand};
 ghost use Rattle.dom_families.specs.Agreement.{SameMember, SameMemberWhileTurnsStand};
+ghost use Rattle.dom_families.specs.FullGroups.{SameMemberInFull, SameFamilyInFull, SameComponentInFull, SameAroundInFull};
 ghost use Rattle.dom_engine.specs.Session.{ForeignLinesAreRefused};
 ghost use Rattle.dom_engine.specs.GroupLaws.{SameGroupRuns, SameGroupRunsWhileTurnsStand, SameFamilyRuns, SameFamilyRunsWhileTurnsStand};
+ghost use Rattle.dom_engine.specs.GroupLaws.{SameGroupRunsInFull, SameFamilyRunsInFull, SameComponentRunsInFull, SameAroundRunsInFull};
 ghost use Rattle.dom_engine.specs.GroupLaws.{SameComponentRuns, SameComponentRunsWhileTurnsStand, SameAroundRuns, SameAroundRunsWhileTurnsStand};
 ghost use Rattle.dom_engine.specs.PageLaws.{PageTextIsThePageMachines, SamePageText, PageSeesLinesNamed, PageSeesPrefix};
 
@@ -25,12 +27,15 @@ pub fn law_same_page()
 /// Two scripts that agree for a group of owners, which has the page and with each component its maker, give each member equal output, where no
 /// component listener stops or cancels, and each component's turn is ended by its own `.`, or at least no line of an owner outside ends a
 /// member's. They agree in the members' lines, and in the outward events of all others, each at the first host that is a member's: lists of
-/// lines, by whatever reading, and the text that runs of two inputs write with the member's view.
+/// lines, by whatever reading, and the text that runs of two inputs write with the member's view. The clauses in full have no such premise: there
+/// the scripts agree in what others' listeners did to the events that reach the members, and where others end their turns, too.
 pub fn law_same_group()
     ensures lines { (read : List ℕ → Line) → SameMember read }
     ensures standing_lines { (read : List ℕ → Line) → SameMemberWhileTurnsStand read }
     ensures text { SameGroupRuns }
     ensures standing_text { SameGroupRunsWhileTurnsStand }
+    ensures lines_in_full { (read : List ℕ → Line) → SameMemberInFull read }
+    ensures text_in_full { SameGroupRunsInFull }
 {}
 
 /// Two scripts that agree for a family of components, in the page's lines, in its members' lines and in the outward events of all others, give each
@@ -41,6 +46,8 @@ pub fn law_same_family()
     ensures standing_lines { (read : List ℕ → Line) → SameFamilyWhileTurnsStand read }
     ensures text { SameFamilyRuns }
     ensures standing_text { SameFamilyRunsWhileTurnsStand }
+    ensures lines_in_full { (read : List ℕ → Line) → SameFamilyInFull read }
+    ensures text_in_full { SameFamilyRunsInFull }
 {}
 
 /// Two scripts that agree for a component and its makers give the component equal output, under the same premises: what it is told hangs neither on
@@ -50,6 +57,8 @@ pub fn law_same_component()
     ensures standing_lines { (read : List ℕ → Line) → SameComponentWhileTurnsStand read }
     ensures text { SameComponentRuns }
     ensures standing_text { SameComponentRunsWhileTurnsStand }
+    ensures lines_in_full { (read : List ℕ → Line) → SameComponentInFull read }
+    ensures text_in_full { SameComponentRunsInFull }
 {}
 
 /// Two scripts that agree for all owners who are not inside a component give each of them equal output, under the same premises: of what happens
@@ -59,6 +68,8 @@ pub fn law_same_around()
     ensures standing_lines { (read : List ℕ → Line) → SameAroundWhileTurnsStand read }
     ensures text { SameAroundRuns }
     ensures standing_text { SameAroundRunsWhileTurnsStand }
+    ensures lines_in_full { (read : List ℕ → Line) → SameAroundInFull read }
+    ensures text_in_full { SameAroundRunsInFull }
 {}
 
 /// What a fault leaves of a run, where no component listener of its lines stops or cancels: on `Read`, `Memory` and `InputLimit` the

@@ -35,9 +35,9 @@ use Rattle.dom_families.proofs.GroupSlots.{ground-of}
 abbrev pub outward_run : World → Option OutwardEvent → Run World
 outward_run w o = run_each outward_in w (option_to_list o)
 
--- one event alone
-event-alone : (f : World → OutwardEvent → Run World) (w : World) (e : OutwardEvent) → run_each f w (e ∷ []) ≡ f w e
-event-alone f w e = ap (λ ls. ((f w e).0, ls)) (append-nil (f w e).1)
+-- one item alone
+pub run_each-one : {S A : Type 0} (f : S → A → Run S) (s : S) (x : A) → run_each f s (x ∷ []) ≡ f s x
+run_each-one f s x = ap (λ ls. ((f s x).0, ls)) (append-nil (f s x).1)
 
 -- Two worlds that are reached, of which a group sees the same.
 pub record IsSameView (g : Owner → Bool) (w v : World) : Type 0 where
@@ -86,9 +86,9 @@ module _ (g : Owner → Bool) (closed : KeepsMakers g) where
       group_run g (outward_run w o) ≡ group_run g (outward_run v o)
   outward-in w v s None inside = ap (λ u. (u, [])) s.same
   outward-in w v s (Some e) inside =
-      ap (group_run g) (event-alone outward_in w e)
+      ap (group_run g) (run_each-one outward_in w e)
       ∙ ap (λ (d : Dispatched World). d.run) (dispatch-in s e.host None (outward_words e) (inside e refl) tt)
-      ∙ ap (group_run g) (sym (event-alone outward_in v e))
+      ∙ ap (group_run g) (sym (run_each-one outward_in v e))
 
   -- no view at a node of the group
   abbrev NoView : World → NodeName → Option NodeName → Bool → Type 0
@@ -153,7 +153,7 @@ module _ (g : Owner → Bool) (closed : KeepsMakers g) where
         (dispatch-shown g closed w x r e (q.logs refl) ∙ ap (shown_by g closed (group_world g w) e) k.shown
         ∙ sym (dispatch-shown g closed w k.host None e (q.logs refl)))
         ∙ ap (λ e. group_run g (dispatch_in w k.host None e).run) k.words
-        ∙ sym (ap (group_run g) (event-alone outward_in w (outward_of e k.host)))
+        ∙ sym (ap (group_run g) (run_each-one outward_in w (outward_of e k.host)))
         ∙ sym (ap (λ o. group_run g (outward_run w o)) k.event)
   ]
 
@@ -173,6 +173,6 @@ module _ (g : Owner → Bool) (closed : KeepsMakers g) where
             (k.shown ∙ views-in g closed w s.first.world k.host None k.inside tt e.composed ∙ ap (λ u. views u k.host None e.composed) s.same
             ∙ sym (views-in g closed v s.second.world k.host None k.inside tt e.composed)))
             ∙ ap (λ e. group_run g (dispatch_under g (record untouched { reached = reached }) v k.host None e).run) k.words
-            ∙ sym (ap (group_run g) (event-alone (outward_under g reached) v (outward_of e k.host)))
+            ∙ sym (ap (group_run g) (run_each-one (outward_under g reached) v (outward_of e k.host)))
             ∙ sym (ap (λ o. group_run g (outward_told reached v o)) k.event)
       ]

@@ -1,5 +1,5 @@
 -- Whole scripts: a group has of a script what it has of its trace where all others are silent. So two scripts with one trace show it the same.
-use Rattle.std.proofs.Common.{◌≡◌, Bool, true, false, not, List, [], ◌∷◌, map, Option, Some, None, refl, sym, ap, ◌∙◌, append-nil, subst}
+use Rattle.std.proofs.Common.{◌≡◌, Bool, true, false, not, List, [], ◌∷◌, map, Option, Some, None, refl, sym, ap, ◌∙◌, subst}
 use Rattle.std.specs.Prelude.{option_to_list}
 use Rattle.std.proofs.lemmas.Bool.{cond-true, cond-false, and_parts, not-true}
 use Rattle.dom_base.specs.declared.Owner.{Owner}
@@ -21,13 +21,9 @@ use Rattle.dom_worlds.proofs.TableLines.{first-is_whole, step-keeps_whole}
 use Rattle.dom_worlds.proofs.Tests.{by_cases}
 use Rattle.dom_worlds.proofs.TurnEndings.{quiet-dispatch}
 use Rattle.dom_families.specs.Laws.{IsCalm}
-use Rattle.dom_families.proofs.GroupDispatches.{IsSameView, outward_run, runs-then, outward-in}
+use Rattle.dom_families.proofs.GroupDispatches.{IsSameView, run_each-one, outward_run, runs-then, outward-in}
 use Rattle.dom_families.proofs.GroupBegins.{same-calm, ending_any-in}
 use Rattle.dom_families.proofs.GroupLines.{line-in, line-out, may_stop-in, calm-in, calm-outward, event-host}
-
--- one item alone
-run_each-one : {S A : Type 0} (f : S → A → Run S) (s : S) (x : A) → run_each f s (x ∷ []) ≡ f s x
-run_each-one f s x = ap (λ ls. ((f s x).0, ls)) (append-nil (f s x).1)
 
 -- The world of a script, and the one of its trace where all others are silent: of both the group has the same.
 pub record IsPair (g : Owner → Bool) (closed : KeepsMakers g) (w v : World) : Type 0 where

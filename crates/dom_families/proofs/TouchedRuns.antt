@@ -23,7 +23,7 @@ use Rattle.dom_isolation.proofs.PageRuns.{run_each-append}
 use Rattle.dom_families.specs.FullGroups.{records_at_end, GroupSeesItsFullTrace, SameGroupInFull}
 use Rattle.dom_families.specs.Laws.{IsCalm}
 use Rattle.dom_families.specs.SilentRuns.{told_run, ending_any_under, step_under, silent_step_under, silent_output_under}
-use Rattle.dom_families.proofs.GroupDispatches.{outward_told, runs-then}
+use Rattle.dom_families.proofs.GroupDispatches.{run_each-one, outward_told, runs-then}
 use Rattle.dom_families.proofs.GroupLines.{calm-in}
 use Rattle.dom_families.proofs.GroupBegins.{same-calm}
 use Rattle.dom_families.proofs.TouchedDispatches.{IsSameWorld, any_world}
@@ -46,10 +46,6 @@ pair-same k = record { first = any_world k.left.world; second = k.right; same = 
 record AreFullRuns (g : Owner → Bool) (r s : Run World) : Type 0 where
   shown : group_run g r ≡ group_run g s
   pair : IsFullPair g r.0 s.0
-
--- one item alone
-run_each-one : {S A : Type 0} (f : S → A → Run S) (s : S) (x : A) → run_each f s (x ∷ []) ≡ f s x
-run_each-one f s x = ap (λ ls. ((f s x).0, ls)) (append-nil (f s x).1)
 
 module _ (g : Owner → Bool) (closed : KeepsMakers g) {L : Type 0} (read : L → Line) where
   -- Items of another's line: an outward event,

@@ -1,5 +1,5 @@
-use Rattle.dom_families.proofs.GroupMembers.{same-component, same-component_while_turns_stand}
-use Rattle.dom_engine.proofs.GroupRuns.{component_runs-same, component_runs-same_while_turns_stand}
+use Rattle.dom_families.proofs.GroupMembers.{same-component, same-component_while_turns_stand, same-component_in_full}
+use Rattle.dom_engine.proofs.GroupRuns.{component_runs-same, component_runs-same_while_turns_stand, component_runs-same_in_full}
 use Rattle.dom_engine.proofs.laws.law_same_component.Goals as goal
 
 pub returns-clause-lines : goal.returns-clause-lines
@@ -13,3 +13,9 @@ returns-clause-text c = component_runs-same
 
 pub returns-clause-standing_text : goal.returns-clause-standing_text
 returns-clause-standing_text c = component_runs-same_while_turns_stand
+
+pub returns-clause-lines_in_full : goal.returns-clause-lines_in_full
+returns-clause-lines_in_full c = λ read. same-component_in_full read
+
+pub returns-clause-text_in_full : goal.returns-clause-text_in_full
+returns-clause-text_in_full c = component_runs-same_in_full
