@@ -1,12 +1,17 @@
 -- A node taken out of its list: it has no parent then, and what stands above a node stood above it before.
-use Rattle.std.proofs.Common.{◌≡◌, inl, inr, ℕ, zero, suc, true, eqb, List, map, length, Some, None, refl, sym, ap, ◌∙◌, true≢false}
+use Rattle.std.proofs.Common.{◌≡◌, ◌≢◌, inl, inr, ℕ, zero, suc, true, eqb, List, map, length, Some, None, refl, sym, ap, ◌∙◌, true≢false}
 use Rattle.std.proofs.lemmas.Bool.{or_cases, or_right}
 use Rattle.node_arena.specs.Nodes.{children_of, contains, parent_of, ancestors_within, ancestors_of, without, IsForest, IsInclusiveAncestor}
-use Rattle.node_arena.proofs.Lists.{contains-without, contains-without_same}
-use Rattle.node_arena.proofs.Forests.{cases_Option, contains-parent, parent_of_none, parent_of_is, children_of-without, ancestors_of-child}
+use Rattle.node_arena.proofs.Lists.{contains-without, contains-without_same, contains-without_other}
+use Rattle.node_arena.proofs.Forests.{cases_Option, contains-parent, parent_of_none, parent_of_is, parent_of_same, children_of-without, ancestors_of-child}
 
 pub no_parent-without : (lists : List (List ℕ)) (k : ℕ) → parent_of (map (without k) lists) k ≡ None
 no_parent-without lists k = parent_of_none (map (without k) lists) k (λ p. rw (children_of-without lists k p) (contains-without_same k (children_of lists p)))
+
+pub parent_of-without : (lists : List (List ℕ)) (c k : ℕ) → c ≢ k → parent_of (map (without c) lists) k ≡ parent_of lists k
+parent_of-without lists c k other =
+    parent_of_same (map (without c) lists) lists k
+    (λ p. rw (children_of-without lists c p) (contains-without_other c (children_of lists p) k other))
 
 -- a parent that a node still has is its parent of before
 parent-before : (lists : List (List ℕ)) → IsForest lists → (c k p : ℕ) → parent_of (map (without c) lists) k ≡ Some p → parent_of lists k ≡ Some p
