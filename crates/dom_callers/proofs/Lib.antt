@@ -1,3 +1,4 @@
+mod Groups
 mod Moves
 mod Selections
 mod Hosting

@@ -8,21 +8,6 @@ use std::cell::Cell;
 use std::process::Abort;
 use std::test::Fail;
 
-// Whether a node is the given one or stands above it, by the links alone.
-fn is_above<T>(arena: &Arena<T>, above: Key, key: Key) -> bool
-    requires { key < length arena.now.payloads }
-    ensures { IsTrue result ↔ IsInclusiveAncestor arena.now.children above key }
-{
-    let mut at = Some(key);
-    while let Some(node) = at {
-        if node == above {
-            return true;
-        }
-        at = arena.parent(node);
-    }
-    false
-}
-
 // Links a child, after what `link_before` asks is tested.
 fn link<T>(rt: &impl Abort, arena: &mut Arena<T>, parent: Key, child: Key, before: Option<Key>)
     requires parent_is_node { parent < length arena.old.payloads }
@@ -31,7 +16,7 @@ fn link<T>(rt: &impl Abort, arena: &mut Arena<T>, parent: Key, child: Key, befor
     ensures { length arena.new.payloads ≡ length arena.old.payloads }
 {
     assert!(rt; arena.parent(child).is_none());
-    assert!(rt; !is_above(arena, child, parent));
+    assert!(rt; !arena.is_inclusive_ancestor(child, parent));
     match before {
         Some(next) => {
             assert!(rt; arena.parent(next) == Some(parent));
@@ -115,8 +100,9 @@ fn move_children(rt: &impl Abort, arena: &mut Arena<u32>, root: Key, one: Key, t
     arena.unlink(three);
     link(rt, arena, two, three, None);
     check_children(rt, arena, root, &[1]);
-    assert!(rt; is_above(arena, root, three));
-    assert!(rt; !is_above(arena, three, root));
+    assert!(rt; arena.is_inclusive_ancestor(root, three));
+    assert!(rt; arena.is_inclusive_ancestor(root, root));
+    assert!(rt; !arena.is_inclusive_ancestor(three, root));
     arena.unlink(one);
     check_children(rt, arena, root, &[]);
     check_children(rt, arena, one, &[2]);
