@@ -2,6 +2,7 @@ mod RunLaws
 mod LineRuns
 mod PieceLaws
 mod ReadLaws
+mod FlushLaws
 mod PageRuns
 mod PagePrefixes
 mod ForeignLines

@@ -146,6 +146,18 @@ module _ {given : List ℕ} {view : Option Owner} {from mid old between : Option
           ∙ sym (append_assoc (shown view first_world (fed [] given).finished) part.front part.back)
           ∙ ap (λ x. (x ++ part.front) ++ part.back) (finished-shown view given)
 
+  -- a flush fails
+  pub stops-flush : (e : RunFault) (failed fails : ℕ) (new : Option (List ℕ)) → length given ≤ input_limit →
+      StopsWriting e failed fails between new [] ⊥ → StopsRun e view from mid old new
+  stops-flush Write failed fails new few stops =
+      let shows = shown view first_world (fed [] given).finished in
+      let text : finished_text view (given ++ []) ≡ shows ++ [] =
+      ap (finished_text view) (append-nil given) ∙ (sym (finished-shown view given) ∙ sym (append-nil shows)) in
+      stops-write new [] (nothing_next few) (inl text) stops.1
+  stops-flush Memory failed fails new few stops = absurd stops.1
+  stops-flush Read failed fails new few stops = absurd stops
+  stops-flush InputLimit failed fails new few stops = absurd stops
+
   -- ---- while the run still shows the same owner's lines
 
   module _ {view' : Option Owner} (same : view' ≡ view) where

@@ -1,5 +1,5 @@
 -- What a run has done when it has read some of its input.
-use Rattle.std.specs.Prelude.{◌≡◌, ℕ, ◌<◌, ◌≤◌, List, [], length, Option, Result, MatchResult}
+use Rattle.std.specs.Prelude.{◌≡◌, ℕ, ◌+◌, ◌<◌, ◌≤◌, List, [], length, Option, Result, Ok, Err, MatchResult}
 use Rattle.std.specs.Io.KnownBytes.{Appends, Consumes, IsAtEnd}
 use Rattle.dom_base.specs.declared.Owner.{Owner}
 use Rattle.dom_model.specs.World.{World}
@@ -41,3 +41,11 @@ MoreAt Memory more = ⊥
 -- one more read gave these bytes, and none at the end
 abbrev pub LeavesMore : {A : Type 0} → Result A RunFault → List ℕ → Type 0
 LeavesMore r more = MatchResult r (λ _. more ≡ []) (λ e. MoreAt e more)
+
+-- the count of the bytes that a source gave by one more read, of at most so many: more only where it found no end
+abbrev pub ReadsMore : Result (Unit {0}) RunFault → ℕ → ℕ → ℕ → Type 0
+ReadsMore (Err InputLimit) room old new = (old < new) × (new ≤ old + room)
+ReadsMore (Err Read) room old new = new ≡ old
+ReadsMore (Err Write) room old new = ⊥
+ReadsMore (Err Memory) room old new = ⊥
+ReadsMore (Ok x) room old new = new ≡ old

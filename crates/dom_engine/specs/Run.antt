@@ -75,6 +75,18 @@ read_size = 4096
 abbrev pub input_limit : ℕ
 input_limit = 2 ^ 30
 
+-- how many bytes are given to a run at most: at the limit one read more decides
+abbrev pub read_most : ℕ
+read_most = input_limit + read_size
+
+-- the count of the bytes that a source gave: no more of them than a run reads, but on InputLimit, where it is more
+abbrev pub ReadsWithin : Result (Unit {0}) RunFault → ℕ → ℕ → Type 0
+ReadsWithin (Ok x) old new = new ≤ old + input_limit
+ReadsWithin (Err Read) old new = new ≤ old + input_limit
+ReadsWithin (Err Write) old new = new ≤ old + input_limit
+ReadsWithin (Err Memory) old new = new ≤ old + input_limit
+ReadsWithin (Err InputLimit) old new = (old + input_limit < new) × (new ≤ old + read_most)
+
 -- The end was reached: all bytes were read, they are no more than a run reads, and the whole run's text is written.
 pub record RunsToEnd (view : Option Owner) (from to old new : Option (List ℕ)) : Type 0 where
   pub given : List ℕ

@@ -1,23 +1,25 @@
 //! Runs: all lines of a source, from its first byte to its end, and their output into a sink.
 
-ghost use Rattle.std.specs.Prelude.{◌≡◌, ◌<◌, ◌≤◌, ℕ, List, ◌∷◌, [], ◌++◌, length, map, take, IsTrue, IfErr, IfOk, IfSome, OnOk};
+ghost use Rattle.std.specs.Prelude.{◌≡◌, ◌+◌, ◌<◌, ◌≤◌, ℕ, List, ◌∷◌, [], ◌++◌, length, map, take, IsTrue, IfErr, IfOk, IfSome, OnOk};
 ghost use Rattle.std.specs.Io.{ReadsAtMost};
+ghost use Rattle.dom_streams.specs.Streams.{CountsBytes};
 ghost use Rattle.std.specs.Io.KnownBytes.{Appends, Consumes, IsAtEnd, ReadConsumes};
 ghost use Rattle.dom_model.specs.DocumentMachine.{first_world};
 ghost use Rattle.dom_model.specs.Trace.{no_component_stops};
 ghost use Rattle.dom_text.specs.Decode.{decode};
 ghost use Rattle.dom_text.specs.Lines.{last_line, lines_of};
 ghost use Rattle.dom_reader.specs.Streams.{fed, IsKept};
-ghost use Rattle.dom_engine.specs.Run.{world_after, ending, shown, EndsLines, WritesSome, CountsReads, CountsWrites, RunsToEnd, StopsRun, read_size};
+ghost use Rattle.dom_engine.specs.Run.{world_after, ending, shown, EndsLines, WritesSome, CountsReads, CountsWrites, ReadsWithin, RunsToEnd};
+ghost use Rattle.dom_engine.specs.Run.{StopsRun, read_most, read_size};
 ghost use Rattle.dom_streams.specs.Writing.{EndsWriting};
 ghost use Rattle.dom_streams.specs.Views.{viewed};
-ghost use Rattle.dom_engine.specs.Reading.{HasReadAll, LeavesMore, StopsOneRead};
+ghost use Rattle.dom_engine.specs.Reading.{HasReadAll, LeavesMore, ReadsMore, StopsOneRead};
 ghost use Rattle.dom_engine.specs.PageLaws.{HasPage, PageSees, page_text};
 
 use crate::session::Session;
 use dom_base::Owner;
 use dom_reader::Splitter;
-use dom_streams::{RunFault, Sink, Source, View, flush, line_end};
+use dom_streams::{RunFault, Sink, Source, View, flush, flush_before_read, line_end};
 use std::alloc::{AllocError, Global};
 
 /// How many bytes one read is asked for at most.
@@ -51,11 +53,13 @@ impl Runner {
     /// Runs all that the source gives, and the ending.
     fn run_all<R: Source, W: Sink>(&mut self, source: &mut R, sink: &mut W) -> Result<(), RunFault>
         requires reads { R.failures source.old < u64.MAX }
+        requires within { R.delivered source.old + read_most ≤ u64.MAX }
         requires writes { W.failures sink.old < u64.MAX }
         requires splitter { self.old.splitter ≡ [] }
         requires world { self.old.session.world ≡ first_world }
         ensures ok { OnOk result (RunsToEnd self.old.view (R.remaining source.old) (R.remaining source.new) (W.contents sink.old) (W.contents sink.new)) }
         ensures reads { CountsReads result (R.failures source.old) (R.failures source.new) }
+        ensures delivered { ReadsWithin result (R.delivered source.old) (R.delivered source.new) }
         ensures writes { CountsWrites result (W.failures sink.old) (W.failures sink.new) }
         ensures stops { IfErr result (λ e. StopsRun e self.old.view (R.remaining source.old) (R.remaining source.new)
             (W.contents sink.old) (W.contents sink.new)) }
@@ -132,7 +136,8 @@ impl Runner {
         Ok(())
     }
 
-    /// Reads once, and runs the lines that the bytes end. The answer is how many bytes there were, 0 at the end.
+    /// Reads once, behind the flush that the source may ask for, and runs the lines that the bytes end. The answer is how many
+    /// bytes there were, 0 at the end.
     fn take_read<R: Source, W: Sink>(
         &mut self,
         source: &mut R,
@@ -140,6 +145,7 @@ impl Runner {
         buffer: &mut [u8],
     ) -> Result<usize, RunFault>
         requires reads { R.failures source.old < u64.MAX }
+        requires within { R.delivered source.old + length buffer.old ≤ u64.MAX }
         requires writes { W.failures sink.old < u64.MAX }
         requires kept { IsKept self.old.splitter }
         requires room { 0 < length buffer.old }
@@ -151,11 +157,14 @@ impl Runner {
         ensures view { self.new.view ≡ self.old.view }
         ensures written { IfOk result (λ n. Appends (W.contents sink.old) (W.contents sink.new)
             (shown self.old.view self.old.session.world (fed self.old.splitter (take n buffer.new)).finished)) }
+        ensures delivered { IfOk result (λ n. R.delivered source.new ≡ R.delivered source.old + n) }
+        ensures few { R.delivered source.new ≤ R.delivered source.old + length buffer.old }
         ensures reads { CountsReads result (R.failures source.old) (R.failures source.new) }
         ensures writes { CountsWrites result (W.failures sink.old) (W.failures sink.new) }
         ensures stops { IfErr result (λ e. StopsOneRead e (length buffer.old) (shown self.old.view self.old.session.world) self.old.splitter
             (R.remaining source.old) (R.remaining source.new) (W.failures sink.old) (W.failures sink.new) (W.contents sink.old) (W.contents sink.new)) }
     {
+        flush_before_read(source, sink)?;
         let n = read_some(source, buffer)?;
         self.take_bytes(sink, &buffer[..n])?;
         Ok(n)
@@ -165,6 +174,7 @@ impl Runner {
     /// read decides.
     fn read_all<R: Source, W: Sink>(&mut self, source: &mut R, sink: &mut W) -> Result<(), RunFault>
         requires reads { R.failures source.old < u64.MAX }
+        requires within { R.delivered source.old + read_most ≤ u64.MAX }
         requires writes { W.failures sink.old < u64.MAX }
         requires splitter { self.old.splitter ≡ [] }
         requires world { self.old.session.world ≡ first_world }
@@ -172,6 +182,7 @@ impl Runner {
             (W.contents sink.old) (W.contents sink.new) self.new.splitter self.new.session.world) }
         ensures view { self.new.view ≡ self.old.view }
         ensures reads { CountsReads result (R.failures source.old) (R.failures source.new) }
+        ensures delivered { ReadsWithin result (R.delivered source.old) (R.delivered source.new) }
         ensures writes { CountsWrites result (W.failures sink.old) (W.failures sink.new) }
         ensures stops { IfErr result (λ e. StopsRun e self.old.view (R.remaining source.old) (R.remaining source.new)
             (W.contents sink.old) (W.contents sink.new)) }
@@ -186,6 +197,7 @@ impl Runner {
             }
             left -= n;
         }
+        flush_before_read(source, sink)?;
         expect_end(source, &mut buffer[..1])
     }
 
@@ -241,11 +253,13 @@ fn piece_len(bytes: &[u8]) -> usize
 
 /// One read.
 fn read_some<R: Source>(source: &mut R, buffer: &mut [u8]) -> Result<usize, RunFault>
-    requires { R.failures source.old < u64.MAX }
+    requires reads { R.failures source.old < u64.MAX }
+    requires within { R.delivered source.old + length buffer.old ≤ u64.MAX }
     ensures bound { ReadsAtMost result buffer.new }
     ensures bytes { ReadConsumes (R.remaining source.old) (R.remaining source.new) result buffer.new }
     ensures fault { IfErr result (λ e. e ≡ RunFault.Read) }
     ensures count { CountsReads result (R.failures source.old) (R.failures source.new) }
+    ensures delivered { CountsBytes result (R.delivered source.old) (R.delivered source.new) }
 {
     source.read(buffer).map_err(|_| RunFault::Read)
 }
@@ -253,11 +267,13 @@ fn read_some<R: Source>(source: &mut R, buffer: &mut [u8]) -> Result<usize, RunF
 /// Reads once more, where a run has read as much as it reads.
 fn expect_end<R: Source>(source: &mut R, buffer: &mut [u8]) -> Result<(), RunFault>
     requires reads { R.failures source.old < u64.MAX }
+    requires within { R.delivered source.old + length buffer.old ≤ u64.MAX }
     requires room { 0 < length buffer.old }
     requires few { length buffer.old ≤ read_size }
     ensures end { OnOk result (IsAtEnd (R.remaining source.new)) }
     ensures more { (more : List ℕ) × Consumes (R.remaining source.old) (R.remaining source.new) more × LeavesMore result more }
     ensures count { CountsReads result (R.failures source.old) (R.failures source.new) }
+    ensures delivered { ReadsMore result (length buffer.old) (R.delivered source.old) (R.delivered source.new) }
 {
     match read_some(source, buffer)? {
         0 => Ok(()),
@@ -276,8 +292,9 @@ fn expect_end<R: Source>(source: &mut R, buffer: &mut [u8]) -> Result<(), RunFau
 ///
 /// What was read, and that the end was reached, is said of a source that tells its bytes (`remaining`); what was written, of a sink
 /// that does (`contents`). Of every source and sink the counts say which fault it was: one read has failed on `Read`, one write
-/// or flush on `Write`, and no call on any other ending. And of a sink that tells its bytes, what is written is the text of some
-/// input of at most 2^30 bytes, whatever the source tells.
+/// or flush on `Write`, and no call on any other ending; and how many bytes were read: on `InputLimit` more than 2^30, and else
+/// no more. And of a sink that tells its bytes, what is written is the text of some input of at most 2^30 bytes, whatever the
+/// source tells. Before each read the sink is flushed where the source asks for it.
 pub fn run<R: Source, W: Sink>(
     alloc: Global,
     source: &mut R,
@@ -285,6 +302,7 @@ pub fn run<R: Source, W: Sink>(
     view: Option<Owner>,
 ) -> Result<(), RunFault>
     requires reads { R.failures source.old < u64.MAX }
+    requires within { R.delivered source.old + read_most ≤ u64.MAX }
     requires writes { W.failures sink.old < u64.MAX }
     // All that the source gave was read, and the whole run's text was written.
     ensures ok { OnOk result (RunsToEnd view (R.remaining source.old) (R.remaining source.new) (W.contents sink.old) (W.contents sink.new)) }
@@ -294,6 +312,8 @@ pub fn run<R: Source, W: Sink>(
     // A fault is `Read` only where a read failed, and `Write` only where a write or the flush failed.
     ensures reads { CountsReads result (R.failures source.old) (R.failures source.new) }
     ensures writes { CountsWrites result (W.failures sink.old) (W.failures sink.new) }
+    // How many bytes it read, of whatever source: at most 2^30, and more on `InputLimit` alone, which comes nowhere else.
+    ensures delivered { ReadsWithin result (R.delivered source.old) (R.delivered source.new) }
     // What was read and written when a fault stopped the run.
     ensures stops { IfErr result (λ e. StopsRun e view (R.remaining source.old) (R.remaining source.new)
         (W.contents sink.old) (W.contents sink.new)) }

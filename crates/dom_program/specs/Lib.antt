@@ -1,3 +1,4 @@
--- Unmarked: own rules, about the program's words and endings.
+-- Unmarked: own rules, about the program's words, buffers and endings.
+pub mod Buffers
 pub mod Exits
 pub mod Words

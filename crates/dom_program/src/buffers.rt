@@ -1,115 +1,158 @@
 //! Input and output behind buffers: output is kept until more input is needed, so that nobody waits for an answer that is ready.
-ghost use Rattle.std.specs.Prelude.{◌≡◌};
+ghost use Rattle.std.specs.Prelude.{◌≡◌, ◌<◌, [], IfOk, IsErr, OnOk};
 ghost use Rattle.std.specs.Io.{WritesAtMost};
+ghost use Rattle.std.specs.Io.Buffered.{writer_buffer, writer_contents};
+ghost use Rattle.std.specs.Io.KnownBytes.{Keeps, WriteAppends};
+ghost use Rattle.dom_program.specs.Buffers.{handed_to};
 
+use dom_streams::{Sink, Source};
 use std::alloc::{AllocError, Global};
-use std::cell::{Cell, RefCell};
 use std::io;
 use std::io::{BufReader, BufWriter, ErrorKind, Read, Write};
 
 /// How many bytes of input, and how many of output, are kept at most.
 const ROOM: usize = 1 << 16;
 
-/// Where output is kept, with the writer that it is handed on to.
-#[derive(Drop)]
+/// Where output is kept, with the writer that it is handed on to. Once a call has failed nothing is handed on any more, and
+/// what is kept at the end is dropped.
 pub struct Output<W: Write + Drop> {
-    kept: RefCell<BufWriter<W>>,
-    has_failed: Cell<bool>,
+    kept: BufWriter<W>,
+    failed_calls: u64,
 }
 
 impl<W: Write + Drop> Output<W> {
-    /// Output before its first byte.
-    pub fn new(alloc: Global, writer: W) -> Result<Output<W>, AllocError> {
+    /// Output before its first byte, of which no call has failed yet.
+    pub fn new(alloc: Global, writer: W) -> Result<Output<W>, AllocError>
+        ensures contents { IfOk result (λ output. ⟦<Output<W> as Sink>⟧.contents output ≡ W.contents writer) }
+        ensures failures { IfOk result (λ output. ⟦<Output<W> as Sink>⟧.failures output ≡ 0) }
+    {
         let kept = BufWriter::with_capacity(alloc, ROOM, writer).map_err(|_| AllocError)?;
         Ok(Output {
-            kept: RefCell::new(kept),
-            has_failed: Cell::new(false),
+            kept,
+            failed_calls: 0,
         })
     }
 
-    /// Whether output was not taken, when it was handed on.
-    pub fn has_failed(&self) -> bool {
-        self.has_failed.get()
-    }
-
-    /// Hands on all that is kept.
-    pub fn hand_on(&self) -> io::Result<()> {
-        let outcome = match self.kept.try_borrow_mut() {
-            Ok(mut kept) => kept.flush(),
-            Err(_) => Err(ErrorKind::ResourceBusy.into()),
-        };
-        self.note(outcome)
-    }
-
-    /// Keeps bytes, as many as the answer says. What was kept before is handed on where the bytes find no room.
-    fn keep(&self, bytes: &[u8]) -> io::Result<usize>
-        ensures { WritesAtMost result bytes.now }
+    /// Fails where a call has failed.
+    fn expect_no_failure(&self) -> io::Result<()>
+        ensures { 0 < self.now.failed_calls → IsErr result }
     {
-        let outcome = match self.kept.try_borrow_mut() {
-            Ok(mut kept) => kept.write(bytes),
-            Err(_) => Err(ErrorKind::ResourceBusy.into()),
-        };
-        self.note(outcome)
+        if self.failed_calls > 0 {
+            return Err(ErrorKind::BrokenPipe.into());
+        }
+        Ok(())
     }
 
-    /// Notes whether a call has failed.
-    fn note<T>(&self, outcome: io::Result<T>) -> io::Result<T>
-        ensures { result ≡ outcome }
+    /// Keeps some first bytes, and gives their number. What was kept before is handed on where they find no room.
+    fn keep(&mut self, bytes: &[u8]) -> io::Result<usize>
+        ensures bound { WritesAtMost result bytes.now }
+        ensures bytes { WriteAppends (writer_contents W.contents self.old.kept) (writer_contents W.contents self.new.kept) result bytes.now }
+        ensures calls { self.new.failed_calls ≡ self.old.failed_calls }
+        ensures ended { 0 < self.old.failed_calls → self.new.kept ≡ self.old.kept }
     {
+        self.expect_no_failure()?;
+        self.kept.write(bytes)
+    }
+
+    /// Hands on all that is kept. It fails where a call has failed before, and then hands nothing on.
+    pub fn hand_on(&mut self) -> io::Result<()>
+        ensures bytes { Keeps (writer_contents W.contents self.old.kept) (writer_contents W.contents self.new.kept) }
+        ensures empty { OnOk result (writer_buffer self.new.kept ≡ []) }
+        ensures all { OnOk result (writer_contents W.contents self.new.kept ≡ W.contents (handed_to self.new)) }
+        ensures calls { self.new.failed_calls ≡ self.old.failed_calls }
+        ensures ended { 0 < self.old.failed_calls → self.new.kept ≡ self.old.kept }
+        ensures refused { 0 < self.old.failed_calls → IsErr result }
+    {
+        self.expect_no_failure()?;
+        self.kept.flush()
+    }
+}
+
+impl<W: Write + Drop> Sink for Output<W> {
+    ghost use Rattle.std.specs.Prelude.{length};
+    ghost use Rattle.std.specs.Io.Buffered.{writer_buffer, writer_contents};
+
+    ghost contents = { λ s. writer_contents W.contents s.kept };
+
+    ghost failures = { λ s. s.failed_calls };
+
+    ghost held = { λ s. length (writer_buffer s.kept) };
+
+    fn write(&mut self, bytes: &[u8]) -> io::Result<usize> {
+        let outcome = self.keep(bytes);
+        let is_taken = matches!(outcome, Ok(n) if n > 0 || bytes.is_empty());
+        if !is_taken {
+            self.failed_calls += 1;
+        }
+        outcome
+    }
+
+    fn flush(&mut self) -> io::Result<()> {
+        let outcome = self.hand_on();
         if outcome.is_err() {
-            self.has_failed.set(true);
+            self.failed_calls += 1;
         }
         outcome
     }
 }
 
-/// A writer into kept output.
+/// What is kept is dropped: the writer takes no more.
+impl<W: Write + Drop> Drop for Output<W> {
+    fn drop(self) {
+        let Output {
+            kept,
+            failed_calls: _,
+        } = self;
+        let _ = kept.into_parts();
+    }
+}
+
+/// A reader of which many bytes are read at once. Where none of these are left, it asks for a flush before it reads more.
 #[derive(Drop)]
-pub struct Keeper<'a, W: Write + Drop> {
-    output: &'a Output<W>,
-}
-
-impl<'a, W: Write + Drop> Keeper<'a, W> {
-    /// The writer into this output.
-    pub fn new(output: &'a Output<W>) -> Keeper<'a, W> {
-        Keeper { output }
-    }
-}
-
-impl<W: Write + Drop> Write for Keeper<'_, W> {
-    fn write(&mut self, bytes: &[u8]) -> io::Result<usize> {
-        self.output.keep(bytes)
-    }
-
-    fn flush(&mut self) -> io::Result<()> {
-        self.output.hand_on()
-    }
-}
-
-/// A reader that hands output on before it reads more.
-#[derive(Drop)]
-pub struct Input<'a, R: Read + Drop, W: Write + Drop> {
+pub struct Input<R: Read + Drop> {
     reader: BufReader<R>,
-    output: &'a Output<W>,
+    failed_reads: u64,
+    given_bytes: u64,
 }
 
-impl<'a, R: Read + Drop, W: Write + Drop> Input<'a, R, W> {
-    /// The reader behind this output.
-    pub fn new(
-        alloc: Global,
-        reader: R,
-        output: &'a Output<W>,
-    ) -> Result<Input<'a, R, W>, AllocError> {
+impl<R: Read + Drop> Input<R> {
+    /// The reader, which has given no byte and of which no call has failed yet.
+    pub fn new(alloc: Global, reader: R) -> Result<Input<R>, AllocError>
+        ensures remaining { IfOk result (λ input. ⟦<Input<R> as Source>⟧.remaining input ≡ R.remaining reader) }
+        ensures failures { IfOk result (λ input. ⟦<Input<R> as Source>⟧.failures input ≡ 0) }
+        ensures delivered { IfOk result (λ input. ⟦<Input<R> as Source>⟧.delivered input ≡ 0) }
+    {
         let reader = BufReader::with_capacity(alloc, ROOM, reader).map_err(|_| AllocError)?;
-        Ok(Input { reader, output })
+        Ok(Input {
+            reader,
+            failed_reads: 0,
+            given_bytes: 0,
+        })
     }
 }
 
-impl<R: Read + Drop, W: Write + Drop> Read for Input<'_, R, W> {
+impl<R: Read + Drop> Source for Input<R> {
+    ghost use Rattle.std.specs.Prelude.{◌==◌, length};
+    ghost use Rattle.std.specs.Io.Buffered.{reader_buffer, reader_remaining};
+
+    ghost remaining = { λ s. reader_remaining R.remaining s.reader };
+
+    ghost failures = { λ s. s.failed_reads };
+
+    ghost delivered = { λ s. s.given_bytes };
+
+    ghost is_awaited = { λ s. length (reader_buffer s.reader) == 0 };
+
+    fn wants_flush(&self) -> bool {
+        self.reader.buffer().is_empty()
+    }
+
     fn read(&mut self, buffer: &mut [u8]) -> io::Result<usize> {
-        if self.reader.buffer().is_empty() {
-            self.output.hand_on()?;
+        let outcome = self.reader.read(buffer);
+        match outcome {
+            Ok(n) => self.given_bytes += n as u64,
+            Err(_) => self.failed_reads += 1,
         }
-        self.reader.read(buffer)
+        outcome
     }
 }

@@ -6,7 +6,7 @@ mod exit_cause;
 mod exits;
 mod words;
 
-pub use buffers::{Input, Keeper, Output};
+pub use buffers::{Input, Output};
 pub use exit_cause::ExitCause;
 pub use exits::{ending_of, exit_of};
 pub use words::{Request, request_of, view_of, words_refused};

@@ -11,4 +11,4 @@ pub use fault::RunFault;
 pub use piece::line_end;
 pub use streams::{FromReader, IntoWriter, Sink, Source};
 pub use view::{View, lines_seen_by};
-pub use writing::flush;
+pub use writing::{flush, flush_before_read};

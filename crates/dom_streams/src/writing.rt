@@ -1,10 +1,10 @@
 //! Writing whole texts.
 
-ghost use Rattle.std.specs.Prelude.{◌<◌, []};
+ghost use Rattle.std.specs.Prelude.{◌≡◌, ◌<◌, [], true, OnOk};
 ghost use Rattle.dom_streams.specs.Writing.{EndsWriting};
 
 use crate::fault::RunFault;
-use crate::streams::Sink;
+use crate::streams::{Sink, Source};
 
 /// Writes all of the bytes.
 pub fn write_all_to<W: Sink>(sink: &mut W, bytes: &[u8]) -> Result<(), RunFault>
@@ -24,7 +24,20 @@ pub fn write_all_to<W: Sink>(sink: &mut W, bytes: &[u8]) -> Result<(), RunFault>
 /// Flushes the sink.
 pub fn flush<W: Sink>(sink: &mut W) -> Result<(), RunFault>
     requires { W.failures sink.old < u64.MAX }
-    ensures { EndsWriting result (W.failures sink.old) (W.failures sink.new) (W.contents sink.old) (W.contents sink.new) [] ⊥ }
+    ensures written { EndsWriting result (W.failures sink.old) (W.failures sink.new) (W.contents sink.old) (W.contents sink.new) [] ⊥ }
+    ensures passed { OnOk result (W.held sink.new ≡ 0) }
 {
     sink.flush().map_err(|_| RunFault::Write)
+}
+
+/// Flushes the sink where the source asks for it, before its next read.
+pub fn flush_before_read<R: Source, W: Sink>(source: &R, sink: &mut W) -> Result<(), RunFault>
+    requires { W.failures sink.old < u64.MAX }
+    ensures written { EndsWriting result (W.failures sink.old) (W.failures sink.new) (W.contents sink.old) (W.contents sink.new) [] ⊥ }
+    ensures passed { R.is_awaited source.now ≡ true → OnOk result (W.held sink.new ≡ 0) }
+{
+    if source.wants_flush() {
+        flush(sink)?;
+    }
+    Ok(())
 }

@@ -3,11 +3,12 @@ use Rattle.std.proofs.Common.{◌≡◌, refl, ◌∙◌, ◌++◌, [], take, ar
 use Rattle.std.proofs.lemmas.Result.{err_from_is_err_and, MatchResult-weaker}
 use Rattle.std.proofs.lemmas.List.{length-append, length-take}
 use Rattle.dom_engine.specs.Run.{input_limit}
-use Rattle.dom_engine.proofs.ReadLaws.{read-none, read-kept, read-more, stops-one_read, stops-more}
+use Rattle.dom_engine.proofs.ReadLaws.{read-none, read-kept, read-more, stops-one_read, stops-flush, stops-more}
+use Rattle.dom_engine.proofs.FlushLaws.{read-flushed, flush-within, one_read-within, more-within}
 use Rattle.dom_engine.proofs.runner.Runner.read_all.Goals as goal
 
 pub loop-left-init : goal.loop-left-init
-loop-left-init g c = ([], read-none c.args.self.now.view _ _ c.requires.splitter c.requires.world, refl, refl, refl, refl)
+loop-left-init g c = ([], read-none c.args.self.now.view _ _ c.requires.splitter c.requires.world, refl, refl, refl, refl, omega arith)
 
 pub take_read-requires-clause-kept : goal.take_read-requires-clause-kept
 take_read-requires-clause-kept g c = let i = c.loop-left.invariant in read-kept i.1
@@ -55,11 +56,63 @@ loop-left-preserved g c =
       ),
       e.reads ∙ i.4,
       e.writes ∙ i.5,
+      omega (
+        arith,
+        i.6,
+        e.delivered,
+        e.bound.0,
+        length-append i.0 bytes,
+        length-take c.in_ok-n.n c.take_read.new.buffer,
+      ),
     )
+
+pub take_read-requires-clause-within : goal.take_read-requires-clause-within
+take_read-requires-clause-within g c =
+    let i = c.loop-left.invariant in
+    omega (arith, c.min-room.ensures, length-take c.min-room.result c.loop-left.buffer, i.3, i.6, c.requires.within)
+
+pub returns-in_err-n-clause-delivered : goal.returns-in_err-n-clause-delivered
+returns-in_err-n-clause-delivered g c =
+    let i = c.loop-left.invariant in
+    let e = c.in_err-n.ensures in
+    let p = err_from_is_err_and c.from_residual.result c.from_residual.ensures.1 in
+    rw (p.1, p.2) (one_read-within _ _ _ _ _ _ _ _ _ _ (g.R.Source.delivered c.args.source.now)
+    (g.R.Source.delivered c.take_read.new.source) e.stops (omega
+    (arith, i.3, i.6, e.few, c.min-room.ensures, length-take c.min-room.result c.loop-left.buffer)))
+
+pub returns-then-n-eq0-clause-delivered : goal.returns-then-n-eq0-clause-delivered
+returns-then-n-eq0-clause-delivered g c =
+    let i = c.loop-left.invariant in
+    omega (arith, i.3, i.6, c.in_ok-n.ensures.delivered, c.if-n-eq0.true)
+
+pub returns-in_err-flush_before_read-clause-delivered : goal.returns-in_err-flush_before_read-clause-delivered
+returns-in_err-flush_before_read-clause-delivered g c =
+    let i = c.loop-left.invariant in
+    let p = err_from_is_err_and c.from_residual-in_err-flush_before_read.result c.from_residual-in_err-flush_before_read.ensures.1 in
+    rw (p.1, p.2) (flush-within _ _ _ _ _ (g.R.Source.delivered c.args.source.now) (g.R.Source.delivered c.loop-left.source)
+    c.in_err-flush_before_read.ensures.written (omega (arith, i.3, i.6)))
+
+pub returns-in_err-flush_before_read-clause-stops : goal.returns-in_err-flush_before_read-clause-stops
+returns-in_err-flush_before_read-clause-stops g c =
+    let i = c.loop-left.invariant in
+    let p = err_from_is_err_and c.from_residual-in_err-flush_before_read.result c.from_residual-in_err-flush_before_read.ensures.1 in
+    rw (p.1, p.2) (stops-flush i.1 _ _ _ _ (omega (arith, i.3)) c.in_err-flush_before_read.ensures.written)
+
+pub expect_end-requires-clause-within : goal.expect_end-requires-clause-within
+expect_end-requires-clause-within g c =
+    let i = c.loop-left.invariant in
+    omega (arith, i.3, i.6, c.requires.within, length-take 1 c.loop-left.buffer)
+
+pub returns-clause-delivered : goal.returns-clause-delivered
+returns-clause-delivered g c =
+    let i = c.loop-left.invariant in
+    more-within _ _ c.expect_end.result (omega (arith, length-take 1 c.loop-left.buffer)) (omega (arith, i.3, i.6, c.loop-left-test.false))
+    c.expect_end.ensures.delivered
 
 pub returns-clause-stops : goal.returns-clause-stops
 returns-clause-stops g c =
     let i = c.loop-left.invariant in
     let more = c.expect_end.ensures.more in
     let full : length i.0 ≡ input_limit = omega (arith, i.3, c.loop-left-test.false) in
-    MatchResult-weaker c.expect_end.result more.2 (λ _ _. tt) (λ e at. stops-more i.1 e more.0 _ full more.1 at)
+    let read = read-flushed i.1 c.in_ok-flush_before_read.ensures.written.1 in
+    MatchResult-weaker c.expect_end.result more.2 (λ _ _. tt) (λ e at. stops-more read e more.0 _ full more.1 at)

@@ -9,7 +9,8 @@ invariant-loop-left g l = (given : List ℕ)
     × HasRead given l.fn.self.view (g.R.Source.remaining l.fn.source) (g.R.Source.remaining l.source) (g.W.Sink.contents l.fn.sink)
     (g.W.Sink.contents l.sink) l.self.splitter l.self.session.world
     × (l.self.view ≡ l.fn.self.view) × (length given + l.left ≡ input_limit) × (g.R.Source.failures l.source ≡ g.R.Source.failures l.fn.source) ×
-    (g.W.Sink.failures l.sink ≡ g.W.Sink.failures l.fn.sink)
+    (g.W.Sink.failures l.sink ≡ g.W.Sink.failures l.fn.sink) ×
+    (g.R.Source.delivered l.source ≡ g.R.Source.delivered l.fn.source + length given)
 
 abbrev pub decreases-loop-left : goal.decreases-loop-left
 decreases-loop-left g l = l.left
