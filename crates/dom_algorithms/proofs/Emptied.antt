@@ -17,8 +17,8 @@ use Rattle.dom_model.proofs.PartLaws.{owner-part_of}
 use Rattle.dom_tree.specs.Forest.{name_at}
 use Rattle.dom_parts.specs.Doc.{DocState, made, planned, stepped, name_in, owner_in, trees_in, MayMove, NoneAbove, putting_text}
 use Rattle.dom_parts.specs.Hosting.{PlansOwn, IsAlone}
-use Rattle.dom_tree_laws.proofs.Paths.{lacks_to}
-use Rattle.dom_tree_laws.proofs.Relatives.{Each, each_all, children_parent}
+use Rattle.dom_laws.proofs.Paths.{lacks_to}
+use Rattle.dom_laws.proofs.Relatives.{Each, each_all, children_parent}
 use Rattle.dom_parts.proofs.Made.{made_then, made_turn, planned_then, alone_made}
 use Rattle.dom_parts.proofs.OwnPlans.{plans_then, plans_turn, plans_each, plans_removing, plans_inserting}
 use Rattle.dom_algorithms.proofs.Placed.{Counted, once_in}

@@ -9,14 +9,13 @@ use Rattle.dom_model.specs.Names.{name_eq, first_of, items_before}
 use Rattle.dom_model.specs.Part.{Part}
 use Rattle.dom_model.specs.Steps.{join_at, after}
 use Rattle.dom_model.specs.TextChanges.{replacing_data, joins, texts_after}
-use Rattle.dom_model.specs.Tree.{Trees, none, tree, Node, node_in, kind_of, names_of, roots, subtree, trees_below, children_of}
-use Rattle.dom_model.specs.Tree.{parent_of, index_of, length_of}
+use Rattle.dom_model.specs.Tree.{Trees, none, tree, Node, node_in, kind_of, names_of, roots, subtree, trees_below, children_of, parent_of, index_of}
+use Rattle.dom_model.specs.Tree.{length_of}
 use Rattle.dom_model.specs.TreeChanges.{map_nodes, change_node, with_data_replaced}
 use Rattle.dom_worlds.specs.Worlds.{IsPart}
 use Rattle.dom_worlds.proofs.KindLines.{has_node-times}
 use Rattle.dom_worlds.proofs.TextBounds.{text-data, joining-fits}
-use Rattle.dom_tree_laws.proofs.Covering.{subtree_mapped}
-use Rattle.dom_tree_laws.proofs.Relatives.{path_mapped}
+use Rattle.dom_laws.proofs.Relatives.{subtree_mapped, path_mapped}
 use Rattle.dom_algorithms.proofs.NormalizedEach.{IsTextOf}
 
 -- ---- children and indices, where nodes get other contents

@@ -19,10 +19,10 @@ use Rattle.dom_model.specs.TextChanges.{new_text_node, placing_tail, replacing_d
 use Rattle.dom_model.proofs.OwnerLaws.{name_eq-same, name_eq-true}
 use Rattle.dom_model.proofs.PartLaws.{owner-part_of}
 use Rattle.dom_tree.specs.Forest.{name_at}
-use Rattle.dom_tree.proofs.Once.{times_in-none, times_in-tree, one-true}
+use Rattle.dom_laws.proofs.Counts.{times_in-none, times_in-tree, one-true, Once}
 use Rattle.dom_parts.specs.Doc.{DocState, made, planned, name_in, owner_in, trees_in, cutting_tail}
-use Rattle.dom_tree_laws.proofs.Paths.{lacks_to, IsOnce, path_after, path_lacks}
-use Rattle.dom_tree_laws.proofs.Moves.{path_put_root, path_root}
+use Rattle.dom_laws.proofs.Paths.{lacks_to, path_after, path_lacks}
+use Rattle.dom_laws.proofs.Moves.{path_put_root, path_root}
 use Rattle.dom_parts.specs.Hosting.{IsAlone}
 use Rattle.dom_parts.proofs.Made.{made_then, alone_after}
 use Rattle.dom_parts.proofs.OwnPlans.{plans_then, plans_tail}
@@ -54,15 +54,15 @@ module _ (n : Node) (ts : Trees) where
   path_beside_new : (y : NodeName) → name_eq n.name y ≡ false → inclusive_ancestors (with_node n ts) y ≡ inclusive_ancestors ts y
   path_beside_new y h = path_put_root n.name (tree n none none) ts y (path_after n none none y h refl)
 
-  new_gone : IsOnce (with_node n ts) → times_in ts n.name ≡ 0
+  new_gone : Once (with_node n ts) → times_in ts n.name ≡ 0
   new_gone once = let a = root_counted n n.name ts in let b = once n.name in omega arith
 
   -- it is a root
-  pub new_root : IsOnce (with_node n ts) → parent_of (with_node n ts) n.name ≡ None
+  pub new_root : Once (with_node n ts) → parent_of (with_node n ts) n.name ≡ None
   new_root once = ap (λ path. first_of (drop 1 path))
       (path_root n.name n.name (record { node = n; below = none; named = name_eq-same n.name }) ts (new_gone once))
 
-  new_below_none : IsOnce (with_node n ts) → (y : NodeName) → name_eq n.name y ≡ false → is_inclusive_ancestor (with_node n ts) n.name y ≡ false
+  new_below_none : Once (with_node n ts) → (y : NodeName) → name_eq n.name y ≡ false → is_inclusive_ancestor (with_node n ts) n.name y ≡ false
   new_below_none once y h = ap (is_in name_eq n.name) (path_beside_new y h) ∙ lacks_to n.name (inclusive_ancestors ts y)
       (path_lacks ts y n.name (new_gone once))
 
@@ -117,8 +117,8 @@ module _ (d e : DocState) (node new : ℕ) (doc : Option NodeName) (text : DomSt
         let same = distinct new node (omega (arith, key, more)) (omega (arith, node_is, more)) (new_name ∙ name_eq-true y x h ∙ sym same_name) in
         omega (arith, same, key, node_is))
 
-    once : IsOnce (with_node n ts)
-    once = subst IsOnce grown_trees (once_in e counted o)
+    once : Once (with_node n ts)
+    once = subst Once grown_trees (once_in e counted o)
 
     -- the new node stands alone
     pub new_unlinked : parent_of (trees_in e node) (name_in e new) ≡ None

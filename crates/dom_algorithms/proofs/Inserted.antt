@@ -7,8 +7,8 @@ use Rattle.std.proofs.lemmas.Bool.{cond-false}
 use Rattle.dom_base.specs.declared.NodeName.{NodeName}
 use Rattle.dom_base.specs.declared.Owner.{Owner}
 use Rattle.dom_model.specs.Names.{is_empty}
-use Rattle.dom_model.specs.Tree.{Trees, none, tree, roots, names_of, trees_below, subtree, children_of, kind_of, is_fragment, inclusive_ancestors, times_in}
-use Rattle.dom_model.specs.Tree.{is_inclusive_ancestor}
+use Rattle.dom_model.specs.Tree.{Trees, none, tree, roots, names_of, trees_below, subtree, children_of, kind_of, is_fragment, inclusive_ancestors}
+use Rattle.dom_model.specs.Tree.{times_in, is_inclusive_ancestor}
 use Rattle.dom_model.specs.Output.{child_list}
 use Rattle.dom_model.specs.Part.{Part}
 use Rattle.dom_model.specs.Steps.{Step}
@@ -16,12 +16,12 @@ use Rattle.dom_model.specs.World.{part_of}
 use Rattle.dom_model.specs.WorldSteps.{world_after}
 use Rattle.dom_model.specs.Changes.{Plan, Observing, ◌and_then◌, in_turn, steps_of, telling, emptying, making_room, placing, sibling_before, inserting}
 use Rattle.dom_model.proofs.OwnerLaws.{name_eq-same}
-use Rattle.dom_tree.proofs.Once.{times_in-tree, one-true}
+use Rattle.dom_laws.proofs.Counts.{times_in-tree, one-true}
 use Rattle.dom_parts.specs.Doc.{DocState, planned, placed_all, name_in, owner_in, trees_in, MayMove, IsChild, NoneAbove}
 use Rattle.dom_parts.specs.Hosting.{PlansOwn, IsAlone}
-use Rattle.dom_tree_laws.proofs.Paths.{Lacks, lacks_from, lacks_to}
-use Rattle.dom_tree_laws.proofs.Moves.{below_lacks}
-use Rattle.dom_tree_laws.proofs.Relatives.{Each, each_all, parent_path}
+use Rattle.dom_laws.proofs.Paths.{Lacks, lacks_from, lacks_to}
+use Rattle.dom_laws.proofs.Moves.{below_lacks}
+use Rattle.dom_laws.proofs.Relatives.{Each, each_all, parent_path}
 use Rattle.dom_parts.proofs.Made.{planned_then}
 use Rattle.dom_parts.proofs.OwnPlans.{plans_then, plans_turn, plans_each_own, plans_room, plans_placing, plans_emptying, children_own}
 use Rattle.dom_algorithms.proofs.Placed.{Counted, once_in, before_lacks}

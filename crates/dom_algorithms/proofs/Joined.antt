@@ -11,8 +11,8 @@ use Rattle.std.proofs.lemmas.List.Sums.{take_while-cons}
 use Rattle.dom_base.specs.declared.NodeName.{NodeName}
 use Rattle.dom_base.specs.declared.Owner.{Owner}
 use Rattle.dom_model.specs.Names.{DomString, name_eq, first_of, is_empty, is_in, items_before, items_after}
-use Rattle.dom_model.specs.Tree.{Trees, kind_of, is_text, node_in, length_of, siblings, children_of, parent_of, next_sibling, inclusive_ancestors, times_in}
-use Rattle.dom_model.specs.Tree.{is_inclusive_ancestor, subtree, inclusive_descendants}
+use Rattle.dom_model.specs.Tree.{Trees, kind_of, is_text, node_in, length_of, siblings, children_of, parent_of, next_sibling, inclusive_ancestors}
+use Rattle.dom_model.specs.Tree.{times_in, is_inclusive_ancestor, subtree, inclusive_descendants}
 use Rattle.dom_model.specs.Steps.{Step}
 use Rattle.dom_model.specs.World.{part_of}
 use Rattle.dom_model.specs.WorldSteps.{world_after}
@@ -22,14 +22,13 @@ use Rattle.dom_model.proofs.OwnerLaws.{name_eq-same}
 use Rattle.dom_tree.specs.Forest.{name_at}
 use Rattle.dom_parts.specs.Doc.{DocState, planned, name_in, owner_in, trees_in, IsOwnNode}
 use Rattle.dom_parts.specs.Hosting.{IsAlone}
-use Rattle.dom_tree_laws.proofs.Paths.{Lacks, swapped, IsOnce, path_none, path_gone, path_head}
-use Rattle.dom_tree_laws.proofs.Moves.{none_or_some}
-use Rattle.dom_tree_laws.proofs.Relatives.{NoTwice, children_once, next_child, once_subtree}
-use Rattle.dom_tree_laws.proofs.Once.{names_once}
+use Rattle.dom_laws.proofs.Paths.{Lacks, swapped, path_none, path_gone, path_head}
+use Rattle.dom_laws.proofs.Counts.{Once, none_or_some, once_subtree}
+use Rattle.dom_laws.proofs.Relatives.{NoTwice, children_once, next_child, names_once}
 use Rattle.dom_parts.proofs.Made.{planned_then}
 use Rattle.dom_parts.proofs.OwnPlans.{plans_then, plans_data, plans_joins}
 use Rattle.dom_algorithms.proofs.Placed.{Counted, once_in}
-use Rattle.dom_tree_laws.proofs.Covering.{walked, StandsIn, left, Walks, walks, first_inside}
+use Rattle.dom_laws.proofs.Walks.{walked, StandsIn, left, Walks, walks, first_inside}
 use Rattle.dom_algorithms.proofs.Listing.{all_push}
 use Rattle.dom_algorithms.proofs.Replaced.{lacks_after}
 
@@ -70,7 +69,7 @@ rest_some : (ts : Trees) (zs : List NodeName) (y : NodeName) → zs ≡ y ∷ te
 rest_some ts zs y e = subst (λ ys. IsRest ts ys (first_of ys)) (sym e) (record { all = λ xs. refl; size = refl })
 
 -- so they are with the first Text after a Text
-after_rest : (ts : Trees) → IsOnce ts → (x : NodeName) → IsRest ts (texts_after ts x) (first_of (texts_after ts x))
+after_rest : (ts : Trees) → Once ts → (x : NodeName) → IsRest ts (texts_after ts x) (first_of (texts_after ts x))
 after_rest ts once x = by_parent (parent_of ts x) refl
   where
     by_items : (q : NodeName) (zs : List NodeName) → parent_of ts x ≡ Some q → items_after name_eq x (children_of ts q) ≡ zs →

@@ -9,8 +9,8 @@ use Rattle.dom_model.specs.Tree.{parent_of, children_of, next_sibling}
 use Rattle.dom_model.specs.World.{part_of}
 use Rattle.dom_model.proofs.OwnerLaws.{name_eq-same, name_eq-true}
 use Rattle.dom_parts.specs.Doc.{DocState, name_in, owner_in, trees_in, IsOwnNode}
-use Rattle.dom_tree_laws.proofs.Relatives.{Each, children_parent, children_once, next_walked}
-use Rattle.dom_tree_laws.proofs.Covering.{walked, left, StandsIn, Walks, walks}
+use Rattle.dom_laws.proofs.Relatives.{Each, children_parent, children_once, next_walked}
+use Rattle.dom_laws.proofs.Walks.{walked, left, StandsIn, Walks, walks}
 use Rattle.dom_algorithms.proofs.Placed.{Counted, once_in}
 
 -- how far it has come: these keys are listed, and it stands there

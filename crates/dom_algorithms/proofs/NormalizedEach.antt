@@ -18,7 +18,7 @@ use Rattle.dom_parts.specs.Hosting.{IsAlone}
 use Rattle.dom_worlds.proofs.KindLines.{has_node-times}
 use Rattle.dom_worlds.proofs.PlanTexts.{leads-normalizing_text}
 use Rattle.dom_parts.proofs.BoundedPlans.{normalized_text-keeps, normalized_text-leaves}
-use Rattle.dom_tree_laws.proofs.Lists.{all_drop}
+use Rattle.dom_laws.proofs.Lists.{all_drop}
 use Rattle.dom_parts.proofs.Made.{alone_made, plan_alone, planned_turn}
 use Rattle.dom_parts.proofs.OwnPlans.{plans_normalizing_text}
 

@@ -15,10 +15,10 @@ use Rattle.dom_model.specs.Changes.{Observing, observed, suppressed, removing, r
 use Rattle.dom_tree.specs.Forest.{name_at}
 use Rattle.dom_parts.specs.Doc.{DocState, planned, stepped, name_in, owner_in, trees_in, MayMove, IsChild, KeepsPaths}
 use Rattle.dom_parts.specs.Hosting.{IsAlone}
-use Rattle.dom_tree_laws.proofs.Paths.{Lacks, lacks_from, IsOnce}
-use Rattle.dom_tree_laws.proofs.Once.{once_counted}
-use Rattle.dom_tree_laws.proofs.Moves.{path_taken, path_placed, parent_taken}
-use Rattle.dom_tree_laws.proofs.Relatives.{path_mapped, parent_path, next_child}
+use Rattle.dom_laws.proofs.Paths.{Lacks, lacks_from}
+use Rattle.dom_laws.proofs.Counts.{Once, once_counted}
+use Rattle.dom_laws.proofs.Moves.{path_taken, path_placed, parent_taken}
+use Rattle.dom_laws.proofs.Relatives.{path_mapped, parent_path, next_child}
 use Rattle.dom_parts.proofs.Made.{after_append, trees_after, alone_made}
 use Rattle.dom_parts.proofs.OwnPlans.{plans_removing, plans_adopting}
 
@@ -47,7 +47,7 @@ removed_parent : (x : NodeName) (ts us : Trees) → Removed x ts us → parent_o
 removed_parent x ts us (inl h) = ap (λ t. parent_of t x) h.1 ∙ h.0
 removed_parent x ts us (inr h) = ap (λ t. parent_of t x) h ∙ parent_taken ts x
 
-removed_path : (x : NodeName) {ts us : Trees} → IsOnce ts → Removed x ts us → (y : NodeName) → Lacks x (inclusive_ancestors ts y) →
+removed_path : (x : NodeName) {ts us : Trees} → Once ts → Removed x ts us → (y : NodeName) → Lacks x (inclusive_ancestors ts y) →
     inclusive_ancestors us y ≡ inclusive_ancestors ts y
 removed_path x once (inl h) y lacks = ap (λ t. inclusive_ancestors t y) h.1
 removed_path x {ts} once (inr h) y lacks = ap (λ t. inclusive_ancestors t y) h ∙ path_taken ts once x y lacks
@@ -76,7 +76,7 @@ module _ (d x : NodeName) (p : Part) where
   adopted_is : (after p (adopting d x p)).trees ≡ (after moved (changing_document d x moved)).trees
   adopted_is = ap (λ (q : Part). q.trees) (after_append p (removing observed x p) (changing_document d x moved))
 
-  adopted_path : IsOnce p.trees → (y : NodeName) → Lacks x (inclusive_ancestors p.trees y) →
+  adopted_path : Once p.trees → (y : NodeName) → Lacks x (inclusive_ancestors p.trees y) →
       inclusive_ancestors (after p (adopting d x p)).trees y ≡ inclusive_ancestors p.trees y
   adopted_path once y lacks = ap (λ t. inclusive_ancestors t y) adopted_is ∙ documented_path d x moved y ∙
       removed_path x once (removed_trees observed x p) y lacks
@@ -92,19 +92,19 @@ module _ (o : Owner) (d : DocState) (alone : IsAlone d.world o) where
   parent_adopted doc x own = ap (λ t. parent_of t x) (trees_after o (adopting doc x) d alone (plans_adopting o doc x own)) ∙
       adopted_parent doc x (part_of d.world o)
 
-  pub path_adopted : IsOnce (part_of d.world o).trees → (doc x y : NodeName) → x.owner ≡ o → Lacks x (inclusive_ancestors (part_of d.world o).trees y)
+  pub path_adopted : Once (part_of d.world o).trees → (doc x y : NodeName) → x.owner ≡ o → Lacks x (inclusive_ancestors (part_of d.world o).trees y)
       → inclusive_ancestors (part_of (planned o (adopting doc x) d).world o).trees y ≡ inclusive_ancestors (part_of d.world o).trees y
   path_adopted once doc x y own lacks = ap (λ t. inclusive_ancestors t y) (trees_after o (adopting doc x) d alone (plans_adopting o doc x own)) ∙
       adopted_path doc x (part_of d.world o) once y lacks
 
-  pub path_removed : IsOnce (part_of d.world o).trees → (how : Observing) (x y : NodeName) → Lacks x (inclusive_ancestors (part_of d.world o).trees y)
+  pub path_removed : Once (part_of d.world o).trees → (how : Observing) (x y : NodeName) → Lacks x (inclusive_ancestors (part_of d.world o).trees y)
       → inclusive_ancestors (part_of (planned o (removing how x) d).world o).trees y ≡ inclusive_ancestors (part_of d.world o).trees y
   path_removed once how x y lacks =
       ap (λ t. inclusive_ancestors t y) (trees_after o (removing how x) d alone (plans_removing o how x))
       ∙ removed_path x once
       (removed_trees how x (part_of d.world o)) y lacks
 
-  pub path_stepped : IsOnce (part_of d.world o).trees → (x parent : NodeName) (before : Option NodeName) (y : NodeName) →
+  pub path_stepped : Once (part_of d.world o).trees → (x parent : NodeName) (before : Option NodeName) (y : NodeName) →
       Lacks x (inclusive_ancestors (part_of d.world o).trees y)
       → inclusive_ancestors (part_of (stepped o (place x parent before) d).world o).trees y ≡ inclusive_ancestors (part_of d.world o).trees y
   path_stepped once x parent before y lacks =
@@ -117,7 +117,7 @@ module _ (o : Owner) (d : DocState) (alone : IsAlone d.world o) where
 abbrev pub Counted : DocState → Type 0
 Counted d = (o : Owner) (x : NodeName) → count_by (λ n. name_eq n.name x) (nodes (part_of d.world o).trees) ≤ 1
 
-pub once_in : (d : DocState) → Counted d → (o : Owner) → IsOnce (part_of d.world o).trees
+pub once_in : (d : DocState) → Counted d → (o : Owner) → Once (part_of d.world o).trees
 once_in d counted o = once_counted (part_of d.world o).trees (counted o)
 
 -- a node that may move is not above what it is put before

@@ -13,8 +13,9 @@ use Rattle.dom_model.proofs.OwnerLaws.{name_eq-true}
 use Rattle.dom_tree.specs.Forest.{name_at}
 use Rattle.dom_parts.specs.Doc.{DocState, planned, stepped, name_in, owner_in, trees_in, IsChild}
 use Rattle.dom_parts.specs.Hosting.{IsAlone}
-use Rattle.dom_tree_laws.proofs.Paths.{Lacks, lacks_both, lacks_to, swapped, IsOnce, once_parts, path_here, path_after, path_below, path_lacks}
-use Rattle.dom_tree_laws.proofs.Relatives.{NoTwice, parent_path, children_once, next_child, next_walked, first_lacks}
+use Rattle.dom_laws.proofs.Paths.{Lacks, lacks_both, lacks_to, swapped, path_here, path_after, path_below, path_lacks}
+use Rattle.dom_laws.proofs.Counts.{Once, once_parts}
+use Rattle.dom_laws.proofs.Relatives.{NoTwice, parent_path, children_once, next_child, next_walked, first_lacks}
 use Rattle.dom_parts.proofs.Made.{planned_then}
 use Rattle.dom_parts.proofs.OwnPlans.{plans_then, plans_removing, plans_inserting}
 use Rattle.dom_algorithms.proofs.Placed.{Counted, once_in, removal_keeps}
@@ -27,7 +28,7 @@ twice_push [] y once lacks = (tt, tt)
 twice_push (x ∷ xs) y once lacks = (lacks_both x xs (y ∷ []) once.0 (swapped y x lacks.0, tt), twice_push xs y once.1 lacks.1)
 
 -- no name stands twice among a node's inclusive ancestors
-pub path_once : (ts : Trees) → IsOnce ts → (x : NodeName) → NoTwice (inclusive_ancestors ts x)
+pub path_once : (ts : Trees) → Once ts → (x : NodeName) → NoTwice (inclusive_ancestors ts x)
 path_once none once x = tt
 path_once (tree n c r) once x =
     let parts = once_parts n c r once in
@@ -44,7 +45,7 @@ path_once (tree n c r) once x =
         subst NoTwice (sym (path_below n c r x a path h is)) (twice_push (a ∷ path) n.name (subst NoTwice is below) (subst (Lacks n.name) is lacks))
 
 -- so a child is not above its parent
-pub child_below : (ts : Trees) → IsOnce ts → (x p : NodeName) → parent_of ts x ≡ Some p → Lacks x (inclusive_ancestors ts p)
+pub child_below : (ts : Trees) → Once ts → (x p : NodeName) → parent_of ts x ≡ Some p → Lacks x (inclusive_ancestors ts p)
 child_below ts once x p up = (subst NoTwice (parent_path ts once x p up) (path_once ts once x)).0
 
 -- ---- the reference
@@ -76,7 +77,7 @@ after_next x {z} {y} (w ∷ ws) once e f = elim (cases_Bool (name_eq x w)) [
 ]
 
 -- the reference of a replacement is not the child that gives way
-pub reference_apart : (ts : Trees) → IsOnce ts → (x : NodeName) {p : NodeName} (node : NodeName) {y : NodeName} → parent_of ts x ≡ Some p →
+pub reference_apart : (ts : Trees) → Once ts → (x : NodeName) {p : NodeName} (node : NodeName) {y : NodeName} → parent_of ts x ≡ Some p →
     reference_for ts node (next_sibling ts x) ≡ Some y → name_eq x y ≡ false
 reference_apart ts once x {p} node {y} up e = by_next (next_sibling ts x) refl e
   where

@@ -10,8 +10,8 @@ use Rattle.dom_model.specs.TextChanges.{placing_tail}
 use Rattle.dom_model.proofs.OwnerLaws.{name_eq-true}
 use Rattle.dom_parts.specs.Doc.{DocState, planned, stepped, name_in, owner_in, trees_in, MayMove, IsChild}
 use Rattle.dom_parts.specs.Hosting.{IsAlone}
-use Rattle.dom_tree_laws.proofs.Paths.{Lacks, lacks_from, lacks_to}
-use Rattle.dom_tree_laws.proofs.Relatives.{parent_path}
+use Rattle.dom_laws.proofs.Paths.{Lacks, lacks_from, lacks_to}
+use Rattle.dom_laws.proofs.Relatives.{parent_path}
 use Rattle.dom_parts.proofs.Made.{planned_then}
 use Rattle.dom_parts.proofs.OwnPlans.{plans_inserting}
 use Rattle.dom_algorithms.proofs.Placed.{Counted, once_in}

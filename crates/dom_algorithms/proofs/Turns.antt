@@ -10,8 +10,8 @@ use Rattle.dom_model.specs.Changes.{Plan, Observing, in_turn, placing, removing}
 use Rattle.dom_tree.specs.Forest.{name_at}
 use Rattle.dom_parts.specs.Doc.{DocState, planned, name_in, owner_in, trees_in, MayMove, IsChild, KeepsPaths, NoneAbove}
 use Rattle.dom_parts.specs.Hosting.{IsAlone}
-use Rattle.dom_tree_laws.proofs.Lists.{all_drop}
-use Rattle.dom_tree_laws.proofs.Paths.{lacks_to}
+use Rattle.dom_laws.proofs.Lists.{all_drop}
+use Rattle.dom_laws.proofs.Paths.{lacks_to}
 use Rattle.dom_algorithms.proofs.Placed.{Counted, before_lacks, removal_keeps}
 use Rattle.dom_parts.proofs.Made.{planned_turn, alone_made}
 use Rattle.dom_parts.proofs.OwnPlans.{plans_removing, plans_placing}

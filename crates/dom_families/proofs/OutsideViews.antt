@@ -17,13 +17,14 @@ use Rattle.dom_model.specs.Trace.{boundary_host}
 use Rattle.dom_worlds.specs.Worlds.{IsWorld}
 use Rattle.dom_worlds.proofs.Chains.{IsBelow, has-chain, below-host, hosts-alone, chain-below, chain-first, absent-host}
 use Rattle.dom_isolation.proofs.ComponentPaths.{cut_at, ends-at_host, no_end}
-use Rattle.dom_worlds.proofs.ShadowTrees.{IsInTree, ancestors-in_tree}
+use Rattle.dom_worlds.proofs.ShadowTrees.{IsInTree, ancestors-in_tree, slot_way, slots-behind, slots-first}
 use Rattle.dom_isolation.proofs.ComponentEvents.{find-past}
 use Rattle.dom_worlds.proofs.Lists.{all-append, all-then, all-from, all-passed, all-flat_map, all-take_while, all-before, filter-map, filter_none, map_same}
 use Rattle.dom_isolation.proofs.PagePaths.{IsInSome, slot_way-in_some, uncut}
-use Rattle.dom_worlds.proofs.ShadowTrees.{slot_way, slots-behind, slots-first}
 use Rattle.dom_worlds.proofs.Tests.{by_cases, either_way}
-use Rattle.dom_worlds.proofs.Trees.{by_times, all-both, ancestors-absent, ancestors-present}
+use Rattle.dom_laws.proofs.Counts.{by_times}
+use Rattle.dom_worlds.proofs.Trees.{all-both, ancestors-present}
+use Rattle.dom_laws.proofs.Paths.{path_none as ancestors-absent}
 use Rattle.std.proofs.lemmas.List.Elements.{filter-append}
 use Rattle.dom_isolation.proofs.GroupParts.{in_node}
 use Rattle.dom_families.proofs.GroupVisits.{in_view}

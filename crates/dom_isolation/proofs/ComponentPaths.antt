@@ -18,12 +18,13 @@ use Rattle.dom_worlds.specs.Worlds.{IsWorld, IsOf, IsForeignTo}
 use Rattle.dom_worlds.proofs.Chains.{IsBelow, hosts-alone, chain-below, chain-first, absent-host, other-owner, hidden-itself, hidden-deeper}
 use Rattle.dom_worlds.proofs.Lists.{all-append, all-then, all-from, all-flat_map, all-take_while, all-before, filter-map, filter_none, filter_same, map_same}
 use Rattle.dom_worlds.proofs.Tests.{by_cases, either_way}
-use Rattle.dom_worlds.proofs.Trees.{by_times, ancestors-absent, ancestors-present}
-use Rattle.dom_worlds.proofs.ShadowTrees.{IsInTree, ancestors-in_tree, ancestors-owned}
+use Rattle.dom_laws.proofs.Counts.{by_times}
+use Rattle.dom_laws.proofs.Paths.{path_none as ancestors-absent}
+use Rattle.dom_worlds.proofs.Trees.{ancestors-present}
+use Rattle.dom_worlds.proofs.ShadowTrees.{IsInTree, ancestors-in_tree, ancestors-owned, slot_way, slots-behind, slots-first}
 use Rattle.dom_isolation.proofs.Hiding.{page-not_hidden, in_tree-hidden}
-use Rattle.dom_isolation.proofs.PagePaths.{is_page_node, IsSeen, IsInSome, seen-in_some, in_some-foreign}
-use Rattle.dom_worlds.proofs.ShadowTrees.{slot_way, slots-behind, slots-first}
-use Rattle.dom_isolation.proofs.PagePaths.{slot_way-in_some, way-seen, way-pages, uncut, view_at-page}
+use Rattle.dom_isolation.proofs.PagePaths.{is_page_node, IsSeen, IsInSome, seen-in_some, in_some-foreign, slot_way-in_some, way-seen, way-pages}
+use Rattle.dom_isolation.proofs.PagePaths.{uncut, view_at-page}
 use Rattle.dom_isolation.proofs.Dispatches.{is_page_view}
 
 -- the node is no page node

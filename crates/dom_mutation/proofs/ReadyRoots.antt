@@ -28,7 +28,7 @@ use Rattle.dom_worlds.proofs.ReachedFacts.{root-alone}
 use Rattle.dom_worlds.proofs.ShadowRoots.{kind-root, found-absent}
 use Rattle.dom_worlds.proofs.Tests.{by_cases}
 use Rattle.dom_worlds.proofs.TreeChangeLaws.{nodes-then, nodes-named, nodes-with_node, nodes-placed, nodes-taken_out, nodes-map_nodes, root-below_none}
-use Rattle.dom_worlds.proofs.Trees.{by_times}
+use Rattle.dom_laws.proofs.Counts.{by_times}
 
 -- no shadow root has a parent
 abbrev pub LoneRoots : Trees → Type 0

@@ -2,3 +2,4 @@
 pub mod NamesByKey
 pub mod Signals
 mod Roots
+mod Covering

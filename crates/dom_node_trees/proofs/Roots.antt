@@ -13,10 +13,9 @@ use Rattle.dom_model.proofs.OwnerLaws.{name_eq-same}
 use Rattle.dom_slots.specs.Hosts.{ShadowHost, HostsAreNodes, root_of_host, root_named}
 use Rattle.dom_slots.proofs.Hosted.{root-named, root-node}
 use Rattle.dom_tree.specs.Forest.{NamedTrees, name_at}
-use Rattle.dom_tree_laws.proofs.Covering.{walked, left, StandsIn, Walks, walks, first_inside, above_inside}
-use Rattle.dom_tree_laws.proofs.Relatives.{once_subtree}
-use Rattle.dom_tree_laws.proofs.Once.{names_once}
-use Rattle.dom_tree_laws.proofs.Paths.{IsOnce}
+use Rattle.dom_laws.proofs.Walks.{walked, left, StandsIn, Walks, walks, first_inside, above_inside}
+use Rattle.dom_laws.proofs.Counts.{once_subtree, Once}
+use Rattle.dom_laws.proofs.Relatives.{names_once}
 use Rattle.dom_tree.specs.Apart.{TellApart}
 
 -- `deeper` has the names behind each shadow root, `earlier` those that were listed before
@@ -50,7 +49,7 @@ module _ (f : NamedTrees) (hosts : List ShadowHost) (deeper : NodeName → List 
       All (λ j. j < length f.names) (keys ++ r ∷ [])
   nodes_within {keys} k lists nodes {r} root = All-push (λ j. j < length f.names) keys r lists.nodes (root-node f.names hosts nodes k r root)
 
-  module _ (once : IsOnce f.trees) (keys : List ℕ) (at : Option ℕ) (k : ℕ) (is : at ≡ Some k) (lists : Lists keys at) where
+  module _ (once : Once f.trees) (keys : List ℕ) (at : Option ℕ) (k : ℕ) (is : at ≡ Some k) (lists : Lists keys at) where
     abbrev y : NodeName
     y = name_at f.names k
 

@@ -12,10 +12,10 @@ use Rattle.dom_model.specs.Tree.{inclusive_ancestors, parent_of, nodes, names_of
 use Rattle.dom_model.proofs.OwnerLaws.{name_eq-same, name_eq-other, name_eq-true}
 use Rattle.dom_tree.specs.Forest.{NamedTrees, name_at}
 use Rattle.dom_tree.specs.Apart.{TellApart}
-use Rattle.dom_traversal.proofs.Counts.{StandOnce, StandAlone, Once-forest, Has-forest}
-use Rattle.dom_traversal.proofs.Shapes.{above-parent, above-present, above-root, Has-above}
-use Rattle.dom_traversal.proofs.Lists.{In, is_in-from}
-use Rattle.dom_traversal.proofs.Children.{In-names}
+use Rattle.dom_tree.proofs.Standing.{StandOnce, StandAlone, Once-forest, Has-forest}
+use Rattle.dom_laws.proofs.Shapes.{above-parent, above-present, above-root, Has-above}
+use Rattle.dom_laws.proofs.Lists.{In, is_in-from}
+use Rattle.dom_laws.proofs.Children.{In-names}
 use Rattle.dom_observers.specs.Paths.{key_of, path_keys}
 use Rattle.dom_observers.specs.Naming.{IsKey, AreAll}
 

@@ -17,8 +17,8 @@ use Rattle.dom_model.specs.Output.{Change}
 use Rattle.dom_model.specs.Observers.{Registration, registrations_on, asks_for, fits, fitting, transients_for, target_of, is_asked_for, is_transient}
 use Rattle.dom_tree.specs.Forest.{NamedTrees, name_at}
 use Rattle.dom_tree.specs.Apart.{TellApart}
-use Rattle.dom_traversal.proofs.Climbing.{was_some}
-use Rattle.dom_traversal.proofs.Counts.{StandOnce, StandAlone}
+use Rattle.dom_laws.proofs.Options.{was_some}
+use Rattle.dom_tree.proofs.Standing.{StandOnce, StandAlone}
 use Rattle.dom_observers.specs.declared.places.Places.{Places}
 use Rattle.dom_observers.specs.declared.registered.Registered.{Registered}
 use Rattle.dom_observers.specs.declared.removal.Removal.{Removal}

@@ -16,7 +16,7 @@ use Rattle.dom_model.proofs.OwnerLaws.{name_eq-true}
 use Rattle.dom_slots.specs.Hosts.{host_named}
 use Rattle.dom_slots.specs.Shadows.{ShadowTrees, IsShownBy, shadows}
 use Rattle.dom_slots.proofs.Ended.{host-key}
-use Rattle.dom_traversal.proofs.Lists.{name_eq-from}
+use Rattle.dom_laws.proofs.Lists.{name_eq-from}
 use Rattle.dom_tree.specs.Forest.{NamedTrees, name_at}
 use Rattle.dom_tree.proofs.Owned.{read_own, stays_own}
 use Rattle.dom_parts.specs.AllTables.{AllTables}
@@ -24,8 +24,8 @@ use Rattle.dom_parts.specs.Doc.{IsDoc, contents, world_from}
 use Rattle.dom_parts.specs.Hosting.{outermost_root}
 use Rattle.dom_parts.proofs.DocInvariant.{are_hosts}
 use Rattle.dom_parts.proofs.HostedWorlds.{world_shown}
-use Rattle.dom_tree.proofs.Once.{times_count}
-use Rattle.dom_tree_laws.proofs.Paths.{path_gone}
+use Rattle.dom_laws.proofs.Counts.{times_count}
+use Rattle.dom_laws.proofs.Paths.{path_gone}
 
 -- ---- the host of a node's root
 

@@ -25,7 +25,7 @@ use Rattle.dom_parts.proofs.HostedWorlds.{single_hosted}
 use Rattle.dom_parts.proofs.HostsOfOwners.{other-host}
 use Rattle.dom_parts.specs.Doc.{named_trees, contents, world_from, IsDoc, IsDue}
 use Rattle.dom_parts.proofs.Worlds.{Single, there_same}
-use Rattle.dom_tree_laws.proofs.KeptAncestors.{KeepsAbove}
+use Rattle.dom_laws.proofs.KeptAncestors.{KeepsAbove}
 use Rattle.dom_parts.proofs.Keeping.{tables_kept}
 use Rattle.dom_parts.proofs.RangedKeeping.{ranges_stay}
 

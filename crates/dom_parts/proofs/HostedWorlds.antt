@@ -19,14 +19,14 @@ use Rattle.dom_model.proofs.OwnerLaws.{owner_eq-true, owner_eq-false, made_by-is
 use Rattle.dom_worlds.specs.Worlds.{HasMakers}
 use Rattle.dom_slots.specs.Hosts.{ShadowHost, host_named, root_named}
 use Rattle.dom_slots.specs.Shadows.{IsShownBy, shadow_trees}
-use Rattle.dom_traversal.proofs.Lists.{name_eq-from}
+use Rattle.dom_laws.proofs.Lists.{name_eq-from}
 use Rattle.dom_tree.specs.Forest.{name_at}
 use Rattle.dom_tree.specs.Owners.{trees_of_owner}
 use Rattle.dom_tree.proofs.Owned.{read_own}
 use Rattle.dom_parts.specs.Contents.{Contents, world_of}
 use Rattle.dom_parts.specs.Hosting.{maker_of, hosts_of, AreMadeBehind, host_names, attached_of, host_owners, component_named, AreHostsOf}
-use Rattle.dom_parts.proofs.HostsOfOwners.{count_hosts, own-host, other-host, own-counted, other-counted, made-named, single_owners_of, no_page-owners}
-use Rattle.dom_parts.proofs.HostsOfOwners.{may_of}
+use Rattle.dom_parts.proofs.HostsOfOwners.{count_hosts, own-host, other-host, own-counted, other-counted, made-named, single_owners_of}
+use Rattle.dom_parts.proofs.HostsOfOwners.{no_page-owners, may_of}
 use Rattle.dom_parts.proofs.Worlds.{In, Single, part_at, part_off, in_there}
 
 -- ---- places in a list

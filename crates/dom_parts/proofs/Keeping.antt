@@ -23,7 +23,7 @@ use Rattle.dom_observers.proofs.Speaking.{same_tables, speaks_more}
 use Rattle.dom_cursors.specs.OwnTables.{KeyedTables, EachItem, IsLeft, AreLeft}
 use Rattle.dom_parts.specs.AllTables.{tables_with, tables_view, IsOwnIterator, IsOwnWalker, AreTablesOf}
 use Rattle.dom_parts.specs.Doc.{named_trees}
-use Rattle.dom_tree_laws.proofs.KeptAncestors.{KeepsAbove, above_added}
+use Rattle.dom_laws.proofs.KeptAncestors.{KeepsAbove, above_added}
 use Rattle.dom_parts.proofs.OwnNodes.{adjusted_own}
 
 -- ---- where nothing that stands above a node ceases to

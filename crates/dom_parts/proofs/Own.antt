@@ -5,8 +5,8 @@ use Rattle.std.specs.List.{list_any, list_all, last_or}
 use Rattle.std.proofs.lemmas.Option.{none-some, same_Some}
 use Rattle.dom_base.specs.declared.NodeName.{NodeName}
 use Rattle.dom_model.specs.Names.{name_eq, items_before, first_of, last_of}
-use Rattle.dom_traversal.proofs.Lists.{In}
-use Rattle.dom_tree_laws.proofs.Relatives.{Each}
+use Rattle.dom_laws.proofs.Lists.{In}
+use Rattle.dom_laws.proofs.Relatives.{Each}
 
 -- ---- lists whose items two tests treat alike
 

@@ -19,10 +19,10 @@ use Rattle.dom_model.specs.Traversal.{walker_step, walker_move, nodes_ahead, nod
 use Rattle.dom_model.specs.Command.{Filter}
 use Rattle.dom_tree.specs.Owners.{AreOwned, trees_of_owner}
 use Rattle.dom_tree.proofs.Owned.{read_own, stays_own}
-use Rattle.dom_traversal.proofs.Lists.{In, is_in-from, after-in}
-use Rattle.dom_tree_laws.proofs.Relatives.{Each, each_all, behind_all}
-use Rattle.dom_parts.proofs.Own.{filter_same, each_in, each_before, each_append, each_drop, all_same, any_same, find_same}
-use Rattle.dom_parts.proofs.Own.{each_filter, each_first, each_last, each_find}
+use Rattle.dom_laws.proofs.Lists.{In, is_in-from, after-in}
+use Rattle.dom_laws.proofs.Relatives.{Each, each_all, behind_all}
+use Rattle.dom_parts.proofs.Own.{filter_same, each_in, each_before, each_append, each_drop, all_same, any_same, find_same, each_filter, each_first}
+use Rattle.dom_parts.proofs.Own.{each_last, each_find}
 
 -- ---- an owner's nodes
 

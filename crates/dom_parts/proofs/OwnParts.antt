@@ -18,7 +18,7 @@ use Rattle.dom_tree.proofs.Owned.{own_trees}
 use Rattle.dom_parts.specs.Contents.{Contents, part_in}
 use Rattle.dom_parts.specs.Numbering.{AreNumbered}
 use Rattle.dom_parts.proofs.Numbers.{pick_first, pick_second}
-use Rattle.dom_tree_laws.proofs.Once.{name_found, once_forest, once_own, times_own}
+use Rattle.dom_tree.proofs.Standing.{name_found, Once-forest, once_own, times_own}
 
 -- ---- an owner's part
 
@@ -41,7 +41,7 @@ module _ (c : Contents) (owned : AreOwned c.trees)
     (only : (x : NodeName) → has_node c.trees x ≡ true → (k : ℕ) × (slice_get c.names k ≡ Some x)) (numbered : AreNumbered c.names) (o : Owner) where
   pub own_part : IsPart (part_in c o)
   own_part = record {
-    unique = λ x. let a = once_own o c.trees (once_forest c.names c.trees once only) x in omega arith;
+    unique = λ x. let a = once_own o c.trees (Once-forest (record { names = c.names; trees = c.trees }) once only) x in omega arith;
     owned = of;
     numbered = λ x there.
         let key = only x (times-has_node c.trees x (let more = times_own o c.trees x in omega arith)) in

@@ -19,7 +19,8 @@ use Rattle.dom_model.specs.Effects.{Effect, effect}
 use Rattle.dom_tree.specs.Forest.{NamedTrees, name_at}
 use Rattle.dom_traversal.specs.Iterators.{KeyedIterator, IsIteratorOf, iterator_view, iterator_at}
 use Rattle.dom_traversal.specs.Walkers.{KeyedWalker, IsWalkerOf, walker_view, walker_at}
-use Rattle.dom_traversal.proofs.Counts.{StandOnce, above-itself}
+use Rattle.dom_tree.proofs.Standing.{StandOnce}
+use Rattle.dom_laws.proofs.Shapes.{above-itself}
 use Rattle.dom_cursors.specs.OwnTables.{KeyedTables, EachItem}
 use Rattle.dom_cursors.specs.Cursors.{with_cursors}
 use Rattle.dom_parts.specs.AllTables.{IsOwnIterator, IsOwnWalker, AreTablesOf, AllTables}

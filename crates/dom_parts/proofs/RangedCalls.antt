@@ -22,8 +22,8 @@ use Rattle.dom_ranges.specs.Settings.{named_boundary, named_range, named_ranges,
 use Rattle.dom_ranges.specs.Tables.{RangeList, RangeLists, EachRange, BothEnds, ranges_of, range_in, with_ranges, collapsed_range}
 use Rattle.dom_ranges.proofs.Naming.{made-named, removed-named, rewritten-named, start-named, end-named}
 use Rattle.dom_ranges.proofs.EndsAfterCalls.{stand-made, stand-cleared, stand-at, stand-rewritten}
-use Rattle.dom_traversal.proofs.Counts.{StandOnce, StandAlone, Once-forest, Has-forest}
-use Rattle.dom_traversal.proofs.Shapes.{Once}
+use Rattle.dom_tree.proofs.Standing.{StandOnce, StandAlone, Once-forest, Has-forest}
+use Rattle.dom_laws.proofs.Counts.{Once}
 use Rattle.dom_tree.specs.Forest.{NamedTrees, name_at}
 use Rattle.dom_tree.specs.Owners.{AreOwned, trees_of_owner}
 use Rattle.dom_parts.specs.Contents.{Contents, part_in, world_of}

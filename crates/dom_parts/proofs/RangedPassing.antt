@@ -23,7 +23,7 @@ use Rattle.dom_model.specs.World.{part_of, is_there}
 use Rattle.dom_ranges.specs.Settings.{named_boundary, named_range, named_ranges, start_set, end_set, have_one_root, is_key_before}
 use Rattle.dom_ranges.specs.Tables.{RangeList, RangeLists, EachRange, BothEnds, ranges_of, range_in, with_ranges, collapsed_range}
 use Rattle.dom_ranges.proofs.EndsAfterCalls.{stand-at}
-use Rattle.dom_traversal.proofs.Counts.{StandOnce, StandAlone}
+use Rattle.dom_tree.proofs.Standing.{StandOnce, StandAlone}
 use Rattle.dom_tree.specs.Forest.{NamedTrees, name_at}
 use Rattle.dom_parts.specs.Contents.{Contents, part_in, world_of}
 use Rattle.dom_parts.specs.Doc.{DocState, contents, world_from, state_from, IsDoc, Makes, name_in, owner_in}

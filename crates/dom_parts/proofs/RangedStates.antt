@@ -22,7 +22,7 @@ use Rattle.dom_worlds.proofs.Bounds.{length-replaced}
 use Rattle.dom_worlds.proofs.ChildCounts.{index-below, length-children}
 use Rattle.dom_ranges.specs.Tables.{RangeLists, ends_by, ranges_of, range_in}
 use Rattle.dom_ranges.proofs.Vacant.{ends-none}
-use Rattle.dom_traversal.proofs.Counts.{StandOnce, StandAlone}
+use Rattle.dom_tree.proofs.Standing.{StandOnce, StandAlone}
 use Rattle.dom_tree.specs.Forest.{NamedTrees, name_at, count_of}
 use Rattle.dom_tree.specs.Owners.{IsOwnChange}
 use Rattle.dom_tree.proofs.OwnPlacings.{changed_node}
@@ -39,7 +39,7 @@ use Rattle.dom_parts.proofs.OwnParts.{own_part}
 use Rattle.dom_parts.proofs.RangedFits.{EachFits, room_fits, data_fits, data_fits_shorter, join_fits}
 use Rattle.dom_parts.proofs.RangedSteps.{data_ranged}
 use Rattle.dom_parts.proofs.RangedWorlds.{data_told, join_told}
-use Rattle.dom_tree_laws.proofs.KeptAncestors.{keeps_changed}
+use Rattle.dom_laws.proofs.KeptAncestors.{keeps_changed}
 use Rattle.dom_parts.proofs.Shown.{state_with, known, owner_there}
 use Rattle.dom_parts.proofs.Worlds.{part_at, part_off, there_same}
 

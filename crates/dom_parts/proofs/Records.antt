@@ -15,7 +15,7 @@ use Rattle.dom_tree.specs.Forest.{NamedTrees, name_at}
 use Rattle.dom_tree.specs.Owners.{trees_of_owner}
 use Rattle.dom_tree.proofs.Owned.{read_own}
 use Rattle.dom_tree.specs.Apart.{TellApart}
-use Rattle.dom_traversal.proofs.Counts.{StandOnce, StandAlone}
+use Rattle.dom_tree.proofs.Standing.{StandOnce, StandAlone}
 use Rattle.dom_observers.specs.Tables.{TablesOf, is_taken as keyed_taken, told as keyed_told}
 use Rattle.dom_observers.specs.Paths.{path_keys}
 use Rattle.dom_observers.specs.Naming.{named_tables, named_change, IsKey, IsChangeAt, AreAll}

@@ -17,7 +17,7 @@ use Rattle.dom_parts.specs.AllTables.{AllTables}
 use Rattle.dom_parts.proofs.DocInvariant.{are_hosts, held_changed}
 use Rattle.dom_parts.proofs.HostedDocuments.{documents_world}
 use Rattle.dom_parts.proofs.Shown.{known, owner_there, step_done}
-use Rattle.dom_tree_laws.proofs.KeptAncestors.{keeps_changed_below}
+use Rattle.dom_laws.proofs.KeptAncestors.{keeps_changed_below}
 
 -- how many closed trees can lie in one another, as the code has it
 pub depth_is : max_depth ≡ 8

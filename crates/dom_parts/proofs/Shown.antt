@@ -16,7 +16,7 @@ use Rattle.dom_tree.proofs.Owned.{read_own}
 use Rattle.dom_parts.specs.AllTables.{AllTables}
 use Rattle.dom_parts.specs.Doc.{DocState, named_trees, contents, state_from, world_from, IsDoc, name_in, owner_in, trees_in, stepped}
 use Rattle.dom_parts.proofs.Worlds.{part_at, part_off}
-use Rattle.dom_tree_laws.proofs.KeptAncestors.{KeepsAbove}
+use Rattle.dom_laws.proofs.KeptAncestors.{KeepsAbove}
 use Rattle.dom_slots.specs.Kept.{AreSlotsOf}
 use Rattle.dom_parts.proofs.DocInvariant.{held_changed}
 use Rattle.dom_parts.proofs.Steps.{record_world}

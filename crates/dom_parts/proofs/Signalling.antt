@@ -24,7 +24,7 @@ use Rattle.dom_tree.specs.Apart.{TellApart}
 use Rattle.dom_model.specs.Ranges.{after_removal}
 use Rattle.dom_ranges.specs.Rules.{is_inside}
 use Rattle.dom_ranges.specs.Tables.{RangeLists, ends_by, ranges_of}
-use Rattle.dom_traversal.proofs.Counts.{StandOnce, StandAlone}
+use Rattle.dom_tree.proofs.Standing.{StandOnce, StandAlone}
 use Rattle.dom_observers.specs.Tables.{TablesOf, no_tables as no_observers, left as keyed_left}
 use Rattle.dom_observers.specs.Paths.{path_keys}
 use Rattle.dom_observers.specs.Naming.{IsKey, SpeaksOf}
@@ -48,7 +48,7 @@ use Rattle.dom_parts.proofs.RangedSteps.{removal_ranged}
 use Rattle.dom_parts.proofs.Shown.{state_with, owner_there}
 use Rattle.dom_node_trees.proofs.Signals.{all_appended, all_named}
 use Rattle.dom_parts.proofs.Tasks.{due_signalled}
-use Rattle.dom_tree_laws.proofs.KeptAncestors.{KeepsAbove}
+use Rattle.dom_laws.proofs.KeptAncestors.{KeepsAbove}
 use Rattle.dom_parts.proofs.Steps.{left_own, left_idle, left_speaks, left_off, left_part, left_change}
 use Rattle.dom_parts.proofs.Worlds.{IsChangeOf}
 

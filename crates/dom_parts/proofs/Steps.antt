@@ -20,7 +20,7 @@ use Rattle.dom_tree.specs.Owners.{trees_of_owner, IsOwnChange}
 use Rattle.dom_tree.proofs.OwnPlacings.{taken}
 use Rattle.dom_tree.proofs.Owned.{read_own, stays_own}
 use Rattle.dom_tree.specs.Apart.{TellApart}
-use Rattle.dom_traversal.proofs.Counts.{StandOnce, StandAlone}
+use Rattle.dom_tree.proofs.Standing.{StandOnce, StandAlone}
 use Rattle.dom_observers.specs.Tables.{TablesOf, no_tables as no_observers, left as keyed_left}
 use Rattle.dom_observers.specs.Paths.{path_keys}
 use Rattle.dom_observers.specs.Naming.{named_tables, named_registration, IsKey, SpeaksOf}

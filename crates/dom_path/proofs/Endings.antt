@@ -11,7 +11,8 @@ use Rattle.dom_model.specs.Slots.{slot_in}
 use Rattle.dom_model.specs.Tree.{is_shadow, inclusive_ancestors, node_in, parent_of, root_of, subtree}
 use Rattle.dom_worlds.proofs.Tests.{by_cases}
 use Rattle.dom_tree.specs.Forest.{NamedTrees, name_at}
-use Rattle.dom_traversal.proofs.Shapes.{Has, Once, Has-subtree, above-parent, above-present}
+use Rattle.dom_laws.proofs.Shapes.{Has, Has-subtree, above-parent, above-present}
+use Rattle.dom_laws.proofs.Counts.{Once}
 use Rattle.dom_slots.specs.Hosts.{ShadowHost, HostsAreNodes, host_named, root_named}
 use Rattle.dom_slots.specs.Shadows.{ShadowTrees, shadows, slot_at}
 use Rattle.dom_slots.proofs.Rooted.{root-alone, root-parent}

@@ -21,7 +21,7 @@ use Rattle.dom_worlds.proofs.Makers.{hosted, hosted-maker, hosted-owned, hosted-
 use Rattle.dom_worlds.proofs.ReachedFacts.{shadow_roots-are_roots}
 use Rattle.dom_tree.specs.Forest.{NamedTrees}
 use Rattle.dom_tree.proofs.Owned.{read_own, stays_own}
-use Rattle.dom_traversal.proofs.Lists.{name_eq-from}
+use Rattle.dom_laws.proofs.Lists.{name_eq-from}
 use Rattle.dom_slots.specs.Hosts.{ShadowHost, host_named, root_named}
 use Rattle.dom_slots.specs.Shadows.{ShadowTrees, shadows, IsShownBy, slot_at, is_assigned_at}
 use Rattle.dom_slots.proofs.Shown.{slot-shown, some_if-dropped, some_if-kept}

@@ -8,9 +8,10 @@ use Rattle.dom_model.specs.Slots.{slot_in, has_slot_name, slottable_name}
 use Rattle.dom_model.specs.Tree.{Trees, Node, nodes, names_of, node_in, parent_of, root_of, subtree}
 use Rattle.dom_tree.specs.Forest.{NamedTrees, name_at}
 use Rattle.dom_tree.specs.Apart.{TellApart}
-use Rattle.dom_traversal.proofs.Children.{Has-names}
-use Rattle.dom_traversal.proofs.Lists.{In}
-use Rattle.dom_traversal.proofs.Shapes.{Has, Once}
+use Rattle.dom_laws.proofs.Children.{Has-names}
+use Rattle.dom_laws.proofs.Lists.{In}
+use Rattle.dom_laws.proofs.Shapes.{Has}
+use Rattle.dom_laws.proofs.Counts.{Once}
 use Rattle.dom_slots.specs.Hosts.{ShadowHost, host_named, root_named}
 use Rattle.dom_slots.specs.Shadows.{shadows, slot_at}
 use Rattle.dom_slots.proofs.Hosted.{key-test}

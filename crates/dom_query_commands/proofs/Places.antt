@@ -5,7 +5,7 @@ use Rattle.std.specs.Option.{option_map, option_map_or}
 use Rattle.std.proofs.lemmas.Bool.{cases_Bool, or_left, or_right, or_cases}
 use Rattle.dom_base.specs.declared.NodeName.{NodeName}
 use Rattle.dom_model.specs.Names.{name_eq, first_of, is_in}
-use Rattle.dom_model.specs.Tree.{Trees, none, tree, Node, names_of, roots, subtree, node_in, parent_of, next_sibling, is_inclusive_ancestor}
+use Rattle.dom_model.specs.Tree.{Trees, none, tree, Node, names_of, roots, subtree, node_in, parent_of, next_sibling, is_inclusive_ancestor, times_in}
 use Rattle.dom_model.proofs.OwnerLaws.{name_eq-same, name_eq-true, name_eq-turned}
 use Rattle.dom_text.specs.Text.{TreeStep, opens, closes}
 use Rattle.dom_printer.specs.Steps.{shown, shown_steps}
@@ -13,10 +13,12 @@ use Rattle.dom_tree.specs.Forest.{name_at}
 use Rattle.dom_query_commands.specs.declared.tree_text.Place.{Place}
 use Rattle.dom_query_commands.specs.declared.tree_text.Place.TheVariants as places
 use Rattle.dom_query_commands.specs.TreeText.{NamedPlace, opening, closing, key_of, place_view, step_at, place_after}
-use Rattle.dom_query_commands.proofs.Spots.{Spot, spot_of, IsSpot, IsChild, closed, times, spot_of-spot, spot_there, child_spot, IsSpot-child}
-use Rattle.dom_query_commands.proofs.Spots.{next_spot, IsSpot-next, cases_root, above-root, after-root}
-use Rattle.dom_query_commands.proofs.UniqueNames.{StandOnce, HaveKeys, times-key, IsUnique-forest}
-use Rattle.dom_query_commands.proofs.SpotReads.{IsUnique, subtree-spot, node_in-spot, ancestors-spot, children-spot, parent-spot, next-child}
+use Rattle.dom_query_commands.proofs.Spots.{Spot, spot_of, IsSpot, IsChild, closed, spot_of-spot, spot_there, child_spot, IsSpot-child, next_spot}
+use Rattle.dom_query_commands.proofs.Spots.{IsSpot-next, cases_root, above-root, after-root}
+use Rattle.dom_laws.proofs.Counts.{Once}
+use Rattle.dom_tree.proofs.Standing.{StandOnce, StandAlone, Once-forest}
+use Rattle.dom_query_commands.proofs.UniqueNames.{named, times-key}
+use Rattle.dom_query_commands.proofs.SpotReads.{subtree-spot, node_in-spot, ancestors-spot, children-spot, parent-spot, next-child}
 
 -- the name of the node of a place
 abbrev pub name_of : NamedPlace → NodeName
@@ -49,7 +51,7 @@ abbrev pub Follows : Trees → NodeName → NamedPlace → Option NamedPlace →
 Follows ts top place next = (rest ts place ≡ step_at ts place ∷ rest_or ts top next) × (is_within_if ts top next ≡ true)
 
 -- they are the trees right of its spot and what stands behind those
-rest_behind-spot : (ts : Trees) (s : Spot) → IsSpot ts [] [] s → IsUnique ts → rest_behind ts s.node.name ≡ shown_steps s.right ++ s.after
+rest_behind-spot : (ts : Trees) (s : Spot) → IsSpot ts [] [] s → Once ts → rest_behind ts s.node.name ≡ shown_steps s.right ++ s.after
 unfolding rest_behind
 rest_behind-spot ts s at once = ap (λ o. option_map_or (λ (t : Spot). shown_steps t.right ++ t.after) o []) (spot_of-spot ts [] [] s at (once s.node.name))
 
@@ -58,25 +60,25 @@ steps-first : (n : Node) (c r : Trees) (after : List TreeStep) → shown_steps (
 steps-first n c r after = simp append_assoc
 
 -- the rest where a spot opens
-rest-spot : (ts : Trees) (s : Spot) → IsSpot ts [] [] s → IsUnique ts → rest ts (opening s.node.name) ≡ shown_steps (tree s.node s.below s.right) ++ s.after
+rest-spot : (ts : Trees) (s : Spot) → IsSpot ts [] [] s → Once ts → rest ts (opening s.node.name) ≡ shown_steps (tree s.node s.below s.right) ++ s.after
 rest-spot ts s at once =
     ap (λ t. shown_steps t ++ rest_behind ts s.node.name) (subtree-spot ts s at once)
     ∙ (ap (λ ys. shown_steps (tree s.node s.below none) ++ ys) (rest_behind-spot ts s at once) ∙ steps-first s.node s.below s.right s.after)
 
 -- a place is in a node's tree where its spot says so
-within-spot : (ts : Trees) (top : NodeName) (s : Spot) → IsSpot ts [] [] s → IsUnique ts → is_in name_eq top (s.node.name ∷ s.above) ≡ true →
+within-spot : (ts : Trees) (top : NodeName) (s : Spot) → IsSpot ts [] [] s → Once ts → is_in name_eq top (s.node.name ∷ s.above) ≡ true →
     is_within ts top (opening s.node.name) ≡ true
 within-spot ts top s at once h = ap (is_in name_eq top) (ancestors-spot ts s at once) ∙ h
 
 -- the other way round
-spot-within : (ts : Trees) (top : NodeName) (s : Spot) → IsSpot ts [] [] s → IsUnique ts → is_within ts top (opening s.node.name) ≡ true →
+spot-within : (ts : Trees) (top : NodeName) (s : Spot) → IsSpot ts [] [] s → Once ts → is_within ts top (opening s.node.name) ≡ true →
     is_in name_eq top (s.node.name ∷ s.above) ≡ true
 spot-within ts top s at once h = sym (ap (is_in name_eq top) (ancestors-spot ts s at once)) ∙ h
 
 -- ---- behind an opening
 
 -- behind an opening comes the first child, or else the closing
-after_opening : (ts : Trees) (top : NodeName) (s : Spot) → IsSpot ts [] [] s → IsUnique ts → is_within ts top (opening s.node.name) ≡ true →
+after_opening : (ts : Trees) (top : NodeName) (s : Spot) → IsSpot ts [] [] s → Once ts → is_within ts top (opening s.node.name) ≡ true →
     Follows ts top (opening s.node.name) (place_after ts top (opening s.node.name))
 after_opening ts top s at once inside =
     let P : List NodeName → Type 0 = λ ys. Follows ts top (opening s.node.name) (Some (option_map_or opening (first_of ys) (closing s.node.name))) in
@@ -108,7 +110,7 @@ abbrev sibling_or_parent : Option NodeName → Option NodeName → Option NamedP
 sibling_or_parent next parent = option_map_or (λ x. Some (opening x)) next (option_map closing parent)
 
 -- Trees in which each name stands once, and a node whose tree is walked.
-module _ (ts : Trees) (top : NodeName) (once : IsUnique ts) where
+module _ (ts : Trees) (top : NodeName) (once : Once ts) where
   -- in a node's tree, but not that node itself
   above-within : (s : Spot) → IsSpot ts [] [] s → is_within ts top (opening s.node.name) ≡ true →
       name_eq s.node.name top ≡ false → is_in name_eq top s.above ≡ true
@@ -159,7 +161,7 @@ module _ (ts : Trees) (top : NodeName) (once : IsUnique ts) where
 -- ---- the law
 
 -- behind each place comes what `place_after` says
-next_place : (ts : Trees) (top : NodeName) (place : NamedPlace) → IsUnique ts → 1 ≤ times ts (name_of place) → is_within ts top place ≡ true →
+next_place : (ts : Trees) (top : NodeName) (place : NamedPlace) → Once ts → 1 ≤ times_in ts (name_of place) → is_within ts top place ≡ true →
     Follows ts top place (place_after ts top place)
 next_place ts top (opening x) once here inside =
     let s = spot_there ts [] [] x here in
@@ -171,35 +173,35 @@ next_place ts top (closing x) once here inside =
     subst P s.2 (after_closing ts top once s.0 s.1) inside
 
 -- the name of the node of a place stands where that of its key does
-here_named : (names : List NodeName) (ts : Trees) (place : Place) → 1 ≤ times ts (name_at names (key_of place)) →
-    1 ≤ times ts (name_of (place_view names place))
+here_named : (names : List NodeName) (ts : Trees) (place : Place) → 1 ≤ times_in ts (name_at names (key_of place)) →
+    1 ≤ times_in ts (name_of (place_view names place))
 here_named names ts (places.Opening key) here = here
 here_named names ts (places.Closing key) here = here
 
 -- the tree of a node has its opening
-pub within_self : (names : List NodeName) (ts : Trees) (top : ℕ) → StandOnce names ts → HaveKeys names ts → top < length names →
+pub within_self : (names : List NodeName) (ts : Trees) (top : ℕ) → StandOnce (named names ts) → StandAlone (named names ts) → top < length names →
     is_within ts (name_at names top) (opening (name_at names top)) ≡ true
 within_self names ts top once keys inside =
-    let unique = IsUnique-forest names ts once keys in
+    let unique = Once-forest (named names ts) once keys in
     let one = times-key names ts once top inside in
     let s = spot_there ts [] [] (name_at names top) (omega arith) in
     let P : NodeName → Type 0 = λ y. is_within ts y (opening y) ≡ true in
     subst P s.2 (within-spot ts s.0.node.name s.0 s.1 unique (or_left (name_eq s.0.node.name s.0.node.name) _ (name_eq-same s.0.node.name)))
 
 -- A place in trees by their names, and the next one.
-module _ (names : List NodeName) (ts : Trees) (top : NodeName) (at : Place) (place next : Option Place) (step : TreeStep) (once : StandOnce names ts)
-    (keys : HaveKeys names ts) where
+module _ (names : List NodeName) (ts : Trees) (top : NodeName) (at : Place) (place next : Option Place) (step : TreeStep) (once : StandOnce (named names ts))
+    (keys : StandAlone (named names ts)) where
   -- a turn of the walk: the rest is one step less, and the next place is in the tree
   pub turn : key_of at < length names → place ≡ Some at → is_within_if ts top (option_map (place_view names) place) ≡ true →
       option_map (place_view names) next ≡ place_after ts top (place_view names at) → step ≡ step_at ts (place_view names at) →
       (rest_or ts top (option_map (place_view names) place) ≡ step ∷ rest_or ts top (option_map (place_view names) next))
       × (is_within_if ts top (option_map (place_view names) next) ≡ true)
   turn inside at_place within follows is =
-      let named = ap (option_map (place_view names)) at_place in
+      let there = ap (option_map (place_view names)) at_place in
       let one = times-key names ts once (key_of at) inside in
-      let law = next_place ts top (place_view names at) (IsUnique-forest names ts once keys) (here_named names ts at (omega arith))
-      (sym (ap (is_within_if ts top) named) ∙ within) in (
-        ap (rest_or ts top) named ∙ (law.0 ∙
+      let law = next_place ts top (place_view names at) (Once-forest (named names ts) once keys) (here_named names ts at (omega arith))
+      (sym (ap (is_within_if ts top) there) ∙ within) in (
+        ap (rest_or ts top) there ∙ (law.0 ∙
             (ap (λ o. step_at ts (place_view names at) ∷ rest_or ts top o) (sym follows) ∙
             ap (λ first. first ∷ rest_or ts top (option_map (place_view names) next)) (sym is))),
         ap (is_within_if ts top) follows ∙ law.1,

@@ -23,7 +23,7 @@ use Rattle.dom_model.specs.Validity.{first_refusal}
 use Rattle.dom_selectors.specs.Reads.{IsRefusalWhere}
 use Rattle.dom_tree.specs.Owners.{AreOwned, trees_of_owner}
 use Rattle.dom_tree.proofs.Owned.{read_own, stays_own}
-use Rattle.dom_traversal.proofs.Lists.{In, is_in-from, In-right, before-in, after-in, filter-same, last_split}
+use Rattle.dom_laws.proofs.Lists.{In, is_in-from, In-right, before-in, after-in, filter-same, last_split}
 use Rattle.dom_admission.proofs.OwnRefusals.{lone_holds}
 
 -- ---- tests that agree

@@ -7,8 +7,10 @@ use Rattle.dom_model.specs.Tree.{Trees, none, tree, names_of, roots, parent_of, 
 use Rattle.dom_query_commands.proofs.Spots.{Spot, spot_of, IsSpot, IsChild, spot_of-spot, spot_there, child_spot, IsSpot-child, next_spot}
 use Rattle.dom_query_commands.proofs.Spots.{IsSpot-next, cases_root, above-root}
 use Rattle.dom_tree.specs.Forest.{name_at}
-use Rattle.dom_query_commands.proofs.UniqueNames.{StandOnce, HaveKeys, times-key, IsUnique-forest}
-use Rattle.dom_query_commands.proofs.SpotReads.{IsUnique, children-spot, parent-spot, next-child}
+use Rattle.dom_laws.proofs.Counts.{Once}
+use Rattle.dom_tree.proofs.Standing.{StandOnce, StandAlone, Once-forest}
+use Rattle.dom_query_commands.proofs.UniqueNames.{named, times-key}
+use Rattle.dom_query_commands.proofs.SpotReads.{children-spot, parent-spot, next-child}
 
 -- a node and the siblings behind it
 pub siblings_from : Trees → NodeName → List NodeName
@@ -19,7 +21,7 @@ abbrev pub from_or : Trees → Option NodeName → List NodeName
 from_or ts o = option_map_or (siblings_from ts) o []
 
 -- at its spot
-from-spot : (ts : Trees) (s : Spot) → IsSpot ts [] [] s → IsUnique ts → siblings_from ts s.node.name ≡ s.node.name ∷ names_of (roots s.right)
+from-spot : (ts : Trees) (s : Spot) → IsSpot ts [] [] s → Once ts → siblings_from ts s.node.name ≡ s.node.name ∷ names_of (roots s.right)
 unfolding siblings_from
 from-spot ts s at once = ap (λ o. option_map_or (λ (t : Spot). t.node.name ∷ names_of (roots t.right)) o []) (spot_of-spot ts [] [] s at (once s.node.name))
 
@@ -33,7 +35,7 @@ abbrev pub AreFrom : Trees → NodeName → Option NodeName → List NodeName �
 AreFrom ts parent o xs = (from_or ts o ≡ xs) × IsChildOf ts parent o
 
 -- Trees in which each name stands once, and a node there.
-module _ (ts : Trees) (parent : NodeName) (once : IsUnique ts) where
+module _ (ts : Trees) (parent : NodeName) (once : Once ts) where
   -- from the first child on
   pub first_child : (s : Spot) → IsSpot ts [] [] s → s.node.name ≡ parent → AreFrom ts parent (first_of (children_of ts parent)) (children_of ts parent)
   first_child s at is =
@@ -80,7 +82,7 @@ module _ (ts : Trees) (parent : NodeName) (once : IsUnique ts) where
 
 -- ---- along the keys
 
-module _ (names : List NodeName) (ts : Trees) (once : StandOnce names ts) (only : HaveKeys names ts) where
+module _ (names : List NodeName) (ts : Trees) (once : StandOnce (named names ts)) (only : StandAlone (named names ts)) where
   -- from the first child on
   pub begins : (key : ℕ) → key < length names → (at : Option ℕ) → option_map (name_at names) at ≡ first_of (children_of ts (name_at names key)) →
       AreFrom ts (name_at names key) (option_map (name_at names) at) (children_of ts (name_at names key))
@@ -88,7 +90,7 @@ module _ (names : List NodeName) (ts : Trees) (once : StandOnce names ts) (only 
       let x = name_at names key in
       let one = times-key names ts once key inside in
       let s = spot_there ts [] [] x (omega (arith, one)) in
-      subst (λ o. AreFrom ts x o (children_of ts x)) (sym is) (first_child ts x (IsUnique-forest names ts once only) s.0 s.1 s.2)
+      subst (λ o. AreFrom ts x o (children_of ts x)) (sym is) (first_child ts x (Once-forest (named names ts) once only) s.0 s.1 s.2)
 
   -- and from the next one on
   pub goes_on : {k : ℕ} {at : Option ℕ} (parent : NodeName) → k < length names → (next : Option ℕ) → at ≡ Some k →
@@ -101,7 +103,7 @@ module _ (names : List NodeName) (ts : Trees) (once : StandOnce names ts) (only 
       let one = times-key names ts once k inside in
       let s = spot_there ts [] [] x (omega (arith, one)) in
       let here : IsChildOf ts parent (Some x) = subst (λ o. IsChildOf ts parent (option_map (name_at names) o)) is child in
-      let law = next_child ts parent (IsUnique-forest names ts once only) x s.0 s.1 s.2 here in (
+      let law = next_child ts parent (Once-forest (named names ts) once only) x s.0 s.1 s.2 here in (
         ap (λ o. from_or ts (option_map (name_at names) o)) is ∙ law.0 ∙ ap (λ o. x ∷ from_or ts o) (sym follows),
         subst (IsChildOf ts parent) (sym follows) law.1,
       )

@@ -8,15 +8,11 @@ use Rattle.std.proofs.lemmas.List.Folds.{find-append}
 use Rattle.dom_base.specs.declared.NodeName.{NodeName}
 use Rattle.dom_model.specs.Names.{name_eq, first_of, items_after}
 use Rattle.dom_model.specs.Tree.{Trees, none, tree, Node, nodes, names_of, roots, or_else, subtree, no_node, node_in, trees_below, children_of}
-use Rattle.dom_model.specs.Tree.{inclusive_ancestors, on_top, parent_of, siblings, next_sibling}
+use Rattle.dom_model.specs.Tree.{times_in, inclusive_ancestors, on_top, parent_of, siblings, next_sibling}
 use Rattle.dom_model.proofs.OwnerLaws.{name_eq-same, name_eq-true, name_eq-turned}
+use Rattle.dom_laws.proofs.Counts.{Once, times-here, times-elsewhere}
 use Rattle.dom_text.specs.Text.{TreeStep}
-use Rattle.dom_query_commands.proofs.Spots.{Spot, spot_of, IsSpot, IsRoot, IsChild, closed, times, times-here, times-elsewhere, spot_of-spot}
-use Rattle.dom_query_commands.proofs.Spots.{times-root, times-below, above-root}
-
--- each name stands at most once
-abbrev pub IsUnique : Trees → Type 0
-IsUnique ts = (x : NodeName) → times ts x ≤ 1
+use Rattle.dom_query_commands.proofs.Spots.{Spot, spot_of, IsSpot, IsRoot, IsChild, closed, spot_of-spot, times-root, times-below, above-root}
 
 -- ---- the first spot of a name, and what is read of the name
 
@@ -82,32 +78,32 @@ ancestors-first (tree n c r) above after x = elim (cases_Bool (name_eq n.name x)
 -- ---- reads at a spot of whole trees
 
 -- a node's tree
-pub subtree-spot : (ts : Trees) (s : Spot) → IsSpot ts [] [] s → IsUnique ts → subtree ts s.node.name ≡ tree s.node s.below none
+pub subtree-spot : (ts : Trees) (s : Spot) → IsSpot ts [] [] s → Once ts → subtree ts s.node.name ≡ tree s.node s.below none
 subtree-spot ts s at once = subtree-first ts [] [] s.node.name ∙ ap tree_from (spot_of-spot ts [] [] s at (once s.node.name))
 
 -- the node itself
-pub node_in-spot : (ts : Trees) (s : Spot) → IsSpot ts [] [] s → IsUnique ts → node_in ts s.node.name ≡ s.node
+pub node_in-spot : (ts : Trees) (s : Spot) → IsSpot ts [] [] s → Once ts → node_in ts s.node.name ≡ s.node
 node_in-spot ts s at once =
     ap (λ o. unwrap_or o (no_node s.node.name))
     (find-first ts [] [] s.node.name ∙ ap (option_map (λ (t : Spot). t.node)) (spot_of-spot ts [] [] s at (once s.node.name)))
 
 -- a node's inclusive ancestors
-pub ancestors-spot : (ts : Trees) (s : Spot) → IsSpot ts [] [] s → IsUnique ts → inclusive_ancestors ts s.node.name ≡ s.node.name ∷ s.above
+pub ancestors-spot : (ts : Trees) (s : Spot) → IsSpot ts [] [] s → Once ts → inclusive_ancestors ts s.node.name ≡ s.node.name ∷ s.above
 ancestors-spot ts s at once =
     let P : Option Spot → Type 0 = IsPath [] s.node.name (inclusive_ancestors ts s.node.name) in
     let path : P (Some s) = subst P (spot_of-spot ts [] [] s at (once s.node.name)) (ancestors-first ts [] [] s.node.name) in
     path.1 ∙ ap (λ ys. s.node.name ∷ ys) (sym (append-nil path.0) ∙ path.2)
 
 -- a node's children
-pub children-spot : (ts : Trees) (s : Spot) → IsSpot ts [] [] s → IsUnique ts → children_of ts s.node.name ≡ names_of (roots s.below)
+pub children-spot : (ts : Trees) (s : Spot) → IsSpot ts [] [] s → Once ts → children_of ts s.node.name ≡ names_of (roots s.below)
 children-spot ts s at once = ap (λ t. names_of (roots (trees_below t))) (subtree-spot ts s at once)
 
 -- a node's parent
-pub parent-spot : (ts : Trees) (s : Spot) → IsSpot ts [] [] s → IsUnique ts → parent_of ts s.node.name ≡ first_of s.above
+pub parent-spot : (ts : Trees) (s : Spot) → IsSpot ts [] [] s → Once ts → parent_of ts s.node.name ≡ first_of s.above
 parent-spot ts s at once = ap (λ ys. first_of (drop 1 ys)) (ancestors-spot ts s at once)
 
 -- the roots behind a root are those right of it
-items_after-root : (ts : Trees) (above : List NodeName) (after : List TreeStep) (s : Spot) → IsRoot ts above after s → times ts s.node.name ≤ 1 →
+items_after-root : (ts : Trees) (above : List NodeName) (after : List TreeStep) (s : Spot) → IsRoot ts above after s → times_in ts s.node.name ≤ 1 →
     items_after name_eq s.node.name (names_of (roots ts)) ≡ names_of (roots s.right)
 items_after-root none above after s h once = absurd h
 items_after-root (tree n c r) above after s (inl e) once =
@@ -124,7 +120,7 @@ items_after-root (tree n c r) above after s (inr h) once =
     ]
 
 -- At a spot of whole trees: the next sibling.
-module _ (ts : Trees) (s : Spot) (at : IsSpot ts [] [] s) (once : IsUnique ts) where
+module _ (ts : Trees) (s : Spot) (at : IsSpot ts [] [] s) (once : Once ts) where
   -- a root has none
   pub next-root : IsRoot ts [] [] s → next_sibling ts s.node.name ≡ None
   next-root h =

@@ -1,13 +1,13 @@
 -- Where nodes stand in trees, and that a name that stands there once has one spot.
-use Rattle.std.proofs.Common.{◌≡◌, ◌⊎◌, inl, inr, ℕ, zero, suc, ◌+◌, ◌≤◌, true, false, List, ◌∷◌, ◌++◌, Option, Some, None, refl, sym, ap, subst, ◌∙◌, arith}
-use Rattle.std.specs.Prelude.{count_by, if◌then◌else◌}
+use Rattle.std.proofs.Common.{◌≡◌, ◌⊎◌, inl, inr, ◌+◌, ◌≤◌, List, ◌∷◌, ◌++◌, Option, Some, None, refl, sym, ap, subst, arith}
+use Rattle.std.specs.Prelude.{if◌then◌else◌}
 use Rattle.std.specs.Option.{option_or}
-use Rattle.std.proofs.lemmas.Bool.{cases_Bool, cond-true, cond-false}
-use Rattle.std.proofs.lemmas.List.Sums.{sum_by-cons, sum_by-append}
+use Rattle.std.proofs.lemmas.Bool.{cases_Bool, cond-true}
 use Rattle.dom_base.specs.declared.NodeName.{NodeName}
 use Rattle.dom_model.specs.Names.{name_eq}
-use Rattle.dom_model.specs.Tree.{Trees, none, tree, Node, nodes}
+use Rattle.dom_model.specs.Tree.{Trees, none, tree, Node, times_in}
 use Rattle.dom_model.proofs.OwnerLaws.{name_eq-same, name_eq-true}
+use Rattle.dom_laws.proofs.Counts.{by_times, times_in-none, times-here, times-elsewhere, times-more}
 use Rattle.dom_text.specs.Text.{TreeStep, closes}
 use Rattle.dom_printer.specs.Steps.{shown_steps}
 
@@ -39,48 +39,12 @@ abbrev pub IsSpot : Trees → List NodeName → List TreeStep → Spot → Type 
 IsSpot none above after s = ⊥
 IsSpot (tree n c r) above after s = (s ≡ spot_at n c r above after) ⊎ (IsSpot c (n.name ∷ above) (closed r after) s ⊎ IsSpot r above after s)
 
--- how often a name stands in trees
-pub times : Trees → NodeName → ℕ
-times ts x = count_by (λ n. name_eq n.name x) (nodes ts)
-
--- the number of times, counted over the nodes in tree order
-pub times-is : (ts : Trees) (x : NodeName) → times ts x ≡ count_by (λ n. name_eq n.name x) (nodes ts)
-unfolding times
-times-is ts x = refl
-
--- in no trees, at the first root, and elsewhere
-pub times-none : (x : NodeName) → times none x ≡ 0
-unfolding times
-times-none x = refl
-
--- in trees with a first one
-times-tree : (n : Node) (c r : Trees) (x : NodeName) → times (tree n c r) x ≡ (if name_eq n.name x then 1 else 0) + (times c x + times r x)
-unfolding times
-times-tree n c r x =
-    sum_by-cons (λ (m : Node). if name_eq m.name x then 1 else 0) n (nodes c ++ nodes r)
-    ∙ ap (λ k. (if name_eq n.name x then 1 else 0) + k) (sum_by-append (λ (m : Node). if name_eq m.name x then 1 else 0) (nodes c) (nodes r))
-
--- where the first root has the name
-pub times-here : (n : Node) (c r : Trees) (x : NodeName) → name_eq n.name x ≡ true → times (tree n c r) x ≡ 1 + (times c x + times r x)
-times-here n c r x e = times-tree n c r x ∙ ap (λ k. k + (times c x + times r x)) (cond-true (name_eq n.name x) 1 0 e)
-
--- where it has another one
-pub times-elsewhere : (n : Node) (c r : Trees) (x : NodeName) → name_eq n.name x ≡ false → times (tree n c r) x ≡ times c x + times r x
-times-elsewhere n c r x e = times-tree n c r x ∙ (ap (λ k. k + (times c x + times r x)) (cond-false (name_eq n.name x) 1 0 e) ∙ omega arith)
-
--- a name stands in trees at least as often as in their parts
-pub times-parts : (n : Node) (c r : Trees) (x : NodeName) → times c x + times r x ≤ times (tree n c r) x
-times-parts n c r x = elim (cases_Bool (name_eq n.name x)) [
-  | inl e ↦ omega (arith, times-here n c r x e)
-  | inr e ↦ omega (arith, times-elsewhere n c r x e)
-]
-
 -- the first root's name stands there
-pub times-first : (n : Node) (c r : Trees) → times (tree n c r) n.name ≡ 1 + (times c n.name + times r n.name)
+pub times-first : (n : Node) (c r : Trees) → times_in (tree n c r) n.name ≡ 1 + times_in c n.name + times_in r n.name
 times-first n c r = times-here n c r n.name (name_eq-same n.name)
 
 -- a name that doesn't stand in trees has no spot there
-spot_of-absent : (ts : Trees) (above : List NodeName) (after : List TreeStep) (x : NodeName) → times ts x ≡ 0 → spot_of ts above after x ≡ None
+spot_of-absent : (ts : Trees) (above : List NodeName) (after : List TreeStep) (x : NodeName) → times_in ts x ≡ 0 → spot_of ts above after x ≡ None
 spot_of-absent none above after x h = refl
 spot_of-absent (tree n c r) above after x h = elim (cases_Bool (name_eq n.name x)) [
   | inl e ↦ absurd (omega (arith, times-here n c r x e))
@@ -90,14 +54,14 @@ spot_of-absent (tree n c r) above after x h = elim (cases_Bool (name_eq n.name x
 ]
 
 -- the name of a spot stands there
-pub times-spot : (ts : Trees) (above : List NodeName) (after : List TreeStep) (s : Spot) → IsSpot ts above after s → 1 ≤ times ts s.node.name
+pub times-spot : (ts : Trees) (above : List NodeName) (after : List TreeStep) (s : Spot) → IsSpot ts above after s → 1 ≤ times_in ts s.node.name
 times-spot none above after s at = absurd at
-times-spot (tree n c r) above after s (inl e) = subst (λ (t : Spot). 1 ≤ times (tree n c r) t.node.name) (sym e) (omega (arith, times-first n c r))
-times-spot (tree n c r) above after s (inr (inl i)) = omega (arith, times-parts n c r s.node.name, times-spot c (n.name ∷ above) (closed r after) s i)
-times-spot (tree n c r) above after s (inr (inr i)) = omega (arith, times-parts n c r s.node.name, times-spot r above after s i)
+times-spot (tree n c r) above after s (inl e) = subst (λ (t : Spot). 1 ≤ times_in (tree n c r) t.node.name) (sym e) (omega (arith, times-first n c r))
+times-spot (tree n c r) above after s (inr (inl i)) = omega (arith, times-more n c r s.node.name, times-spot c (n.name ∷ above) (closed r after) s i)
+times-spot (tree n c r) above after s (inr (inr i)) = omega (arith, times-more n c r s.node.name, times-spot r above after s i)
 
 -- the spot of a name that stands there once is the first one of that name
-pub spot_of-spot : (ts : Trees) (above : List NodeName) (after : List TreeStep) (s : Spot) → IsSpot ts above after s → times ts s.node.name ≤ 1 →
+pub spot_of-spot : (ts : Trees) (above : List NodeName) (after : List TreeStep) (s : Spot) → IsSpot ts above after s → times_in ts s.node.name ≤ 1 →
     spot_of ts above after s.node.name ≡ Some s
 spot_of-spot none above after s at once = absurd at
 spot_of-spot (tree n c r) above after s (inl e) once =
@@ -107,7 +71,7 @@ spot_of-spot (tree n c r) above after s (inr (inl i)) once =
     let there = times-spot c (n.name ∷ above) (closed r after) s i in
     elim (cases_Bool (name_eq n.name s.node.name)) [
       | inl e ↦ absurd (omega (arith, times-here n c r s.node.name e))
-      | inr e ↦ rw (e, spot_of-spot c (n.name ∷ above) (closed r after) s i (omega (arith, times-parts n c r s.node.name))) refl
+      | inr e ↦ rw (e, spot_of-spot c (n.name ∷ above) (closed r after) s i (omega (arith, times-more n c r s.node.name))) refl
     ]
 spot_of-spot (tree n c r) above after s (inr (inr i)) once =
     let there = times-spot r above after s i in
@@ -118,20 +82,15 @@ spot_of-spot (tree n c r) above after s (inr (inr i)) once =
           rw (e, spot_of-absent c (n.name ∷ above) (closed r after) s.node.name (omega arith), spot_of-spot r above after s i (omega arith)) refl
     ]
 
--- zero, or at least one
-by_times : {P : Type 0} (k : ℕ) → (k ≡ 0 → P) → (1 ≤ k → P) → P
-by_times zero f g = f refl
-by_times (suc k) f g = g (omega arith)
-
 -- a name that stands there has a spot
-pub spot_there : (ts : Trees) (above : List NodeName) (after : List TreeStep) (x : NodeName) → 1 ≤ times ts x → (s : Spot) ×
+pub spot_there : (ts : Trees) (above : List NodeName) (after : List TreeStep) (x : NodeName) → 1 ≤ times_in ts x → (s : Spot) ×
     IsSpot ts above after s × (s.node.name ≡ x)
-spot_there none above after x h = absurd (omega (arith, times-none x))
+spot_there none above after x h = absurd (omega (arith, times_in-none x))
 spot_there (tree n c r) above after x h = elim (cases_Bool (name_eq n.name x)) [
   | inl e ↦ (spot_at n c r above after, inl refl, name_eq-true n.name x e)
   | inr e ↦
       let parts = times-elsewhere n c r x e in
-      by_times (times c x)
+      by_times (times_in c x)
       (λ z. let s = spot_there r above after x (omega arith) in (s.0, inr (inr s.1), s.2))
       (λ z. let s = spot_there c (n.name ∷ above) (closed r after) x z in (s.0, inr (inl s.1), s.2))
 ]
@@ -209,13 +168,14 @@ IsSpot-root (tree n c r) above after s (inl e) = inl e
 IsSpot-root (tree n c r) above after s (inr h) = inr (inr (IsSpot-root r above after s h))
 
 -- a root's name stands in the trees
-pub times-root : (ts : Trees) (above : List NodeName) (after : List TreeStep) (s : Spot) → IsRoot ts above after s → 1 ≤ times ts s.node.name
+pub times-root : (ts : Trees) (above : List NodeName) (after : List TreeStep) (s : Spot) → IsRoot ts above after s → 1 ≤ times_in ts s.node.name
 times-root ts above after s h = times-spot ts above after s (IsSpot-root ts above after s h)
 
 -- a name stands in the trees at least as often as below a spot
 pub times-below : (ts : Trees) (above : List NodeName) (after : List TreeStep) (s : Spot) → IsSpot ts above after s → (x : NodeName) →
-    times s.below x ≤ times ts x
+    times_in s.below x ≤ times_in ts x
 times-below none above after s at x = absurd at
-times-below (tree n c r) above after s (inl e) x = subst (λ (t : Spot). times t.below x ≤ times (tree n c r) x) (sym e) (omega (arith, times-parts n c r x))
-times-below (tree n c r) above after s (inr (inl i)) x = omega (arith, times-parts n c r x, times-below c (n.name ∷ above) (closed r after) s i x)
-times-below (tree n c r) above after s (inr (inr i)) x = omega (arith, times-parts n c r x, times-below r above after s i x)
+times-below (tree n c r) above after s (inl e) x =
+    subst (λ (t : Spot). times_in t.below x ≤ times_in (tree n c r) x) (sym e) (omega (arith, times-more n c r x))
+times-below (tree n c r) above after s (inr (inl i)) x = omega (arith, times-more n c r x, times-below c (n.name ∷ above) (closed r after) s i x)
+times-below (tree n c r) above after s (inr (inr i)) x = omega (arith, times-more n c r x, times-below r above after s i x)

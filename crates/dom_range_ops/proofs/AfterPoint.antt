@@ -6,10 +6,10 @@ use Rattle.dom_base.specs.declared.NodeName.{NodeName}
 use Rattle.dom_model.specs.Names.{name_eq, first_of, items_after}
 use Rattle.dom_model.specs.Place.{Boundary}
 use Rattle.dom_model.specs.Tree.{Trees, children_of, inclusive_descendants}
-use Rattle.dom_traversal.proofs.Lists.{In, In-right, Single, Single-apart, first_split, no_first, after-split}
-use Rattle.dom_traversal.proofs.Order.{IsWithin, all_single, joined, here}
-use Rattle.dom_traversal.proofs.Steps.{within-child}
-use Rattle.dom_traversal.specs.Within.{beyond, from_node}
+use Rattle.dom_laws.proofs.Lists.{In, In-right, Single, Single-apart, first_split, no_first, after-split}
+use Rattle.dom_laws.proofs.Order.{IsWithin, all_single, joined, here}
+use Rattle.dom_laws.proofs.Steps.{within-child}
+use Rattle.dom_laws.specs.Within.{beyond, from_node}
 use Rattle.dom_range_ops.specs.Points.{nodes_after}
 use Rattle.dom_range_ops.proofs.Sides.{nodes_before, point-splits}
 

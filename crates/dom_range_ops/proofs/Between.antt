@@ -13,11 +13,11 @@ use Rattle.dom_model.specs.RangeOps.{text_part}
 use Rattle.dom_model.specs.Extract.{cut_start, cut_end}
 use Rattle.dom_model.specs.Tree.{Trees, node_in, kind_of, is_text, children_of, inclusive_descendants, root_of, length_of, inclusive_ancestors}
 use Rattle.dom_ranges.proofs.Before.{before-same, before-up, before-down, before-beside}
-use Rattle.dom_traversal.proofs.Children.{In-names, Has-names}
-use Rattle.dom_traversal.proofs.Lists.{In, In-left, In-right, In-parts, filter-none, filter-yes, filter-no, name_eq-from}
-use Rattle.dom_traversal.proofs.Order.{IsWithin, joined, here, splits}
-use Rattle.dom_traversal.proofs.Shapes.{Has, Has-above, below-from_above}
-use Rattle.dom_traversal.specs.Within.{ahead_of, beyond}
+use Rattle.dom_laws.proofs.Children.{In-names, Has-names}
+use Rattle.dom_laws.proofs.Lists.{In, In-left, In-right, In-parts, filter-none, filter-yes, filter-no, name_eq-from}
+use Rattle.dom_laws.proofs.Order.{IsWithin, joined, here, splits}
+use Rattle.dom_laws.proofs.Shapes.{Has, Has-above, below-from_above}
+use Rattle.dom_laws.specs.Within.{ahead_of, beyond}
 use Rattle.dom_model.proofs.ListOrder.{before-less, before-turned}
 use Rattle.dom_model.proofs.OwnerLaws.{name_eq-true}
 use Rattle.dom_range_ops.specs.Points.{nodes_after}

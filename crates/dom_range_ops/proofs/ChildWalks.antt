@@ -4,9 +4,10 @@ use Rattle.std.specs.Option.{option_map_or}
 use Rattle.dom_base.specs.declared.NodeName.{NodeName}
 use Rattle.dom_model.specs.Names.{name_eq, first_of, items_after}
 use Rattle.dom_model.specs.Tree.{Trees, children_of, next_sibling}
-use Rattle.dom_traversal.proofs.Children.{parent-of_child, children-single}
-use Rattle.dom_traversal.proofs.Lists.{In, In-right, Single, Single-apart, first_split, no_first, after-split}
-use Rattle.dom_traversal.proofs.Shapes.{Has, Once}
+use Rattle.dom_laws.proofs.Children.{parent-of_child, children-single}
+use Rattle.dom_laws.proofs.Lists.{In, In-right, Single, Single-apart, first_split, no_first, after-split}
+use Rattle.dom_laws.proofs.Shapes.{Has}
+use Rattle.dom_laws.proofs.Counts.{Once}
 
 -- the walk has come to a child, behind which so many are left to pass
 pub record IsAtKid (ts : Trees) (p : NodeName) (index left : ℕ) (at : Option NodeName) : Type 0 where

@@ -22,9 +22,9 @@ use Rattle.dom_ranges.specs.declared.table.Points.{Points}
 use Rattle.dom_tree.proofs.Owned.{read_own, stays_own}
 use Rattle.dom_tree.specs.Forest.{NamedTrees, name_at}
 use Rattle.dom_tree.specs.Owners.{AreOwned, trees_of_owner}
-use Rattle.dom_traversal.proofs.Counts.{StandOnce, StandAlone}
-use Rattle.dom_traversal.proofs.Lists.{In}
-use Rattle.dom_traversal.proofs.Climbing.{was_some}
+use Rattle.dom_tree.proofs.Standing.{StandOnce, StandAlone}
+use Rattle.dom_laws.proofs.Lists.{In}
+use Rattle.dom_laws.proofs.Options.{was_some}
 use Rattle.dom_range_ops.specs.Deletions.{AreLeaves, IsRangeIn}
 use Rattle.dom_range_ops.specs.Texts.{range_at_points, AreBounded, nodes_around}
 use Rattle.dom_range_ops.proofs.OneTree.{HasOneTree}

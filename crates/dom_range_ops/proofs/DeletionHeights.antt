@@ -9,10 +9,11 @@ use Rattle.dom_model.specs.Names.{name_eq, items_before}
 use Rattle.dom_model.specs.Place.{place_from}
 use Rattle.dom_model.specs.Tree.{Trees, none, tree, on_top, parent_of, inclusive_ancestors, is_inclusive_ancestor}
 use Rattle.dom_tree.specs.Forest.{NamedTrees, name_at}
-use Rattle.dom_traversal.proofs.Chains.{above-split, above-chain}
-use Rattle.dom_traversal.proofs.Counts.{StandOnce, StandAlone, Once-forest, Has-forest}
-use Rattle.dom_traversal.proofs.Lists.{In, In-from}
-use Rattle.dom_traversal.proofs.Shapes.{Once, Has, Has-above, above-parent, above-present, above-root}
+use Rattle.dom_laws.proofs.Chains.{above-split, above-chain}
+use Rattle.dom_tree.proofs.Standing.{StandOnce, StandAlone, Once-forest, Has-forest}
+use Rattle.dom_laws.proofs.Lists.{In, In-from}
+use Rattle.dom_laws.proofs.Counts.{Once}
+use Rattle.dom_laws.proofs.Shapes.{Has, Has-above, above-parent, above-present, above-root}
 use Rattle.dom_ranges.specs.Climbs.{depth_at}
 
 -- how many nodes stand above a key's node, with that one

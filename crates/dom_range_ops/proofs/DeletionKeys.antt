@@ -16,12 +16,13 @@ use Rattle.dom_model.specs.Ranges.{Range}
 use Rattle.dom_model.specs.RangeOps.{outermost_contained}
 use Rattle.dom_model.specs.Tree.{Trees, root_of, inclusive_descendants, inclusive_ancestors, is_inclusive_ancestor}
 use Rattle.dom_ranges.specs.declared.table.Points.{Points}
-use Rattle.dom_traversal.proofs.Chains.{above-along, first-passes}
-use Rattle.dom_traversal.proofs.Counts.{StandOnce, StandAlone}
-use Rattle.dom_traversal.proofs.Lists.{In, In-from, is_in-from, Single, Single-apart, first_split, no_first, after-split, filter-yes, filter-no, filter-none}
-use Rattle.dom_traversal.proofs.Order.{IsWithin, all_single, splits, behind_is, below, here, inside-test, stands_in}
-use Rattle.dom_traversal.proofs.Searching.{following_step, IsWithin-key}
-use Rattle.dom_traversal.specs.Within.{ahead_of, behind, beyond, from_node, StandsIn}
+use Rattle.dom_laws.proofs.Chains.{above-along, first-passes}
+use Rattle.dom_tree.proofs.Standing.{StandOnce, StandAlone}
+use Rattle.dom_laws.proofs.Lists.{In, In-from, is_in-from, Single, Single-apart, first_split, no_first, after-split, filter-yes, filter-no, filter-none}
+use Rattle.dom_laws.proofs.Order.{IsWithin, all_single, splits, behind_is, below, here, inside-test, stands_in}
+use Rattle.dom_tree.proofs.Searching.{following_step, IsWithin-key}
+use Rattle.dom_laws.specs.Within.{ahead_of, behind, beyond, from_node}
+use Rattle.dom_tree.specs.Within.{StandsIn}
 use Rattle.dom_tree.specs.Forest.{NamedTrees, name_at}
 use Rattle.dom_tree.specs.Apart.{TellApart}
 use Rattle.dom_range_ops.specs.Deletions.{AreLeaves}

@@ -11,12 +11,12 @@ use Rattle.dom_model.specs.Ranges.{Range, at, is_contained}
 use Rattle.dom_model.specs.Tree.{Trees, node_in, kind_of, has_data, children_of, inclusive_descendants, inclusive_ancestors, is_inclusive_ancestor}
 use Rattle.dom_model.specs.Tree.{root_of, length_of, parent_of}
 use Rattle.dom_ranges.proofs.Before.{before-same, before-up, before-down, before-beside}
-use Rattle.dom_traversal.proofs.Children.{In-names, Has-names}
-use Rattle.dom_traversal.proofs.Lists.{In, In-from, In-parts, split_at, filter-none, Single, Single-apart}
-use Rattle.dom_traversal.proofs.Steps.{within-itself}
-use Rattle.dom_traversal.proofs.Order.{IsWithin, stands_in, all_single, below, here, splits, inside-test}
-use Rattle.dom_traversal.proofs.Shapes.{Has-above, Has-subtree, above-parent, above-root, above-from_below, below-from_above}
-use Rattle.dom_traversal.specs.Within.{ahead_of, beyond}
+use Rattle.dom_laws.proofs.Children.{In-names, Has-names}
+use Rattle.dom_laws.proofs.Lists.{In, In-from, In-parts, split_at, filter-none, Single, Single-apart}
+use Rattle.dom_laws.proofs.Steps.{within-itself}
+use Rattle.dom_laws.proofs.Order.{IsWithin, stands_in, all_single, below, here, splits, inside-test}
+use Rattle.dom_laws.proofs.Shapes.{Has-above, Has-subtree, above-parent, above-root, above-from_below, below-from_above}
+use Rattle.dom_laws.specs.Within.{ahead_of, beyond}
 use Rattle.dom_model.proofs.ListOrder.{before-less, before-turned}
 use Rattle.dom_range_ops.specs.Texts.{nodes_around}
 use Rattle.dom_range_ops.proofs.OneTree.{root-above, root-path}

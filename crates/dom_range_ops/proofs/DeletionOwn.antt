@@ -17,9 +17,9 @@ use Rattle.dom_model.specs.Tree.{Trees, Node, has_data, kind_of, nodes, names_of
 use Rattle.dom_ranges.proofs.OwnOrder.{has_owner}
 use Rattle.dom_tree.proofs.Owned.{own_trees, read_own, stays_own}
 use Rattle.dom_tree.specs.Owners.{AreOwned, trees_of_owner}
-use Rattle.dom_traversal.proofs.Children.{Has-names}
-use Rattle.dom_traversal.proofs.Lists.{In, In-right, is_in-from, filter-same, last_split}
-use Rattle.dom_traversal.proofs.Shapes.{Has-above, above-parent, above-present}
+use Rattle.dom_laws.proofs.Children.{Has-names}
+use Rattle.dom_laws.proofs.Lists.{In, In-right, is_in-from, filter-same, last_split}
+use Rattle.dom_laws.proofs.Shapes.{Has-above, above-parent, above-present}
 use Rattle.dom_range_ops.specs.Texts.{nodes_around}
 use Rattle.dom_range_ops.proofs.OneTree.{HasOneTree, contained-root, filter-tree, root-above, root-path, root-root}
 use Rattle.dom_range_ops.proofs.OwnTexts.{contained-own, around-own, around-owner, around-root, ends-own, among-filtered}

@@ -11,12 +11,12 @@ use Rattle.dom_model.specs.Ranges.{Range}
 use Rattle.dom_model.specs.Tree.{Trees, none, tree, nodes, names_of, root_of, inclusive_ancestors, inclusive_descendants, is_inclusive_ancestor}
 use Rattle.dom_model.proofs.OwnerLaws.{name_eq-true}
 use Rattle.dom_ranges.proofs.Before.{before-up, before-down, before-beside}
-use Rattle.dom_traversal.proofs.Children.{names-tree, Has-names}
-use Rattle.dom_traversal.proofs.Lists.{In, In-from, In-left, In-right, In-parts, is_in-from, is_in-not, filter-none, filter-same, filter-yes}
-use Rattle.dom_traversal.proofs.Lists.{filter-no}
-use Rattle.dom_traversal.proofs.Order.{IsWithin, stands_in, splits, inside-test}
-use Rattle.dom_traversal.proofs.Shapes.{Once, Has, Has-above, above-here, above-below, above-beside}
-use Rattle.dom_traversal.specs.Within.{ahead_of, beyond}
+use Rattle.dom_laws.proofs.Children.{names-tree, Has-names}
+use Rattle.dom_laws.proofs.Lists.{In, In-from, In-left, In-right, In-parts, is_in-from, is_in-not, filter-none, filter-same, filter-yes, filter-no}
+use Rattle.dom_laws.proofs.Order.{IsWithin, stands_in, splits, inside-test}
+use Rattle.dom_laws.proofs.Counts.{Once}
+use Rattle.dom_laws.proofs.Shapes.{once_apart, Has, Has-above, above-here, above-below, above-beside}
+use Rattle.dom_laws.specs.Within.{ahead_of, beyond}
 use Rattle.dom_range_ops.specs.Points.{nodes_after}
 use Rattle.dom_range_ops.proofs.OneTree.{filter-tree, root-above, root-path, root-root}
 use Rattle.dom_range_ops.proofs.Parting.{behind-apart, ahead-apart}
@@ -43,8 +43,8 @@ path-order (tree n c r) e once (inl here) =
     ∙ (ap (λ xs. n.name ∷ xs)
     (filter-none test rest
     (λ y i. off y (λ same. elim (In-parts y (names_of (nodes c)) (names_of (nodes r)) i) [
-      | inl j ↦ once.0 (subst (Has c) (sym same) (Has-names c y j))
-      | inr j ↦ once.1 (subst (Has r) (sym same) (Has-names r y j))
+      | inl j ↦ (once_apart n c r once).0 (subst (Has c) (sym same) (Has-names c y j))
+      | inr j ↦ (once_apart n c r once).1 (subst (Has r) (sym same) (Has-names r y j))
     ])))
     ∙ (ap (λ z. z ∷ []) here ∙ sym (ap reverse path))))
 path-order (tree n c r) e once (inr (inl h)) =
@@ -61,17 +61,17 @@ path-order (tree n c r) e once (inr (inl h)) =
           is_in-not y (inclusive_ancestors (tree n c r) e)
           (λ j. elim (In-parts y (inclusive_ancestors c e) (n.name ∷ []) (subst (In y) path j)) [
             | inl k ↦ true≢false (sym (is_in-from y (inclusive_ancestors c e) k) ∙ f)
-            | inr k ↦ elim k [ inl same ↦ once.0 (subst (Has c) same (Has-names c y i)) | inr g ↦ g ]
+            | inr k ↦ elim k [ inl same ↦ (once_apart n c r once).0 (subst (Has c) same (Has-names c y i)) | inr g ↦ g ]
           ])
           ∙ sym f
     ])
-    ∙ path-order c e once.3 h in
+    ∙ path-order c e (once_apart n c r once).3 h in
     let none_beside : filter test (names_of (nodes r)) ≡ [] =
     filter-none test (names_of (nodes r))
     (λ y i. is_in-not y (inclusive_ancestors (tree n c r) e)
     (λ j. elim (In-parts y (inclusive_ancestors c e) (n.name ∷ []) (subst (In y) path j)) [
-      | inl k ↦ once.2 y (Has-above c y e once.3 h k) (Has-names r y i)
-      | inr k ↦ elim k [ inl same ↦ once.1 (subst (Has r) same (Has-names r y i)) | inr g ↦ g ]
+      | inl k ↦ (once_apart n c r once).2 y (Has-above c y e (once_apart n c r once).3 h k) (Has-names r y i)
+      | inr k ↦ elim k [ inl same ↦ (once_apart n c r once).1 (subst (Has r) same (Has-names r y i)) | inr g ↦ g ]
     ])) in
     ap (filter test) (names-tree n c r)
     ∙ (filter-yes test n.name (names_of (nodes c) ++ names_of (nodes r)) yes
@@ -84,13 +84,14 @@ path-order (tree n c r) e once (inr (inr h)) =
     let path = above-beside n c r e once h in
     let test = λ (y : NodeName). is_inclusive_ancestor (tree n c r) y e in
     let off : (y : NodeName) → (Has r y → ⊥) → test y ≡ false =
-    λ y away. is_in-not y (inclusive_ancestors (tree n c r) e) (λ i. away (Has-above r y e once.4 h (subst (In y) path i))) in
+    λ y away. is_in-not y (inclusive_ancestors (tree n c r) e) (λ i. away (Has-above r y e (once_apart n c r once).4 h (subst (In y) path i))) in
     ap (filter test) (names-tree n c r)
-    ∙ (filter-no test n.name (names_of (nodes c) ++ names_of (nodes r)) (off n.name once.1)
+    ∙ (filter-no test n.name (names_of (nodes c) ++ names_of (nodes r)) (off n.name (once_apart n c r once).1)
     ∙ (filter-append test (names_of (nodes c)) (names_of (nodes r))
-    ∙ (ap (λ xs. xs ++ filter test (names_of (nodes r))) (filter-none test (names_of (nodes c)) (λ y i. off y (λ k. once.2 y (Has-names c y i) k)))
+    ∙ (ap (λ xs. xs ++ filter test (names_of (nodes r)))
+    (filter-none test (names_of (nodes c)) (λ y i. off y (λ k. (once_apart n c r once).2 y (Has-names c y i) k)))
     ∙ (filter-same test (λ y. is_inclusive_ancestor r y e) (names_of (nodes r)) (λ y i. ap (is_in name_eq y) path) ∙
-    (path-order r e once.4 h ∙ sym (ap reverse path))))))
+    (path-order r e (once_apart n c r once).4 h ∙ sym (ap reverse path))))))
 
 -- ---- lists
 

@@ -11,11 +11,12 @@ use Rattle.dom_model.specs.Names.{name_eq, is_in, first_of, last_of, items_befor
 use Rattle.dom_model.specs.Ranges.{Range, at}
 use Rattle.dom_model.specs.Tree.{Trees, node_in, kind_of, has_data, children_of, parent_of, next_sibling, index_of, length_of, root_of}
 use Rattle.dom_model.specs.Tree.{inclusive_ancestors, is_inclusive_ancestor, inclusive_descendants}
-use Rattle.dom_traversal.proofs.Chains.{above-split, above-along, first-passes}
-use Rattle.dom_traversal.proofs.Children.{In-names, child-of_parent, parent-of_child, children-single}
-use Rattle.dom_traversal.proofs.Lists.{In, In-right, In-from, is_in-from, Single, Single-apart, filter-none, filter-yes, first_split, no_first}
-use Rattle.dom_traversal.proofs.Lists.{split_at, before-split, last_of-end}
-use Rattle.dom_traversal.proofs.Shapes.{Once, Has, Has-above, above-parent, above-root, above-present, below-from_above}
+use Rattle.dom_laws.proofs.Chains.{above-split, above-along, first-passes}
+use Rattle.dom_laws.proofs.Children.{In-names, child-of_parent, parent-of_child, children-single}
+use Rattle.dom_laws.proofs.Lists.{In, In-right, In-from, is_in-from, Single, Single-apart, filter-none, filter-yes, first_split, no_first, split_at}
+use Rattle.dom_laws.proofs.Lists.{before-split, last_of-end}
+use Rattle.dom_laws.proofs.Counts.{Once}
+use Rattle.dom_laws.proofs.Shapes.{Has, Has-above, above-parent, above-root, above-present, below-from_above}
 use Rattle.dom_range_ops.specs.Texts.{nodes_around}
 use Rattle.dom_range_ops.proofs.OneTree.{root-above, root-path}
 

@@ -14,12 +14,12 @@ use Rattle.dom_model.specs.Ranges.{Range, at, is_contained}
 use Rattle.dom_model.specs.Place.{boundary_place, is_before}
 use Rattle.dom_model.specs.RangeOps.{outermost_contained}
 use Rattle.dom_model.specs.Tree.{Trees, children_of, parent_of, next_sibling, root_of, inclusive_ancestors, inclusive_descendants, is_inclusive_ancestor}
-use Rattle.dom_traversal.proofs.Children.{parent-of_child}
-use Rattle.dom_traversal.proofs.Lists.{In, In-right, filter-none, filter-yes, filter-no, first_split, same_or_not}
-use Rattle.dom_traversal.proofs.Order.{IsWithin, stands_in, joined, below, here, behind_is}
-use Rattle.dom_traversal.proofs.Shapes.{above-parent, above-present, below-from_above, Has-above}
-use Rattle.dom_traversal.proofs.Steps.{within-parent, within-root, top_places, next_places, no_next}
-use Rattle.dom_traversal.specs.Within.{behind, beyond}
+use Rattle.dom_laws.proofs.Children.{parent-of_child}
+use Rattle.dom_laws.proofs.Lists.{In, In-right, filter-none, filter-yes, filter-no, first_split, same_or_not}
+use Rattle.dom_laws.proofs.Order.{IsWithin, stands_in, joined, below, here, behind_is}
+use Rattle.dom_laws.proofs.Shapes.{above-parent, above-present, below-from_above, Has-above}
+use Rattle.dom_laws.proofs.Steps.{within-parent, within-root, top_places, next_places, no_next}
+use Rattle.dom_laws.specs.Within.{behind, beyond}
 use Rattle.dom_model.proofs.ListOrder.{before-less, before-turned}
 use Rattle.dom_range_ops.specs.Points.{nodes_after}
 use Rattle.dom_range_ops.specs.Texts.{nodes_around}

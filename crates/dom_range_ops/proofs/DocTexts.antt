@@ -23,10 +23,10 @@ use Rattle.dom_tree.proofs.Owned.{own_trees, read_own, stays_own}
 use Rattle.dom_tree.specs.Forest.{NamedTrees}
 use Rattle.dom_tree.specs.Owners.{AreOwned, trees_of_owner}
 use Rattle.dom_ranges.specs.declared.table.Points.{Points}
-use Rattle.dom_traversal.proofs.Children.{Has-names}
-use Rattle.dom_traversal.proofs.Counts.{StandOnce, StandAlone, Once-forest}
-use Rattle.dom_traversal.proofs.Lists.{In-from}
-use Rattle.dom_traversal.proofs.Shapes.{Has}
+use Rattle.dom_laws.proofs.Children.{Has-names}
+use Rattle.dom_tree.proofs.Standing.{StandOnce, StandAlone, Once-forest}
+use Rattle.dom_laws.proofs.Lists.{In-from}
+use Rattle.dom_laws.proofs.Shapes.{Has}
 use Rattle.dom_range_ops.specs.Texts.{range_at_points, AreEnds, AreBounded, text_among, nodes_around}
 use Rattle.dom_range_ops.proofs.OneTree.{HasOneTree}
 use Rattle.dom_range_ops.proofs.OwnTexts.{text-is}

@@ -15,9 +15,9 @@ use Rattle.dom_tree.specs.Forest.{name_at}
 use Rattle.dom_mutation.specs.Doc.{DocState, made, planned, name_in, owner_in, trees_in, IsChild}
 use Rattle.dom_mutation.specs.Hosting.{IsAlone}
 use Rattle.dom_parts.proofs.Made.{planned_then}
-use Rattle.dom_tree_laws.proofs.Relatives.{parent_path}
+use Rattle.dom_laws.proofs.Relatives.{parent_path}
 use Rattle.dom_parts.proofs.OwnPlans.{plans_removing, plans_inserting}
-use Rattle.dom_tree_laws.proofs.Paths.{Lacks, lacks_from, lacks_to}
+use Rattle.dom_laws.proofs.Paths.{Lacks, lacks_from, lacks_to}
 use Rattle.dom_algorithms.proofs.Placed.{Counted, once_in, removal_keeps}
 use Rattle.dom_algorithms.proofs.Turns.{Stays}
 use Rattle.dom_range_ops.specs.Insertions.{offset_behind}

@@ -11,10 +11,11 @@ use Rattle.dom_model.specs.Tree.{Trees, root_of}
 use Rattle.dom_tree.specs.Forest.{NamedTrees, name_at}
 use Rattle.dom_tree.specs.Apart.{TellApart}
 use Rattle.dom_ranges.specs.declared.table.Points.{Points}
-use Rattle.dom_traversal.proofs.Counts.{StandOnce, StandAlone, Once-forest, Has-forest, above-within}
-use Rattle.dom_traversal.proofs.Lists.{In, is_in-from, first_split}
-use Rattle.dom_traversal.proofs.Order.{IsWithin}
-use Rattle.dom_traversal.specs.Within.{from_node, StandsIn}
+use Rattle.dom_tree.proofs.Standing.{StandOnce, StandAlone, Once-forest, Has-forest}
+use Rattle.dom_laws.proofs.Order.{above-within, IsWithin}
+use Rattle.dom_laws.proofs.Lists.{In, is_in-from, first_split}
+use Rattle.dom_laws.specs.Within.{from_node}
+use Rattle.dom_tree.specs.Within.{StandsIn}
 use Rattle.dom_range_ops.specs.Points.{nodes_after}
 use Rattle.dom_range_ops.specs.Texts.{range_at_points, AreBounded, contained_text, nodes_around}
 use Rattle.dom_range_ops.proofs.AfterPoint.{after-from}

@@ -14,9 +14,10 @@ use Rattle.dom_model.specs.RangeOps.{range_text_of, text_part}
 use Rattle.dom_model.specs.Tree.{Trees, none, tree, Node, kind_of, is_text, nodes, names_of, inclusive_ancestors, inclusive_descendants, root_of, length_of}
 use Rattle.dom_ranges.proofs.Before.{before-beside}
 use Rattle.dom_ranges.proofs.Places.{place-at_root, place-same, known, path-tree}
-use Rattle.dom_traversal.proofs.Children.{names-tree, Has-names}
-use Rattle.dom_traversal.proofs.Lists.{In, In-parts, last_of-end, filter-none}
-use Rattle.dom_traversal.proofs.Shapes.{Has, Once, subtree-here, subtree-beside, above-here, above-below, above-beside, above-present, Has-above}
+use Rattle.dom_laws.proofs.Children.{names-tree, Has-names}
+use Rattle.dom_laws.proofs.Lists.{In, In-parts, last_of-end, filter-none}
+use Rattle.dom_laws.proofs.Shapes.{once_apart, Has, subtree-here, subtree-beside, above-here, above-below, above-beside, above-present, Has-above}
+use Rattle.dom_laws.proofs.Counts.{Once}
 use Rattle.dom_range_ops.specs.Texts.{text_among, nodes_around}
 
 -- ---- roots
@@ -52,12 +53,13 @@ pub root-path : (ts : Trees) (a x : NodeName) → Once ts → Has ts x → In a 
 root-path none a x once h i = absurd h
 root-path (tree n c r) a x once (inl e) i = elim (rw (above-here n c r x e) at i) [ inl same ↦ ap (root_of (tree n c r)) same | inr j ↦ absurd j ]
 root-path (tree n c r) a x once (inr (inl h)) i = elim (In-parts a (inclusive_ancestors c x) (n.name ∷ []) (rw (above-below n c r x once h) at i)) [
-  | inl j ↦ root-inside n c r once a (Has-above c a x once.3 h j) ∙ sym (root-inside n c r once x h)
+  | inl j ↦ root-inside n c r once a (Has-above c a x (once_apart n c r once).3 h j) ∙ sym (root-inside n c r once x h)
   | inr j ↦ elim j [ inl e ↦ root-first n c r once a (sym e) ∙ sym (root-inside n c r once x h) | inr k ↦ absurd k ]
 ]
 root-path (tree n c r) a x once (inr (inr h)) i =
     let j : In a (inclusive_ancestors r x) = subst (In a) (above-beside n c r x once h) i in
-    root-beside n c r once a (Has-above r a x once.4 h j) ∙ (root-path r a x once.4 h j ∙ sym (root-beside n c r once x h))
+    let rest = (once_apart n c r once).4 in
+    root-beside n c r once a (Has-above r a x rest h j) ∙ (root-path r a x rest h j ∙ sym (root-beside n c r once x h))
 
 -- a root is its own
 pub root-root : (ts : Trees) (x : NodeName) → Once ts → Has ts x → root_of ts (root_of ts x) ≡ root_of ts x
@@ -80,21 +82,21 @@ filter-tree (tree n c r) {top} {p} once (inl here) e only =
   where
     off : (y : NodeName) → Has r y → p y ≡ false
     off y h = elim (cases_Bool (p y)) [
-      | inl t ↦ absurd (once.1 (subst (Has r) (only y (inr (inr h)) t ∙ sym here)
-          (subst (Has r) (sym (root-beside n c r once y h)) (Has-above r (root_of r y) y once.4 h (root-above r y h)))))
+      | inl t ↦ absurd ((once_apart n c r once).1 (subst (Has r) (only y (inr (inr h)) t ∙ sym here)
+          (subst (Has r) (sym (root-beside n c r once y h)) (Has-above r (root_of r y) y (once_apart n c r once).4 h (root-above r y h)))))
       | inr f ↦ f
     ]
-filter-tree (tree n c r) {top} once (inr (inl h)) e only = absurd (once.0 (subst (Has c) (sym e ∙ root-inside n c r once top h) h))
+filter-tree (tree n c r) {top} once (inr (inl h)) e only = absurd ((once_apart n c r once).0 (subst (Has c) (sym e ∙ root-inside n c r once top h) h))
 filter-tree (tree n c r) {top} {p} once (inr (inr h)) e only =
     ap (filter p) (names-tree n c r)
     ∙ (filter-append p (n.name ∷ names_of (nodes c)) (names_of (nodes r))
     ∙ (ap (λ xs. xs ++ filter p (names_of (nodes r))) (filter-none p (n.name ∷ names_of (nodes c)) off)
-    ∙ (filter-tree r once.4 h (sym (root-beside n c r once top h) ∙ e) (λ y g t. sym (root-beside n c r once y g) ∙ only y (inr (inr g)) t)
+    ∙ (filter-tree r (once_apart n c r once).4 h (sym (root-beside n c r once top h) ∙ e) (λ y g t. sym (root-beside n c r once y g) ∙ only y (inr (inr g)) t)
     ∙ ap (λ (us : Trees). filter p (names_of (nodes us))) (sym (subtree-beside n c r top once h)))))
   where
     other : (y : NodeName) → Has (tree n c r) y → root_of (tree n c r) y ≡ n.name → p y ≡ false
     other y g root = elim (cases_Bool (p y)) [
-      | inl t ↦ absurd (once.1 (subst (Has r) (sym (only y g t) ∙ root) h))
+      | inl t ↦ absurd ((once_apart n c r once).1 (subst (Has r) (sym (only y g t) ∙ root) h))
       | inr f ↦ f
     ]
 

@@ -11,12 +11,13 @@ use Rattle.dom_model.specs.Ranges.{Range, at, is_contained}
 use Rattle.dom_model.specs.Extract.{cut_start, cut_end}
 use Rattle.dom_model.specs.RangeOps.{range_text_of, text_part}
 use Rattle.dom_model.specs.Tree.{Trees, Node, node_in, kind_of, is_text, inclusive_descendants, root_of, length_of}
-use Rattle.dom_ranges.proofs.OwnOrder.{is_before-own, same_root-own, has_own, once_trees}
+use Rattle.dom_tree.proofs.Standing.{once_own}
+use Rattle.dom_ranges.proofs.OwnOrder.{is_before-own, same_root-own, has_own}
 use Rattle.dom_tree.proofs.Owned.{read_own, stays_own}
 use Rattle.dom_tree.specs.Owners.{AreOwned, trees_of_owner}
-use Rattle.dom_traversal.proofs.Children.{Has-names}
-use Rattle.dom_traversal.proofs.Lists.{In, is_in-from, filter-same, name_eq-from}
-use Rattle.dom_traversal.proofs.Shapes.{Has, Has-subtree, Has-above, above-from_below}
+use Rattle.dom_laws.proofs.Children.{Has-names}
+use Rattle.dom_laws.proofs.Lists.{In, is_in-from, filter-same, name_eq-from}
+use Rattle.dom_laws.proofs.Shapes.{Has, Has-subtree, Has-above, above-from_below}
 use Rattle.dom_range_ops.specs.Texts.{text_among, contained_text, nodes_around}
 use Rattle.dom_range_ops.proofs.OneTree.{HasOneTree, text-tree, root-above, root-path, root-root}
 
@@ -115,7 +116,7 @@ module _ (ts : Trees) (owned : AreOwned ts) (o : Owner) (r : Range NodeName) (en
   -- both ends are nodes of one tree there too
   pub ends-own : HasOneTree own r
   ends-own = record {
-    once = once_trees o ts ends.once;
+    once = once_own o ts ends.once;
     start = has_own o ts owned.owners r.start.node start ends.start;
     end = has_own o ts owned.owners r.end.node end ends.end;
     one_root = sym (same_root-own ts owned ends.once o r.start.node r.end.node (record { owner = start; there = ends.start })

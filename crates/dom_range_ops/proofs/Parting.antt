@@ -9,12 +9,13 @@ use Rattle.dom_model.specs.Names.{name_eq, items_before, items_after}
 use Rattle.dom_model.specs.Place.{place_of}
 use Rattle.dom_model.specs.Tree.{Trees, subtree, inclusive_ancestors, inclusive_descendants, parent_of, children_of, index_of}
 use Rattle.dom_ranges.proofs.Places.{path-child}
-use Rattle.dom_traversal.proofs.Children.{parent-of_child, child-of_parent, Has-names, children-single}
-use Rattle.dom_traversal.proofs.Lists.{In, In-right, In-parts, Single, Single-apart, same_or_not, split_at, before-split}
-use Rattle.dom_traversal.proofs.Order.{IsWithin, stands_in, joined}
-use Rattle.dom_traversal.proofs.Shapes.{Has, Once, above-parent, above-present}
-use Rattle.dom_traversal.proofs.Steps.{child_places, top_places, within-parent, within-root}
-use Rattle.dom_traversal.specs.Within.{ahead_of, beyond}
+use Rattle.dom_laws.proofs.Children.{parent-of_child, child-of_parent, Has-names, children-single}
+use Rattle.dom_laws.proofs.Lists.{In, In-right, In-parts, Single, Single-apart, same_or_not, split_at, before-split}
+use Rattle.dom_laws.proofs.Order.{IsWithin, stands_in, joined}
+use Rattle.dom_laws.proofs.Shapes.{Has, above-parent, above-present}
+use Rattle.dom_laws.proofs.Counts.{Once}
+use Rattle.dom_laws.proofs.Steps.{child_places, top_places, within-parent, within-root}
+use Rattle.dom_laws.specs.Within.{ahead_of, beyond}
 
 -- the places of x and y part, and that of x is first
 pub record Parted (ts : Trees) (x y : NodeName) : Type 0 where

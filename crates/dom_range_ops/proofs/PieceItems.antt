@@ -8,9 +8,11 @@ use Rattle.dom_base.specs.declared.NodeName.{NodeName}
 use Rattle.dom_model.specs.Extract.{Pieces, nothing, whole, cut, clone, pieces_along, all_whole, ◌followed_by◌}
 use Rattle.dom_model.specs.Tree.{Trees, none, tree, Node, nodes, names_of, roots, subtree, trees_below, children_of, is_inclusive_ancestor, kind_of, has_data}
 use Rattle.dom_slots.proofs.NamesOfNodes.{InNodes, node_in-self, in_left, in_right}
-use Rattle.dom_traversal.proofs.Lists.{In}
-use Rattle.dom_traversal.proofs.Shapes.{Has, Once, subtree-here, subtree-below, subtree-beside, subtree-present, subtree-within, Once-subtree}
-use Rattle.dom_traversal.proofs.Children.{Has-root}
+use Rattle.dom_laws.proofs.Lists.{In}
+use Rattle.dom_laws.proofs.Shapes.{once_apart, Has, subtree-here, subtree-below, subtree-beside, subtree-present, subtree-within}
+use Rattle.dom_laws.proofs.Relatives.{once_below}
+use Rattle.dom_laws.proofs.Counts.{Once, once_subtree}
+use Rattle.dom_laws.proofs.Children.{Has-root}
 use Rattle.dom_range_ops.specs.Pieces.{Item, whole_item, cut_item, clone_item, end_item, items_of, wholes_if}
 
 -- the items of some pieces and then others
@@ -44,23 +46,20 @@ node-there : (ts : Trees) (x : NodeName) {n : Node} {c : Trees} → Once ts → 
 node-there none x once h is = absurd h
 node-there (tree m d s) x {n} {c} once (inl e) is = inl (top-is n m c d (sym is ∙ subtree-here m d s x e))
 node-there (tree m d s) x {n} once (inr (inl h)) is =
-    inr (in_left n (nodes d) (nodes s) (node-there d x once.3 h (sym (subtree-below m d s x once h) ∙ is)))
+    inr (in_left n (nodes d) (nodes s) (node-there d x (once_apart m d s once).3 h (sym (subtree-below m d s x once h) ∙ is)))
 node-there (tree m d s) x {n} once (inr (inr h)) is =
-    inr (in_right n (nodes d) (nodes s) (node-there s x once.4 h (sym (subtree-beside m d s x once h) ∙ is)))
+    inr (in_right n (nodes d) (nodes s) (node-there s x (once_apart m d s once).4 h (sym (subtree-beside m d s x once h) ∙ is)))
 
 module _ (ts : Trees) (p : NodeName) (once : Once ts) (h : Has ts p) where
   -- what is below a node stands once
   pub once-below : Once (trees_below (subtree ts p))
-  once-below =
-      let w = subtree-present ts p h in
-      let all : Once (tree w.0 w.1 none) = subst Once w.2 (Once-subtree ts p once h) in
-      subst (λ (us : Trees). Once (trees_below us)) (sym w.2) all.3
+  once-below = once_below (subtree ts p) (once_subtree ts p once)
 
   -- there the tree of a child is the child's tree
   pub child-tree : (y : NodeName) → In y (children_of ts p) → subtree (trees_below (subtree ts p)) y ≡ subtree ts y
   child-tree y i =
       let w = subtree-present ts p h in
-      let all : Once (tree w.0 w.1 none) = subst Once w.2 (Once-subtree ts p once h) in
+      let all : Once (tree w.0 w.1 none) = subst Once w.2 (once_subtree ts p once) in
       let there : Has w.1 y = Has-root w.1 y (subst (λ (us : Trees). In y (names_of (roots (trees_below us)))) w.2 i) in
       ap (λ (us : Trees). subtree (trees_below us) y) w.2
       ∙ (sym (subtree-below w.0 w.1 none y all there) ∙
@@ -114,7 +113,7 @@ module _ (ts : Trees) (x : NodeName) (taken : NodeName → Bool) (from to : ℕ)
       flat-same f g (names_of (roots rest)) (λ y i. ap along (subtree-beside n c rest y once (Has-root rest y i))) in
       tree-items n c rest
       ∙ (ap (λ xs. xs ++ along rest) (sym first) ∙
-      (ap (λ xs. f n.name ++ xs) (roots-items rest once.4 ∙ sym others) ∙ sym (flat_map-cons f n.name (names_of (roots rest)))))
+      (ap (λ xs. f n.name ++ xs) (roots-items rest (once_apart n c rest once).4 ∙ sym others) ∙ sym (flat_map-cons f n.name (names_of (roots rest)))))
 
   module _ (once : Once ts) (y : NodeName) (h : Has ts y) where
     -- the items of all that is below a node are those of each child, one after the other

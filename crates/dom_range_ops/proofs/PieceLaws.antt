@@ -8,11 +8,11 @@ use Rattle.dom_model.specs.Place.{is_before}
 use Rattle.dom_model.specs.Ranges.{Range, is_contained}
 use Rattle.dom_model.specs.Tree.{Trees, children_of, inclusive_ancestors, is_inclusive_ancestor, trees_below, subtree}
 use Rattle.dom_ranges.specs.declared.table.Points.{Points}
-use Rattle.dom_traversal.proofs.Chains.{above-along}
-use Rattle.dom_traversal.proofs.Counts.{StandOnce, StandAlone, Once-forest, Has-forest}
-use Rattle.dom_traversal.proofs.Lists.{In, In-left, In-right, In-not, Single, Single-right, is_in-from, is_in-not}
-use Rattle.dom_traversal.proofs.Shapes.{Has, Has-above, above-parent}
-use Rattle.dom_traversal.proofs.Children.{children-single}
+use Rattle.dom_laws.proofs.Chains.{above-along}
+use Rattle.dom_tree.proofs.Standing.{StandOnce, StandAlone, Once-forest, Has-forest}
+use Rattle.dom_laws.proofs.Lists.{In, In-left, In-right, In-not, Single, Single-right, is_in-from, is_in-not}
+use Rattle.dom_laws.proofs.Shapes.{Has, Has-above, above-parent}
+use Rattle.dom_laws.proofs.Children.{children-single}
 use Rattle.dom_tree.specs.Forest.{NamedTrees, name_at}
 use Rattle.dom_range_ops.specs.Pieces.{items_of, whole_item, AreSpanned, ArePaths, side_items, from_sibling, up_to, first_behind, first_from}
 use Rattle.dom_range_ops.specs.Texts.{range_at_points, nodes_around}

@@ -9,10 +9,11 @@ use Rattle.dom_model.specs.Ranges.{at}
 use Rattle.dom_model.specs.Tree.{Trees, node_in, kind_of, has_data, children_of, inclusive_ancestors, inclusive_descendants, is_inclusive_ancestor}
 use Rattle.dom_model.specs.Tree.{length_of, subtree}
 use Rattle.dom_ranges.proofs.Before.{before-same, before-up, before-down, before-beside}
-use Rattle.dom_traversal.proofs.Children.{In-names}
-use Rattle.dom_traversal.proofs.Lists.{In, is_in-not, split_at}
-use Rattle.dom_traversal.proofs.Order.{IsWithin, here}
-use Rattle.dom_traversal.proofs.Shapes.{Has, Once, above-present, below-from_above}
+use Rattle.dom_laws.proofs.Children.{In-names}
+use Rattle.dom_laws.proofs.Lists.{In, is_in-not, split_at}
+use Rattle.dom_laws.proofs.Order.{IsWithin, here}
+use Rattle.dom_laws.proofs.Shapes.{Has, above-present, below-from_above}
+use Rattle.dom_laws.proofs.Counts.{Once}
 use Rattle.dom_range_ops.proofs.Parting.{joined-in, under-kid}
 
 module _ (ts : Trees) (once : Once ts) where

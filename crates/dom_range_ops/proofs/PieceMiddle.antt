@@ -11,10 +11,11 @@ use Rattle.dom_model.specs.Place.{boundary_place, is_before}
 use Rattle.dom_model.specs.Ranges.{Range, at, is_contained}
 use Rattle.dom_model.specs.Tree.{Trees, kind_of, has_data, children_of, inclusive_ancestors, inclusive_descendants, length_of, root_of, subtree}
 use Rattle.dom_ranges.proofs.Before.{before-same}
-use Rattle.dom_traversal.proofs.Chains.{above-along}
-use Rattle.dom_traversal.proofs.Children.{In-names, Has-names, parent-of_child}
-use Rattle.dom_traversal.proofs.Lists.{In, In-left, In-right, In-parts, filter-none, filter-all}
-use Rattle.dom_traversal.proofs.Shapes.{Has, Once, Has-subtree, above-parent, above-present, above-from_below, below-from_above}
+use Rattle.dom_laws.proofs.Chains.{above-along}
+use Rattle.dom_laws.proofs.Children.{In-names, Has-names, parent-of_child}
+use Rattle.dom_laws.proofs.Lists.{In, In-left, In-right, In-parts, filter-none, filter-all}
+use Rattle.dom_laws.proofs.Shapes.{Has, Has-subtree, above-parent, above-present, above-from_below, below-from_above}
+use Rattle.dom_laws.proofs.Counts.{Once}
 use Rattle.dom_model.proofs.ListOrder.{before-less, before-turned}
 use Rattle.dom_range_ops.specs.Texts.{nodes_around}
 use Rattle.dom_range_ops.proofs.OneTree.{root-above, root-path}

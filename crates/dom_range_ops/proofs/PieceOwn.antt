@@ -17,10 +17,10 @@ use Rattle.dom_tree.proofs.Owned.{read_own, stays_own}
 use Rattle.dom_ranges.specs.declared.table.Points.{Points}
 use Rattle.dom_tree.specs.Forest.{NamedTrees}
 use Rattle.dom_tree.specs.Owners.{AreOwned, trees_of_owner}
-use Rattle.dom_traversal.proofs.Children.{In-names, Has-root}
-use Rattle.dom_traversal.proofs.Counts.{StandOnce, StandAlone}
-use Rattle.dom_traversal.proofs.Lists.{In, filter-same, is_in-from}
-use Rattle.dom_traversal.proofs.Shapes.{Has, Has-subtree, Has-above, above-present, above-from_below, subtree-present}
+use Rattle.dom_laws.proofs.Children.{In-names, Has-root}
+use Rattle.dom_tree.proofs.Standing.{StandOnce, StandAlone}
+use Rattle.dom_laws.proofs.Lists.{In, filter-same, is_in-from}
+use Rattle.dom_laws.proofs.Shapes.{Has, Has-subtree, Has-above, above-present, above-from_below, subtree-present}
 use Rattle.dom_range_ops.specs.Deletions.{AreLeaves}
 use Rattle.dom_range_ops.specs.Pieces.{AreSpanned}
 use Rattle.dom_range_ops.specs.Texts.{range_at_points}

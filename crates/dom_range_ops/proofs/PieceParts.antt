@@ -11,9 +11,10 @@ use Rattle.dom_model.specs.Names.{name_eq, first_of, last_of, items_before, item
 use Rattle.dom_model.specs.Place.{Boundary}
 use Rattle.dom_model.specs.Tree.{Trees, none, tree, kind_of, has_data, names_of, roots, children_of, inclusive_ancestors, is_inclusive_ancestor}
 use Rattle.dom_model.specs.Tree.{inclusive_descendants, siblings, next_sibling, subtree, trees_below}
-use Rattle.dom_traversal.proofs.Children.{In-names, Has-names, child-of_parent, parent-of_child, Has-root}
-use Rattle.dom_traversal.proofs.Lists.{In, In-left, In-right, In-parts, is_in-from, no_last, same_or_not, split_at}
-use Rattle.dom_traversal.proofs.Shapes.{Has, Once, subtree-here, subtree-beside, above-parent, above-present, above-from_below, below-from_above}
+use Rattle.dom_laws.proofs.Children.{In-names, Has-names, child-of_parent, parent-of_child, Has-root}
+use Rattle.dom_laws.proofs.Lists.{In, In-left, In-right, In-parts, is_in-from, no_last, same_or_not, split_at}
+use Rattle.dom_laws.proofs.Shapes.{once_apart, Has, subtree-here, subtree-beside, above-parent, above-present, above-from_below, below-from_above}
+use Rattle.dom_laws.proofs.Counts.{Once}
 use Rattle.dom_range_ops.specs.Pieces.{Item, items_of, first_behind, first_from, side_items}
 use Rattle.dom_range_ops.proofs.PieceItems.{once-below, child-tree}
 use Rattle.dom_range_ops.proofs.PieceLevels.{IsBehind, IsAhead, Level, behind-off, ahead-off, in-front, in-back, self-in}
@@ -50,7 +51,7 @@ module _ (ts : Trees) (x other : NodeName) where
         cond-false (holds n.name) (tree n c none) (tree_holding ts x other rest) t
         ∙ elim i [
           | inl same ↦ absurd (true≢false (sym e ∙ (ap holds same ∙ t)))
-          | inr j ↦ one-held rest once.4 y j e (λ z k. only z (inr k)) ∙ sym (subtree-beside n c rest y once (Has-root rest y j))
+          | inr j ↦ one-held rest (once_apart n c rest once).4 y j e (λ z k. only z (inr k)) ∙ sym (subtree-beside n c rest y once (Has-root rest y j))
         ]
   ]
 

@@ -11,9 +11,9 @@ use Rattle.dom_model.specs.Names.{last_of}
 use Rattle.dom_model.specs.Tree.{inclusive_ancestors, root_of}
 use Rattle.dom_model.proofs.OwnerLaws.{name_eq-true}
 use Rattle.dom_ranges.specs.declared.table.Points.{Points}
-use Rattle.dom_traversal.proofs.Counts.{StandOnce, StandAlone, Has-forest}
-use Rattle.dom_traversal.proofs.Lists.{last_of-end}
-use Rattle.dom_traversal.proofs.Shapes.{above-present}
+use Rattle.dom_tree.proofs.Standing.{StandOnce, StandAlone, Has-forest}
+use Rattle.dom_laws.proofs.Lists.{last_of-end}
+use Rattle.dom_laws.proofs.Shapes.{above-present}
 use Rattle.dom_tree.specs.Forest.{NamedTrees, name_at}
 use Rattle.dom_tree.specs.Apart.{TellApart}
 use Rattle.dom_range_ops.specs.Pieces.{EndAlike, ArePaths}

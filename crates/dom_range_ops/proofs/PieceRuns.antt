@@ -12,10 +12,11 @@ use Rattle.dom_range_ops.specs.Pieces.{Item, whole_item, item_in, IsPieceIn, Are
 use Rattle.dom_range_ops.specs.declared.pieces.Piece.{Piece}
 use Rattle.dom_range_ops.specs.declared.pieces.Piece.TheVariants.{Whole}
 use Rattle.dom_slots.proofs.Siblings.{from_item, from-next}
-use Rattle.dom_traversal.proofs.Children.{parent-of_child, child-of_parent, children-single}
-use Rattle.dom_traversal.proofs.Lists.{In, In-right, Single, Single-apart, first_split, after-in, after-split, before-split, name_eq-from}
-use Rattle.dom_traversal.proofs.Shapes.{Has, Once}
-use Rattle.dom_traversal.proofs.Counts.{StandOnce, StandAlone, Once-forest, Has-forest}
+use Rattle.dom_laws.proofs.Children.{parent-of_child, child-of_parent, children-single}
+use Rattle.dom_laws.proofs.Lists.{In, In-right, Single, Single-apart, first_split, after-in, after-split, before-split, name_eq-from}
+use Rattle.dom_laws.proofs.Shapes.{Has}
+use Rattle.dom_laws.proofs.Counts.{Once}
+use Rattle.dom_tree.proofs.Standing.{StandOnce, StandAlone, Once-forest, Has-forest}
 use Rattle.dom_tree.specs.Forest.{NamedTrees, name_at}
 use Rattle.dom_tree.specs.Apart.{TellApart}
 use Rattle.dom_range_ops.proofs.KeyedWalks.{key-found}

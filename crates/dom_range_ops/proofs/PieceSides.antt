@@ -13,12 +13,13 @@ use Rattle.dom_model.specs.Names.{name_eq, first_of, last_of, items_before, item
 use Rattle.dom_model.specs.Place.{Boundary, is_before}
 use Rattle.dom_model.specs.Ranges.{at}
 use Rattle.dom_model.specs.Tree.{Trees, kind_of, has_data, children_of, inclusive_ancestors, inclusive_descendants, length_of, subtree}
-use Rattle.dom_traversal.proofs.Chains.{above-along}
-use Rattle.dom_traversal.proofs.Children.{In-names, Has-names, child-of_parent}
-use Rattle.dom_traversal.proofs.Lists.{In, In-left, In-right, is_in-from, split_at}
-use Rattle.dom_traversal.proofs.Order.{IsWithin, stands_in}
-use Rattle.dom_traversal.proofs.Shapes.{Has, Once, Has-subtree, above-parent, above-from_below, below-from_above}
-use Rattle.dom_traversal.proofs.Steps.{within-child}
+use Rattle.dom_laws.proofs.Chains.{above-along}
+use Rattle.dom_laws.proofs.Children.{In-names, Has-names, child-of_parent}
+use Rattle.dom_laws.proofs.Lists.{In, In-left, In-right, is_in-from, split_at}
+use Rattle.dom_laws.proofs.Order.{IsWithin, stands_in}
+use Rattle.dom_laws.proofs.Shapes.{Has, Has-subtree, above-parent, above-from_below, below-from_above}
+use Rattle.dom_laws.proofs.Counts.{Once}
+use Rattle.dom_laws.proofs.Steps.{within-child}
 use Rattle.dom_range_ops.specs.Pieces.{Item, whole_item, cut_item, clone_item, end_item, wholes_if, heads, tails, end_items, side_items}
 use Rattle.dom_range_ops.proofs.PieceItems.{node_items, items-beside, items-on}
 use Rattle.dom_range_ops.proofs.PieceLevels.{IsBehind, IsAhead, Level, behind-off, ahead-off, in-front, in-back, self-in}

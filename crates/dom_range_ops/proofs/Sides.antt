@@ -10,9 +10,9 @@ use Rattle.dom_model.specs.Place.{Boundary, is_before}
 use Rattle.dom_model.specs.Ranges.{at}
 use Rattle.dom_model.specs.Tree.{Trees, children_of, inclusive_descendants}
 use Rattle.dom_ranges.proofs.Before.{before-same, before-up, before-down, before-beside}
-use Rattle.dom_traversal.proofs.Lists.{In, In-parts, split_at}
-use Rattle.dom_traversal.proofs.Order.{IsWithin, stands_in, joined, here, splits}
-use Rattle.dom_traversal.specs.Within.{ahead_of, beyond}
+use Rattle.dom_laws.proofs.Lists.{In, In-parts, split_at}
+use Rattle.dom_laws.proofs.Order.{IsWithin, stands_in, joined, here, splits}
+use Rattle.dom_laws.specs.Within.{ahead_of, beyond}
 use Rattle.dom_range_ops.specs.Points.{nodes_after}
 use Rattle.dom_range_ops.proofs.Parting.{joined-in, under-kid, behind-apart, ahead-apart}
 

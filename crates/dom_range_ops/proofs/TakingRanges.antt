@@ -21,7 +21,7 @@ use Rattle.dom_worlds.proofs.ExtractionPlans.{common-read}
 use Rattle.dom_worlds.proofs.TableSteps.{HasNode}
 use Rattle.dom_worlds.proofs.Tests.{by_cases}
 use Rattle.dom_worlds.proofs.TreeChangeLaws.{nodes-named, nodes-then, root-below_none, times-below}
-use Rattle.dom_worlds.proofs.Trees.{times-subtree}
+use Rattle.dom_laws.proofs.Counts.{times_subtree}
 use Rattle.dom_model.specs.Extract.{Pieces, nothing, whole, cut, clone, tree_holding, pieces_of, common_ancestor, is_in_one_data}
 use Rattle.dom_model.specs.Names.{name_eq}
 use Rattle.dom_model.specs.Part.{Part, next_name}
@@ -53,7 +53,7 @@ module _ (p : Part) (r : Range NodeName) (part : IsPart p) (ends : HasEnds p.tre
   -- what is below a node is so: a shadow root is below none
   below-lower : (a x : NodeName) → 1 ≤ times_in (trees_below (subtree p.trees a)) x → IsLower x
   below-lower a x m =
-      let t : HasNode p x = let b = times-below (subtree p.trees a) x in let c = times-subtree p.trees a x in omega arith in (
+      let t : HasNode p x = let b = times-below (subtree p.trees a) x in let c = times_subtree p.trees a x in omega arith in (
         t,
         λ k. by_cases (is_shadow (kind_of p.trees x))
             (λ s. absurd (let off = root-below_none p.trees part.unique x (no_parent-root p.trees x t (shadows x s)) a in omega arith)) (λ s. s),

@@ -5,7 +5,7 @@ ghost use Rattle.dom_model.specs.Names.{first_of};
 ghost use Rattle.dom_model.specs.Ranges.{at};
 ghost use Rattle.dom_model.specs.Tree.{children_of};
 ghost use Rattle.dom_range_ops.specs.Points.{nodes_after};
-ghost use Rattle.dom_traversal.specs.Within.{StandsIn};
+ghost use Rattle.dom_tree.specs.Within.{StandsIn};
 ghost use Rattle.dom_tree.specs.Forest.{IsNode, name_of};
 
 use dom_traversal::beyond;

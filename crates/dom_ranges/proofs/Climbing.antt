@@ -6,10 +6,10 @@ use Rattle.dom_model.specs.Place.{same_root}
 use Rattle.dom_model.specs.Tree.{parent_of, index_of, inclusive_ancestors, is_inclusive_ancestor}
 use Rattle.dom_tree.specs.Forest.{NamedTrees, name_at}
 use Rattle.dom_tree.specs.Apart.{TellApart}
-use Rattle.dom_traversal.proofs.Chains.{above-along}
-use Rattle.dom_traversal.proofs.Counts.{StandOnce, StandAlone, Once-forest, Has-forest}
-use Rattle.dom_traversal.proofs.Lists.{In, In-from, is_in-from}
-use Rattle.dom_traversal.proofs.Shapes.{above-parent, above-present}
+use Rattle.dom_laws.proofs.Chains.{above-along}
+use Rattle.dom_tree.proofs.Standing.{StandOnce, StandAlone, Once-forest, Has-forest}
+use Rattle.dom_laws.proofs.Lists.{In, In-from, is_in-from}
+use Rattle.dom_laws.proofs.Shapes.{above-parent, above-present}
 use Rattle.dom_ranges.specs.Climbs.{path_at, depth_at, Reaches, AreBeside}
 use Rattle.dom_ranges.proofs.Places.{place-present, known, path-child, path-root, path-same, path-tree}
 

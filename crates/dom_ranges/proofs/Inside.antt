@@ -4,12 +4,12 @@ use Rattle.std.specs.Option.{option_map, ForSome}
 use Rattle.dom_base.specs.declared.NodeName.{NodeName}
 use Rattle.dom_model.specs.Tree.{inclusive_descendants}
 use Rattle.dom_tree.specs.Forest.{NamedTrees, name_at}
-use Rattle.dom_traversal.specs.Within.{behind, from_node, StandsIn}
-use Rattle.dom_traversal.proofs.Lists.{In, In-left}
-use Rattle.dom_traversal.proofs.Order.{here, below, behind_is}
-use Rattle.dom_traversal.specs.Within.{beyond}
-use Rattle.dom_traversal.proofs.Counts.{StandOnce, StandAlone, above-within}
-use Rattle.dom_traversal.proofs.Searching.{IsWithin-itself}
+use Rattle.dom_laws.specs.Within.{behind, from_node, beyond}
+use Rattle.dom_tree.specs.Within.{StandsIn}
+use Rattle.dom_laws.proofs.Lists.{In, In-left}
+use Rattle.dom_laws.proofs.Order.{here, below, behind_is, above-within}
+use Rattle.dom_tree.proofs.Standing.{StandOnce, StandAlone}
+use Rattle.dom_tree.proofs.Searching.{IsWithin-itself}
 
 module _ (f : NamedTrees) (top : ℕ) where
   -- the names from a key on, in the tree of the top

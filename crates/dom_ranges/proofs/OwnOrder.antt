@@ -11,10 +11,12 @@ use Rattle.dom_model.specs.Names.{owner_eq, name_eq, first_of}
 use Rattle.dom_model.specs.Place.{Boundary, place_from, place_of, list_before, is_before, same_root}
 use Rattle.dom_model.specs.Ranges.{Range, from_to, with_start, with_end}
 use Rattle.dom_model.specs.Tree.{Trees, none, tree, root_of}
+use Rattle.dom_tree.proofs.Standing.{once_own}
 use Rattle.dom_tree.specs.Owners.{AreOf, HaveOwners, AreOwned, trees_of_owner}
 use Rattle.dom_model.proofs.OwnerLaws.{owner_eq-false, name_eq-turned}
 use Rattle.dom_ranges.proofs.Places.{place-at_root, known, path-tree}
-use Rattle.dom_traversal.proofs.Shapes.{Has, Once}
+use Rattle.dom_laws.proofs.Shapes.{Has}
+use Rattle.dom_laws.proofs.Counts.{Once}
 use Rattle.dom_tree.proofs.Owned.{name_apart, read_own}
 
 -- ---- places
@@ -86,14 +88,6 @@ has_all o (tree n c r) x h = by (has_all o r x) (owner_eq n.name.owner o) h
     by rest true (inr (inr h)) = inr (inr (rest h))
     by rest false h = inr (inr (rest h))
 
-pub once_trees : (o : Owner) (ts : Trees) → Once ts → Once (trees_of_owner o ts)
-once_trees o none once = tt
-once_trees o (tree n c r) once = by (owner_eq n.name.owner o) (once_trees o r once.4)
-  where
-    by : (t : Bool) → Once (trees_of_owner o r) → Once (cond t (tree n c (trees_of_owner o r)) (trees_of_owner o r))
-    by true rest = (once.0, λ h. once.1 (has_all o r n.name h), λ x h g. once.2 x h (has_all o r x g), once.3, rest)
-    by false rest = rest
-
 -- ---- the order
 
 abbrev odd : ℕ → ℕ
@@ -131,7 +125,7 @@ module _ (ts : Trees) (owned : AreOwned ts) (once : Once ts) (o : Owner) where
       is_before ts b c ≡ is_before (trees_of_owner o ts) b c
   is_before-own b c h g root =
       let us = trees_of_owner o ts in
-      let single = once_trees o ts once in
+      let single = once_own o ts once in
       let there = λ (x : NodeName) (k : IsOwnIn x). has_own o ts owned.owners x k.owner k.there in
       let v = placed ts once b.node h.there in let w = placed ts once c.node g.there in
       let v_own = placed us single b.node (there b.node h) in let w_own = placed us single c.node (there c.node g) in

@@ -9,10 +9,11 @@ use Rattle.dom_model.specs.Names.{name_eq, first_of, last_of, items_before}
 use Rattle.dom_model.specs.Place.{place_from, place_of, same_root}
 use Rattle.dom_model.specs.Tree.{Trees, none, tree, Node, names_of, roots, trees_below, inclusive_ancestors, parent_of, root_of, index_of, children_of}
 use Rattle.dom_model.proofs.OwnerLaws.{name_eq-other, name_eq-true}
-use Rattle.dom_traversal.proofs.Lists.{name_eq-from, last_of-end}
-use Rattle.dom_traversal.proofs.Shapes.{Has, Once, subtree-here, subtree-below, subtree-beside, above-here, above-below, above-beside, above-present}
-use Rattle.dom_traversal.proofs.Shapes.{above-parent, above-root}
-use Rattle.dom_traversal.proofs.Children.{two_or_more}
+use Rattle.dom_laws.proofs.Lists.{name_eq-from, last_of-end}
+use Rattle.dom_laws.proofs.Shapes.{once_apart, Has, subtree-here, subtree-below, subtree-beside, above-here, above-below, above-beside, above-present}
+use Rattle.dom_laws.proofs.Shapes.{above-parent, above-root}
+use Rattle.dom_laws.proofs.Counts.{Once}
+use Rattle.dom_laws.proofs.Children.{two_or_more}
 
 -- a name that stands nowhere has no place
 place-absent : (ts : Trees) (k : ℕ) (x : NodeName) → (Has ts x → ⊥) → place_from k ts x ≡ None
@@ -32,21 +33,23 @@ module _ (n : Node) (c r : Trees) (k : ℕ) (x : NodeName) where
 
   -- that of a node behind its tree
   place-beside : Once (tree n c r) → Has r x → place_from k (tree n c r) x ≡ place_from (k + 1) r x
-  place-beside once h = rw (name_eq-other n.name x (λ e. once.1 (subst (Has r) (sym e) h)), place-absent c 0 x (λ i. once.2 x i h)) refl
+  place-beside once h =
+      let apart = once_apart n c r once in
+      rw (name_eq-other n.name x (λ e. apart.1 (subst (Has r) (sym e) h)), place-absent c 0 x (λ i. apart.2 x i h)) refl
 
   -- a node below it, whose place is known
   place-below : (path : List ℕ) → Once (tree n c r) → Has c x → place_from 0 c x ≡ Some path → place_from k (tree n c r) x ≡ Some (k ∷ path)
-  place-below path once h e = rw (name_eq-other n.name x (λ f. once.0 (subst (Has c) (sym f) h)), e) refl
+  place-below path once h e = rw (name_eq-other n.name x (λ f. (once_apart n c r once).0 (subst (Has c) (sym f) h)), e) refl
 
 -- each node has a place
 pub place-present : (ts : Trees) (k : ℕ) (x : NodeName) → Once ts → Has ts x → StandsFrom k ts x
 place-present none k x once h = absurd h
 place-present (tree n c r) k x once (inl e) = (k, [], place-here n c r k x e, omega arith)
 place-present (tree n c r) k x once (inr (inl h)) =
-    let w = place-present c 0 x once.3 h in
+    let w = place-present c 0 x (once_apart n c r once).3 h in
     (k, w.0 ∷ w.1, place-below n c r k x (w.0 ∷ w.1) once h w.2, omega arith)
 place-present (tree n c r) k x once (inr (inr h)) =
-    let w = place-present r (k + 1) x once.4 h in
+    let w = place-present r (k + 1) x (once_apart n c r once).4 h in
     (w.0, w.1, place-beside n c r k x once h ∙ w.2, omega (arith, w.3))
 
 -- lists with different first items
@@ -63,8 +66,8 @@ pub record AreIn (ts : Trees) (x y : NodeName) : Type 0 where
 pub place-same : (ts : Trees) (k : ℕ) (x y : NodeName) → AreIn ts x y → place_from k ts x ≡ place_from k ts y → x ≡ y
 place-same none k x y in_it e = absurd in_it.first
 place-same (tree n c r) k x y in_it e =
-    by (λ h i f. place-same c 0 x y record { once = in_it.once.3; first = h; second = i } f)
-    (λ h i f. place-same r (k + 1) x y record { once = in_it.once.4; first = h; second = i } f) in_it.first in_it.second
+    by (λ h i f. place-same c 0 x y record { once = (once_apart n c r in_it.once).3; first = h; second = i } f)
+    (λ h i f. place-same r (k + 1) x y record { once = (once_apart n c r in_it.once).4; first = h; second = i } f) in_it.first in_it.second
   where
     once : Once (tree n c r)
     once = in_it.once
@@ -73,36 +76,36 @@ place-same (tree n c r) k x y in_it e =
         Has (tree n c r) x → Has (tree n c r) y → x ≡ y
     by lower later (inl h) (inl i) = sym h ∙ i
     by lower later (inl h) (inr (inl i)) =
-        let w = place-present c 0 y once.3 i in
+        let w = place-present c 0 y (once_apart n c r once).3 i in
         let f : Some (k ∷ []) ≡ Some (k ∷ w.0 ∷ w.1) = sym (place-here n c r k x h) ∙ (e ∙ place-below n c r k y (w.0 ∷ w.1) once i w.2) in
         cc
     by lower later (inl h) (inr (inr i)) =
-        let w = place-present r (k + 1) y once.4 i in
+        let w = place-present r (k + 1) y (once_apart n c r once).4 i in
         let f : Some (k ∷ []) ≡ Some (w.0 ∷ w.1) = sym (place-here n c r k x h) ∙ (e ∙ (place-beside n c r k y once i ∙ w.2)) in
         absurd (apart_heads k w.0 [] w.1 (omega (arith, w.3)) (same_Some _ _ f))
     by lower later (inr (inl h)) (inl i) =
-        let w = place-present c 0 x once.3 h in
+        let w = place-present c 0 x (once_apart n c r once).3 h in
         let f : Some (k ∷ []) ≡ Some (k ∷ w.0 ∷ w.1) = sym (place-here n c r k y i) ∙ (sym e ∙ place-below n c r k x (w.0 ∷ w.1) once h w.2) in
         cc
     by lower later (inr (inl h)) (inr (inl i)) =
-        let v = place-present c 0 x once.3 h in
-        let w = place-present c 0 y once.3 i in
+        let v = place-present c 0 x (once_apart n c r once).3 h in
+        let w = place-present c 0 y (once_apart n c r once).3 i in
         let f : Some (k ∷ v.0 ∷ v.1) ≡ Some (k ∷ w.0 ∷ w.1) =
         sym (place-below n c r k x (v.0 ∷ v.1) once h v.2) ∙ (e ∙ place-below n c r k y (w.0 ∷ w.1) once i w.2) in
         let g : v.0 ∷ v.1 ≡ w.0 ∷ w.1 = cc in
         lower h i (v.2 ∙ (ap Some g ∙ sym w.2))
     by lower later (inr (inl h)) (inr (inr i)) =
-        let v = place-present c 0 x once.3 h in
-        let w = place-present r (k + 1) y once.4 i in
+        let v = place-present c 0 x (once_apart n c r once).3 h in
+        let w = place-present r (k + 1) y (once_apart n c r once).4 i in
         let f : Some (k ∷ v.0 ∷ v.1) ≡ Some (w.0 ∷ w.1) = sym (place-below n c r k x (v.0 ∷ v.1) once h v.2) ∙ (e ∙ (place-beside n c r k y once i ∙ w.2)) in
         absurd (apart_heads k w.0 (v.0 ∷ v.1) w.1 (omega (arith, w.3)) (same_Some _ _ f))
     by lower later (inr (inr h)) (inl i) =
-        let w = place-present r (k + 1) x once.4 h in
+        let w = place-present r (k + 1) x (once_apart n c r once).4 h in
         let f : Some (k ∷ []) ≡ Some (w.0 ∷ w.1) = sym (place-here n c r k y i) ∙ (sym e ∙ (place-beside n c r k x once h ∙ w.2)) in
         absurd (apart_heads k w.0 [] w.1 (omega (arith, w.3)) (same_Some _ _ f))
     by lower later (inr (inr h)) (inr (inl i)) =
-        let v = place-present c 0 y once.3 i in
-        let w = place-present r (k + 1) x once.4 h in
+        let v = place-present c 0 y (once_apart n c r once).3 i in
+        let w = place-present r (k + 1) x (once_apart n c r once).4 h in
         let f : Some (k ∷ v.0 ∷ v.1) ≡ Some (w.0 ∷ w.1) =
         sym (place-below n c r k y (v.0 ∷ v.1) once i v.2) ∙ (sym e ∙ (place-beside n c r k x once h ∙ w.2)) in
         absurd (apart_heads k w.0 (v.0 ∷ v.1) w.1 (omega (arith, w.3)) (same_Some _ _ f))
@@ -122,8 +125,8 @@ place-root (tree n c r) k x once (inr (inl h)) e =
     absurd (two_or_more x w.0 n.name (sym (above-below n c r x once h ∙ ap (λ path. path ++ n.name ∷ []) w.1) ∙ e))
 place-root (tree n c r) k x once (inr (inr h)) e =
     place-beside n c r k x once h
-    ∙ (place-root r (k + 1) x once.4 h (sym (above-beside n c r x once h) ∙ e)
-    ∙ ap (λ m. Some (m ∷ [])) (later_index (name_eq-other x n.name (λ same. once.1 (subst (Has r) same h)))))
+    ∙ (place-root r (k + 1) x (once_apart n c r once).4 h (sym (above-beside n c r x once h) ∙ e)
+    ∙ ap (λ m. Some (m ∷ [])) (later_index (name_eq-other x n.name (λ same. (once_apart n c r once).1 (subst (Has r) same h)))))
   where
     later_index : name_eq x n.name ≡ false →
         (k + 1) + length (items_before name_eq x (names_of (roots r))) ≡ k + length (items_before name_eq x (names_of (roots (tree n c r))))
@@ -139,11 +142,11 @@ place-child none k x once h e = absurd h
 place-child (tree n c r) k x {p} once (inl i) e = absurd (none-some p (rw (above-here n c r x i) at e))
 place-child (tree n c r) k x {p} once (inr (inl h)) e =
     let w = above-present c x h in
-    by (place-child c 0 x once.3 h) (parent_below) w.0 w.1
+    by (place-child c 0 x (once_apart n c r once).3 h) (parent_below) w.0 w.1
     (ap (λ path. first_of (drop 1 path)) (sym (above-below n c r x once h ∙ ap (λ path. path ++ n.name ∷ []) w.1)) ∙ e)
   where
     parent_below : parent_of c x ≡ Some p → Has c p
-    parent_below f = (above-parent c x p once.3 h f).1
+    parent_below f = (above-parent c x p (once_apart n c r once).3 h f).1
 
     by : (parent_of c x ≡ Some p → StandsUnder 0 c p x) → (parent_of c x ≡ Some p → Has c p) → (path : List NodeName) →
         inclusive_ancestors c x ≡ x ∷ path → first_of (path ++ n.name ∷ []) ≡ Some p → StandsUnder k (tree n c r) p x
@@ -152,7 +155,7 @@ place-child (tree n c r) k x {p} once (inr (inl h)) e =
         let kids : children_of (tree n c r) p ≡ names_of (roots c) = ap (λ (us : Trees). names_of (roots (trees_below us))) (subtree-here n c r p same) in (
           k ∷ [],
           place-here n c r k p same,
-          place-below n c r k x _ once h (place-root c 0 x once.3 h is) ∙
+          place-below n c r k x _ once h (place-root c 0 x (once_apart n c r once).3 h is) ∙
               ap (λ m. Some (k ∷ m ∷ [])) (zero-add _ ∙ ap (λ xs. length (items_before name_eq x xs)) (sym kids)),
         )
     by deeper there (q ∷ path) is f =
@@ -166,8 +169,8 @@ place-child (tree n c r) k x {p} once (inr (inl h)) e =
         )
 place-child (tree n c r) k x {p} once (inr (inr h)) e =
     let f : parent_of r x ≡ Some p = ap (λ path. first_of (drop 1 path)) (sym (above-beside n c r x once h)) ∙ e in
-    let there = (above-parent r x p once.4 h f).1 in
-    let w = place-child r (k + 1) x once.4 h f in
+    let there = (above-parent r x p (once_apart n c r once).4 h f).1 in
+    let w = place-child r (k + 1) x (once_apart n c r once).4 h f in
     let kids : children_of (tree n c r) p ≡ children_of r p = ap (λ (us : Trees). names_of (roots (trees_below us))) (subtree-beside n c r p once there) in (
       w.0,
       place-beside n c r k p once there ∙ w.1,
@@ -187,13 +190,13 @@ place-at_root (tree n c r) k x once (inl e) =
     let same : root_of (tree n c r) x ≡ x = ap (λ path. unwrap_or (last_of path) x) (above-here n c r x e) in
     (k, [], place-here n c r k x e, place-here n c r k _ (e ∙ sym same), inl (e ∙ sym same))
 place-at_root (tree n c r) k x once (inr (inl h)) =
-    let w = place-present c 0 x once.3 h in
+    let w = place-present c 0 x (once_apart n c r once).3 h in
     let same : root_of (tree n c r) x ≡ n.name =
     ap (λ path. unwrap_or (last_of path) x) (above-below n c r x once h) ∙ ap (λ (o : Option NodeName). unwrap_or o x)
     (last_of-end (inclusive_ancestors c x) n.name) in
     (k, w.0 ∷ w.1, place-below n c r k x (w.0 ∷ w.1) once h w.2, place-here n c r k _ (sym same), inl (sym same))
 place-at_root (tree n c r) k x once (inr (inr h)) =
-    let w = place-at_root r (k + 1) x once.4 h in
+    let w = place-at_root r (k + 1) x (once_apart n c r once).4 h in
     let same : root_of (tree n c r) x ≡ root_of r x = ap (λ path. unwrap_or (last_of path) x) (above-beside n c r x once h) in
     let there : Has r (root_of (tree n c r) x) = subst (Has r) (sym same) w.4 in (
       w.0,

@@ -8,10 +8,11 @@ use Rattle.dom_model.specs.Names.{name_eq, last_of, items_before, items_after}
 use Rattle.dom_model.proofs.OwnerLaws.{name_eq-same}
 use Rattle.dom_model.specs.Tree.{Trees, children_of, parent_of, siblings, previous_sibling, index_of}
 use Rattle.dom_tree.specs.Forest.{NamedTrees, name_at}
-use Rattle.dom_traversal.proofs.Lists.{In, In-right, Single, Single-apart, no_last, last_split, split_at, before-split}
-use Rattle.dom_traversal.proofs.Shapes.{Has, Once}
-use Rattle.dom_traversal.proofs.Children.{parent-of_child, child-of_parent, children-single}
-use Rattle.dom_traversal.proofs.Counts.{StandOnce, StandAlone, Once-forest, Has-forest}
+use Rattle.dom_laws.proofs.Lists.{In, In-right, Single, Single-apart, no_last, last_split, split_at, before-split}
+use Rattle.dom_laws.proofs.Shapes.{Has}
+use Rattle.dom_laws.proofs.Counts.{Once}
+use Rattle.dom_laws.proofs.Children.{parent-of_child, child-of_parent, children-single}
+use Rattle.dom_tree.proofs.Standing.{StandOnce, StandAlone, Once-forest, Has-forest}
 
 module _ (ts : Trees) (once : Once ts) where
   -- without a sibling before it its index is 0

@@ -6,7 +6,7 @@ use Rattle.std.specs.Option.{option_map, is_some}
 use Rattle.std.proofs.lemmas.Option.{none-some}
 use Rattle.dom_base.specs.declared.NodeName.{NodeName}
 use Rattle.dom_model.specs.Names.{last_of, is_empty}
-use Rattle.dom_traversal.proofs.Lists.{no_last}
+use Rattle.dom_laws.proofs.Lists.{no_last}
 
 -- all that are seen pass where all pass as they are seen
 pub all_seen : {X Y : Type 0} (test : Y → Bool) (view : X → Y) (xs : List X) → list_all (λ x. test (view x)) xs ≡ list_all test (map view xs)

@@ -7,10 +7,11 @@ use Rattle.dom_base.specs.declared.NodeName.{NodeName}
 use Rattle.dom_model.specs.Names.{name_eq, first_of, last_of, items_before, items_after}
 use Rattle.dom_model.specs.Tree.{Trees, children_of, siblings, parent_of, previous_sibling, next_sibling}
 use Rattle.dom_tree.specs.Forest.{NamedTrees, name_at}
-use Rattle.dom_traversal.proofs.Lists.{In, In-right, Single, Single-apart, split_at, before-split, after-split, first_split, last_split, no_first, no_last}
-use Rattle.dom_traversal.proofs.Shapes.{Has, Once}
-use Rattle.dom_traversal.proofs.Children.{parent-of_child, child-of_parent, children-single}
-use Rattle.dom_traversal.proofs.Counts.{StandOnce, StandAlone, Once-forest, Has-forest}
+use Rattle.dom_laws.proofs.Lists.{In, In-right, Single, Single-apart, split_at, before-split, after-split, first_split, last_split, no_first, no_last}
+use Rattle.dom_laws.proofs.Shapes.{Has}
+use Rattle.dom_laws.proofs.Counts.{Once}
+use Rattle.dom_laws.proofs.Children.{parent-of_child, child-of_parent, children-single}
+use Rattle.dom_tree.proofs.Standing.{StandOnce, StandAlone, Once-forest, Has-forest}
 
 -- the siblings before a node
 abbrev pub before_list : Trees → NodeName → List NodeName

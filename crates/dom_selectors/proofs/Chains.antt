@@ -7,9 +7,9 @@ use Rattle.dom_base.specs.declared.NodeName.{NodeName}
 use Rattle.dom_model.specs.Names.{last_of}
 use Rattle.dom_model.specs.Tree.{Trees, ancestors, parent_of}
 use Rattle.dom_model.specs.Selectors.{Complex, joined, Combinator, child, next, CompoundPart, compound_matches, complex_matches, combined_with, elements_before}
-use Rattle.dom_traversal.proofs.Lists.{In, In-left, In-right, In-parts}
-use Rattle.dom_traversal.proofs.Shapes.{Has, Once}
-use Rattle.dom_traversal.proofs.Opening.{proper-parent}
+use Rattle.dom_laws.proofs.Lists.{In, In-left, In-right, In-parts}
+use Rattle.dom_laws.proofs.Shapes.{Has, proper-parent}
+use Rattle.dom_laws.proofs.Counts.{Once}
 use Rattle.dom_selectors.specs.Search.{elements_to, MatchesAbove}
 use Rattle.dom_selectors.proofs.JoinedLaws.{or_none}
 use Rattle.dom_selectors.proofs.Earlier.{any-passes, passes-any, stands-matching, IsEarlier, earlier-in, nearest}

@@ -14,12 +14,12 @@ use Rattle.dom_model.specs.Tree.{Trees, Node, nodes, names_of, no_node, is_eleme
 use Rattle.dom_model.specs.Selectors.{compound_matches, elements_before, CompoundPart}
 use Rattle.dom_model.proofs.OwnerLaws.{name_eq-other}
 use Rattle.dom_tree.specs.Forest.{NamedTrees, name_at}
-use Rattle.dom_traversal.proofs.Lists.{In, split_at, last_split, no_last, filter-yes, filter-no}
-use Rattle.dom_traversal.proofs.Shapes.{Has, Once, has_or_not, Has-above}
-use Rattle.dom_traversal.proofs.Children.{Has-names}
-use Rattle.dom_traversal.proofs.Opening.{above-proper, proper-parent}
-use Rattle.dom_traversal.proofs.Chains.{above-split}
-use Rattle.dom_traversal.proofs.Counts.{StandOnce, StandAlone, Once-forest, Has-forest}
+use Rattle.dom_laws.proofs.Lists.{In, split_at, last_split, no_last, filter-yes, filter-no}
+use Rattle.dom_laws.proofs.Shapes.{Has, has_or_not, Has-above, above-proper, proper-parent}
+use Rattle.dom_laws.proofs.Counts.{Once}
+use Rattle.dom_laws.proofs.Children.{Has-names}
+use Rattle.dom_laws.proofs.Chains.{above-split}
+use Rattle.dom_tree.proofs.Standing.{StandOnce, StandAlone, Once-forest, Has-forest}
 use Rattle.dom_selectors.specs.Search.{elements_to}
 use Rattle.dom_selectors.proofs.Beside.{before_list, before-at}
 use Rattle.dom_selectors.proofs.JoinedLaws.{from_above, above-parent, or_none}

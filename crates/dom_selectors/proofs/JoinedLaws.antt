@@ -13,9 +13,9 @@ use Rattle.dom_tree.specs.Forest.{NamedTrees, name_at}
 use Rattle.dom_selectors.specs.declared.selector.CompoundPart.{CompoundPart}
 use Rattle.dom_selectors.specs.declared.selector.Link.{Link}
 use Rattle.dom_selectors.specs.Views.{compound_view, combinator_view, link_view, complex_from}
-use Rattle.dom_traversal.proofs.Counts.{StandOnce, StandAlone, Once-forest, Has-forest}
-use Rattle.dom_traversal.proofs.Shapes.{Has, Once, above-root}
-use Rattle.dom_traversal.proofs.Opening.{proper-parent}
+use Rattle.dom_tree.proofs.Standing.{StandOnce, StandAlone, Once-forest, Has-forest}
+use Rattle.dom_laws.proofs.Shapes.{Has, above-root, proper-parent}
+use Rattle.dom_laws.proofs.Counts.{Once}
 use Rattle.std.specs.Prelude.{drop}
 
 -- a last link is the outermost

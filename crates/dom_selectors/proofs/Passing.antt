@@ -4,8 +4,7 @@ use Rattle.std.specs.Prelude.{filter}
 use Rattle.std.specs.Option.{option_map}
 use Rattle.dom_base.specs.declared.NodeName.{NodeName}
 use Rattle.dom_tree.specs.Forest.{NamedTrees, name_at}
-use Rattle.dom_traversal.proofs.Lists.{filter-no}
-use Rattle.dom_traversal.proofs.Searching.{last-miss}
+use Rattle.dom_laws.proofs.Lists.{filter-no, last-miss}
 use Rattle.dom_selectors.proofs.Beside.{before_list, after_list, up_to, from}
 
 module _ (f : NamedTrees) (p : NodeName → Bool) (k : ℕ) (at o : Option ℕ) (is : at ≡ Some k) (miss : p (name_at f.names k) ≡ false) where

@@ -4,10 +4,10 @@ use Rattle.std.specs.Prelude.{map, filter, drop}
 use Rattle.std.proofs.lemmas.List.{map-append}
 use Rattle.dom_base.specs.declared.NodeName.{NodeName}
 use Rattle.dom_model.specs.Tree.{Trees, descendants}
-use Rattle.dom_traversal.specs.Within.{behind}
-use Rattle.dom_traversal.proofs.Lists.{filter-yes, filter-no}
-use Rattle.dom_traversal.proofs.Order.{IsWithin}
-use Rattle.dom_traversal.proofs.Steps.{ordered, top_places}
+use Rattle.dom_laws.specs.Within.{behind}
+use Rattle.dom_laws.proofs.Lists.{filter-yes, filter-no}
+use Rattle.dom_laws.proofs.Order.{IsWithin}
+use Rattle.dom_laws.proofs.Steps.{ordered, top_places}
 
 -- the nodes behind the top are those below it
 pub behind_top : (ts : Trees) (top : NodeName) → IsWithin ts top top → behind ts top top ≡ descendants ts top

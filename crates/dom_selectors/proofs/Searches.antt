@@ -6,8 +6,9 @@ use Rattle.std.proofs.lemmas.List.Folds.{list_any-append}
 use Rattle.dom_base.specs.declared.NodeName.{NodeName}
 use Rattle.dom_model.specs.Tree.{Trees, ancestors}
 use Rattle.dom_model.specs.Selectors.{Complex, alone, joined, Combinator, descendant, child, next, later, CompoundPart, complex_matches, elements_before}
-use Rattle.dom_traversal.proofs.Lists.{In, In-left, In-right, In-parts}
-use Rattle.dom_traversal.proofs.Shapes.{Has, Once}
+use Rattle.dom_laws.proofs.Lists.{In, In-left, In-right, In-parts}
+use Rattle.dom_laws.proofs.Shapes.{Has}
+use Rattle.dom_laws.proofs.Counts.{Once}
 use Rattle.dom_selectors.specs.Search.{elements_to, MatchesAbove, IsDescendant, IsSearched, StopsAt, ChainEnds, ChainIsBefore, SegmentEnds, SegmentIsAbove}
 use Rattle.dom_selectors.proofs.Earlier.{any-passes, passes-any, stands-matching, earlier-in, ancestor-in}
 use Rattle.dom_selectors.proofs.Chains.{Leads, combined, matches-parts}

@@ -20,10 +20,11 @@ use Rattle.dom_model.specs.TreeChanges.{with_node, put_root}
 use Rattle.dom_model.specs.Slots.{is_slot_element, slots_among, slot_in}
 use Rattle.dom_model.proofs.OwnerLaws.{name_eq-other}
 use Rattle.dom_tree.specs.Forest.{NamedTrees, name_at}
-use Rattle.dom_traversal.proofs.Counts.{Once-forest}
-use Rattle.dom_traversal.proofs.Lists.{name_eq-from, same_or_not}
-use Rattle.dom_traversal.proofs.Removal.{above-put_others}
-use Rattle.dom_traversal.proofs.Shapes.{Has, Once, above-absent, subtree-absent}
+use Rattle.dom_tree.proofs.Standing.{Once-forest}
+use Rattle.dom_laws.proofs.Lists.{name_eq-from, same_or_not}
+use Rattle.dom_laws.proofs.Removal.{above-put_others}
+use Rattle.dom_laws.proofs.Shapes.{once_apart, Has, above-absent, subtree-absent}
+use Rattle.dom_laws.proofs.Counts.{Once}
 use Rattle.dom_slots.specs.Hosts.{ShadowHost, HostsAreNodes, host_named, root_named, host_of_root}
 use Rattle.dom_slots.specs.Kept.{SlotsNow, HasOneMore, AreSlotsOf}
 use Rattle.dom_slots.specs.Shadows.{ShadowTrees, shadow_trees, slot_at, assigned_at, assigned_under}
@@ -43,14 +44,14 @@ module _ (n : Node) (y : NodeName) where
   put_absent : (ts : Trees) → Once (put ts) → Has ts n.name → ⊥
   put_absent none once h = h
   put_absent (tree m d r) once h = elim (cases_Bool (name_before y m.name)) [
-    | inl e ↦ (rw e at once).1 h
+    | inl e ↦ (once_apart n none (tree m d r) (rw e at once)).1 h
     | inr e ↦ later (rw e at once) (put_absent r) h
   ]
     where
       later : Once (tree m d (put r)) → (Once (put r) → Has r n.name → ⊥) → Has (tree m d r) n.name → ⊥
-      later o deeper (inl same) = o.1 (subst (Has (put r)) (sym same) (has_put r))
-      later o deeper (inr (inl i)) = o.2 n.name i (has_put r)
-      later o deeper (inr (inr i)) = deeper o.4 i
+      later o deeper (inl same) = (once_apart m d (put r) o).1 (subst (Has (put r)) (sym same) (has_put r))
+      later o deeper (inr (inl i)) = (once_apart m d (put r) o).2 n.name i (has_put r)
+      later o deeper (inr (inr i)) = deeper (once_apart m d (put r) o).4 i
 
   -- the trees of other nodes stay
   subtree_other : (x : NodeName) → name_eq n.name x ≡ false → (ts : Trees) → subtree (put ts) x ≡ subtree ts x

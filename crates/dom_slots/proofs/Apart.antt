@@ -14,8 +14,8 @@ use Rattle.dom_model.specs.Tree.{Trees, node_in, subtree, parent_of, root_of}
 use Rattle.dom_model.specs.TreeChanges.{placed, taken_out, with_attribute}
 use Rattle.dom_tree.specs.Forest.{NamedTrees, name_at}
 use Rattle.dom_tree.specs.Apart.{TellApart}
-use Rattle.dom_traversal.proofs.Lists.{In, In-parts}
-use Rattle.dom_traversal.proofs.Shapes.{Has}
+use Rattle.dom_laws.proofs.Lists.{In, In-parts}
+use Rattle.dom_laws.proofs.Shapes.{Has}
 use Rattle.dom_slots.specs.Hosts.{ShadowHost, host_named}
 use Rattle.dom_slots.specs.Insides.{own_slots}
 use Rattle.dom_slots.specs.Kept.{BegunStep, SlotsNow, StandsOnce, IsEndOf}

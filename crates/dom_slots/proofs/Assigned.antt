@@ -8,7 +8,7 @@ use Rattle.dom_model.specs.Names.{name_eq, is_in}
 use Rattle.dom_model.specs.Tree.{children_of, root_of}
 use Rattle.dom_model.proofs.OwnerLaws.{name_eq-true}
 use Rattle.dom_tree.specs.Forest.{NamedTrees, name_at}
-use Rattle.dom_traversal.proofs.Lists.{In}
+use Rattle.dom_laws.proofs.Lists.{In}
 use Rattle.dom_slots.specs.Hosts.{ShadowHost}
 use Rattle.dom_slots.specs.Shadows.{ShadowTrees, shadows, slot_at, assigned_at, assigned_under, is_assigned_at}
 use Rattle.dom_slots.specs.Tables.{SlotTable, list_of, IsTableOf}

@@ -9,9 +9,10 @@ use Rattle.dom_model.specs.Tree.{Trees, Node, nodes, names_of, node_in, parent_o
 use Rattle.dom_model.specs.Slots.{slots_among, slot_in, has_slot_name, slottable_name, is_slot_element}
 use Rattle.dom_model.proofs.OwnerLaws.{name_eq-true}
 use Rattle.dom_tree.specs.Forest.{NamedTrees, name_at}
-use Rattle.dom_traversal.proofs.Lists.{In, is_in-not, filter-none, filter-yes, filter-no, last_split, In-right}
-use Rattle.dom_traversal.proofs.Shapes.{Once, Has, Has-subtree, above-present, below-from_above}
-use Rattle.dom_traversal.proofs.Children.{In-names, Has-names}
+use Rattle.dom_laws.proofs.Lists.{In, is_in-not, filter-none, filter-yes, filter-no, last_split, In-right}
+use Rattle.dom_laws.proofs.Counts.{Once}
+use Rattle.dom_laws.proofs.Shapes.{Has, Has-subtree, above-present, below-from_above}
+use Rattle.dom_laws.proofs.Children.{In-names, Has-names}
 use Rattle.dom_slots.proofs.NamesOfNodes.{named-filter}
 use Rattle.dom_slots.proofs.Entering.{NoneHas, unassigned}
 use Rattle.dom_slots.specs.Hosts.{ShadowHost, host_named, root_named}

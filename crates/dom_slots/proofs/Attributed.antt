@@ -8,7 +8,7 @@ use Rattle.dom_model.specs.Names.{name_eq, first_of, last_of}
 use Rattle.dom_model.specs.Tree.{Trees, none, tree, Node, nodes, no_node, node_in, subtree, parent_of, root_of, children_of}
 use Rattle.dom_model.specs.TreeChanges.{map_nodes, change_node}
 use Rattle.dom_model.proofs.OwnerLaws.{name_eq-true, name_eq-other}
-use Rattle.dom_traversal.proofs.Shapes.{Has, has_or_not}
+use Rattle.dom_laws.proofs.Shapes.{Has, has_or_not}
 use Rattle.dom_slots.specs.Hosts.{ShadowHost, host_named}
 use Rattle.dom_slots.specs.Shadows.{shadow_trees, is_assigned_at, assigned_at}
 use Rattle.dom_slots.proofs.PlacedTrees.{others}

@@ -13,9 +13,9 @@ use Rattle.dom_model.specs.Slots.{slot_in, slots_among}
 use Rattle.dom_model.specs.Tree.{Trees, node_in, has_node, subtree, parent_of}
 use Rattle.dom_tree.specs.Forest.{NamedTrees, name_at}
 use Rattle.dom_tree.specs.Apart.{TellApart}
-use Rattle.dom_traversal.proofs.Counts.{Once-forest, Has-forest}
-use Rattle.dom_traversal.proofs.Lists.{In}
-use Rattle.dom_traversal.proofs.Shapes.{Has}
+use Rattle.dom_tree.proofs.Standing.{Once-forest, Has-forest}
+use Rattle.dom_laws.proofs.Lists.{In}
+use Rattle.dom_laws.proofs.Shapes.{Has}
 use Rattle.dom_slots.specs.Hosts.{ShadowHost, HostsAreNodes, host_named}
 use Rattle.dom_slots.specs.Insides.{own_slots}
 use Rattle.dom_slots.specs.Kept.{BegunStep, SlotsNow, StandsOnce, AreSlotsOf, IsBegun, IsEndOf}

@@ -10,7 +10,7 @@ use Rattle.dom_model.specs.Tree.{Node, nodes, names_of, node_in, parent_of, root
 use Rattle.dom_model.specs.Slots.{slots_among, slot_in, has_slot_name, slottable_name, is_slot_element}
 use Rattle.dom_model.proofs.OwnerLaws.{name_eq-true}
 use Rattle.dom_tree.specs.Forest.{NamedTrees, name_at}
-use Rattle.dom_traversal.proofs.Lists.{name_eq-from, filter-none}
+use Rattle.dom_laws.proofs.Lists.{name_eq-from, filter-none}
 use Rattle.dom_slots.specs.Hosts.{ShadowHost, root_named}
 use Rattle.dom_slots.specs.Shadows.{shadows, slot_at, assigned_at, assigned_under, is_assigned_at}
 use Rattle.dom_slots.specs.Tables.{SlotTable, list_of}

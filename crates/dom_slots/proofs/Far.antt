@@ -10,9 +10,10 @@ use Rattle.dom_model.specs.Slots.{is_slot_element, slot_in, slots_among}
 use Rattle.dom_model.specs.Tree.{Trees, none, tree, Node, node_in, subtree, parent_of, root_of, inclusive_descendants}
 use Rattle.dom_model.specs.TreeChanges.{change_node}
 use Rattle.dom_tree.specs.Forest.{name_at}
-use Rattle.dom_traversal.proofs.Children.{In-names}
-use Rattle.dom_traversal.proofs.Lists.{In, is_in-not}
-use Rattle.dom_traversal.proofs.Shapes.{Has, Once, has_or_not}
+use Rattle.dom_laws.proofs.Children.{In-names}
+use Rattle.dom_laws.proofs.Lists.{In, is_in-not}
+use Rattle.dom_laws.proofs.Shapes.{Has, has_or_not}
+use Rattle.dom_laws.proofs.Counts.{Once}
 use Rattle.dom_slots.specs.Hosts.{ShadowHost}
 use Rattle.dom_slots.specs.Shadows.{shadow_trees, is_assigned_at, assigned_at}
 use Rattle.dom_slots.proofs.Attaching.{in_filter, to_filter}

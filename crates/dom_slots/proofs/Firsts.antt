@@ -9,7 +9,7 @@ use Rattle.dom_model.specs.Names.{DomString, text_eq, name_eq, is_in}
 use Rattle.dom_model.specs.Slots.{has_slot_name, is_slot_element, slot_name, slottable_name}
 use Rattle.dom_model.specs.Tree.{Trees, Node, nodes, node_in, subtree, parent_of}
 use Rattle.dom_model.proofs.OwnerLaws.{name_eq-true}
-use Rattle.dom_traversal.proofs.Shapes.{Once}
+use Rattle.dom_laws.proofs.Counts.{Once}
 use Rattle.dom_slots.specs.Shadows.{ShadowTrees, is_assigned_at, is_first_at, looks_for}
 use Rattle.dom_slots.proofs.NamesOfNodes.{InNodes, in_tree, node_in-self}
 

@@ -11,7 +11,7 @@ use Rattle.dom_model.specs.Slots.{has_slot_name, slottable_name, slot_in}
 use Rattle.dom_model.proofs.OwnerLaws.{name_eq-other}
 use Rattle.dom_tree.specs.Forest.{name_at}
 use Rattle.dom_tree.specs.Apart.{TellApart}
-use Rattle.dom_traversal.proofs.Lists.{name_eq-from}
+use Rattle.dom_laws.proofs.Lists.{name_eq-from}
 use Rattle.node_arena.specs.contracts.key.KeyPartialEq.TheImpl as KeyImpl
 use Rattle.dom_slots.specs.Hosts.{ShadowHost, HostsAreNodes, host_of_root, root_of_host, host_named, root_named}
 use Rattle.dom_slots.specs.Shadows.{ShadowTrees, slot_at}

@@ -14,8 +14,8 @@ use Rattle.dom_model.specs.Tree.{Trees, none, tree, Node, node_in, subtree, pare
 use Rattle.dom_model.specs.TreeChanges.{with_attribute}
 use Rattle.dom_tree.specs.Forest.{NamedTrees, name_at}
 use Rattle.dom_tree.specs.Apart.{TellApart}
-use Rattle.dom_traversal.proofs.Lists.{In, is_in-from, In-parts}
-use Rattle.dom_traversal.proofs.Shapes.{Has, subtree-present}
+use Rattle.dom_laws.proofs.Lists.{In, is_in-from, In-parts}
+use Rattle.dom_laws.proofs.Shapes.{Has, subtree-present}
 use Rattle.dom_slots.specs.Hosts.{ShadowHost}
 use Rattle.dom_slots.specs.Insides.{tree_slots, own_slots, bare_around, slots_around, left_slots, MovesNone, AreMoved, MayMove, IsInside}
 use Rattle.dom_slots.specs.Kept.{BegunStep, SlotsNow, StandsOnce, IsEndOf}

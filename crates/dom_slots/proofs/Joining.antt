@@ -14,10 +14,11 @@ use Rattle.dom_model.specs.Tree.{node_in, parent_of, root_of, children_of, sibli
 use Rattle.dom_model.proofs.OwnerLaws.{name_eq-other}
 use Rattle.dom_tree.specs.Forest.{NamedTrees, name_at}
 use Rattle.dom_tree.specs.Apart.{TellApart}
-use Rattle.dom_traversal.proofs.Children.{parent-of_child, child-of_parent, children-single}
-use Rattle.dom_traversal.proofs.Lists.{In, Single, Single-apart, Single-right, In-parts, after-in, name_eq-from, filter-same}
-use Rattle.dom_traversal.proofs.Lists.{filter-yes, first_split, split_at}
-use Rattle.dom_traversal.proofs.Shapes.{Once, Has}
+use Rattle.dom_laws.proofs.Children.{parent-of_child, child-of_parent, children-single}
+use Rattle.dom_laws.proofs.Lists.{In, Single, Single-apart, Single-right, In-parts, after-in, name_eq-from, filter-same, filter-yes, first_split}
+use Rattle.dom_laws.proofs.Lists.{split_at}
+use Rattle.dom_laws.proofs.Counts.{Once}
+use Rattle.dom_laws.proofs.Shapes.{Has}
 use Rattle.node_arena.specs.Nodes.{put_before, insert_before}
 use Rattle.node_arena.specs.contracts.key.KeyPartialEq.TheImpl as KeyImpl
 use Rattle.dom_slots.specs.Hosts.{ShadowHost, host_named}

@@ -10,7 +10,8 @@ use Rattle.dom_model.specs.Slots.{has_slot_name, is_slot_element, slottable_name
 use Rattle.dom_model.specs.Tree.{Trees, none, tree, Node, nodes, no_node, node_in, or_else, subtree}
 use Rattle.dom_model.specs.TreeChanges.{change_node}
 use Rattle.dom_model.proofs.OwnerLaws.{name_eq-true, name_eq-other}
-use Rattle.dom_traversal.proofs.Shapes.{Has, Once, has_or_not, subtree-absent}
+use Rattle.dom_laws.proofs.Shapes.{Has, has_or_not, subtree-absent}
+use Rattle.dom_laws.proofs.Counts.{Once}
 use Rattle.dom_slots.proofs.Attaching.{no-slot_named}
 use Rattle.dom_slots.proofs.Attributed.{changed, changed_name}
 use Rattle.dom_slots.proofs.PlacedTrees.{Spot, Before, Below, Behind, grafted, tree-own, ReadAlike, ReadAlike-others}

@@ -5,9 +5,10 @@ use Rattle.dom_base.specs.declared.NodeName.{NodeName}
 use Rattle.dom_model.specs.Names.{name_eq, items_before, last_of}
 use Rattle.dom_model.specs.Tree.{Trees, none, tree, Node, nodes, roots, names_of, node_in, trees_below, subtree, inclusive_ancestors, parent_of}
 use Rattle.dom_model.specs.Tree.{root_of, children_of}
-use Rattle.dom_traversal.proofs.Chains.{above-split}
-use Rattle.dom_traversal.proofs.Children.{parent-of_child}
-use Rattle.dom_traversal.proofs.Shapes.{Has, Once, has_or_not, subtree-here, subtree-present, above-from_below, above-parent}
+use Rattle.dom_laws.proofs.Chains.{above-split}
+use Rattle.dom_laws.proofs.Children.{parent-of_child}
+use Rattle.dom_laws.proofs.Shapes.{Has, has_or_not, subtree-here, subtree-present, above-from_below, above-parent}
+use Rattle.dom_laws.proofs.Counts.{Once}
 use Rattle.dom_slots.specs.Hosts.{ShadowHost, host_named}
 use Rattle.dom_slots.proofs.PlacedTrees.{Spot, grafted, Has-grafted, others, above-others, tree-others, tree-own, ReadAlike, ReadAlike-others}
 use Rattle.dom_slots.proofs.NamesOfNodes.{InNodes, in_tree, node_in-self}

@@ -7,9 +7,9 @@ use Rattle.dom_base.specs.declared.NodeName.{NodeName}
 use Rattle.dom_model.specs.Names.{name_eq, first_of}
 use Rattle.dom_model.specs.Tree.{Trees, none, tree, Node, nodes, names_of, node_in, no_node, subtree, or_else, inclusive_descendants}
 use Rattle.dom_model.proofs.OwnerLaws.{name_eq-other}
-use Rattle.dom_traversal.proofs.Lists.{In, Single, name_eq-from}
-use Rattle.dom_traversal.proofs.Shapes.{Once}
-use Rattle.dom_traversal.proofs.Children.{Single-names}
+use Rattle.dom_laws.proofs.Lists.{In, Single, name_eq-from}
+use Rattle.dom_laws.proofs.Counts.{Once}
+use Rattle.dom_laws.proofs.Children.{Single-names}
 
 -- a node is among these
 abbrev pub InNodes : Node → List Node → Type 0

@@ -6,7 +6,7 @@ use Rattle.std.proofs.lemmas.List.Folds.{list_any-append}
 use Rattle.std.proofs.lemmas.List.Sums.{fold-append}
 use Rattle.dom_base.specs.declared.NodeName.{NodeName}
 use Rattle.dom_model.specs.Names.{name_eq, is_in, append_once, distinct}
-use Rattle.dom_traversal.proofs.Lists.{In, is_in-from, In-from, name_eq-from}
+use Rattle.dom_laws.proofs.Lists.{In, is_in-from, In-from, name_eq-from}
 use Rattle.dom_slots.proofs.Signalled.{fold-distinct}
 
 -- names that are there stay there

@@ -8,8 +8,9 @@ use Rattle.dom_model.specs.Tree.{Trees, none, tree, Node, roots, names_of, or_el
 use Rattle.dom_model.specs.TreeChanges.{without, is_given, put_before, put_below, put_root}
 use Rattle.dom_model.proofs.OwnerLaws.{name_eq-other}
 use Rattle.dom_slots.specs.Renewals.{names_but}
-use Rattle.dom_traversal.proofs.Lists.{name_eq-from, filter-no}
-use Rattle.dom_traversal.proofs.Shapes.{Has, Once, above-absent, subtree-absent, subtree-here, subtree-below, subtree-beside}
+use Rattle.dom_laws.proofs.Lists.{name_eq-from, filter-no}
+use Rattle.dom_laws.proofs.Shapes.{once_apart, Has, above-absent, subtree-absent, subtree-here, subtree-below, subtree-beside}
+use Rattle.dom_laws.proofs.Counts.{Once}
 
 -- where a tree is put into others: before the first of them, or below or behind that one's root
 pub data Spot : Type 0 where
@@ -165,10 +166,10 @@ splits (tree n c r) x once (inl e) = record {
   spot = Before;
   name = e;
   alone = subtree-here n c r x e;
-  whole = rw (name_eq-from n.name x e) (ap (tree n c) (sym (without-absent r x (λ i. once.1 (subst (Has r) (sym e) i)))));
+  whole = rw (name_eq-from n.name x e) (ap (tree n c) (sym (without-absent r x (λ i. (once_apart n c r once).1 (subst (Has r) (sym e) i)))));
 }
 splits (tree n c r) x once (inr (inl h)) =
-    let s = splits c x once.3 h in
+    let s = splits c x (once_apart n c r once).3 h in
     record {
       node = s.node;
       below = s.below;
@@ -176,11 +177,12 @@ splits (tree n c r) x once (inr (inl h)) =
       name = s.name;
       alone = subtree-below n c r x once h ∙ s.alone;
       whole =
-          rw (name_eq-other n.name x (λ e. once.0 (subst (Has c) (sym e) h)))
-          (ap (λ (ts : Trees). tree n ts r) s.whole ∙ ap (tree n (grafted s.node s.below s.spot (without x c))) (sym (without-absent r x (λ i. once.2 x h i))));
+          rw (name_eq-other n.name x (λ e. (once_apart n c r once).0 (subst (Has c) (sym e) h)))
+          (ap (λ (ts : Trees). tree n ts r) s.whole ∙
+          ap (tree n (grafted s.node s.below s.spot (without x c))) (sym (without-absent r x (λ i. (once_apart n c r once).2 x h i))));
     }
 splits (tree n c r) x once (inr (inr h)) =
-    let s = splits r x once.4 h in
+    let s = splits r x (once_apart n c r once).4 h in
     record {
       node = s.node;
       below = s.below;
@@ -188,8 +190,9 @@ splits (tree n c r) x once (inr (inr h)) =
       name = s.name;
       alone = subtree-beside n c r x once h ∙ s.alone;
       whole =
-          rw (name_eq-other n.name x (λ e. once.1 (subst (Has r) (sym e) h)))
-          (ap (tree n c) s.whole ∙ ap (λ (ts : Trees). tree n ts (grafted s.node s.below s.spot (without x r))) (sym (without-absent c x (λ i. once.2 x i h))));
+          rw (name_eq-other n.name x (λ e. (once_apart n c r once).1 (subst (Has r) (sym e) h)))
+          (ap (tree n c) s.whole ∙
+          ap (λ (ts : Trees). tree n ts (grafted s.node s.below s.spot (without x r))) (sym (without-absent c x (λ i. (once_apart n c r once).2 x i h))));
     }
 
 module _ (m : Node) (d : Trees) where
@@ -241,21 +244,23 @@ module _ (m : Node) (d : Trees) where
           Below w.0,
           rw (
             name_eq-from n.name parent e,
-            below-absent c (λ i. once.0 (subst (Has c) (sym e) i)),
+            below-absent c (λ i. (once_apart n c r once).0 (subst (Has c) (sym e) i)),
             below-absent r
-                (λ i. once.1 (subst (Has r) (sym e) i)),
+                (λ i. (once_apart n c r once).1 (subst (Has r) (sym e) i)),
           ) (ap (λ (ts : Trees). tree n ts r) w.1),
         )
     below-grafts (tree n c r) once (inr (inl h)) =
-        let w = below-grafts c once.3 h in (
+        let apart = once_apart n c r once in
+        let w = below-grafts c apart.3 h in (
           Below w.0,
-          rw (name_eq-other n.name parent (λ e. once.0 (subst (Has c) (sym e) h)), below-absent r (λ i. once.2 parent h i))
+          rw (name_eq-other n.name parent (λ e. apart.0 (subst (Has c) (sym e) h)), below-absent r (λ i. apart.2 parent h i))
               (ap (λ (ts : Trees). tree n ts r) w.1),
         )
     below-grafts (tree n c r) once (inr (inr h)) =
-        let w = below-grafts r once.4 h in (
+        let apart = once_apart n c r once in
+        let w = below-grafts r apart.4 h in (
           Behind w.0,
-          rw (name_eq-other n.name parent (λ e. once.1 (subst (Has r) (sym e) h)), below-absent c (λ i. once.2 parent i h)) (ap (tree n c) w.1),
+          rw (name_eq-other n.name parent (λ e. apart.1 (subst (Has r) (sym e) h)), below-absent c (λ i. apart.2 parent i h)) (ap (tree n c) w.1),
         )
 
     Has-put_before : (us : Trees) → Has (put_before before (tree m d none) us) m.name
@@ -270,9 +275,11 @@ module _ (m : Node) (d : Trees) where
     Has-put_below none once h = absurd h
     Has-put_below (tree n c r) once (inl e) = rw (name_eq-from n.name parent e) (inr (inl (Has-put_before (put_below parent before (tree m d none) c))))
     Has-put_below (tree n c r) once (inr (inl h)) =
-        let i = Has-put_below c once.3 h in
-        rw (name_eq-other n.name parent (λ e. once.0 (subst (Has c) (sym e) h)))
+        let i = Has-put_below c (once_apart n c r once).3 h in
+        rw (name_eq-other n.name parent (λ e. (once_apart n c r once).0 (subst (Has c) (sym e) h)))
         (subst (λ (ts : Trees). Has ts m.name) (sym (or_else-has (subtree (put_below parent before (tree m d none) c) parent) _ m.name i)) i)
     Has-put_below (tree n c r) once (inr (inr h)) =
-        let off : Has c parent → ⊥ = λ i. once.2 parent i h in
-        rw (name_eq-other n.name parent (λ e. once.1 (subst (Has r) (sym e) h)), below-absent c off, subtree-absent c parent off) (Has-put_below r once.4 h)
+        let apart = once_apart n c r once in
+        let off : Has c parent → ⊥ = λ i. apart.2 parent i h in
+        rw (name_eq-other n.name parent (λ e. apart.1 (subst (Has r) (sym e) h)), below-absent c off, subtree-absent c parent off)
+        (Has-put_below r apart.4 h)

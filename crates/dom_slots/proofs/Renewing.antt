@@ -11,7 +11,7 @@ use Rattle.dom_model.specs.Names.{name_eq, list_eq, is_in, append_once}
 use Rattle.dom_model.proofs.OwnerLaws.{name_eq-turned, name_eq-true}
 use Rattle.dom_tree.specs.Forest.{NamedTrees, name_at}
 use Rattle.dom_tree.specs.Apart.{TellApart}
-use Rattle.dom_traversal.proofs.Lists.{filter-yes, filter-no}
+use Rattle.dom_laws.proofs.Lists.{filter-yes, filter-no}
 use Rattle.dom_slots.specs.Hosts.{ShadowHost}
 use Rattle.dom_slots.specs.Renewals.{AreRenewed}
 use Rattle.dom_slots.specs.Shadows.{shadows, assigned_at}

@@ -5,10 +5,11 @@ use Rattle.std.specs.List.{last_or}
 use Rattle.dom_base.specs.declared.NodeName.{NodeName}
 use Rattle.dom_model.specs.Names.{name_eq, items_before, last_of}
 use Rattle.dom_model.specs.Tree.{Trees, subtree, inclusive_ancestors, parent_of, root_of}
-use Rattle.dom_traversal.proofs.Chains.{above-split}
-use Rattle.dom_traversal.proofs.Lists.{In}
-use Rattle.dom_traversal.proofs.Shapes.{Has, Once, has_or_not, subtree-absent, Has-above, Has-subtree, above-from_below, below-from_above}
-use Rattle.dom_traversal.proofs.Shapes.{above-parent, above-present, above-root}
+use Rattle.dom_laws.proofs.Chains.{above-split}
+use Rattle.dom_laws.proofs.Lists.{In}
+use Rattle.dom_laws.proofs.Shapes.{Has, has_or_not, subtree-absent, Has-above, Has-subtree, above-from_below, below-from_above, above-parent}
+use Rattle.dom_laws.proofs.Shapes.{above-present, above-root}
+use Rattle.dom_laws.proofs.Counts.{Once}
 
 -- the last item is one of the items
 last-in : (x : NodeName) (xs : List NodeName) (d : NodeName) → In (unwrap_or (last_or (Some x) xs) d) (x ∷ xs)

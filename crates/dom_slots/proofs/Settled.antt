@@ -6,9 +6,10 @@ use Rattle.dom_base.specs.declared.NodeName.{NodeName}
 use Rattle.dom_model.specs.Names.{DomString, name_eq, is_in}
 use Rattle.dom_model.specs.Slots.{has_slot_name, slottable_name, slot_in}
 use Rattle.dom_model.specs.Tree.{Trees, Node, nodes, names_of, node_in, subtree, parent_of, root_of, children_of}
-use Rattle.dom_traversal.proofs.Children.{parent-of_child, Has-names}
-use Rattle.dom_traversal.proofs.Lists.{In, is_in-not, same_or_not, filter-same, name_eq-from}
-use Rattle.dom_traversal.proofs.Shapes.{Has, Once, has_or_not, subtree-within}
+use Rattle.dom_laws.proofs.Children.{parent-of_child, Has-names}
+use Rattle.dom_laws.proofs.Lists.{In, is_in-not, same_or_not, filter-same, name_eq-from}
+use Rattle.dom_laws.proofs.Shapes.{Has, has_or_not, subtree-within}
+use Rattle.dom_laws.proofs.Counts.{Once}
 use Rattle.dom_slots.specs.Hosts.{ShadowHost, host_named, root_named}
 use Rattle.dom_slots.specs.Shadows.{ShadowTrees, shadow_trees, is_assigned_at, assigned_under, assigned_at}
 use Rattle.dom_slots.proofs.Assigned.{left-passes}

@@ -2,7 +2,7 @@
 use Rattle.std.proofs.Common.{◌≡◌, inl, inr, not, List, [], ◌∷◌, refl, ap, ◌∙◌}
 use Rattle.std.specs.Prelude.{if◌then◌else◌}
 use Rattle.dom_base.specs.declared.NodeName.{NodeName}
-use Rattle.dom_traversal.proofs.Lists.{In}
+use Rattle.dom_laws.proofs.Lists.{In}
 use Rattle.dom_slots.specs.Renewals.{names_but}
 use Rattle.dom_model.proofs.OwnerLaws.{name_eq-other}
 

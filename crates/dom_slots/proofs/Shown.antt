@@ -11,7 +11,7 @@ use Rattle.dom_model.specs.World.{World, part_of, component_at, shadow_root_of, 
 use Rattle.dom_model.specs.Slots.{slot_of, slot_in, slots_among, assigned, assigned_below, is_assigned_to, is_slot_element, signals}
 use Rattle.dom_model.proofs.OwnerLaws.{name_eq-true}
 use Rattle.dom_tree.proofs.Owned.{read_own, stays_own}
-use Rattle.dom_traversal.proofs.Lists.{name_eq-from}
+use Rattle.dom_laws.proofs.Lists.{name_eq-from}
 use Rattle.dom_slots.specs.Shadows.{ShadowTrees, IsShownBy, slot_at, assigned_at, assigned_under, is_assigned_at, signals_at}
 
 -- a value that is there is kept, or not

@@ -8,10 +8,11 @@ use Rattle.dom_base.specs.declared.NodeName.{NodeName}
 use Rattle.dom_model.specs.Names.{name_eq, first_of, items_after, items_before}
 use Rattle.dom_model.specs.Tree.{Trees, parent_of, children_of, siblings, next_sibling, inclusive_descendants, subtree}
 use Rattle.dom_tree.specs.Forest.{NamedTrees, name_at}
-use Rattle.dom_traversal.proofs.Lists.{In, In-left, In-right, Single, Single-right, Single-apart, no_first, first_split, split_at, after-split}
-use Rattle.dom_traversal.proofs.Lists.{after-in, name_eq-from}
-use Rattle.dom_traversal.proofs.Shapes.{Once, Has, above-present, above-parent, below-from_above}
-use Rattle.dom_traversal.proofs.Children.{In-names, parent-of_child, child-of_parent, children-single}
+use Rattle.dom_laws.proofs.Lists.{In, In-left, In-right, Single, Single-right, Single-apart, no_first, first_split, split_at, after-split, after-in}
+use Rattle.dom_laws.proofs.Lists.{name_eq-from}
+use Rattle.dom_laws.proofs.Counts.{Once}
+use Rattle.dom_laws.proofs.Shapes.{Has, above-present, above-parent, below-from_above}
+use Rattle.dom_laws.proofs.Children.{In-names, parent-of_child, child-of_parent, children-single}
 
 -- the items from one on; none where there is none
 abbrev pub from_item : List NodeName → Option NodeName → List NodeName

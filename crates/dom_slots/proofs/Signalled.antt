@@ -12,7 +12,7 @@ use Rattle.dom_model.specs.Names.{name_eq, is_in, append_once, distinct, list_eq
 use Rattle.dom_model.proofs.OwnerLaws.{name_eq-turned, name_eq-true}
 use Rattle.dom_tree.specs.Forest.{name_at}
 use Rattle.dom_tree.specs.Apart.{TellApart}
-use Rattle.dom_traversal.proofs.Lists.{name_eq-from, filter-yes, filter-no}
+use Rattle.dom_laws.proofs.Lists.{name_eq-from, filter-yes, filter-no}
 use Rattle.dom_slots.proofs.Hosted.{key-test}
 
 -- ---- names added one by one are those of the list, each at its first place

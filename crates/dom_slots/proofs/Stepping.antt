@@ -4,8 +4,9 @@ use Rattle.dom_base.specs.declared.NodeName.{NodeName}
 use Rattle.dom_model.specs.Names.{Word, DomString}
 use Rattle.dom_model.specs.Tree.{Trees, none, tree, Node, subtree, parent_of, root_of}
 use Rattle.dom_model.specs.TreeChanges.{without, put_root, put_below, placed, taken_out, with_attribute}
-use Rattle.dom_traversal.proofs.Removal.{without-apart, Once-without}
-use Rattle.dom_traversal.proofs.Shapes.{Has, Once, has_or_not}
+use Rattle.dom_laws.proofs.Removal.{without-apart, Once-without}
+use Rattle.dom_laws.proofs.Shapes.{Has, has_or_not}
+use Rattle.dom_laws.proofs.Counts.{Once}
 use Rattle.dom_slots.specs.Hosts.{ShadowHost}
 use Rattle.dom_slots.proofs.PlacedTrees.{Spot, Splits, splits, grafted, root-grafts, root-unparented, below-absent, below-grafts, Has-put_below}
 use Rattle.dom_slots.proofs.Moved.{AreBoth}

@@ -12,9 +12,10 @@ use Rattle.dom_model.specs.Slots.{slot_in}
 use Rattle.dom_model.specs.Tree.{nodes, names_of, node_in, subtree, parent_of, root_of, children_of}
 use Rattle.dom_tree.specs.Forest.{NamedTrees, name_at}
 use Rattle.dom_tree.specs.Apart.{TellApart}
-use Rattle.dom_traversal.proofs.Children.{In-names, child-of_parent}
-use Rattle.dom_traversal.proofs.Lists.{In, is_in-from, name_eq-from}
-use Rattle.dom_traversal.proofs.Shapes.{Has, Once, Has-subtree, has_or_not}
+use Rattle.dom_laws.proofs.Children.{In-names, child-of_parent}
+use Rattle.dom_laws.proofs.Lists.{In, is_in-from, name_eq-from}
+use Rattle.dom_laws.proofs.Shapes.{Has, Has-subtree, has_or_not}
+use Rattle.dom_laws.proofs.Counts.{Once}
 use Rattle.dom_slots.specs.Hosts.{ShadowHost, host_named, root_named}
 use Rattle.dom_slots.specs.Kept.{StandsOnce}
 use Rattle.dom_slots.specs.Shadows.{ShadowTrees, shadows, slot_at, is_assigned_at, assigned_under, assigned_at}

@@ -6,11 +6,13 @@ use Rattle.std.specs.Option.{ForSome}
 use Rattle.dom_base.specs.declared.NodeName.{NodeName}
 use Rattle.dom_model.specs.Tree.{inclusive_descendants}
 use Rattle.dom_tree.specs.Forest.{NamedTrees, name_at}
-use Rattle.dom_traversal.specs.Within.{behind, from_node, StandsIn}
-use Rattle.dom_traversal.proofs.Lists.{filter-yes, filter-no}
-use Rattle.dom_traversal.proofs.Counts.{StandOnce, StandAlone, above-within}
-use Rattle.dom_traversal.proofs.Steps.{ordered, top_places}
-use Rattle.dom_traversal.proofs.Searching.{IsWithin-itself}
+use Rattle.dom_laws.specs.Within.{behind, from_node}
+use Rattle.dom_tree.specs.Within.{StandsIn}
+use Rattle.dom_laws.proofs.Lists.{filter-yes, filter-no}
+use Rattle.dom_tree.proofs.Standing.{StandOnce, StandAlone}
+use Rattle.dom_laws.proofs.Order.{above-within}
+use Rattle.dom_laws.proofs.Steps.{ordered, top_places}
+use Rattle.dom_tree.proofs.Searching.{IsWithin-itself}
 
 module _ (f : NamedTrees) (once : StandOnce f) (only : StandAlone f) (top : ℕ) (node : top < length f.names) where
   -- from the top on are all

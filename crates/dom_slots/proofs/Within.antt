@@ -7,7 +7,7 @@ use Rattle.dom_base.specs.declared.NodeName.{NodeName}
 use Rattle.dom_model.specs.Names.{name_eq, is_in}
 use Rattle.dom_model.specs.Slots.{slots_among, is_slot_element}
 use Rattle.dom_model.specs.Tree.{Trees, none, tree, Node, nodes, names_of, or_else, subtree, has_node}
-use Rattle.dom_traversal.proofs.Lists.{In, name_eq-from}
+use Rattle.dom_laws.proofs.Lists.{In, name_eq-from}
 
 -- a property of each node of a list
 abbrev Each : (Node → Type 0) → List Node → Type 0

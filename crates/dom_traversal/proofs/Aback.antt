@@ -11,11 +11,12 @@ use Rattle.dom_model.specs.Traversal.{accepts}
 use Rattle.dom_model.specs.Tree.{ancestors, parent_of, previous_sibling}
 use Rattle.dom_tree.specs.Forest.{NamedTrees, name_at}
 use Rattle.dom_traversal.specs.Walkers.{is_stop, is_accepted_but, stop_above, StepsBehind}
-use Rattle.dom_traversal.specs.Within.{ahead_of, up_to_tree, StandsBelow}
-use Rattle.dom_traversal.proofs.Lists.{name_eq-from, filter-no}
-use Rattle.dom_traversal.proofs.Steps.{top_places, within-top}
-use Rattle.dom_traversal.proofs.Counts.{StandOnce, StandAlone}
-use Rattle.dom_traversal.proofs.Climbing.{no_key, was_some}
+use Rattle.dom_laws.specs.Within.{ahead_of, up_to_tree}
+use Rattle.dom_tree.specs.Within.{StandsBelow}
+use Rattle.dom_laws.proofs.Lists.{name_eq-from, filter-no}
+use Rattle.dom_laws.proofs.Steps.{top_places, within-top}
+use Rattle.dom_tree.proofs.Standing.{StandOnce, StandAlone}
+use Rattle.dom_laws.proofs.Options.{no_key, was_some}
 use Rattle.dom_traversal.proofs.Stops.{IsBelow, within-below, stop-here, path_up, below-stop, aback_previous, aback_up}
 use Rattle.dom_traversal.proofs.Aside.{IsBelow-key, StandsBelow-key, SameStop, rises}
 

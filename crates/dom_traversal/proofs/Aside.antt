@@ -10,13 +10,15 @@ use Rattle.dom_model.specs.Traversal.{accepts}
 use Rattle.dom_model.specs.Tree.{inclusive_ancestors, ancestors, parent_of, children_of, next_sibling}
 use Rattle.dom_tree.specs.Forest.{NamedTrees, name_at}
 use Rattle.dom_traversal.specs.Walkers.{is_stop, stop_above}
-use Rattle.dom_traversal.specs.Within.{behind, beyond, StandsBelow}
-use Rattle.dom_traversal.proofs.Lists.{In, In-from, is_in-from, first_split}
-use Rattle.dom_traversal.proofs.Order.{here, behind_is}
-use Rattle.dom_traversal.proofs.Steps.{first_child, no_child}
-use Rattle.dom_traversal.proofs.Counts.{StandOnce, StandAlone, Once-forest, Has-forest}
-use Rattle.dom_traversal.proofs.Climbing.{IsInner, no_key, was_some}
-use Rattle.dom_traversal.proofs.Opening.{above-proper}
+use Rattle.dom_laws.specs.Within.{behind, beyond}
+use Rattle.dom_tree.specs.Within.{StandsBelow}
+use Rattle.dom_laws.proofs.Lists.{In, In-from, is_in-from, first_split}
+use Rattle.dom_laws.proofs.Order.{here, behind_is}
+use Rattle.dom_laws.proofs.Steps.{first_child, no_child}
+use Rattle.dom_tree.proofs.Standing.{StandOnce, StandAlone, Once-forest, Has-forest}
+use Rattle.dom_traversal.proofs.Climbing.{IsInner}
+use Rattle.dom_laws.proofs.Options.{no_key, was_some}
+use Rattle.dom_laws.proofs.Shapes.{above-proper}
 use Rattle.dom_traversal.proofs.Stops.{IsBelow, within-below, root-below, below-stop, below-child, below-up, path_up, stop-above, aside_next}
 use Rattle.dom_traversal.proofs.Stops.{aside_ends, aside_up}
 

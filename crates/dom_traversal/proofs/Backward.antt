@@ -18,17 +18,19 @@ use Rattle.dom_model.specs.Tree.{Trees, subtree, inclusive_ancestors, ancestors,
 use Rattle.dom_model.specs.Tree.{inclusive_descendants}
 use Rattle.dom_tree.specs.Forest.{NamedTrees, name_at}
 use Rattle.dom_traversal.specs.Walkers.{KeyedWalker, walker_view, is_passable, entered_by, is_entered, ComesBack}
-use Rattle.dom_traversal.specs.Within.{ahead_of, up_to_node, up_to_tree, StandsIn}
-use Rattle.dom_traversal.proofs.Lists.{In, In-left, In-right, In-parts, In-from, In-not, is_in-from, is_in-not, last_split, not_before, no_first, filter-none}
-use Rattle.dom_traversal.proofs.Shapes.{Has, below-from_above}
-use Rattle.dom_traversal.proofs.Children.{parent-of_child, In-names}
-use Rattle.dom_traversal.proofs.Order.{IsWithin, stands_in, here, below, joined}
-use Rattle.dom_traversal.proofs.Steps.{last_child, no_last_child, child_places, previous_places, no_previous, within-parent, within-root, top_places}
-use Rattle.dom_traversal.proofs.Steps.{within-top}
-use Rattle.dom_traversal.proofs.Counts.{StandOnce, StandAlone, Has-forest, above-within}
-use Rattle.dom_traversal.proofs.Searching.{IsWithin-key, last-hit, last-miss}
+use Rattle.dom_laws.specs.Within.{ahead_of, up_to_node, up_to_tree}
+use Rattle.dom_tree.specs.Within.{StandsIn}
+use Rattle.dom_laws.proofs.Lists.{In, In-left, In-right, In-parts, In-from, In-not, is_in-from, is_in-not, last_split, not_before, no_first}
+use Rattle.dom_laws.proofs.Lists.{filter-none, last-hit, last-miss}
+use Rattle.dom_laws.proofs.Shapes.{Has, below-from_above, above-proper, proper-parent}
+use Rattle.dom_laws.proofs.Children.{parent-of_child, In-names}
+use Rattle.dom_laws.proofs.Order.{IsWithin, stands_in, here, below, joined, above-within}
+use Rattle.dom_laws.proofs.Steps.{last_child, no_last_child, child_places, previous_places, no_previous, within-parent, within-root, top_places}
+use Rattle.dom_laws.proofs.Steps.{within-top}
+use Rattle.dom_tree.proofs.Standing.{StandOnce, StandAlone, Has-forest}
+use Rattle.dom_tree.proofs.Searching.{IsWithin-key}
 use Rattle.dom_traversal.proofs.Climbing.{IsInner, inner-within}
-use Rattle.dom_traversal.proofs.Opening.{hidden, all-from, all-at, above-proper, proper-parent}
+use Rattle.dom_traversal.proofs.Opening.{hidden, all-from, all-at}
 use Rattle.dom_traversal.proofs.Passing.{passing, walker_nodes-passing, passable-above}
 
 -- ---- down to the last child

@@ -14,13 +14,13 @@ use Rattle.dom_model.specs.Tree.{Trees, inclusive_ancestors, ancestors, children
 use Rattle.dom_model.proofs.OwnerLaws.{name_eq-other}
 use Rattle.dom_tree.specs.Forest.{NamedTrees, name_at}
 use Rattle.dom_traversal.specs.Walkers.{KeyedWalker, walker_view, is_opened, is_reached, stop_above, stop_of, BeginsForward}
-use Rattle.dom_traversal.specs.Within.{ahead_of, behind, beyond, from_node}
-use Rattle.dom_traversal.proofs.Lists.{In, Single, Single-right, Single-apart, is_in-from, is_in-not, name_eq-from, no_first, first_split}
-use Rattle.dom_traversal.proofs.Children.{parent-of_child}
-use Rattle.dom_traversal.proofs.Order.{IsWithin, stands_in, all_single, here, below, splits, behind_is}
-use Rattle.dom_traversal.proofs.Steps.{within-itself, top_places, first_child, no_child}
-use Rattle.dom_traversal.proofs.Counts.{above-within}
-use Rattle.dom_traversal.proofs.Opening.{above-proper, proper-parent, beyond-above, all-from}
+use Rattle.dom_laws.specs.Within.{ahead_of, behind, beyond, from_node}
+use Rattle.dom_laws.proofs.Lists.{In, Single, Single-right, Single-apart, is_in-from, is_in-not, name_eq-from, no_first, first_split}
+use Rattle.dom_laws.proofs.Children.{parent-of_child}
+use Rattle.dom_laws.proofs.Order.{IsWithin, stands_in, all_single, here, below, splits, behind_is, above-within}
+use Rattle.dom_laws.proofs.Steps.{within-itself, top_places, first_child, no_child}
+use Rattle.dom_laws.proofs.Shapes.{above-proper, proper-parent}
+use Rattle.dom_traversal.proofs.Opening.{beyond-above, all-from}
 use Rattle.dom_traversal.proofs.Forward.{zone_is, beyond-zone, not_behind}
 use Rattle.dom_traversal.proofs.Stops.{IsBelow, within-below, other-below, below-stop, stop-here}
 use Rattle.dom_traversal.proofs.Aside.{Follows}

@@ -11,12 +11,12 @@ use Rattle.dom_model.specs.Tree.{Trees, inclusive_ancestors, ancestors, children
 use Rattle.dom_model.proofs.OwnerLaws.{name_eq-other}
 use Rattle.dom_tree.specs.Forest.{NamedTrees, name_at}
 use Rattle.dom_traversal.specs.Walkers.{KeyedWalker, walker_view, is_opened, is_reached, is_candidate, stop_above, stop_of, StepsBehind, BeginsBackward}
-use Rattle.dom_traversal.specs.Within.{ahead_of, up_to_tree}
-use Rattle.dom_traversal.proofs.Lists.{In, In-left, In-right, is_in-from, In-from, name_eq-from, not_before, last_split, filter-no, filter-same}
-use Rattle.dom_traversal.proofs.Order.{IsWithin, here, below}
-use Rattle.dom_traversal.proofs.Steps.{within-itself, top_places, last_child, no_last_child}
-use Rattle.dom_traversal.proofs.Counts.{above-within}
-use Rattle.dom_traversal.proofs.Opening.{above-proper, all-from}
+use Rattle.dom_laws.specs.Within.{ahead_of, up_to_tree}
+use Rattle.dom_laws.proofs.Lists.{In, In-left, In-right, is_in-from, In-from, name_eq-from, not_before, last_split, filter-no, filter-same}
+use Rattle.dom_laws.proofs.Order.{IsWithin, here, below, above-within}
+use Rattle.dom_laws.proofs.Steps.{within-itself, top_places, last_child, no_last_child}
+use Rattle.dom_laws.proofs.Shapes.{above-proper}
+use Rattle.dom_traversal.proofs.Opening.{all-from}
 use Rattle.dom_traversal.proofs.Stops.{IsBelow, within-below, other-below}
 use Rattle.dom_traversal.proofs.Aback.{FollowsBack}
 use Rattle.dom_traversal.proofs.Reaching.{opened-above}

@@ -8,13 +8,14 @@ use Rattle.dom_model.specs.Traversal.{Walker, accepts, skips, between, walker_ch
 use Rattle.dom_model.specs.Tree.{Trees, none, tree, inclusive_ancestors, ancestors, is_inclusive_ancestor}
 use Rattle.dom_model.proofs.OwnerLaws.{name_eq-other}
 use Rattle.dom_traversal.specs.Walkers.{is_opened, is_reached}
-use Rattle.dom_traversal.proofs.Lists.{In, Single, Single-apart, is_in-not, filter-same}
-use Rattle.dom_traversal.proofs.Shapes.{Has, Once, Has-above, above-here, above-below, above-beside, above-from_below}
-use Rattle.dom_traversal.proofs.Children.{Single-append}
-use Rattle.dom_traversal.proofs.Order.{IsWithin, stands_in, all_single, here, below}
-use Rattle.dom_traversal.proofs.Steps.{within-member}
-use Rattle.dom_traversal.proofs.Chains.{above-split}
-use Rattle.dom_traversal.proofs.Opening.{above-proper, all-from}
+use Rattle.dom_laws.proofs.Lists.{In, Single, Single-apart, is_in-not, filter-same}
+use Rattle.dom_laws.proofs.Shapes.{once_apart, Has, Has-above, above-here, above-below, above-beside, above-from_below, above-proper}
+use Rattle.dom_laws.proofs.Counts.{Once}
+use Rattle.dom_laws.proofs.Children.{Single-append}
+use Rattle.dom_laws.proofs.Order.{IsWithin, stands_in, all_single, here, below}
+use Rattle.dom_laws.proofs.Steps.{within-member}
+use Rattle.dom_laws.proofs.Chains.{above-split}
+use Rattle.dom_traversal.proofs.Opening.{all-from}
 use Rattle.dom_traversal.proofs.Stops.{IsBelow, other-below}
 use Rattle.dom_traversal.proofs.Reaching.{opened-above}
 
@@ -53,9 +54,9 @@ Single-above none x once h = absurd h
 Single-above (tree n c r) x once (inl e) = subst Single (sym (above-here n c r x e)) (λ i. i, tt)
 Single-above (tree n c r) x once (inr (inl h)) =
     subst Single (sym (above-below n c r x once h))
-    (Single-append (inclusive_ancestors c x) (n.name ∷ []) (Single-above c x once.3 h) (λ i. i, tt)
-    (λ y i j. once.0 (subst (Has c) (elim j [ inl same ↦ same | inr k ↦ absurd k ]) (Has-above c y x once.3 h i))))
-Single-above (tree n c r) x once (inr (inr h)) = subst Single (sym (above-beside n c r x once h)) (Single-above r x once.4 h)
+    (Single-append (inclusive_ancestors c x) (n.name ∷ []) (Single-above c x (once_apart n c r once).3 h) (λ i. i, tt)
+    (λ y i j. (once_apart n c r once).0 (subst (Has c) (elim j [ inl same ↦ same | inr k ↦ absurd k ]) (Has-above c y x (once_apart n c r once).3 h i))))
+Single-above (tree n c r) x once (inr (inr h)) = subst Single (sym (above-beside n c r x once h)) (Single-above r x (once_apart n c r once).4 h)
 
 -- nor above it alone
 pub Single-proper : (ts : Trees) (x : NodeName) → Once ts → Has ts x → Single (ancestors ts x)

@@ -1,34 +1,19 @@
 -- Steps aside and up by keys, within the tree of a node.
-use Rattle.std.proofs.Common.{◌≡◌, ℕ, ◌<◌, true, false, ◌++◌, length, Option, Some, None, refl, sym, ap, ◌∙◌, arith, true≢false, not, eqb}
+use Rattle.std.proofs.Common.{◌≡◌, ℕ, ◌<◌, true, ◌++◌, length, Option, Some, None, sym, ap, ◌∙◌, arith}
 use Rattle.std.specs.Prelude.{is_some}
 use Rattle.std.specs.Option.{option_map, ForSome}
-use Rattle.std.proofs.lemmas.Bool.{not-true, eq-eqb, both_ways}
 use Rattle.dom_base.specs.declared.NodeName.{NodeName}
 use Rattle.dom_model.specs.Names.{first_of}
 use Rattle.dom_model.specs.Tree.{Trees, parent_of, next_sibling, inclusive_ancestors}
 use Rattle.dom_tree.specs.Forest.{NamedTrees, name_at}
-use Rattle.dom_tree.specs.Apart.{TellApart}
-use Rattle.dom_traversal.specs.Within.{beyond, StandsIn}
-use Rattle.dom_traversal.proofs.Shapes.{above-parent}
-use Rattle.dom_traversal.proofs.Order.{IsWithin, stands_in, here}
-use Rattle.dom_traversal.proofs.Steps.{within-parent, within-root, next_places, no_next}
-use Rattle.dom_traversal.proofs.Counts.{StandOnce, StandAlone, above-within}
-use Rattle.dom_traversal.proofs.Searching.{IsWithin-key, StandsIn-found}
-
--- an option that is not there
-pub was_none : {X : Type 0} (o : Option X) → is_some o ≡ false → o ≡ None
-was_none None e = refl
-was_none (Some x) e = absurd (true≢false e)
-
--- an option that is there
-pub was_some : {X : Type 0} (o : Option X) → is_some o ≡ true → (x : X) × (o ≡ Some x)
-was_some None e = absurd (true≢false (sym e))
-was_some (Some x) e = (x, refl)
-
--- an option that is no value
-pub none_left : {X : Type 0} (o : Option X) → ((x : X) → o ≡ Some x → ⊥) → o ≡ None
-none_left None never = refl
-none_left (Some x) never = absurd (never x refl)
+use Rattle.dom_laws.specs.Within.{beyond}
+use Rattle.dom_tree.specs.Within.{StandsIn}
+use Rattle.dom_laws.proofs.Shapes.{above-parent}
+use Rattle.dom_laws.proofs.Options.{was_some}
+use Rattle.dom_laws.proofs.Order.{IsWithin, stands_in, here, above-within}
+use Rattle.dom_laws.proofs.Steps.{within-parent, within-root, next_places, no_next}
+use Rattle.dom_tree.proofs.Standing.{StandOnce, StandAlone}
+use Rattle.dom_tree.proofs.Searching.{IsWithin-key, StandsIn-found}
 
 -- the next sibling is the first node beyond
 first-tree : {ts : Trees} {top x s : NodeName} → IsWithin ts top x → (x ≡ top → ⊥) → next_sibling ts x ≡ Some s → first_of (beyond ts top x) ≡ Some s
@@ -46,10 +31,6 @@ pub record IsInner (f : NamedTrees) (top k : ℕ) : Type 0 where
 -- its name stands there too
 pub inner-within : {f : NamedTrees} {top k : ℕ} → IsInner f top k → IsWithin f.trees (name_at f.names top) (name_at f.names k)
 inner-within {f} {top} {k} i = IsWithin-key f i.once i.only top k i.stands
-
--- no node, as a key
-pub no_key : {X Y : Type 0} (f : X → Y) (key : Option X) {o : Option Y} → option_map f key ≡ o → is_some key ≡ false → o ≡ None
-no_key f key is none_left = sym is ∙ ap (option_map f) (was_none key none_left)
 
 -- a step aside goes to what is beyond a node
 pub next_step : {f : NamedTrees} {top k : ℕ} (next : Option ℕ) → IsInner f top k →
@@ -99,13 +80,3 @@ climb_step {f} {top} {k} p i last up node =
 -- only the top has no node above it
 pub climb_ends : {f : NamedTrees} {top k : ℕ} → IsInner f top k → None ≡ parent_of f.trees (name_at f.names k) → ⊥
 climb_ends {f} {top} {k} i up = within-root f.trees (name_at f.names top) (name_at f.names k) (inner-within i) i.other (sym up)
-
--- Two keys of a forest whose names differ.
-module _ (f : NamedTrees) (apart : TellApart f.names) (j k : ℕ) (at_j : j < length f.names) (at_k : k < length f.names) where
-  -- two keys that differ have names that differ
-  pub other_name : not (eqb j k) ≡ true → name_at f.names j ≡ name_at f.names k → ⊥
-  other_name e same = both_ways _ (not-true _ e) (eq-eqb j k (apart j k at_j at_k same))
-
-  -- two keys of which the test says that they differ have names that differ
-  pub other_key : eqb j k ≡ false → name_at f.names j ≡ name_at f.names k → ⊥
-  other_key e = other_name (ap not e)

@@ -11,13 +11,14 @@ use Rattle.dom_model.specs.Tree.{inclusive_descendants, is_inclusive_ancestor}
 use Rattle.dom_model.specs.Traversal.{accepts, nodes_ahead, iterator_next_node, walker_move}
 use Rattle.dom_model.proofs.OwnerLaws.{name_eq-other}
 use Rattle.dom_tree.specs.Forest.{NamedTrees, name_at}
-use Rattle.dom_traversal.specs.Within.{behind, StandsIn}
+use Rattle.dom_laws.specs.Within.{behind}
+use Rattle.dom_tree.specs.Within.{StandsIn}
 use Rattle.dom_traversal.specs.Iterators.{KeyedIterator, IsIteratorOf, iterator_left, iterator_view}
 use Rattle.dom_traversal.specs.Walkers.{KeyedWalker, IsWalkerOf, walker_left, walker_view}
-use Rattle.dom_traversal.proofs.Lists.{In, Single, split_at, after-in, same_or_not, name_eq-from, filter-yes, filter-no}
-use Rattle.dom_traversal.proofs.Order.{all_single}
-use Rattle.dom_traversal.proofs.Counts.{StandOnce, StandAlone}
-use Rattle.dom_traversal.proofs.Searching.{IsWithin-key}
+use Rattle.dom_laws.proofs.Lists.{In, Single, split_at, after-in, same_or_not, name_eq-from, filter-yes, filter-no}
+use Rattle.dom_laws.proofs.Order.{all_single}
+use Rattle.dom_tree.proofs.Standing.{StandOnce, StandAlone}
+use Rattle.dom_tree.proofs.Searching.{IsWithin-key}
 
 -- ---- in a list in which no name stands twice
 

@@ -7,14 +7,13 @@ use Rattle.std.proofs.lemmas.Option.{same_Some}
 use Rattle.dom_base.specs.declared.NodeName.{NodeName}
 use Rattle.dom_model.specs.Names.{first_of}
 use Rattle.dom_model.specs.Tree.{Trees, subtree, inclusive_ancestors, ancestors, children_of, is_inclusive_ancestor, inclusive_descendants}
-use Rattle.dom_traversal.specs.Within.{ahead_of, behind, beyond, from_node}
-use Rattle.dom_traversal.proofs.Lists.{In, In-left, In-right, In-from, Single, Single-right, no_first, first_split}
-use Rattle.dom_traversal.proofs.Shapes.{below-from_above}
-use Rattle.dom_traversal.proofs.Children.{parent-of_child, In-names}
-use Rattle.dom_traversal.proofs.Order.{IsWithin, stands_in, all_single, here, below, behind_is}
-use Rattle.dom_traversal.proofs.Steps.{first_child, no_child, following_place, ordered}
-use Rattle.dom_traversal.proofs.Searching.{behind-next, first-miss}
-use Rattle.dom_traversal.proofs.Opening.{reached, reached-shut, all-from, all-at, proper-parent, beyond-above, beyond_place}
+use Rattle.dom_laws.specs.Within.{ahead_of, behind, beyond, from_node}
+use Rattle.dom_laws.proofs.Lists.{In, In-left, In-right, In-from, Single, Single-right, no_first, first_split, first-miss}
+use Rattle.dom_laws.proofs.Shapes.{below-from_above, proper-parent}
+use Rattle.dom_laws.proofs.Children.{parent-of_child, In-names}
+use Rattle.dom_laws.proofs.Order.{IsWithin, stands_in, all_single, here, below, behind_is}
+use Rattle.dom_laws.proofs.Steps.{first_child, no_child, following_place, ordered, behind-next}
+use Rattle.dom_traversal.proofs.Opening.{reached, reached-shut, all-from, all-at, beyond-above, beyond_place}
 
 -- what is next behind a node has no other nodes above it than that node and those above it
 pub following-above : {ts : Trees} {top x y : NodeName} → IsWithin ts top x → first_of (behind ts top x) ≡ Some y → (a : NodeName) → In a (ancestors ts y) →

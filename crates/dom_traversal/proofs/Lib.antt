@@ -1,13 +1,5 @@
-pub mod Lists
-pub mod Shapes
-pub mod Children
-pub mod Order
-pub mod Steps
-pub mod Counts
-pub mod Searching
-pub mod Climbing
-pub mod Chains
-pub mod Opening
+mod Climbing
+mod Opening
 mod Forward
 mod Passing
 mod Stops
@@ -23,4 +15,3 @@ mod ReachingBack
 mod BeginningBack
 mod Fewer
 mod Rest
-pub mod Removal

@@ -11,15 +11,15 @@ use Rattle.dom_model.specs.Traversal.{Walker, accepts, between, walker_siblings,
 use Rattle.dom_model.specs.Tree.{Trees, subtree, inclusive_ancestors, ancestors, is_inclusive_ancestor, inclusive_descendants}
 use Rattle.dom_model.proofs.OwnerLaws.{name_eq-other}
 use Rattle.dom_traversal.specs.Walkers.{is_opened, is_reached, is_stop, is_candidate}
-use Rattle.dom_traversal.specs.Within.{ahead_of, behind, beyond}
-use Rattle.dom_traversal.proofs.Lists.{In, In-left, In-right, In-parts, In-from, before-in, after-in, not_before, Single, Single-right, Single-apart}
-use Rattle.dom_traversal.proofs.Lists.{same_or_not, is_in-from, is_in-not, name_eq-from, filter-none, filter-same}
-use Rattle.dom_traversal.proofs.Shapes.{Has, has_or_not, Has-above, above-absent, below-from_above}
-use Rattle.dom_traversal.proofs.Children.{In-names}
-use Rattle.dom_traversal.proofs.Order.{IsWithin, stands_in, all_single, here, below, splits, split_is, behind_is, inside-test, outside-test}
-use Rattle.dom_traversal.proofs.Steps.{within-member, within-top, ordered}
-use Rattle.dom_traversal.proofs.Chains.{above-along, ahead-apart}
-use Rattle.dom_traversal.proofs.Opening.{above-proper, not_around, not_above_itself}
+use Rattle.dom_laws.specs.Within.{ahead_of, behind, beyond}
+use Rattle.dom_laws.proofs.Lists.{In, In-left, In-right, In-parts, In-from, before-in, after-in, not_before, Single, Single-right, Single-apart}
+use Rattle.dom_laws.proofs.Lists.{same_or_not, is_in-from, is_in-not, name_eq-from, filter-none, filter-same}
+use Rattle.dom_laws.proofs.Shapes.{Has, has_or_not, Has-above, above-absent, below-from_above, above-proper}
+use Rattle.dom_laws.proofs.Children.{In-names}
+use Rattle.dom_laws.proofs.Order.{IsWithin, stands_in, all_single, here, below, splits, split_is, behind_is, inside-test, outside-test}
+use Rattle.dom_laws.proofs.Steps.{within-member, within-top, ordered}
+use Rattle.dom_laws.proofs.Chains.{above-along, ahead-apart}
+use Rattle.dom_traversal.proofs.Opening.{not_around, not_above_itself}
 use Rattle.dom_traversal.proofs.Stops.{IsBelow, within-below, below-stop}
 use Rattle.dom_traversal.proofs.Candidates.{proper-split, opened-between, below-member}
 

@@ -9,13 +9,14 @@ use Rattle.std.proofs.lemmas.List.Elements.{filter-append}
 use Rattle.dom_base.specs.declared.NodeName.{NodeName}
 use Rattle.dom_model.specs.Names.{name_eq, first_of, items_before, items_after}
 use Rattle.dom_model.specs.Tree.{Trees, subtree, inclusive_ancestors, ancestors, parent_of, children_of, next_sibling, inclusive_descendants}
-use Rattle.dom_traversal.specs.Within.{ahead_of, behind, beyond}
-use Rattle.dom_traversal.proofs.Lists.{In, In-right, Single, Single-apart, no_first, first_split, same_or_not, after-split, filter-none, filter-no}
-use Rattle.dom_traversal.proofs.Shapes.{Has, Once, Has-subtree, above-present, above-parent, above-from_below, below-from_above}
-use Rattle.dom_traversal.proofs.Children.{parent-of_child, Has-names}
-use Rattle.dom_traversal.proofs.Order.{IsWithin, stands_in, here, below, all_single, splits, behind_is}
-use Rattle.dom_traversal.proofs.Steps.{within-root, within-top, within-parent, within-member, top_places, next_places, no_next}
-use Rattle.dom_traversal.proofs.Chains.{above-split, above-along}
+use Rattle.dom_laws.specs.Within.{ahead_of, behind, beyond}
+use Rattle.dom_laws.proofs.Lists.{In, In-right, Single, Single-apart, no_first, first_split, same_or_not, after-split, filter-none, filter-no}
+use Rattle.dom_laws.proofs.Shapes.{above-proper, proper-parent, Has, Has-subtree, above-parent, above-from_below, below-from_above}
+use Rattle.dom_laws.proofs.Counts.{Once}
+use Rattle.dom_laws.proofs.Children.{parent-of_child, Has-names}
+use Rattle.dom_laws.proofs.Order.{IsWithin, stands_in, here, below, all_single, splits, behind_is}
+use Rattle.dom_laws.proofs.Steps.{within-root, within-top, within-parent, within-member, top_places, next_places, no_next}
+use Rattle.dom_laws.proofs.Chains.{above-split, above-along}
 
 -- tests of all members
 pub all-from : (p : NodeName → Bool) (xs : List NodeName) → ((a : NodeName) → In a xs → p a ≡ true) → list_all p xs ≡ true
@@ -38,16 +39,6 @@ none-all p [] = refl
 none-all p (x ∷ xs) = elim (cases_Bool (p x)) [ inl e ↦ rw e refl | inr e ↦ rw e (none-all p xs) ]
 
 -- ---- above a child
-
--- above x stands x, and then its proper ancestors
-pub above-proper : (ts : Trees) (x : NodeName) → Has ts x → inclusive_ancestors ts x ≡ x ∷ ancestors ts x
-above-proper ts x h = let w = above-present ts x h in w.1 ∙ ap (λ xs. x ∷ xs) (sym (ap (drop 1) w.1))
-
--- the proper ancestors of a node with a parent
-pub proper-parent : (ts : Trees) (x p : NodeName) → Once ts → Has ts x → parent_of ts x ≡ Some p → (ancestors ts x ≡ p ∷ ancestors ts p) × Has ts p
-proper-parent ts x p once h e =
-    let up = above-parent ts x p once h e in
-    (ap (drop 1) up.0 ∙ above-proper ts p up.1, up.1)
 
 -- A node of trees in which each stands once.
 module _ (ts : Trees) (x : NodeName) (once : Once ts) (h : Has ts x) where

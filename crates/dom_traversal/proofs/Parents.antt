@@ -7,11 +7,11 @@ use Rattle.dom_model.specs.Names.{name_eq}
 use Rattle.dom_model.specs.Traversal.{Walker, accepts}
 use Rattle.dom_model.specs.Tree.{Trees, inclusive_ancestors, ancestors, parent_of, is_inclusive_ancestor}
 use Rattle.dom_model.proofs.OwnerLaws.{name_eq-other}
-use Rattle.dom_traversal.proofs.Lists.{In, same_or_not, name_eq-from, is_in-not}
-use Rattle.dom_traversal.proofs.Order.{IsWithin, stands_in}
-use Rattle.dom_traversal.proofs.Steps.{within-parent, within-top}
-use Rattle.dom_traversal.proofs.Counts.{above-within}
-use Rattle.dom_traversal.proofs.Opening.{proper-parent, not_around}
+use Rattle.dom_laws.proofs.Lists.{In, same_or_not, name_eq-from, is_in-not}
+use Rattle.dom_laws.proofs.Order.{IsWithin, stands_in, above-within}
+use Rattle.dom_laws.proofs.Steps.{within-parent, within-top}
+use Rattle.dom_laws.proofs.Shapes.{proper-parent}
+use Rattle.dom_traversal.proofs.Opening.{not_around}
 
 -- a node that is accepted and stands in the tree of the root
 abbrev pub is_parent : Trees → Walker → NodeName → Bool

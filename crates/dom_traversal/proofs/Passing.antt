@@ -9,12 +9,12 @@ use Rattle.dom_model.specs.Names.{first_of}
 use Rattle.dom_model.specs.Traversal.{Walker, answer_at, accepts, rejects, is_reject, walker_nodes}
 use Rattle.dom_model.specs.Tree.{Trees, inclusive_ancestors, ancestors, is_inclusive_ancestor}
 use Rattle.dom_traversal.specs.Walkers.{is_passable}
-use Rattle.dom_traversal.specs.Within.{behind, beyond}
-use Rattle.dom_traversal.proofs.Lists.{In, is_in-from, filter-same}
-use Rattle.dom_traversal.proofs.Order.{IsWithin, stands_in}
-use Rattle.dom_traversal.proofs.Steps.{following_place}
-use Rattle.dom_traversal.proofs.Searching.{behind-next}
-use Rattle.dom_traversal.proofs.Opening.{reached, all-from, none-all, above-proper}
+use Rattle.dom_laws.specs.Within.{behind, beyond}
+use Rattle.dom_laws.proofs.Lists.{In, is_in-from, filter-same}
+use Rattle.dom_laws.proofs.Order.{IsWithin, stands_in}
+use Rattle.dom_laws.proofs.Steps.{following_place, behind-next}
+use Rattle.dom_traversal.proofs.Opening.{reached, all-from, none-all}
+use Rattle.dom_laws.proofs.Shapes.{above-proper}
 use Rattle.dom_traversal.proofs.Forward.{Comes, Comes-skip, Comes-reject, Comes-apart, following-above, not_behind}
 
 -- a node that is accepted and not hidden

@@ -12,10 +12,11 @@ use Rattle.dom_model.specs.Traversal.{Walker, answer_at, accepts, skips, is_skip
 use Rattle.dom_model.specs.Tree.{Trees, inclusive_ancestors, ancestors, is_inclusive_ancestor}
 use Rattle.dom_tree.specs.Forest.{NamedTrees, name_at}
 use Rattle.dom_traversal.specs.Walkers.{KeyedWalker, walker_view, is_opened, is_reached, stop_above, stop_of, BeginsForward}
-use Rattle.dom_traversal.specs.Within.{behind, beyond, from_node, StandsBelow}
-use Rattle.dom_traversal.proofs.Lists.{In, is_in-from, In-not}
-use Rattle.dom_traversal.proofs.Order.{IsWithin}
-use Rattle.dom_traversal.proofs.Counts.{StandOnce, StandAlone, Has-forest, IsWithin-forest}
+use Rattle.dom_laws.specs.Within.{behind, beyond, from_node}
+use Rattle.dom_tree.specs.Within.{StandsBelow}
+use Rattle.dom_laws.proofs.Lists.{In, is_in-from, In-not}
+use Rattle.dom_laws.proofs.Order.{IsWithin}
+use Rattle.dom_tree.proofs.Standing.{StandOnce, StandAlone, Has-forest, IsWithin-forest}
 use Rattle.dom_traversal.proofs.Forward.{Comes, shorter-skip, shorter-reject, Comes-skip, Comes-reject, Comes-apart}
 use Rattle.dom_traversal.proofs.Passing.{accepts-some}
 use Rattle.dom_traversal.proofs.Stops.{within-below, below-stop}

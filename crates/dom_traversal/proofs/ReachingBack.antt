@@ -19,15 +19,15 @@ use Rattle.dom_model.proofs.OwnerLaws.{name_eq-other}
 use Rattle.dom_tree.specs.Forest.{NamedTrees, name_at}
 use Rattle.dom_traversal.specs.Walkers.{KeyedWalker, walker_view, is_opened, is_reached, is_candidate, is_accepted_but, is_entered, entered_by}
 use Rattle.dom_traversal.specs.Walkers.{is_stop, stop_above, StepsBehind, BeginsBackward}
-use Rattle.dom_traversal.specs.Within.{ahead_of, up_to_tree, StandsBelow}
-use Rattle.dom_traversal.proofs.Lists.{In, In-left, In-right, In-parts, Single, Single-apart, is_in-from, is_in-not, last_of-end}
-use Rattle.dom_traversal.proofs.Lists.{filter-none, filter-no}
-use Rattle.dom_traversal.proofs.Shapes.{Has, below-from_above}
-use Rattle.dom_traversal.proofs.Children.{In-names}
-use Rattle.dom_traversal.proofs.Order.{IsWithin, here, below}
+use Rattle.dom_laws.specs.Within.{ahead_of, up_to_tree}
+use Rattle.dom_tree.specs.Within.{StandsBelow}
+use Rattle.dom_laws.proofs.Lists.{In, In-left, In-right, In-parts, Single, Single-apart, is_in-from, is_in-not, last_of-end, filter-none, filter-no}
+use Rattle.dom_laws.proofs.Shapes.{Has, below-from_above}
+use Rattle.dom_laws.proofs.Children.{In-names}
+use Rattle.dom_laws.proofs.Order.{IsWithin, here, below, above-within}
 use Rattle.dom_traversal.proofs.Opening.{hidden, all-from, all-at, not_around}
 use Rattle.dom_traversal.proofs.Stops.{IsBelow, within-below, other-below, below-stop}
-use Rattle.dom_traversal.proofs.Counts.{StandOnce, StandAlone, Has-forest, above-within}
+use Rattle.dom_tree.proofs.Standing.{StandOnce, StandAlone, Has-forest}
 use Rattle.dom_traversal.proofs.Aside.{IsBelow-key, StandsBelow-key, SameStop}
 use Rattle.dom_traversal.proofs.Reaching.{stop_from}
 use Rattle.dom_traversal.proofs.Candidates.{Single-proper}

@@ -13,14 +13,15 @@ use Rattle.dom_model.specs.Command.{Filter}
 use Rattle.dom_model.specs.Traversal.{Walker, accepts, rejects, verdict_at, is_reject, is_shown, iterator_next_node, walker_nodes, walker_move}
 use Rattle.dom_model.proofs.OwnerLaws.{name_eq-other}
 use Rattle.dom_tree.specs.Forest.{NamedTrees, name_at}
-use Rattle.dom_traversal.specs.Within.{behind, StandsIn}
+use Rattle.dom_laws.specs.Within.{behind}
+use Rattle.dom_tree.specs.Within.{StandsIn}
 use Rattle.dom_traversal.specs.Iterators.{KeyedIterator, IsIteratorOf, iterator_rest, iterator_view}
 use Rattle.dom_traversal.specs.Walkers.{KeyedWalker, IsWalkerOf, walker_rest, walker_view}
-use Rattle.dom_traversal.proofs.Lists.{In, Single, after-in, name_eq-from, filter-yes, filter-no, filter-same, no_first}
-use Rattle.dom_traversal.proofs.Order.{all_single}
-use Rattle.dom_traversal.proofs.Steps.{within-member}
-use Rattle.dom_traversal.proofs.Counts.{StandOnce, StandAlone, above-within}
-use Rattle.dom_traversal.proofs.Searching.{IsWithin-key}
+use Rattle.dom_laws.proofs.Lists.{In, Single, after-in, name_eq-from, filter-yes, filter-no, filter-same, no_first}
+use Rattle.dom_laws.proofs.Order.{all_single, above-within}
+use Rattle.dom_laws.proofs.Steps.{within-member}
+use Rattle.dom_tree.proofs.Standing.{StandOnce, StandAlone}
+use Rattle.dom_tree.proofs.Searching.{IsWithin-key}
 use Rattle.dom_traversal.proofs.Fewer.{first-in}
 
 -- ---- in a list in which no name stands twice

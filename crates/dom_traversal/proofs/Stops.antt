@@ -8,14 +8,15 @@ use Rattle.dom_model.specs.Names.{name_eq, first_of}
 use Rattle.dom_model.specs.Traversal.{accepts}
 use Rattle.dom_model.specs.Tree.{Trees, inclusive_ancestors, ancestors, parent_of, children_of, next_sibling, previous_sibling, inclusive_descendants}
 use Rattle.dom_model.proofs.OwnerLaws.{name_eq-other}
-use Rattle.dom_traversal.specs.Within.{ahead_of, beyond}
+use Rattle.dom_laws.specs.Within.{ahead_of, beyond}
 use Rattle.dom_traversal.specs.Walkers.{is_stop, stop_above}
-use Rattle.dom_traversal.proofs.Lists.{In, name_eq-from, no_first}
-use Rattle.dom_traversal.proofs.Shapes.{Has, Once, Has-above, below-from_above}
-use Rattle.dom_traversal.proofs.Children.{parent-of_child}
-use Rattle.dom_traversal.proofs.Order.{IsWithin, stands_in, here}
-use Rattle.dom_traversal.proofs.Steps.{within-top, next_places, no_next, previous_places, no_previous, top_places}
-use Rattle.dom_traversal.proofs.Opening.{above-proper, proper-parent, not_above_itself}
+use Rattle.dom_laws.proofs.Lists.{In, name_eq-from, no_first}
+use Rattle.dom_laws.proofs.Shapes.{Has, Has-above, below-from_above, above-proper, proper-parent}
+use Rattle.dom_laws.proofs.Counts.{Once}
+use Rattle.dom_laws.proofs.Children.{parent-of_child}
+use Rattle.dom_laws.proofs.Order.{IsWithin, stands_in, here}
+use Rattle.dom_laws.proofs.Steps.{within-top, next_places, no_next, previous_places, no_previous, top_places}
+use Rattle.dom_traversal.proofs.Opening.{not_above_itself}
 
 -- x stands below top
 pub record IsBelow (ts : Trees) (top x : NodeName) : Type 0 where

@@ -6,7 +6,7 @@ use Rattle.dom_model.specs.Traversal.{Iterator, nodes_ahead, accepts}
 use Rattle.dom_model.specs.Tree.{is_inclusive_ancestor}
 use Rattle.dom_model.specs.TreeChanges.{taken_out}
 use Rattle.dom_tree.specs.Forest.{NamedTrees, name_at}
-use Rattle.dom_traversal.specs.Within.{StandsIn}
+use Rattle.dom_tree.specs.Within.{StandsIn}
 
 -- an iterator by keys
 pub record KeyedIterator : Type 0 where

@@ -1,5 +1,4 @@
 -- Unmarked: own rules, about what the code holds and its contracts say.
 pub mod Filters
-pub mod Within
 pub mod Iterators
 pub mod Walkers

@@ -9,7 +9,8 @@ use Rattle.dom_model.specs.Names.{name_eq, is_in}
 use Rattle.dom_model.specs.Traversal.{Walker, answer_at, accepts, skips, rejects, sibling_top}
 use Rattle.dom_model.specs.Tree.{Trees, ancestors, is_inclusive_ancestor}
 use Rattle.dom_tree.specs.Forest.{NamedTrees, name_at}
-use Rattle.dom_traversal.specs.Within.{ahead_of, behind, from_node, up_to_tree, StandsIn, StandsBelow}
+use Rattle.dom_laws.specs.Within.{ahead_of, behind, from_node, up_to_tree}
+use Rattle.dom_tree.specs.Within.{StandsIn, StandsBelow}
 
 -- a walker by keys
 pub record KeyedWalker : Type 0 where

@@ -7,7 +7,8 @@ ghost use Rattle.dom_model.specs.Tree.{nodes, is_inclusive_ancestor};
 ghost use Rattle.dom_tree.specs.Forest.{NamedTrees, name_at, IsNode, name_of};
 ghost use Rattle.dom_traversal.specs.Filters.{filter_of};
 ghost use Rattle.dom_traversal.specs.Iterators.{KeyedIterator, iterator_view, IsIteratorOf, iterator_at, iterator_left, HasLeft, with_taken_out};
-ghost use Rattle.dom_traversal.specs.Within.{from_node, up_to_node, StandsIn};
+ghost use Rattle.dom_laws.specs.Within.{from_node, up_to_node};
+ghost use Rattle.dom_tree.specs.Within.{StandsIn};
 
 use crate::filter::Filter;
 use crate::search::beyond;

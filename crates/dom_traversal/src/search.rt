@@ -8,7 +8,8 @@ ghost use Rattle.dom_model.specs.Traversal.{accepts};
 ghost use Rattle.dom_model.specs.Tree.{ancestors, inclusive_descendants, is_inclusive_ancestor};
 ghost use Rattle.dom_tree.specs.Forest.{IsNode, name_of};
 ghost use Rattle.dom_traversal.specs.Filters.{filter_of};
-ghost use Rattle.dom_traversal.specs.Within.{beyond, from_node, up_to_node, up_to_tree, StandsIn};
+ghost use Rattle.dom_laws.specs.Within.{beyond, from_node, up_to_node, up_to_tree};
+ghost use Rattle.dom_tree.specs.Within.{StandsIn};
 ghost use Rattle.dom_traversal.specs.Walkers.{is_entered};
 
 use crate::filter::Filter;

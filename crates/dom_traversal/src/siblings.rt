@@ -9,7 +9,8 @@ ghost use Rattle.dom_model.specs.Tree.{ancestors};
 ghost use Rattle.dom_tree.specs.Forest.{IsNode, name_of};
 ghost use Rattle.dom_traversal.specs.Filters.{filter_of};
 ghost use Rattle.dom_traversal.specs.Walkers.{is_stop, stop_above, StepsBehind};
-ghost use Rattle.dom_traversal.specs.Within.{behind, beyond, StandsBelow};
+ghost use Rattle.dom_laws.specs.Within.{behind, beyond};
+ghost use Rattle.dom_tree.specs.Within.{StandsBelow};
 
 use crate::filter::Filter;
 use dom_tree::Forest;

@@ -6,9 +6,9 @@ ghost use Rattle.dom_model.specs.Names.{first_of, last_of};
 ghost use Rattle.dom_model.specs.Traversal.{walker_move, walker_nodes};
 ghost use Rattle.dom_tree.specs.Forest.{IsNode, name_of};
 ghost use Rattle.dom_traversal.specs.Filters.{filter_of};
-ghost use Rattle.dom_traversal.specs.Walkers.{walker_view, IsWalkerOf, walker_at, walker_left, is_reached, stop_of, is_candidate};
-ghost use Rattle.dom_traversal.specs.Walkers.{BeginsForward, ComesBack, BeginsBackward};
-ghost use Rattle.dom_traversal.specs.Within.{ahead_of, from_node, up_to_node, up_to_tree};
+ghost use Rattle.dom_traversal.specs.Walkers.{walker_view, IsWalkerOf, walker_at, walker_left, is_reached, stop_of, is_candidate, BeginsForward};
+ghost use Rattle.dom_traversal.specs.Walkers.{ComesBack, BeginsBackward};
+ghost use Rattle.dom_laws.specs.Within.{ahead_of, from_node, up_to_node, up_to_tree};
 
 use crate::filter::Filter;
 use crate::search::beyond;

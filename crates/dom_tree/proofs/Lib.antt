@@ -24,3 +24,5 @@ pub mod OwnPlacings
 mod EachNode
 mod Ordered
 mod Stays
+pub mod Standing
+pub mod Searching

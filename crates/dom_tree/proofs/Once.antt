@@ -1,5 +1,5 @@
 -- Each node stands once in the trees, and no others stand there.
-use Rattle.std.proofs.Common.{◌≡◌, inl, inr, ℕ, zero, suc, ◌+◌, ◌<◌, ◌≤◌, Bool, true, false, ◌||◌, cond, eqb, List, [], ◌∷◌, ◌++◌, length, Option}
+use Rattle.std.proofs.Common.{◌≡◌, inl, inr, ℕ, zero, suc, ◌+◌, ◌<◌, ◌≤◌, Bool, true, false, ◌||◌, eqb, List, [], ◌∷◌, ◌++◌, length, Option}
 use Rattle.std.proofs.Common.{Some, None, refl, sym, ap, subst, ◌∙◌, arith, true≢false}
 use Rattle.std.specs.Prelude.{slice_get, filter, is_none, is_some}
 use Rattle.std.specs.List.{range_with_len, count_by}
@@ -7,7 +7,6 @@ use Rattle.std.proofs.lemmas.Bool.{eqb-true, or_cases, or_parts, cases_Bool, fal
 use Rattle.std.proofs.lemmas.Bool.Decides.{eqb_tells}
 use Rattle.std.specs.Option.{ForSome}
 use Rattle.std.proofs.lemmas.Option.{none-some, slice_get_within, get_or_from_slice_get}
-use Rattle.std.proofs.lemmas.List.Sums.{sum_by-cons, sum_by-append}
 use Rattle.dom_base.specs.declared.Owner.{Owner}
 use Rattle.dom_base.specs.declared.NodeName.{NodeName}
 use Rattle.dom_model.specs.Names.{name_eq, name_before, is_in}
@@ -18,31 +17,13 @@ use Rattle.dom_tree.specs.Contents.{Stored}
 use Rattle.dom_tree.specs.Rows.{put_key, in_order, is_root, root_keys, trees_of}
 use Rattle.dom_tree.specs.Forest.{NamedTrees, IsKept, stored_names, nodes_of, name_at}
 use Rattle.dom_model.proofs.OwnerLaws.{name_eq-same, name_eq-true}
+use Rattle.dom_laws.proofs.Counts.{one, one-true, one-false, count-cons, count-append, times_in-none, times_in-tree, times_count}
 use Rattle.dom_tree.proofs.Rows.{Stands, IsNamed, same_name, name_of_key}
 use Rattle.dom_tree.proofs.Reach.{has_node-reaches, IsChild}
 use Rattle.dom_tree.proofs.Roots.{IsOnce-range, contains-filter, contains-in_order, contains-passing, passing-within}
 use Rattle.dom_tree.proofs.Changes.{IsWhole, Stands-trees_of, reached, node_here, is_root-none}
 use Rattle.dom_tree.proofs.Kept.{seen, IsWhole-kept, name_at-same, within, slice_get-names}
 use Rattle.dom_tree.proofs.Placing.{names_tell}
-
--- 1 where a test holds
-pub one : Bool → ℕ
-one b = cond b 1 0
-
-count-cons : {X : Type 0} (p : X → Bool) (x : X) (xs : List X) → count_by p (x ∷ xs) ≡ one (p x) + count_by p xs
-unfolding one
-count-cons p x xs = sum_by-cons (λ y. cond (p y) 1 0) x xs
-
-pub count-append : {X : Type 0} (p : X → Bool) (xs ys : List X) → count_by p (xs ++ ys) ≡ count_by p xs + count_by p ys
-count-append p xs ys = sum_by-append (λ y. cond (p y) 1 0) xs ys
-
-pub one-true : (b : Bool) → b ≡ true → one b ≡ 1
-unfolding one
-one-true b e = rw e refl
-
-pub one-false : (b : Bool) → b ≡ false → one b ≡ 0
-unfolding one
-one-false b e = rw e refl
 
 -- how often a key stands in a list
 pub times : ℕ → List ℕ → ℕ
@@ -115,23 +96,6 @@ times-child : (nodes : List Node) (lists : List (List ℕ)) (x p : ℕ) → pare
 times-child nodes lists x p e =
     times-absent x (root_keys nodes lists)
     (false_from_ne_true _ (λ found. true≢false (sym ((passing-within nodes (is_root lists) (length lists) x found).1) ∙ ap is_none e)))
-
-pub times_in-none : (x : NodeName) → times_in none x ≡ 0
-times_in-none x = refl
-
-pub times_in-tree : (n : Node) (c r : Trees) (x : NodeName) → times_in (tree n c r) x ≡ one (name_eq n.name x) + (times_in c x + times_in r x)
-unfolding one
-times_in-tree n c r x = omega arith
-
--- how many nodes of trees have a name, as a clause says it
-pub times_count : (ts : Trees) (x : NodeName) → times_in ts x ≡ count_by (λ n. name_eq n.name x) (nodes_in ts)
-times_count none x = refl
-times_count (tree n c r) x =
-    let below = times_count c x in
-    let rest = times_count r x in
-    let all = count-cons (λ (m : Node). name_eq m.name x) n (nodes_in c ++ nodes_in r) in
-    let apart = count-append (λ (m : Node). name_eq m.name x) (nodes_in c) (nodes_in r) in
-    omega (arith, times_in-tree n c r x)
 
 module _ (nodes : List Node) (lists : List (List ℕ)) (named : IsNamed nodes) where
   -- a node with a parent stands in trees as often as its parent does, besides where it is a root

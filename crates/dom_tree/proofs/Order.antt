@@ -5,14 +5,13 @@ use Rattle.std.specs.Prelude.{slice_get}
 use Rattle.std.proofs.lemmas.Bool.{eq-eqb, ne_eqb, eqb-true, both_ways, or_cases, or_left, or_right, cases_Bool, false_from_ne_true}
 use Rattle.std.proofs.lemmas.List.{map-append}
 use Rattle.std.proofs.lemmas.Option.{none-some, same_Some}
-use Rattle.dom_base.specs.declared.NodeName.{NodeName}
-use Rattle.dom_model.specs.Names.{name_eq}
-use Rattle.dom_model.specs.Tree.{Trees, none, tree, Node, nodes as nodes_in, names_of, subtree, or_else, times_in}
+use Rattle.dom_model.specs.Tree.{Trees, none, tree, Node, nodes as nodes_in, names_of, times_in}
 use Rattle.node_arena.specs.Nodes.{children_of, contains, IsOnce}
 use Rattle.node_arena.proofs.Lists.{contains-append, contains-head, IsOnce-append_left, IsOnce-append_right, IsOnce-apart, head_or, head_or-append}
 use Rattle.node_arena.proofs.Lists.{next_from, next_from-append}
 use Rattle.dom_tree.proofs.Rows.{Stands, same_name, name_of_key, IsNamed}
-use Rattle.dom_tree.proofs.Once.{one, one-true, times, times-nil, times-cons, times-append, times-present, times_in-none, times_in-tree}
+use Rattle.dom_laws.proofs.Counts.{one, one-true, times_in-none, times_in-tree}
+use Rattle.dom_tree.proofs.Once.{times, times-nil, times-cons, times-append, times-present}
 
 -- the keys for which trees stand, in tree order
 abbrev pub in_trees : List (List ℕ) → Trees → List ℕ → List ℕ
@@ -110,17 +109,6 @@ module _ (nodes : List Node) (lists : List (List ℕ)) where
       let in_below = times-in_trees named x at c (children_of lists k) s.1 in
       let in_rest = times-in_trees named x at r ks s.2 in
       omega (arith, tells, in_below, in_rest, times-cons x k (below ++ rest), times-append x below rest, times_in-tree n c r m.name)
-
-times_in-or_else : (ts us : Trees) (x : NodeName) → times_in (or_else ts us) x ≤ times_in ts x + times_in us x
-times_in-or_else none us x = omega arith
-times_in-or_else (tree n c r) us x = omega arith
-
-pub times_in-subtree : (ts : Trees) (y x : NodeName) → times_in (subtree ts y) x ≤ times_in ts x
-times_in-subtree none y x = omega arith
-times_in-subtree (tree n c r) y x = elim (cases_Bool (name_eq n.name y)) [
-  | inl e ↦ rw e (omega (arith, times_in-tree n c none x, times_in-tree n c r x, times_in-none x))
-  | inr e ↦ rw e (omega (arith, times_in-tree n c r x, times_in-or_else (subtree c y) (subtree r y) x, times_in-subtree c y x, times_in-subtree r y x))
-]
 
 pub IsOnce-times : (ks : List ℕ) → ((k : ℕ) → contains ks k ≡ true → times k ks ≤ 1) → IsOnce ks
 IsOnce-times [] few = tt

@@ -22,8 +22,9 @@ use Rattle.dom_tree.proofs.Changes.{IsWhole, subtree_here}
 use Rattle.dom_tree.proofs.Reading.{name_of_key-eq, first_of-items_after, Tells}
 use Rattle.dom_tree.proofs.Kept.{seen, IsWhole-kept, name_at-same, names_option, within}
 use Rattle.dom_tree.proofs.Once.{times, once-within}
-use Rattle.dom_tree.proofs.Order.{in_trees, name_here, names-in_trees, root-in_trees, child-in_trees, key-in_trees, times-in_trees, times_in-subtree}
-use Rattle.dom_tree.proofs.Order.{IsOnce-times, behind, behind-child, next-in_trees, StandsOnce}
+use Rattle.dom_tree.proofs.Order.{in_trees, name_here, names-in_trees, root-in_trees, child-in_trees, key-in_trees, times-in_trees, IsOnce-times}
+use Rattle.dom_tree.proofs.Order.{behind, behind-child, next-in_trees, StandsOnce}
+use Rattle.dom_laws.proofs.Counts.{times_subtree}
 
 -- ---- within the tree of a node
 
@@ -50,7 +51,7 @@ keys_at-once nodes lists whole top node = IsOnce-times (in_trees lists (tree_at 
         omega (
           arith,
           times-in_trees nodes lists whole.named k key.1 (tree_at nodes lists top) (top ∷ []) s,
-          times_in-subtree
+          times_subtree
               (trees_of nodes lists) (name_of_key nodes top) key.0.name,
           all,
         )

@@ -6,3 +6,4 @@ pub mod Forest
 pub mod Owners
 pub mod Apart
 pub mod EachNode
+pub mod Within

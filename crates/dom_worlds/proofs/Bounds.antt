@@ -6,9 +6,9 @@ use Rattle.std.specs.List.{AllByRecursion}
 use Rattle.std.specs.Option.{option_map_or}
 use Rattle.std.proofs.lemmas.Bool.{cond-true, cond-false, and_parts, or_parts, not-false, ltb-false, leb-true, leb-false}
 use Rattle.dom_base.specs.declared.NodeName.{NodeName}
-use Rattle.dom_model.specs.Tree.{times_in}
+use Rattle.dom_model.specs.Tree.{times_in, Trees, Node, node_in, no_node, kind_of, has_data, parent_of, index_of, length_of, inclusive_descendants}
+use Rattle.dom_model.specs.Tree.{is_inclusive_ancestor}
 use Rattle.dom_model.specs.Names.{Word, DomString, name_eq, is_in}
-use Rattle.dom_model.specs.Tree.{Trees, Node, node_in, no_node, kind_of, has_data, parent_of, index_of, length_of, inclusive_descendants, is_inclusive_ancestor}
 use Rattle.dom_model.specs.TreeChanges.{map_nodes, replaced, taken_out, placed, with_name, with_document, with_data_replaced, with_attribute}
 use Rattle.dom_model.specs.Place.{Boundary}
 use Rattle.dom_model.specs.Ranges.{Range, at, map_ends, boundary_eq, after_insert, after_removal, after_replace_data, after_split, after_join}
@@ -27,7 +27,7 @@ use Rattle.dom_worlds.proofs.PlanTexts.{next-not}
 use Rattle.dom_worlds.proofs.ShadowRoots.{found-absent}
 use Rattle.dom_worlds.proofs.TableSteps.{HasNode}
 use Rattle.dom_worlds.proofs.Tests.{by_cases, either_way, which_way}
-use Rattle.dom_worlds.proofs.Trees.{IsUnique, by_times}
+use Rattle.dom_laws.proofs.Counts.{Once, by_times}
 use Rattle.dom_worlds.proofs.TreeChangeLaws.{HasRoot}
 
 -- A boundary is not past what is allowed at its node.
@@ -94,7 +94,7 @@ pub record IsLike (ts us : Trees) (y : NodeName) : Type 0 where
   pub count : kids us y ≡ kids ts y
 
 -- It stays as long.
-pub length-like : (ts us : Trees) (y : NodeName) → IsUnique ts → IsUnique us → IsLike ts us y → length_of us y ≡ length_of ts y
+pub length-like : (ts us : Trees) (y : NodeName) → Once ts → Once us → IsLike ts us y → length_of us y ≡ length_of ts y
 length-like ts us y u v k =
     by_cases (has_data (kind_of ts y))
     (λ e. length-data us y (ap has_data k.kind ∙ e) ∙ ap length k.text ∙ sym (length-data ts y e))
@@ -169,7 +169,7 @@ room-mapped {e} {p} f k t i h =
     let ts = p.trees in
     let us = map_nodes f ts in
     let named = λ (n : Node). (k n).0 in
-    let v : IsUnique us = λ y. let o = i.unique y in let s = Rattle.dom_worlds.proofs.TreeChangeLaws.times-map_nodes f named ts y in omega arith in
+    let v : Once us = λ y. let o = i.unique y in let s = Rattle.dom_worlds.proofs.TreeChangeLaws.times-map_nodes f named ts y in omega arith in
     let same = λ (y : NodeName) (g : HasNode p y). node-map_nodes f named ts y g in
     room-trees e us p.node_count
     (λ y. by_times (times_in ts y) (λ z. let a = length-absent ts y i.unique z in omega arith)
@@ -302,7 +302,7 @@ room-replace {e} {p} x offset most new k w =
     let us = map_nodes f ts in
     let kept : KeepsNames f = some-keeps (λ (n : Node). name_eq n.name x) (with_data_replaced offset count new) (λ n. (refl, refl)) in
     let named = λ (n : Node). (kept n).0 in
-    let v : IsUnique us = λ y. let o = w.part.unique y in let s = Rattle.dom_worlds.proofs.TreeChangeLaws.times-map_nodes f named ts y in omega arith in
+    let v : Once us = λ y. let o = w.part.unique y in let s = Rattle.dom_worlds.proofs.TreeChangeLaws.times-map_nodes f named ts y in omega arith in
     let same = λ (y : NodeName) (g : HasNode p y). node-map_nodes f named ts y g in
     let there = data-there ts x k in
     let name = Rattle.dom_worlds.proofs.NodeKinds.name-node_in ts x in

@@ -19,8 +19,9 @@ use Rattle.dom_worlds.proofs.Lists.{all-then}
 use Rattle.dom_worlds.proofs.Makers.{hosted, hosted-owned, hosted-no_page}
 use Rattle.dom_worlds.proofs.ReachedFacts.{root-alone}
 use Rattle.dom_worlds.proofs.Tests.{by_cases}
-use Rattle.dom_worlds.proofs.Trees.{ancestors-root, root-there, by_times, ancestors-present, ancestors-absent, all-in, last_from}
-use Rattle.dom_worlds.proofs.Trees.{last-is, last-in}
+use Rattle.dom_worlds.proofs.Trees.{ancestors-root, root-there, ancestors-present, all-in, last_from, last-is, last-in}
+use Rattle.dom_laws.proofs.Counts.{by_times}
+use Rattle.dom_laws.proofs.Paths.{path_none}
 
 -- the last of an owner's nodes is the owner's
 last-owned : (x : NodeName) (d : Option NodeName) (xs : List NodeName) → (unwrap_or d x).owner ≡ x.owner → AllByRecursion (IsOf x.owner) xs →
@@ -136,7 +137,7 @@ absent-host w i x z = from (host_above w x) refl
     from None e = e
     from (Some host) e =
         let at = above-host w x host e in
-        let root : root_at w x ≡ x = ap (λ p. unwrap_or (last_or None p) x) (ancestors-absent (trees_with w x) x z) in
+        let root : root_at w x ≡ x = ap (λ p. unwrap_or (last_or None p) x) (path_none (trees_with w x) x z) in
         let there = root-there (trees_with w x) (shadow_root_of x.owner) (i.shadow_roots x.owner (ap is_some at.0)).alone in
         let same : times_in (trees_with w x) (shadow_root_of x.owner) ≡ 0 = ap (times_in (trees_with w x)) (sym at.1 ∙ root) ∙ z in
         absurd (omega (arith, there, same))
@@ -163,7 +164,7 @@ root-among w i c h x own =
     there : (r : NodeName) → 1 ≤ times_in (trees_with w x) r → r ≡ root_at w x → is_in name_eq r (ancestors_at w x) ≡ true
     there r at same =
         by_times (times_in (trees_with w x) x)
-        (λ z. let root : root_at w x ≡ x = ap (λ p. unwrap_or (last_or None p) x) (ancestors-absent (trees_with w x) x z) in
+        (λ z. let root : root_at w x ≡ x = ap (λ p. unwrap_or (last_or None p) x) (path_none (trees_with w x) x z) in
         absurd (let k = ap (times_in (trees_with w x)) (same ∙ root) in omega arith))
         (λ z. let up = ancestors-present (trees_with w x) x z in
         let root : root_at w x ≡ last_from x up.0 = ap (λ p. unwrap_or (last_or None p) x) up.1 ∙ ap (λ o. unwrap_or o x) (last-is x up.0) in

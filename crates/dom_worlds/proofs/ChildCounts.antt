@@ -16,8 +16,9 @@ use Rattle.dom_worlds.proofs.Tests.{by_cases, or-later}
 use Rattle.dom_worlds.proofs.TreeChangeLaws.{put_where, where-here, where-later, put_before-where, put_root-where, HasRoot, without-here}
 use Rattle.dom_worlds.proofs.TreeChangeLaws.{without-elsewhere, subtree-here, subtree-elsewhere, put_below-here, put_below-elsewhere}
 use Rattle.dom_worlds.proofs.TreeChangeLaws.{put_below-absent}
-use Rattle.dom_worlds.proofs.Trees.{unique-below, IsUnique, by_times, times-here, times-elsewhere, times-more, subtree-absent}
-use Rattle.dom_worlds.proofs.Trees.{root-there, ancestors-absent, ancestors-present}
+use Rattle.dom_laws.proofs.Counts.{once_parts, Once, by_times, times-here, times-elsewhere, times-more}
+use Rattle.dom_laws.proofs.Paths.{subtree_gone, path_none}
+use Rattle.dom_worlds.proofs.Trees.{root-there, ancestors-present}
 
 -- how many roots there are
 abbrev pub rooted : Trees → ℕ
@@ -51,25 +52,25 @@ length-roots none = refl
 length-roots (tree n c r) = let h = length-roots r in omega arith
 
 -- the children of a node, read alone
-pub kids-below : (ts : Trees) (y : NodeName) → IsUnique ts → rooted (trees_below (subtree ts y)) ≡ kids ts y
+pub kids-below : (ts : Trees) (y : NodeName) → Once ts → rooted (trees_below (subtree ts y)) ≡ kids ts y
 kids-below none y u = refl
 kids-below (tree n c r) y u =
     let once = u y in
-    let uc : IsUnique c = λ k. let o = u k in let m = times-more n c r k in omega arith in
-    let ur : IsUnique r = λ k. let o = u k in let m = times-more n c r k in omega arith in
+    let uc : Once c = λ k. let o = u k in let m = times-more n c r k in omega arith in
+    let ur : Once r = λ k. let o = u k in let m = times-more n c r k in omega arith in
     by_cases (name_eq n.name y)
     (λ e. let g = times-here n c r y e in let s = ap (λ t. rooted (trees_below t)) (subtree-here n c r y e) in
     let k = kids-here n c r y e in let a = kids-absent c y (omega arith) in let b = kids-absent r y (omega arith) in omega arith)
     (λ e. let g = times-elsewhere n c r y e in let k = kids-elsewhere n c r y e in
     by_times (times_in c y)
-    (λ z. let s = ap (λ t. rooted (trees_below t)) (subtree-elsewhere n c r y e ∙ ap (λ t. or_else t (subtree r y)) (subtree-absent c y z)) in
+    (λ z. let s = ap (λ t. rooted (trees_below t)) (subtree-elsewhere n c r y e ∙ ap (λ t. or_else t (subtree r y)) (subtree_gone c y z)) in
     let a = kids-absent c y z in let b = kids-below r y ur in omega arith)
     (λ z. let s = ap (λ t. rooted (trees_below t))
-    (subtree-elsewhere n c r y e ∙ ap (or_else (subtree c y)) (subtree-absent r y (omega arith)) ∙ or_else-none (subtree c y)) in
+    (subtree-elsewhere n c r y e ∙ ap (or_else (subtree c y)) (subtree_gone r y (omega arith)) ∙ or_else-none (subtree c y)) in
     let a = kids-absent r y (omega arith) in let b = kids-below c y uc in omega arith))
 
 -- so the list of children has that length
-pub length-children : (ts : Trees) (y : NodeName) → IsUnique ts → length (children_of ts y) ≡ kids ts y
+pub length-children : (ts : Trees) (y : NodeName) → Once ts → length (children_of ts y) ≡ kids ts y
 length-children ts y u = length-roots (trees_below (subtree ts y)) ∙ kids-below ts y u
 
 -- Trees put into a list.
@@ -154,7 +155,7 @@ kids-put_below parent before new (tree n c r) y h =
     rooted-put_below parent before new (tree n c r) = let h = rooted-put_below parent before new r in omega arith
 
 -- A root that is taken out of a list.
-rooted-without : (ts : Trees) (x : NodeName) → IsUnique ts → HasRoot ts x → 1 + rooted (without x ts) ≡ rooted ts
+rooted-without : (ts : Trees) (x : NodeName) → Once ts → HasRoot ts x → 1 + rooted (without x ts) ≡ rooted ts
 rooted-without none x u h = absurd (true≢false (sym h))
 rooted-without (tree n c r) x u h =
     let once = u x in
@@ -165,7 +166,7 @@ rooted-without (tree n c r) x u h =
     let b = rooted-without r x (λ k. let o = u k in let m = times-more n c r k in omega arith) later in omega arith)
 
 -- and its children, and all others
-kids-parted : (ts : Trees) (x y : NodeName) → IsUnique ts → HasRoot ts x → kids (without x ts) y + kids (subtree ts x) y ≡ kids ts y
+kids-parted : (ts : Trees) (x y : NodeName) → Once ts → HasRoot ts x → kids (without x ts) y + kids (subtree ts x) y ≡ kids ts y
 kids-parted none x y u h = absurd (true≢false (sym h))
 kids-parted (tree n c r) x y u h =
     let once = u x in
@@ -177,7 +178,7 @@ kids-parted (tree n c r) x y u h =
     let later = or-later (name_eq x n.name) (is_in name_eq x (names_of (roots r))) (name_eq-turned x n.name ∙ e) h in
     let there = root-there r x later in
     let s = ap (λ t. kids t y) (without-elsewhere n c r x e ∙ ap (λ t. tree n t (without x r)) (without-absent c x (omega arith))) in
-    let t = ap (λ t. kids t y) (subtree-elsewhere n c r x e ∙ ap (λ t. or_else t (subtree r x)) (subtree-absent c x (omega arith))) in
+    let t = ap (λ t. kids t y) (subtree-elsewhere n c r x e ∙ ap (λ t. or_else t (subtree r x)) (subtree_gone c x (omega arith))) in
     let b = kids-parted r x y (λ k. let o = u k in let m = times-more n c r k in omega arith) later in omega arith)
 
 -- the parent in the trees below a root
@@ -188,13 +189,13 @@ below-parent {x} n c r e h =
     ap (λ p. on_top p n.name (inclusive_ancestors r x)) h)
 
 -- A child that is taken out of its tree: one less of its parent's.
-kids-taken : (ts : Trees) (x parent y : NodeName) → IsUnique ts → parent_of ts x ≡ Some parent →
+kids-taken : (ts : Trees) (x parent y : NodeName) → Once ts → parent_of ts x ≡ Some parent →
     (kids (without x ts) y + kids (subtree ts x) y + one_at parent y ≡ kids ts y) × (rooted (without x ts) ≡ rooted ts)
 kids-taken none x parent y u h = cc
 kids-taken (tree n c r) x parent y u h =
     let once = u x in
-    let uc : IsUnique c = λ k. let o = u k in let m = times-more n c r k in omega arith in
-    let ur : IsUnique r = λ k. let o = u k in let m = times-more n c r k in omega arith in
+    let uc : Once c = λ k. let o = u k in let m = times-more n c r k in omega arith in
+    let ur : Once r = λ k. let o = u k in let m = times-more n c r k in omega arith in
     by_cases (name_eq n.name x)
     (λ e. let is : first_of (drop 1 (x ∷ [])) ≡ Some parent = sym
     (ap (λ p. first_of (drop 1 p)) (cond-true (name_eq n.name x) (x ∷ []) (on_top (inclusive_ancestors c x) n.name (inclusive_ancestors r x))
@@ -204,17 +205,17 @@ kids-taken (tree n c r) x parent y u h =
     by_times (times_in c x)
     (λ z. let up : parent_of r x ≡ Some parent = sym
     (ap (λ p. first_of (drop 1 p)) (cond-false (name_eq n.name x) (x ∷ []) (on_top (inclusive_ancestors c x) n.name (inclusive_ancestors r x))
-    e ∙ ap (λ p. on_top p n.name (inclusive_ancestors r x)) (ancestors-absent c x z))) ∙ h in
+    e ∙ ap (λ p. on_top p n.name (inclusive_ancestors r x)) (path_none c x z))) ∙ h in
     let b = kids-taken r x parent y ur up in
     let b0 = b.0 in let b1 = b.1 in
     let whole = s ∙ ap (λ t. tree n t (without x r)) (without-absent c x z) in
     let w = ap (λ t. kids t y) whole in
-    let t = ap (λ t. kids t y) (subtree-elsewhere n c r x e ∙ ap (λ t. or_else t (subtree r x)) (subtree-absent c x z)) in
+    let t = ap (λ t. kids t y) (subtree-elsewhere n c r x e ∙ ap (λ t. or_else t (subtree r x)) (subtree_gone c x z)) in
     ((omega arith), (let v = ap rooted whole in omega arith)))
     (λ z. let at = ancestors-present c x z in
     let up = sym (below-parent n c r e at.1) ∙ h in
     let whole = s ∙ ap (tree n (without x c)) (without-absent r x (omega arith)) in
-    let own = subtree-elsewhere n c r x e ∙ ap (or_else (subtree c x)) (subtree-absent r x (omega arith)) ∙ or_else-none (subtree c x) in
+    let own = subtree-elsewhere n c r x e ∙ ap (or_else (subtree c x)) (subtree_gone r x (omega arith)) ∙ or_else-none (subtree c x) in
     from (λ e. kids-taken c x parent y uc e) up at.1 z whole own))
   where
     from : (parent_of c x ≡ Some parent → (kids (without x c) y + kids (subtree c x) y + one_at parent y ≡ kids c y) × (rooted (without x c) ≡ rooted c)) →
@@ -223,7 +224,7 @@ kids-taken (tree n c r) x parent y u h =
         (kids (without x (tree n c r)) y + kids (subtree (tree n c r) x) y + one_at parent y ≡ kids (tree n c r) y) ×
         (rooted (without x (tree n c r)) ≡ rooted (tree n c r))
     from f {path = []} up path z whole own =
-        let uc = unique-below n c r u in
+        let uc = (once_parts n c r u).below in
         let w = ap (λ t. kids t y) whole in let t = ap (λ t. kids t y) own in let v = ap rooted whole in
         let both : Some n.name ≡ Some parent = up in
         let same : n.name ≡ parent = cc in
@@ -251,7 +252,7 @@ kids-taken (tree n c r) x parent y u h =
         )
 
 -- Elementary changes.
-pub kids-taken_out : (ts : Trees) (x parent y : NodeName) → IsUnique ts → parent_of ts x ≡ Some parent → kids (taken_out x ts) y + one_at parent y ≡ kids ts y
+pub kids-taken_out : (ts : Trees) (x parent y : NodeName) → Once ts → parent_of ts x ≡ Some parent → kids (taken_out x ts) y + one_at parent y ≡ kids ts y
 kids-taken_out ts x parent y u h = let p = kids-put_root x (subtree ts x) (without x ts) y in let t = (kids-taken ts x parent y u h).0 in omega arith
 
 -- of a tree alone there is one root
@@ -261,7 +262,7 @@ rooted-subtree (tree n c r) x h =
     by_cases (name_eq n.name x) (λ e. ap rooted (subtree-here n c r x e))
     (λ e. let g = times-elsewhere n c r x e in
     by_times (times_in c x)
-    (λ z. ap rooted (subtree-elsewhere n c r x e ∙ ap (λ t. or_else t (subtree r x)) (subtree-absent c x z)) ∙ rooted-subtree r x (omega arith))
+    (λ z. ap rooted (subtree-elsewhere n c r x e ∙ ap (λ t. or_else t (subtree r x)) (subtree_gone c x z)) ∙ rooted-subtree r x (omega arith))
     (λ z. let b = rooted-subtree c x z in ap rooted (subtree-elsewhere n c r x e) ∙ left (subtree c x) (subtree r x) b))
   where
     left : (a b : Trees) → rooted a ≡ 1 → rooted (or_else a b) ≡ 1
@@ -302,13 +303,13 @@ kids-map_nodes f h (tree n c r) y =
     rooted-map (tree n c r) = let h = rooted-map r in omega arith
 
 -- A child among the children of its parent, and its index.
-pub root-below : (ts : Trees) (x parent : NodeName) → IsUnique ts → parent_of ts x ≡ Some parent → HasRoot (trees_below (subtree ts parent)) x
+pub root-below : (ts : Trees) (x parent : NodeName) → Once ts → parent_of ts x ≡ Some parent → HasRoot (trees_below (subtree ts parent)) x
 root-below none x parent u h = cc
 root-below (tree n c r) x parent u h =
     let once = u x in
     let once_p = u parent in
-    let uc : IsUnique c = λ k. let o = u k in let m = times-more n c r k in omega arith in
-    let ur : IsUnique r = λ k. let o = u k in let m = times-more n c r k in omega arith in
+    let uc : Once c = λ k. let o = u k in let m = times-more n c r k in omega arith in
+    let ur : Once r = λ k. let o = u k in let m = times-more n c r k in omega arith in
     by_cases (name_eq n.name x)
     (λ e. let is : first_of (drop 1 (x ∷ [])) ≡ Some parent = sym
     (ap (λ p. first_of (drop 1 p)) (cond-true (name_eq n.name x) (x ∷ []) (on_top (inclusive_ancestors c x) n.name (inclusive_ancestors r x))
@@ -317,17 +318,17 @@ root-below (tree n c r) x parent u h =
     by_times (times_in c x)
     (λ z. let up : parent_of r x ≡ Some parent = sym
     (ap (λ p. first_of (drop 1 p)) (cond-false (name_eq n.name x) (x ∷ []) (on_top (inclusive_ancestors c x) n.name (inclusive_ancestors r x))
-    e ∙ ap (λ p. on_top p n.name (inclusive_ancestors r x)) (ancestors-absent c x z))) ∙ h in
+    e ∙ ap (λ p. on_top p n.name (inclusive_ancestors r x)) (path_none c x z))) ∙ h in
     let there = parent-there r x parent up in
     let other : name_eq n.name parent ≡ false = by_cases (name_eq n.name parent) (λ k. absurd (let q = times-here n c r parent k in omega arith)) (λ k. k) in
     let m = times-elsewhere n c r parent other in
     subst (λ t. HasRoot (trees_below t) x)
-    (sym (subtree-elsewhere n c r parent other ∙ ap (λ t. or_else t (subtree r parent)) (subtree-absent c parent (omega arith))))
+    (sym (subtree-elsewhere n c r parent other ∙ ap (λ t. or_else t (subtree r parent)) (subtree_gone c parent (omega arith))))
     (root-below r x parent ur up))
     (λ z. let at = ancestors-present c x z in from (λ e. root-below c x parent uc e) (sym (below-parent n c r e at.1) ∙ h) at.1 uc z once_p))
   where
     from : (parent_of c x ≡ Some parent → HasRoot (trees_below (subtree c parent)) x) → {path : List NodeName} → first_of (path ++ n.name ∷ []) ≡ Some parent →
-        inclusive_ancestors c x ≡ x ∷ path → IsUnique c → 1 ≤ times_in c x → times_in (tree n c r) parent ≤ 1 →
+        inclusive_ancestors c x ≡ x ∷ path → Once c → 1 ≤ times_in c x → times_in (tree n c r) parent ≤ 1 →
         HasRoot (trees_below (subtree (tree n c r) parent)) x
     from f {path = []} up path uc z once =
         let both : Some n.name ≡ Some parent = up in
@@ -342,7 +343,7 @@ root-below (tree n c r) x parent u h =
         by_cases (name_eq n.name parent) (λ k. absurd (let q = times-here n c r parent k in omega arith)) (λ k. k) in
         let m = times-elsewhere n c r parent other in
         subst (λ t. HasRoot (trees_below t) x)
-        (sym (subtree-elsewhere n c r parent other ∙ ap (or_else (subtree c parent)) (subtree-absent r parent (omega arith)) ∙
+        (sym (subtree-elsewhere n c r parent other ∙ ap (or_else (subtree c parent)) (subtree_gone r parent (omega arith)) ∙
         or_else-none (subtree c parent))) (f inner)
 
 -- what comes before an item that is there is shorter
@@ -354,7 +355,7 @@ before-shorter x (y ∷ xs) h =
     (or-later (name_eq x y) (is_in name_eq x xs) e h) in omega arith)
 
 -- an index is below the number of children
-pub index-below : (ts : Trees) (x parent : NodeName) → IsUnique ts → parent_of ts x ≡ Some parent → index_of ts x < kids ts parent
+pub index-below : (ts : Trees) (x parent : NodeName) → Once ts → parent_of ts x ≡ Some parent → index_of ts x < kids ts parent
 index-below ts x parent u h =
     let same : index_of ts x ≡ length (items_before name_eq x (children_of ts parent)) =
     ap (λ (o : Option NodeName). length (items_before name_eq x (option_map_or (children_of ts) o (x ∷ [])))) h in

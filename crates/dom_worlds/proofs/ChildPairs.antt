@@ -5,9 +5,9 @@ use Rattle.std.specs.Prelude.{if◌then◌else◌}
 use Rattle.std.specs.List.{AllByRecursion}
 use Rattle.std.proofs.lemmas.Bool.{cond-true, cond-false}
 use Rattle.dom_base.specs.declared.NodeName.{NodeName}
-use Rattle.dom_model.specs.Tree.{times_in}
+use Rattle.dom_model.specs.Tree.{times_in, Trees, none, tree, Node, names_of, roots, subtree, or_else, trees_below, children_of, parent_of}
+use Rattle.dom_model.specs.Tree.{inclusive_ancestors, on_top}
 use Rattle.dom_model.specs.Names.{name_eq, is_in, first_of}
-use Rattle.dom_model.specs.Tree.{Trees, none, tree, Node, names_of, roots, subtree, or_else, trees_below, children_of, parent_of, inclusive_ancestors, on_top}
 use Rattle.dom_model.specs.TreeChanges.{followed_by, without, put_before, put_below, put_root, taken_out, placed, with_node, map_nodes}
 use Rattle.dom_model.proofs.OwnerLaws.{name_eq-same, name_eq-turned, name_eq-true}
 use Rattle.dom_worlds.specs.Worlds.{times_among}
@@ -16,11 +16,12 @@ use Rattle.dom_worlds.proofs.ChildCounts.{rooted, kids}
 use Rattle.dom_worlds.proofs.ReachedFacts.{root-alone}
 use Rattle.dom_worlds.proofs.Lists.{all-then}
 use Rattle.dom_worlds.proofs.Tests.{by_cases, or-later}
-use Rattle.dom_worlds.proofs.TreeChangeLaws.{put_where, where-here, where-later, put_before-where, put_root-where, HasRoot, root-first}
-use Rattle.dom_worlds.proofs.TreeChangeLaws.{root-second, without-here, without-elsewhere, subtree-here, subtree-elsewhere, put_below-here}
-use Rattle.dom_worlds.proofs.TreeChangeLaws.{put_below-elsewhere, put_below-absent}
-use Rattle.dom_worlds.proofs.Trees.{IsUnique, by_times, times-here, times-elsewhere, times-more, subtree-absent}
-use Rattle.dom_worlds.proofs.Trees.{ancestors-absent, ancestors-present}
+use Rattle.dom_worlds.proofs.TreeChangeLaws.{put_where, where-here, where-later, put_before-where, put_root-where, HasRoot, root-first, root-second}
+use Rattle.dom_worlds.proofs.TreeChangeLaws.{without-here, without-elsewhere, subtree-here, subtree-elsewhere, put_below-here, put_below-elsewhere}
+use Rattle.dom_worlds.proofs.TreeChangeLaws.{put_below-absent}
+use Rattle.dom_laws.proofs.Counts.{Once, by_times, times-here, times-elsewhere, times-more}
+use Rattle.dom_laws.proofs.Paths.{subtree_gone, path_none}
+use Rattle.dom_worlds.proofs.Trees.{ancestors-present}
 
 -- how often a name is a root's
 abbrev pub root_times : Trees → NodeName → ℕ
@@ -87,12 +88,12 @@ roots-without (tree n c r) z x d =
     (λ e. let s = ap (λ t. root_times t x) (without-elsewhere n c r z e) in omega arith)
 
 -- what is taken out and what is left
-childs-parted : (ts : Trees) (z x y : NodeName) → IsUnique ts → name_eq z x ≡ false → childs (without z ts) x y + childs (subtree ts z) x y ≡ childs ts x y
+childs-parted : (ts : Trees) (z x y : NodeName) → Once ts → name_eq z x ≡ false → childs (without z ts) x y + childs (subtree ts z) x y ≡ childs ts x y
 childs-parted none z x y u d = refl
 childs-parted (tree n c r) z x y u d =
     let once = u z in
-    let uc : IsUnique c = λ k. let o = u k in let m = times-more n c r k in omega arith in
-    let ur : IsUnique r = λ k. let o = u k in let m = times-more n c r k in omega arith in
+    let uc : Once c = λ k. let o = u k in let m = times-more n c r k in omega arith in
+    let ur : Once r = λ k. let o = u k in let m = times-more n c r k in omega arith in
     by_cases (name_eq n.name z)
     (λ e. let g = times-here n c r z e in
     let s = ap (λ t. childs t x y) (without-here n c r z e ∙ without-absent r z (omega arith)) in let t =
@@ -102,17 +103,17 @@ childs-parted (tree n c r) z x y u d =
     let q = roots-without c z x d in
     let sum : childs (without z c) x y + childs (without z r) x y + childs (subtree (tree n c r) z) x y ≡ childs c x y + childs r x y =
     by_times (times_in c z)
-    (λ k. let t = ap (λ t. childs t x y) (subtree-elsewhere n c r z e ∙ ap (λ t. or_else t (subtree r z)) (subtree-absent c z k)) in
+    (λ k. let t = ap (λ t. childs t x y) (subtree-elsewhere n c r z e ∙ ap (λ t. or_else t (subtree r z)) (subtree_gone c z k)) in
     let w = ap (λ t. childs t x y) (without-absent c z k) in let b = childs-parted r z x y ur d in omega arith)
     (λ k. let t = ap (λ t. childs t x y)
-    (subtree-elsewhere n c r z e ∙ ap (or_else (subtree c z)) (subtree-absent r z (omega arith)) ∙ or_else-none (subtree c z)) in
+    (subtree-elsewhere n c r z e ∙ ap (or_else (subtree c z)) (subtree_gone r z (omega arith)) ∙ or_else-none (subtree c z)) in
     let w = ap (λ t. childs t x y) (without-absent r z (omega arith)) in let b = childs-parted c z x y uc d in omega arith) in
     by_cases (name_eq n.name y)
     (λ f. let i = childs-here n c r x y f in let j = childs-here n (without z c) (without z r) x y f in omega arith)
     (λ f. let i = childs-elsewhere n c r x y f in let j = childs-elsewhere n (without z c) (without z r) x y f in omega arith))
 
 -- so other children stay where a node leaves
-pub childs-taken_out : (ts : Trees) (z x y : NodeName) → IsUnique ts → name_eq z x ≡ false → childs (taken_out z ts) x y ≡ childs ts x y
+pub childs-taken_out : (ts : Trees) (z x y : NodeName) → Once ts → name_eq z x ≡ false → childs (taken_out z ts) x y ≡ childs ts x y
 childs-taken_out ts z x y u d = let p = childs-put_root z (subtree ts z) (without z ts) x y in let q = childs-parted ts z x y u d in omega arith
 
 -- Trees that are put among others: how often x is a child of y, and a root.
@@ -227,12 +228,12 @@ childs-map_nodes f h (tree n c r) x y =
     roots-map (tree n c r) = let g = roots-map r in let k = ap (λ z. (if name_eq z x then 1 else 0) + root_times (map_nodes f r) x) (h n) in omega arith
 
 -- A child has its parent.
-pub childs-parent : (ts : Trees) (x y : NodeName) → IsUnique ts → 1 ≤ childs ts x y → parent_of ts x ≡ Some y
+pub childs-parent : (ts : Trees) (x y : NodeName) → Once ts → 1 ≤ childs ts x y → parent_of ts x ≡ Some y
 childs-parent none x y u h = absurd (omega arith)
 childs-parent (tree n c r) x y u h =
     let once = u x in
-    let uc : IsUnique c = λ k. let o = u k in let m = times-more n c r k in omega arith in
-    let ur : IsUnique r = λ k. let o = u k in let m = times-more n c r k in omega arith in
+    let uc : Once c = λ k. let o = u k in let m = times-more n c r k in omega arith in
+    let ur : Once r = λ k. let o = u k in let m = times-more n c r k in omega arith in
     let a = childs-times c x y in let b = childs-times r x y in
     let top = on_top (inclusive_ancestors c x) n.name (inclusive_ancestors r x) in
     let bound : childs (tree n c r) x y ≤ root_times c x + childs c x y + childs r x y =
@@ -243,7 +244,7 @@ childs-parent (tree n c r) x y u h =
     (λ e. let g = times-elsewhere n c r x e in
     let here = cond-false (name_eq n.name x) (x ∷ []) top e in
     by_times (times_in c x)
-    (λ z. ap (λ p. first_of (drop 1 p)) (here ∙ ap (λ p. on_top p n.name (inclusive_ancestors r x)) (ancestors-absent c x z)) ∙
+    (λ z. ap (λ p. first_of (drop 1 p)) (here ∙ ap (λ p. on_top p n.name (inclusive_ancestors r x)) (path_none c x z)) ∙
     childs-parent r x y ur (omega arith))
     (λ z. let at = ancestors-present c x z in
     let all : inclusive_ancestors (tree n c r) x ≡ (x ∷ at.0) ++ n.name ∷ [] = here ∙ ap (λ p. on_top p n.name (inclusive_ancestors r x)) at.1 in

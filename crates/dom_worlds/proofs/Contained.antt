@@ -7,11 +7,11 @@ use Rattle.std.specs.List.{AllByRecursion}
 use Rattle.std.specs.Option.{option_or}
 use Rattle.std.proofs.lemmas.Bool.{cond-true, cond-false, ltb-true, eqb-true, false_from_ne_true, eq-eqb}
 use Rattle.dom_base.specs.declared.NodeName.{NodeName}
-use Rattle.dom_model.specs.Tree.{times_in}
+use Rattle.dom_model.specs.Tree.{times_in, Trees, none, tree, Node, names_of, roots, subtree, or_else, trees_below, children_of, parent_of}
+use Rattle.dom_model.specs.Tree.{is_inclusive_ancestor}
 use Rattle.dom_model.specs.Names.{name_eq, is_in, items_before}
 use Rattle.dom_model.specs.Place.{place_from, list_before, boundary_place, is_before}
 use Rattle.dom_model.specs.Ranges.{Range, at}
-use Rattle.dom_model.specs.Tree.{Trees, none, tree, Node, names_of, roots, subtree, or_else, trees_below, children_of, parent_of, is_inclusive_ancestor}
 use Rattle.dom_model.proofs.OwnerLaws.{name_eq-same, name_eq-turned, name_eq-true}
 use Rattle.dom_worlds.proofs.Descents.{ancestor-inside}
 use Rattle.dom_worlds.proofs.Insides.{or_else-none}
@@ -22,7 +22,8 @@ use Rattle.dom_worlds.proofs.Roots.{self-above, parent-above}
 use Rattle.dom_worlds.proofs.TableRecords.{inside-alone, above-above}
 use Rattle.dom_worlds.proofs.Tests.{by_cases, or-later}
 use Rattle.dom_worlds.proofs.TreeChangeLaws.{HasRoot, subtree-here, subtree-elsewhere, times-below}
-use Rattle.dom_worlds.proofs.Trees.{IsUnique, by_times, times-here, times-elsewhere, times-more, times-subtree, subtree-absent}
+use Rattle.dom_laws.proofs.Counts.{Once, by_times, times-here, times-elsewhere, times-more, times_subtree}
+use Rattle.dom_laws.proofs.Paths.{subtree_gone}
 use Rattle.dom_worlds.proofs.Trees.{root-there}
 
 -- Places. A name without a node has none.
@@ -72,7 +73,7 @@ record AreNested (k : ℕ) (ts : Trees) (a z : NodeName) (path rest : List ℕ) 
   inner : place_from 0 (trees_below (subtree ts a)) z ≡ Some rest
 
 -- the place of a node below another one
-place-nested : (k : ℕ) (ts : Trees) (a z : NodeName) {path rest : List ℕ} → IsUnique ts → AreNested k ts a z path rest →
+place-nested : (k : ℕ) (ts : Trees) (a z : NodeName) {path rest : List ℕ} → Once ts → AreNested k ts a z path rest →
     place_from k ts z ≡ Some (path ++ rest)
 place-nested k none a z u at = let p = at.outer in cc
 place-nested k (tree n c r) a z {path} {rest} u places =
@@ -82,8 +83,8 @@ place-nested k (tree n c r) a z {path} {rest} u places =
     let b = has-place 0 (trees_below (subtree (tree n c r) a)) z rest q in
     let once = u a in
     let once_z = u z in
-    let uc : IsUnique c = λ k. let o = u k in let m = times-more n c r k in omega arith in
-    let ur : IsUnique r = λ k. let o = u k in let m = times-more n c r k in omega arith in
+    let uc : Once c = λ k. let o = u k in let m = times-more n c r k in omega arith in
+    let ur : Once r = λ k. let o = u k in let m = times-more n c r k in omega arith in
     by_cases (name_eq n.name a)
     (λ e. let same = ap trees_below (subtree-here n c r a e) in
     let inner = subst (λ us. 1 ≤ times_in us z) same b in
@@ -94,18 +95,18 @@ place-nested k (tree n c r) a z {path} {rest} u places =
     place-below n c r z other at ∙ ap (λ xs. Some (xs ++ rest)) is)
     (λ e. let g = times-elsewhere n c r a e in
     by_times (times_in c a)
-    (λ y. let same = ap trees_below (subtree-elsewhere n c r a e ∙ ap (λ t. or_else t (subtree r a)) (subtree-absent c a y)) in
+    (λ y. let same = ap trees_below (subtree-elsewhere n c r a e ∙ ap (λ t. or_else t (subtree r a)) (subtree_gone c a y)) in
     let inner = subst (λ us. 1 ≤ times_in us z) same b in
     let at = subst (λ us. place_from 0 us z ≡ Some rest) same q in
-    let there : 1 ≤ times_in r z = let s = times-below (subtree r a) z in let t = times-subtree r a z in omega arith in
+    let there : 1 ≤ times_in r z = let s = times-below (subtree r a) z in let t = times_subtree r a z in omega arith in
     let other : name_eq n.name z ≡ false = by_cases (name_eq n.name z) (λ f. absurd (let g = times-here n c r z f in omega arith)) (λ f. f) in
     let gz = times-elsewhere n c r z other in
     place-behind n c r z k other (omega arith) ∙ place-nested (k + 1) r a z ur (record { outer = sym (place-behind n c r a k e y) ∙ p; inner = at }))
-    (λ y. let same = ap trees_below (subtree-elsewhere n c r a e ∙ ap (or_else (subtree c a)) (subtree-absent r a (omega arith)) ∙
+    (λ y. let same = ap trees_below (subtree-elsewhere n c r a e ∙ ap (or_else (subtree c a)) (subtree_gone r a (omega arith)) ∙
     or_else-none (subtree c a)) in
     let inner = subst (λ us. 1 ≤ times_in us z) same b in
     let at = subst (λ us. place_from 0 us z ≡ Some rest) same q in
-    let there : 1 ≤ times_in c z = let s = times-below (subtree c a) z in let t = times-subtree c a z in omega arith in
+    let there : 1 ≤ times_in c z = let s = times-below (subtree c a) z in let t = times_subtree c a z in omega arith in
     let other : name_eq n.name z ≡ false = by_cases (name_eq n.name z) (λ f. absurd (let g = times-here n c r z f in omega arith)) (λ f. f) in
     let own = place-there 0 c a y in
     let one : Some (k ∷ own.0) ≡ Some path = sym (place-below n c r a e own.1) ∙ p in
@@ -120,7 +121,7 @@ record IsRootAt (k : ℕ) (us : Trees) (bound : ℕ) (x : NodeName) : Type 0 whe
   below : index ≤ bound
 
 -- behind a first root
-later-root : {r : Trees} {bound : ℕ} (k : ℕ) (n : Node) (c : Trees) → IsUnique (tree n c r) → (x : NodeName) → IsRootAt (k + 1) r bound x →
+later-root : {r : Trees} {bound : ℕ} (k : ℕ) (n : Node) (c : Trees) → Once (tree n c r) → (x : NodeName) → IsRootAt (k + 1) r bound x →
     IsRootAt k (tree n c r) (suc bound) x
 later-root {r} k n c u x h =
     let once = u x in
@@ -144,7 +145,7 @@ first-root k n c r bound =
     record { there = omega arith; index = 0; place = place-here n c r n.name k (name_eq-same n.name) ∙ ap (λ i. Some (i ∷ [])) number; below = omega arith }
 
 -- the first roots
-roots-taken : (k : ℕ) (us : Trees) (m : ℕ) → IsUnique us → AllByRecursion (IsRootAt k us m) (take (suc m) (names_of (roots us)))
+roots-taken : (k : ℕ) (us : Trees) (m : ℕ) → Once us → AllByRecursion (IsRootAt k us m) (take (suc m) (names_of (roots us)))
 roots-taken k none m u = tt
 roots-taken k (tree n c r) zero u = (first-root k n c r 0, tt)
 roots-taken k (tree n c r) (suc m) u = (
@@ -154,7 +155,7 @@ roots-taken k (tree n c r) (suc m) u = (
 )
 
 -- the roots up to one
-roots-up_to : (k : ℕ) (us : Trees) (a : NodeName) → IsUnique us → HasRoot us a → (j : ℕ) × (place_from k us a ≡ Some ((k + j) ∷ [])) ×
+roots-up_to : (k : ℕ) (us : Trees) (a : NodeName) → Once us → HasRoot us a → (j : ℕ) × (place_from k us a ≡ Some ((k + j) ∷ [])) ×
     AllByRecursion (IsRootAt k us j) (items_before name_eq a (names_of (roots us)) ++ a ∷ [])
 roots-up_to k none a u h = absurd (true≢false (sym h))
 roots-up_to k (tree n c r) a u h =
@@ -252,14 +253,14 @@ pub record IsSpared (ts : Trees) (r : Range NodeName) (q : NodeName) (xs : List 
   pub children : AllByRecursion (λ x. is_before ts r.start (at x 0) ≡ false) xs
 
 -- the place of a child
-child-place : {path : List ℕ} (ts : Trees) (q : NodeName) → IsUnique ts → 1 ≤ times_in ts q → place_from 0 ts q ≡ Some path → {bound : ℕ} {x : NodeName} →
+child-place : {path : List ℕ} (ts : Trees) (q : NodeName) → Once ts → 1 ≤ times_in ts q → place_from 0 ts q ≡ Some path → {bound : ℕ} {x : NodeName} →
     IsRootAt 0 (trees_below (subtree ts q)) bound x → (i : ℕ) × (place_from 0 ts x ≡ Some (path ++ i ∷ [])) × (i ≤ bound)
 child-place {path} ts q u t p {x} h =
     let zero_first : 0 + h.index ≡ h.index = omega arith in
     (h.index, place-nested 0 ts q x u (record { outer = p; inner = h.place ∙ ap (λ i. Some (i ∷ [])) zero_first }), h.below)
 
 -- The first children of the start node.
-pub spared-first : (ts : Trees) (r : Range NodeName) → IsUnique ts → 1 ≤ times_in ts r.start.node →
+pub spared-first : (ts : Trees) (r : Range NodeName) → Once ts → 1 ≤ times_in ts r.start.node →
     IsSpared ts r r.start.node (take r.start.offset (children_of ts r.start.node))
 spared-first ts r u t =
     let q = r.start.node in
@@ -279,7 +280,7 @@ spared-first ts r u t =
     from zero e path p begins = tt
     from (suc m) e path p begins =
         let below = trees_below (subtree ts r.start.node) in
-        let ub : IsUnique below = λ y. let a = times-below (subtree ts r.start.node) y in let b = times-subtree ts r.start.node y in let o =
+        let ub : Once below = λ y. let a = times-below (subtree ts r.start.node) y in let b = times_subtree ts r.start.node y in let o =
         u y in omega arith in
         all-then (IsRootAt 0 below m) (λ x. is_before ts r.start (at x 0) ≡ false)
         (λ x h. let c = child-place ts r.start.node u t p h in
@@ -305,7 +306,7 @@ below-rest (tree n c r) a z d =
     either (tree m e q) t h g = h
 
 -- The children up to a node above the start node, or up to the start node.
-pub spared-up_to : {q : NodeName} (ts : Trees) (r : Range NodeName) (a : NodeName) → IsUnique ts → parent_of ts a ≡ Some q →
+pub spared-up_to : {q : NodeName} (ts : Trees) (r : Range NodeName) (a : NodeName) → Once ts → parent_of ts a ≡ Some q →
     is_inclusive_ancestor ts a r.start.node ≡ true → IsSpared ts r q (items_before name_eq a (children_of ts q) ++ a ∷ [])
 spared-up_to {q} ts r a u e above =
     let t = child-there ts a q e in
@@ -314,7 +315,7 @@ spared-up_to {q} ts r a u e above =
     let at_q = place-there 0 ts q tq in
     let path = at_q.0 in
     let below = trees_below (subtree ts q) in
-    let ub : IsUnique below = λ y. let x = times-below (subtree ts q) y in let b = times-subtree ts q y in let o = u y in omega arith in
+    let ub : Once below = λ y. let x = times-below (subtree ts q) y in let b = times_subtree ts q y in let o = u y in omega arith in
     let up = roots-up_to 0 below a ub (root-below ts a q u e) in
     let j = up.0 in
     let zero_first : 0 + j ≡ j = omega arith in

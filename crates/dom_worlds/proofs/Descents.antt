@@ -12,14 +12,14 @@ use Rattle.dom_model.specs.TreeChanges.{without, put_before, put_below, placed, 
 use Rattle.dom_model.proofs.OwnerLaws.{name_eq-same, name_eq-turned, name_eq-true}
 use Rattle.dom_worlds.proofs.Lists.{all-then, all-append}
 use Rattle.dom_worlds.proofs.Tests.{by_cases, or-later}
-use Rattle.dom_worlds.proofs.Trees.{IsUnique, by_times, times-here, times-elsewhere, times-more, times-parts, times-subtree, subtree-absent}
-use Rattle.dom_worlds.proofs.Trees.{root-there, nodes-there, ancestors-absent, ancestors-present}
+use Rattle.dom_laws.proofs.Counts.{Once, by_times, times-here, times-elsewhere, times-more, times-parts, times_subtree}
+use Rattle.dom_laws.proofs.Paths.{subtree_gone, path_none}
+use Rattle.dom_worlds.proofs.Trees.{root-there, nodes-there, ancestors-present}
 use Rattle.dom_worlds.proofs.TreeChangeLaws.{HasRoot, without-here, without-elsewhere, subtree-here, subtree-elsewhere, put_below-here}
 use Rattle.dom_worlds.proofs.TreeChangeLaws.{put_below-elsewhere, put_below-absent, times-put_before}
 use Rattle.dom_worlds.proofs.Insides.{CanPlace, inside, inside-here, inside-elsewhere, inside-times, inside-absent, times-inside, inside-put_root}
-use Rattle.dom_worlds.proofs.Insides.{inside-put_before, without-absent, or_else-none, times-put_below_all}
+use Rattle.dom_worlds.proofs.Insides.{inside-put_before, without-absent, or_else-none, times-put_below_all, times-parted}
 use Rattle.dom_worlds.proofs.InsideAncestors.{inside-no_ancestor}
-use Rattle.dom_worlds.proofs.Insides.{times-parted}
 
 -- By ancestors.
 among-two : (a b : NodeName) (xs : List NodeName) → is_in name_eq a (xs ++ b ∷ []) ≡ true → (is_in name_eq a xs ≡ true → ⊥) → name_eq a b ≡ true
@@ -44,7 +44,7 @@ ancestor-inside (tree n c r) a z h =
     let g = times-elsewhere n c none z e in
     let k : is_in name_eq a top ≡ true = sym (ap (is_in name_eq a) is) ∙ h in
     by_times (times_in c z)
-    (λ t. let behind = ancestor-inside r a z (sym (ap (λ p. is_in name_eq a (on_top p n.name (inclusive_ancestors r z))) (ancestors-absent c z t)) ∙ k) in
+    (λ t. let behind = ancestor-inside r a z (sym (ap (λ p. is_in name_eq a (on_top p n.name (inclusive_ancestors r z))) (path_none c z t)) ∙ k) in
     by_cases (name_eq n.name a) (λ f. let i = inside-here n c r a z f in omega arith) (λ f. let i = inside-elsewhere n c r a z f in omega arith))
     (λ t. by_cases (name_eq n.name a) (λ f. let i = inside-here n c r a z f in omega arith)
     (λ f. let i = inside-elsewhere n c r a z f in
@@ -55,7 +55,7 @@ ancestor-inside (tree n c r) a z h =
     (λ l. true≢false (sym (ap (is_in name_eq a) at.1 ∙ l) ∙ j))) ∙ name_eq-turned a n.name ∙ f))))))
 
 -- and the other way round
-pub inside-ancestor : (ts : Trees) (a z : NodeName) → IsUnique ts → 1 ≤ inside ts a z → is_inclusive_ancestor ts a z ≡ true
+pub inside-ancestor : (ts : Trees) (a z : NodeName) → Once ts → 1 ≤ inside ts a z → is_inclusive_ancestor ts a z ≡ true
 inside-ancestor ts a z u h = by_cases (is_inclusive_ancestor ts a z) (λ e. e) (λ e. absurd (let k = inside-no_ancestor ts a z u e in omega arith))
 
 -- below roots stands no more than in their trees
@@ -66,7 +66,7 @@ inside-below (tree n c r) a z =
     arith) (λ e. let i = inside-elsewhere n c r a z e in omega arith)
 
 -- What stands below a root that is taken out, and what is left, is all.
-inside-parted : (ts : Trees) (y a z : NodeName) → IsUnique ts → HasRoot ts y → inside (without y ts) a z + inside (subtree ts y) a z ≡ inside ts a z
+inside-parted : (ts : Trees) (y a z : NodeName) → Once ts → HasRoot ts y → inside (without y ts) a z + inside (subtree ts y) a z ≡ inside ts a z
 inside-parted none y a z u h = absurd (true≢false (sym h))
 inside-parted (tree n c r) y a z u h =
     let once = u y in
@@ -78,7 +78,7 @@ inside-parted (tree n c r) y a z u h =
     let later = or-later (name_eq y n.name) (is_in name_eq y (names_of (roots r))) (name_eq-turned y n.name ∙ e) h in
     let there = root-there r y later in
     let s = ap (λ t. inside t a z) (without-elsewhere n c r y e ∙ ap (λ t. tree n t (without y r)) (without-absent c y (omega arith))) in
-    let t = ap (λ t. inside t a z) (subtree-elsewhere n c r y e ∙ ap (λ t. or_else t (subtree r y)) (subtree-absent c y (omega arith))) in
+    let t = ap (λ t. inside t a z) (subtree-elsewhere n c r y e ∙ ap (λ t. or_else t (subtree r y)) (subtree_gone c y (omega arith))) in
     let behind = inside-parted r y a z (λ k. let o = u k in let m = times-more n c r k in omega arith) later in omega arith)
 
 -- What stands in the tree of a stays there.
@@ -139,13 +139,13 @@ pub inside-with_node_all : (n : Node) (ts : Trees) (a z : NodeName) → inside t
 inside-with_node_all n ts a z = let p = inside-put_root n.name (tree n none none) ts a z in omega arith
 
 -- Removals. The tree of a node, in the tree of another one.
-pub inside-subtree : (ts : Trees) (a y z : NodeName) → IsUnique ts → 1 ≤ times_in (subtree ts a) y → inside ts y z ≡ inside (subtree ts a) y z
+pub inside-subtree : (ts : Trees) (a y z : NodeName) → Once ts → 1 ≤ times_in (subtree ts a) y → inside ts y z ≡ inside (subtree ts a) y z
 inside-subtree none a y z u h = absurd (omega arith)
 inside-subtree (tree n c r) a y z u h =
     let once = u y in
     let once_a = u a in
-    let uc : IsUnique c = λ k. let o = u k in let m = times-more n c r k in omega arith in
-    let ur : IsUnique r = λ k. let o = u k in let m = times-more n c r k in omega arith in
+    let uc : Once c = λ k. let o = u k in let m = times-more n c r k in omega arith in
+    let ur : Once r = λ k. let o = u k in let m = times-more n c r k in omega arith in
     let p = times-parts n c r y in
     by_cases (name_eq n.name a)
     (λ e. let s = ap (λ t. inside t y z) (subtree-here n c r a e) in
@@ -153,29 +153,29 @@ inside-subtree (tree n c r) a y z u h =
     let behind = inside-absent r y z (omega arith) in omega arith)
     (λ e. let g = times-elsewhere n c r a e in
     by_times (times_in c a)
-    (λ t. let same = subtree-elsewhere n c r a e ∙ ap (λ t. or_else t (subtree r a)) (subtree-absent c a t) in
+    (λ t. let same = subtree-elsewhere n c r a e ∙ ap (λ t. or_else t (subtree r a)) (subtree_gone c a t) in
     let k : 1 ≤ times_in (subtree r a) y = subst (λ t. 1 ≤ times_in t y) same h in
     let s = ap (λ t. inside t y z) same in
-    let there = times-subtree r a y in
+    let there = times_subtree r a y in
     let behind = inside-subtree r a y z ur k in
     let below = inside-absent c y z (let m = times-more n c none y in omega arith) in
     by_cases (name_eq n.name y) (λ f. absurd (let q = times-here n c r y f in omega arith)) (λ f. let i = inside-elsewhere n c r y z f in omega arith))
-    (λ t. let same = subtree-elsewhere n c r a e ∙ ap (or_else (subtree c a)) (subtree-absent r a (omega arith)) ∙ or_else-none (subtree c a) in
+    (λ t. let same = subtree-elsewhere n c r a e ∙ ap (or_else (subtree c a)) (subtree_gone r a (omega arith)) ∙ or_else-none (subtree c a) in
     let k : 1 ≤ times_in (subtree c a) y = subst (λ t. 1 ≤ times_in t y) same h in
     let s = ap (λ t. inside t y z) same in
-    let there = times-subtree c a y in
+    let there = times_subtree c a y in
     let below = inside-subtree c a y z uc k in
     let m = times-more n c r y in
     let behind = inside-absent r y z (omega arith) in
     by_cases (name_eq n.name y) (λ f. absurd (let q = times-here n c r y f in omega arith)) (λ f. let i = inside-elsewhere n c r y z f in omega arith)))
 
 -- what does not stand in the tree that leaves is left where it was
-pub inside-left : (ts : Trees) (x a z : NodeName) → IsUnique ts → inside ts x z ≡ 0 → inside ts a z ≤ inside (without x ts) a z
+pub inside-left : (ts : Trees) (x a z : NodeName) → Once ts → inside ts x z ≡ 0 → inside ts a z ≤ inside (without x ts) a z
 inside-left none x a z u h = omega arith
 inside-left (tree n c r) x a z u h =
     let once = u x in
-    let uc : IsUnique c = λ k. let o = u k in let m = times-more n c r k in omega arith in
-    let ur : IsUnique r = λ k. let o = u k in let m = times-more n c r k in omega arith in
+    let uc : Once c = λ k. let o = u k in let m = times-more n c r k in omega arith in
+    let ur : Once r = λ k. let o = u k in let m = times-more n c r k in omega arith in
     by_cases (name_eq n.name x)
     (λ e. let g = times-here n c r x e in
     let s = ap (λ t. inside t a z) (without-here n c r x e ∙ without-absent r x (omega arith)) in
@@ -199,7 +199,7 @@ pub record IsInBoth (ts : Trees) (a x z : NodeName) : Type 0 where
   pub apart : inside ts x a ≡ 0
 
 -- of two nodes in whose trees a third one stands, one stands in the tree of the other
-pub inside-comparable : (ts : Trees) (a x z : NodeName) → IsUnique ts → IsInBoth ts a x z → 1 ≤ times_in (subtree ts a) x
+pub inside-comparable : (ts : Trees) (a x z : NodeName) → Once ts → IsInBoth ts a x z → 1 ≤ times_in (subtree ts a) x
 inside-comparable none a x z u both = absurd (let h = both.first in omega arith)
 inside-comparable (tree n c r) a x z u both =
     let h = both.first in
@@ -207,8 +207,8 @@ inside-comparable (tree n c r) a x z u both =
     let k = both.apart in
     let once = u z in
     let once_a = u a in
-    let uc : IsUnique c = λ k. let o = u k in let m = times-more n c r k in omega arith in
-    let ur : IsUnique r = λ k. let o = u k in let m = times-more n c r k in omega arith in
+    let uc : Once c = λ k. let o = u k in let m = times-more n c r k in omega arith in
+    let ur : Once r = λ k. let o = u k in let m = times-more n c r k in omega arith in
     let zr = inside-times r x z in
     let zc = inside-times c x z in
     let ar = inside-times r a z in
@@ -235,11 +235,11 @@ inside-comparable (tree n c r) a x z u both =
     let l = inside-elsewhere n c r x a f in
     by_times (times_in c a)
     (λ t. let ca = inside-absent c a z t in
-    let same = subtree-elsewhere n c r a e ∙ ap (λ t. or_else t (subtree r a)) (subtree-absent c a t) in
+    let same = subtree-elsewhere n c r a e ∙ ap (λ t. or_else t (subtree r a)) (subtree_gone c a t) in
     let s = ap (λ t. times_in t x) same in
     let behind = inside-comparable r a x z ur (record { first = omega arith; second = omega arith; apart = omega arith }) in omega arith)
     (λ t. let ra = inside-absent r a z (omega arith) in
-    let same = subtree-elsewhere n c r a e ∙ ap (or_else (subtree c a)) (subtree-absent r a (omega arith)) ∙ or_else-none (subtree c a) in
+    let same = subtree-elsewhere n c r a e ∙ ap (or_else (subtree c a)) (subtree_gone r a (omega arith)) ∙ or_else-none (subtree c a) in
     let s = ap (λ t. times_in t x) same in
     let below = inside-comparable c a x z uc (record { first = omega arith; second = omega arith; apart = omega arith }) in omega arith)))
 
@@ -270,13 +270,13 @@ all-named P [] h = tt
 all-named P (n ∷ ns) h = (h.0, all-named P ns h.1)
 
 -- those before
-pub before-apart : (ts : Trees) (x : NodeName) → IsUnique ts →
+pub before-apart : (ts : Trees) (x : NodeName) → Once ts →
     AllByRecursion (λ y. (1 ≤ times_in ts y) × (inside ts x y ≡ 0)) (items_before name_eq x (names_of (nodes ts)))
 before-apart none x u = tt
 before-apart (tree n c r) x u =
     let T : NodeName → Type 0 = λ y. (1 ≤ times_in (tree n c r) y) × (inside (tree n c r) x y ≡ 0) in
-    let uc : IsUnique c = λ k. let o = u k in let m = times-more n c r k in omega arith in
-    let ur : IsUnique r = λ k. let o = u k in let m = times-more n c r k in omega arith in
+    let uc : Once c = λ k. let o = u k in let m = times-more n c r k in omega arith in
+    let ur : Once r = λ k. let o = u k in let m = times-more n c r k in omega arith in
     let rest = items_before name_eq x (names_of (nodes c ++ nodes r)) in
     by_cases (name_eq x n.name)
     (λ e. subst (AllByRecursion T) (sym (cond-true (name_eq x n.name) [] (n.name ∷ rest) e)) tt)
@@ -318,7 +318,7 @@ descend-begins (tree n c r) a h =
     (λ e. let g = times-elsewhere n c r a e in
     by_times (times_in c a)
     (λ z. let at = descend-begins r a (omega arith) in
-    (at.0, ap (λ t. names_of (nodes t)) (subtree-elsewhere n c r a e ∙ ap (λ t. or_else t (subtree r a)) (subtree-absent c a z)) ∙ at.1))
+    (at.0, ap (λ t. names_of (nodes t)) (subtree-elsewhere n c r a e ∙ ap (λ t. or_else t (subtree r a)) (subtree_gone c a z)) ∙ at.1))
     (λ z. let at = descend-begins c a z in (at.0, first-of (subtree c a) (subtree r a) a at.0 (subtree-elsewhere n c r a e) at.1)))
   where
     first-of : (s t : Trees) (a : NodeName) (rest : List NodeName) → subtree (tree n c r) a ≡ or_else s t → names_of (nodes s) ≡ a ∷ rest →

@@ -13,8 +13,8 @@ use Rattle.dom_model.specs.Ranges.{Range, at, is_collapsed}
 use Rattle.dom_model.specs.Steps.{make, set_range, part_step, after}
 use Rattle.dom_model.specs.Changes.{observed, inserting}
 use Rattle.dom_model.specs.TextChanges.{replacing_data}
-use Rattle.dom_model.specs.Extract.{Pieces, nothing, cut, tree_holding, pieces_of, common_ancestor, is_in_one_data, clone_part}
-use Rattle.dom_model.specs.Extract.{making_below, taking, new_fragment_node, own_document, new_place, both_at, extracting}
+use Rattle.dom_model.specs.Extract.{Pieces, nothing, cut, tree_holding, pieces_of, common_ancestor, is_in_one_data, clone_part, making_below, taking}
+use Rattle.dom_model.specs.Extract.{new_fragment_node, own_document, new_place, both_at, extracting}
 use Rattle.dom_model.proofs.OwnerLaws.{name_eq-same, name_eq-true}
 use Rattle.dom_worlds.specs.Worlds.{IsPart, AllNodes}
 use Rattle.dom_worlds.proofs.Bounds.{nowhere, HasRoom, room-make}
@@ -41,12 +41,11 @@ use Rattle.dom_worlds.proofs.RangeEnds.{room-at, above-kids, room-place_new}
 use Rattle.dom_worlds.proofs.TableSteps.{HasNode}
 use Rattle.dom_worlds.proofs.Tests.{by_cases, either_way, which_way}
 use Rattle.dom_worlds.proofs.TreeChangeLaws.{nodes-subtree, nodes-then, nodes-named}
-use Rattle.dom_worlds.proofs.Trees.{IsUnique}
-use Rattle.dom_worlds.proofs.RangePlans.{IsProper, zero_one, data-left, early-not}
-use Rattle.dom_worlds.proofs.RangePlans.{room-last}
+use Rattle.dom_laws.proofs.Counts.{Once}
+use Rattle.dom_worlds.proofs.RangePlans.{IsProper, zero_one, data-left, early-not, room-last}
 
 -- Extraction. Each node of the trees is there, and is the one that is read under its name.
-all-read : (ts : Trees) → IsUnique ts → AllNodes (λ n. (1 ≤ times_in ts n.name) × (n ≡ node_in ts n.name)) ts
+all-read : (ts : Trees) → Once ts → AllNodes (λ n. (1 ≤ times_in ts n.name) × (n ≡ node_in ts n.name)) ts
 all-read ts u = diagonal ts (nodes-named (λ y. 1 ≤ times_in ts y) ts (λ y m. m)) (λ y t. read-all ts y u t)
   where
     diagonal : (us : Trees) → AllNodes (λ n. 1 ≤ times_in ts n.name) us →
@@ -61,7 +60,7 @@ below-read P none h = tt
 below-read P (tree n c r) h = h.1
 
 -- so it is with those below the common ancestor of a range's ends
-pub common-read : (ts : Trees) (r : Range NodeName) → IsUnique ts → AllNodes (λ n. (1 ≤ times_in ts n.name) × (n ≡ node_in ts n.name)) (common_below ts r)
+pub common-read : (ts : Trees) (r : Range NodeName) → Once ts → AllNodes (λ n. (1 ≤ times_in ts n.name) × (n ≡ node_in ts n.name)) (common_below ts r)
 common-read ts r u =
     let Read : Node → Type 0 = λ n. (1 ≤ times_in ts n.name) × (n ≡ node_in ts n.name) in
     let a = common_ancestor ts r in
@@ -75,7 +74,7 @@ record IsOnEndSide (ts : Trees) (r : Range NodeName) (z : NodeName) : Type 0 whe
   over : is_inclusive_ancestor ts root z ≡ true
 
 -- so is each node of the tree that holds the end alone
-all-held : (ts : Trees) (r : Range NodeName) → IsUnique ts → (us : Trees) → ((a z : NodeName) → inside us a z ≤ inside ts a z) →
+all-held : (ts : Trees) (r : Range NodeName) → Once ts → (us : Trees) → ((a z : NodeName) → inside us a z ≤ inside ts a z) →
     AllNodes (λ n. IsOnEndSide ts r n.name) (tree_holding ts r.end.node r.start.node us)
 all-held ts r u none f = tt
 all-held ts r u (tree n c e) f =

@@ -21,7 +21,7 @@ use Rattle.dom_worlds.specs.Worlds.{IsPart, IsRoot, IsOf, OnlyLogs}
 use Rattle.dom_worlds.proofs.Lists.{all-append}
 use Rattle.dom_worlds.proofs.Makers.{hosted}
 use Rattle.dom_worlds.proofs.Tests.{by_cases}
-use Rattle.dom_worlds.proofs.Trees.{times-here, times-elsewhere}
+use Rattle.dom_laws.proofs.Counts.{times-here, times-elsewhere}
 use Rattle.dom_worlds.proofs.SameInvariant.{there-with_part}
 
 -- A part with a root alone.

@@ -21,16 +21,16 @@ use Rattle.dom_model.proofs.StepLaws.{Component-IsNoPage}
 use Rattle.dom_worlds.specs.Reached.{IsReached}
 use Rattle.dom_worlds.specs.Worlds.{MayBeShadow, IsOf, IsWorld}
 use Rattle.dom_worlds.proofs.Chains.{IsBelow, above-host, root-owned}
-use Rattle.dom_worlds.proofs.ShadowTrees.{owned-in, ancestors-owned, IsInTree, slot-in_tree, slot_in-there}
+use Rattle.dom_worlds.proofs.ShadowTrees.{owned-in, ancestors-owned, IsInTree, slot-in_tree, slot_in-there, slot_way, slots-first}
 use Rattle.dom_worlds.proofs.InsideAncestors.{parent-there, child-there, no_parent-root}
 use Rattle.dom_worlds.proofs.Lists.{all-then}
 use Rattle.dom_worlds.proofs.Makers.{component-host, component-maker, component-deeper, hosted-is}
 use Rattle.dom_worlds.proofs.Owners.{node-there, there-hosted}
-use Rattle.dom_worlds.proofs.ShadowTrees.{slot_way, slots-first}
 use Rattle.dom_worlds.proofs.ReachedFacts.{root-alone, no_other_shadow_roots, shadow_roots-are_roots}
 use Rattle.dom_worlds.proofs.Roots.{ancestors-step}
 use Rattle.dom_worlds.proofs.Tests.{by_cases, either_way}
-use Rattle.dom_worlds.proofs.Trees.{IsUnique, times-subtree, ancestors-present, ancestors-root, ancestors-there, all-both}
+use Rattle.dom_laws.proofs.Counts.{Once, times_subtree}
+use Rattle.dom_worlds.proofs.Trees.{ancestors-present, ancestors-root, ancestors-there, all-both}
 
 -- A node and those that come after it: each is followed by what is above it, and the last by the end.
 abbrev pub Runs : (NodeName → Option NodeName) → NodeName → List NodeName → Option NodeName → Type 0
@@ -57,7 +57,7 @@ runs-change f g x [] q h = g x q.0 h
 runs-change f g x (y ∷ ys) q h = (f x y q.0 h.0, runs-change f g y ys q.1 h.1)
 
 -- Ancestors: each is followed by its parent.
-ancestors-run : (ts : Trees) → IsUnique ts → (x : NodeName) (path : List NodeName) → inclusive_ancestors ts x ≡ x ∷ path → Runs (parent_of ts) x path None
+ancestors-run : (ts : Trees) → Once ts → (x : NodeName) (path : List NodeName) → inclusive_ancestors ts x ≡ x ∷ path → Runs (parent_of ts) x path None
 ancestors-run ts u x [] h = ap (λ p. first_of (drop 1 p)) h
 ancestors-run ts u x (y ∷ path) h =
     let up : parent_of ts x ≡ Some y = ap (λ p. first_of (drop 1 p)) h in
@@ -65,7 +65,7 @@ ancestors-run ts u x (y ∷ path) h =
     (up, ancestors-run ts u y path (ap (drop 1) both))
 
 -- a node without a parent is its root
-pub root-itself : (ts : Trees) (y : NodeName) → IsUnique ts → 1 ≤ times_in ts y → parent_of ts y ≡ None → root_of ts y ≡ y
+pub root-itself : (ts : Trees) (y : NodeName) → Once ts → 1 ≤ times_in ts y → parent_of ts y ≡ None → root_of ts y ≡ y
 root-itself ts y u t h = ap (λ p. unwrap_or (last_of p) y) (root-alone ts u y (no_parent-root ts y t h))
 
 -- The slot of a node: in the shadow tree of its parent, which is deeper than the node's owner.
@@ -88,7 +88,7 @@ slot-facts w i x s h = from (parent_at w x) refl
     at_parent p (Some c) e f g =
         let t = slot-in_tree w i x s h in
         let inner = slot_in-there (shadow_tree w c) (node_at w x) s g in
-        let within = times-subtree (part_of w c).trees (shadow_root_of c) s in
+        let within = times_subtree (part_of w c).trees (shadow_root_of c) s in
         let mine : s.owner ≡ c = owned-in w i c s (omega arith) in
         let same : t.0 ≡ c = sym t.1.owner ∙ mine in
         let own : p.owner ≡ x.owner = owned-in w i x.owner p (parent-there (trees_with w x) x p e) in

@@ -10,11 +10,10 @@ use Rattle.dom_model.specs.Tree.{inclusive_ancestors, is_inclusive_ancestor, on_
 use Rattle.dom_model.proofs.OwnerLaws.{name_eq-same, name_eq-turned, name_eq-true}
 use Rattle.dom_worlds.proofs.Lists.{all-then}
 use Rattle.dom_worlds.proofs.Tests.{by_cases, or-first, or-second, or-later}
-use Rattle.dom_worlds.proofs.Trees.{IsUnique, by_times, times-here, times-elsewhere, times-more, times-parts, times-subtree}
-use Rattle.dom_worlds.proofs.Trees.{subtree-absent, ancestors-absent, ancestors-present, ancestors-there}
-use Rattle.dom_worlds.proofs.TreeChangeLaws.{subtree-here, subtree-elsewhere, HasRoot}
-use Rattle.dom_worlds.proofs.TreeChangeLaws.{root-first, root-second}
-use Rattle.dom_worlds.proofs.TreeChangeLaws.{times-below}
+use Rattle.dom_laws.proofs.Counts.{Once, by_times, times-here, times-elsewhere, times-more, times-parts, times_subtree}
+use Rattle.dom_laws.proofs.Paths.{subtree_gone, path_none}
+use Rattle.dom_worlds.proofs.Trees.{ancestors-present, ancestors-there}
+use Rattle.dom_worlds.proofs.TreeChangeLaws.{subtree-here, subtree-elsewhere, HasRoot, root-first, root-second, times-below}
 use Rattle.dom_worlds.proofs.Insides.{inside, inside-here, inside-elsewhere, inside-times, inside-absent, or_else-none}
 
 -- Ancestors.
@@ -43,12 +42,12 @@ not_in-back x [] ys h = h
 not_in-back x (y ∷ xs) ys h = not_in-back x xs ys (not-second (name_eq x y) (is_in name_eq x (xs ++ ys)) h)
 
 -- below a node that is no inclusive ancestor of z, z does not stand
-pub inside-no_ancestor : (ts : Trees) (a z : NodeName) → IsUnique ts → is_inclusive_ancestor ts a z ≡ false → inside ts a z ≡ 0
+pub inside-no_ancestor : (ts : Trees) (a z : NodeName) → Once ts → is_inclusive_ancestor ts a z ≡ false → inside ts a z ≡ 0
 inside-no_ancestor none a z u h = refl
 inside-no_ancestor (tree n c r) a z u h =
     let once = u z in
-    let uc : IsUnique c = λ k. let o = u k in let m = times-more n c r k in omega arith in
-    let ur : IsUnique r = λ k. let o = u k in let m = times-more n c r k in omega arith in
+    let uc : Once c = λ k. let o = u k in let m = times-more n c r k in omega arith in
+    let ur : Once r = λ k. let o = u k in let m = times-more n c r k in omega arith in
     let top = on_top (inclusive_ancestors c z) n.name (inclusive_ancestors r z) in
     by_cases (name_eq n.name z)
     (λ e. let is = cond-true (name_eq n.name z) (z ∷ []) top e in
@@ -60,7 +59,7 @@ inside-no_ancestor (tree n c r) a z u h =
     let g = times-elsewhere n c r z e in
     let k : is_in name_eq a top ≡ false = sym (ap (is_in name_eq a) is) ∙ h in
     by_times (times_in c z)
-    (λ t. let behind = inside-no_ancestor r a z ur (sym (ap (λ p. is_in name_eq a (on_top p n.name (inclusive_ancestors r z))) (ancestors-absent c z t)) ∙ k) in
+    (λ t. let behind = inside-no_ancestor r a z ur (sym (ap (λ p. is_in name_eq a (on_top p n.name (inclusive_ancestors r z))) (path_none c z t)) ∙ k) in
     let below = inside-times c a z in
     by_cases (name_eq n.name a)
     (λ f. let i = inside-here n c r a z f in let j = times-elsewhere n c none z e in omega arith)
@@ -73,13 +72,13 @@ inside-no_ancestor (tree n c r) a z u h =
     let behind = inside-times r a z in omega arith))
 
 -- the tree of a node in the tree of another one
-pub inside-nested : (ts : Trees) (a y z : NodeName) → IsUnique ts → 1 ≤ times_in (subtree ts a) y → inside ts y z ≤ times_in (subtree ts a) z
+pub inside-nested : (ts : Trees) (a y z : NodeName) → Once ts → 1 ≤ times_in (subtree ts a) y → inside ts y z ≤ times_in (subtree ts a) z
 inside-nested none a y z u h = omega arith
 inside-nested (tree n c r) a y z u h =
     let once = u y in
     let once_a = u a in
-    let uc : IsUnique c = λ k. let o = u k in let m = times-more n c r k in omega arith in
-    let ur : IsUnique r = λ k. let o = u k in let m = times-more n c r k in omega arith in
+    let uc : Once c = λ k. let o = u k in let m = times-more n c r k in omega arith in
+    let ur : Once r = λ k. let o = u k in let m = times-more n c r k in omega arith in
     let p = times-parts n c r y in
     by_cases (name_eq n.name a)
     (λ e. let s = ap (λ t. times_in t z) (subtree-here n c r a e) in
@@ -89,17 +88,17 @@ inside-nested (tree n c r) a y z u h =
     by_cases (name_eq n.name y) (λ f. let i = inside-here n c r y z f in omega arith) (λ f. let i = inside-elsewhere n c r y z f in omega arith))
     (λ e. let g = times-elsewhere n c r a e in
     by_times (times_in c a)
-    (λ t. let same = subtree-elsewhere n c r a e ∙ ap (λ t. or_else t (subtree r a)) (subtree-absent c a t) in
+    (λ t. let same = subtree-elsewhere n c r a e ∙ ap (λ t. or_else t (subtree r a)) (subtree_gone c a t) in
     let k : 1 ≤ times_in (subtree r a) y = subst (λ t. 1 ≤ times_in t y) same h in
     let s = ap (λ t. times_in t z) same in
-    let there = times-subtree r a y in
+    let there = times_subtree r a y in
     let behind = inside-nested r a y z ur k in
     let below = inside-absent c y z (let m = times-more n c none y in omega arith) in
     by_cases (name_eq n.name y) (λ f. absurd (let q = times-here n c r y f in omega arith)) (λ f. let i = inside-elsewhere n c r y z f in omega arith))
-    (λ t. let same = subtree-elsewhere n c r a e ∙ ap (or_else (subtree c a)) (subtree-absent r a (omega arith)) ∙ or_else-none (subtree c a) in
+    (λ t. let same = subtree-elsewhere n c r a e ∙ ap (or_else (subtree c a)) (subtree_gone r a (omega arith)) ∙ or_else-none (subtree c a) in
     let k : 1 ≤ times_in (subtree c a) y = subst (λ t. 1 ≤ times_in t y) same h in
     let s = ap (λ t. times_in t z) same in
-    let there = times-subtree c a y in
+    let there = times_subtree c a y in
     let below = inside-nested c a y z uc k in
     let m = times-more n c r y in
     let behind = inside-absent r y z (omega arith) in
@@ -138,7 +137,7 @@ second-none (x ∷ xs) y h e = cc
 
 -- and so is its child
 pub child-there : (ts : Trees) (x y : NodeName) → parent_of ts x ≡ Some y → 1 ≤ times_in ts x
-child-there ts x y e = by_times (times_in ts x) (λ z. absurd (second-none (inclusive_ancestors ts x) y (ancestors-absent ts x z) e)) (λ z. z)
+child-there ts x y e = by_times (times_in ts x) (λ z. absurd (second-none (inclusive_ancestors ts x) y (path_none ts x z) e)) (λ z. z)
 
 -- A node that is counted is a node: a name behind other nodes
 pub in-later : (x : NodeName) (ns ms : List Node) → is_in name_eq x (names_of ms) ≡ true → is_in name_eq x (names_of (ns ++ ms)) ≡ true
@@ -174,7 +173,7 @@ no_parent-root (tree n c r) x h e =
     let is = cond-false (name_eq n.name x) (x ∷ []) top k in
     by_times (times_in c x)
     (λ z. root-second n c r x (no_parent-root r x (omega arith)
-    (sym (ap (λ path. first_of (drop 1 path)) (is ∙ ap (λ path. on_top path n.name (inclusive_ancestors r x)) (ancestors-absent c x z))) ∙ e)))
+    (sym (ap (λ path. first_of (drop 1 path)) (is ∙ ap (λ path. on_top path n.name (inclusive_ancestors r x)) (path_none c x z))) ∙ e)))
     (λ z. let at = ancestors-present c x z in
     absurd (longer at.0 n.name (sym (ap (λ path. first_of (drop 1 path)) (is ∙ ap (λ path. on_top path n.name (inclusive_ancestors r x)) at.1)) ∙ e))))
   where

@@ -8,11 +8,11 @@ use Rattle.dom_model.specs.Tree.{Trees, none, tree, Node, subtree, or_else, time
 use Rattle.dom_model.specs.TreeChanges.{followed_by, without, put_before, put_below, put_root, taken_out, placed, with_node, map_nodes}
 use Rattle.dom_model.proofs.OwnerLaws.{name_eq-same}
 use Rattle.dom_worlds.proofs.Tests.{by_cases}
-use Rattle.dom_worlds.proofs.Trees.{IsUnique, by_times, times-here, times-elsewhere, times-more, times-parts, times-or_else}
-use Rattle.dom_worlds.proofs.Trees.{subtree-absent}
+use Rattle.dom_laws.proofs.Counts.{Once, by_times, times-here, times-elsewhere, times-more, times-parts, times_or_else}
+use Rattle.dom_laws.proofs.Paths.{subtree_gone}
 use Rattle.dom_worlds.proofs.TreeChangeLaws.{put_where, where-here, where-later, put_before-where, put_root-where, without-here, without-elsewhere}
-use Rattle.dom_worlds.proofs.TreeChangeLaws.{subtree-here, subtree-elsewhere, put_below-here, put_below-elsewhere, put_below-absent}
-use Rattle.dom_worlds.proofs.TreeChangeLaws.{times-put_root, times-put_before, times-without, times-map_nodes}
+use Rattle.dom_worlds.proofs.TreeChangeLaws.{subtree-here, subtree-elsewhere, put_below-here, put_below-elsewhere, put_below-absent, times-put_root}
+use Rattle.dom_worlds.proofs.TreeChangeLaws.{times-put_before, times-without, times-map_nodes}
 
 -- how often z stands in the trees of nodes named a
 abbrev pub inside : Trees → NodeName → NodeName → ℕ
@@ -61,7 +61,7 @@ times-inside (tree n c r) a z =
     by_cases (name_eq n.name a)
     (λ e. let g = inside-here n c r a z e in let s = ap (λ t. times_in t z) (subtree-here n c r a e) in omega arith)
     (λ e. let g = inside-elsewhere n c r a z e in let s = ap (λ t. times_in t z) (subtree-elsewhere n c r a e) in
-    let o = times-or_else (subtree c a) (subtree r a) z in let below = times-inside c a z in let behind = times-inside r a z in omega arith)
+    let o = times_or_else (subtree c a) (subtree r a) z in let below = times-inside c a z in let behind = times-inside r a z in omega arith)
 
 -- Two lists, and trees put into a list.
 inside-followed : (ts us : Trees) (a z : NodeName) → inside (followed_by ts us) a z ≡ inside ts a z + inside us a z
@@ -147,7 +147,7 @@ module _ (ts : Trees) (y a z : NodeName) where
   inside-taken_out = let p = inside-put_root y (subtree ts y) (without y ts) a z in let w = inside-without ts y a z in omega arith
 
   -- it is placed
-  pub inside-placed : (parent : NodeName) (before : Option NodeName) → IsUnique ts → inside ts a parent ≡ 0 →
+  pub inside-placed : (parent : NodeName) (before : Option NodeName) → Once ts → inside ts a parent ≡ 0 →
       inside (placed y parent before ts) a z ≤ inside ts a z
   inside-placed parent before u h =
       let once = u parent in
@@ -192,7 +192,7 @@ or_else-none none = refl
 or_else-none (tree n c r) = refl
 
 -- what is taken out and what is left are all
-pub times-parted : (ts : Trees) (y x : NodeName) → IsUnique ts → times_in (without y ts) x + times_in (subtree ts y) x ≡ times_in ts x
+pub times-parted : (ts : Trees) (y x : NodeName) → Once ts → times_in (without y ts) x + times_in (subtree ts y) x ≡ times_in ts x
 times-parted none y x u = refl
 times-parted (tree n c r) y x u =
     let once = u y in
@@ -202,21 +202,21 @@ times-parted (tree n c r) y x u =
     let p = times-parts n c r x in omega arith)
     (λ e. let g = times-elsewhere n c r y e in
     let s = ap (λ t. times_in t x) (without-elsewhere n c r y e) in
-    let uc : IsUnique c = λ k. let o = u k in let m = times-more n c r k in omega arith in
-    let ur : IsUnique r = λ k. let o = u k in let m = times-more n c r k in omega arith in
+    let uc : Once c = λ k. let o = u k in let m = times-more n c r k in omega arith in
+    let ur : Once r = λ k. let o = u k in let m = times-more n c r k in omega arith in
     by_times (times_in c y)
-    (λ z. let t = ap (λ t. times_in t x) (subtree-elsewhere n c r y e ∙ ap (λ t. or_else t (subtree r y)) (subtree-absent c y z)) in
+    (λ z. let t = ap (λ t. times_in t x) (subtree-elsewhere n c r y e ∙ ap (λ t. or_else t (subtree r y)) (subtree_gone c y z)) in
     let w = ap (λ t. times_in t x) (without-absent c y z) in let behind = times-parted r y x ur in omega arith)
     (λ z. let t = ap (λ t. times_in t x)
-    (subtree-elsewhere n c r y e ∙ ap (or_else (subtree c y)) (subtree-absent r y (omega arith)) ∙ or_else-none (subtree c y)) in
+    (subtree-elsewhere n c r y e ∙ ap (or_else (subtree c y)) (subtree_gone r y (omega arith)) ∙ or_else-none (subtree c y)) in
     let w = ap (λ t. times_in t x) (without-absent r y (omega arith)) in let below = times-parted c y x uc in omega arith))
 
 -- a node that leaves its parent
-pub times-taken_out_all : (ts : Trees) (y x : NodeName) → IsUnique ts → times_in (taken_out y ts) x ≡ times_in ts x
+pub times-taken_out_all : (ts : Trees) (y x : NodeName) → Once ts → times_in (taken_out y ts) x ≡ times_in ts x
 times-taken_out_all ts y x u = let p = times-put_root y (subtree ts y) (without y ts) x in let w = times-parted ts y x u in omega arith
 
 -- so each still stands once
-pub unique-taken_out : (ts : Trees) (y : NodeName) → IsUnique ts → IsUnique (taken_out y ts)
+pub unique-taken_out : (ts : Trees) (y : NodeName) → Once ts → Once (taken_out y ts)
 unique-taken_out ts y u = λ x. let once = u x in let same = times-taken_out_all ts y x u in omega arith
 
 -- A node that is there, and does not stand in the tree of another one.
@@ -226,7 +226,7 @@ pub record IsOutside (ts : Trees) (x y : NodeName) : Type 0 where
 
 -- Where a node may be placed: below one that is there, once, and does not stand in its tree.
 pub record CanPlace (ts : Trees) (x parent : NodeName) : Type 0 where
-  pub unique : IsUnique ts
+  pub unique : Once ts
   pub below : IsOutside ts x parent
 
 -- all that is put below a node

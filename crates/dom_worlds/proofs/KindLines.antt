@@ -39,11 +39,10 @@ use Rattle.dom_worlds.proofs.OwnerDispatches.{peopled-ending_other}
 use Rattle.dom_worlds.proofs.OwnerCommands.{present-opening}
 use Rattle.dom_worlds.proofs.ShadowRoots.{found-absent, found-there}
 use Rattle.dom_worlds.proofs.Acceptance.{next-test, part-accepted, accepted-facts}
-use Rattle.dom_worlds.proofs.Trees.{IsUnique, by_times, times-here, times-elsewhere, times-more}
+use Rattle.dom_laws.proofs.Counts.{Once, by_times, times-here, times-elsewhere, times-more}
 use Rattle.dom_worlds.proofs.TurnEndings.{alike-dispatch, alike-ending_turn}
 use Rattle.dom_worlds.proofs.WorldParts.{holds-with_part}
-use Rattle.dom_worlds.proofs.KindCommands.{document-no_shadow, AllKinds, kind-steps, all-kinds, kinds-same, no_shadow-steps}
-use Rattle.dom_worlds.proofs.KindCommands.{kinds-effect}
+use Rattle.dom_worlds.proofs.KindCommands.{document-no_shadow, AllKinds, kind-steps, all-kinds, kinds-same, no_shadow-steps, kinds-effect}
 
 -- Attaching: the nodes of the element's name are elements.
 pub absent-any : (P : Node → Type 0) (ts : Trees) (x : NodeName) → times_in ts x ≡ 0 → AllNodes (λ n. name_eq n.name x ≡ true → P n) ts
@@ -78,7 +77,7 @@ all-found (tree n c r) x m u e =
     (here, all-found c x m (omega arith) (at.1 ∙ is), absent-any (λ k. k ≡ m) r x (omega arith))))
 
 -- so all nodes of an element's name are elements
-elements-at : (ts : Trees) (x : NodeName) → IsUnique ts → 1 ≤ times_in ts x → is_element (kind_of ts x) ≡ true → AllNodes (IsElementAt x) ts
+elements-at : (ts : Trees) (x : NodeName) → Once ts → 1 ≤ times_in ts x → is_element (kind_of ts x) ≡ true → AllNodes (IsElementAt x) ts
 elements-at ts x u h e =
     let at = found-there ts x h in
     let kind : at.0.kind ≡ Element = is_element-is at.0.kind (ap (λ (o : Option Node). is_element (unwrap_or o (no_node x)).kind) (sym at.1) ∙ e) in

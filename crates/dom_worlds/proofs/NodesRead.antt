@@ -14,10 +14,10 @@ use Rattle.dom_worlds.proofs.KindLines.{all-found}
 use Rattle.dom_worlds.proofs.NodeKinds.{name-node_in}
 use Rattle.dom_worlds.proofs.ShadowRoots.{found-absent, found-there}
 use Rattle.dom_worlds.proofs.Tests.{by_cases}
-use Rattle.dom_worlds.proofs.TreeChangeLaws.{put_where, where-here, where-later, put_before-where, put_root-where, HasRoot, root-first}
-use Rattle.dom_worlds.proofs.TreeChangeLaws.{without-here, without-elsewhere, subtree-here, subtree-elsewhere, put_below-here, put_below-elsewhere}
+use Rattle.dom_worlds.proofs.TreeChangeLaws.{put_where, where-here, where-later, put_before-where, put_root-where, HasRoot, root-first, without-here}
+use Rattle.dom_worlds.proofs.TreeChangeLaws.{without-elsewhere, subtree-here, subtree-elsewhere, put_below-here, put_below-elsewhere}
 use Rattle.dom_worlds.proofs.TreeChangeLaws.{put_below-absent, nodes-with_node, nodes-taken_out, nodes-placed, nodes-listed}
-use Rattle.dom_worlds.proofs.Trees.{IsUnique, times-here}
+use Rattle.dom_laws.proofs.Counts.{Once, times-here}
 use Rattle.dom_worlds.proofs.ChildCounts.{kids, kids-absent, length-children}
 
 -- Nodes themselves. All nodes of a name are the one that is read.
@@ -38,14 +38,14 @@ read-same ts us y h m a =
         (λ f. listed ns k h.1 (sym (cond-false (name_eq n.name y) (Some n) (find (λ (n : Node). name_eq n.name y) ns) f) ∙ e) t)
 
 -- the one that is read is all of them
-pub read-all : (ts : Trees) (y : NodeName) → IsUnique ts → 1 ≤ times_in ts y → AllNodes (λ n. name_eq n.name y ≡ true → n ≡ node_in ts y) ts
+pub read-all : (ts : Trees) (y : NodeName) → Once ts → 1 ≤ times_in ts y → AllNodes (λ n. name_eq n.name y ≡ true → n ≡ node_in ts y) ts
 read-all ts y u h =
     let at = found-there ts y h in
     let found : at.0 ≡ node_in ts y = sym (ap (λ (o : Option Node). unwrap_or o (no_node y)) at.1) in
     subst (λ m. AllNodes (λ n. name_eq n.name y ≡ true → n ≡ m) ts) found (all-found ts y at.0 (u y) at.1)
 
 -- they stay where a node leaves
-pub node-taken_out : (ts : Trees) (x y : NodeName) → IsUnique ts → 1 ≤ times_in ts y → node_in (taken_out x ts) y ≡ node_in ts y
+pub node-taken_out : (ts : Trees) (x y : NodeName) → Once ts → 1 ≤ times_in ts y → node_in (taken_out x ts) y ≡ node_in ts y
 node-taken_out ts x y u h =
     let P : Node → Type 0 = λ n. name_eq n.name y ≡ true → n ≡ node_in ts y in
     read-same ts (taken_out x ts) y (let t = times-taken_out_all ts x y u in omega arith) (node_in ts y) (nodes-taken_out P x ts (read-all ts y u h))
@@ -59,7 +59,7 @@ node-placed {ts} {x} {parent} before y c h =
     (nodes-placed P x parent before ts (read-all ts y c.unique h))
 
 -- or is new
-pub node-with_node : (n : Node) (ts : Trees) (y : NodeName) → IsUnique ts → 1 ≤ times_in ts y → name_eq n.name y ≡ false →
+pub node-with_node : (n : Node) (ts : Trees) (y : NodeName) → Once ts → 1 ≤ times_in ts y → name_eq n.name y ≡ false →
     node_in (with_node n ts) y ≡ node_in ts y
 node-with_node n ts y u h e =
     let P : Node → Type 0 = λ n. name_eq n.name y ≡ true → n ≡ node_in ts y in
@@ -109,11 +109,11 @@ pub length-data : (ts : Trees) (y : NodeName) → has_data (kind_of ts y) ≡ tr
 length-data ts y e = cond-true (has_data (kind_of ts y)) (length (node_in ts y).text) (length (children_of ts y)) e
 
 -- of others the children
-pub length-kids : (ts : Trees) (y : NodeName) → IsUnique ts → has_data (kind_of ts y) ≡ false → length_of ts y ≡ kids ts y
+pub length-kids : (ts : Trees) (y : NodeName) → Once ts → has_data (kind_of ts y) ≡ false → length_of ts y ≡ kids ts y
 length-kids ts y u e = cond-false (has_data (kind_of ts y)) (length (node_in ts y).text) (length (children_of ts y)) e ∙ length-children ts y u
 
 -- a name without a node reads as empty
-pub length-absent : (ts : Trees) (y : NodeName) → IsUnique ts → times_in ts y ≡ 0 → length_of ts y ≡ 0
+pub length-absent : (ts : Trees) (y : NodeName) → Once ts → times_in ts y ≡ 0 → length_of ts y ≡ 0
 length-absent ts y u z =
     let read : node_in ts y ≡ no_node y = ap (λ (o : Option Node). unwrap_or o (no_node y)) (found-absent ts y z) in
     length-kids ts y u (ap (λ (n : Node). has_data n.kind) read) ∙ kids-absent ts y z

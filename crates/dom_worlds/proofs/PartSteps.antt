@@ -13,7 +13,8 @@ use Rattle.dom_model.proofs.StepLaws.{owner-part_step}
 use Rattle.dom_model.proofs.OwnerLaws.{name_eq-true}
 use Rattle.dom_worlds.specs.Worlds.{AllNodes, IsShadowAt, IsRoot, IsPart}
 use Rattle.dom_worlds.proofs.Tests.{by_cases}
-use Rattle.dom_worlds.proofs.Trees.{by_times, times-here, times-elsewhere, root-there}
+use Rattle.dom_laws.proofs.Counts.{by_times, times-here, times-elsewhere}
+use Rattle.dom_worlds.proofs.Trees.{root-there}
 use Rattle.dom_worlds.proofs.TreeChangeLaws.{times-with_node, times-taken_out, times-placed, times-map_nodes, nodes-with_node, nodes-taken_out}
 use Rattle.dom_worlds.proofs.TreeChangeLaws.{nodes-placed, nodes-map_nodes, HasRoot, root-with_node, root-taken_out, root-placed, root-map_nodes}
 

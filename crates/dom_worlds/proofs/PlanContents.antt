@@ -7,8 +7,8 @@ use Rattle.std.specs.Option.{option_map_or, option_and_then, option_flatten}
 use Rattle.std.proofs.lemmas.Bool.{cond-true, cond-false}
 use Rattle.dom_base.specs.declared.NodeName.{NodeName}
 use Rattle.dom_model.specs.Names.{name_eq, last_of}
-use Rattle.dom_model.specs.Tree.{Trees, Node, node_in, kind_of, is_text, is_fragment, has_data, subtree, children_of, parent_of, root_of, index_of, times_in}
-use Rattle.dom_model.specs.Tree.{length_of, inclusive_ancestors, is_inclusive_ancestor}
+use Rattle.dom_model.specs.Tree.{Trees, Node, node_in, kind_of, is_text, is_fragment, has_data, subtree, children_of, parent_of, root_of, index_of}
+use Rattle.dom_model.specs.Tree.{times_in, length_of, inclusive_ancestors, is_inclusive_ancestor}
 use Rattle.dom_model.specs.TreeChanges.{with_name}
 use Rattle.dom_model.specs.Part.{Part, next_name, range_at}
 use Rattle.dom_model.specs.Place.{Boundary}
@@ -24,7 +24,8 @@ use Rattle.dom_worlds.specs.Worlds.{IsPart}
 use Rattle.dom_worlds.specs.Tables.{EndsIn, HasEnds, HasTables}
 use Rattle.dom_worlds.proofs.Lists.{all-filter}
 use Rattle.dom_worlds.proofs.Tests.{by_cases, either_way}
-use Rattle.dom_worlds.proofs.Trees.{by_times, times-subtree, ancestors-there}
+use Rattle.dom_laws.proofs.Counts.{by_times, times_subtree}
+use Rattle.dom_worlds.proofs.Trees.{ancestors-there}
 use Rattle.dom_worlds.proofs.TreeChangeLaws.{times-below, nodes-named}
 use Rattle.dom_worlds.proofs.PartSteps.{next-absent}
 use Rattle.dom_worlds.proofs.KindLines.{has_node-times}
@@ -34,8 +35,8 @@ use Rattle.dom_worlds.proofs.TableSteps.{HasNode}
 use Rattle.dom_worlds.proofs.TableRecords.{IfSome, last-all, all-get}
 use Rattle.dom_worlds.proofs.Insides.{inside, inside-times}
 use Rattle.dom_worlds.proofs.InsideAncestors.{parent-there}
-use Rattle.dom_worlds.proofs.PlanPlaces.{Changed, Leads, MayGo, may-still, still, after-append, made-append, leads-then, leads-eased}
-use Rattle.dom_worlds.proofs.PlanPlaces.{leads-nothing, leads-one, leads-if, leads-removing, leads-inserting}
+use Rattle.dom_worlds.proofs.PlanPlaces.{Changed, Leads, MayGo, may-still, still, after-append, made-append, leads-then, leads-eased, leads-nothing}
+use Rattle.dom_worlds.proofs.PlanPlaces.{leads-one, leads-if, leads-removing, leads-inserting}
 use Rattle.dom_worlds.proofs.PlanChildren.{IsChild, child-parent}
 use Rattle.dom_worlds.proofs.PlanRoots.{IsStart, SparesAll, starts-after, spares-removing, spares-inserting, spares-splitting}
 use Rattle.dom_worlds.proofs.Roots.{root-parent_of}
@@ -168,7 +169,7 @@ pieces-there p range t =
     let top = subtree ts (common_ancestor ts range) in
     whole-pieces (HasNode p) ts range (λ e. t)
     (nodes-named (HasNode p) (common_below ts range)
-    (λ y h. let a = times-below top y in let b = times-subtree ts (common_ancestor ts range) y in omega arith))
+    (λ y h. let a = times-below top y in let b = times_subtree ts (common_ancestor ts range) y in omega arith))
 
 -- a node, or another one
 or-there : (p : Part) (o : Option NodeName) (x : NodeName) → IfSome (HasNode p) o → HasNode p x → HasNode p (unwrap_or o x)

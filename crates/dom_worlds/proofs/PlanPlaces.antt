@@ -20,13 +20,12 @@ use Rattle.dom_worlds.proofs.NodesRead.{node-taken_out, node-placed, node-with_n
 use Rattle.dom_worlds.proofs.Lists.{all-then, all-from}
 use Rattle.dom_worlds.proofs.Tests.{by_cases, either_way}
 use Rattle.dom_worlds.proofs.TreeChangeLaws.{HasRoot, root-put_root_new, root-subtree, root-map_nodes}
-use Rattle.dom_worlds.proofs.Trees.{times-subtree}
+use Rattle.dom_laws.proofs.Counts.{times_subtree}
 use Rattle.dom_worlds.proofs.PartSteps.{KeepsNames, some-keeps, attribute-keeps, part-step, next-absent}
 use Rattle.dom_worlds.proofs.NodeKinds.{count-grows}
 use Rattle.dom_worlds.proofs.TableSteps.{fits-place, HasNode, Fits, MadeIn, stays-step}
 use Rattle.dom_worlds.proofs.Insides.{CanPlace, inside, inside-taken_out, inside-placed, inside-with_node, inside-map_nodes, times-inside}
-use Rattle.dom_worlds.proofs.InsideAncestors.{inside-nested}
-use Rattle.dom_worlds.proofs.InsideAncestors.{children-inside, no_parent-root}
+use Rattle.dom_worlds.proofs.InsideAncestors.{inside-nested, children-inside, no_parent-root}
 
 -- Nodes of the tree of a do not come from a place outside of it.
 abbrev pub ApartFrom : Option NodeName → Part → NodeName → Type 0
@@ -316,7 +315,7 @@ pub children-may : (parent : NodeName) (p : Part) (x : NodeName) → IsPart p �
 children-may parent p x i m =
     let ts = p.trees in
     all-then (λ y. 1 ≤ times_in (subtree ts x) y) (MayGo parent p)
-    (λ y h. let there : 1 ≤ times_in ts y = let s = times-subtree ts x y in omega arith in
+    (λ y h. let there : 1 ≤ times_in ts y = let s = times_subtree ts x y in omega arith in
     record {
       there = there;
       owner = i.owned y there;

@@ -6,8 +6,8 @@ use Rattle.std.specs.List.{AllByRecursion}
 use Rattle.std.specs.Option.{option_map_or}
 use Rattle.dom_base.specs.declared.NodeName.{NodeName}
 use Rattle.dom_model.specs.Names.{Word, DomString, name_eq, is_empty, items_after}
-use Rattle.dom_model.specs.Tree.{Trees, none, Node, node_in, kind_of, is_text, is_document, is_fragment, has_data, subtree, children_of, parent_of, times_in}
-use Rattle.dom_model.specs.Tree.{root_of, siblings, previous_sibling, next_sibling, index_of, length_of, attribute_value, descendants}
+use Rattle.dom_model.specs.Tree.{Trees, none, Node, node_in, kind_of, is_text, is_document, is_fragment, has_data, subtree, children_of, parent_of}
+use Rattle.dom_model.specs.Tree.{times_in, root_of, siblings, previous_sibling, next_sibling, index_of, length_of, attribute_value, descendants}
 use Rattle.dom_model.specs.Tree.{inclusive_descendants, nodes}
 use Rattle.dom_model.specs.TreeChanges.{with_name}
 use Rattle.dom_model.specs.Output.{child_list, attributes, character_data}
@@ -26,7 +26,8 @@ use Rattle.dom_worlds.proofs.PlanChildren.{IsOtherChild, IsChild, parent-child, 
 use Rattle.dom_worlds.proofs.Roots.{root-parent_of}
 use Rattle.dom_worlds.proofs.TableRecords.{after-all}
 use Rattle.dom_worlds.proofs.Tests.{by_cases}
-use Rattle.dom_worlds.proofs.Trees.{times-here, times-subtree, nodes-there}
+use Rattle.dom_laws.proofs.Counts.{times-here, times_subtree}
+use Rattle.dom_worlds.proofs.Trees.{nodes-there}
 use Rattle.dom_worlds.proofs.TreeChangeLaws.{times-with_node}
 use Rattle.dom_worlds.proofs.PartSteps.{next-absent}
 use Rattle.dom_worlds.proofs.TableSteps.{HasNode}
@@ -240,7 +241,7 @@ pub descend-there : (ts : Trees) (x : NodeName) → AllByRecursion (λ y. 1 ≤ 
 descend-there ts x =
     all-map (λ y. 1 ≤ times_in ts y) (λ (n : Node). n.name) (nodes (subtree ts x))
     (all-then (λ (n : Node). 1 ≤ times_in (subtree ts x) n.name) (λ n. 1 ≤ times_in ts n.name)
-    (λ n h. let s = times-subtree ts x n.name in omega arith) (nodes (subtree ts x)) (nodes-there (subtree ts x)))
+    (λ n h. let s = times_subtree ts x n.name in omega arith) (nodes (subtree ts x)) (nodes-there (subtree ts x)))
 
 -- Texts that are normalized
 pub normalizing-each : LeadsEach None HasNode normalizing_text

@@ -31,7 +31,7 @@ use Rattle.dom_worlds.proofs.TableRecords.{IfSome, last-all, before-all, inside-
 use Rattle.dom_worlds.proofs.Lists.{all-append, all-then}
 use Rattle.dom_worlds.proofs.Tests.{by_cases, or-later}
 use Rattle.dom_worlds.proofs.TextBounds.{children-among, kids-open}
-use Rattle.dom_worlds.proofs.Trees.{IsUnique, ancestors-root, ancestors-there, times-here, all-in}
+use Rattle.dom_worlds.proofs.Trees.{ancestors-root, ancestors-there, all-in}
 
 -- Some children of a node before which a boundary does not come: so many that it is within the node, and they are spared.
 pub record IsRoomAt (p : Part) (r : Range NodeName) (b : Boundary NodeName) : Type 0 where

@@ -28,7 +28,7 @@ use Rattle.dom_worlds.proofs.TurnEndings.{quiet-ending_turn, alike-ending_turn}
 use Rattle.std.proofs.lemmas.Bool.{and_parts, not-true}
 use Rattle.std.specs.Prelude.{is_some}
 use Rattle.dom_worlds.proofs.StepKeeps.{quiet-step}
-use Rattle.dom_worlds.proofs.Trees.{times-subtree}
+use Rattle.dom_laws.proofs.Counts.{times_subtree}
 use Rattle.dom_worlds.proofs.TreeChangeLaws.{times-below}
 use Rattle.dom_worlds.proofs.InsideAncestors.{roots-there}
 
@@ -105,7 +105,7 @@ children-owned w i x =
     let ts = trees_with w x in
     let below = trees_below (subtree ts x) in
     all-then (λ y. 1 ≤ times_in below y) (IsOf x.owner)
-    (λ y h. owned-in w i x.owner y (let a = times-below (subtree ts x) y in let b = times-subtree ts x y in omega arith))
+    (λ y h. owned-in w i x.owner y (let a = times-below (subtree ts x) y in let b = times_subtree ts x y in omega arith))
     (names_of (roots below)) (roots-there below)
 
 -- so the assigned nodes are of the host's owner

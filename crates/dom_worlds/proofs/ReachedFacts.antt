@@ -22,7 +22,9 @@ use Rattle.dom_worlds.proofs.Owners.{hosted-there, there-hosted}
 use Rattle.dom_worlds.proofs.ShadowRoots.{kind-root}
 use Rattle.dom_worlds.proofs.Tests.{by_cases, or-first, or-second, or-later}
 use Rattle.dom_worlds.proofs.TreeChangeLaws.{HasRoot}
-use Rattle.dom_worlds.proofs.Trees.{IsUnique, unique-rest, times-elsewhere, root-there, ancestors-absent}
+use Rattle.dom_laws.proofs.Counts.{once_parts, Once, times-elsewhere}
+use Rattle.dom_worlds.proofs.Trees.{root-there}
+use Rattle.dom_laws.proofs.Paths.{path_none}
 use Rattle.dom_worlds.proofs.WorldSteps.{own-part}
 
 -- and so a node of the trees
@@ -34,7 +36,7 @@ root-has_node (tree n c r) x h =
     (in-later x (nodes c) (nodes r) (root-has_node r x (or-later (name_eq x n.name) (is_in name_eq x (names_of (roots r))) e h))))
 
 -- a root is its only ancestor
-pub root-alone : (ts : Trees) → IsUnique ts → (x : NodeName) → HasRoot ts x → inclusive_ancestors ts x ≡ x ∷ []
+pub root-alone : (ts : Trees) → Once ts → (x : NodeName) → HasRoot ts x → inclusive_ancestors ts x ≡ x ∷ []
 root-alone none u x h = absurd (true≢false (sym h))
 root-alone (tree n c r) u x h =
     by_cases (name_eq n.name x) (λ e. cond-true (name_eq n.name x) (x ∷ []) (on_top (inclusive_ancestors c x) n.name (inclusive_ancestors r x)) e)
@@ -43,7 +45,7 @@ root-alone (tree n c r) u x h =
     let once = u x in
     let g = times-elsewhere n c r x e in
     cond-false (name_eq n.name x) (x ∷ []) (on_top (inclusive_ancestors c x) n.name (inclusive_ancestors r x)) e
-    ∙ ap (λ p. on_top p n.name (inclusive_ancestors r x)) (ancestors-absent c x (omega arith)) ∙ root-alone r (unique-rest n c r u) x later)
+    ∙ ap (λ p. on_top p n.name (inclusive_ancestors r x)) (path_none c x (omega arith)) ∙ root-alone r (once_parts n c r u).after x later)
 
 -- the shadow root of an attached component
 pub shadow_roots-are_roots : ShadowRootsAreRoots

@@ -5,8 +5,8 @@ use Rattle.std.specs.List.{AllByRecursion, list_any}
 use Rattle.std.specs.Option.{option_map_or}
 use Rattle.dom_base.specs.declared.NodeName.{NodeName}
 use Rattle.dom_model.specs.Names.{Word, DomString, name_eq, is_empty, items_before, items_after}
-use Rattle.dom_model.specs.Tree.{Trees, node_in, kind_of, is_fragment, subtree, children_of, parent_of, siblings, previous_sibling, next_sibling, times_in}
-use Rattle.dom_model.specs.Tree.{attribute_value, inclusive_ancestors}
+use Rattle.dom_model.specs.Tree.{Trees, node_in, kind_of, is_fragment, subtree, children_of, parent_of, siblings, previous_sibling, next_sibling}
+use Rattle.dom_model.specs.Tree.{times_in, attribute_value, inclusive_ancestors}
 use Rattle.dom_model.specs.Observers.{target_of, fitting, without_old, asks_for_old}
 use Rattle.dom_model.specs.Output.{Change, child_list, attributes, character_data}
 use Rattle.dom_model.specs.Part.{Part, queue_of}
@@ -22,14 +22,14 @@ use Rattle.dom_worlds.specs.Tables.{IsNodeIn, IsNodeIf, IsRecordIn, HasRecords}
 use Rattle.dom_worlds.proofs.Insides.{times-taken_out_all}
 use Rattle.dom_worlds.proofs.InsideAncestors.{children-inside, child-there, parent-there, times-has_node}
 use Rattle.dom_worlds.proofs.Lists.{all-then, all-append, all-from, all-set}
-use Rattle.dom_worlds.proofs.PlanPlaces.{Changed, Leads, MayGo, may-still, still, emptied_of, leads-then, leads-eased, leads-one, LeadsEach, leads-each}
-use Rattle.dom_worlds.proofs.PlanPlaces.{removing-each, placing-each}
-use Rattle.dom_worlds.proofs.PlanPlaces.{leads-removing, leads-emptied, leads-making_room, leads-inserting, placed-may}
+use Rattle.dom_worlds.proofs.PlanPlaces.{Changed, Leads, MayGo, may-still, still, emptied_of, leads-then, leads-eased, leads-one, LeadsEach}
+use Rattle.dom_worlds.proofs.PlanPlaces.{leads-each, removing-each, placing-each, leads-removing, leads-emptied, leads-making_room, leads-inserting}
+use Rattle.dom_worlds.proofs.PlanPlaces.{placed-may}
 use Rattle.dom_worlds.proofs.PlanTexts.{leads-plan, leads-removals}
 use Rattle.dom_worlds.proofs.TableSteps.{HasNode, Fits, Grows, grows-step, grows-times}
 use Rattle.dom_worlds.proofs.TableRecords.{IfSome, first-all, last-all, before-all, after-all, all-get}
 use Rattle.dom_worlds.proofs.Tests.{either_way}
-use Rattle.dom_worlds.proofs.Trees.{times-subtree}
+use Rattle.dom_laws.proofs.Counts.{times_subtree}
 
 -- What a step records is there.
 abbrev pub Tells : Part → Step → Type 0
@@ -169,7 +169,7 @@ recorded p (character_data x old) h = times-has_node p.trees x h
 
 -- Children and siblings are there.
 pub children-there : (p : Part) (y : NodeName) → AllByRecursion (HasNode p) (children_of p.trees y)
-children-there p y = all-then (λ z. 1 ≤ times_in (subtree p.trees y) z) (HasNode p) (λ z h. let s = times-subtree p.trees y z in omega arith)
+children-there p y = all-then (λ z. 1 ≤ times_in (subtree p.trees y) z) (HasNode p) (λ z h. let s = times_subtree p.trees y z in omega arith)
     (children_of p.trees y) (children-inside p.trees y)
 
 -- siblings

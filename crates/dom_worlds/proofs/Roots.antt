@@ -12,15 +12,16 @@ use Rattle.dom_worlds.proofs.Descents.{ancestor-inside, inside-ancestor, inside-
 use Rattle.dom_worlds.proofs.Insides.{IsOutside, unique-taken_out, inside, inside-absent, inside-elsewhere, inside-times, inside-put_root}
 use Rattle.dom_worlds.proofs.InsideAncestors.{parent-there}
 use Rattle.dom_worlds.proofs.Tests.{by_cases, or-first, or-second, or-later}
-use Rattle.dom_worlds.proofs.Trees.{IsUnique, all-in, last_from, last-is, last-in, by_times, times-here, times-elsewhere, times-more}
-use Rattle.dom_worlds.proofs.Trees.{ancestors-absent, ancestors-present, ancestors-root}
+use Rattle.dom_laws.proofs.Counts.{Once, by_times, times-here, times-elsewhere, times-more}
+use Rattle.dom_worlds.proofs.Trees.{all-in, last_from, last-is, last-in, ancestors-present, ancestors-root}
+use Rattle.dom_laws.proofs.Paths.{path_none}
 
 -- Ancestors: a node's are it and its parent's.
-pub ancestors-step : (ts : Trees) (x y : NodeName) → IsUnique ts → parent_of ts x ≡ Some y → inclusive_ancestors ts x ≡ x ∷ inclusive_ancestors ts y
+pub ancestors-step : (ts : Trees) (x y : NodeName) → Once ts → parent_of ts x ≡ Some y → inclusive_ancestors ts x ≡ x ∷ inclusive_ancestors ts y
 ancestors-step none x y u h = cc
 ancestors-step (tree n c r) x y u h =
-    let uc : IsUnique c = λ k. let o = u k in let m = times-more n c r k in omega arith in
-    let ur : IsUnique r = λ k. let o = u k in let m = times-more n c r k in omega arith in
+    let uc : Once c = λ k. let o = u k in let m = times-more n c r k in omega arith in
+    let ur : Once r = λ k. let o = u k in let m = times-more n c r k in omega arith in
     let once = u x in
     let once_y = u y in
     let top = on_top (inclusive_ancestors c x) n.name (inclusive_ancestors r x) in
@@ -31,14 +32,14 @@ ancestors-step (tree n c r) x y u h =
     let here = cond-false (name_eq n.name x) (x ∷ []) top e in
     by_times (times_in c x)
     (λ z. let all : inclusive_ancestors (tree n c r) x ≡ inclusive_ancestors r x = here ∙ ap (λ p. on_top p n.name (inclusive_ancestors r x))
-    (ancestors-absent c x z) in
+    (path_none c x z) in
     let up : parent_of r x ≡ Some y = sym (ap (λ p. first_of (drop 1 p)) all) ∙ h in
     let there = parent-there r x y up in
     let other : name_eq n.name y ≡ false = by_cases (name_eq n.name y) (λ k. absurd (let q = times-here n c r y k in omega arith)) (λ k. k) in
     let gy = times-elsewhere n c r y other in
     all ∙ ancestors-step r x y ur up ∙ ap (λ p. x ∷ p)
     (sym (cond-false (name_eq n.name y) (y ∷ []) top_y other ∙ ap (λ p. on_top p n.name (inclusive_ancestors r y))
-    (ancestors-absent c y (omega arith)))))
+    (path_none c y (omega arith)))))
     (λ z. let at = ancestors-present c x z in
     let all : inclusive_ancestors (tree n c r) x ≡ (x ∷ at.0) ++ n.name ∷ [] = here ∙ ap (λ p. on_top p n.name (inclusive_ancestors r x)) at.1 in
     from (λ e. ancestors-step c x y uc e) at.0 at.1 all (sym (ap (λ p. first_of (drop 1 p)) all) ∙ h) once_y))
@@ -68,7 +69,7 @@ pub self-above : (ts : Trees) (x : NodeName) → 1 ≤ times_in ts x → is_incl
 self-above ts x t = let at = ancestors-present ts x t in ap (is_in name_eq x) at.1 ∙ or-first (name_eq x x) (is_in name_eq x at.0) (name_eq-same x)
 
 -- A child of a parent.
-module _ {y : NodeName} (ts : Trees) (x : NodeName) (u : IsUnique ts) (h : parent_of ts x ≡ Some y) where
+module _ {y : NodeName} (ts : Trees) (x : NodeName) (u : Once ts) (h : parent_of ts x ≡ Some y) where
   -- the parent is an inclusive ancestor of it
   pub parent-above : is_inclusive_ancestor ts y x ≡ true
   parent-above = ap (is_in name_eq y) (ancestors-step ts x y u h) ∙ or-second (name_eq y x) (is_inclusive_ancestor ts y y)
@@ -79,11 +80,11 @@ module _ {y : NodeName} (ts : Trees) (x : NodeName) (u : IsUnique ts) (h : paren
   above-parent a k d = or-later (name_eq a x) (is_inclusive_ancestor ts a y) d (sym (ap (is_in name_eq a) (ancestors-step ts x y u h)) ∙ k)
 
 -- a parent does not stand in its child's tree
-pub parent-apart : (ts : Trees) (x y : NodeName) → IsUnique ts → parent_of ts x ≡ Some y → inside ts x y ≡ 0
+pub parent-apart : (ts : Trees) (x y : NodeName) → Once ts → parent_of ts x ≡ Some y → inside ts x y ≡ 0
 parent-apart none x y u h = cc
 parent-apart (tree n c r) x y u h =
-    let uc : IsUnique c = λ k. let o = u k in let m = times-more n c r k in omega arith in
-    let ur : IsUnique r = λ k. let o = u k in let m = times-more n c r k in omega arith in
+    let uc : Once c = λ k. let o = u k in let m = times-more n c r k in omega arith in
+    let ur : Once r = λ k. let o = u k in let m = times-more n c r k in omega arith in
     let once = u x in
     let top = on_top (inclusive_ancestors c x) n.name (inclusive_ancestors r x) in
     by_cases (name_eq n.name x)
@@ -93,7 +94,7 @@ parent-apart (tree n c r) x y u h =
     let here = cond-false (name_eq n.name x) (x ∷ []) top e in
     by_times (times_in c x)
     (λ z. let all : inclusive_ancestors (tree n c r) x ≡ inclusive_ancestors r x = here ∙ ap (λ p. on_top p n.name (inclusive_ancestors r x))
-    (ancestors-absent c x z) in
+    (path_none c x z) in
     let behind = parent-apart r x y ur (sym (ap (λ p. first_of (drop 1 p)) all) ∙ h) in
     let below = inside-absent c x y z in omega arith)
     (λ z. let at = ancestors-present c x z in
@@ -118,11 +119,11 @@ root-above ts z t =
     ap (λ p. is_in name_eq (root_of ts z) p) up.1 ∙ ap (λ y. is_in name_eq y (z ∷ up.0)) root ∙ last-in z up.0
 
 -- a node has the root of what is above it
-pub root-one : (ts : Trees) → IsUnique ts → (a z : NodeName) → is_inclusive_ancestor ts a z ≡ true → root_of ts a ≡ root_of ts z
+pub root-one : (ts : Trees) → Once ts → (a z : NodeName) → is_inclusive_ancestor ts a z ≡ true → root_of ts a ≡ root_of ts z
 root-one ts u a z h = all-in (λ y. root_of ts y ≡ root_of ts z) a (inclusive_ancestors ts z) (ancestors-root ts u z) h
 
 -- so a child has its parent's
-pub root-parent_of : (ts : Trees) → IsUnique ts → (x y : NodeName) → parent_of ts x ≡ Some y → root_of ts y ≡ root_of ts x
+pub root-parent_of : (ts : Trees) → Once ts → (x y : NodeName) → parent_of ts x ≡ Some y → root_of ts y ≡ root_of ts x
 root-parent_of ts u x y h = root-one ts u y x (parent-above ts x u h)
 
 -- one root, as the model tests it
@@ -143,7 +144,7 @@ record KeepsAncestors (ts us : Trees) (a : NodeName) : Type 0 where
   ancestors : (x : NodeName) → is_inclusive_ancestor ts x a ≡ true → is_inclusive_ancestor us x a ≡ true
 
 -- by the root above both
-root-kept : {ts us : Trees} {a b : NodeName} → IsUnique us → KeepsAncestors ts us a → KeepsAncestors ts us b → root_of ts a ≡ root_of ts b →
+root-kept : {ts us : Trees} {a b : NodeName} → Once us → KeepsAncestors ts us a → KeepsAncestors ts us b → root_of ts a ≡ root_of ts b →
     root_of us a ≡ root_of us b
 root-kept {ts} {us} {a} {b} u f g e =
     let x = root_of ts a in
@@ -152,17 +153,17 @@ root-kept {ts} {us} {a} {b} u f g e =
     sym first ∙ second
 
 -- where ancestors stay
-pub roots-stay : (ts us : Trees) → IsUnique us → ((a z : NodeName) → is_inclusive_ancestor ts a z ≡ true → is_inclusive_ancestor us a z ≡ true) →
+pub roots-stay : (ts us : Trees) → Once us → ((a z : NodeName) → is_inclusive_ancestor ts a z ≡ true → is_inclusive_ancestor us a z ≡ true) →
     KeepsRoots ts us
 roots-stay ts us u k a b s t e =
     root-kept u (record { there = s; ancestors = λ x. k x a }) (record { there = t; ancestors = λ x. k x b }) e
 
 -- where a node leaves: of two nodes that do not stand in its tree
-pub roots-left : {ts : Trees} {x a b : NodeName} → IsUnique ts → IsOutside ts x a → IsOutside ts x b → root_of ts a ≡ root_of ts b →
+pub roots-left : {ts : Trees} {x a b : NodeName} → Once ts → IsOutside ts x a → IsOutside ts x b → root_of ts a ≡ root_of ts b →
     root_of (taken_out x ts) a ≡ root_of (taken_out x ts) b
 roots-left {ts} {x} {a} {b} u f g e = root-kept v (kept a f) (kept b g) e
   where
-    v : IsUnique (taken_out x ts)
+    v : Once (taken_out x ts)
     v = unique-taken_out ts x u
 
     left : (z : NodeName) → inside ts x z ≡ 0 → (y : NodeName) → is_inclusive_ancestor ts y z ≡ true → is_inclusive_ancestor (taken_out x ts) y z ≡ true

@@ -10,8 +10,8 @@ use Rattle.dom_base.specs.declared.Kind.TheVariants.{Shadow}
 use Rattle.dom_base.specs.declared.Refusal.{Refusal}
 use Rattle.dom_base.specs.declared.Refusal.TheVariants.{Hierarchy, NotFound}
 use Rattle.dom_model.specs.Names.{name_eq}
-use Rattle.dom_model.specs.Tree.{Trees, none, tree, Node, nodes, names_of, roots, no_node, kind_of, has_data, is_inclusive_ancestor, child_nodes, times_in}
-use Rattle.dom_model.specs.Tree.{subtree, trees_below}
+use Rattle.dom_model.specs.Tree.{Trees, none, tree, Node, nodes, names_of, roots, no_node, kind_of, has_data, is_inclusive_ancestor, child_nodes}
+use Rattle.dom_model.specs.Tree.{times_in, subtree, trees_below}
 use Rattle.dom_model.specs.Command.{Command, NodeWord}
 use Rattle.dom_model.specs.Part.{Part, range_at}
 use Rattle.dom_model.specs.Ranges.{Range}
@@ -25,7 +25,8 @@ use Rattle.dom_model.proofs.OwnerLaws.{name_eq-true}
 use Rattle.std.proofs.lemmas.List.Folds.{find-append}
 use Rattle.dom_worlds.specs.Worlds.{IsShadowAt}
 use Rattle.dom_worlds.proofs.Tests.{by_cases}
-use Rattle.dom_worlds.proofs.Trees.{root-there, times-here, times-elsewhere, times-more, by_times}
+use Rattle.dom_worlds.proofs.Trees.{root-there}
+use Rattle.dom_laws.proofs.Counts.{times-here, times-elsewhere, times-more, by_times}
 use Rattle.dom_worlds.proofs.TreeChangeLaws.{nodes-listed, nodes-named, root-below_none}
 use Rattle.dom_worlds.proofs.PartSteps.{Allowed, IsOwn, own-step, next-other}
 use Rattle.dom_worlds.proofs.Plans.{AllWhole, IsKept}

@@ -11,8 +11,8 @@ use Rattle.dom_base.specs.declared.Owner.TheVariants.{Page}
 use Rattle.dom_base.specs.declared.NodeName.{NodeName}
 use Rattle.dom_model.specs.Names.{DomString, name_eq, is_in}
 use Rattle.dom_model.specs.Tree.{Trees, Node, nodes, root_of, times_in}
-use Rattle.dom_model.specs.World.{World, part_of, node_at, trees_with, root_at, parent_at, ancestors_at, component_at, host_of, some_if, shadow_root_of}
-use Rattle.dom_model.specs.World.{shadow_tree, is_in_shadow_tree}
+use Rattle.dom_model.specs.World.{World, part_of, node_at, trees_with, root_at, parent_at, ancestors_at, component_at, host_of, some_if}
+use Rattle.dom_model.specs.World.{shadow_root_of, shadow_tree, is_in_shadow_tree}
 use Rattle.dom_model.specs.Slots.{slot_of, slot_in, has_slot_name, slottable_name}
 use Rattle.dom_model.proofs.OwnerLaws.{ne-owner_eq, name_eq-same}
 use Rattle.dom_model.proofs.PartLaws.{owner-part_of}
@@ -20,7 +20,8 @@ use Rattle.dom_worlds.specs.Worlds.{IsWorld, IsOf, HasMakers}
 use Rattle.dom_worlds.proofs.Lists.{all-then}
 use Rattle.dom_worlds.proofs.Makers.{component-host, hosted-is, hosted-no_page}
 use Rattle.dom_worlds.proofs.Tests.{by_cases}
-use Rattle.dom_worlds.proofs.Trees.{ancestors-there, ancestors-root, root-of-root, times-subtree, nodes-there}
+use Rattle.dom_worlds.proofs.Trees.{ancestors-there, ancestors-root, root-of-root, nodes-there}
+use Rattle.dom_laws.proofs.Counts.{times_subtree}
 use Rattle.dom_model.specs.Paths.{with_slots}
 
 -- A node's ancestors are of its owner.
@@ -82,7 +83,7 @@ slot-in_tree w i x s h = by_component (option_and_then (component_at w) (parent_
         let facts = from_parent (parent_at w x) c e in
         let here : slot_in (shadow_tree w c) (node_at w x) ≡ Some s = sym (ap (λ o. option_and_then (λ c. slot_in (shadow_tree w c) (node_at w x)) o) e) ∙ h in
         let there = slot_in-there (shadow_tree w c) (node_at w x) s here in
-        let within = times-subtree (part_of w c).trees (shadow_root_of c) s in
+        let within = times_subtree (part_of w c).trees (shadow_root_of c) s in
         let mine : s.owner ≡ c = owned-in w i c s (omega arith) in
         let root = root-of-root (part_of w c).trees (i.parts c).unique (shadow_root_of c) (i.shadow_roots c facts.1).alone s there in
         (c, record { foreign = facts.0; owner = mine; host = facts.1; root = ap (λ o. root_of (part_of w o).trees s) mine ∙ root })

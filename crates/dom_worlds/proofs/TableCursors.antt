@@ -17,11 +17,12 @@ use Rattle.dom_worlds.proofs.InsideAncestors.{times-has_node}
 use Rattle.dom_worlds.proofs.Lists.{all-dropped, all-append, all-then, all-filter, all-set}
 use Rattle.dom_worlds.proofs.TableRecords.{StandsIn, all-stand, IfSome, first-all, last-all, before-all, after-all, all-descend, iterator-moved}
 use Rattle.dom_worlds.proofs.Tests.{either_way}
-use Rattle.dom_worlds.proofs.Trees.{IsUnique, ancestors-there}
+use Rattle.dom_laws.proofs.Counts.{Once}
+use Rattle.dom_worlds.proofs.Trees.{ancestors-there}
 use Rattle.dom_worlds.proofs.TableCommands.{Holds}
 
 -- Iterators and walkers move to nodes that are there.
-pub iterator-next : (ts : Trees) (i : Iterator) → IsUnique ts → IsIteratorIn ts i → IfSome (StandsIn ts i.root) (iterator_next_node ts i)
+pub iterator-next : (ts : Trees) (i : Iterator) → Once ts → IsIteratorIn ts i → IfSome (StandsIn ts i.root) (iterator_next_node ts i)
 iterator-next ts i u h =
     let P = StandsIn ts i.root in
     let items = items_after name_eq i.reference (inclusive_descendants ts i.root) in
@@ -31,7 +32,7 @@ iterator-next ts i u h =
     (either_way (AllByRecursion P) i.before (i.reference ∷ items) items ((h.reference, h.within), behind) behind))
 
 -- backwards
-pub iterator-previous : (ts : Trees) (i : Iterator) → IsUnique ts → IsIteratorIn ts i → IfSome (StandsIn ts i.root) (iterator_previous_node ts i)
+pub iterator-previous : (ts : Trees) (i : Iterator) → Once ts → IsIteratorIn ts i → IfSome (StandsIn ts i.root) (iterator_previous_node ts i)
 iterator-previous ts i u h =
     let P = StandsIn ts i.root in
     let items = items_before name_eq i.reference (inclusive_descendants ts i.root) in

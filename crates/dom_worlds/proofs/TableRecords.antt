@@ -7,9 +7,9 @@ use Rattle.std.specs.Option.{option_map_or}
 use Rattle.std.proofs.lemmas.Bool.{cond-true, cond-false, not-true}
 use Rattle.std.proofs.lemmas.List.{length-set}
 use Rattle.dom_base.specs.declared.NodeName.{NodeName}
-use Rattle.dom_model.specs.Tree.{times_in}
+use Rattle.dom_model.specs.Tree.{times_in, Trees, Node, nodes, subtree, parent_of, index_of, inclusive_descendants, inclusive_ancestors}
+use Rattle.dom_model.specs.Tree.{is_inclusive_ancestor}
 use Rattle.dom_model.specs.Names.{name_eq, is_in, first_of, last_of, items_after, items_before, append_once}
-use Rattle.dom_model.specs.Tree.{Trees, Node, nodes, subtree, parent_of, index_of, inclusive_descendants, inclusive_ancestors, is_inclusive_ancestor}
 use Rattle.dom_model.specs.TreeChanges.{without, taken_out}
 use Rattle.dom_model.specs.Ranges.{Range, map_ends, after_insert, after_removal, after_replace_data, after_split, after_join}
 use Rattle.dom_model.specs.Traversal.{Iterator, moved_to, adjusted_iterator}
@@ -25,15 +25,15 @@ use Rattle.dom_worlds.specs.Tables.{IsNodeIn, EndsIn, IsIteratorIn, IsWalkerIn, 
 use Rattle.dom_worlds.proofs.Lists.{all-distinct, all-append, all-then, all-filter, all-from, all-flat_map, all-map, all-set}
 use Rattle.dom_worlds.proofs.Roots.{roots-equal, roots-same, roots-left}
 use Rattle.dom_worlds.proofs.Tests.{by_cases, either_way, or-second, or-neither, or-first}
-use Rattle.dom_worlds.proofs.Trees.{IsUnique, by_times, times-subtree, nodes-there, root-there}
+use Rattle.dom_laws.proofs.Counts.{Once, by_times, times_subtree}
+use Rattle.dom_worlds.proofs.Trees.{nodes-there, root-there}
 use Rattle.dom_worlds.proofs.TreeChangeLaws.{root-subtree}
 use Rattle.dom_worlds.proofs.PartSteps.{part-step}
 use Rattle.dom_worlds.proofs.KindLines.{has_node-times}
 use Rattle.dom_worlds.proofs.Descents.{ancestor-inside, inside-ancestor, inside-subtree, inside-left, inside-comparable, before-apart, descend-begins}
 use Rattle.dom_worlds.proofs.Insides.{IsOutside, unique-taken_out, inside, inside-itself, inside-absent, inside-put_root, times-inside}
-use Rattle.dom_worlds.proofs.InsideAncestors.{inside-nested, inside-no_ancestor}
 use Rattle.dom_worlds.proofs.Insides.{times-taken_out_all}
-use Rattle.dom_worlds.proofs.InsideAncestors.{child-there, times-has_node}
+use Rattle.dom_worlds.proofs.InsideAncestors.{inside-nested, inside-no_ancestor, child-there, times-has_node}
 use Rattle.dom_worlds.proofs.TableSteps.{Fits, MadeIn, Grows, grows-times, grows-step, ancestors-step, tables-trees, tables-ends, moves-insert}
 use Rattle.dom_worlds.proofs.TableSteps.{moves-removal, moves-data, moves-split, moves-join, walker-grows, registration-grows}
 
@@ -107,7 +107,7 @@ pub all-descend : (ts : Trees) (x : NodeName) → AllByRecursion (IsNodeIn ts) (
 all-descend ts x =
     all-map (IsNodeIn ts) (λ (n : Node). n.name) (nodes (subtree ts x))
     (all-then (λ (n : Node). 1 ≤ times_in (subtree ts x) n.name) (λ n. IsNodeIn ts n.name)
-    (λ n h. times-has_node ts n.name (let s = times-subtree ts x n.name in omega arith)) (nodes (subtree ts x)) (nodes-there (subtree ts x)))
+    (λ n h. times-has_node ts n.name (let s = times_subtree ts x n.name in omega arith)) (nodes (subtree ts x)) (nodes-there (subtree ts x)))
 
 -- the first of some items, and the last
 abbrev pub IfSome : {X : Type 0} → (X → Type 0) → Option X → Type 0
@@ -160,22 +160,22 @@ moved-root ts i None b h = h
 moved-root ts i (Some x) b h = h
 
 -- the nodes of a tree stand in it
-pub all-stand : (ts : Trees) (x : NodeName) → IsUnique ts → AllByRecursion (StandsIn ts x) (inclusive_descendants ts x)
+pub all-stand : (ts : Trees) (x : NodeName) → Once ts → AllByRecursion (StandsIn ts x) (inclusive_descendants ts x)
 all-stand ts x u =
     all-map (StandsIn ts x) (λ (n : Node). n.name) (nodes (subtree ts x))
     (all-then (λ (n : Node). 1 ≤ times_in (subtree ts x) n.name) (λ n. StandsIn ts x n.name)
     (λ n h. (
-      times-has_node ts n.name (let s = times-subtree ts x n.name in omega arith),
+      times-has_node ts n.name (let s = times_subtree ts x n.name in omega arith),
       inside-ancestor ts x n.name u
           (let s = times-inside ts x n.name in omega arith),
     )) (nodes (subtree ts x)) (nodes-there (subtree ts x)))
 
 -- Where a node leaves, no node is lost.
-grows-taken_out : (ts : Trees) (x : NodeName) → IsUnique ts → Grows ts (taken_out x ts)
+grows-taken_out : (ts : Trees) (x : NodeName) → Once ts → Grows ts (taken_out x ts)
 grows-taken_out ts x u = grows-times ts (taken_out x ts) (λ y. let a = times-taken_out_all ts x y u in omega arith)
 
 -- What stood in a tree and not in its own still stands there.
-left-stands : {ts : Trees} {x y : NodeName} (a : NodeName) → IsUnique ts → IsOutside ts x y → 1 ≤ inside ts a y → StandsIn (taken_out x ts) a y
+left-stands : {ts : Trees} {x y : NodeName} (a : NodeName) → Once ts → IsOutside ts x y → 1 ≤ inside ts a y → StandsIn (taken_out x ts) a y
 left-stands {ts} {x} {y} a u o g =
     let h = o.apart in
     let t = o.there in (
@@ -214,13 +214,13 @@ adjusted-not ts x i e = cond-true (is_inclusive_ancestor ts x i.root || not (is_
 -- A node and another one.
 module _ (ts : Trees) (x y : NodeName) where
   -- the nodes in its tree, read alone
-  pub inside-alone : IsUnique ts → inside ts x y ≤ times_in (subtree ts x) y
+  pub inside-alone : Once ts → inside ts x y ≤ times_in (subtree ts x) y
   inside-alone u =
       by_times (times_in ts x) (λ z. let a = inside-absent ts x y z in omega arith)
       (λ z. inside-nested ts x x y u (root-there (subtree ts x) x (root-subtree ts x z)))
 
   -- an inclusive ancestor of an inclusive ancestor is one
-  pub above-above : (z : NodeName) → IsUnique ts → is_inclusive_ancestor ts x y ≡ true → is_inclusive_ancestor ts y z ≡ true →
+  pub above-above : (z : NodeName) → Once ts → is_inclusive_ancestor ts x y ≡ true → is_inclusive_ancestor ts y z ≡ true →
       is_inclusive_ancestor ts x z ≡ true
   above-above z u h k =
       let over = ancestor-inside ts x y h in
@@ -230,7 +230,7 @@ module _ (ts : Trees) (x y : NodeName) where
       let all = times-inside ts x z in inside-ancestor ts x z u (omega arith)
 
 -- an iterator before the removal of a node, as it is after it
-iterator-left : {ts : Trees} {i : Iterator} (x : NodeName) → IsUnique ts → IsIteratorIn ts i → IsIteratorIn (taken_out x ts) (adjusted_iterator ts x i)
+iterator-left : {ts : Trees} {i : Iterator} (x : NodeName) → Once ts → IsIteratorIn ts i → IsIteratorIn (taken_out x ts) (adjusted_iterator ts x i)
 iterator-left {ts} {i} x u h =
     let us = taken_out x ts in
     let v = unique-taken_out ts x u in
@@ -267,10 +267,10 @@ iterator-left {ts} {i} x u h =
     let front-all : AllByRecursion there front =
     all-then (λ y. (1 ≤ times_in (subtree ts root) y) × (inside (subtree ts root) x y ≡ 0)) there
     (λ y m. let m0 = m.0 in let m1 = m.1 in
-    let n : IsNodeIn ts y = times-has_node ts y (let s = times-subtree ts root y in omega arith) in
+    let n : IsNodeIn ts y = times-has_node ts y (let s = times_subtree ts root y in omega arith) in
     left-stands root u (record { there = has_node-times ts y n; apart = let s = inside-subtree ts root x y u below in omega arith })
     (let s = times-inside ts root y in omega arith))
-    front (before-apart (subtree ts root) x (λ y. let s = times-subtree ts root y in let o = u y in omega arith)) in
+    front (before-apart (subtree ts root) x (λ y. let s = times_subtree ts root y in let o = u y in omega arith)) in
     let behind = first_of (filter (λ y. not (here y)) (items_after name_eq x all)) in
     let behind-there : IfSome there behind =
     first-all there (filter (λ y. not (here y)) (items_after name_eq x all))
@@ -295,7 +295,7 @@ iterator-left {ts} {i} x u h =
     record { root = g root h.root; reference = stands.0; within = stands.1 })))
 
 -- The ends of a range where a node leaves: they keep one root.
-ends-left : {parent : NodeName} (ts : Trees) (x : NodeName) → IsUnique ts → parent_of ts x ≡ Some parent → (r : Option (Range NodeName)) → EndsIn ts r →
+ends-left : {parent : NodeName} (ts : Trees) (x : NodeName) → Once ts → parent_of ts x ≡ Some parent → (r : Option (Range NodeName)) → EndsIn ts r →
     EndsIn (taken_out x ts) (option_map (map_ends (after_removal name_eq (is_inclusive_ancestor ts x) parent (index_of ts x))) r)
 ends-left ts x u e None h = tt
 ends-left {parent} ts x u e (Some r) h =

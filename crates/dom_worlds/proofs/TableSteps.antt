@@ -22,7 +22,7 @@ use Rattle.dom_worlds.specs.Tables.{IsNodeIn, EndsIn, IsIteratorIn, IsWalkerIn, 
 use Rattle.dom_worlds.proofs.Lists.{all-then, all-map}
 use Rattle.dom_worlds.proofs.Roots.{KeepsRoots, parent-apart, root-one, root-parent_of, roots-equal, roots-same, roots-stay}
 use Rattle.dom_worlds.proofs.Tests.{either_way, which_way}
-use Rattle.dom_worlds.proofs.Trees.{IsUnique}
+use Rattle.dom_laws.proofs.Counts.{Once}
 use Rattle.dom_worlds.proofs.TreeChangeLaws.{times-with_node, times-map_nodes, HasRoot}
 use Rattle.dom_worlds.proofs.PartSteps.{KeepsNames, some-keeps, attribute-keeps, part-step}
 use Rattle.dom_worlds.proofs.KindLines.{has_node-times}
@@ -95,7 +95,7 @@ abbrev pub Stays : Trees → Trees → Type 0
 Stays ts us = (a z : NodeName) → IsTrue (is_inclusive_ancestor ts a z) → IsTrue (is_inclusive_ancestor us a z)
 
 -- by the counts
-stays-inside : (ts us : Trees) → IsUnique us → ((a z : NodeName) → inside ts a z ≤ inside us a z) → Stays ts us
+stays-inside : (ts us : Trees) → Once us → ((a z : NodeName) → inside ts a z ≤ inside us a z) → Stays ts us
 stays-inside ts us u h a z k = inside-ancestor us a z u (let b = ancestor-inside ts a z k in let c = h a z in omega arith)
 
 -- a step by which no node leaves its parent
@@ -160,7 +160,7 @@ module _ (ts us : Trees) (g : Grows ts us) where
   registration-grows k r h = record { node = g r.node h.node; observer = h.observer; source = source-grows r.source h.source }
 
 -- A part with other trees, and another count.
-pub tables-trees : {p : Part} (us : Trees) (count : ℕ) → IsUnique us → Grows p.trees us → Stays p.trees us → HasTables p →
+pub tables-trees : {p : Part} (us : Trees) (count : ℕ) → Once us → Grows p.trees us → Stays p.trees us → HasTables p →
     HasTables (record p { trees = us; node_count = count })
 tables-trees {p} us count u g k h =
     let ts = p.trees in
@@ -226,7 +226,7 @@ moves-insert ts parent index count b h = from (name_eq b.node parent) refl
     from false e = (h, refl)
 
 -- at a removal: to where nothing leaves
-pub moves-removal : {parent : NodeName} (ts : Trees) (x : NodeName) → IsUnique ts → parent_of ts x ≡ Some parent → (b : Boundary NodeName) →
+pub moves-removal : {parent : NodeName} (ts : Trees) (x : NodeName) → Once ts → parent_of ts x ≡ Some parent → (b : Boundary NodeName) →
     IsNodeIn ts b.node → let c = after_removal name_eq (is_inclusive_ancestor ts x) parent (index_of ts x) b in IsUnder ts b.node c × (inside ts x c.node ≡ 0)
 moves-removal {parent} ts x u e b h =
     which_way P (is_inclusive_ancestor ts x b.node) (at parent (index_of ts x))

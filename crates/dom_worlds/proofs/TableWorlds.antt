@@ -31,7 +31,8 @@ use Rattle.dom_worlds.proofs.ShadowRoots.{found-absent}
 use Rattle.dom_worlds.proofs.TableSteps.{Fits, MadeIn, Grows, grows-step}
 use Rattle.dom_worlds.proofs.TableRecords.{tables-step, IfSome}
 use Rattle.dom_worlds.proofs.Tests.{by_cases, either_way}
-use Rattle.dom_worlds.proofs.Trees.{by_times, times-subtree, nodes-there}
+use Rattle.dom_laws.proofs.Counts.{by_times, times_subtree}
+use Rattle.dom_worlds.proofs.Trees.{nodes-there}
 use Rattle.dom_worlds.proofs.WorldSteps.{attached-with_part, stepped_owner}
 
 -- All parts keep the nodes that they have.
@@ -141,7 +142,7 @@ slot-at w g x = from (option_and_then (component_at w) (parent_at w x))
         let ts = (part_of w c).trees in
         let P : Node → Type 0 = λ n. IsNodeAt w n.name in
         let all = all-then (λ (n : Node). 1 ≤ times_in (shadow_tree w c) n.name) P
-        (λ n h. at-owner w g c n.name (let s = times-subtree ts (shadow_root_of c) n.name in omega arith)) (nodes (shadow_tree w c))
+        (λ n h. at-owner w g c n.name (let s = times_subtree ts (shadow_root_of c) n.name in omega arith)) (nodes (shadow_tree w c))
         (nodes-there (shadow_tree w c)) in
         name_if (find (has_slot_name name) (nodes (shadow_tree w c))) (found-listed P (has_slot_name name) (nodes (shadow_tree w c)) all)
 
@@ -196,8 +197,8 @@ signals-at {was} {now} g h grow x around is_move =
     (all-if P (slot_of now x) (slot-at now h x))) in
     let other-all = all-filter P (is_changed was now) (other_slots now x around)
     (all-append P (slots_among (subtree (trees_with now around) (root_at now around))) (slots_among (subtree (trees_with now x) x))
-    (among-at now h around.owner (subtree (trees_with now around) (root_at now around)) (times-subtree (trees_with now around) (root_at now around)))
-    (among-at now h x.owner (subtree (trees_with now x) x) (times-subtree (trees_with now x) x))) in
+    (among-at now h around.owner (subtree (trees_with now around) (root_at now around)) (times_subtree (trees_with now around) (root_at now around)))
+    (among-at now h x.owner (subtree (trees_with now x) x) (times_subtree (trees_with now x) x))) in
     all-distinct P name_eq (own ++ bare ++ other) (all-append P (own ++ bare) other (all-append P own bare own-all bare-all) other-all)
 
 -- a signal, and signals
@@ -311,7 +312,7 @@ descendants-owned w g x =
     let ts = trees_with w x in
     all-map (λ (y : NodeName). y.owner ≡ x.owner) (λ (n : Node). n.name) (nodes (subtree ts x))
     (all-then (λ (n : Node). 1 ≤ times_in (subtree ts x) n.name) (λ n. n.name.owner ≡ x.owner)
-    (λ n h. (g.parts x.owner).owned n.name (let s = times-subtree ts x n.name in omega arith) ∙ owner-part_of w x.owner) (nodes (subtree ts x))
+    (λ n h. (g.parts x.owner).owned n.name (let s = times_subtree ts x n.name in omega arith) ∙ owner-part_of w x.owner) (nodes (subtree ts x))
     (nodes-there (subtree ts x)))
 
 -- those at any depth

@@ -9,8 +9,8 @@ use Rattle.dom_base.specs.declared.NodeName.{NodeName}
 use Rattle.dom_base.specs.declared.Kind.{Kind}
 use Rattle.dom_base.specs.declared.Kind.TheVariants.{Document, Fragment, Shadow, Element, Text, Comment}
 use Rattle.dom_model.specs.Names.{DomString, name_eq, is_in, is_empty, items_after, first_of}
-use Rattle.dom_model.specs.Tree.{Trees, none, tree, Node, node_in, kind_of, is_text, is_document, is_fragment, has_data, subtree, trees_below, times_in}
-use Rattle.dom_model.specs.Tree.{children_of, parent_of, siblings, next_sibling, index_of, length_of, descendants, inclusive_descendants}
+use Rattle.dom_model.specs.Tree.{Trees, none, tree, Node, node_in, kind_of, is_text, is_document, is_fragment, has_data, subtree, trees_below}
+use Rattle.dom_model.specs.Tree.{times_in, children_of, parent_of, siblings, next_sibling, index_of, length_of, descendants, inclusive_descendants}
 use Rattle.dom_model.specs.Tree.{inclusive_ancestors, on_top, names_of, roots}
 use Rattle.dom_model.specs.TreeChanges.{followed_by, with_name, with_node, with_data_replaced}
 use Rattle.dom_model.specs.Output.{child_list, character_data}
@@ -27,19 +27,19 @@ use Rattle.dom_worlds.proofs.NodesRead.{node-with_node, node-new, node-map_nodes
 use Rattle.dom_worlds.proofs.Lists.{all-dropped, all-then, all-from, all-filter, all-take_while, all-passed}
 use Rattle.dom_worlds.proofs.NodeKinds.{name-node_in}
 use Rattle.dom_worlds.proofs.PartSteps.{some-keeps, next-absent}
-use Rattle.dom_worlds.proofs.PlanBounds.{room-then, room-plan, room-removing, room-removals, room-inserting, room-replacing_data, IsOpen}
-use Rattle.dom_worlds.proofs.PlanBounds.{open-still}
+use Rattle.dom_worlds.proofs.PlanBounds.{room-then, room-plan, room-removing, room-removals, room-inserting, room-replacing_data, IsOpen, open-still}
 use Rattle.dom_worlds.proofs.PlacedBounds.{texts-inserting, kids-plain}
 use Rattle.dom_worlds.proofs.PlanPlaces.{LeadsEach, Changed, MayGo, may-still, still, after-append, leads-then, leads-eased, leads-one}
 use Rattle.dom_worlds.proofs.PlanPlaces.{leads-inserting}
 use Rattle.dom_worlds.proofs.PlanTexts.{IsReplaced, replaced-by, MayFollow, may-follow, texts-beside, next-not, new-there, descend-there}
-use Rattle.dom_worlds.proofs.PlanTexts.{leads-removals}
-use Rattle.dom_worlds.proofs.PlanTexts.{leads-tail, leads-joins, leads-replacing_data, leads-normalizing_text}
+use Rattle.dom_worlds.proofs.PlanTexts.{leads-removals, leads-tail, leads-joins, leads-replacing_data, leads-normalizing_text}
 use Rattle.dom_worlds.proofs.TableSteps.{HasNode}
 use Rattle.dom_worlds.proofs.TableRecords.{all-kept}
 use Rattle.dom_worlds.proofs.Tests.{by_cases, either_way}
 use Rattle.dom_worlds.proofs.TreeChangeLaws.{HasRoot, put_where, where-here, where-later, put_root-where, root-put_root_new, root-first, times-below}
-use Rattle.dom_worlds.proofs.Trees.{times-here, times-elsewhere, times-more, times-subtree, ancestors-absent, all-both}
+use Rattle.dom_laws.proofs.Counts.{times-here, times-elsewhere, times-more, times_subtree}
+use Rattle.dom_laws.proofs.Paths.{path_none}
+use Rattle.dom_worlds.proofs.Trees.{all-both}
 
 -- A new node changes no ancestors.
 ancestors-followed : (new ts : Trees) (x : NodeName) → times_in new x ≡ 0 → inclusive_ancestors (followed_by new ts) x ≡ inclusive_ancestors ts x
@@ -48,12 +48,12 @@ ancestors-followed (tree n c r) ts x h =
     by_cases (name_eq n.name x) (λ e. absurd (let g = times-here n c r x e in omega arith))
     (λ e. let g = times-elsewhere n c r x e in
     cond-false (name_eq n.name x) (x ∷ []) (on_top (inclusive_ancestors c x) n.name (inclusive_ancestors (followed_by r ts) x)) e
-    ∙ ap (λ p. on_top p n.name (inclusive_ancestors (followed_by r ts) x)) (ancestors-absent c x (omega arith)) ∙ ancestors-followed r ts x (omega arith))
+    ∙ ap (λ p. on_top p n.name (inclusive_ancestors (followed_by r ts) x)) (path_none c x (omega arith)) ∙ ancestors-followed r ts x (omega arith))
 
 -- put into a list
 ancestors-where : (test : NodeName → Bool) (new ts : Trees) (x : NodeName) → times_in new x ≡ 0 →
     inclusive_ancestors (put_where test new ts) x ≡ inclusive_ancestors ts x
-ancestors-where test new none x h = ancestors-absent new x h
+ancestors-where test new none x h = path_none new x h
 ancestors-where test new (tree n c r) x h =
     by_cases (test n.name) (λ e. ap (λ t. inclusive_ancestors t x) (where-here test new n c r e) ∙ ancestors-followed new (tree n c r) x h)
     (λ e. ap (λ t. inclusive_ancestors t x) (where-later test new n c r e) ∙
@@ -238,7 +238,7 @@ roots-among (tree n c r) x = let h = roots-among r x in let m = times-more n c r
 -- and so are children
 pub children-among : (ts : Trees) (y x : NodeName) → times_among (children_of ts y) x ≤ times_in ts x
 children-among ts y x =
-    let a = roots-among (trees_below (subtree ts y)) x in let b = times-below (subtree ts y) x in let c = times-subtree ts y x in omega arith
+    let a = roots-among (trees_below (subtree ts y)) x in let b = times-below (subtree ts y) x in let c = times_subtree ts y x in omega arith
 
 -- A node with data, below a parent.
 module _ (x parent : NodeName) (p : Part) (i : IsPart p) (t : HasNode p x) (k : has_data (kind_of p.trees x) ≡ true)

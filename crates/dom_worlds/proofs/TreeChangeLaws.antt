@@ -11,8 +11,9 @@ use Rattle.dom_model.proofs.OwnerLaws.{name_eq-same, name_eq-turned, name_eq-tru
 use Rattle.dom_worlds.specs.Worlds.{AllNodes}
 use Rattle.dom_worlds.proofs.Lists.{all-append}
 use Rattle.dom_worlds.proofs.Tests.{by_cases, or-later, or-first, or-second}
-use Rattle.dom_worlds.proofs.Trees.{IsUnique, by_times, times-here, times-elsewhere, times-more, times-parts, times-subtree, times-or_else}
-use Rattle.dom_worlds.proofs.Trees.{subtree-absent, root-there}
+use Rattle.dom_laws.proofs.Counts.{Once, by_times, times-here, times-elsewhere, times-more, times-parts, times_subtree, times_or_else}
+use Rattle.dom_laws.proofs.Paths.{subtree_gone}
+use Rattle.dom_worlds.proofs.Trees.{root-there}
 
 -- How often a name is there.
 pub times-followed : (a b : Trees) (x : NodeName) → times_in (followed_by a b) x ≡ times_in a x + times_in b x
@@ -43,7 +44,7 @@ times-without (tree n c r) y x =
     (λ e. let a = ap (λ t. times_in t x) (without-here n c r y e) in let b = ap (λ t. times_in t x) (subtree-here n c r y e) in
     let d = times-without r y x in omega arith)
     (λ e. let a = ap (λ t. times_in t x) (without-elsewhere n c r y e) in let b = ap (λ t. times_in t x) (subtree-elsewhere n c r y e) in
-    let d = times-or_else (subtree c y) (subtree r y) x in let f = times-without c y x in let g = times-without r y x in omega arith)
+    let d = times_or_else (subtree c y) (subtree r y) x in let f = times-without c y x in let g = times-without r y x in omega arith)
 
 -- trees put into a list before the first root that passes a test, or behind all
 abbrev pub put_where : (NodeName → Bool) → Trees → Trees → Trees
@@ -318,7 +319,7 @@ root-subtree (tree n c r) x h =
     by_cases (name_eq n.name x) (λ e. subst (λ t. HasRoot t x) (sym (subtree-here n c r x e)) (root-first n c none x (name_eq-turned x n.name ∙ e)))
     (λ e. subst (λ t. HasRoot t x) (sym (subtree-elsewhere n c r x e))
     (let g = times-elsewhere n c r x e in
-    by_times (times_in c x) (λ z. subst (λ t. HasRoot (or_else t (subtree r x)) x) (sym (subtree-absent c x z)) (root-subtree r x (omega arith)))
+    by_times (times_in c x) (λ z. subst (λ t. HasRoot (or_else t (subtree r x)) x) (sym (subtree_gone c x z)) (root-subtree r x (omega arith)))
     (λ z. root-or_else_left (subtree c x) (subtree r x) x (root-subtree c x z))))
 
 -- beside, or as, a node that leaves its parent
@@ -363,7 +364,7 @@ below-or_else none b x h g = g
 below-or_else (tree n c r) b x h g = let d = times-more n c r x in omega arith
 
 -- so it is in no list of children
-pub root-below_none : (ts : Trees) → IsUnique ts → (x : NodeName) → HasRoot ts x → (y : NodeName) → times_in (trees_below (subtree ts y)) x ≡ 0
+pub root-below_none : (ts : Trees) → Once ts → (x : NodeName) → HasRoot ts x → (y : NodeName) → times_in (trees_below (subtree ts y)) x ≡ 0
 root-below_none none u x h y = refl
 root-below_none (tree n c r) u x h y =
     let once = u x in
@@ -373,7 +374,7 @@ root-below_none (tree n c r) u x h y =
     (λ k. let there = root-there r x k in let g = times-more n c none x in omega arith) in
     by_cases (name_eq n.name y) (λ e. ap (λ t. times_in (trees_below t) x) (subtree-here n c r y e) ∙ not_inside)
     (λ e. ap (λ t. times_in (trees_below t) x) (subtree-elsewhere n c r y e)
-    ∙ below-or_else (subtree c y) (subtree r y) x (let s = times-subtree c y x in omega arith)
+    ∙ below-or_else (subtree c y) (subtree r y) x (let s = times_subtree c y x in omega arith)
     (root-cases n c r x h
-    (λ f. let g = times-here n c r x (name_eq-turned n.name x ∙ f) in let s = times-subtree r y x in let b = times-below (subtree r y) x in omega arith)
+    (λ f. let g = times-here n c r x (name_eq-turned n.name x ∙ f) in let s = times_subtree r y x in let b = times-below (subtree r y) x in omega arith)
     (λ k. root-below_none r (λ z. let p = times-parts n c r z in let o = u z in omega arith) x k y)))

@@ -1,5 +1,5 @@
 -- Where the nodes of a list of trees stand, by how often their names are there.
-use Rattle.std.proofs.Common.{◌≡◌, ℕ, zero, suc, ◌+◌, ◌≤◌, ◌||◌, Bool, true, false, List, [], ◌∷◌, ◌++◌, Option, Some, unwrap_or, refl, sym, ap}
+use Rattle.std.proofs.Common.{◌≡◌, ◌+◌, ◌≤◌, ◌||◌, Bool, true, false, List, [], ◌∷◌, ◌++◌, Option, Some, unwrap_or, refl, sym, ap}
 use Rattle.std.proofs.Common.{◌∙◌, arith, true≢false, subst}
 use Rattle.std.specs.List.{AllByRecursion, last_or}
 use Rattle.std.proofs.lemmas.Bool.{cond-true, cond-false}
@@ -7,6 +7,8 @@ use Rattle.dom_base.specs.declared.NodeName.{NodeName}
 use Rattle.dom_model.specs.Names.{name_eq, is_in, last_of}
 use Rattle.dom_model.specs.Tree.{Trees, none, tree, Node, nodes, names_of, roots, subtree, or_else, inclusive_ancestors, on_top, root_of, times_in}
 use Rattle.dom_model.proofs.OwnerLaws.{name_eq-same, name_eq-true, name_eq-turned}
+use Rattle.dom_laws.proofs.Counts.{Once, once_parts, by_times, times-here, times-elsewhere, times-more, times-parts, times_subtree}
+use Rattle.dom_laws.proofs.Paths.{path_none, subtree_gone}
 use Rattle.dom_worlds.proofs.Lists.{all-append, all-then}
 use Rattle.dom_worlds.proofs.Tests.{by_cases, or-first, or-later}
 
@@ -35,49 +37,25 @@ last-in y (z ∷ zs) = by (name_eq (last_from z zs) y) (last-in z zs)
     by true h = refl
     by false h = h
 
--- at the first root, and elsewhere
-pub times-here : (n : Node) (c r : Trees) (x : NodeName) → name_eq n.name x ≡ true → times_in (tree n c r) x ≡ 1 + times_in c x + times_in r x
-times-here n c r x e = ap (λ k. k + times_in c x + times_in r x) (cond-true (name_eq n.name x) 1 0 e)
-
--- at another root
-pub times-elsewhere : (n : Node) (c r : Trees) (x : NodeName) → name_eq n.name x ≡ false → times_in (tree n c r) x ≡ 0 + times_in c x + times_in r x
-times-elsewhere n c r x e = ap (λ k. k + times_in c x + times_in r x) (cond-false (name_eq n.name x) 1 0 e)
-
--- below and behind a root there is no more than in all
-pub times-more : (n : Node) (c r : Trees) (x : NodeName) → times_in c x + times_in r x ≤ times_in (tree n c r) x
-times-more n c r x = omega arith
-
--- the ancestors of a node that is not there, and of one that is
-pub ancestors-absent : (ts : Trees) (x : NodeName) → times_in ts x ≡ 0 → inclusive_ancestors ts x ≡ []
-ancestors-absent none x h = refl
-ancestors-absent (tree n c r) x h =
-    by_cases (name_eq n.name x) (λ e. absurd (let g = times-here n c r x e in omega arith))
-    (λ e. let g = times-elsewhere n c r x e in rw (e, ancestors-absent c x (omega arith), ancestors-absent r x (omega arith)) refl)
-
--- by whether a count is 0
-pub by_times : {P : Type 0} (k : ℕ) → (k ≡ 0 → P) → (1 ≤ k → P) → P
-by_times zero f g = f refl
-by_times (suc k) f g = g (omega arith)
-
 -- the ancestors of a first root
-ancestors-here : (n : Node) (c r : Trees) (x : NodeName) → name_eq n.name x ≡ true → inclusive_ancestors (tree n c r) x ≡ x ∷ []
-ancestors-here n c r x e = cond-true (name_eq n.name x) (x ∷ []) (on_top (inclusive_ancestors c x) n.name (inclusive_ancestors r x)) e
+path_here : (n : Node) (c r : Trees) (x : NodeName) → name_eq n.name x ≡ true → inclusive_ancestors (tree n c r) x ≡ x ∷ []
+path_here n c r x e = cond-true (name_eq n.name x) (x ∷ []) (on_top (inclusive_ancestors c x) n.name (inclusive_ancestors r x)) e
 
 -- those of another node
-ancestors-elsewhere : (n : Node) (c r : Trees) (x : NodeName) → name_eq n.name x ≡ false →
+path_beside : (n : Node) (c r : Trees) (x : NodeName) → name_eq n.name x ≡ false →
     inclusive_ancestors (tree n c r) x ≡ on_top (inclusive_ancestors c x) n.name (inclusive_ancestors r x)
-ancestors-elsewhere n c r x e = cond-false (name_eq n.name x) (x ∷ []) (on_top (inclusive_ancestors c x) n.name (inclusive_ancestors r x)) e
+path_beside n c r x e = cond-false (name_eq n.name x) (x ∷ []) (on_top (inclusive_ancestors c x) n.name (inclusive_ancestors r x)) e
 
 -- of a node that is there the ancestors begin with it
 pub ancestors-present : (ts : Trees) (x : NodeName) → 1 ≤ times_in ts x → (path : List NodeName) × (inclusive_ancestors ts x ≡ x ∷ path)
 ancestors-present none x h = absurd (omega arith)
 ancestors-present (tree n c r) x h =
-    by_cases (name_eq n.name x) (λ e. ([], ancestors-here n c r x e))
+    by_cases (name_eq n.name x) (λ e. ([], path_here n c r x e))
     (λ e. let g = times-elsewhere n c r x e in
     by_times (times_in c x)
     (λ z. let at = ancestors-present r x (omega arith) in
-    (at.0, ancestors-elsewhere n c r x e ∙ ap (λ p. on_top p n.name (inclusive_ancestors r x)) (ancestors-absent c x z) ∙ at.1))
-    (λ z. let at = ancestors-present c x z in (at.0 ++ n.name ∷ [], ancestors-elsewhere n c r x e ∙ ap (λ p. on_top p n.name (inclusive_ancestors r x)) at.1)))
+    (at.0, path_beside n c r x e ∙ ap (λ p. on_top p n.name (inclusive_ancestors r x)) (path_none c x z) ∙ at.1))
+    (λ z. let at = ancestors-present c x z in (at.0 ++ n.name ∷ [], path_beside n c r x e ∙ ap (λ p. on_top p n.name (inclusive_ancestors r x)) at.1)))
 
 -- each ancestor is there
 all-on_top : (P : NodeName → Type 0) (path : List NodeName) (a : NodeName) (others : List NodeName) → AllByRecursion P path →
@@ -90,12 +68,12 @@ pub ancestors-there : (ts : Trees) (x : NodeName) → AllByRecursion (λ y. 1 �
 ancestors-there none x = tt
 ancestors-there (tree n c r) x =
     by_cases (name_eq n.name x) (λ e. let g = times-here n c r x e in let here : 1 ≤ times_in (tree n c r) x = omega arith in
-    subst (AllByRecursion (λ y. 1 ≤ times_in (tree n c r) y)) (sym (ancestors-here n c r x e)) (here, tt))
+    subst (AllByRecursion (λ y. 1 ≤ times_in (tree n c r) y)) (sym (path_here n c r x e)) (here, tt))
     (λ e. let P : NodeName → Type 0 = λ y. 1 ≤ times_in (tree n c r) y in
     let top : P n.name = let g = times-here n c r n.name (name_eq-same n.name) in omega arith in
     let below = all-then (λ y. 1 ≤ times_in c y) P (λ y h. let g = times-more n c r y in omega arith) (inclusive_ancestors c x) (ancestors-there c x) in
     let beside = all-then (λ y. 1 ≤ times_in r y) P (λ y h. let g = times-more n c r y in omega arith) (inclusive_ancestors r x) (ancestors-there r x) in
-    subst (AllByRecursion P) (sym (ancestors-elsewhere n c r x e))
+    subst (AllByRecursion P) (sym (path_beside n c r x e))
     (all-on_top P (inclusive_ancestors c x) n.name (inclusive_ancestors r x) below (top, beside)))
 
 -- Roots.
@@ -106,10 +84,10 @@ last-push o (y ∷ xs) x = last-push (Some y) xs x
 -- the root of a node in the first tree
 root-in_tree : (n : Node) (c r : Trees) (y : NodeName) → 1 ≤ times_in (tree n c none) y → root_of (tree n c r) y ≡ n.name
 root-in_tree n c r y h =
-    by_cases (name_eq n.name y) (λ e. ap (λ p. unwrap_or (last_of p) y) (ancestors-here n c r y e) ∙ sym (name_eq-true n.name y e))
+    by_cases (name_eq n.name y) (λ e. ap (λ p. unwrap_or (last_of p) y) (path_here n c r y e) ∙ sym (name_eq-true n.name y e))
     (λ e. let g = times-elsewhere n c none y e in
     let at = ancestors-present c y (omega arith) in
-    ap (λ p. unwrap_or (last_of p) y) (ancestors-elsewhere n c r y e ∙ ap (λ p. on_top p n.name (inclusive_ancestors r y)) at.1) ∙
+    ap (λ p. unwrap_or (last_of p) y) (path_beside n c r y e ∙ ap (λ p. on_top p n.name (inclusive_ancestors r y)) at.1) ∙
     ap (λ o. unwrap_or o y) (last-push (Some y) at.0 n.name))
 
 -- and of one behind it
@@ -117,24 +95,8 @@ root-in_rest : (n : Node) (c r : Trees) (y : NodeName) → times_in (tree n c no
 root-in_rest n c r y h =
     by_cases (name_eq n.name y) (λ e. absurd (let g = times-here n c none y e in omega arith))
     (λ e. let g = times-elsewhere n c none y e in
-    ap (λ p. unwrap_or (last_of p) y) (ancestors-elsewhere n c r y e ∙ ap (λ p. on_top p n.name (inclusive_ancestors r y))
-    (ancestors-absent c y (omega arith))))
-
--- how often in a first tree and behind it
-pub times-parts : (n : Node) (c r : Trees) (y : NodeName) → times_in (tree n c r) y ≡ times_in (tree n c none) y + times_in r y
-times-parts n c r y = omega arith
-
--- no name is there twice
-abbrev pub IsUnique : Trees → Type 0
-IsUnique ts = (x : NodeName) → times_in ts x ≤ 1
-
--- nor is one behind the first tree
-pub unique-rest : (n : Node) (c r : Trees) → IsUnique (tree n c r) → IsUnique r
-unique-rest n c r u x = let g = times-parts n c r x in let h = u x in omega arith
-
--- nor is one below it
-pub unique-below : (n : Node) (c r : Trees) → IsUnique (tree n c r) → IsUnique c
-unique-below n c r u x = let m = times-more n c r x in let h = u x in omega arith
+    ap (λ p. unwrap_or (last_of p) y) (path_beside n c r y e ∙ ap (λ p. on_top p n.name (inclusive_ancestors r y))
+    (path_none c y (omega arith))))
 
 -- what holds of each, taken together
 pub all-both : (P Q : NodeName → Type 0) (xs : List NodeName) → AllByRecursion P xs → AllByRecursion Q xs → AllByRecursion (λ x. P x × Q x) xs
@@ -142,19 +104,19 @@ all-both P Q [] h g = tt
 all-both P Q (x ∷ xs) h g = ((h.0, g.0), all-both P Q xs h.1 g.1)
 
 -- a node's ancestors have its root
-pub ancestors-root : (ts : Trees) → IsUnique ts → (s : NodeName) → AllByRecursion (λ y. root_of ts y ≡ root_of ts s) (inclusive_ancestors ts s)
+pub ancestors-root : (ts : Trees) → Once ts → (s : NodeName) → AllByRecursion (λ y. root_of ts y ≡ root_of ts s) (inclusive_ancestors ts s)
 ancestors-root none u s = tt
 ancestors-root (tree n c r) u s =
     let P : NodeName → Type 0 = λ y. root_of (tree n c r) y ≡ root_of (tree n c r) s in
-    by_cases (name_eq n.name s) (λ e. subst (AllByRecursion P) (sym (ancestors-here n c r s e)) (refl, tt))
+    by_cases (name_eq n.name s) (λ e. subst (AllByRecursion P) (sym (path_here n c r s e)) (refl, tt))
     (λ e. let g = times-elsewhere n c none s e in
-    subst (AllByRecursion P) (sym (ancestors-elsewhere n c r s e))
+    subst (AllByRecursion P) (sym (path_beside n c r s e))
     (by_times (times_in c s)
     (λ z. let there = all-both (λ y. 1 ≤ times_in r y) (λ y. root_of r y ≡ root_of r s) (inclusive_ancestors r s) (ancestors-there r s)
-    (ancestors-root r (unique-rest n c r u) s) in
+    (ancestors-root r (once_parts n c r u).after s) in
     let up : (y : NodeName) → (1 ≤ times_in r y) × (root_of r y ≡ root_of r s) → P y =
     λ y h. let k = u y in let t = times-parts n c r y in root-in_rest n c r y (let h0 = h.0 in omega arith) ∙ h.1 ∙ sym (root-in_rest n c r s (omega arith)) in
-    subst (λ path. AllByRecursion P (on_top path n.name (inclusive_ancestors r s))) (sym (ancestors-absent c s z))
+    subst (λ path. AllByRecursion P (on_top path n.name (inclusive_ancestors r s))) (sym (path_none c s z))
     (all-then (λ y. (1 ≤ times_in r y) × (root_of r y ≡ root_of r s)) P up (inclusive_ancestors r s) there))
     (λ z. let top : root_of (tree n c r) s ≡ n.name = root-in_tree n c r s (omega arith) in
     let below = all-then (λ y. 1 ≤ times_in c y) P (λ y h. let t = times-more n c none y in root-in_tree n c r y (omega arith) ∙ sym top)
@@ -163,31 +125,6 @@ ancestors-root (tree n c r) u s =
     let own : P n.name = let t = times-here n c none n.name (name_eq-same n.name) in root-in_tree n c r n.name (omega arith) ∙ sym top in
     subst (λ path. AllByRecursion P (on_top path n.name (inclusive_ancestors r s))) (sym at.1)
     (all-append P (s ∷ at.0) (n.name ∷ []) (subst (AllByRecursion P) at.1 below) (own, tt)))))
-
--- a node that is not there has no tree
-pub subtree-absent : (ts : Trees) (x : NodeName) → times_in ts x ≡ 0 → subtree ts x ≡ none
-subtree-absent none x h = refl
-subtree-absent (tree n c r) x h =
-    by_cases (name_eq n.name x) (λ e. absurd (let g = times-here n c r x e in omega arith))
-    (λ e. let g = times-elsewhere n c r x e in
-    cond-false (name_eq n.name x) (tree n c none) (or_else (subtree c x) (subtree r x)) e
-    ∙ ap (λ t. or_else t (subtree r x)) (subtree-absent c x (omega arith)) ∙ subtree-absent r x (omega arith))
-
--- of the first list of trees that is there
-pub times-or_else : (a b : Trees) (y : NodeName) → times_in (or_else a b) y ≤ times_in a y + times_in b y
-times-or_else none b y = omega arith
-times-or_else (tree n c r) b y = omega arith
-
--- the tree of a node has no more than all
-pub times-subtree : (ts : Trees) (x y : NodeName) → times_in (subtree ts x) y ≤ times_in ts y
-times-subtree none x y = omega arith
-times-subtree (tree n c r) x y =
-    by_cases (name_eq n.name x)
-    (λ e. subst (λ t. times_in t y ≤ times_in (tree n c r) y)
-    (sym (cond-true (name_eq n.name x) (tree n c none) (or_else (subtree c x) (subtree r x)) e)) (omega arith))
-    (λ e. subst (λ t. times_in t y ≤ times_in (tree n c r) y) (sym (cond-false (name_eq n.name x) (tree n c none) (or_else (subtree c x) (subtree r x)) e))
-    (let a = times-or_else (subtree c x) (subtree r x) y in let b = times-subtree c x y in let d = times-subtree r x y in let g = times-more n c r
-    y in omega arith))
 
 -- a root is there
 pub root-there : (ts : Trees) (r : NodeName) → is_in name_eq r (names_of (roots ts)) ≡ true → 1 ≤ times_in ts r
@@ -198,7 +135,7 @@ root-there (tree n c rest) r h =
     let later = root-there rest r (or-later (name_eq r n.name) (is_in name_eq r (names_of (roots rest))) (name_eq-turned r n.name ∙ e) h) in omega arith)
 
 -- the nodes of a root's tree have that root
-pub root-of-root : (ts : Trees) → IsUnique ts → (x : NodeName) → is_in name_eq x (names_of (roots ts)) ≡ true → (s : NodeName) →
+pub root-of-root : (ts : Trees) → Once ts → (x : NodeName) → is_in name_eq x (names_of (roots ts)) ≡ true → (s : NodeName) →
     1 ≤ times_in (subtree ts x) s → root_of ts s ≡ x
 root-of-root none u x h s t = absurd (true≢false (sym h))
 root-of-root (tree n c r) u x h s t =
@@ -211,12 +148,12 @@ root-of-root (tree n c r) u x h s t =
     let g = times-elsewhere n c r x e in
     let here : subtree (tree n c r) x ≡ subtree r x =
     cond-false (name_eq n.name x) (tree n c none) (or_else (subtree c x) (subtree r x)) e ∙
-    ap (λ t. or_else t (subtree r x)) (subtree-absent c x (omega arith)) in
+    ap (λ t. or_else t (subtree r x)) (subtree_gone c x (omega arith)) in
     let t' = subst (λ ts. 1 ≤ times_in ts s) here t in
-    let below = times-subtree r x s in
+    let below = times_subtree r x s in
     let parts = times-parts n c r s in
     let once_s = u s in
-    root-in_rest n c r s (omega arith) ∙ root-of-root r (unique-rest n c r u) x later s t')
+    root-in_rest n c r s (omega arith) ∙ root-of-root r (once_parts n c r u).after x later s t')
 
 -- all that a list of trees has is there
 pub nodes-there : (ts : Trees) → AllByRecursion (λ m. 1 ≤ times_in ts m.name) (nodes ts)

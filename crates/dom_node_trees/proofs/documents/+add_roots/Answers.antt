@@ -1,7 +1,7 @@
 use Rattle.std.proofs.Common.{◌<◌, ◌-◌, ◌++◌, List, ℕ, All, length, map, refl, subst, sym, ap, ◌∙◌, arith}
 use Rattle.dom_tree.specs.Forest.{name_at}
-use Rattle.dom_tree.proofs.Once.{times_count}
-use Rattle.dom_tree_laws.proofs.Once.{once_forest}
+use Rattle.dom_laws.proofs.Counts.{times_count}
+use Rattle.dom_tree.proofs.Standing.{Once-forest}
 use Rattle.dom_slots.proofs.Hosted.{root-node}
 use Rattle.dom_node_trees.specs.Documents.{roots_within}
 use Rattle.dom_node_trees.proofs.Roots.{Lists, lists_first, lists_root, lists_none, lists_fewer, nodes_within}
@@ -31,7 +31,7 @@ pub loop-at-smaller : goal.loop-at-smaller
 loop-at-smaller t c =
     let f = c.args.forest.now in
     lists_fewer f c.args.slots.now.hosts (roots_within (c.args.depth - 1) f c.args.slots.now.hosts) (map (name_at f.names) c.args.roots.now.items)
-    c.args.top (once_forest f.names f.trees c.law_nodes_stand_once.ensures.once c.law_nodes_stand_once.ensures.only)
+    c.args.top (Once-forest f c.law_nodes_stand_once.ensures.once c.law_nodes_stand_once.ensures.only)
     c.loop-at.roots.items c.loop-at.at c.in-Some.node c.in-Some.is c.loop-at.invariant
     c.following-at.result c.following-at.ensures.value
 
@@ -41,7 +41,7 @@ loop-at-preserved t c =
     let hosts = c.args.slots.now.hosts in
     let deeper = roots_within (c.args.depth - 1) f hosts in
     let earlier = map (name_at f.names) c.args.roots.now.items in
-    let once = once_forest f.names f.trees c.law_nodes_stand_once.ensures.once c.law_nodes_stand_once.ensures.only in
+    let once = Once-forest f c.law_nodes_stand_once.ensures.once c.law_nodes_stand_once.ensures.only in
     elim c.match-root_of.branch [
       | in-Some-root_of+in_ok-push+in_ok-add_roots w ↦
           subst (λ (ks : List ℕ). Lists f hosts deeper earlier c.args.top ks c.following-at.result) (sym (ap (λ v. v.items) w.roots-is))

@@ -3,9 +3,9 @@ use Rattle.dom_base.specs.declared.NodeName.{NodeName}
 use Rattle.dom_model.specs.Tree.{is_inclusive_ancestor}
 use Rattle.dom_model.specs.TreeChanges.{change_node, under_document}
 use Rattle.dom_tree.specs.Forest.{name_at}
-use Rattle.dom_tree.proofs.Once.{times_count}
-use Rattle.dom_tree_laws.proofs.Once.{once_forest}
-use Rattle.dom_tree_laws.proofs.Covering.{Sets, sets_first, sets_above, SetsOneIn, sets_on}
+use Rattle.dom_laws.proofs.Counts.{times_count}
+use Rattle.dom_tree.proofs.Standing.{Once-forest}
+use Rattle.dom_node_trees.proofs.Covering.{Sets, sets_first, sets_above, SetsOneIn, sets_on}
 use Rattle.dom_node_trees.proofs.documents.set_documents.Goals as goal
 
 pub loop-at-init : goal.loop-at-init
@@ -27,7 +27,7 @@ following-at-requires-clause-within c =
     ap (λ ns. change_node (under_document (Some (name_at ns c.args.document))) (name_at ns c.in-Some.node) g.trees) c.loop-at.invariant.0 in
     subst (λ (ns : List NodeName). is_inclusive_ancestor c.set_document.new.self.trees (name_at ns c.args.top) (name_at ns c.in-Some.node) ≡ _) (sym names)
     (sets_above f.trees
-    (once_forest f.names f.trees c.law_nodes_stand_once.ensures.once c.law_nodes_stand_once.ensures.only) at changed)
+    (Once-forest f c.law_nodes_stand_once.ensures.once c.law_nodes_stand_once.ensures.only) at changed)
 
 pub loop-at-smaller : goal.loop-at-smaller
 loop-at-smaller c =
@@ -38,7 +38,7 @@ loop-at-smaller c =
       near = c.following-at.ensures.node;
     } in
     (sets_on one c.args.forest.now c.loop-at.at
-    (once_forest c.args.forest.now.names c.args.forest.now.trees c.law_nodes_stand_once.ensures.once c.law_nodes_stand_once.ensures.only) c.in-Some.is
+    (Once-forest c.args.forest.now c.law_nodes_stand_once.ensures.once c.law_nodes_stand_once.ensures.only) c.in-Some.is
     c.loop-at.invariant.0 c.loop-at.invariant.1).2
 
 pub loop-at-preserved : goal.loop-at-preserved
@@ -50,6 +50,6 @@ loop-at-preserved c =
       near = c.following-at.ensures.node;
     } in
     let on = sets_on one c.args.forest.now c.loop-at.at
-    (once_forest c.args.forest.now.names c.args.forest.now.trees c.law_nodes_stand_once.ensures.once c.law_nodes_stand_once.ensures.only) c.in-Some.is
+    (Once-forest c.args.forest.now c.law_nodes_stand_once.ensures.once c.law_nodes_stand_once.ensures.only) c.in-Some.is
     c.loop-at.invariant.0 c.loop-at.invariant.1 in
     (on.0, on.1)

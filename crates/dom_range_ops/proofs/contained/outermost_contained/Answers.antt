@@ -1,6 +1,6 @@
 use Rattle.std.proofs.Common.{map, sym, ap, ◌∙◌}
 use Rattle.dom_tree.specs.Forest.{name_at}
-use Rattle.dom_traversal.proofs.Lists.{is_in-from}
+use Rattle.dom_laws.proofs.Lists.{is_in-from}
 use Rattle.dom_range_ops.specs.Texts.{range_at_points, nodes_around}
 use Rattle.dom_range_ops.proofs.KeyedWalks.{is-bounded}
 use Rattle.dom_range_ops.proofs.DeletionSteps.{none-reversed}

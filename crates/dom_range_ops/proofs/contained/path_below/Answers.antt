@@ -6,11 +6,10 @@ use Rattle.dom_base.specs.declared.NodeName.{NodeName}
 use Rattle.dom_worlds.proofs.Lists.{all-append}
 use Rattle.dom_model.specs.Tree.{inclusive_ancestors, is_inclusive_ancestor}
 use Rattle.dom_tree.specs.Forest.{name_at}
-use Rattle.dom_traversal.proofs.Chains.{above-along}
-use Rattle.dom_traversal.proofs.Climbing.{other_key}
-use Rattle.dom_traversal.proofs.Counts.{Once-forest, Has-forest}
-use Rattle.dom_traversal.proofs.Lists.{In, In-from, is_in-from, filter-none, filter-yes}
-use Rattle.dom_traversal.proofs.Shapes.{above-parent, above-root}
+use Rattle.dom_laws.proofs.Chains.{above-along}
+use Rattle.dom_tree.proofs.Standing.{other_key, Once-forest, Has-forest}
+use Rattle.dom_laws.proofs.Lists.{In, In-from, is_in-from, filter-none, filter-yes}
+use Rattle.dom_laws.proofs.Shapes.{above-parent, above-root}
 use Rattle.dom_range_ops.proofs.DeletionPlaces.{not_above, eqb-turned}
 use Rattle.dom_range_ops.proofs.contained.path_below.Goals as goal
 

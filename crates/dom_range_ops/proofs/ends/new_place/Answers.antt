@@ -4,7 +4,7 @@ use Rattle.dom_model.specs.Extract.{behind_node}
 use Rattle.dom_model.specs.Names.{last_of}
 use Rattle.dom_model.specs.Tree.{inclusive_ancestors, is_inclusive_ancestor}
 use Rattle.dom_tree.specs.Forest.{name_at}
-use Rattle.dom_traversal.proofs.Counts.{Once-forest, Has-forest}
+use Rattle.dom_tree.proofs.Standing.{Once-forest, Has-forest}
 use Rattle.dom_range_ops.specs.Texts.{range_at_points}
 use Rattle.dom_range_ops.proofs.DeletionPlaces.{parent-holds, outermost-is}
 use Rattle.dom_range_ops.proofs.ends.new_place.Goals as goal

@@ -21,7 +21,7 @@ use Rattle.dom_mutation.proofs.ReadyCalls.{HasLaws, stands-in, ready-planned}
 use Rattle.dom_mutation.proofs.ReadyPlans.{ready-inserting_into_range}
 use Rattle.dom_range_ops.proofs.InsertedRanges.{range-there}
 use Rattle.dom_range_ops.proofs.inserting.insert_node.Goals as goal
-use Rattle.dom_traversal.proofs.Climbing.{was_some}
+use Rattle.dom_laws.proofs.Options.{was_some}
 
 pub returns-in-Err-clause-tested : goal.returns-in-Err-clause-tested
 returns-in-Err-clause-tested c q e =

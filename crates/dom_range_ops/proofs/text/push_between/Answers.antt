@@ -9,10 +9,10 @@ use Rattle.dom_model.specs.RangeOps.{text_part}
 use Rattle.dom_model.specs.Tree.{root_of}
 use Rattle.dom_model.proofs.OwnerLaws.{name_eq-other}
 use Rattle.dom_tree.specs.Forest.{name_at}
-use Rattle.dom_traversal.specs.Within.{from_node, behind}
-use Rattle.dom_traversal.proofs.Climbing.{other_name}
-use Rattle.dom_traversal.proofs.Lists.{name_eq-from}
-use Rattle.dom_traversal.proofs.Searching.{following_step, length-behind}
+use Rattle.dom_laws.specs.Within.{from_node, behind}
+use Rattle.dom_tree.proofs.Standing.{other_name}
+use Rattle.dom_laws.proofs.Lists.{name_eq-from}
+use Rattle.dom_tree.proofs.Searching.{following_step, length-behind}
 use Rattle.dom_range_ops.specs.Points.{nodes_after}
 use Rattle.dom_range_ops.specs.Texts.{range_at_points, contained_text, nodes_around}
 use Rattle.dom_range_ops.proofs.Between.{Leads, text-step}

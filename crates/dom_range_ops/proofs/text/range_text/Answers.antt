@@ -5,7 +5,7 @@ use Rattle.dom_model.specs.World.{part_of}
 use Rattle.dom_range_ops.specs.Texts.{range_at_points}
 use Rattle.dom_range_ops.proofs.DocTexts.{read-points, are-bounded, within-at, text-points, if-ok}
 use Rattle.dom_range_ops.proofs.text.range_text.Goals as goal
-use Rattle.dom_traversal.proofs.Climbing.{was_some}
+use Rattle.dom_laws.proofs.Options.{was_some}
 
 pub text_between-requires : goal.text_between-requires
 text_between-requires c =

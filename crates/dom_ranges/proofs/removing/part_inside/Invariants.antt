@@ -2,8 +2,9 @@ use Rattle.std.proofs.Common.{◌≡◌, ℕ, ◌<◌, ◌≤◌, false, length,
 use Rattle.std.specs.Option.{option_map, ForSome}
 use Rattle.dom_model.specs.Tree.{inclusive_descendants}
 use Rattle.dom_tree.specs.Forest.{name_at}
-use Rattle.dom_traversal.specs.Within.{from_node, StandsIn}
-use Rattle.dom_traversal.proofs.Lists.{In}
+use Rattle.dom_laws.specs.Within.{from_node}
+use Rattle.dom_tree.specs.Within.{StandsIn}
+use Rattle.dom_laws.proofs.Lists.{In}
 use Rattle.dom_ranges.specs.declared.ends.RangeEnd.{RangeEnd}
 use Rattle.dom_ranges.specs.Listed.{is_in}
 use Rattle.dom_ranges.proofs.removing.part_inside.Given as goal

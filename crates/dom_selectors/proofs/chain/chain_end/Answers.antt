@@ -3,7 +3,7 @@ use Rattle.std.proofs.Common.{◌≡◌, ◌<◌, ◌⊎◌, inl, inr, true, fal
 use Rattle.std.specs.Option.{option_map}
 use Rattle.dom_model.specs.Selectors.{joined, compound_matches, complex_matches}
 use Rattle.dom_tree.specs.Forest.{name_at}
-use Rattle.dom_traversal.proofs.Counts.{Once-forest, Has-forest}
+use Rattle.dom_tree.proofs.Standing.{Once-forest, Has-forest}
 use Rattle.dom_selectors.specs.declared.selector.Combinator.{Combinator}
 use Rattle.dom_selectors.specs.declared.selector.Combinator.TheVariants.{Descendant, Later}
 use Rattle.dom_selectors.specs.Search.{IsSearched, StopsAt}

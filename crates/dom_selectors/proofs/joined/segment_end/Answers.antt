@@ -2,7 +2,7 @@
 use Rattle.std.proofs.Common.{◌≡◌, refl, ap, sym, subst, ◌∙◌, arith, true≢false}
 use Rattle.dom_model.specs.Selectors.{joined, later}
 use Rattle.dom_tree.specs.Forest.{name_at}
-use Rattle.dom_traversal.proofs.Counts.{Once-forest}
+use Rattle.dom_tree.proofs.Standing.{Once-forest}
 use Rattle.dom_selectors.specs.declared.selector.Combinator.{Combinator}
 use Rattle.dom_selectors.specs.declared.selector.Combinator.TheVariants.{Descendant, Child, Next, Later}
 use Rattle.dom_selectors.specs.Search.{IsDescendant, IsSearched, StopsAt}

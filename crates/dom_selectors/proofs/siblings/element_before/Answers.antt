@@ -6,7 +6,7 @@ use Rattle.dom_base.specs.declared.NodeName.{NodeName}
 use Rattle.dom_model.specs.Names.{last_of}
 use Rattle.dom_model.specs.Tree.{is_element, kind_of}
 use Rattle.dom_tree.specs.Forest.{name_at}
-use Rattle.dom_traversal.proofs.Searching.{last-hit}
+use Rattle.dom_laws.proofs.Lists.{last-hit}
 use Rattle.dom_selectors.proofs.Beside.{before_list, up_to, previous_step, previous_less}
 use Rattle.dom_selectors.proofs.Passing.{passed_before}
 use Rattle.dom_selectors.proofs.siblings.element_before.Goals as goal

@@ -6,7 +6,7 @@ use Rattle.dom_base.specs.declared.NodeName.{NodeName}
 use Rattle.dom_model.specs.Names.{first_of}
 use Rattle.dom_model.specs.Tree.{is_element, kind_of}
 use Rattle.dom_tree.specs.Forest.{name_at}
-use Rattle.dom_traversal.proofs.Searching.{first-hit}
+use Rattle.dom_laws.proofs.Lists.{first-hit}
 use Rattle.dom_selectors.proofs.Beside.{after_list, from, next_step, next_less}
 use Rattle.dom_selectors.proofs.Passing.{passed_behind}
 use Rattle.dom_selectors.proofs.siblings.element_behind.Goals as goal

@@ -6,9 +6,8 @@ use Rattle.dom_base.specs.declared.NodeName.{NodeName}
 use Rattle.dom_model.specs.Names.{name_eq, first_of, items_after}
 use Rattle.dom_model.specs.Tree.{node_in, parent_of, siblings}
 use Rattle.dom_tree.specs.Forest.{name_at}
-use Rattle.dom_traversal.proofs.Counts.{Once-forest, Has-forest}
-use Rattle.dom_traversal.proofs.Lists.{filter-no}
-use Rattle.dom_traversal.proofs.Searching.{first-hit}
+use Rattle.dom_tree.proofs.Standing.{Once-forest, Has-forest}
+use Rattle.dom_laws.proofs.Lists.{filter-no, first-hit}
 use Rattle.dom_slots.specs.Shadows.{looks_for}
 use Rattle.dom_slots.proofs.Siblings.{from_item, IsChild, next_sibling-step, length-next}
 use Rattle.dom_slots.proofs.find.next_looking.Goals.{After-next-at-in-Some}

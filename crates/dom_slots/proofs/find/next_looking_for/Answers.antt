@@ -6,7 +6,7 @@ use Rattle.dom_model.specs.Names.{first_of}
 use Rattle.dom_model.specs.Slots.{slot_name}
 use Rattle.dom_model.specs.Tree.{node_in, siblings}
 use Rattle.dom_tree.specs.Forest.{name_at}
-use Rattle.dom_traversal.proofs.Counts.{Once-forest, Has-forest}
+use Rattle.dom_tree.proofs.Standing.{Once-forest, Has-forest}
 use Rattle.dom_slots.specs.Shadows.{looks_for}
 use Rattle.dom_slots.proofs.Siblings.{from_item, next_sibling-step}
 use Rattle.dom_slots.proofs.find.next_looking_for.Goals as goal

@@ -6,9 +6,10 @@ use Rattle.dom_model.specs.Names.{first_of}
 use Rattle.dom_model.specs.Slots.{has_slot_name}
 use Rattle.dom_model.specs.Tree.{node_in}
 use Rattle.dom_tree.specs.Forest.{name_at}
-use Rattle.dom_traversal.specs.Within.{from_node}
-use Rattle.dom_traversal.proofs.Counts.{Once-forest}
-use Rattle.dom_traversal.proofs.Searching.{following_step, length-behind, left-behind, first-hit}
+use Rattle.dom_laws.specs.Within.{from_node}
+use Rattle.dom_tree.proofs.Standing.{Once-forest}
+use Rattle.dom_tree.proofs.Searching.{following_step, length-behind, left-behind}
+use Rattle.dom_laws.proofs.Lists.{first-hit}
 use Rattle.dom_slots.proofs.NamesOfNodes.{named-first}
 use Rattle.dom_slots.proofs.Walks.{from-top, stands-top}
 use Rattle.dom_slots.proofs.find.slot_named.Goals as goal

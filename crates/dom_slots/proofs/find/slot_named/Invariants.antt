@@ -5,7 +5,8 @@ use Rattle.dom_model.specs.Names.{first_of}
 use Rattle.dom_model.specs.Slots.{has_slot_name}
 use Rattle.dom_model.specs.Tree.{node_in, inclusive_descendants}
 use Rattle.dom_tree.specs.Forest.{name_at}
-use Rattle.dom_traversal.specs.Within.{from_node, StandsIn}
+use Rattle.dom_laws.specs.Within.{from_node}
+use Rattle.dom_tree.specs.Within.{StandsIn}
 use Rattle.dom_slots.proofs.find.slot_named.Given as goal
 
 abbrev pub invariant-loop-at : goal.invariant-loop-at

@@ -6,9 +6,9 @@ use Rattle.dom_base.specs.declared.NodeName.{NodeName}
 use Rattle.dom_model.specs.Slots.{is_slot_element}
 use Rattle.dom_model.specs.Tree.{node_in, inclusive_descendants}
 use Rattle.dom_tree.specs.Forest.{name_at}
-use Rattle.dom_traversal.specs.Within.{from_node, behind}
-use Rattle.dom_traversal.proofs.Counts.{Once-forest}
-use Rattle.dom_traversal.proofs.Searching.{following_step, length-behind}
+use Rattle.dom_laws.specs.Within.{from_node, behind}
+use Rattle.dom_tree.proofs.Standing.{Once-forest}
+use Rattle.dom_tree.proofs.Searching.{following_step, length-behind}
 use Rattle.dom_slots.proofs.NamesOfNodes.{named-filter}
 use Rattle.dom_slots.proofs.Walks.{from-top, stands-top, collect-yes, collect-no}
 use Rattle.dom_slots.proofs.find.slots_below.Goals as goal

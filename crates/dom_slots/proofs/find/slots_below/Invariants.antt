@@ -4,7 +4,8 @@ use Rattle.std.specs.Option.{option_map, ForSome}
 use Rattle.dom_model.specs.Slots.{is_slot_element}
 use Rattle.dom_model.specs.Tree.{node_in, inclusive_descendants}
 use Rattle.dom_tree.specs.Forest.{name_at}
-use Rattle.dom_traversal.specs.Within.{from_node, StandsIn}
+use Rattle.dom_laws.specs.Within.{from_node}
+use Rattle.dom_tree.specs.Within.{StandsIn}
 use Rattle.dom_slots.proofs.find.slots_below.Given as goal
 
 abbrev pub invariant-loop-at : goal.invariant-loop-at

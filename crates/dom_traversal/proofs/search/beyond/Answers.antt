@@ -2,11 +2,13 @@ use Rattle.std.proofs.Common.{◌≡◌, refl, sym, ap, subst, ◌∙◌}
 use Rattle.std.proofs.lemmas.Bool.{not-false, eqb-true}
 use Rattle.dom_model.specs.Names.{first_of}
 use Rattle.dom_tree.specs.Forest.{name_at}
-use Rattle.dom_traversal.specs.Within.{beyond}
-use Rattle.dom_traversal.proofs.Order.{IsWithin}
-use Rattle.dom_traversal.proofs.Steps.{top_places}
-use Rattle.dom_traversal.proofs.Searching.{IsWithin-key}
-use Rattle.dom_traversal.proofs.Climbing.{IsInner, no_key, next_step, climb_step, climb_ends, other_name}
+use Rattle.dom_laws.specs.Within.{beyond}
+use Rattle.dom_laws.proofs.Order.{IsWithin}
+use Rattle.dom_laws.proofs.Steps.{top_places}
+use Rattle.dom_tree.proofs.Searching.{IsWithin-key}
+use Rattle.dom_traversal.proofs.Climbing.{IsInner, next_step, climb_step, climb_ends}
+use Rattle.dom_laws.proofs.Options.{no_key}
+use Rattle.dom_tree.proofs.Standing.{other_name}
 use Rattle.dom_traversal.proofs.search.beyond.Goals as goal
 
 pub returns-then-is_some-clause-value : goal.returns-then-is_some-clause-value

@@ -4,10 +4,10 @@ use Rattle.std.proofs.lemmas.Bool.{cases_Bool}
 use Rattle.dom_model.specs.Names.{name_eq, is_in}
 use Rattle.dom_model.specs.Tree.{inclusive_descendants}
 use Rattle.dom_tree.specs.Forest.{name_at}
-use Rattle.dom_traversal.proofs.Lists.{In-from, In-not}
-use Rattle.dom_traversal.proofs.Counts.{Once-forest}
-use Rattle.dom_traversal.proofs.Order.{outside-test}
-use Rattle.dom_traversal.proofs.Searching.{following_step}
+use Rattle.dom_laws.proofs.Lists.{In-from, In-not}
+use Rattle.dom_tree.proofs.Standing.{Once-forest}
+use Rattle.dom_laws.proofs.Order.{outside-test}
+use Rattle.dom_tree.proofs.Searching.{following_step}
 use Rattle.dom_cursors.specs.OwnTables.{IsLeftIf}
 use Rattle.dom_cursors.proofs.Leaving.{may-none, may-may, may-items, may-left, left-may, all-left, left-outside}
 use Rattle.dom_cursors.proofs.Inside.{from_key, all-from_top, top-stands, next-from}

@@ -3,9 +3,9 @@ use Rattle.std.specs.Prelude.{slice_get}
 use Rattle.std.specs.Option.{ForSome}
 use Rattle.dom_model.specs.Tree.{inclusive_descendants}
 use Rattle.dom_tree.specs.Forest.{name_at}
-use Rattle.dom_traversal.specs.Within.{StandsIn}
+use Rattle.dom_tree.specs.Within.{StandsIn}
 use Rattle.dom_traversal.specs.Iterators.{KeyedIterator}
-use Rattle.dom_traversal.proofs.Lists.{In}
+use Rattle.dom_laws.proofs.Lists.{In}
 use Rattle.dom_cursors.specs.OwnTables.{IsLeftIf}
 use Rattle.dom_cursors.specs.References.{MayHaveLeft}
 use Rattle.dom_cursors.proofs.Inside.{from_key}

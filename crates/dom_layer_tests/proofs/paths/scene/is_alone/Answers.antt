@@ -6,9 +6,9 @@ use Rattle.dom_model.specs.Names.{first_of, text_eq}
 use Rattle.dom_model.specs.Slots.{is_slot_element}
 use Rattle.dom_model.specs.Tree.{node_in, is_element}
 use Rattle.dom_tree.specs.Forest.{name_at}
-use Rattle.dom_traversal.specs.Within.{behind}
-use Rattle.dom_traversal.proofs.Climbing.{was_none}
-use Rattle.dom_traversal.proofs.Counts.{Once-forest}
+use Rattle.dom_laws.specs.Within.{behind}
+use Rattle.dom_laws.proofs.Options.{was_none}
+use Rattle.dom_tree.proofs.Standing.{Once-forest}
 use Rattle.dom_slots.proofs.NamesOfNodes.{named-filter}
 use Rattle.dom_slots.proofs.Walks.{from-top}
 use Rattle.dom_layer_tests.proofs.paths.scene.is_alone.Goals as goal

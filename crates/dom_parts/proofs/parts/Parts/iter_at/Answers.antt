@@ -8,7 +8,7 @@ use Rattle.dom_parts.proofs.Cursors.{with_own, at_effect}
 use Rattle.dom_parts.proofs.Passing.{there_iter, iter_there, reads, name_known}
 use Rattle.dom_parts.specs.Doc.{all_tables}
 use Rattle.dom_parts.proofs.parts.Parts.iter_at.Goals as goal
-use Rattle.dom_traversal.proofs.Climbing.{was_some}
+use Rattle.dom_laws.proofs.Options.{was_some}
 
 pub iter_at-requires : goal.iter_at-requires
 iter_at-requires c =

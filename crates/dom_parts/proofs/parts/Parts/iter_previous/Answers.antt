@@ -4,7 +4,7 @@ use Rattle.dom_model.specs.Command.{Command}
 use Rattle.dom_model.specs.Effects.{node_or_null}
 use Rattle.dom_tree.specs.Forest.{name_at}
 use Rattle.dom_traversal.specs.Iterators.{IsIteratorOf, iterator_at}
-use Rattle.dom_traversal.proofs.Climbing.{was_some}
+use Rattle.dom_laws.proofs.Options.{was_some}
 use Rattle.dom_parts.proofs.Cursors.{previous_effect}
 use Rattle.dom_parts.proofs.Passing.{there_iter, iter_there, iters_of, writes, held_written, iter_moved, name_known}
 use Rattle.dom_cursors.specs.Cursors.{cursors_of}

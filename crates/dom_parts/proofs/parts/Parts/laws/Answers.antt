@@ -5,8 +5,8 @@ use Rattle.dom_worlds.specs.Worlds.{IsPart}
 use Rattle.dom_model.specs.Tree.{Node, Trees, nodes, has_node}
 use Rattle.dom_model.specs.World.{part_of, is_there}
 use Rattle.dom_tree.specs.Owners.{trees_of_owner, AreOf}
-use Rattle.dom_tree.proofs.Once.{times_count}
-use Rattle.dom_tree_laws.proofs.Once.{once_forest, once_own}
+use Rattle.dom_laws.proofs.Counts.{times_count}
+use Rattle.dom_tree.proofs.Standing.{Once-forest, once_own}
 use Rattle.dom_tree.specs.Forest.{name_at}
 use Rattle.dom_parts.specs.Contents.{world_of}
 use Rattle.dom_parts.specs.Doc.{DocState, owner_in, contents, all_tables}
@@ -24,7 +24,7 @@ use Rattle.dom_parts.proofs.parts.Parts.laws.Goals as goal
 pub returns-clause-once : goal.returns-clause-once
 returns-clause-once c o x =
     let f = c.self.inside.forest in
-    let once = once_own o f.trees (once_forest f.names f.trees c.law_nodes_stand_once.ensures.once c.law_nodes_stand_once.ensures.only) x in
+    let once = once_own o f.trees (Once-forest f c.law_nodes_stand_once.ensures.once c.law_nodes_stand_once.ensures.only) x in
     let times = times_count (trees_of_owner o f.trees) x in
     let own : count_by (λ (n : Node). name_eq n.name x) (nodes (trees_of_owner o f.trees)) ≤ 1 = omega arith in
     subst (λ e. count_by (λ (n : Node). name_eq n.name x) (nodes (part_of e.world o).trees) ≤ 1) c.self.view_is

@@ -6,9 +6,8 @@ use Rattle.dom_model.specs.Steps.{place}
 use Rattle.dom_tree.specs.Forest.{name_at}
 use Rattle.dom_tree.proofs.OwnPlacings.{put}
 use Rattle.dom_parts.specs.Doc.{name_in, owner_in, trees_in, contents, all_tables}
-use Rattle.dom_traversal.proofs.Counts.{Once-forest, Has-forest}
-use Rattle.dom_tree_laws.proofs.Once.{once_forest}
-use Rattle.dom_tree_laws.proofs.KeptAncestors.{keeps_placed}
+use Rattle.dom_tree.proofs.Standing.{Once-forest, Has-forest}
+use Rattle.dom_laws.proofs.KeptAncestors.{keeps_placed}
 use Rattle.dom_slots.specs.declared.step.Step.TheVariants.{Place}
 use Rattle.dom_cursors.specs.Cursors.{cursors_of}
 use Rattle.dom_observers.specs.Owners.{tables_of as observers_of}
@@ -57,8 +56,7 @@ invariant_of-self c =
     known f c.self.invariant c.self.view_is (λ e. parent_of (trees_in e c.args.node) (name_in e c.args.node) ≡ None) c.requires.unlinked)
     (read_there f c.self.invariant c.self.view_is (λ ts y. is_inclusive_ancestor ts x y) c.args.parent (λ r. ap (is_in name_eq x) r.path)
     ∙ known f c.self.invariant c.self.view_is
-    (λ e. is_inclusive_ancestor (trees_in e c.args.parent) (name_in e c.args.node) (name_in e c.args.parent) ≡ false) c.requires.not_above)
-    (once_forest f.names f.trees c.law_nodes_stand_once.ensures.once c.law_nodes_stand_once.ensures.only))
+    (λ e. is_inclusive_ancestor (trees_in e c.args.parent) (name_in e c.args.node) (name_in e c.args.parent) ≡ false) c.requires.not_above))
     (Place c.args.node c.args.parent c.args.before)
     c.link-done.new.forest c.settle.new.forest (signal_tables c.link-done.new.slots c.link-done.new.signalled c.link-done.new.queue)
     (tables_of (cursors_of c.settle.new.cursors) (observers_of c.settle.new.observers) c.settle.new.queue c.settle.new.slots c.settle.new.signalled
@@ -91,8 +89,7 @@ returns c =
     known f c.self.invariant c.self.view_is (λ e. parent_of (trees_in e c.args.node) (name_in e c.args.node) ≡ None) c.requires.unlinked)
     (read_there f c.self.invariant c.self.view_is (λ ts y. is_inclusive_ancestor ts x y) c.args.parent (λ r. ap (is_in name_eq x) r.path)
     ∙ known f c.self.invariant c.self.view_is
-    (λ e. is_inclusive_ancestor (trees_in e c.args.parent) (name_in e c.args.node) (name_in e c.args.parent) ≡ false) c.requires.not_above)
-    (once_forest f.names f.trees c.law_nodes_stand_once.ensures.once c.law_nodes_stand_once.ensures.only))
+    (λ e. is_inclusive_ancestor (trees_in e c.args.parent) (name_in e c.args.node) (name_in e c.args.parent) ≡ false) c.requires.not_above))
     (Place c.args.node c.args.parent c.args.before)
     c.link-done.new.forest c.settle.new.forest (signal_tables c.link-done.new.slots c.link-done.new.signalled c.link-done.new.queue)
     (tables_of (cursors_of c.settle.new.cursors) (observers_of c.settle.new.observers) c.settle.new.queue c.settle.new.slots c.settle.new.signalled

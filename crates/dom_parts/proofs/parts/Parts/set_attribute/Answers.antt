@@ -13,7 +13,7 @@ use Rattle.dom_parts.proofs.DocInvariant.{are_hosts}
 use Rattle.dom_parts.proofs.HostedSteps.{attribute_hosted}
 use Rattle.dom_parts.proofs.Shown.{owner_there}
 use Rattle.dom_parts.proofs.Signalling.{tree_held, tree_state}
-use Rattle.dom_tree_laws.proofs.KeptAncestors.{keeps_changed}
+use Rattle.dom_laws.proofs.KeptAncestors.{keeps_changed}
 use Rattle.dom_parts.proofs.Steps.{trees_change}
 use Rattle.dom_parts.proofs.parts.Parts.set_attribute.Goals as goal
 

@@ -8,7 +8,7 @@ use Rattle.dom_parts.proofs.Cursors.{with_own, walk_at_effect}
 use Rattle.dom_parts.proofs.Passing.{there_walk, walk_there, reads, name_known}
 use Rattle.dom_parts.specs.Doc.{all_tables}
 use Rattle.dom_parts.proofs.parts.Parts.walk_at.Goals as goal
-use Rattle.dom_traversal.proofs.Climbing.{was_some}
+use Rattle.dom_laws.proofs.Options.{was_some}
 
 pub walker_at-requires : goal.walker_at-requires
 walker_at-requires c =

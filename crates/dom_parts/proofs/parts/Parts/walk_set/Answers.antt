@@ -9,7 +9,7 @@ use Rattle.dom_parts.proofs.Shown.{known}
 use Rattle.dom_parts.proofs.Cursors.{walk_set_effect}
 use Rattle.dom_parts.proofs.Passing.{there_walk, walk_there, writes, held_written, walk_moved}
 use Rattle.dom_parts.proofs.parts.Parts.walk_set.Goals as goal
-use Rattle.dom_traversal.proofs.Climbing.{was_some}
+use Rattle.dom_laws.proofs.Options.{was_some}
 
 pub set_walker-requires : goal.set_walker-requires
 set_walker-requires c =

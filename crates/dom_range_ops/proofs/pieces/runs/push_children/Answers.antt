@@ -4,7 +4,7 @@ use Rattle.std.specs.Option.{option_map}
 use Rattle.std.proofs.lemmas.Result.{on_ok_weaker}
 use Rattle.dom_model.specs.Tree.{children_of}
 use Rattle.dom_tree.specs.Forest.{name_at}
-use Rattle.dom_traversal.proofs.Counts.{Once-forest, Has-forest}
+use Rattle.dom_tree.proofs.Standing.{Once-forest, Has-forest}
 use Rattle.dom_range_ops.specs.Pieces.{Adds, whole_item}
 use Rattle.dom_range_ops.proofs.PieceRuns.{run-before, run-behind}
 use Rattle.dom_range_ops.proofs.pieces.runs.push_children.Goals as goal

@@ -4,7 +4,7 @@ use Rattle.std.proofs.lemmas.Result.{on_ok_weaker}
 use Rattle.dom_model.specs.Extract.{common_ancestor}
 use Rattle.dom_model.specs.Ranges.{is_contained}
 use Rattle.dom_model.specs.Tree.{children_of}
-use Rattle.dom_traversal.proofs.Lists.{filter-none}
+use Rattle.dom_laws.proofs.Lists.{filter-none}
 use Rattle.dom_tree.specs.Forest.{name_at}
 use Rattle.dom_range_ops.specs.Pieces.{Adds, whole_item, from_sibling, up_to, first_from}
 use Rattle.dom_range_ops.specs.Texts.{range_at_points}

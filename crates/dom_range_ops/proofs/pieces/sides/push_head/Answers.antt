@@ -2,7 +2,7 @@ use Rattle.std.proofs.Common.{[], ◌∷◌, Some, refl, sym, ap, subst, ◌∙�
 use Rattle.dom_model.specs.Names.{name_eq, items_before}
 use Rattle.dom_model.specs.Tree.{children_of}
 use Rattle.dom_tree.specs.Forest.{name_at}
-use Rattle.dom_traversal.proofs.Counts.{Once-forest, Has-forest}
+use Rattle.dom_tree.proofs.Standing.{Once-forest, Has-forest}
 use Rattle.dom_range_ops.specs.Pieces.{Adds, whole_item, clone_item, wholes_if, up_to}
 use Rattle.dom_range_ops.specs.declared.pieces.Piece.TheVariants.{Clone}
 use Rattle.dom_range_ops.proofs.PieceRuns.{adds-on, adds-one, from-kids}

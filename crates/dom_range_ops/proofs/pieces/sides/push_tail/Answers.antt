@@ -3,7 +3,7 @@ use Rattle.std.specs.Option.{option_map}
 use Rattle.dom_model.specs.Names.{name_eq, items_after}
 use Rattle.dom_model.specs.Tree.{siblings}
 use Rattle.dom_tree.specs.Forest.{name_at}
-use Rattle.dom_traversal.proofs.Counts.{Once-forest, Has-forest}
+use Rattle.dom_tree.proofs.Standing.{Once-forest, Has-forest}
 use Rattle.dom_range_ops.specs.Pieces.{Adds, whole_item, end_item, wholes_if}
 use Rattle.dom_range_ops.specs.declared.pieces.Piece.TheVariants.{End}
 use Rattle.dom_range_ops.proofs.PieceRuns.{adds-none, adds-on, adds-one, adds-same, sibling-next}

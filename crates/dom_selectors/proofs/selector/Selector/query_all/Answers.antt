@@ -6,9 +6,10 @@ use Rattle.std.proofs.lemmas.List.Elements.{All-push}
 use Rattle.dom_base.specs.declared.NodeName.{NodeName}
 use Rattle.dom_model.specs.Selectors.{selector_matches}
 use Rattle.dom_tree.specs.Forest.{name_at}
-use Rattle.dom_traversal.specs.Within.{from_node, StandsIn}
-use Rattle.dom_traversal.proofs.Counts.{above-itself}
-use Rattle.dom_traversal.proofs.Searching.{IsWithin-key, following_step, length-behind}
+use Rattle.dom_laws.specs.Within.{from_node}
+use Rattle.dom_tree.specs.Within.{StandsIn}
+use Rattle.dom_laws.proofs.Shapes.{above-itself}
+use Rattle.dom_tree.proofs.Searching.{IsWithin-key, following_step, length-behind}
 use Rattle.dom_selectors.specs.Views.{selector_view}
 use Rattle.dom_selectors.proofs.QueryLaws.{behind_top, taken, left_out}
 use Rattle.dom_selectors.proofs.selector.Selector.query_all.Goals as goal

@@ -4,7 +4,8 @@ use Rattle.std.specs.Prelude.{filter, map, All}
 use Rattle.std.specs.Option.{option_map, ForSome}
 use Rattle.dom_model.specs.Selectors.{selector_matches, query_all}
 use Rattle.dom_tree.specs.Forest.{name_at}
-use Rattle.dom_traversal.specs.Within.{from_node, StandsIn}
+use Rattle.dom_laws.specs.Within.{from_node}
+use Rattle.dom_tree.specs.Within.{StandsIn}
 use Rattle.dom_selectors.specs.Views.{selector_view}
 use Rattle.dom_selectors.proofs.selector.Selector.query_all.Given as goal
 

@@ -7,9 +7,9 @@ use Rattle.dom_model.specs.Names.{name_eq, items_after}
 use Rattle.dom_model.specs.Slots.{slot_name}
 use Rattle.dom_model.specs.Tree.{node_in, children_of}
 use Rattle.dom_tree.specs.Forest.{name_at}
-use Rattle.dom_traversal.proofs.Children.{parent-of_child}
-use Rattle.dom_traversal.proofs.Counts.{Once-forest, Has-forest}
-use Rattle.dom_traversal.proofs.Lists.{filter-none}
+use Rattle.dom_laws.proofs.Children.{parent-of_child}
+use Rattle.dom_tree.proofs.Standing.{Once-forest, Has-forest}
+use Rattle.dom_laws.proofs.Lists.{filter-none}
 use Rattle.dom_slots.specs.Shadows.{shadows, is_assigned_at, looks_for}
 use Rattle.dom_slots.proofs.Firsts.{assigned-first}
 use Rattle.dom_slots.proofs.Siblings.{from_item, first_step, next_step, length-next}

@@ -7,7 +7,7 @@ use Rattle.dom_slots.specs.Hosts.{ShadowHost, HostsAreNodes, host_of_root, root_
 use Rattle.dom_slots.specs.Tables.{IsTableOf}
 use Rattle.dom_base.specs.declared.NodeName.{NodeName}
 use Rattle.dom_tree.specs.Forest.{name_at}
-use Rattle.dom_traversal.proofs.Counts.{Once-forest}
+use Rattle.dom_tree.proofs.Standing.{Once-forest}
 use Rattle.dom_slots.specs.Kept.{SlotsNow}
 use Rattle.dom_slots.specs.Fields.{host_in, hosts_in}
 use Rattle.dom_slots.proofs.Kept.{found-more}

@@ -2,7 +2,7 @@ use Rattle.std.proofs.Common.{◌≡◌, false, None, Some, Option, refl, sym, a
 use Rattle.std.specs.Prelude.{is_some}
 use Rattle.std.specs.Option.{option_map}
 use Rattle.dom_tree.specs.Forest.{name_at}
-use Rattle.dom_traversal.proofs.Counts.{Once-forest, Has-forest}
+use Rattle.dom_tree.proofs.Standing.{Once-forest, Has-forest}
 use Rattle.dom_slots.specs.Shadows.{shadows}
 use Rattle.dom_slots.proofs.Hosted.{root-named, root-node, host-named, slot-no_root}
 use Rattle.dom_slots.proofs.Joining.{same-option}

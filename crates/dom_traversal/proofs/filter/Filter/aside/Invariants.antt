@@ -3,7 +3,8 @@ use Rattle.dom_model.specs.Tree.{ancestors}
 use Rattle.dom_tree.specs.Forest.{name_at}
 use Rattle.dom_traversal.specs.Filters.{filter_of}
 use Rattle.dom_traversal.specs.Walkers.{stop_above}
-use Rattle.dom_traversal.specs.Within.{beyond, StandsBelow}
+use Rattle.dom_laws.specs.Within.{beyond}
+use Rattle.dom_tree.specs.Within.{StandsBelow}
 use Rattle.dom_traversal.proofs.filter.Filter.aside.Given as goal
 
 abbrev pub invariant-up : goal.invariant-up

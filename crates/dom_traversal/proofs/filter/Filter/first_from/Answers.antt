@@ -1,7 +1,7 @@
 use Rattle.std.proofs.Common.{sym, ◌∙◌}
 use Rattle.dom_model.specs.Traversal.{accepts}
 use Rattle.dom_traversal.specs.Filters.{filter_of}
-use Rattle.dom_traversal.proofs.Searching.{following_step, length-behind, left-behind}
+use Rattle.dom_tree.proofs.Searching.{following_step, length-behind, left-behind}
 use Rattle.dom_traversal.proofs.filter.Filter.first_from.Goals as goal
 
 pub loop-at-smaller : goal.loop-at-smaller

@@ -5,7 +5,8 @@ use Rattle.dom_model.specs.Names.{first_of}
 use Rattle.dom_model.specs.Traversal.{accepts}
 use Rattle.dom_tree.specs.Forest.{name_at}
 use Rattle.dom_traversal.specs.Filters.{filter_of}
-use Rattle.dom_traversal.specs.Within.{from_node, StandsIn}
+use Rattle.dom_laws.specs.Within.{from_node}
+use Rattle.dom_tree.specs.Within.{StandsIn}
 use Rattle.dom_traversal.proofs.filter.Filter.first_from.Given as goal
 
 abbrev pub invariant-loop-at : goal.invariant-loop-at

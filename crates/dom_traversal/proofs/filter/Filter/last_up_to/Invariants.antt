@@ -5,7 +5,8 @@ use Rattle.dom_model.specs.Names.{last_of}
 use Rattle.dom_model.specs.Traversal.{accepts}
 use Rattle.dom_tree.specs.Forest.{name_at}
 use Rattle.dom_traversal.specs.Filters.{filter_of}
-use Rattle.dom_traversal.specs.Within.{up_to_node, StandsIn}
+use Rattle.dom_laws.specs.Within.{up_to_node}
+use Rattle.dom_tree.specs.Within.{StandsIn}
 use Rattle.dom_traversal.proofs.filter.Filter.last_up_to.Given as goal
 
 abbrev pub invariant-loop-at : goal.invariant-loop-at

@@ -6,10 +6,11 @@ use Rattle.std.specs.Option.{option_map}
 use Rattle.dom_tree.specs.Forest.{name_at}
 use Rattle.dom_traversal.specs.Filters.{filter_of}
 use Rattle.dom_traversal.specs.Walkers.{is_entered}
-use Rattle.dom_traversal.proofs.Counts.{above-within, IsWithin-forest, Has-forest}
+use Rattle.dom_laws.proofs.Order.{above-within}
+use Rattle.dom_tree.proofs.Standing.{IsWithin-forest, Has-forest}
 use Rattle.dom_traversal.proofs.Backward.{alone, descends}
-use Rattle.dom_traversal.proofs.Climbing.{none_left}
-use Rattle.dom_traversal.proofs.Searching.{IsWithin-itself}
+use Rattle.dom_laws.proofs.Options.{none_left}
+use Rattle.dom_tree.proofs.Searching.{IsWithin-itself}
 use Rattle.dom_traversal.proofs.filter.Filter.lowest.Goals as goal
 
 pub returns-in_default-clause-ends : goal.returns-in_default-clause-ends

@@ -5,7 +5,7 @@ use Rattle.dom_model.specs.Tree.{ancestors, inclusive_descendants, is_inclusive_
 use Rattle.dom_tree.specs.Forest.{name_at}
 use Rattle.dom_traversal.specs.Filters.{filter_of}
 use Rattle.dom_traversal.specs.Walkers.{is_entered}
-use Rattle.dom_traversal.specs.Within.{up_to_tree}
+use Rattle.dom_laws.specs.Within.{up_to_tree}
 use Rattle.dom_traversal.proofs.filter.Filter.lowest.Given as goal
 
 abbrev pub invariant-loop-at : goal.invariant-loop-at

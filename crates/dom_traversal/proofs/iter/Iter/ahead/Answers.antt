@@ -4,9 +4,9 @@ use Rattle.dom_model.specs.Names.{first_of}
 use Rattle.dom_model.specs.Traversal.{Iterator, nodes_ahead}
 use Rattle.dom_model.specs.Tree.{Trees}
 use Rattle.dom_tree.specs.Forest.{name_at}
-use Rattle.dom_traversal.specs.Within.{behind}
+use Rattle.dom_laws.specs.Within.{behind}
 use Rattle.dom_traversal.specs.Iterators.{KeyedIterator, iterator_view}
-use Rattle.dom_traversal.proofs.Searching.{following_step}
+use Rattle.dom_tree.proofs.Searching.{following_step}
 use Rattle.dom_traversal.proofs.iter.Iter.ahead.Goals as goal
 
 nodes_ahead-behind : (ts : Trees) (i : Iterator) → i.before ≡ false → behind ts i.root i.reference ≡ nodes_ahead ts i

@@ -5,7 +5,7 @@ use Rattle.dom_model.specs.Names.{first_of}
 use Rattle.dom_model.specs.Traversal.{accepts}
 use Rattle.dom_tree.specs.Forest.{name_at}
 use Rattle.dom_traversal.specs.Iterators.{KeyedIterator, iterator_left}
-use Rattle.dom_traversal.specs.Within.{from_node}
+use Rattle.dom_laws.specs.Within.{from_node}
 use Rattle.dom_traversal.proofs.Fewer.{iterator_fewer}
 use Rattle.dom_traversal.proofs.iter.Iter.next.Goals as goal
 

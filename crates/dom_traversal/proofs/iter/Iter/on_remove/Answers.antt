@@ -4,15 +4,17 @@ use Rattle.std.proofs.lemmas.Bool.{both_ways}
 use Rattle.dom_model.specs.Names.{last_of}
 use Rattle.dom_model.specs.Tree.{is_inclusive_ancestor}
 use Rattle.dom_tree.specs.Forest.{NamedTrees, name_at}
-use Rattle.dom_traversal.specs.Within.{StandsIn, ahead_of}
+use Rattle.dom_tree.specs.Within.{StandsIn}
+use Rattle.dom_laws.specs.Within.{ahead_of}
 use Rattle.dom_traversal.specs.Iterators.{IsIteratorOf}
-use Rattle.dom_traversal.proofs.Lists.{In-from, In-not, is_in-from}
-use Rattle.dom_traversal.proofs.Counts.{StandOnce, StandAlone, Once-forest, Has-forest, above-within}
-use Rattle.dom_traversal.proofs.Steps.{within-top}
-use Rattle.dom_traversal.proofs.Climbing.{none_left}
+use Rattle.dom_laws.proofs.Lists.{In-from, In-not, is_in-from}
+use Rattle.dom_tree.proofs.Standing.{StandOnce, StandAlone, Once-forest, Has-forest}
+use Rattle.dom_laws.proofs.Order.{above-within}
+use Rattle.dom_laws.proofs.Steps.{within-top}
+use Rattle.dom_laws.proofs.Options.{none_left}
 use Rattle.dom_base.specs.declared.NodeName.{NodeName}
-use Rattle.dom_traversal.proofs.Searching.{IsWithin-key, preceding_step}
-use Rattle.dom_traversal.proofs.Chains.{above-chain, beyond-outside, ahead-outside, some_ahead}
+use Rattle.dom_tree.proofs.Searching.{IsWithin-key, preceding_step}
+use Rattle.dom_laws.proofs.Chains.{above-chain, beyond-outside, ahead-outside, some_ahead}
 use Rattle.dom_traversal.proofs.iter.Iter.on_remove.Goals as goal
 
 -- A node that does not stand above the root.

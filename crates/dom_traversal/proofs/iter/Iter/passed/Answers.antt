@@ -4,9 +4,9 @@ use Rattle.dom_model.specs.Names.{last_of}
 use Rattle.dom_model.specs.Traversal.{Iterator, nodes_passed}
 use Rattle.dom_model.specs.Tree.{Trees}
 use Rattle.dom_tree.specs.Forest.{name_at}
-use Rattle.dom_traversal.specs.Within.{ahead_of}
+use Rattle.dom_laws.specs.Within.{ahead_of}
 use Rattle.dom_traversal.specs.Iterators.{KeyedIterator, iterator_view}
-use Rattle.dom_traversal.proofs.Searching.{preceding_step}
+use Rattle.dom_tree.proofs.Searching.{preceding_step}
 use Rattle.dom_traversal.proofs.iter.Iter.passed.Goals as goal
 
 nodes_passed-ahead_of : (ts : Trees) (i : Iterator) → i.before ≡ true → ahead_of ts i.root i.reference ≡ nodes_passed ts i

@@ -7,9 +7,10 @@ use Rattle.dom_model.specs.Traversal.{walker_move}
 use Rattle.dom_tree.specs.Forest.{name_at}
 use Rattle.dom_traversal.specs.Filters.{filter_of}
 use Rattle.dom_traversal.specs.Walkers.{KeyedWalker, walker_view, is_reached, stop_of, IsWalkerOf, BeginsForward}
-use Rattle.dom_traversal.specs.Within.{from_node, StandsIn}
-use Rattle.dom_traversal.proofs.Steps.{within-itself}
-use Rattle.dom_traversal.proofs.Searching.{IsWithin-key}
+use Rattle.dom_laws.specs.Within.{from_node}
+use Rattle.dom_tree.specs.Within.{StandsIn}
+use Rattle.dom_laws.proofs.Steps.{within-itself}
+use Rattle.dom_tree.proofs.Searching.{IsWithin-key}
 use Rattle.dom_traversal.proofs.Beginning.{Begins-child, First-found}
 use Rattle.dom_traversal.proofs.walker.Walker.first_node.Goals as goal
 

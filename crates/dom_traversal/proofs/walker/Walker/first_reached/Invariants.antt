@@ -3,7 +3,7 @@ use Rattle.std.specs.Option.{option_map}
 use Rattle.dom_tree.specs.Forest.{name_at}
 use Rattle.dom_traversal.specs.Filters.{filter_of}
 use Rattle.dom_traversal.specs.Walkers.{KeyedWalker}
-use Rattle.dom_traversal.specs.Within.{from_node}
+use Rattle.dom_laws.specs.Within.{from_node}
 use Rattle.dom_traversal.proofs.Reaching.{Reaches, stop_from}
 use Rattle.dom_traversal.proofs.walker.Walker.first_reached.Given as goal
 

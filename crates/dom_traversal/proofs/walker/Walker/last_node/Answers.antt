@@ -7,9 +7,10 @@ use Rattle.dom_model.specs.Traversal.{walker_move}
 use Rattle.dom_tree.specs.Forest.{name_at}
 use Rattle.dom_traversal.specs.Filters.{filter_of}
 use Rattle.dom_traversal.specs.Walkers.{KeyedWalker, walker_view, is_candidate, stop_of, IsWalkerOf, BeginsBackward}
-use Rattle.dom_traversal.specs.Within.{up_to_tree, StandsIn}
-use Rattle.dom_traversal.proofs.Steps.{within-itself}
-use Rattle.dom_traversal.proofs.Searching.{IsWithin-key}
+use Rattle.dom_laws.specs.Within.{up_to_tree}
+use Rattle.dom_tree.specs.Within.{StandsIn}
+use Rattle.dom_laws.proofs.Steps.{within-itself}
+use Rattle.dom_tree.proofs.Searching.{IsWithin-key}
 use Rattle.dom_traversal.proofs.BeginningBack.{Begins-last, Last-found}
 use Rattle.dom_traversal.proofs.walker.Walker.last_node.Goals as goal
 

@@ -5,7 +5,7 @@ use Rattle.dom_model.specs.Names.{last_of}
 use Rattle.dom_tree.specs.Forest.{name_at}
 use Rattle.dom_traversal.specs.Filters.{filter_of}
 use Rattle.dom_traversal.specs.Walkers.{KeyedWalker, IsWalkerOf, BeginsBackward, walker_view, is_candidate, stop_of}
-use Rattle.dom_traversal.specs.Within.{up_to_tree}
+use Rattle.dom_laws.specs.Within.{up_to_tree}
 use Rattle.dom_traversal.proofs.ReachingBack.{ReachesBack-begin, ReachesBack-hit, ReachesBack-step, ReachesBack-shorter, LowestKey, low_stands}
 use Rattle.dom_traversal.proofs.walker.Walker.last_reached.Goals as goal
 

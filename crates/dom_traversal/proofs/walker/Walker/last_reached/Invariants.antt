@@ -3,7 +3,7 @@ use Rattle.std.specs.Option.{option_map}
 use Rattle.dom_tree.specs.Forest.{name_at}
 use Rattle.dom_traversal.specs.Filters.{filter_of}
 use Rattle.dom_traversal.specs.Walkers.{KeyedWalker}
-use Rattle.dom_traversal.specs.Within.{up_to_tree}
+use Rattle.dom_laws.specs.Within.{up_to_tree}
 use Rattle.dom_traversal.proofs.Reaching.{stop_from}
 use Rattle.dom_traversal.proofs.ReachingBack.{ReachesBack}
 use Rattle.dom_traversal.proofs.walker.Walker.last_reached.Given as goal

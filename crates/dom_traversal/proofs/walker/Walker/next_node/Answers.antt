@@ -5,9 +5,10 @@ use Rattle.dom_model.specs.Traversal.{Walker}
 use Rattle.dom_tree.specs.Forest.{name_at}
 use Rattle.dom_traversal.specs.Filters.{filter_of}
 use Rattle.dom_traversal.specs.Walkers.{walker_view, IsWalkerOf}
-use Rattle.dom_traversal.specs.Within.{from_node, StandsIn}
-use Rattle.dom_traversal.proofs.Counts.{above-within}
-use Rattle.dom_traversal.proofs.Searching.{IsWithin-key}
+use Rattle.dom_laws.specs.Within.{from_node}
+use Rattle.dom_tree.specs.Within.{StandsIn}
+use Rattle.dom_laws.proofs.Order.{above-within}
+use Rattle.dom_tree.proofs.Searching.{IsWithin-key}
 use Rattle.dom_traversal.proofs.Forward.{shorter-skip, shorter-reject}
 use Rattle.dom_traversal.proofs.Passing.{Comes-begin, ComesNext, ComesNext-skip, ComesNext-reject}
 use Rattle.dom_traversal.proofs.walker.Walker.next_node.Goals as goal

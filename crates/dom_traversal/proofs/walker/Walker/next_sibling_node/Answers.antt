@@ -7,9 +7,10 @@ use Rattle.dom_model.specs.Traversal.{walker_move}
 use Rattle.dom_tree.specs.Forest.{name_at}
 use Rattle.dom_traversal.specs.Filters.{filter_of}
 use Rattle.dom_traversal.specs.Walkers.{KeyedWalker, walker_view, is_reached, stop_of, IsWalkerOf, BeginsForward}
-use Rattle.dom_traversal.specs.Within.{from_node}
+use Rattle.dom_laws.specs.Within.{from_node}
 use Rattle.dom_traversal.proofs.Aside.{IsBelow-key, inner-below, stop-some}
-use Rattle.dom_traversal.proofs.Climbing.{IsInner, other_key}
+use Rattle.dom_traversal.proofs.Climbing.{IsInner}
+use Rattle.dom_tree.proofs.Standing.{other_key}
 use Rattle.dom_traversal.proofs.Beginning.{Begins-sibling, NextSibling-found}
 use Rattle.dom_traversal.proofs.walker.Walker.next_sibling_node.Goals as goal
 

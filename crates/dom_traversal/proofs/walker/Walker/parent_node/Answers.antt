@@ -4,8 +4,9 @@ use Rattle.dom_model.specs.Traversal.{walker_move}
 use Rattle.dom_tree.specs.Forest.{name_at}
 use Rattle.dom_traversal.specs.Filters.{filter_of}
 use Rattle.dom_traversal.specs.Walkers.{KeyedWalker, walker_view, IsWalkerOf}
-use Rattle.dom_traversal.proofs.Searching.{IsWithin-key}
-use Rattle.dom_traversal.proofs.Climbing.{IsInner, other_name, climb_ends, parent_step}
+use Rattle.dom_tree.proofs.Searching.{IsWithin-key}
+use Rattle.dom_traversal.proofs.Climbing.{IsInner, climb_ends, parent_step}
+use Rattle.dom_tree.proofs.Standing.{other_name}
 use Rattle.dom_traversal.proofs.Beginning.{move-step}
 use Rattle.dom_traversal.proofs.Parents.{above-hit, above-miss}
 use Rattle.dom_traversal.proofs.walker.Walker.parent_node.Goals as goal

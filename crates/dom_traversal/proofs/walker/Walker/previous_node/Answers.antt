@@ -7,8 +7,9 @@ use Rattle.dom_model.specs.Tree.{is_inclusive_ancestor}
 use Rattle.dom_tree.specs.Forest.{name_at}
 use Rattle.dom_traversal.specs.Filters.{filter_of}
 use Rattle.dom_traversal.specs.Walkers.{KeyedWalker, walker_view, IsWalkerOf, ComesBack}
-use Rattle.dom_traversal.specs.Within.{StandsIn, up_to_node}
-use Rattle.dom_traversal.proofs.Searching.{IsWithin-key}
+use Rattle.dom_tree.specs.Within.{StandsIn}
+use Rattle.dom_laws.specs.Within.{up_to_node}
+use Rattle.dom_tree.proofs.Searching.{IsWithin-key}
 use Rattle.dom_traversal.proofs.Backward.{Returns-begin, ComesBack-key, back-hit, back-miss}
 use Rattle.dom_traversal.proofs.Beginning.{move-step}
 use Rattle.dom_traversal.proofs.walker.Walker.previous_node.Goals as goal

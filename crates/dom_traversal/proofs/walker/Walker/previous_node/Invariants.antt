@@ -4,7 +4,7 @@ use Rattle.dom_model.specs.Names.{last_of}
 use Rattle.dom_model.specs.Traversal.{walker_nodes}
 use Rattle.dom_tree.specs.Forest.{name_at}
 use Rattle.dom_traversal.specs.Walkers.{walker_view, ComesBack}
-use Rattle.dom_traversal.specs.Within.{ahead_of, up_to_node}
+use Rattle.dom_laws.specs.Within.{ahead_of, up_to_node}
 use Rattle.dom_traversal.proofs.walker.Walker.previous_node.Given as goal
 
 abbrev pub invariant-loop-at : goal.invariant-loop-at

@@ -1,22 +1,21 @@
 -- Trees in which each name stands once: what is below a node, what is above it, and its parent.
-use Rattle.std.proofs.Common.{◌≡◌, ◌⊎◌, inl, inr, false, List, [], ◌∷◌, ◌++◌, Some, None, refl, sym, ap, subst, ◌∙◌}
+use Rattle.std.proofs.Common.{◌≡◌, ◌⊎◌, inl, inr, ◌≤◌, arith, true, false, List, [], ◌∷◌, ◌++◌, Some, None, refl, sym, ap, subst, ◌∙◌, count_by}
 use Rattle.std.specs.Prelude.{drop}
+use Rattle.std.proofs.lemmas.Bool.{cases_Bool}
 use Rattle.std.proofs.lemmas.Option.{same_Some, none-some}
 use Rattle.dom_base.specs.declared.NodeName.{NodeName}
 use Rattle.dom_model.specs.Names.{name_eq, first_of}
-use Rattle.dom_model.specs.Tree.{Trees, none, tree, Node, or_else, subtree, on_top, inclusive_ancestors, parent_of}
-use Rattle.dom_model.proofs.OwnerLaws.{name_eq-other}
-use Rattle.dom_traversal.proofs.Lists.{In, In-left, In-right, In-parts, same_or_not, name_eq-from, no_first}
+use Rattle.dom_model.specs.Tree.{Trees, none, tree, Node, or_else, subtree, times_in, ancestors, on_top, inclusive_ancestors, parent_of, nodes}
+use Rattle.dom_model.specs.Tree.{is_inclusive_ancestor}
+use Rattle.dom_model.proofs.OwnerLaws.{name_eq-other, name_eq-true}
+use Rattle.dom_laws.proofs.Paths.{path_none, subtree_gone}
+use Rattle.dom_laws.proofs.Counts.{Once, one-true, one-false, times_in-none, times_in-tree, once_parts, once_subtree, times_count}
+use Rattle.dom_laws.proofs.Lists.{In, In-left, In-right, In-parts, same_or_not, name_eq-from, no_first, is_in-from}
 
 -- x stands in trees
 abbrev pub Has : Trees → NodeName → Type 0
 Has none x = ⊥
 Has (tree n c r) x = (n.name ≡ x) ⊎ (Has c x ⊎ Has r x)
-
--- each name stands once
-abbrev pub Once : Trees → Type 0
-Once none = Unit {0}
-Once (tree n c r) = (Has c n.name → ⊥) × (Has r n.name → ⊥) × ((x : NodeName) → Has c x → Has r x → ⊥) × Once c × Once r
 
 -- a name stands in trees or not
 pub has_or_not : (ts : Trees) (x : NodeName) → Has ts x ⊎ (Has ts x → ⊥)
@@ -34,21 +33,70 @@ has_or_not (tree n c r) x = elim (same_or_not n.name x) [
     none_of other off away (inr (inl h)) = off h
     none_of other off away (inr (inr h)) = away h
 
+-- ---- a name stands in trees where it is counted
+
+-- a name that stands in trees is counted
+pub times-present : (x : NodeName) (ts : Trees) → Has ts x → 1 ≤ times_in ts x
+times-present x none h = absurd h
+times-present x (tree n c r) (inl e) = omega (arith, times_in-tree n c r x, one-true (name_eq n.name x) (name_eq-from n.name x e))
+times-present x (tree n c r) (inr (inl h)) = omega (arith, times_in-tree n c r x, times-present x c h)
+times-present x (tree n c r) (inr (inr h)) = omega (arith, times_in-tree n c r x, times-present x r h)
+
+-- and no other
+pub times-absent : (x : NodeName) (ts : Trees) → (Has ts x → ⊥) → times_in ts x ≡ 0
+times-absent x none off = times_in-none x
+times-absent x (tree n c r) off = elim (cases_Bool (name_eq n.name x)) [
+  | inl e ↦ absurd (off (inl (name_eq-true n.name x e)))
+  | inr e ↦
+      let off_below = times-absent x c (λ h. off (inr (inl h))) in
+      let off_behind = times-absent x r (λ h. off (inr (inr h))) in
+      omega (arith, times_in-tree n c r x, one-false (name_eq n.name x) e)
+]
+
+-- a first root, what is below it and what is behind it, none of which has a name of another one
+abbrev pub OnceApart : Node → Trees → Trees → Type 0
+OnceApart n c r = (Has c n.name → ⊥) × (Has r n.name → ⊥) × ((x : NodeName) → Has c x → Has r x → ⊥) × Once c × Once r
+
+-- so they are where each name stands once
+pub once_apart : (n : Node) (c r : Trees) → Once (tree n c r) → OnceApart n c r
+once_apart n c r once =
+    let parts = once_parts n c r once in (
+      λ h. omega (arith, parts.root_below, times-present n.name c h),
+      λ h. omega (arith, parts.root_after, times-present n.name r h),
+      λ x h i. omega (arith, parts.apart x, times-present x c h, times-present x r i),
+      parts.below,
+      parts.after,
+    )
+
+-- and then each name stands once
+pub once_joined : (n : Node) (c r : Trees) → OnceApart n c r → Once (tree n c r)
+once_joined n c r apart x = elim (cases_Bool (name_eq n.name x)) [
+  | inl e ↦
+      let same = name_eq-true n.name x e in
+      let off_below = times-absent x c (λ h. apart.0 (subst (Has c) (sym same) h)) in
+      let off_behind = times-absent x r (λ h. apart.1 (subst (Has r) (sym same) h)) in
+      omega (arith, times_in-tree n c r x, one-true (name_eq n.name x) e)
+  | inr e ↦ elim (has_or_not c x) [
+    | inl h ↦
+        let off_behind = times-absent x r (apart.2 x h) in
+        omega (arith, times_in-tree n c r x, one-false (name_eq n.name x) e, apart.3 x)
+    | inr off ↦ omega (arith, times_in-tree n c r x, one-false (name_eq n.name x) e, times-absent x c off, apart.4 x)
+  ]
+]
+
 -- a node below the first root, or behind its tree, is not that root
 off_first : (n : Node) (c r : Trees) (x : NodeName) → Once (tree n c r) → Has c x → name_eq n.name x ≡ false
-off_first n c r x once h = name_eq-other n.name x (λ e. once.0 (subst (Has c) (sym e) h))
+off_first n c r x once h = name_eq-other n.name x (λ e. (once_apart n c r once).0 (subst (Has c) (sym e) h))
 
 -- nor is one behind its tree
 off_last : (n : Node) (c r : Trees) (x : NodeName) → Once (tree n c r) → Has r x → name_eq n.name x ≡ false
-off_last n c r x once h = name_eq-other n.name x (λ e. once.1 (subst (Has r) (sym e) h))
+off_last n c r x once h = name_eq-other n.name x (λ e. (once_apart n c r once).1 (subst (Has r) (sym e) h))
 
 -- ---- the tree of a node
 
 -- a name that stands nowhere has no tree
 pub subtree-absent : (ts : Trees) (x : NodeName) → (Has ts x → ⊥) → subtree ts x ≡ none
-subtree-absent none x off = refl
-subtree-absent (tree n c r) x off =
-    rw (name_eq-other n.name x (λ e. off (inl e)), subtree-absent c x (λ h. off (inr (inl h))), subtree-absent r x (λ h. off (inr (inr h)))) refl
+subtree-absent ts x off = subtree_gone ts x (times-absent x ts off)
 
 -- one tree, with x at its root
 abbrev pub IsTreeOf : NodeName → Trees → Type 0
@@ -80,7 +128,7 @@ subtree-below n c r x once h =
 
 -- that of a node behind its tree
 pub subtree-beside : (n : Node) (c r : Trees) (x : NodeName) → Once (tree n c r) → Has r x → subtree (tree n c r) x ≡ subtree r x
-subtree-beside n c r x once h = rw (off_last n c r x once h, subtree-absent c x (λ i. once.2 x i h)) refl
+subtree-beside n c r x once h = rw (off_last n c r x once h, subtree-absent c x (λ i. (once_apart n c r once).2 x i h)) refl
 
 -- it is a part of the trees
 pub Has-subtree : (ts : Trees) (x y : NodeName) → Once ts → Has (subtree ts x) y → Has ts y
@@ -88,9 +136,9 @@ Has-subtree none x y once h = h
 Has-subtree (tree n c r) x y once h = elim (same_or_not n.name x) [
   | inl e ↦ by_here (rw (subtree-here n c r x e) at h)
   | inr other ↦ elim (has_or_not c x) [
-    | inl i ↦ inr (inl (Has-subtree c x y once.3 (rw (subtree-below n c r x once i) at h)))
+    | inl i ↦ inr (inl (Has-subtree c x y (once_apart n c r once).3 (rw (subtree-below n c r x once i) at h)))
     | inr off ↦ elim (has_or_not r x) [
-      | inl j ↦ inr (inr (Has-subtree r x y once.4 (rw (subtree-beside n c r x once j) at h)))
+      | inl j ↦ inr (inr (Has-subtree r x y (once_apart n c r once).4 (rw (subtree-beside n c r x once j) at h)))
       | inr away ↦ absurd (subst (λ (us : Trees). Has us y) (subtree-absent (tree n c r) x (none_of other off away)) h)
     ]
   ]
@@ -106,13 +154,6 @@ Has-subtree (tree n c r) x y once h = elim (same_or_not n.name x) [
     none_of other off away (inr (inl i)) = off i
     none_of other off away (inr (inr i)) = away i
 
--- where each name stands once too
-pub Once-subtree : (ts : Trees) (x : NodeName) → Once ts → Has ts x → Once (subtree ts x)
-Once-subtree none x once h = absurd h
-Once-subtree (tree n c r) x once (inl e) = rw (subtree-here n c r x e) (once.0, λ i. i, λ y i j. j, once.3, tt)
-Once-subtree (tree n c r) x once (inr (inl h)) = rw (subtree-below n c r x once h) (Once-subtree c x once.3 h)
-Once-subtree (tree n c r) x once (inr (inr h)) = rw (subtree-beside n c r x once h) (Once-subtree r x once.4 h)
-
 -- a node in it has the same tree there
 pub subtree-within : (ts : Trees) (x y : NodeName) → Once ts → Has ts x → Has (subtree ts x) y → subtree (subtree ts x) y ≡ subtree ts y
 subtree-within none x y once at h = absurd at
@@ -120,24 +161,24 @@ subtree-within (tree n c r) x y once (inl e) h = rw (subtree-here n c r x e) (by
   where
     by : Has (tree n c none) y → subtree (tree n c none) y ≡ subtree (tree n c r) y
     by (inl i) = subtree-here n c none y i ∙ sym (subtree-here n c r y i)
-    by (inr (inl i)) = subtree-below n c none y (once.0, λ j. j, λ z j k. k, once.3, tt) i ∙ sym (subtree-below n c r y once i)
+    by (inr (inl i)) = subtree-below n c none y (subst Once (subtree-here n c r x e) (once_subtree (tree n c r) x once)) i ∙ sym (subtree-below n c r y once i)
     by (inr (inr no_more)) = absurd no_more
 subtree-within (tree n c r) x y once (inr (inl at)) h =
     let e = subtree-below n c r x once at in
     let i : Has (subtree c x) y = subst (λ (us : Trees). Has us y) e h in
-    ap (λ (us : Trees). subtree us y) e ∙ (subtree-within c x y once.3 at i ∙ sym (subtree-below n c r y once (Has-subtree c x y once.3 i)))
+    let below = (once_apart n c r once).3 in
+    ap (λ (us : Trees). subtree us y) e ∙ (subtree-within c x y below at i ∙ sym (subtree-below n c r y once (Has-subtree c x y below i)))
 subtree-within (tree n c r) x y once (inr (inr at)) h =
     let e = subtree-beside n c r x once at in
     let i : Has (subtree r x) y = subst (λ (us : Trees). Has us y) e h in
-    ap (λ (us : Trees). subtree us y) e ∙ (subtree-within r x y once.4 at i ∙ sym (subtree-beside n c r y once (Has-subtree r x y once.4 i)))
+    let rest = (once_apart n c r once).4 in
+    ap (λ (us : Trees). subtree us y) e ∙ (subtree-within r x y rest at i ∙ sym (subtree-beside n c r y once (Has-subtree r x y rest i)))
 
 -- ---- what is above a node
 
 -- a name that stands nowhere has none above it
 pub above-absent : (ts : Trees) (x : NodeName) → (Has ts x → ⊥) → inclusive_ancestors ts x ≡ []
-above-absent none x off = refl
-above-absent (tree n c r) x off =
-    rw (name_eq-other n.name x (λ e. off (inl e)), above-absent c x (λ h. off (inr (inl h))), above-absent r x (λ h. off (inr (inr h)))) refl
+above-absent ts x off = path_none ts x (times-absent x ts off)
 
 -- x is the first item
 abbrev pub BeginsWith : NodeName → List NodeName → Type 0
@@ -170,17 +211,17 @@ above-below n c r x once h =
 
 -- the inclusive ancestors of a node behind the first root's tree
 pub above-beside : (n : Node) (c r : Trees) (x : NodeName) → Once (tree n c r) → Has r x → inclusive_ancestors (tree n c r) x ≡ inclusive_ancestors r x
-above-beside n c r x once h = rw (off_last n c r x once h, above-absent c x (λ i. once.2 x i h)) refl
+above-beside n c r x once h = rw (off_last n c r x once h, above-absent c x (λ i. (once_apart n c r once).2 x i h)) refl
 
 -- what stands above a node is in the trees
 pub Has-above : (ts : Trees) (a x : NodeName) → Once ts → Has ts x → In a (inclusive_ancestors ts x) → Has ts a
 Has-above none a x once h i = absurd h
 Has-above (tree n c r) a x once (inl e) i = elim (rw (above-here n c r x e) at i) [ inl j ↦ inl (e ∙ sym j) | inr j ↦ absurd j ]
 Has-above (tree n c r) a x once (inr (inl h)) i = elim (In-parts a (inclusive_ancestors c x) (n.name ∷ []) (rw (above-below n c r x once h) at i)) [
-  | inl j ↦ inr (inl (Has-above c a x once.3 h j))
+  | inl j ↦ inr (inl (Has-above c a x (once_apart n c r once).3 h j))
   | inr j ↦ elim j [ inl k ↦ inl (sym k) | inr k ↦ absurd k ]
 ]
-Has-above (tree n c r) a x once (inr (inr h)) i = inr (inr (Has-above r a x once.4 h (rw (above-beside n c r x once h) at i)))
+Has-above (tree n c r) a x once (inr (inr h)) i = inr (inr (Has-above r a x (once_apart n c r once).4 h (rw (above-beside n c r x once h) at i)))
 
 -- ---- below and above are the same said twice
 
@@ -195,10 +236,11 @@ above-from_below (tree n c r) a x once (inl e) h = by (rw (subtree-here n c r a 
     by (inr (inr no_more)) = absurd no_more
 above-from_below (tree n c r) a x once (inr (inl at)) h =
     let i : Has (subtree c a) x = subst (λ (us : Trees). Has us x) (subtree-below n c r a once at) h in
-    rw (above-below n c r x once (Has-subtree c a x once.3 i)) (In-left a (inclusive_ancestors c x) (n.name ∷ []) (above-from_below c a x once.3 at i))
+    let below = (once_apart n c r once).3 in
+    rw (above-below n c r x once (Has-subtree c a x below i)) (In-left a (inclusive_ancestors c x) (n.name ∷ []) (above-from_below c a x below at i))
 above-from_below (tree n c r) a x once (inr (inr at)) h =
     let i : Has (subtree r a) x = subst (λ (us : Trees). Has us x) (subtree-beside n c r a once at) h in
-    rw (above-beside n c r x once (Has-subtree r a x once.4 i)) (above-from_below r a x once.4 at i)
+    rw (above-beside n c r x once (Has-subtree r a x (once_apart n c r once).4 i)) (above-from_below r a x (once_apart n c r once).4 at i)
 
 -- and the other way round
 pub below-from_above : (ts : Trees) (a x : NodeName) → Once ts → Has ts x → In a (inclusive_ancestors ts x) → Has (subtree ts a) x
@@ -208,12 +250,12 @@ below-from_above (tree n c r) a x once (inl e) i = elim (rw (above-here n c r x 
   | inr j ↦ absurd j
 ]
 below-from_above (tree n c r) a x once (inr (inl h)) i = elim (In-parts a (inclusive_ancestors c x) (n.name ∷ []) (rw (above-below n c r x once h) at i)) [
-  | inl j ↦ rw (subtree-below n c r a once (Has-above c a x once.3 h j)) (below-from_above c a x once.3 h j)
+  | inl j ↦ rw (subtree-below n c r a once (Has-above c a x (once_apart n c r once).3 h j)) (below-from_above c a x (once_apart n c r once).3 h j)
   | inr j ↦ elim j [ inl k ↦ rw (subtree-here n c r a (sym k)) (inr (inl h)) | inr k ↦ absurd k ]
 ]
 below-from_above (tree n c r) a x once (inr (inr h)) i =
     let j : In a (inclusive_ancestors r x) = subst (In a) (above-beside n c r x once h) i in
-    rw (subtree-beside n c r a once (Has-above r a x once.4 h j)) (below-from_above r a x once.4 h j)
+    rw (subtree-beside n c r a once (Has-above r a x (once_apart n c r once).4 h j)) (below-from_above r a x (once_apart n c r once).4 h j)
 
 -- ---- parents
 
@@ -225,7 +267,7 @@ above-parent (tree n c r) x p once (inl i) e = absurd (none-some p (rw (above-he
 above-parent (tree n c r) x p once (inr (inl h)) e =
     let w = above-present c x h in
     let whole : inclusive_ancestors (tree n c r) x ≡ x ∷ (w.0 ++ n.name ∷ []) = above-below n c r x once h ∙ ap (λ path. path ++ n.name ∷ []) w.1 in
-    by (above-parent c x p once.3 h) w.0 w.1 whole (ap (λ path. first_of (drop 1 path)) (sym whole) ∙ e)
+    by (above-parent c x p (once_apart n c r once).3 h) w.0 w.1 whole (ap (λ path. first_of (drop 1 path)) (sym whole) ∙ e)
   where
     by : (parent_of c x ≡ Some p → (inclusive_ancestors c x ≡ x ∷ inclusive_ancestors c p) × Has c p)
         → (path : List NodeName) → inclusive_ancestors c x ≡ x ∷ path → inclusive_ancestors (tree n c r) x ≡ x ∷ (path ++ n.name ∷ []) →
@@ -241,7 +283,7 @@ above-parent (tree n c r) x p once (inr (inl h)) e =
         )
 above-parent (tree n c r) x p once (inr (inr h)) e =
     let same = above-beside n c r x once h in
-    let up = above-parent r x p once.4 h (ap (λ path. first_of (drop 1 path)) (sym same) ∙ e) in
+    let up = above-parent r x p (once_apart n c r once).4 h (ap (λ path. first_of (drop 1 path)) (sym same) ∙ e) in
     (same ∙ (up.0 ∙ ap (λ l. x ∷ l) (sym (above-beside n c r p once up.1))), inr (inr up.1))
 
 -- above a root stands none
@@ -249,3 +291,21 @@ pub above-root : (ts : Trees) (x : NodeName) → Has ts x → parent_of ts x ≡
 above-root ts x h e =
     let w = above-present ts x h in
     w.1 ∙ ap (λ path. x ∷ path) (no_first w.0 (ap (λ path. first_of (drop 1 path)) (sym w.1) ∙ e))
+
+-- above x stands x, and then its proper ancestors
+pub above-proper : (ts : Trees) (x : NodeName) → Has ts x → inclusive_ancestors ts x ≡ x ∷ ancestors ts x
+above-proper ts x h = let w = above-present ts x h in w.1 ∙ ap (λ xs. x ∷ xs) (sym (ap (drop 1) w.1))
+
+-- the proper ancestors of a node with a parent
+pub proper-parent : (ts : Trees) (x p : NodeName) → Once ts → Has ts x → parent_of ts x ≡ Some p → (ancestors ts x ≡ p ∷ ancestors ts p) × Has ts p
+proper-parent ts x p once h e =
+    let up = above-parent ts x p once h e in
+    (ap (drop 1) up.0 ∙ above-proper ts p up.1, up.1)
+
+-- a node that stands once in trees stands in its own tree
+pub above-itself : (ts : Trees) (x : NodeName) → count_by (λ n. name_eq n.name x) (nodes ts) ≡ 1 → is_inclusive_ancestor ts x x ≡ true
+above-itself ts x one_time = by (has_or_not ts x)
+  where
+    by : Has ts x ⊎ (Has ts x → ⊥) → is_inclusive_ancestor ts x x ≡ true
+    by (inl h) = let w = above-present ts x h in is_in-from x (inclusive_ancestors ts x) (subst (In x) (sym w.1) (inl refl))
+    by (inr off) = absurd (omega (arith, one_time, times_count ts x, times-absent x ts off))

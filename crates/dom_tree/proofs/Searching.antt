@@ -1,20 +1,18 @@
 -- Steps along tree order by keys, and what they leave to search.
-use Rattle.std.proofs.Common.{◌≡◌, inl, ℕ, ◌<◌, Bool, true, false, List, [], ◌∷◌, ◌++◌, length, Option, Some, None, refl, sym, ap, subst, ◌∙◌, arith}
+use Rattle.std.proofs.Common.{◌≡◌, inl, ℕ, ◌<◌, Bool, false, [], ◌∷◌, ◌++◌, length, Option, Some, refl, sym, ap, subst, ◌∙◌, arith}
 use Rattle.std.proofs.Common.{suc, length-append}
 use Rattle.std.specs.Prelude.{filter}
 use Rattle.std.specs.Option.{option_map, ForSome}
-use Rattle.std.proofs.lemmas.List.{append-nil}
-use Rattle.std.proofs.lemmas.List.Elements.{filter-append}
 use Rattle.dom_base.specs.declared.NodeName.{NodeName}
 use Rattle.dom_model.specs.Names.{first_of, last_of}
-use Rattle.dom_model.specs.Tree.{Trees}
 use Rattle.dom_tree.specs.Forest.{NamedTrees, name_at}
-use Rattle.dom_traversal.specs.Within.{ahead_of, behind, from_node, up_to_node, StandsIn}
-use Rattle.dom_traversal.proofs.Lists.{In, no_first, no_last, filter-yes, filter-no, last_of-end}
-use Rattle.dom_traversal.proofs.Shapes.{above-present, below-from_above}
-use Rattle.dom_traversal.proofs.Order.{IsWithin}
-use Rattle.dom_traversal.proofs.Steps.{following_place, preceding_place}
-use Rattle.dom_traversal.proofs.Counts.{StandOnce, StandAlone, Once-forest, Has-forest, IsWithin-forest, above-within}
+use Rattle.dom_laws.specs.Within.{ahead_of, behind, from_node, up_to_node}
+use Rattle.dom_tree.specs.Within.{StandsIn}
+use Rattle.dom_laws.proofs.Lists.{In, first-miss, last-miss}
+use Rattle.dom_laws.proofs.Shapes.{above-present, below-from_above}
+use Rattle.dom_laws.proofs.Order.{IsWithin, above-within}
+use Rattle.dom_laws.proofs.Steps.{following_place, preceding_place, behind-next, ahead-previous}
+use Rattle.dom_tree.proofs.Standing.{StandOnce, StandAlone, Once-forest, Has-forest, IsWithin-forest}
 
 -- the key of a node that was found stands in the tree of another one where the node does
 pub StandsIn-found : {name : Option NodeName} (f : NamedTrees) (top : ℕ) (found : Option ℕ) → option_map (name_at f.names) found ≡ name →
@@ -25,34 +23,6 @@ StandsIn-found f top found is node inside =
       within = above-within f.trees (name_at f.names top) (name_at f.names k)
           (inside (name_at f.names k) (sym is ∙ ap (option_map (name_at f.names)) e));
     }
-
--- behind a node stands the next one, with all behind that one
-pub behind-next : (ts : Trees) (top x : NodeName) → IsWithin ts top x → (o : Option NodeName) → first_of (behind ts top x) ≡ o →
-    behind ts top x ≡ from_node ts top o
-behind-next ts top x w None e = no_first (behind ts top x) e
-behind-next ts top x w (Some y) e = (following_place ts top x y w e).1
-
--- before a node stands the previous one, with all before that one
-pub ahead-previous : (ts : Trees) (top x : NodeName) → IsWithin ts top x → (o : Option NodeName) → last_of (ahead_of ts top x) ≡ o →
-    ahead_of ts top x ≡ up_to_node ts top o
-ahead-previous ts top x w None e = no_last (ahead_of ts top x) e
-ahead-previous ts top x w (Some y) e = (preceding_place ts top x y w e).1
-
--- what a search passes
-pub first-hit : (p : NodeName → Bool) (x : NodeName) (xs : List NodeName) → p x ≡ true → first_of (filter p (x ∷ xs)) ≡ Some x
-first-hit p x xs e = ap first_of (filter-yes p x xs e)
-
--- a first node that fails is passed
-pub first-miss : (p : NodeName → Bool) (x : NodeName) (xs ys : List NodeName) → p x ≡ false → xs ≡ ys → first_of (filter p (x ∷ xs)) ≡ first_of (filter p ys)
-first-miss p x xs ys e is = ap first_of (filter-no p x xs e ∙ ap (filter p) is)
-
--- a last node that passes is found
-pub last-hit : (p : NodeName → Bool) (xs : List NodeName) (x : NodeName) → p x ≡ true → last_of (filter p (xs ++ x ∷ [])) ≡ Some x
-last-hit p xs x e = ap last_of (filter-append p xs (x ∷ []) ∙ ap (λ ys. filter p xs ++ ys) (filter-yes p x [] e)) ∙ last_of-end (filter p xs) x
-
--- one that fails is passed
-pub last-miss : (p : NodeName → Bool) (xs : List NodeName) (x : NodeName) → p x ≡ false → filter p (xs ++ x ∷ []) ≡ filter p xs
-last-miss p xs x e = filter-append p xs (x ∷ []) ∙ (ap (λ ys. filter p xs ++ ys) (filter-no p x [] e) ∙ append-nil (filter p xs))
 
 -- ---- where keys stand, and a step of a search along the whole order
 

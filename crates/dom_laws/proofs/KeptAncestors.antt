@@ -6,14 +6,15 @@ use Rattle.dom_model.specs.Names.{name_eq, is_in}
 use Rattle.dom_model.specs.Tree.{Trees, none, tree, Node, subtree, on_top, inclusive_ancestors, is_inclusive_ancestor, inclusive_descendants, parent_of}
 use Rattle.dom_model.specs.TreeChanges.{without, put_before, put_below, placed, with_node, is_given, map_nodes, change_node, change_subtree}
 use Rattle.dom_model.proofs.OwnerLaws.{name_eq-other}
-use Rattle.dom_traversal.proofs.Lists.{In, In-from, is_in-from, In-left, same_or_not, name_eq-from}
-use Rattle.dom_traversal.proofs.Shapes.{Has, Once, IsTreeOf, has_or_not, above-absent, above-present, Has-above, above-root}
-use Rattle.dom_traversal.proofs.Shapes.{subtree-present, subtree-within, Once-subtree, above-from_below, below-from_above}
-use Rattle.dom_traversal.proofs.Removal.{without-apart, above-without, above-put_others, Once-without, above-in_first, above-behind_first}
-use Rattle.dom_traversal.proofs.Chains.{above-chain}
-use Rattle.dom_tree_laws.proofs.Paths.{IsOnce, lacks_from}
-use Rattle.dom_tree_laws.proofs.Moves.{path_placed}
-use Rattle.dom_tree_laws.proofs.Relatives.{path_mapped}
+use Rattle.dom_laws.proofs.Lists.{In, In-from, is_in-from, In-left, same_or_not, name_eq-from}
+use Rattle.dom_laws.proofs.Shapes.{Has, IsTreeOf, has_or_not, above-absent, above-present, Has-above, above-root, subtree-present, subtree-within}
+use Rattle.dom_laws.proofs.Shapes.{once_apart, above-from_below, below-from_above}
+use Rattle.dom_laws.proofs.Counts.{Once, once_subtree}
+use Rattle.dom_laws.proofs.Removal.{without-apart, above-without, above-put_others, Once-without, above-in_first, above-behind_first}
+use Rattle.dom_laws.proofs.Chains.{above-chain}
+use Rattle.dom_laws.proofs.Paths.{lacks_from}
+use Rattle.dom_laws.proofs.Moves.{path_placed}
+use Rattle.dom_laws.proofs.Relatives.{path_mapped}
 
 -- whoever stands above a node still does
 abbrev pub KeepsAbove : Trees → Trees → Type 0
@@ -111,9 +112,9 @@ module _ (before : Option NodeName) (m : Node) (d : Trees) (y : NodeName) (h : H
       | inl e ↦ absurd (other e)
       | inr g ↦ elim g [
         | inl in_c ↦ In-on_top a n.name (inclusive_ancestors (put_below parent before (tree m d none) c) y) _
-            (above-put_below parent c a (record { once = o.once.3; parent_there = in_c; gone = λ j. o.gone (inr (inl j)) }) i)
-        | inr in_r ↦ beside (put_below-absent parent before (tree m d none) c (λ j. o.once.2 parent j in_r))
-            (above-put_below parent r a (record { once = o.once.4; parent_there = in_r; gone = λ j. o.gone (inr (inr j)) }) i)
+            (above-put_below parent c a (record { once = (once_apart n c r o.once).3; parent_there = in_c; gone = λ j. o.gone (inr (inl j)) }) i)
+        | inr in_r ↦ beside (put_below-absent parent before (tree m d none) c (λ j. (once_apart n c r o.once).2 parent j in_r))
+            (above-put_below parent r a (record { once = (once_apart n c r o.once).4; parent_there = in_r; gone = λ j. o.gone (inr (inr j)) }) i)
       ]
     ]))
   ]
@@ -121,7 +122,7 @@ module _ (before : Option NodeName) (m : Node) (d : Trees) (y : NodeName) (h : H
       here : n.name ≡ parent → In a (inclusive_ancestors (put_below parent before (tree m d none) (tree n c r)) y)
       here e =
           let same : put_below parent before (tree m d none) c ≡ c =
-          put_below-absent parent before (tree m d none) c (λ j. o.once.0 (subst (Has c) (sym e) j)) in
+          put_below-absent parent before (tree m d none) c (λ j. (once_apart n c r o.once).0 (subst (Has c) (sym e) j)) in
           let own : inclusive_ancestors (put_before before (tree m d none) (put_below parent before (tree m d none) c)) y ≡ inclusive_ancestors
           (tree m d none) y =
           ap (λ us. inclusive_ancestors (put_before before (tree m d none) us) y) same ∙ above-put_before c (λ j. o.gone (inr (inl j))) in
@@ -163,7 +164,7 @@ module _ (ts : Trees) (once : Once ts) (x parent : NodeName) (before : Option No
       let y_in = below-from_above ts x y once at_y j in
       let y_below : Has (subtree (subtree ts x) a) y =
       subst (λ (us : Trees). Has us y) (sym (subtree-within ts x a once at_x a_in)) (below-from_above ts a y once at_y i) in
-      let there : In a (inclusive_ancestors (subtree ts x) y) = above-from_below (subtree ts x) a y (Once-subtree ts x once at_x) a_in y_below in
+      let there : In a (inclusive_ancestors (subtree ts x) y) = above-from_below (subtree ts x) a y (once_subtree ts x once) a_in y_below in
       by (subtree-present ts x at_x) y_in there
     where
       by : IsTreeOf x (subtree ts x) → Has (subtree ts x) y → In a (inclusive_ancestors (subtree ts x) y) →
@@ -176,9 +177,9 @@ module _ (ts : Trees) (once : Once ts) (x parent : NodeName) (before : Option No
             gone = λ g. without-apart ts x y once g y_in;
           }) (subst (λ (us : Trees). In a (inclusive_ancestors us y)) t.2 there))
 
-  pub keeps_placed : IsOnce ts → KeepsAbove ts (placed x parent before ts)
-  keeps_placed single a y h = elim (cases_Bool (is_inclusive_ancestor ts x y)) [
+  pub keeps_placed : KeepsAbove ts (placed x parent before ts)
+  keeps_placed a y h = elim (cases_Bool (is_inclusive_ancestor ts x y)) [
     | inl e ↦ is_in-from a (inclusive_ancestors (placed x parent before ts) y)
         (moved_keeps a y (In-from a (inclusive_ancestors ts y) h) (In-from x (inclusive_ancestors ts y) e))
-    | inr e ↦ ap (is_in name_eq a) (path_placed ts single x parent before y (lacks_from x (inclusive_ancestors ts y) e)) ∙ h
+    | inr e ↦ ap (is_in name_eq a) (path_placed ts once x parent before y (lacks_from x (inclusive_ancestors ts y) e)) ∙ h
   ]

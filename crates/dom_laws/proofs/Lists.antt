@@ -1,7 +1,10 @@
 -- Lists of names: their members, their first places, and how they split at a name.
-use Rattle.std.proofs.Common.{◌≡◌, ◌⊎◌, inl, inr, Bool, true, false, List, [], ◌∷◌, ◌++◌, Option, Some, None, refl, sym, ap, subst, ◌∙◌, true≢false}
+use Rattle.std.proofs.Common.{◌≡◌, ◌⊎◌, inl, inr, ℕ, zero, suc, Bool, true, false, List, [], ◌∷◌, ◌++◌, drop, Option, Some, None, refl, sym, ap, subst, ◌∙◌}
+use Rattle.std.proofs.Common.{true≢false}
 use Rattle.std.specs.Prelude.{filter}
-use Rattle.std.specs.List.{last_or}
+use Rattle.std.specs.List.{last_or, AllByRecursion}
+use Rattle.std.proofs.lemmas.List.{append-nil}
+use Rattle.std.proofs.lemmas.List.Elements.{filter-append}
 use Rattle.std.proofs.lemmas.Bool.{cases_Bool, or_cases, or_left, or_right, false_from_ne_true, both_ways}
 use Rattle.dom_base.specs.declared.NodeName.{NodeName}
 use Rattle.dom_model.specs.Names.{name_eq, is_in, items_before, items_after, first_of, last_of}
@@ -180,3 +183,27 @@ no_last xs = by None xs
     by : (o : Option NodeName) (ys : List NodeName) → last_or o ys ≡ None → ys ≡ []
     by o [] e = refl
     by o (y ∷ ys) e = absurd (some y ys e)
+
+-- ---- searches
+
+-- what a search passes
+pub first-hit : (p : NodeName → Bool) (x : NodeName) (xs : List NodeName) → p x ≡ true → first_of (filter p (x ∷ xs)) ≡ Some x
+first-hit p x xs e = ap first_of (filter-yes p x xs e)
+
+-- a first node that fails is passed
+pub first-miss : (p : NodeName → Bool) (x : NodeName) (xs ys : List NodeName) → p x ≡ false → xs ≡ ys → first_of (filter p (x ∷ xs)) ≡ first_of (filter p ys)
+first-miss p x xs ys e is = ap first_of (filter-no p x xs e ∙ ap (filter p) is)
+
+-- a last node that passes is found
+pub last-hit : (p : NodeName → Bool) (xs : List NodeName) (x : NodeName) → p x ≡ true → last_of (filter p (xs ++ x ∷ [])) ≡ Some x
+last-hit p xs x e = ap last_of (filter-append p xs (x ∷ []) ∙ ap (λ ys. filter p xs ++ ys) (filter-yes p x [] e)) ∙ last_of-end (filter p xs) x
+
+-- one that fails is passed
+pub last-miss : (p : NodeName → Bool) (xs : List NodeName) (x : NodeName) → p x ≡ false → filter p (xs ++ x ∷ []) ≡ filter p xs
+last-miss p xs x e = filter-append p xs (x ∷ []) ∙ (ap (λ ys. filter p xs ++ ys) (filter-no p x [] e) ∙ append-nil (filter p xs))
+
+-- what holds of all items holds of those behind a place
+pub all_drop : (P : ℕ → Type 0) (i : ℕ) (xs : List ℕ) → AllByRecursion P xs → AllByRecursion P (drop i xs)
+all_drop P zero xs h = h
+all_drop P (suc i) [] h = tt
+all_drop P (suc i) (x ∷ xs) h = all_drop P i xs h.1

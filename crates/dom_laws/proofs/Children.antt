@@ -9,9 +9,10 @@ use Rattle.dom_base.specs.declared.NodeName.{NodeName}
 use Rattle.dom_model.specs.Names.{first_of}
 use Rattle.dom_model.specs.Tree.{Trees, none, tree, Node, nodes, names_of, roots, subtree, inclusive_ancestors, parent_of, trees_below, children_of}
 use Rattle.dom_model.specs.Tree.{inclusive_descendants}
-use Rattle.dom_traversal.proofs.Lists.{In, In-left, In-right, In-parts, Single}
-use Rattle.dom_traversal.proofs.Shapes.{Has, Once, subtree-here, subtree-below, subtree-beside, subtree-present, subtree-within, Once-subtree}
-use Rattle.dom_traversal.proofs.Shapes.{above-here, above-below, above-beside, above-present}
+use Rattle.dom_laws.proofs.Lists.{In, In-left, In-right, In-parts, Single}
+use Rattle.dom_laws.proofs.Shapes.{Has, subtree-here, subtree-below, subtree-beside, subtree-present, subtree-within, above-here, above-below}
+use Rattle.dom_laws.proofs.Shapes.{once_apart, above-beside, above-present}
+use Rattle.dom_laws.proofs.Counts.{once_parts, Once, once_subtree}
 
 -- ---- roots are the nodes with nothing above them
 
@@ -25,19 +26,19 @@ Has-root (tree n c r) x (inr i) = inr (inr (Has-root r x i))
 above-of_root : (d : Trees) (x : NodeName) → Once d → In x (names_of (roots d)) → inclusive_ancestors d x ≡ x ∷ []
 above-of_root none x once i = absurd i
 above-of_root (tree n c r) x once (inl e) = above-here n c r x (sym e)
-above-of_root (tree n c r) x once (inr i) = above-beside n c r x once (Has-root r x i) ∙ above-of_root r x once.4 i
+above-of_root (tree n c r) x once (inr i) = above-beside n c r x once (Has-root r x i) ∙ above-of_root r x (once_apart n c r once).4 i
 
 -- roots differ
 roots-single : (ts : Trees) → Once ts → Single (names_of (roots ts))
 roots-single none once = tt
-roots-single (tree n c r) once = (λ i. once.1 (Has-root r n.name i), roots-single r once.4)
+roots-single (tree n c r) once = (λ i. (once_apart n c r once).1 (Has-root r n.name i), roots-single r (once_apart n c r once).4)
 
 -- so do the children of a node
 pub children-single : (ts : Trees) (p : NodeName) → Once ts → Has ts p → Single (children_of ts p)
 children-single ts p once h =
     let w = subtree-present ts p h in
-    let below : Once (tree w.0 w.1 none) = subst Once w.2 (Once-subtree ts p once h) in
-    subst (λ (us : Trees). Single (names_of (roots (trees_below us)))) (sym w.2) (roots-single w.1 below.3)
+    let below : Once (tree w.0 w.1 none) = subst Once w.2 (once_subtree ts p once) in
+    subst (λ (us : Trees). Single (names_of (roots (trees_below us)))) (sym w.2) (roots-single w.1 (once_parts w.0 w.1 none below).below)
 
 -- a list of two items or more is none of one item
 pub two_or_more : (x : NodeName) (xs : List NodeName) (a : NodeName) → x ∷ (xs ++ a ∷ []) ≡ x ∷ [] → ⊥
@@ -51,7 +52,7 @@ root-from_above (tree n c r) x once (inl i) e = inl (sym i)
 root-from_above (tree n c r) x once (inr (inl h)) e =
     let w = above-present c x h in
     absurd (two_or_more x w.0 n.name (sym (above-below n c r x once h ∙ ap (λ path. path ++ n.name ∷ []) w.1) ∙ e))
-root-from_above (tree n c r) x once (inr (inr h)) e = inr (root-from_above r x once.4 h (sym (above-beside n c r x once h) ∙ e))
+root-from_above (tree n c r) x once (inr (inr h)) e = inr (root-from_above r x (once_apart n c r once).4 h (sym (above-beside n c r x once h) ∙ e))
 
 -- ---- a node is the parent of its children, and of no others
 
@@ -61,12 +62,14 @@ parent-of_child none p x once h i = absurd h
 parent-of_child (tree n c r) p x once (inl e) i =
     let among : In x (names_of (roots c)) = subst (λ (us : Trees). In x (names_of (roots (trees_below us)))) (subtree-here n c r p e) i in
     let below = Has-root c x among in (
-      ap (λ path. first_of (drop 1 path)) (above-below n c r x once below ∙ ap (λ path. path ++ n.name ∷ []) (above-of_root c x once.3 among)) ∙
+      ap (λ path. first_of (drop 1 path)) (above-below n c r x once below ∙
+          ap (λ path. path ++ n.name ∷ []) (above-of_root c x (once_apart n c r once).3 among)) ∙
           ap Some e,
       inr (inl below),
     )
 parent-of_child (tree n c r) p x once (inr (inl h)) i =
-    let up = parent-of_child c p x once.3 h (subst (λ (us : Trees). In x (names_of (roots (trees_below us)))) (subtree-below n c r p once h) i) in
+    let below : In x (children_of c p) = subst (λ (us : Trees). In x (names_of (roots (trees_below us)))) (subtree-below n c r p once h) i in
+    let up = parent-of_child c p x (once_apart n c r once).3 h below in
     let w = above-present c x up.1 in (
       ap (λ path. first_of (drop 1 path)) (above-below n c r x once up.1 ∙ ap (λ path. path ++ n.name ∷ []) w.1)
           ∙ longer w.0 (ap (λ path. first_of (drop 1 path)) (sym w.1) ∙ up.0),
@@ -77,7 +80,8 @@ parent-of_child (tree n c r) p x once (inr (inl h)) i =
     longer [] e = absurd (none-some p e)
     longer (a ∷ path) e = e
 parent-of_child (tree n c r) p x once (inr (inr h)) i =
-    let up = parent-of_child r p x once.4 h (subst (λ (us : Trees). In x (names_of (roots (trees_below us)))) (subtree-beside n c r p once h) i) in
+    let beside : In x (children_of r p) = subst (λ (us : Trees). In x (names_of (roots (trees_below us)))) (subtree-beside n c r p once h) i in
+    let up = parent-of_child r p x (once_apart n c r once).4 h beside in
     (ap (λ path. first_of (drop 1 path)) (above-beside n c r x once up.1) ∙ up.0, inr (inr up.1))
 
 -- what is just above x is p, with p in the trees
@@ -90,19 +94,20 @@ child-of_parent none x p once h e = absurd h
 child-of_parent (tree n c r) x p once (inl i) e = absurd (none-some p (rw (above-here n c r x i) at e))
 child-of_parent (tree n c r) x p once (inr (inl h)) e =
     let w = above-present c x h in
-    by (child-of_parent c x p once.3 h) w.0 w.1
+    by (child-of_parent c x p (once_apart n c r once).3 h) w.0 w.1
     (ap (λ path. first_of (drop 1 path)) (sym (above-below n c r x once h ∙ ap (λ path. path ++ n.name ∷ []) w.1)) ∙ e)
   where
     by : (parent_of c x ≡ Some p → HasParent c x p) → (path : List NodeName) → inclusive_ancestors c x ≡ x ∷ path →
         first_of (path ++ n.name ∷ []) ≡ Some p → HasParent (tree n c r) x p
     by deeper [] is f =
         let same : n.name ≡ p = same_Some _ _ f in
-        (inl same, subst (λ (us : Trees). In x (names_of (roots (trees_below us)))) (sym (subtree-here n c r p same)) (root-from_above c x once.3 h is))
+        let below = root-from_above c x (once_apart n c r once).3 h is in
+        (inl same, subst (λ (us : Trees). In x (names_of (roots (trees_below us)))) (sym (subtree-here n c r p same)) below)
     by deeper (q ∷ path) is f =
         let up = deeper (ap (λ l. first_of (drop 1 l)) is ∙ f) in
         (inr (inl up.0), subst (λ (us : Trees). In x (names_of (roots (trees_below us)))) (sym (subtree-below n c r p once up.0)) up.1)
 child-of_parent (tree n c r) x p once (inr (inr h)) e =
-    let up = child-of_parent r x p once.4 h (ap (λ path. first_of (drop 1 path)) (sym (above-beside n c r x once h)) ∙ e) in
+    let up = child-of_parent r x p (once_apart n c r once).4 h (ap (λ path. first_of (drop 1 path)) (sym (above-beside n c r x once h)) ∙ e) in
     (inr (inr up.0), subst (λ (us : Trees). In x (names_of (roots (trees_below us)))) (sym (subtree-beside n c r p once up.0)) up.1)
 
 -- ---- the names of trees
@@ -138,9 +143,12 @@ Single-append (x ∷ xs) ys s t apart = (
 pub Single-names : (ts : Trees) → Once ts → Single (names_of (nodes ts))
 Single-names none once = tt
 Single-names (tree n c r) once = subst Single (sym (names-tree n c r)) (
-  λ i. elim (In-parts n.name (names_of (nodes c)) (names_of (nodes r)) i) [ inl j ↦ once.0 (Has-names c n.name j) | inr j ↦ once.1 (Has-names r n.name j) ],
-  Single-append (names_of (nodes c)) (names_of (nodes r)) (Single-names c once.3) (Single-names r once.4)
-      (λ x i j. once.2 x (Has-names c x i) (Has-names r x j)),
+  λ i. elim (In-parts n.name (names_of (nodes c)) (names_of (nodes r)) i) [
+    | inl j ↦ (once_apart n c r once).0 (Has-names c n.name j)
+    | inr j ↦ (once_apart n c r once).1 (Has-names r n.name j)
+  ],
+  Single-append (names_of (nodes c)) (names_of (nodes r)) (Single-names c (once_apart n c r once).3) (Single-names r (once_apart n c r once).4)
+      (λ x i j. (once_apart n c r once).2 x (Has-names c x i) (Has-names r x j)),
 )
 
 -- ---- the names below a node, child by child
@@ -166,7 +174,7 @@ names-roots (tree n c r) once =
     flat_map-same (inclusive_descendants (tree n c r)) (inclusive_descendants r) (names_of (roots r))
     (λ y i. ap (λ (us : Trees). names_of (nodes us)) (subtree-beside n c r y once (Has-root r y i))) in
     names-tree n c r
-    ∙ (ap (λ xs. n.name ∷ (names_of (nodes c) ++ xs)) (names-roots r once.4 ∙ sym others)
+    ∙ (ap (λ xs. n.name ∷ (names_of (nodes c) ++ xs)) (names-roots r (once_apart n c r once).4 ∙ sym others)
     ∙ (ap (λ xs. xs ++ flat_map (inclusive_descendants (tree n c r)) (names_of (roots r))) (sym first)
     ∙ sym (flat_map-cons (inclusive_descendants (tree n c r)) n.name (names_of (roots r)))))
 
@@ -178,7 +186,7 @@ descendants-children ts p once h = by (subtree-present ts p h)
     by : (n : Node) × (c : Trees) × (subtree ts p ≡ tree n c none) × (n.name ≡ p) →
         inclusive_descendants ts p ≡ p ∷ flat_map (inclusive_descendants ts) (children_of ts p)
     by w =
-        let inner : Once (tree w.0 w.1 none) = subst Once w.2 (Once-subtree ts p once h) in
+        let inner : Once (tree w.0 w.1 none) = subst Once w.2 (once_subtree ts p once) in
         let here : inclusive_descendants ts p ≡ p ∷ names_of (nodes w.1) =
         ap (λ (us : Trees). names_of (nodes us)) w.2 ∙
         (names-tree w.0 w.1 none ∙ (ap (λ xs. w.0.name ∷ xs) (append-nil (names_of (nodes w.1))) ∙ ap (λ x. x ∷ names_of (nodes w.1)) w.3)) in
@@ -190,4 +198,4 @@ descendants-children ts p once h = by (subtree-present ts p h)
         (sym (subtree-below w.0 w.1 none y inner below) ∙
         (ap (λ (us : Trees). subtree us y) (sym w.2) ∙
         subtree-within ts p y once h (subst (λ (us : Trees). Has us y) (sym w.2) (inr (inl below)))))) in
-        here ∙ ap (λ xs. p ∷ xs) (names-roots w.1 inner.3 ∙ (same ∙ ap (flat_map (inclusive_descendants ts)) (sym kids)))
+        here ∙ ap (λ xs. p ∷ xs) (names-roots w.1 (once_parts w.0 w.1 none inner).below ∙ (same ∙ ap (flat_map (inclusive_descendants ts)) (sym kids)))

@@ -7,11 +7,12 @@ use Rattle.std.proofs.lemmas.List.Elements.{filter-append}
 use Rattle.dom_base.specs.declared.NodeName.{NodeName}
 use Rattle.dom_model.specs.Names.{name_eq, items_before, items_after}
 use Rattle.dom_model.specs.Tree.{Trees, none, tree, nodes, names_of, subtree, inclusive_ancestors, children_of, inclusive_descendants, is_inclusive_ancestor}
-use Rattle.dom_traversal.specs.Within.{ahead_of, behind, beyond}
-use Rattle.dom_traversal.proofs.Lists.{In, Single, Single-right, Single-apart, is_in-from, is_in-not, before-split, after-split, filter-none, filter-all}
-use Rattle.dom_traversal.proofs.Shapes.{Has, Once, has_or_not, subtree-here, subtree-below, subtree-beside, subtree-within, Once-subtree, Has-subtree}
-use Rattle.dom_traversal.proofs.Shapes.{above-absent, above-from_below, below-from_above}
-use Rattle.dom_traversal.proofs.Children.{names-tree, In-names, Has-names, Single-names, descendants-children}
+use Rattle.dom_laws.specs.Within.{ahead_of, behind, beyond}
+use Rattle.dom_laws.proofs.Lists.{In, Single, Single-right, Single-apart, is_in-from, is_in-not, before-split, after-split, filter-none, filter-all}
+use Rattle.dom_laws.proofs.Shapes.{Has, has_or_not, subtree-here, subtree-below, subtree-beside, subtree-within, Has-subtree, above-absent}
+use Rattle.dom_laws.proofs.Shapes.{once_apart, above-from_below, below-from_above}
+use Rattle.dom_laws.proofs.Counts.{Once, once_subtree}
+use Rattle.dom_laws.proofs.Children.{names-tree, In-names, Has-names, Single-names, descendants-children}
 
 -- the tree of x stands in the list of all nodes
 abbrev Split : List NodeName → List NodeName → Type 0
@@ -27,7 +28,7 @@ split-names (tree n c r) x once (inl e) =
       names-tree n c r ∙ ap (λ xs. xs ++ names_of (nodes r)) (sym (here ∙ ap (λ xs. n.name ∷ xs) (append-nil (names_of (nodes c))))),
     )
 split-names (tree n c r) x once (inr (inl h)) =
-    let w = split-names c x once.3 h in
+    let w = split-names c x (once_apart n c r once).3 h in
     let here = ap (λ (us : Trees). names_of (nodes us)) (subtree-below n c r x once h) in
     let part = inclusive_descendants c x in (
       n.name ∷ w.0,
@@ -38,7 +39,7 @@ split-names (tree n c r) x once (inr (inl h)) =
           ∙ ap (λ xs. n.name ∷ (w.0 ++ (xs ++ (w.1 ++ names_of (nodes r))))) (sym here))),
     )
 split-names (tree n c r) x once (inr (inr h)) =
-    let w = split-names r x once.4 h in
+    let w = split-names r x (once_apart n c r once).4 h in
     let here = ap (λ (us : Trees). names_of (nodes us)) (subtree-beside n c r x once h) in
     let part = inclusive_descendants r x in (
       n.name ∷ (names_of (nodes c) ++ w.0),
@@ -82,7 +83,7 @@ module _ (ts : Trees) (top x : NodeName) (w : IsWithin ts top x) where
 
   -- no node of the tree of top stands twice
   pub all_single : Single (inclusive_descendants ts top)
-  all_single = Single-names (subtree ts top) (Once-subtree ts top w.once w.top_stands)
+  all_single = Single-names (subtree ts top) (once_subtree ts top w.once)
 
   -- the tree of x is x and what is below it
   pub here : inclusive_descendants ts x ≡ x ∷ below ts x
@@ -110,7 +111,7 @@ module _ (ts : Trees) (top x : NodeName) (w : IsWithin ts top x) where
   -- and so it splits
   pub splits : inclusive_descendants ts top ≡ ahead_of ts top x ++ (inclusive_descendants ts x ++ beyond ts top x)
   splits =
-      let s = split-names (subtree ts top) x (Once-subtree ts top w.once w.top_stands) w.stands in
+      let s = split-names (subtree ts top) x (once_subtree ts top w.once) w.stands in
       let same : inclusive_descendants (subtree ts top) x ≡ inclusive_descendants ts x =
       ap (λ (us : Trees). names_of (nodes us)) (subtree-within ts top x w.once w.top_stands w.stands) in
       let e : inclusive_descendants ts top ≡ s.0 ++ (inclusive_descendants ts x ++ s.1) = s.2 ∙ ap (λ xs. s.0 ++ (xs ++ s.1)) same in
@@ -120,3 +121,7 @@ module _ (ts : Trees) (top x : NodeName) (w : IsWithin ts top x) where
   -- what is behind x: first what is below it
   pub behind_is : behind ts top x ≡ below ts x ++ beyond ts top x
   behind_is = (split_is (ahead_of ts top x) (beyond ts top x) splits).1
+
+-- it has that node as an inclusive ancestor
+pub above-within : (ts : Trees) (top x : NodeName) → IsWithin ts top x → is_inclusive_ancestor ts top x ≡ true
+above-within ts top x w = is_in-from top (inclusive_ancestors ts x) (above-from_below ts top x w.once w.top_stands w.stands)

@@ -6,11 +6,11 @@ use Rattle.dom_base.specs.declared.NodeName.{NodeName}
 use Rattle.dom_model.specs.Names.{name_eq, first_of, last_of, items_before}
 use Rattle.dom_model.specs.Tree.{Trees, none, tree, inclusive_ancestors, is_inclusive_ancestor, inclusive_descendants}
 use Rattle.dom_model.proofs.OwnerLaws.{name_eq-other}
-use Rattle.dom_traversal.specs.Within.{ahead_of, behind, beyond}
-use Rattle.dom_traversal.proofs.Lists.{In, In-left, In-right, In-parts, Single, Single-apart, same_or_not, name_eq-from, before-split}
-use Rattle.dom_traversal.proofs.Lists.{no_last, last_split}
-use Rattle.dom_traversal.proofs.Shapes.{Has, Once, Has-above, above-here, above-below, above-beside}
-use Rattle.dom_traversal.proofs.Order.{IsWithin, all_single, here, below, splits, outside-test}
+use Rattle.dom_laws.specs.Within.{ahead_of, behind, beyond}
+use Rattle.dom_laws.proofs.Lists.{In, In-left, In-right, In-parts, Single, Single-apart, same_or_not, name_eq-from, before-split, no_last, last_split}
+use Rattle.dom_laws.proofs.Shapes.{Has, Has-above, above-here, above-below, above-beside, once_apart}
+use Rattle.dom_laws.proofs.Counts.{Once}
+use Rattle.dom_laws.proofs.Order.{IsWithin, all_single, here, below, splits, outside-test}
 
 -- the items before a member of the first of two lists
 before-left : (a : NodeName) (xs ys : List NodeName) → In a xs → items_before name_eq a (xs ++ ys) ≡ items_before name_eq a xs
@@ -39,13 +39,13 @@ above-split (tree n c r) a x once (inr (inl h)) i =
     elim (In-parts a path (n.name ∷ []) (subst (In a) whole i)) [
       | inl j ↦
           whole
-          ∙ (ap (λ xs. xs ++ n.name ∷ []) (above-split c a x once.3 h j)
+          ∙ (ap (λ xs. xs ++ n.name ∷ []) (above-split c a x (once_apart n c r once).3 h j)
           ∙ (append_assoc (items_before name_eq a path) (inclusive_ancestors c a) (n.name ∷ [])
-          ∙ (ap (λ xs. items_before name_eq a path ++ xs) (sym (above-below n c r a once (Has-above c a x once.3 h j)))
+          ∙ (ap (λ xs. items_before name_eq a path ++ xs) (sym (above-below n c r a once (Has-above c a x (once_apart n c r once).3 h j)))
           ∙ ap (λ xs. xs ++ inclusive_ancestors (tree n c r) a) (sym (ap (items_before name_eq a) whole ∙ before-left a path (n.name ∷ []) j)))))
       | inr j ↦ elim j [
         | inl same ↦
-            let off : In a path → ⊥ = λ k. once.0 (subst (Has c) same (Has-above c a x once.3 h k)) in
+            let off : In a path → ⊥ = λ k. (once_apart n c r once).0 (subst (Has c) same (Has-above c a x (once_apart n c r once).3 h k)) in
             whole
             ∙ (ap (λ xs. path ++ xs) (ap (λ y. y ∷ []) (sym same) ∙ sym (above-here n c r a (sym same)))
             ∙ ap (λ xs. xs ++ inclusive_ancestors (tree n c r) a)
@@ -57,8 +57,8 @@ above-split (tree n c r) a x once (inr (inr h)) i =
     let whole = above-beside n c r x once h in
     let j = subst (In a) whole i in
     whole
-    ∙ (above-split r a x once.4 h j
-    ∙ (ap (λ xs. items_before name_eq a (inclusive_ancestors r x) ++ xs) (sym (above-beside n c r a once (Has-above r a x once.4 h j)))
+    ∙ (above-split r a x (once_apart n c r once).4 h j
+    ∙ (ap (λ xs. items_before name_eq a (inclusive_ancestors r x) ++ xs) (sym (above-beside n c r a once (Has-above r a x (once_apart n c r once).4 h j)))
     ∙ ap (λ xs. items_before name_eq a xs ++ inclusive_ancestors (tree n c r) a) (sym whole)))
 
 -- of two members one comes first

@@ -1,9 +1,8 @@
 -- The nodes of a tree around one of them, in tree order.
-use Rattle.std.specs.Prelude.{◌≡◌, ℕ, ◌<◌, true, length, not, List, [], ◌∷◌, ◌++◌, filter, Option, Some, None}
+use Rattle.std.specs.Prelude.{not, List, [], ◌∷◌, ◌++◌, filter, Option, Some, None}
 use Rattle.dom_base.specs.declared.NodeName.{NodeName}
-use Rattle.dom_model.specs.Names.{name_eq, is_in, items_before, items_after}
-use Rattle.dom_model.specs.Tree.{Trees, ancestors, inclusive_descendants, is_inclusive_ancestor}
-use Rattle.dom_tree.specs.Forest.{NamedTrees, name_at}
+use Rattle.dom_model.specs.Names.{name_eq, items_before, items_after}
+use Rattle.dom_model.specs.Tree.{Trees, inclusive_descendants, is_inclusive_ancestor}
 
 -- the nodes of the tree of `top` before x
 abbrev pub ahead_of : Trees → NodeName → NodeName → List NodeName
@@ -31,13 +30,3 @@ up_to_node ts top (Some x) = ahead_of ts top x ++ x ∷ []
 abbrev pub up_to_tree : Trees → NodeName → Option NodeName → List NodeName
 up_to_tree ts top None = []
 up_to_tree ts top (Some x) = ahead_of ts top x ++ inclusive_descendants ts x
-
--- a key of a node in the tree of another one
-pub record StandsIn (f : NamedTrees) (top key : ℕ) : Type 0 where
-  pub node : key < length f.names
-  pub within : is_inclusive_ancestor f.trees (name_at f.names top) (name_at f.names key) ≡ true
-
--- a key of a node below another one
-pub record StandsBelow (f : NamedTrees) (top key : ℕ) : Type 0 where
-  pub node : key < length f.names
-  pub below : is_in name_eq (name_at f.names top) (ancestors f.trees (name_at f.names key)) ≡ true

@@ -7,11 +7,12 @@ use Rattle.dom_model.specs.Names.{name_eq, name_before}
 use Rattle.dom_model.specs.Tree.{Trees, none, tree, Node, subtree, on_top, inclusive_ancestors, is_inclusive_ancestor}
 use Rattle.dom_model.specs.TreeChanges.{without, put_root, taken_out}
 use Rattle.dom_model.proofs.OwnerLaws.{name_eq-other}
-use Rattle.dom_traversal.proofs.Lists.{In, In-from, is_in-from, same_or_not, name_eq-from}
-use Rattle.dom_traversal.proofs.Shapes.{Has, Once, IsTreeOf, has_or_not, subtree-here, subtree-below, subtree-beside, subtree-absent, subtree-present}
-use Rattle.dom_traversal.proofs.Shapes.{subtree-within, Has-subtree, Once-subtree, above-here, above-beside, above-absent, above-present}
-use Rattle.dom_traversal.proofs.Shapes.{above-from_below, below-from_above}
-use Rattle.dom_traversal.proofs.Order.{IsWithin, stands_in}
+use Rattle.dom_laws.proofs.Lists.{In, In-from, is_in-from, same_or_not, name_eq-from}
+use Rattle.dom_laws.proofs.Shapes.{Has, IsTreeOf, has_or_not, subtree-here, subtree-below, subtree-beside, subtree-absent, subtree-present}
+use Rattle.dom_laws.proofs.Shapes.{once_apart, subtree-within, Has-subtree, above-here, above-beside, above-absent, above-present, above-from_below}
+use Rattle.dom_laws.proofs.Shapes.{once_joined, below-from_above}
+use Rattle.dom_laws.proofs.Counts.{Once, once_subtree}
+use Rattle.dom_laws.proofs.Order.{IsWithin, stands_in}
 
 -- what is left stood there before
 pub Has-without : (ts : Trees) (x y : NodeName) → Has (without x ts) y → Has ts y
@@ -28,16 +29,18 @@ Has-without (tree n c r) x y h = elim (same_or_not n.name x) [
 
 -- those that are left stand once too
 pub Once-without : (ts : Trees) (x : NodeName) → Once ts → Once (without x ts)
-Once-without none x once = tt
+Once-without none x once = once
 Once-without (tree n c r) x once = elim (same_or_not n.name x) [
-  | inl e ↦ rw (name_eq-from n.name x e) (Once-without r x once.4)
-  | inr other ↦ rw (name_eq-other n.name x other) (
-    λ h. once.0 (Has-without c x n.name h),
-    λ h. once.1 (Has-without r x n.name h),
-    λ y h i. once.2 y (Has-without c x y h) (Has-without r x y i),
-    Once-without c x once.3,
-    Once-without r x once.4,
-  )
+  | inl e ↦ rw (name_eq-from n.name x e) (Once-without r x (once_apart n c r once).4)
+  | inr other ↦
+      let apart = once_apart n c r once in
+      rw (name_eq-other n.name x other) (once_joined n (without x c) (without x r) (
+        λ h. apart.0 (Has-without c x n.name h),
+        λ h. apart.1 (Has-without r x n.name h),
+        λ y h i. apart.2 y (Has-without c x y h) (Has-without r x y i),
+        Once-without c x apart.3,
+        Once-without r x apart.4,
+      ))
 ]
 
 -- where the tree of x is
@@ -61,35 +64,37 @@ without-apart (tree n c r) x y once h i = elim (place_of n c r x) [
   | inr p ↦ elim p [
     | inl at ↦
         let in_c : Has (subtree c x) y = subst (λ (us : Trees). Has us y) (subtree-below n c r x once at) i in
-        below (λ e. once.0 (subst (Has c) (sym e) at)) (Has-subtree c x y once.3 in_c) (λ g. without-apart c x y once.3 g in_c)
+        let apart = once_apart n c r once in
+        below (λ e. apart.0 (subst (Has c) (sym e) at)) (Has-subtree c x y apart.3 in_c) (λ g. without-apart c x y apart.3 g in_c)
     | inr q ↦ elim q [
       | inl at ↦
           let in_r : Has (subtree r x) y = subst (λ (us : Trees). Has us y) (subtree-beside n c r x once at) i in
-          beside (λ e. once.1 (subst (Has r) (sym e) at)) (Has-subtree r x y once.4 in_r) (λ g. without-apart r x y once.4 g in_r)
+          let apart = once_apart n c r once in
+          beside (λ e. apart.1 (subst (Has r) (sym e) at)) (Has-subtree r x y apart.4 in_r) (λ g. without-apart r x y apart.4 g in_r)
       | inr off ↦ subst (λ (us : Trees). Has us y) (subtree-absent (tree n c r) x off) i
     ]
   ]
 ]
   where
     here : n.name ≡ x → Has (without x r) y → Has (tree n c none) y → ⊥
-    here e g (inl j) = once.1 (subst (Has r) (sym j) (Has-without r x y g))
-    here e g (inr (inl j)) = once.2 y j (Has-without r x y g)
+    here e g (inl j) = (once_apart n c r once).1 (subst (Has r) (sym j) (Has-without r x y g))
+    here e g (inr (inl j)) = (once_apart n c r once).2 y j (Has-without r x y g)
     here e g (inr (inr j)) = j
 
     below : (n.name ≡ x → ⊥) → Has c y → (Has (without x c) y → ⊥) → ⊥
     below other in_c apart = by (rw (name_eq-other n.name x other) at h)
       where
         by : (n.name ≡ y) ⊎ (Has (without x c) y ⊎ Has (without x r) y) → ⊥
-        by (inl e) = once.0 (subst (Has c) (sym e) in_c)
+        by (inl e) = (once_apart n c r once).0 (subst (Has c) (sym e) in_c)
         by (inr (inl g)) = apart g
-        by (inr (inr g)) = once.2 y in_c (Has-without r x y g)
+        by (inr (inr g)) = (once_apart n c r once).2 y in_c (Has-without r x y g)
 
     beside : (n.name ≡ x → ⊥) → Has r y → (Has (without x r) y → ⊥) → ⊥
     beside other in_r apart = by (rw (name_eq-other n.name x other) at h)
       where
         by : (n.name ≡ y) ⊎ (Has (without x c) y ⊎ Has (without x r) y) → ⊥
-        by (inl e) = once.1 (subst (Has r) (sym e) in_r)
-        by (inr (inl g)) = once.2 y (Has-without c x y g) in_r
+        by (inl e) = (once_apart n c r once).1 (subst (Has r) (sym e) in_r)
+        by (inr (inl g)) = (once_apart n c r once).2 y (Has-without c x y g) in_r
         by (inr (inr g)) = apart g
 
 -- a tree that x is not in has none of x
@@ -108,7 +113,7 @@ above-without (tree n c r) x y once (inr (inl g)) off = elim (same_or_not n.name
   | inl e ↦ absurd (off (subst (λ (us : Trees). Has us y) (sym (subtree-here n c r x e)) (inr (inl g))))
   | inr other ↦
       rw (name_eq-other n.name x other)
-      (by (above-without c x y once.3 g (λ i. elim (has_or_not c x)
+      (by (above-without c x y (once_apart n c r once).3 g (λ i. elim (has_or_not c x)
       [ inl at ↦ off (subst (λ (us : Trees). Has us y) (sym (subtree-below n c r x once at)) i) | inr away ↦ no-subtree c x y away i ])))
 ]
   where
@@ -116,25 +121,27 @@ above-without (tree n c r) x y once (inr (inl g)) off = elim (same_or_not n.name
         inclusive_ancestors (tree n (without x c) (without x r)) y ≡ inclusive_ancestors (tree n c r) y
     by same =
         let w = above-present c y g in
-        rw (name_eq-other n.name y (λ e. once.0 (subst (Has c) (sym e) g)))
+        rw (name_eq-other n.name y (λ e. (once_apart n c r once).0 (subst (Has c) (sym e) g)))
         (ap (λ path. on_top path n.name (inclusive_ancestors (without x r) y)) (same ∙ w.1) ∙
         sym (ap (λ path. on_top path n.name (inclusive_ancestors r y)) w.1))
 above-without (tree n c r) x y once (inr (inr g)) off = elim (same_or_not n.name x) [
   | inl e ↦
       rw (name_eq-from n.name x e)
-      (above-without r x y once.4 g (λ i. no-subtree r x y (λ at. once.1 (subst (Has r) (sym e) at)) i) ∙ sym (above-beside n c r y once g))
+      (above-without r x y (once_apart n c r once).4 g (λ i. no-subtree r x y (λ at. (once_apart n c r once).1 (subst (Has r) (sym e) at)) i) ∙
+      sym (above-beside n c r y once g))
   | inr other ↦
       rw (name_eq-other n.name x other)
-      (by (above-without r x y once.4 g (λ i. elim (has_or_not r x)
+      (by (above-without r x y (once_apart n c r once).4 g (λ i. elim (has_or_not r x)
       [ inl at ↦ off (subst (λ (us : Trees). Has us y) (sym (subtree-beside n c r x once at)) i) | inr away ↦ no-subtree r x y away i ])))
 ]
   where
     by : inclusive_ancestors (without x r) y ≡ inclusive_ancestors r y →
         inclusive_ancestors (tree n (without x c) (without x r)) y ≡ inclusive_ancestors (tree n c r) y
     by same =
-        rw (name_eq-other n.name y (λ e. once.1 (subst (Has r) (sym e) g)))
-        (ap (λ path. on_top path n.name (inclusive_ancestors (without x r) y)) (above-absent (without x c) y (λ i. once.2 y (Has-without c x y i) g))
-        ∙ (same ∙ sym (ap (λ path. on_top path n.name (inclusive_ancestors r y)) (above-absent c y (λ i. once.2 y i g)))))
+        rw (name_eq-other n.name y (λ e. (once_apart n c r once).1 (subst (Has r) (sym e) g)))
+        (ap (λ path. on_top path n.name (inclusive_ancestors (without x r) y))
+        (above-absent (without x c) y (λ i. (once_apart n c r once).2 y (Has-without c x y i) g))
+        ∙ (same ∙ sym (ap (λ path. on_top path n.name (inclusive_ancestors r y)) (above-absent c y (λ i. (once_apart n c r once).2 y i g)))))
 
 -- above a node of the first of some trees
 pub above-in_first : (m : Node) (d ts : Trees) (y : NodeName) → Has (tree m d none) y →
@@ -196,7 +203,7 @@ stays {ts} {top} {y} x at_x w left = by (subtree-present ts x at_x) (has_or_not 
         let above_y : is_inclusive_ancestor ts x y ≡ true = is_in-from x (inclusive_ancestors ts y) (above-from_below ts x y w.once at_x i) in
         let above_top : is_inclusive_ancestor ts x top ≡ true = true_from_ne_false _ (λ e. both_ways _ (left e) above_y) in
         let at_top = below-from_above ts x top w.once w.top_stands (In-from x (inclusive_ancestors ts top) above_top) in
-        above-from_below (subtree ts x) top y (Once-subtree ts x w.once at_x) at_top
+        above-from_below (subtree ts x) top y (once_subtree ts x w.once) at_top
         (subst (λ (us : Trees). Has us y) (sym (subtree-within ts x top w.once at_x at_top)) w.stands)
 
     by : IsTreeOf x (subtree ts x) → Has (subtree ts x) y ⊎ (Has (subtree ts x) y → ⊥) → is_inclusive_ancestor (taken_out x ts) top y ≡ true

@@ -1,21 +1,17 @@
 -- What taking a tree out and placing it do to the inclusive ancestors of other nodes.
-use Rattle.std.proofs.Common.{◌≡◌, ℕ, zero, suc, ◌≤◌, ◌⊎◌, inl, inr, true, false, cond, List, [], ◌∷◌, drop, Option, None, refl, sym, ap, subst, ◌∙◌, arith}
+use Rattle.std.proofs.Common.{◌≡◌, ◌≤◌, ◌⊎◌, inl, inr, true, false, cond, List, [], ◌∷◌, drop, Option, None, refl, sym, ap, subst, ◌∙◌, arith}
 use Rattle.std.proofs.lemmas.Bool.{cases_Bool, cond-true, cond-false}
 use Rattle.dom_base.specs.declared.NodeName.{NodeName}
 use Rattle.dom_model.specs.Names.{name_eq, name_before, first_of}
 use Rattle.dom_model.specs.Tree.{Trees, none, tree, Node, subtree, or_else, on_top, inclusive_ancestors, parent_of, times_in}
 use Rattle.dom_model.specs.TreeChanges.{without, followed_by, put_before, put_below, put_root, taken_out, placed, is_given}
 use Rattle.dom_model.proofs.OwnerLaws.{name_eq-true}
-use Rattle.dom_tree.proofs.Once.{times_in-none, times_in-tree, one-true, one-false}
-use Rattle.dom_tree_laws.proofs.Paths.{Lacks, lacks_front, lacks_back, lacks_both, apart_not, swapped, IsOnce, once_parts, times_none, path_here}
-use Rattle.dom_tree_laws.proofs.Paths.{path_after, path_below, path_none, path_gone, path_lacks, path_head, times_or_else, times_subtree}
-use Rattle.dom_tree_laws.proofs.Paths.{path_without}
+use Rattle.dom_laws.proofs.Counts.{times_in-none, times_in-tree, one-true, one-false, Once, once_parts, times_none, times_or_else, times_subtree}
+use Rattle.dom_laws.proofs.Counts.{none_or_some}
+use Rattle.dom_laws.proofs.Paths.{Lacks, lacks_front, lacks_back, lacks_both, apart_not, swapped, path_here, path_after, path_below, path_none}
+use Rattle.dom_laws.proofs.Paths.{path_gone, path_lacks, path_head, path_without}
 
 -- ---- below a node that is not above y, nothing is above y
-
-pub none_or_some : (n : ℕ) → (n ≡ 0) ⊎ (1 ≤ n)
-none_or_some zero = inl refl
-none_or_some (suc n) = inr (omega arith)
 
 -- A tree in front of others whose root is x, which is not above y.
 module _ (n : Node) (c r : Trees) (x y : NodeName) (lacks : Lacks x (inclusive_ancestors (tree n c r) y)) (g : name_eq n.name x ≡ true) where
@@ -63,7 +59,7 @@ module _ (x y z : NodeName) where
             (swapped n.name z apart, tt))
 
   -- what is in the tree of x is not above y, where x is not
-  pub below_lacks : (ts : Trees) → IsOnce ts → Lacks x (inclusive_ancestors ts y) → 1 ≤ times_in (subtree ts x) z → Lacks z (inclusive_ancestors ts y)
+  pub below_lacks : (ts : Trees) → Once ts → Lacks x (inclusive_ancestors ts y) → 1 ≤ times_in (subtree ts x) z → Lacks z (inclusive_ancestors ts y)
   below_lacks none once lacks there = tt
   below_lacks (tree n c r) once lacks there =
       let parts = once_parts n c r once in
@@ -87,7 +83,7 @@ module _ (x y z : NodeName) where
       ]
 
 -- so y is not below it
-pub path_below_none : (ts : Trees) → IsOnce ts → (x y : NodeName) → Lacks x (inclusive_ancestors ts y) → inclusive_ancestors (subtree ts x) y ≡ []
+pub path_below_none : (ts : Trees) → Once ts → (x y : NodeName) → Lacks x (inclusive_ancestors ts y) → inclusive_ancestors (subtree ts x) y ≡ []
 path_below_none ts once x y lacks = elim (none_or_some (times_in (subtree ts x) y)) [
   | inl e ↦ path_none (subtree ts x) y e
   | inr there ↦ let within = times_subtree ts x y in by_path (inclusive_ancestors ts y) refl (below_lacks x y y ts once lacks there) (omega arith)
@@ -149,7 +145,7 @@ path_put_below parent before new (tree n c r) y e =
 -- ---- the steps
 
 -- Of a node x: what it is not above stays.
-module _ (ts : Trees) (once : IsOnce ts) (x : NodeName) where
+module _ (ts : Trees) (once : Once ts) (x : NodeName) where
   -- it leaves its parent
   pub path_taken : (y : NodeName) → Lacks x (inclusive_ancestors ts y) → inclusive_ancestors (taken_out x ts) y ≡ inclusive_ancestors ts y
   path_taken y lacks = path_put_root x (subtree ts x) (without x ts) y (path_below_none ts once x y lacks) ∙ path_without ts x y lacks

@@ -1,13 +1,13 @@
 -- The inclusive ancestors of a node, in trees where each name stands once: how they hang together, and which changes of
 -- trees keep them.
-use Rattle.std.proofs.Common.{◌≡◌, ◌≢◌, ◌+◌, ◌≤◌, inl, inr, true, false, List, [], ◌∷◌, ◌++◌, refl, sym, ap, subst, ◌∙◌, arith, true≢false}
+use Rattle.std.proofs.Common.{◌≡◌, ◌≢◌, ◌+◌, inl, inr, true, false, List, [], ◌∷◌, ◌++◌, refl, sym, ap, subst, ◌∙◌, arith, true≢false}
 use Rattle.std.proofs.lemmas.Bool.{cases_Bool, cond-true, cond-false, or_parts, or_from}
 use Rattle.dom_base.specs.declared.NodeName.{NodeName}
 use Rattle.dom_model.specs.Names.{name_eq, is_in}
 use Rattle.dom_model.specs.Tree.{Trees, none, tree, Node, subtree, or_else, on_top, inclusive_ancestors, times_in}
 use Rattle.dom_model.specs.TreeChanges.{without}
-use Rattle.dom_model.proofs.OwnerLaws.{name_eq-same, name_eq-true, name_eq-turned}
-use Rattle.dom_tree.proofs.Once.{one, times_in-none, times_in-tree, one-true, one-false}
+use Rattle.dom_model.proofs.OwnerLaws.{name_eq-true, name_eq-turned}
+use Rattle.dom_laws.proofs.Counts.{times_in-none, times_in-tree, one-false, times_none}
 
 -- ---- names that a list has not
 
@@ -43,42 +43,6 @@ apart_not x y e h = absurd (true≢false (sym e ∙ h))
 pub swapped : (x y : NodeName) → name_eq x y ≡ false → name_eq y x ≡ false
 swapped x y e = name_eq-turned y x ∙ e
 
--- ---- how often a name stands in trees
-
-abbrev pub IsOnce : Trees → Type 0
-IsOnce ts = (x : NodeName) → times_in ts x ≤ 1
-
--- a root, what is below it and what is after it
-pub record OncePart (n : Node) (c r : Trees) : Type 0 where
-  pub below : (x : NodeName) → times_in c x ≤ 1
-  pub after : (x : NodeName) → times_in r x ≤ 1
-  pub apart : (x : NodeName) → times_in c x + times_in r x ≤ 1
-  pub root_below : times_in c n.name ≡ 0
-  pub root_after : times_in r n.name ≡ 0
-
-pub once_parts : (n : Node) (c r : Trees) → ((x : NodeName) → times_in (tree n c r) x ≤ 1) → OncePart n c r
-once_parts n c r once =
-    let root : one (name_eq n.name n.name) ≡ 1 = one-true _ (name_eq-same n.name) in
-    record {
-      below = λ x. let a = times_in-tree n c r x in let b = once x in omega arith;
-      after = λ x. let a = times_in-tree n c r x in let b = once x in omega arith;
-      apart = λ x. let a = times_in-tree n c r x in let b = once x in omega arith;
-      root_below = let a = times_in-tree n c r n.name in let b = once n.name in omega arith;
-      root_after = let a = times_in-tree n c r n.name in let b = once n.name in omega arith;
-    }
-
--- trees without a name
-pub times_none : (n : Node) (c r : Trees) (x : NodeName) → times_in (tree n c r) x ≡ 0 → (name_eq n.name x ≡ false) × (times_in c x ≡ 0) × (times_in r x ≡ 0)
-times_none n c r x e =
-    let a = times_in-tree n c r x in (
-      elim (cases_Bool (name_eq n.name x)) [
-        | inl h ↦ let b = one-true _ h in absurd (omega arith)
-        | inr h ↦ h
-      ],
-      omega arith,
-      omega arith,
-    )
-
 -- ---- the inclusive ancestors
 
 -- A tree in front of others, and a name.
@@ -104,6 +68,11 @@ path_none none x e = refl
 path_none (tree n c r) x e =
     let parts = times_none n c r x e in
     path_after n c r x parts.0 (path_none c x parts.1) ∙ path_none r x parts.2
+
+-- nor a tree
+pub subtree_gone : (ts : Trees) (x : NodeName) → times_in ts x ≡ 0 → subtree ts x ≡ none
+subtree_gone none x e = refl
+subtree_gone (tree n c r) x e = let gone = times_none n c r x e in rw (gone.0, subtree_gone c x gone.1) (subtree_gone r x gone.2)
 
 -- a name that has some is there
 pub path_some : (ts : Trees) (x a : NodeName) (path : List NodeName) → inclusive_ancestors ts x ≡ a ∷ path → times_in ts x ≢ 0
@@ -158,19 +127,6 @@ path_head (tree n c r) x a path is = elim (cases_Bool (name_eq n.name x)) [
 pub path_or_else : (ts us : Trees) (x : NodeName) → inclusive_ancestors ts x ≡ [] → inclusive_ancestors us x ≡ [] → inclusive_ancestors (or_else ts us) x ≡ []
 path_or_else none us x e h = h
 path_or_else (tree n c r) us x e h = e
-
-pub times_or_else : (ts us : Trees) (x : NodeName) → times_in (or_else ts us) x ≤ times_in ts x + times_in us x
-times_or_else none us x = omega arith
-times_or_else (tree n c r) us x = omega arith
-
-pub times_subtree : (ts : Trees) (x y : NodeName) → times_in (subtree ts x) y ≤ times_in ts y
-times_subtree none x y = omega arith
-times_subtree (tree n c r) x y =
-    let a = times_in-tree n c r y in
-    elim (cases_Bool (name_eq n.name x)) [
-      | inl h ↦ let b = times_in-tree n c none y in let z = times_in-none y in rw h (omega arith)
-      | inr h ↦ let b = times_subtree c x y in let d = times_subtree r x y in let e = times_or_else (subtree c x) (subtree r x) y in rw h (omega arith)
-    ]
 
 -- trees without the tree of x: the others stand as they stood
 pub path_without : (ts : Trees) (x y : NodeName) → Lacks x (inclusive_ancestors ts y) → inclusive_ancestors (without x ts) y ≡ inclusive_ancestors ts y

@@ -7,12 +7,12 @@ use Rattle.std.proofs.lemmas.Grind.{flat_map-append}
 use Rattle.dom_base.specs.declared.NodeName.{NodeName}
 use Rattle.dom_model.specs.Names.{name_eq, first_of, last_of, items_before, items_after}
 use Rattle.dom_model.specs.Tree.{Trees, subtree, inclusive_ancestors, parent_of, children_of, inclusive_descendants, next_sibling, previous_sibling, siblings}
-use Rattle.dom_traversal.specs.Within.{ahead_of, behind, beyond}
-use Rattle.dom_traversal.proofs.Lists.{In, In-left, In-right, Single, Single-apart, no_first, no_last, first_split, last_split, split_at}
-use Rattle.dom_traversal.proofs.Lists.{before-split, after-split, before-in, after-in}
-use Rattle.dom_traversal.proofs.Shapes.{above-present, above-parent, above-root, above-from_below, below-from_above}
-use Rattle.dom_traversal.proofs.Children.{In-names, Has-names, parent-of_child, child-of_parent}
-use Rattle.dom_traversal.proofs.Order.{IsWithin, joined, below, stands_in, all_single, here, split_is, splits}
+use Rattle.dom_laws.specs.Within.{ahead_of, behind, beyond, from_node, up_to_node}
+use Rattle.dom_laws.proofs.Lists.{In, In-left, In-right, Single, Single-apart, no_first, no_last, first_split, last_split, split_at, before-split}
+use Rattle.dom_laws.proofs.Lists.{after-split, before-in, after-in}
+use Rattle.dom_laws.proofs.Shapes.{above-present, above-parent, above-root, above-from_below, below-from_above}
+use Rattle.dom_laws.proofs.Children.{In-names, Has-names, parent-of_child, child-of_parent}
+use Rattle.dom_laws.proofs.Order.{IsWithin, joined, below, stands_in, all_single, here, split_is, splits}
 
 -- ---- who stands within the tree of top
 
@@ -249,3 +249,15 @@ preceding_place ts top x y w e =
     ordered ts top x w ∙ (ap (λ xs. xs ++ x ∷ behind ts top x) s.1 ∙ append_assoc s.0 (y ∷ []) (x ∷ behind ts top x)) in
     let apart : In y s.0 → ⊥ = λ i. Single-apart y s.0 (y ∷ (x ∷ behind ts top x)) (subst Single whole (all_single ts top x w)) i (inl refl) in
     (inside, s.1 ∙ ap (λ xs. xs ++ y ∷ []) (sym (ap (items_before name_eq y) whole ∙ before-split y s.0 (x ∷ behind ts top x) apart)))
+
+-- behind a node stands the next one, with all behind that one
+pub behind-next : (ts : Trees) (top x : NodeName) → IsWithin ts top x → (o : Option NodeName) → first_of (behind ts top x) ≡ o →
+    behind ts top x ≡ from_node ts top o
+behind-next ts top x w None e = no_first (behind ts top x) e
+behind-next ts top x w (Some y) e = (following_place ts top x y w e).1
+
+-- before a node stands the previous one, with all before that one
+pub ahead-previous : (ts : Trees) (top x : NodeName) → IsWithin ts top x → (o : Option NodeName) → last_of (ahead_of ts top x) ≡ o →
+    ahead_of ts top x ≡ up_to_node ts top o
+ahead-previous ts top x w None e = no_last (ahead_of ts top x) e
+ahead-previous ts top x w (Some y) e = (preceding_place ts top x y w e).1

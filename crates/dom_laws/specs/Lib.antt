@@ -1,0 +1,2 @@
+-- Unmarked: own rules, in which laws of trees are said.
+pub mod Within
