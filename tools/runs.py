@@ -9,12 +9,16 @@ import re
 import subprocess
 from dataclasses import dataclass, field
 
+import beside
+
 PROGRAM = os.path.join(os.path.dirname(os.path.abspath(__file__)), "..", "crates", "domrun", "out", "domrun")
 LISTEN = re.compile(r"(\S+) listen (\S+) (\S+) (\S+) \S+( capture)?")
 DISPATCH = re.compile(r"(\S+) dispatch (\S+) (\S+)(.*)")
 EVENT = re.compile(r"(\S+) event (\S+) (\S+) phase=(\d) target=(\S+) current=(\S+) related=(\S+) path=\[(.*)\]")
 WORD = re.compile(r'"(?:[^"\\]|\\.)*"|[^\s()"]+="(?:[^"\\]|\\.)*"|[()]|[^\s()"]+')
 PROBE = "look"
+# The command that asks where a range, an iterator or a walker stands, by the first letter of its name.
+PLACE_WORDS = {"r": "range-get", "i": "iter-at", "w": "walk-at"}
 
 
 class Fault(Exception):
@@ -48,11 +52,13 @@ class Node:
 
 @dataclass
 class State:
-    """What there is behind a line: of each owner its trees and what is assigned to its slots, and what the turn's end prints."""
+    """What there is behind a line: of each owner its trees, what is assigned to its slots, and where its ranges, iterators and walkers
+    stand, by their names; and what the turn's end prints."""
 
     trees: dict
     assigned: dict
     names: dict
+    places: dict
     ending: list
 
 
@@ -182,27 +188,29 @@ class Script:
         told = answers[count:]
         return told, [line for answer in told for line in answer.effects] + ending
 
+    def answered(self, count, questions):
+        """Each question of an owner with what it is answered behind so many lines, and what the end of the open turn printed."""
+        owners = list(self.owners(count))
+        questions = sorted(questions, key=lambda question: owners.index(question[0]))
+        told, ending = self.ask(count, in_turns(owners, questions))
+        return list(zip(questions, without_turns(told, owners, questions))), ending
+
     def state(self, count):
         """What there is behind so many lines."""
-        owners = list(self.owners(count))
-        asked = [(owner, f"{prefix_of(owner)}{number}") for owner in owners for number in range(self.counts[owner])]
-        told, ending = self.ask(count, in_turns(owners, [(owner, f"parent {name}") for owner, name in asked]))
-        there = [(owner, name, answer.value()) for (owner, name), answer in zip(asked, without_turns(told, owners, asked))
-                 if answer.is_accepted()]
-        roots = [(owner, name) for owner, name, parent in there if parent == "null"]
-        questions = [(owner, f"tree {name}") for owner, name in roots]
-        questions += [(owner, f"assigned {name}") for owner, name, _ in there if owner != "p"]
-        questions.sort(key=lambda question: owners.index(question[0]))
-        told, _ = self.ask(count, in_turns(owners, questions))
-        state = State({owner: [] for owner in owners}, {owner: {} for owner in owners}, {owner: [] for owner in owners}, ending)
-        for owner, name, _ in there:
-            state.names[owner].append(name)
-        for (owner, question), answer in zip(questions, without_turns(told, owners, questions)):
-            word, name = question.split(" ")
-            if word == "tree":
-                state.trees[owner].append(answer.value())
-            elif answer.is_accepted():
-                state.assigned[owner][name] = answer.value().strip("[]").split(",") if answer.value() != "[]" else []
+        owners = self.owners(count)
+        names = [(owner, f"{prefix_of(owner)}{number}") for owner in owners for number in range(self.counts[owner])]
+        parents, ending = self.answered(count, [(owner, f"parent {name}") for owner, name in names])
+        state = State(*({owner: kind() for owner in owners} for kind in (list, dict, list, dict)), ending)
+        questions = [(owner, f"{PLACE_WORDS[name[0]]} {name}") for owner, name in beside.things(self, count)]
+        for (owner, question), answer in parents:
+            name = question.split(" ")[1]
+            if answer.is_accepted():
+                state.names[owner].append(name)
+                questions += [(owner, f"tree {name}")] if answer.value() == "null" else []
+                questions += [(owner, f"assigned {name}")] if owner != "p" else []
+        for (owner, question), answer in self.answered(count, questions)[0]:
+            if answer.is_accepted():
+                put_answer(state, owner, *question.split(" "), answer.value())
         return state
 
     def events(self, count, state):
@@ -225,6 +233,16 @@ class Script:
         visits = [EVENT.fullmatch(line) for line in told[-1].effects]
         visits = [visit for visit in visits if visit and visit.group(2) == PROBE and visit.group(3) == of_type]
         return [event_of(of_type, visits)]
+
+
+def put_answer(state, owner, word, name, value):
+    """Puts the answer to a question about what has this name into a state."""
+    if word == "tree":
+        state.trees[owner].append(value)
+    elif word == "assigned":
+        state.assigned[owner][name] = value.strip("[]").split(",") if value != "[]" else []
+    else:
+        state.places[owner][name] = [whole_name(owner, it) for it in value.split(" ")]
 
 
 def in_turns(owners, questions):
@@ -274,8 +292,8 @@ def fired_event(of_type, slot, paths):
 
 
 def fired_events(lines):
-    """The events that the end of a turn fired, from the lines that tell of them: each is a `slotchange` at a slot. It stays in its tree, but
-    for the trees inside whose slots it comes through; so the paths of its lines are all of it, where somebody hears it in each of them."""
+    """The events that the end of a turn fired, from the lines that tell of them: each is a `slotchange` at a slot. It stays in its tree,
+    but for the trees inside whose slots it comes through. So the paths of its lines are all of it, if somebody hears it in each of them."""
     paths = {}
     for line in lines:
         visit = EVENT.fullmatch(line)
