@@ -1,177 +1,85 @@
-"""The picture of the crates: each stands above what it stands on. Made from crates.txt alone.
+"""The picture of the crates, in groups: a box stands on the rows below it. crates.txt says what each crate uses, and is compared."""
+import textwrap
 
-The crates are put in layers. An arrow that passes a layer has a place of its own there, between the crates, so that none is drawn
-behind a box. The places in a layer are put in an order that makes few arrows cross, and then moved so that the arrows are short.
-"""
 import svg
 
-WIDTH, HEIGHT, BEND, APART, DOWN = 184, 46, 10, 16, 48
-HEAD, PULL = 66, 0.82
+# The rows from the top, each with its groups: what a group is called, what it is for, and its crates.
+ROWS = (
+    (("the program", "reads lines, writes answers", ("domrun",)), ("the library for C", "sessions behind handles", ("dom_c",)),
+     ("tests and callers", "what scripts cannot show", ("dom_tests", "dom_layer_tests", "dom_callers"))),
+    (("the engine", "sessions, runs, and the theorems about runs", ("dom_engine",)),),
+    (("commands", "what a line does: who may pass, the handlers, listeners, the ends of turns",
+      ("dom_admission", "dom_node_commands", "dom_query_commands", "dom_range_commands", "dom_observer_commands", "dom_commands")),),
+    (("documents", "the Standard's mutation algorithms over all that owners have",
+      ("dom_cursors", "dom_node_trees", "dom_parts", "dom_algorithms", "dom_mutation", "dom_range_ops")),),
+    (("beside the trees", "cursors, selectors, ranges, slots, observers, event paths",
+      ("dom_traversal", "dom_selectors", "dom_ranges", "dom_slots", "dom_observers", "dom_microtasks", "dom_path", "dom_dispatch",
+       "dom_tree_laws")),
+     ("lines", "bytes to commands, answers to text",
+      ("dom_words", "dom_reader", "dom_printer", "dom_streams", "dom_program"))),
+    (("trees", "nodes in memory, attributes, the forest of all owners", ("node_arena", "dom_attributes", "dom_tree")),
+     ("laws", "proved of the definitions, without code", ("dom_worlds", "dom_isolation", "dom_families", "dom_examples"))),
+    (("the meaning", "the definitions after the DOM Standard, and the text of the protocol", ("dom_base", "dom_model", "dom_text")),),
+)
+WIDTH, LEFT, APART, HEAD, LETTER = 880, 24, 14, 66, 7.1
 
 
-def crates_of(path):
-    """The crates of crates.txt, each with what it stands on in this repository, and with the words of the comment above it."""
-    below, said, comment = {}, {}, ""
+def uses_of(path):
+    """What each crate of crates.txt uses of this repository."""
     with open(path, encoding="utf-8") as file:
-        for row in file:
-            row = row.strip()
-            if row.startswith("#"):
-                comment = row[1:].strip()
-            elif ":" in row:
-                name, _, names = row.partition(":")
-                name = name.split()[0]
-                below[name], said[name], comment = names.split(), comment, ""
-    return {name: [it for it in names if it in below] for name, names in below.items()}, said
+        rows = [row.partition(":") for row in file if ":" in row and not row.startswith("#")]
+    known = {name.split()[0]: names.split() for name, _, names in rows}
+    return {name: [it for it in names if it in known] for name, names in known.items()}
 
 
-def nearest(below):
-    """What each crate stands on and nothing between them does."""
-    reached = {}
-
-    def reach(name):
-        if name not in reached:
-            reached[name] = set(below[name]).union(*(reach(it) for it in below[name]))
-        return reached[name]
-
-    return {name: [it for it in names if not any(it in reach(other) for other in names)] for name, names in below.items()}
-
-
-def levels_of(below):
-    """The number of each crate's layer: one above the highest of what it stands on."""
-    level = {}
-
-    def level_of(name):
-        if name not in level:
-            level[name] = 1 + max((level_of(it) for it in below[name]), default=-1)
-        return level[name]
-
-    for name in below:
-        level_of(name)
-    return level
+def check(uses):
+    """Raises an error where a crate is in no group or in two, or uses one that stands neither in its group nor below."""
+    place = {}
+    for number, row in enumerate(ROWS):
+        for title, _, crates in row:
+            for crate in crates:
+                if crate in place or crate not in uses:
+                    raise ValueError(f"{crate} is in two groups of the picture, or is no crate")
+                place[crate] = (number, title)
+    for crate, names in uses.items():
+        if crate not in place:
+            raise ValueError(f"{crate} is in no group of the picture")
+        for name in names:
+            if place[name][0] <= place[crate][0] and place[name] != place[crate]:
+                raise ValueError(f"{crate} uses {name}, which does not stand below it in the picture")
 
 
-class Layers:
-    """The layers with the crates and the bends of arrows. A bend is named by its arrow and its layer."""
-
-    def __init__(self, below):
-        self.level = levels_of(below)
-        self.layers = [[] for _ in range(max(self.level.values()) + 1)]
-        self.up, self.down, self.arrows = {}, {}, []
-        for name, number in self.level.items():
-            self.layers[number].append(name)
-        for name, names in nearest(below).items():
-            for it in names:
-                self.add_arrow(name, it)
-        self.place = {}
-
-    def add_arrow(self, name, below):
-        """An arrow from a crate to one below it, with a bend in each layer between them."""
-        bends = [(name, below, number) for number in range(self.level[name] - 1, self.level[below], -1)]
-        row = [name, *bends, below]
-        for bend in bends:
-            self.layers[bend[2]].append(bend)
-        for upper, lower in zip(row, row[1:]):
-            self.down.setdefault(upper, []).append(lower)
-            self.up.setdefault(lower, []).append(upper)
-        self.arrows.append(row)
-
-    def crossings(self):
-        """How many pairs of arrows cross between two layers."""
-        index = {it: number for layer in self.layers for number, it in enumerate(layer)}
-        count = 0
-        for layer in self.layers:
-            ends = [(index[it], index[lower]) for it in layer for lower in self.down.get(it, [])]
-            count += sum((a - c) * (b - d) < 0 for place, (a, b) in enumerate(ends) for c, d in ends[:place])
-        return count
-
-    def put_in_order(self):
-        """The order with the fewest crossings among those that are met by sorting each layer by the middle of its neighbours."""
-        best, least = [list(layer) for layer in self.layers], self.crossings()
-        for turn in range(60):
-            joined, layers = (self.down, self.layers) if turn % 2 == 0 else (self.up, self.layers[::-1])
-            for before, layer in zip(layers, layers[1:]):
-                index = {it: number for number, it in enumerate(before)}
-                old = {it: number * len(before) / len(layer) for number, it in enumerate(layer)}
-
-                def middle(it):
-                    places = [index[other] for other in joined.get(it, []) if other in index]
-                    return sum(places) / len(places) if places else old[it]
-
-                layer.sort(key=middle)
-            if self.crossings() < least:
-                best, least = [list(layer) for layer in self.layers], self.crossings()
-        self.layers = best
-
-    def put_in_place(self):
-        """The middle of each crate and bend from left to right, near the middle of its neighbours and never too near another. All
-        are drawn a little to the picture's middle, so that it stays narrow."""
-        for layer in self.layers:
-            for number, it in enumerate(layer):
-                self.place[it] = (number - (len(layer) - 1) / 2) * (WIDTH / 2 + APART)
-        for _ in range(80):
-            for layer in self.layers:
-                wanted = []
-                for it in layer:
-                    near = [self.place[other] for other in self.up.get(it, []) + self.down.get(it, [])]
-                    wanted.append(PULL * sum(near) / len(near) if near else PULL * self.place[it])
-                for it, place in zip(layer, spread(wanted, [width_of(it) for it in layer])):
-                    self.place[it] = place
-        left = min(place - width_of(it) / 2 for it, place in self.place.items())
-        self.place = {it: place - left + 24 for it, place in self.place.items()}
+def box_parts(group, left, top, width, height):
+    """The box of a group."""
+    title, says, crates = group
+    left_edge = left + 14
+    parts = [svg.box(left, top, width, height), svg.text(left_edge, top + 22, title, "strong")]
+    parts.append(svg.text(left_edge, top + 39, says, "soft small"))
+    rows = names_in_rows(crates, width)
+    return parts + [svg.text(left_edge, top + 58 + 16 * number, row, "mono small") for number, row in enumerate(rows)]
 
 
-def width_of(it):
-    return WIDTH if isinstance(it, str) else BEND
-
-
-def spread(wanted, widths):
-    """Places in this order near the wanted ones, no two nearer than their widths: half way between pushing right and left."""
-    gaps = [(a + b) / 2 + APART for a, b in zip(widths, widths[1:])]
-    right, left = list(wanted), list(wanted)
-    for number, gap in enumerate(gaps):
-        right[number + 1] = max(right[number + 1], right[number] + gap)
-    for number in range(len(gaps) - 1, -1, -1):
-        left[number] = min(left[number], left[number + 1] - gaps[number])
-    return [(a + b) / 2 for a, b in zip(right, left)]
-
-
-def rows_of(words, most):
-    """Words in at most two rows of about so many letters."""
-    rows = [""]
-    for word in words.split():
-        if rows[-1] and len(rows[-1]) + len(word) > most:
-            rows.append("")
-        rows[-1] = f"{rows[-1]} {word}".strip()
-    return rows if len(rows) <= 2 else [rows[0], rows[1] + " .."]
-
-
-def crate_box(name, said, middle, top):
-    """The box of a crate, with its name and what it is for."""
-    rows = rows_of(said, 30)
-    parts = [f"<g><title>{svg.escape(f'{name}: {said}')}</title>", svg.box(middle - WIDTH / 2, top, WIDTH, HEIGHT)]
-    parts.append(svg.text(middle, top + (16 if len(rows) == 2 else 20), name, "mono strong middle"))
-    parts += [svg.text(middle, top + (29 if len(rows) == 2 else 35) + 12 * number, row, "soft tiny middle") for number, row in enumerate(rows)]
-    return parts + ["</g>"]
+def names_in_rows(crates, width):
+    """The names of crates, in rows that fit into a width."""
+    return textwrap.wrap("  ".join(crates), int((width - 28) / LETTER))
 
 
 def crates_picture(path):
     """The picture, from the path of crates.txt."""
-    below, said = crates_of(path)
-    layers = Layers(below)
-    layers.put_in_order()
-    layers.put_in_place()
-    count = len(layers.layers)
-    top = {it: HEAD + (count - 1 - number) * (HEIGHT + DOWN) for number, layer in enumerate(layers.layers) for it in layer}
-    parts = [svg.text(24, 28, "The crates, each above what it stands on", "strong"),
-             svg.text(24, 48, "An arrow that follows from others is left out.", "soft small")]
-    for row in layers.arrows:
-        points = [(layers.place[row[0]], top[row[0]] + HEIGHT)]
-        for bend in row[1:-1]:
-            points += [(layers.place[bend], top[bend]), (layers.place[bend], top[bend] + HEIGHT)]
-        points.append((layers.place[row[-1]], top[row[-1]] - 2))
-        parts.append(svg.curves(points, "edge", "to"))
-    for name in below:
-        parts += crate_box(name, said[name], layers.place[name], top[name])
-    width = max(place + width_of(it) / 2 for it, place in layers.place.items()) + 24
-    title = f"{len(below)} crates in {count} layers, each above what it stands on."
-    return svg.picture(width, HEAD + count * (HEIGHT + DOWN) - DOWN + 24, "The crates", title, parts)
+    uses = uses_of(path)
+    check(uses)
+    parts = [svg.text(LEFT, 28, f"The {len(uses)} crates, in groups", "strong"),
+             svg.text(LEFT, 48, "A group stands on the rows below it, and uses nothing beside or above it.", "soft small")]
+    top = HEAD
+    for row in ROWS:
+        shares = [max(3, len(crates)) for _, _, crates in row]
+        room = WIDTH - 2 * LEFT - APART * (len(row) - 1)
+        widths = [room * share / sum(shares) for share in shares]
+        height = 52 + 16 * max(len(names_in_rows(crates, width)) for (_, _, crates), width in zip(row, widths))
+        left = LEFT
+        for group, width in zip(row, widths):
+            parts += box_parts(group, left, top, width, height)
+            left += width + APART
+        top += height + APART
+    said = "; ".join(f"{title}: {', '.join(crates)}" for row in ROWS for title, _, crates in row)
+    return svg.picture(WIDTH, top + 10, "The crates, in groups that stand on each other", said, parts)

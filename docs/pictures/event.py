@@ -1,12 +1,13 @@
-"""The picture of a closed tree and of two events: their whole paths, and what the page and the component are shown of them.
+"""The picture of a closed tree and of the events that pass it: their whole paths, and what the page and the component are shown of them.
 
-All of it is what the program answers to the lines of event.in: the trees by `tree`, the paths by listeners on every node.
+The script is the first one in README.md. All of it is what the program answers: the trees by `tree`, the paths by listeners on every node.
 """
 import os
 import sys
 
 HERE = os.path.dirname(os.path.abspath(__file__))
 sys.path.insert(0, os.path.join(HERE, "..", "..", "tools"))
+import pages  # noqa: E402
 import runs  # noqa: E402
 import svg  # noqa: E402
 
@@ -36,11 +37,21 @@ def chip(x, y, name, below, owner, look=""):
             svg.text(x, y + 27, below, "soft tiny middle")]
 
 
+def names_in(node, owner):
+    """The whole names of a node and of those below it."""
+    return {runs.whole_name(owner, node.name)}.union(*(names_in(child, owner) for child in node.children))
+
+
+def tree_with(texts, owner, wanted):
+    """The first tree of an owner that has one of the wanted nodes."""
+    return next(tree for tree in map(runs.tree_of, texts) if names_in(tree, owner) & wanted)
+
+
 def tree_parts(state, hosts, assigned):
-    """The page's tree and the closed tree beside it."""
+    """The page's tree with the host, and the closed tree beside it."""
     found, left, parts = {}, 90, []
-    for owner, trees in state.trees.items():
-        tree = runs.tree_of(trees[0])
+    for owner, texts in state.trees.items():
+        tree = tree_with(texts, owner, {*hosts.values(), f"{owner}:m0"})
         wide = places_of(tree, left, 84 if owner == "p" else 84 + DOWN, owner, found)
         if owner != "p":
             deep = 1 + max(y for name, (_, y, _) in found.items() if runs.owner_of(name) == owner)
@@ -86,22 +97,21 @@ def event_parts(event, line, found, top):
     return parts, top + 18 + len(rows) * 48 + 30
 
 
-def event_picture(program):
-    """The picture, from runs of the program."""
-    with open(os.path.join(HERE, "event.in"), encoding="ascii") as file:
-        script = runs.Script(runs.Program(program), file.read().split("\n")[:-1])
+def event_picture(program, page):
+    """The picture, from runs of the program on the first script of a page."""
+    script = runs.Script(runs.Program(program), pages.blocks_of(page)[0].lines)
     count = len(script.lines)
     state = script.state(count)
     hosts = {owner: host for owner, host in script.owners(count).items() if host}
     assigned = {runs.whole_name(owner, slot): nodes for owner, slots in state.assigned.items() for slot, nodes in slots.items()}
     drawn, found, bottom = tree_parts(state, hosts, assigned)
-    parts = [svg.text(24, 28, "A closed tree, and what is shown of the events that pass it", "strong"),
-             svg.text(24, 48, "Trees and paths as the program answers them to the lines of docs/pictures/event.in.", "soft small"), *drawn]
+    parts = [svg.text(24, 28, "The trees of the script, and what is shown of its event", "strong"),
+             svg.text(24, 48, "As the program answers it. Blue is the page's, brown the component's.", "soft small"), *drawn]
     top, longest = bottom + 60, 0
     for number in range(count):
         for event in script.events(number, script.state(number)):
             drawn, top = event_parts(event, script.lines[number], found, top)
             parts += drawn
             longest = max(longest, len(event.items))
-    said = "The page is shown neither a node of the closed tree nor that there is one on the path; the component sees its own nodes and the page's."
-    return svg.picture(240 + longest * (CHIP + 18) - CHIP / 2 + 6, top - 10, "A closed tree and two events", said, parts)
+    said = "The page is shown no node of the closed tree; the component sees its own nodes and the page's."
+    return svg.picture(240 + longest * (CHIP + 18) - CHIP / 2 + 6, top - 10, "A closed tree and an event", said, parts)

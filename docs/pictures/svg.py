@@ -2,19 +2,20 @@
 from html import escape
 
 STYLE = """
-  svg { --back: #ffffff; --ink: #1b2130; --soft: #525b6e; --line: #b6bfce; --box: #f6f7f9; --page: #1f5fbf; --inside: #a8480c; --third: #1d7340; --off: #6b7280; }
+  svg { --back: #ffffff; --ink: #1b2130; --soft: #525b6e; --line: #b6bfce; --box: #f6f7f9; --page: #1f5fbf; --inside: #a8480c;
+    --third: #1d7340; --off: #6b7280; }
   @media (prefers-color-scheme: dark) {
-    svg { --back: #12151c; --ink: #e7eaf1; --soft: #a9b2c3; --line: #4c566a; --box: #1b202b; --page: #8ab4f8; --inside: #f0a36b; --third: #7fd1a0; --off: #8d96a8; }
+    svg { --back: #12151c; --ink: #e7eaf1; --soft: #a9b2c3; --line: #4c566a; --box: #1b202b; --page: #8ab4f8; --inside: #f0a36b;
+      --third: #7fd1a0; --off: #8d96a8; }
   }
   text { font: 14px system-ui, "Segoe UI", "DejaVu Sans", sans-serif; fill: var(--ink); }
   .mono { font-family: ui-monospace, Menlo, Consolas, "DejaVu Sans Mono", monospace; font-size: 13px; }
-  .soft { fill: var(--soft); } .small { font-size: 12px; } .tiny { font-size: 10.5px; } .strong { font-weight: 600; } .middle { text-anchor: middle; } .end { text-anchor: end; }
+  .soft { fill: var(--soft); } .small { font-size: 12px; } .tiny { font-size: 10.5px; } .strong { font-weight: 600; }
+  .middle { text-anchor: middle; } .end { text-anchor: end; }
   .back { fill: var(--back); } .box { fill: var(--box); stroke: var(--line); } .edge { fill: none; stroke: var(--line); stroke-width: 1.3; }
   .page { fill: var(--page); } .inside { fill: var(--inside); } .third { fill: var(--third); } .off { fill: var(--off); }
   .page-edge { fill: none; stroke: var(--page); stroke-width: 1.8; } .inside-edge { fill: none; stroke: var(--inside); stroke-width: 1.8; }
-  .third-edge { fill: none; stroke: var(--third); stroke-width: 1.8; } .off-edge { fill: none; stroke: var(--off); stroke-dasharray: 4 3; } .dashed { stroke-dasharray: 5 4; }
-  .page-mark { fill: none; stroke: var(--page); } .inside-mark { fill: none; stroke: var(--inside); } .third-mark { fill: none; stroke: var(--third); }
-  .off-mark { fill: none; stroke: var(--off); } .page-mark, .inside-mark, .third-mark, .off-mark { stroke-width: 1.6; }
+  .off-edge { fill: none; stroke: var(--off); stroke-dasharray: 4 3; } .dashed { stroke-dasharray: 5 4; }
   svg .chip { fill: var(--back); } .thick { stroke-width: 3.4; }
 """
 
@@ -27,16 +28,6 @@ def text(x, y, words, look=""):
 def box(x, y, width, height, look="box", round_by=6):
     """A rectangle with round corners."""
     return f'<rect x="{x:.1f}" y="{y:.1f}" width="{width:.1f}" height="{height:.1f}" rx="{round_by}" class="{look}"/>'
-
-
-def dot(x, y, radius, look):
-    """A circle around a place."""
-    return f'<circle cx="{x:.1f}" cy="{y:.1f}" r="{radius}" class="{look}"/>'
-
-
-def shape(points, look):
-    """A closed shape with these corners."""
-    return f'<polygon points="{" ".join(f"{x:.1f},{y:.1f}" for x, y in points)}" class="{look}"/>'
 
 
 def line(points, look="edge", arrow=""):
@@ -65,6 +56,7 @@ def picture(width, height, title, said, parts):
     """A whole picture: `title` and `said` are what a reader who does not see it is told."""
     heads = "".join(arrow_head(name, look) for name, look in (("to", "soft"), ("to-page", "page"), ("to-inside", "inside")))
     body = "\n".join(parts)
-    return (f'<svg xmlns="http://www.w3.org/2000/svg" width="{width:.0f}" height="{height:.0f}" viewBox="0 0 {width:.0f} {height:.0f}" role="img" '
+    size = f'width="{width:.0f}" height="{height:.0f}" viewBox="0 0 {width:.0f} {height:.0f}"'
+    return (f'<svg xmlns="http://www.w3.org/2000/svg" {size} role="img" '
             f'aria-labelledby="t d">\n<title id="t">{escape(title)}</title>\n<desc id="d">{escape(said)}</desc>\n<style>{STYLE}</style>\n'
             f"<defs>{heads}</defs>\n{box(0, 0, width, height, 'back', 0)}\n{body}\n</svg>\n")

@@ -50,8 +50,8 @@ def sources_of(root, crate):
 
 
 def station(x, y, name, crate, said):
-    return [svg.box(x, y, WIDTH, HEIGHT), svg.text(x + 14, y + 22, name, "mono strong"), svg.text(x + WIDTH - 14, y + 22, crate, "mono page end"),
-            svg.text(x + 14, y + 45, said, "soft small")]
+    return [svg.box(x, y, WIDTH, HEIGHT), svg.text(x + 14, y + 22, name, "mono strong"),
+            svg.text(x + WIDTH - 14, y + 22, crate, "mono page end"), svg.text(x + 14, y + 45, said, "soft small")]
 
 
 def way_picture(root):
@@ -71,8 +71,10 @@ def way_picture(root):
         parts += station(RIGHT, y, name, crate_of(root, item, ""), said)
         parts.append(svg.line([(LEFT + WIDTH, top[4] + HEIGHT / 2), (RIGHT - 3, y + HEIGHT / 2)], "edge", "to"))
     parts.append(svg.text(RIGHT, top[3] + 40, "each step tells", "soft small"))
-    parts.append(svg.line([(LEFT + WIDTH, top[3] + 16), (RIGHT + 120, top[3] + 16), (RIGHT + 120, top[2] + HEIGHT + 2)], "page-edge", "to-page"))
+    corner = RIGHT + 120
+    parts.append(svg.line([(LEFT + WIDTH, top[3] + 16), (corner, top[3] + 16), (corner, top[2] + HEIGHT + 2)], "page-edge", "to-page"))
     parts.append(svg.line([(RIGHT + 120, top[2]), (RIGHT + 120, top[1] + HEIGHT + 2)], "page-edge", "to-page"))
     parts.append(svg.text(RIGHT + 132, top[2] - 12, "p ok", "mono small"))
-    said = "A line goes from the source through the reader, the machine, the document and the forest to the arena, and its answer through the printer to the sink."
+    said = ("A line goes from the source through the reader, the machine, the document and the forest to the arena, "
+            "and its answer through the printer to the sink.")
     return svg.picture(RIGHT + WIDTH + 30, top[-1] + HEIGHT + 26, "One line's way through the crates", said, parts)
