@@ -1,4 +1,4 @@
-"""What the references to the DOM Standard in comments name: sections, and names of these sections. tools/sources.py says how one is written,
+"""What the references to the DOM Standard in comments name: sections, and names of these. tools/sources.py says how one is written,
 tools/sections.py has the Standard's sections and names."""
 import re
 

@@ -233,12 +233,15 @@ ABSENT = {
     "Kinds of nodes": "doctypes, processing instructions, CDATA sections, attributes as nodes of their own",
     "Shadow trees": "open shadow roots, manual slot assignment, `delegatesFocus`, clonable, "
     "serializable and declarative shadow roots, `onslotchange`; registries of custom elements",
-    "Custom elements": "definitions, upgrades, and all custom element reactions; a name of a custom element is only a name that a host may have",
-    "Mutation": "the steps that other standards add where a node is inserted, removed, moved or adopted, or its children or attributes change; "
-    "`moveBefore()`; `append()`, `prepend()`, `before()`, `after()`, `replaceChildren()` and `replaceWith()` of several nodes and strings",
+    "Custom elements": "definitions, upgrades, and all custom element reactions; a name of a custom element is only a name that a host "
+    "may have",
+    "Mutation": "the steps that other standards add where a node is inserted, removed, moved or adopted, or its children or attributes "
+    "change; `moveBefore()`; `append()`, `prepend()`, `before()`, `after()`, `replaceChildren()` and `replaceWith()` of several nodes "
+    "and strings",
     "Node": "cloning (`extract` alone clones, one node at a time) and importing, `isEqualNode()`, `compareDocumentPosition()`, `baseURI`, "
     "`nodeName`, `lookupPrefix()` and its like",
-    "Document": "type, mode, encoding, content type, URL and origin; `DOMImplementation`; `createEvent()`; documents of HTML, so names keep their case",
+    "Document": "type, mode, encoding, content type, URL and origin; `DOMImplementation`; `createEvent()`; documents of HTML, so names "
+    "keep their case",
     "Element": "`id`, `className`, `slot` and `classList` as properties (the attributes are there), `toggleAttribute()`, "
     "`insertAdjacentElement()` and its like; the attributes as a map; trusted types",
     "CharacterData and Text": "`appendData()`, `insertData()`, `deleteData()` and `substringData()` as calls of their own (`replace-data` "

@@ -8,19 +8,19 @@ import sources
 FOLDER = os.path.join(sources.ROOT, "docs")
 HEAD = """# The DOM Standard, section by section
 
-For whoever knows the DOM Standard and asks where one of its algorithms stands here, what is proved of it, and what is not here at all.
-
-Beside each algorithm or concept of the Standard that is here stand
+Where each algorithm of the DOM Standard stands here, what is proved of it, and what is not here at all. Beside an algorithm or concept
+stand
 
 - its definitions, in `specs/` of a crate: what the algorithm does, as a value that is computed from the state before it. These are the part
-  to read beside the Standard's text. The comments of changes say which of the Standard's numbered steps stand where; the numbers were
+  to read beside the Standard's text. The comments of changes say which of the Standard's numbered steps stand where. The numbers were
   written without its text at hand (November 2026), so go by the words where they differ;
-- a public call whose contract leads to one of these definitions: its `ensures` clauses name it, or name what is defined by it. The prover has
-  accepted the call with this contract. Where it is a law (`dom_worlds`, or a name such as `law_one_list_serves_all`), the contract is all of it;
-- a script that shows it. What it is answered stands in the file beside it that ends in `.out`.
+- a public call whose contract leads to one of these definitions: its `ensures` clauses name it, or name what is defined by it. The prover
+  has accepted the call with this contract. If the call is a law (`dom_worlds`, or a name such as `law_one_list_serves_all`), the contract
+  is all of it;
+- a script that shows it. Its answers stand in the file beside it that ends in `.out`.
 
-Other calls may meet the same definition; `Session::line` does with each line of a script what the definitions of `dom_model` say. docs/PROVED.md
-has what is proved crate by crate, docs/PROTOCOL.md the commands of the scripts. What is not here is listed at the end.
+Other calls may meet the same definition; `Session::line` does with each line of a script what the definitions of `dom_model` say.
+docs/PROVED.md has what is proved crate by crate, docs/PROTOCOL.md the commands of the scripts. What is not here is listed at the end.
 
 `tools/standard --write` makes this page, from the references to the Standard in the comments of the sources and from tools/sections.py.
 `tools/standard` checks it: that it is up to date, that every call and every script is there, and that every contract leads where it says.
@@ -62,7 +62,8 @@ def page(by_name, known):
         of_section = rows(names, number, by_name, known)
         if of_section and number.split(".")[0] != chapter:
             chapter = number.split(".")[0]
-            lines += [f"\n## {chapter} {sections.CHAPTERS[chapter]}\n", "| in the Standard | definitions | call | script |", "|---|---|---|---|"]
+            head = "| in the Standard | definitions | call | script |"
+            lines += [f"\n## {chapter} {sections.CHAPTERS[chapter]}\n", head, "|---|---|---|---|"]
         lines += [f"| **{number} {title}** | | | |", *of_section] if of_section else []
     lines.append(ABSENT)
     for title, parts in sections.ABSENT.items():
