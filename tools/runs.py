@@ -103,7 +103,8 @@ class Program:
         try:
             ran = subprocess.run([self.path], input=text, capture_output=True, check=False)
         except OSError as error:
-            raise Fault(f"the program {self.path} can't be run ({error.strerror}); `rt run` in crates/domrun builds it") from error
+            built = "`rt run` in crates/domrun builds it, and tools/try runs scripts without it"
+            raise Fault(f"the program {os.path.relpath(self.path)} can't be run ({error.strerror}); {built}") from error
         if ran.returncode != 0:
             raise Fault(f"the program ended with status {ran.returncode}: {ran.stderr.decode('latin-1').strip()}")
         return ran.stdout.decode("latin-1").split("\n")[:-1]
