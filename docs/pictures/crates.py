@@ -13,12 +13,12 @@ ROWS = (
     (("documents", "the Standard's mutation algorithms over all that owners have",
       ("dom_cursors", "dom_node_trees", "dom_parts", "dom_algorithms", "dom_mutation", "dom_range_ops")),),
     (("beside the trees", "cursors, selectors, ranges, slots, observers, event paths",
-      ("dom_traversal", "dom_selectors", "dom_ranges", "dom_slots", "dom_observers", "dom_microtasks", "dom_path", "dom_dispatch",
-       "dom_tree_laws")),
+      ("dom_traversal", "dom_selectors", "dom_ranges", "dom_slots", "dom_observers", "dom_microtasks", "dom_path", "dom_dispatch")),
      ("lines", "bytes to commands, answers to text",
       ("dom_words", "dom_reader", "dom_printer", "dom_streams", "dom_program"))),
     (("trees", "nodes in memory, attributes, the forest of all owners", ("node_arena", "dom_attributes", "dom_tree")),
      ("laws", "proved of the definitions, without code", ("dom_worlds", "dom_isolation", "dom_families", "dom_examples"))),
+    (("laws of trees", "lists of names, and trees in which each name stands once", ("dom_laws",)),),
     (("the meaning", "the definitions after the DOM Standard, and the text of the protocol", ("dom_base", "dom_model", "dom_text")),),
 )
 WIDTH, LEFT, APART, HEAD, LETTER = 880, 24, 14, 66, 7.1

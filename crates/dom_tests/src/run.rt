@@ -1,6 +1,6 @@
-//! Runs over memory, with readers and writers that fail as a script says.
+//! Runs over memory, with readers and writers that fail as a test says. What the program shows of whole runs, of views and of the input's
+//! limit is tried on the built program, by `examples/statuses`.
 
-use dom_base::Owner;
 use dom_engine::{FromReader, IntoWriter, RunFault, run};
 use std::alloc::Global;
 use std::io;
@@ -40,21 +40,6 @@ impl Read for Giver<'_> {
     }
 }
 
-/// A reader of so many letters `a`.
-#[derive(Drop)]
-struct Letters {
-    left: usize,
-}
-
-impl Read for Letters {
-    fn read(&mut self, buf: &mut [u8]) -> io::Result<usize> {
-        let count = self.left.min(buf.len());
-        buf[..count].fill(b'a');
-        self.left -= count;
-        Ok(count)
-    }
-}
-
 /// A writer that takes a few bytes at each of so many writes, and then fails or takes nothing more.
 #[derive(Drop)]
 struct Taker {
@@ -87,170 +72,102 @@ impl Write for Taker {
     }
 }
 
-// Runs what the reader gives, and compares what is answered and what is written.
-fn check<R: Read + Drop>(
-    rt: &impl Abort,
-    alloc: Global,
-    reader: R,
-    view: Option<Owner>,
-    answer: Result<(), RunFault>,
-    text: &[u8],
-) {
-    let mut written = Vec::new(alloc);
-    let mut source = FromReader::new(reader);
-    let mut sink = IntoWriter::new(&mut written);
-    let outcome = run(alloc, &mut source, &mut sink, view);
-    assert!(rt; outcome == answer);
-    assert!(rt; written.as_slice() == text);
+// A reader of these bytes, given so many at a time.
+fn giver(bytes: &[u8], most: usize) -> Giver<'_> {
+    Giver {
+        bytes,
+        most,
+        first_fault: None,
+        fault: None,
+    }
+}
+
+// A writer that takes all, so many bytes at a time.
+fn taker(alloc: Global, most: usize) -> Taker {
+    Taker {
+        taken: Vec::new(alloc),
+        most,
+        writes: usize::MAX,
+        fault: None,
+        flush_fault: None,
+    }
 }
 
 // Runs what the reader gives into the writer, and compares what is answered and what is taken.
-fn check_writes<R: Read + Drop>(
+fn check(
     rt: &impl Abort,
     alloc: Global,
-    reader: R,
-    mut taker: Taker,
+    reader: Giver<'_>,
+    mut writer: Taker,
     answer: Result<(), RunFault>,
     taken: &[u8],
 ) {
     let mut source = FromReader::new(reader);
-    let mut sink = IntoWriter::new(&mut taker);
+    let mut sink = IntoWriter::new(&mut writer);
     let outcome = run(alloc, &mut source, &mut sink, None);
     assert!(rt; outcome == answer);
-    assert!(rt; taker.taken.as_slice() == taken);
-}
-
-#[test]
-fn a_script_is_answered(rt: HostRuntime) {
-    let alloc = rt.alloc();
-    check(&rt, alloc, SCRIPT, None, Ok(()), TEXT);
-    check(&rt, alloc, &[][..], None, Ok(()), b"");
-    check(&rt, alloc, &b"\n"[..], None, Ok(()), b"! owner\n");
-    check(
-        &rt,
-        alloc,
-        &b"p new element a"[..],
-        None,
-        Ok(()),
-        b"p ok n1\n",
-    );
-}
-
-#[test]
-fn a_view_has_one_owners_lines(rt: HostRuntime) {
-    let alloc = rt.alloc();
-    let script = &b"p new element a\nc1 .\nq\np .\n"[..];
-    let all = b"p ok n1\nc1 ! busy\n! owner\np ok\n";
-    check(&rt, alloc, script, None, Ok(()), all);
-    let page = b"p ok n1\np ok\n";
-    check(&rt, alloc, script, Some(Owner::Page), Ok(()), page);
-    let component = b"c1 ! busy\n";
-    check(
-        &rt,
-        alloc,
-        script,
-        Owner::Page.component(0),
-        Ok(()),
-        component,
-    );
-    check(&rt, alloc, script, Owner::Page.component(10), Ok(()), b"");
-}
-
-#[test]
-fn a_failed_read_stops_the_run(rt: HostRuntime) {
-    let alloc = rt.alloc();
-    let reader = Giver {
-        bytes: b"p new element a\np tree n0",
-        most: 4096,
-        first_fault: None,
-        fault: Some(ErrorKind::Other),
-    };
-    check(&rt, alloc, reader, None, Err(RunFault::Read), b"p ok n1\n");
-    // The turn that is open is not ended, so the page's microtask is not run.
-    let reader = Giver {
-        bytes: b"p micro k\np tree n",
-        most: 4096,
-        first_fault: None,
-        fault: Some(ErrorKind::Other),
-    };
-    check(&rt, alloc, reader, None, Err(RunFault::Read), b"p ok\n");
-}
-
-#[test]
-fn an_interrupted_read_has_failed(rt: HostRuntime) {
-    let reader = Giver {
-        bytes: SCRIPT,
-        most: 4096,
-        first_fault: Some(ErrorKind::Interrupted),
-        fault: None,
-    };
-    check(&rt, rt.alloc(), reader, None, Err(RunFault::Read), b"");
+    assert!(rt; writer.taken.as_slice() == taken);
 }
 
 #[test]
 fn one_byte_is_read_and_written_at_a_time(rt: HostRuntime) {
     let alloc = rt.alloc();
-    let reader = Giver {
-        bytes: SCRIPT,
-        most: 1,
-        first_fault: None,
-        fault: None,
-    };
-    let taker = Taker {
-        taken: Vec::new(alloc),
-        most: 1,
-        writes: usize::MAX,
-        fault: None,
-        flush_fault: None,
-    };
-    check_writes(&rt, alloc, reader, taker, Ok(()), TEXT);
+    check(&rt, alloc, giver(SCRIPT, 1), taker(alloc, 1), Ok(()), TEXT);
+}
+
+#[test]
+fn a_failed_read_stops_the_run(rt: HostRuntime) {
+    let alloc = rt.alloc();
+    // The turn that is open is not ended, so the page's microtask is not run.
+    for (first_fault, bytes, taken) in [
+        (None, &b"p new element a\np tree n0"[..], &b"p ok n1\n"[..]),
+        (None, &b"p micro k\np tree n"[..], &b"p ok\n"[..]),
+        (Some(ErrorKind::Interrupted), SCRIPT, &b""[..]),
+    ] {
+        let reader = Giver {
+            bytes,
+            most: 4096,
+            first_fault,
+            fault: Some(ErrorKind::Other),
+        };
+        check(
+            &rt,
+            alloc,
+            reader,
+            taker(alloc, 4096),
+            Err(RunFault::Read),
+            taken,
+        );
+    }
 }
 
 #[test]
 fn each_failed_write_stops_the_run(rt: HostRuntime) {
     let alloc = rt.alloc();
-    for kind in [ErrorKind::Other, ErrorKind::Interrupted] {
+    for kind in [Some(ErrorKind::Other), Some(ErrorKind::Interrupted), None] {
         for writes in 0..TEXT.len() {
-            let taker = Taker {
-                taken: Vec::new(alloc),
-                most: 1,
-                writes,
-                fault: Some(kind),
-                flush_fault: None,
-            };
-            let taken = &TEXT[..writes];
-            check_writes(&rt, alloc, SCRIPT, taker, Err(RunFault::Write), taken);
+            let mut writer = taker(alloc, 1);
+            writer.writes = writes;
+            writer.fault = kind;
+            let fault = Err(RunFault::Write);
+            check(
+                &rt,
+                alloc,
+                giver(SCRIPT, 4096),
+                writer,
+                fault,
+                &TEXT[..writes],
+            );
         }
     }
-}
-
-#[test]
-fn a_write_of_nothing_and_a_failed_flush_stop_the_run(rt: HostRuntime) {
-    let alloc = rt.alloc();
-    let taker = Taker {
-        taken: Vec::new(alloc),
-        most: 3,
-        writes: 4,
-        fault: None,
-        flush_fault: None,
-    };
-    let taken = &TEXT[..11];
-    check_writes(&rt, alloc, SCRIPT, taker, Err(RunFault::Write), taken);
-    let taker = Taker {
-        taken: Vec::new(alloc),
-        most: 4096,
-        writes: 4096,
-        fault: None,
-        flush_fault: Some(ErrorKind::Other),
-    };
-    check_writes(&rt, alloc, SCRIPT, taker, Err(RunFault::Write), TEXT);
-}
-
-#[test]
-fn a_run_reads_so_much_and_no_more(rt: HostRuntime) {
-    let alloc = rt.alloc();
-    let endless = Letters { left: usize::MAX };
-    check(&rt, alloc, endless, None, Err(RunFault::InputLimit), b"");
-    let most = Letters { left: 1 << 30 };
-    check(&rt, alloc, most, None, Ok(()), b"! owner\n");
+    let mut writer = taker(alloc, 4096);
+    writer.flush_fault = Some(ErrorKind::Other);
+    check(
+        &rt,
+        alloc,
+        giver(SCRIPT, 4096),
+        writer,
+        Err(RunFault::Write),
+        TEXT,
+    );
 }
