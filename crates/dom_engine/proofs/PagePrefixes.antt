@@ -3,27 +3,33 @@ use Rattle.std.proofs.Common.{◌≡◌, ℕ, ◌≤◌, ◌⊎◌, List, [], �
 use Rattle.std.proofs.Common.{subst, ◌∙◌, append_assoc, append-nil, inl, inr}
 use Rattle.std.proofs.lemmas.List.{take-append-drop, take-append-le}
 use Rattle.std.proofs.lemmas.List.Elements.{filter-append}
+use Rattle.std.specs.Prelude.{⊤}
 use Rattle.std.specs.Io.KnownBytes.{Appends, IsAtEnd}
 use Rattle.std.proofs.KnownBytes.{Consumes-whole}
 use Rattle.dom_base.specs.declared.Owner.{Owner}
 use Rattle.dom_base.specs.declared.Owner.TheVariants.{Page, Component}
 use Rattle.dom_model.specs.DocumentMachine.{first_world, run_lines}
-use Rattle.dom_model.specs.PageMachine.{first_page, run_page}
+use Rattle.dom_model.specs.PageMachine.{first_page, PageState, run_page}
+use Rattle.dom_model.specs.Runs.{Run}
 use Rattle.dom_model.specs.Trace.{trace_of, no_component_stops}
 use Rattle.dom_text.specs.Lines.{Cut, cut_of, last_line, lines_of, begins_with, owner_prefix, page_lines, text_of_lines}
 use Rattle.dom_text.specs.Text.{output_line, output_text}
 use Rattle.dom_text.specs.Decode.{decode}
 use Rattle.dom_text.proofs.LineLaws.{lines_of-cut, cut_of-pieces, cut_of-append}
 use Rattle.dom_text.proofs.OutputLaws.{text_of_lines-append, output_text-append}
-use Rattle.dom_isolation.proofs.PageRuns.{page_output-goes_on, first_lines-stop_nothing}
+use Rattle.dom_isolation.specs.Interference.{full_trace_of}
+use Rattle.dom_isolation.specs.TouchedMachines.{run_page_under}
+use Rattle.dom_isolation.proofs.PageRuns.{page_output-goes_on_in_full, page_output-goes_on, first_lines-stop_nothing, told-nothing}
 use Rattle.dom_isolation.proofs.PlainLines.{decode-reads_plain_words}
-use Rattle.dom_isolation.proofs.PlainTexts.{picked_lines-agree_so_far}
+use Rattle.dom_isolation.proofs.PlainTexts.{picked_lines-agree_so_far_in_full}
+use Rattle.dom_streams.specs.declared.fault.RunFault.{RunFault}
 use Rattle.dom_streams.specs.declared.fault.RunFault.TheVariants.{Read, Write, Memory, InputLimit}
-use Rattle.dom_engine.specs.Run.{answers, answers_to_end, finished_text, run_text, RunsToEnd, StopsAtWrite}
+use Rattle.dom_engine.specs.Run.{answers, answers_to_end, finished_text, run_text, RunsToEnd, StopsAtWrite, StopsRun}
 use Rattle.dom_streams.specs.Views.{viewed}
 use Rattle.dom_engine.specs.PageLaws.{page_text_so_far, page_text_to_end, page_text, HasPage, page_seen, PageSees, PageSeesFront, PageSeesLinesNamed}
-use Rattle.dom_engine.specs.PageLaws.{PageSeesPrefix}
-use Rattle.dom_engine.proofs.PageRuns.{lines_of-ended, page_text-agrees}
+use Rattle.dom_engine.specs.PageLaws.{PageSeesPrefix, lines_named, bytes_read, MayFollow, WritesWholeLines, full_page_text_so_far, full_page_text_to_end}
+use Rattle.dom_engine.specs.PageLaws.{full_page_text, PageSeesLinesNamedInFull, PageSeesPrefixInFull}
+use Rattle.dom_engine.proofs.PageRuns.{lines_of-ended, page_text-agrees_in_full, page_text-agrees}
 
 -- ---- what the page sees
 
@@ -45,25 +51,41 @@ seen-front None front back =
           ∙ text_of_lines-append (filter keeps (cut_of front).finished) (filter keeps more),
     )
 
+-- What the page machine writes for lines, without the ending and with it: of any lines that pass, it is what the page sees; and more lines only
+-- add to it.
+record IsPageMachines (so_far to_end : List (List ℕ) → List ℕ) (Passes : List (List ℕ) → Type 0) : Type 0 where
+  answered : (lines : List (List ℕ)) → Passes lines → viewed (Some Page) (answers first_world lines) ≡ so_far lines
+  ended : (bytes : List ℕ) → Passes (lines_of bytes) → run_text (Some Page) bytes ≡ to_end (lines_of bytes)
+  first : (lines others : List (List ℕ)) → Passes (lines ++ others) → Passes lines
+  goes_on : (lines others : List (List ℕ)) → (rest : List ℕ) × (to_end (lines ++ others) ≡ so_far lines ++ rest)
+
 -- of the answers to lines
-answers-page : (lines : List (List ℕ)) → IsTrue (no_component_stops decode lines) → viewed (Some Page) (answers first_world lines) ≡ page_text_so_far lines
+answers-page : (lines : List (List ℕ)) → viewed (Some Page) (answers first_world lines) ≡ full_page_text_so_far lines
 unfolding answers
-answers-page lines h =
+answers-page lines =
     let outputs = (run_lines first_world (map decode lines)).1 in
     ap (λ (ls : List (List ℕ)). text_of_lines (page_lines ls)) (lines_of-ended (map output_line outputs)) ∙
-    ap text_of_lines (picked_lines-agree_so_far decode decode-reads_plain_words lines h)
+    ap text_of_lines (picked_lines-agree_so_far_in_full decode decode-reads_plain_words lines)
 
--- of a run that has come to its end
-pub page-at_end : {view : Option Owner} {from to old new : Option (List ℕ)} → RunsToEnd view from to old new
-    → IfSome from (λ bytes. HasPage view → IsTrue (no_component_stops decode (lines_of bytes)) → PageSees view old new (page_text bytes))
-page-at_end {view = view} {from = from} {to = to} {old = old} {new = new} r =
-    Consumes-whole from to r.given (λ bytes. HasPage view → IsTrue (no_component_stops decode (lines_of bytes)) →
-    PageSees view old new (page_text bytes)) r.consumed r.at_end
-    (λ p h. record {
-      written = run_text view r.given;
-      appends = r.written;
-      seen = seen-viewed view (answers_to_end (lines_of r.given)) p ∙ page_text-agrees r.given h;
-    })
+-- with interference every line passes
+page-in_full : IsPageMachines full_page_text_so_far full_page_text_to_end (λ lines. ⊤)
+page-in_full = record {
+  answered = λ lines p. answers-page lines;
+  ended = λ bytes p. page_text-agrees_in_full bytes;
+  first = λ lines others p. p;
+  goes_on = λ lines others. let on = page_output-goes_on_in_full decode lines others in
+      (output_text on.0, ap output_text on.1 ∙ output_text-append (run_page_under decode first_page (full_trace_of decode lines)).1 on.0);
+}
+
+-- without it lines pass in which no component listener stops or cancels
+page-in_quiet : IsPageMachines page_text_so_far page_text_to_end (λ lines. IsTrue (no_component_stops decode lines))
+page-in_quiet = record {
+  answered = λ lines p. answers-page lines ∙ ap (λ (r : Run PageState). output_text r.1) (told-nothing decode lines p);
+  ended = λ bytes p. page_text-agrees bytes p;
+  first = λ lines others p. first_lines-stop_nothing decode lines others p;
+  goes_on = λ lines others. let on = page_output-goes_on decode lines others in
+      (output_text on.0, ap output_text on.1 ∙ output_text-append (run_page decode first_page (trace_of decode lines)).1 on.0);
+}
 
 -- ---- what more bytes add
 
@@ -82,16 +104,6 @@ lines_of-taken count bytes more (inl few) =
     )
 lines_of-taken count bytes more (inr none) =
     (drop count (lines_of bytes), ap (λ x. lines_of (bytes ++ x)) none ∙ ap lines_of (append-nil bytes) ∙ sym (take-append-drop count (lines_of bytes)))
-
--- to the page machine's output
-page-more : (lines others all : List (List ℕ)) → all ≡ lines ++ others → (rest : List ℕ) × (page_text_to_end all ≡ page_text_so_far lines ++ rest)
-page-more lines others all e =
-    let on = page_output-goes_on decode lines others in
-    (output_text on.0, ap page_text_to_end e ∙ ap output_text on.1 ∙ output_text-append (run_page decode first_page (trace_of decode lines)).1 on.0)
-
--- lines that are ended
-page-ended : (bytes more : List ℕ) → (rest : List ℕ) × (page_text (bytes ++ more) ≡ page_text_so_far (cut_of bytes).finished ++ rest)
-page-ended bytes more = page-more (cut_of bytes).finished (lines_of ((cut_of bytes).rest ++ more)) (lines_of (bytes ++ more)) (cut_of-append bytes more)
 
 -- ---- faults
 
@@ -113,66 +125,117 @@ module _ (view : Option Owner) (old new : Option (List ℕ)) (seen rest all : Li
         split = e ∙ ap (λ (x : List ℕ). x ++ rest) (sym is ∙ ap (page_seen view) split ∙ cut.1) ∙ append_assoc (page_seen view front) cut.0 rest;
       }
 
--- The lines named.
+-- Of lines that pass, with what the page machine writes for them.
+module _ {so_far to_end : List (List ℕ) → List ℕ} {Passes : List (List ℕ) → Type 0} (machines : IsPageMachines so_far to_end Passes) where
+  -- of a run that has come to its end
+  at-end : {view : Option Owner} {from to old new : Option (List ℕ)} (r : RunsToEnd view from to old new) → HasPage view →
+      Passes (lines_of r.given) → PageSees view old new (to_end (lines_of r.given))
+  at-end {view = view} r p h =
+      record {
+        written = run_text view r.given;
+        appends = r.written;
+        seen = seen-viewed view (answers_to_end (lines_of r.given)) p ∙ machines.ended r.given h;
+      }
+
+  -- lines, and more of them
+  more-lines : (lines others all : List (List ℕ)) → all ≡ lines ++ others → (rest : List ℕ) × (to_end all ≡ so_far lines ++ rest)
+  more-lines lines others all e = let on = machines.goes_on lines others in (on.0, ap to_end e ∙ on.1)
+
+  -- lines that are ended, and more bytes
+  more-bytes : (bytes more : List ℕ) → (rest : List ℕ) × (to_end (lines_of (bytes ++ more)) ≡ so_far (cut_of bytes).finished ++ rest)
+  more-bytes bytes more = more-lines (cut_of bytes).finished (lines_of ((cut_of bytes).rest ++ more)) (lines_of (bytes ++ more)) (cut_of-append bytes more)
+
+  -- A fault, where the lines named pass.
+  module _ (view : Option Owner) (from to old new : Option (List ℕ)) where
+    -- the lines named
+    lines-named : (e : RunFault) (s : StopsRun e view from to old new) → HasPage view → WritesWholeLines e →
+        Passes (lines_named view from to old new e s) → PageSees view old new (so_far (lines_named view from to old new e s))
+    lines-named Read s p whole h =
+        record {
+          written = finished_text view s.given;
+          appends = s.written;
+          seen = seen-viewed view (answers first_world (cut_of s.given).finished) p ∙ machines.answered (cut_of s.given).finished h;
+        }
+    lines-named InputLimit s p whole h =
+        record {
+          written = finished_text view s.given;
+          appends = s.written;
+          seen = seen-viewed view (answers first_world (cut_of s.given).finished) p ∙ machines.answered (cut_of s.given).finished h;
+        }
+    lines-named Memory s p whole h =
+        let lines = take s.count (lines_of (s.early ++ s.late)) in
+        record {
+          written = viewed view (answers first_world lines);
+          appends = s.written;
+          seen = seen-viewed view (answers first_world lines) p ∙ machines.answered lines h;
+        }
+    lines-named Write s p whole h = absurd whole
+
+    -- A write failed: at lines that are ended, or at the end.
+    write-prefix : (s : StopsAtWrite view from to old new) → HasPage view → Passes (lines_of (s.early ++ s.late)) → (more : List ℕ) →
+        (IsAtEnd to → more ≡ []) → PageSeesFront view old new (to_end (lines_of ((s.early ++ s.late) ++ more)))
+    write-prefix s p h more end =
+        let read = s.early ++ s.late in
+        let ended = (cut_of read).finished in
+        let front = finished_text view s.early ++ s.front in
+        let whole = to_end (lines_of (read ++ more)) in
+        elim s.split [
+          | inl e ↦
+              let passes = machines.first ended (last_line (cut_of read).rest) (subst Passes (lines_of-cut read) h) in
+              let on = more-bytes read more in
+              sees-cut view old new (so_far ended) on.0 whole on.1 front s.back e
+              (seen-viewed view (answers first_world ended) p ∙ machines.answered ended passes) s.written
+          | inr e ↦
+              let alone = to_end (lines_of read) in
+              sees-cut view old new alone [] whole
+              (ap (λ x. to_end (lines_of (read ++ x))) (end e.1) ∙ ap (λ x. to_end (lines_of x)) (append-nil read) ∙ sym (append-nil alone)) front s.back e.0
+              (seen-viewed view (answers_to_end (lines_of read)) p ∙ machines.ended read h) s.written
+        ]
+
+    -- The prefix.
+    prefix-of : (e : RunFault) (s : StopsRun e view from to old new) → HasPage view → Passes (lines_named view from to old new e s) →
+        (more : List ℕ) → MayFollow e to more → PageSeesFront view old new (to_end (lines_of (bytes_read view from to old new e s ++ more)))
+    prefix-of Read s p h more follows =
+        let on = more-bytes s.given more in
+        sees-front view old new (so_far (cut_of s.given).finished) on.0 (to_end (lines_of (s.given ++ more))) on.1 (lines-named Read s p tt h)
+    prefix-of InputLimit s p h more follows =
+        let on = more-bytes s.given (s.more ++ more) in
+        sees-front view old new (so_far (cut_of s.given).finished) on.0 (to_end (lines_of ((s.given ++ s.more) ++ more)))
+        (ap (λ x. to_end (lines_of x)) (append_assoc s.given s.more more) ∙ on.1) (lines-named InputLimit s p tt h)
+    prefix-of Memory s p h more follows =
+        let read = s.early ++ s.late in
+        let known : (s.count ≤ length (cut_of read).finished) ⊎ (more ≡ []) = elim s.ended [ inl few ↦ inl few | inr end ↦ inr (follows end) ] in
+        let others = lines_of-taken s.count read more known in
+        let on = more-lines (take s.count (lines_of read)) others.0 (lines_of (read ++ more)) others.1 in
+        sees-front view old new (so_far (take s.count (lines_of read))) on.0 (to_end (lines_of (read ++ more))) on.1 (lines-named Memory s p tt h)
+    prefix-of Write s p h more follows = write-prefix s p h more follows
+
+-- The end of a run, with interference and without.
+pub page-at_end_in_full : {view : Option Owner} {from to old new : Option (List ℕ)} → RunsToEnd view from to old new
+    → IfSome from (λ bytes. HasPage view → PageSees view old new (full_page_text bytes))
+page-at_end_in_full {view = view} {from = from} {to = to} {old = old} {new = new} r =
+    Consumes-whole from to r.given (λ bytes. HasPage view → PageSees view old new (full_page_text bytes)) r.consumed r.at_end
+    (λ p. at-end page-in_full r p tt)
+
+-- without
+pub page-at_end : {view : Option Owner} {from to old new : Option (List ℕ)} → RunsToEnd view from to old new
+    → IfSome from (λ bytes. HasPage view → IsTrue (no_component_stops decode (lines_of bytes)) → PageSees view old new (page_text bytes))
+page-at_end {view = view} {from = from} {to = to} {old = old} {new = new} r =
+    Consumes-whole from to r.given (λ bytes. HasPage view → IsTrue (no_component_stops decode (lines_of bytes)) →
+    PageSees view old new (page_text bytes)) r.consumed r.at_end (λ p h. at-end page-in_quiet r p h)
+
+-- The lines named, with interference and without.
+pub page-sees_lines_named_in_full : PageSeesLinesNamedInFull
+page-sees_lines_named_in_full view from to old new e s p whole = lines-named page-in_full view from to old new e s p whole tt
+
+-- without
 pub page-sees_lines_named : PageSeesLinesNamed
-page-sees_lines_named view from to old new Read s p whole h =
-    record {
-      written = finished_text view s.given;
-      appends = s.written;
-      seen = seen-viewed view (answers first_world (cut_of s.given).finished) p ∙ answers-page (cut_of s.given).finished h;
-    }
-page-sees_lines_named view from to old new InputLimit s p whole h =
-    record {
-      written = finished_text view s.given;
-      appends = s.written;
-      seen = seen-viewed view (answers first_world (cut_of s.given).finished) p ∙ answers-page (cut_of s.given).finished h;
-    }
-page-sees_lines_named view from to old new Memory s p whole h =
-    let lines = take s.count (lines_of (s.early ++ s.late)) in
-    record {
-      written = viewed view (answers first_world lines);
-      appends = s.written;
-      seen = seen-viewed view (answers first_world lines) p ∙ answers-page lines h;
-    }
-page-sees_lines_named view from to old new Write s p whole h = absurd whole
+page-sees_lines_named view from to old new e s p whole h = lines-named page-in_quiet view from to old new e s p whole h
 
--- A write failed: at lines that are ended, or at the end.
-write-prefix : {view : Option Owner} {from to old new : Option (List ℕ)} (s : StopsAtWrite view from to old new) → HasPage view →
-    IsTrue (no_component_stops decode (lines_of (s.early ++ s.late))) → (more : List ℕ) → (IsAtEnd to → more ≡ []) →
-    PageSeesFront view old new (page_text ((s.early ++ s.late) ++ more))
-write-prefix {view = view} {old = old} {new = new} s p h more end =
-    let read = s.early ++ s.late in
-    let ended = (cut_of read).finished in
-    let front = finished_text view s.early ++ s.front in
-    elim s.split [
-      | inl e ↦
-          let quiet = first_lines-stop_nothing decode ended (last_line (cut_of read).rest)
-          (subst (λ ls. IsTrue (no_component_stops decode ls)) (lines_of-cut read) h) in
-          let on = page-ended read more in
-          sees-cut view old new (page_text_so_far ended) on.0 (page_text (read ++ more)) on.1 front s.back e
-          (seen-viewed view (answers first_world ended) p ∙ answers-page ended quiet) s.written
-      | inr e ↦
-          sees-cut view old new (page_text read) [] (page_text (read ++ more))
-          (ap (λ x. page_text (read ++ x)) (end e.1) ∙ ap page_text (append-nil read) ∙ sym (append-nil (page_text read))) front s.back e.0
-          (seen-viewed view (answers_to_end (lines_of read)) p ∙ page_text-agrees read h) s.written
-    ]
+-- The prefix, with interference and without.
+pub page-sees_prefix_in_full : PageSeesPrefixInFull
+page-sees_prefix_in_full view from to old new e s p more follows = prefix-of page-in_full view from to old new e s p tt more follows
 
--- The prefix.
+-- without
 pub page-sees_prefix : PageSeesPrefix
-page-sees_prefix view from to old new Read s p h more follows =
-    let on = page-ended s.given more in
-    sees-front view old new (page_text_so_far (cut_of s.given).finished) on.0 (page_text (s.given ++ more)) on.1
-    (page-sees_lines_named view from to old new Read s p tt h)
-page-sees_prefix view from to old new InputLimit s p h more follows =
-    let on = page-ended s.given (s.more ++ more) in
-    sees-front view old new (page_text_so_far (cut_of s.given).finished) on.0 (page_text ((s.given ++ s.more) ++ more))
-    (ap page_text (append_assoc s.given s.more more) ∙ on.1)
-    (page-sees_lines_named view from to old new InputLimit s p tt h)
-page-sees_prefix view from to old new Memory s p h more follows =
-    let read = s.early ++ s.late in
-    let known : (s.count ≤ length (cut_of read).finished) ⊎ (more ≡ []) = elim s.ended [ inl few ↦ inl few | inr end ↦ inr (follows end) ] in
-    let others = lines_of-taken s.count read more known in
-    let on = page-more (take s.count (lines_of read)) others.0 (lines_of (read ++ more)) others.1 in
-    sees-front view old new (page_text_so_far (take s.count (lines_of read))) on.0 (page_text (read ++ more)) on.1
-    (page-sees_lines_named view from to old new Memory s p tt h)
-page-sees_prefix view from to old new Write s p h more follows = write-prefix s p h more follows
+page-sees_prefix view from to old new e s p h more follows = prefix-of page-in_quiet view from to old new e s p h more follows

@@ -5,6 +5,8 @@ use Rattle.dom_base.specs.declared.Owner.{Owner}
 use Rattle.dom_base.specs.declared.Owner.TheVariants.{Page, Component}
 use Rattle.dom_model.specs.PageMachine.{first_page, run_page, page_outputs_of}
 use Rattle.dom_model.specs.Trace.{trace_of, no_component_stops}
+use Rattle.dom_isolation.specs.Interference.{full_trace_of}
+use Rattle.dom_isolation.specs.TouchedMachines.{run_page_under, page_outputs_under}
 use Rattle.dom_text.specs.Lines.{cut_of, lines_of}
 use Rattle.dom_text.specs.Text.{output_text}
 use Rattle.dom_text.specs.Decode.{decode}
@@ -24,6 +26,28 @@ page_text_to_end lines = output_text (page_outputs_of decode (trace_of decode li
 -- of the lines of bytes
 abbrev pub page_text : List ℕ → List ℕ
 page_text bytes = page_text_to_end (lines_of bytes)
+
+-- the output of the page machine on the full trace of lines, which tells the interference, without the ending
+abbrev pub full_page_text_so_far : List (List ℕ) → List ℕ
+full_page_text_so_far lines = output_text (run_page_under decode first_page (full_trace_of decode lines)).1
+
+-- with the ending
+abbrev pub full_page_text_to_end : List (List ℕ) → List ℕ
+full_page_text_to_end lines = output_text (page_outputs_under decode (full_trace_of decode lines))
+
+-- of the lines of bytes
+abbrev pub full_page_text : List ℕ → List ℕ
+full_page_text bytes = full_page_text_to_end (lines_of bytes)
+
+-- The text that a run writes with the page's view is the output of the page machine on the full trace of the lines read.
+abbrev pub PageTextIsThePageMachinesInFull : Type 0
+PageTextIsThePageMachinesInFull = (bytes : List ℕ) → run_text (Some Page) bytes ≡ full_page_text bytes
+
+-- Two inputs with equal lines of the page, equal outward events and equal interference, in order, have equal text of the page.
+abbrev pub SamePageTextInFull : Type 0
+SamePageTextInFull =
+    (first second : List ℕ) → full_trace_of decode (lines_of first) ≡ full_trace_of decode (lines_of second) →
+    run_text (Some Page) first ≡ run_text (Some Page) second
 
 -- Where no component listener stops or cancels, the text that a run writes with the page's view is the output of the page
 -- machine on the trace of the lines read.
@@ -105,3 +129,17 @@ PageSeesPrefix =
     (view : Option Owner) (from to old new : Option (List ℕ)) (e : RunFault) (s : StopsRun e view from to old new) → HasPage view →
     IsTrue (no_component_stops decode (lines_named view from to old new e s)) →
     (more : List ℕ) → MayFollow e to more → PageSeesFront view old new (page_text (bytes_read view from to old new e s ++ more))
+
+-- With interference: on `Read`, `Memory` and `InputLimit` the page sees the page machine's output on the full trace of the lines whose text is written,
+-- without the ending.
+abbrev pub PageSeesLinesNamedInFull : Type 0
+PageSeesLinesNamedInFull =
+    (view : Option Owner) (from to old new : Option (List ℕ)) (e : RunFault) (s : StopsRun e view from to old new) → HasPage view → WritesWholeLines e →
+    PageSees view old new (full_page_text_so_far (lines_named view from to old new e s))
+
+-- On every fault it sees some first bytes of the page machine's output on the full trace of any input that begins with the bytes
+-- read; where the end was reached, that input is these bytes.
+abbrev pub PageSeesPrefixInFull : Type 0
+PageSeesPrefixInFull =
+    (view : Option Owner) (from to old new : Option (List ℕ)) (e : RunFault) (s : StopsRun e view from to old new) → HasPage view →
+    (more : List ℕ) → MayFollow e to more → PageSeesFront view old new (full_page_text (bytes_read view from to old new e s ++ more))

@@ -9,19 +9,25 @@ ghost use Rattle.dom_engine.specs.Session.{ForeignLinesAreRefused};
 ghost use Rattle.dom_engine.specs.GroupLaws.{SameGroupRuns, SameGroupRunsWhileTurnsStand, SameFamilyRuns, SameFamilyRunsWhileTurnsStand};
 ghost use Rattle.dom_engine.specs.GroupLaws.{SameGroupRunsInFull, SameFamilyRunsInFull, SameComponentRunsInFull, SameAroundRunsInFull};
 ghost use Rattle.dom_engine.specs.GroupLaws.{SameComponentRuns, SameComponentRunsWhileTurnsStand, SameAroundRuns, SameAroundRunsWhileTurnsStand};
+ghost use Rattle.dom_isolation.specs.FullIsolation.{SamePageInFull};
+ghost use Rattle.dom_engine.specs.PageLaws.{PageTextIsThePageMachinesInFull, SamePageTextInFull, PageSeesLinesNamedInFull, PageSeesPrefixInFull};
 ghost use Rattle.dom_engine.specs.PageLaws.{PageTextIsThePageMachines, SamePageText, PageSeesLinesNamed, PageSeesPrefix};
 
 /// What a run writes with the page's view is the page machine's output on the trace of the lines read, where no component
-/// listener stops or cancels.
+/// listener stops or cancels; and with interference it is that on the full trace, whatever listeners do.
 pub fn law_page_text()
-    ensures { PageTextIsThePageMachines }
+    ensures quiet { PageTextIsThePageMachines }
+    ensures in_full { PageTextIsThePageMachinesInFull }
 {}
 
 /// Two scripts with equal traces give the page equal output, where no component listener stops or cancels: lists of lines, by
-/// whatever reading, and the text that runs of two inputs write with the page's view.
+/// whatever reading, and the text that runs of two inputs write with the page's view. Two scripts with equal full traces, that is with equal lines of the
+/// page, equal outward events and equal interference, give it equal output whatever listeners do.
 pub fn law_same_page()
     ensures lines { (read : List ℕ → Line) → SamePage read }
     ensures text { SamePageText }
+    ensures lines_in_full { (read : List ℕ → Line) → SamePageInFull read }
+    ensures text_in_full { SamePageTextInFull }
 {}
 
 /// Two scripts that agree for a group of owners, which has the page and with each component its maker, give each member equal output, where no
@@ -75,10 +81,12 @@ pub fn law_same_around()
 /// What a fault leaves of a run, where no component listener of its lines stops or cancels: on `Read`, `Memory` and `InputLimit` the
 /// page sees the page machine's output on the trace of the lines whose text is written, without the ending; and on every
 /// fault some first bytes of the page machine's output on the trace of any input that begins with the bytes read. Where the
-/// end was reached that input is these bytes.
+/// end was reached that input is these bytes. With interference the same holds of full traces, whatever listeners do.
 pub fn law_page_prefix()
     ensures lines { PageSeesLinesNamed }
     ensures prefix { PageSeesPrefix }
+    ensures lines_in_full { PageSeesLinesNamedInFull }
+    ensures prefix_in_full { PageSeesPrefixInFull }
 {}
 
 /// A line, the page's or a component's, whose command names another owner's node is refused (own rule): as `busy` where it is a

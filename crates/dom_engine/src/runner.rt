@@ -14,7 +14,7 @@ ghost use Rattle.dom_engine.specs.Run.{StopsRun, read_most, read_size};
 ghost use Rattle.dom_streams.specs.Writing.{EndsWriting};
 ghost use Rattle.dom_streams.specs.Views.{viewed};
 ghost use Rattle.dom_engine.specs.Reading.{HasReadAll, LeavesMore, ReadsMore, StopsOneRead};
-ghost use Rattle.dom_engine.specs.PageLaws.{HasPage, PageSees, page_text};
+ghost use Rattle.dom_engine.specs.PageLaws.{HasPage, PageSees, page_text, full_page_text};
 
 use crate::session::Session;
 use dom_base::Owner;
@@ -309,6 +309,9 @@ pub fn run<R: Source, W: Sink>(
     // Isolation: where no component listener stops or cancels, what the page sees of it is the page machine's output on the trace.
     ensures page { OnOk result (IfSome (R.remaining source.old) (λ bytes. HasPage view → IsTrue (no_component_stops decode (lines_of bytes)) →
         PageSees view (W.contents sink.old) (W.contents sink.new) (page_text bytes))) }
+    // Whatever listeners do, it is the page machine's output on the full trace, which tells the interference.
+    ensures page_in_full { OnOk result (IfSome (R.remaining source.old) (λ bytes. HasPage view →
+        PageSees view (W.contents sink.old) (W.contents sink.new) (full_page_text bytes))) }
     // A fault is `Read` only where a read failed, and `Write` only where a write or the flush failed.
     ensures reads { CountsReads result (R.failures source.old) (R.failures source.new) }
     ensures writes { CountsWrites result (W.failures sink.old) (W.failures sink.new) }

@@ -2,7 +2,7 @@
 use Rattle.std.proofs.Common.{sym}
 use Rattle.std.proofs.lemmas.Result.{err_from_is_err_and, MatchResult-weaker}
 use Rattle.dom_engine.proofs.ReadLaws.{stops-before}
-use Rattle.dom_engine.proofs.PagePrefixes.{page-at_end}
+use Rattle.dom_engine.proofs.PagePrefixes.{page-at_end, page-at_end_in_full}
 use Rattle.dom_engine.proofs.runner.run.Goals as goal
 
 pub returns-in_err-runner-clause-stops : goal.returns-in_err-runner-clause-stops
@@ -15,6 +15,10 @@ returns-clause-ok g c = rw (sym c.in_ok-runner.ensures.2) c.run_all.ensures.ok
 
 pub returns-clause-page : goal.returns-clause-page
 returns-clause-page g c = rw (sym c.in_ok-runner.ensures.2) (MatchResult-weaker c.run_all.result c.run_all.ensures.ok (λ _ ends. page-at_end ends) (λ _ _. tt))
+
+pub returns-clause-page_in_full : goal.returns-clause-page_in_full
+returns-clause-page_in_full g c =
+    rw (sym c.in_ok-runner.ensures.2) (MatchResult-weaker c.run_all.result c.run_all.ensures.ok (λ _ ends. page-at_end_in_full ends) (λ _ _. tt))
 
 pub returns-clause-stops : goal.returns-clause-stops
 returns-clause-stops g c = rw (sym c.in_ok-runner.ensures.2) c.run_all.ensures.stops
