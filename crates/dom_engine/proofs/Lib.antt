@@ -3,6 +3,7 @@ mod LineRuns
 mod PieceLaws
 mod ReadLaws
 mod FlushLaws
+mod TurnEnds
 mod PageRuns
 mod PagePrefixes
 mod ForeignLines

@@ -1,5 +1,5 @@
 //! Sessions: lines in, answers out.
-ghost use Rattle.std.specs.Prelude.{◌≡◌, ◌++◌, true, false, IfOk, OnOk, OnErr};
+ghost use Rattle.std.specs.Prelude.{◌≡◌, ◌++◌, None, true, false, IfOk, OnOk, OnErr};
 ghost use Rattle.dom_model.specs.DocumentMachine.{first_world, step, finish};
 ghost use Rattle.dom_text.specs.Text.{output_text};
 ghost use Rattle.dom_commands.specs.Machine.{IsAtRest};
@@ -81,12 +81,13 @@ impl Session {
         answer
     }
 
-    /// Ends the input: an open turn is ended, and the lines of its microtasks are given. More lines may follow (own rule). An error
+    /// Ends the input: an open turn is ended, and the lines of its microtasks are given. No turn is open then. More lines may follow (own rule). An error
     /// is want of memory alone, now or in a call before.
     pub fn finish(&mut self) -> Result<Vec<u8>, AllocError>
         ensures was { OnOk result (self.old.has_failed ≡ false) }
         ensures text { IfOk result (λ text. text.items ≡ output_text (finish self.old.world).1) }
         ensures world { OnOk result (self.new ≡ record { world = (finish self.old.world).0; has_failed = false }) }
+        ensures closed { OnOk result (self.new.world.turn ≡ None) }
         ensures err { OnErr result (self.new.has_failed ≡ true) }
     {
         if self.has_failed {
@@ -103,6 +104,7 @@ fn end(machine: &mut Machine, alloc: Global) -> Result<Vec<u8>, AllocError>
     requires { IsAtRest machine.old }
     ensures text { IfOk result (λ text. text.items ≡ output_text (finish machine.old.world).1) }
     ensures world { OnOk result (machine.new.world ≡ (finish machine.old.world).0) }
+    ensures closed { OnOk result (machine.new.world.turn ≡ None) }
     ensures sound { OnOk result (IsAtRest machine.new) }
 {
     let mut out = Vec::new(alloc);

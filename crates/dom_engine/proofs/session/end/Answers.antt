@@ -1,0 +1,7 @@
+use Rattle.std.proofs.Common.{ap, ◌∙◌}
+use Rattle.dom_model.specs.World.{World}
+use Rattle.dom_engine.proofs.TurnEnds.{turn-finish}
+use Rattle.dom_engine.proofs.session.end.Goals as goal
+
+pub returns-clause-closed : goal.returns-clause-closed
+returns-clause-closed c = ap (λ (w : World). w.turn) c.in_ok-close_any_turn.ensures.world ∙ turn-finish c.args.machine.now.world
