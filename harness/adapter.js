@@ -1,10 +1,10 @@
 // Carries out the lines of a script by calls of a window's own DOM, and writes what domrun writes.
 //
-// What the DOM can answer, it answers. The rest is kept here, as thinly as possible: names, turns, the refusals before the DOM's,
-// and that each owner has its own notification. `run` runs a script that attaches components twice: the first time it lets the DOM
-// notify after every line, to see which line signals whose slots; the second time at the ends of turns, as the protocol has it.
+// What the DOM can answer, it answers. The rest is kept here and in queue.js, as thinly as possible: names, turns, the refusals before the
+// DOM's, and that each owner has its own notification. `run` runs a script that attaches components twice: the first time it lets the DOM
+// notify after every line, to see which line signals which slots; the second time at the ends of turns, as the protocol has it.
 "use strict";
-(function (exports, { parse, linesOf, KINDS }, { COMMANDS, Refused, refuseWhere, refuseFull, quotedOrNull }, { plansFor }, { endTurn, Unrepresentable }) {
+(function (exports, { parse, linesOf, KINDS }, { COMMANDS, Refused, refuseWhere, refuseFull, quotedOrNull }, { plansFor, habitsOf }, { Unrepresentable }, { Queue }) {
   const XHTML = "http://www.w3.org/1999/xhtml";
   const REFUSALS = {
     HierarchyRequestError: "hierarchy", NotFoundError: "not-found", NotSupportedError: "not-supported",
@@ -18,16 +18,15 @@
       this.attached = 0;
       for (const table of ["nodes", "ranges", "iterators", "walkers", "observers"]) this[table] = [];
       this.listeners = new Map();
-      this.records = [];
-      this.slotEvents = [];
     }
   }
 
   class Run {
-    // `signals`: for each line the owners whose slots it signals, first ones first; null: this run finds it out.
+    // `signals`: for each line the slots that it signals, in the order of their events; null: this run finds it out.
     constructor(window, signals, fixes) {
-      Object.assign(this, { window, signals, fixes, found: [], met: new Set(), output: [], tasks: [], turn: null, atCommand: false });
+      Object.assign(this, { window, signals, fixes, found: [], met: new Set(), output: [], turn: null, atCommand: false, stopped: null });
       this.owners = new Map();
+      this.queue = new Queue(this);
       this.names = new Map();
       this.page = this.addOwner("p");
       this.first = this.makeDocument();
@@ -50,7 +49,7 @@
     name(owner, node) {
       refuseFull(owner, "nodes");
       this.names.set(node, { owner, number: owner.nodes.push(node) - 1 });
-      if (node.localName === "slot" && !this.signals) node.addEventListener("slotchange", (event) => this.signalled(event));
+      if (node.localName === "slot") node.addEventListener("slotchange", (event) => this.signalled(event), { capture: true });
       return this.show(owner, node);
     }
 
@@ -81,6 +80,8 @@
 
     // Awaits nothing but at the ends of turns, since each `await` lets the DOM notify.
     async script(text) {
+      if (this.fixes.length) this.habits = habitsOf(this);
+      await this.checkpoint();
       for (const [at, line] of linesOf(text).entries()) {
         this.at = at;
         const { owner, command } = parse(line);
@@ -92,6 +93,20 @@
         if (!this.signals) await this.checkpoint();
       }
       if (this.turn) await this.endTurn();
+    }
+
+    // Lets the DOM run its microtasks.
+    async checkpoint() {
+      await null;
+      await null;
+      if (this.stopped) throw new Unrepresentable(this.stopped);
+    }
+
+    async endTurn() {
+      await this.checkpoint();
+      this.queue.endTurn();
+      if (this.stopped) throw new Unrepresentable(this.stopped);
+      this.turn = null;
     }
 
     put(line) {
@@ -137,6 +152,7 @@
     carryOut(owner, { name, options }, values) {
       const related = values.pop();
       let plans = [];
+      this.queue.beginLine(owner, name, values);
       this.atCommand = true;
       try {
         plans = plansFor(this, owner, name, values, options);
@@ -145,61 +161,31 @@
         return instead ? instead.call(call) : call();
       } catch (error) {
         plans = [];
+        this.queue.forgetLine();
         throw error;
       } finally {
         this.atCommand = false;
-        this.noteTasks(owner, plans);
+        this.queue.endLine(owner, plans);
+        if (this.stopped) throw new Unrepresentable(this.stopped);
       }
     }
 
-    // ---- tasks
-
-    // Queues the notifications that the line asks for. A placing or removal signals slots before its record, a change of an
-    // attribute or of data makes its record first; a fragment's record is made before its nodes are placed.
-    noteTasks(owner, plans) {
-      for (const observer of owner.observers) observer.fresh = observer.twin.takeRecords();
-      for (const { fix, after } of plans) if (after && after(owner.observers)) this.met.add(fix);
-      const taken = owner.observers.filter(({ fresh }) => fresh.length);
-      for (const observer of taken) observer.kept.push(...observer.fresh);
-      for (const observer of taken) observer.isPending = true;
-      const isFirst = taken.some(({ fresh: [record] }) => record.type !== "childList" || record.target.nodeType === 11);
-      const signals = ((this.signals || [])[this.at] || []).map((word) => this.owners.get(word));
-      const order = taken.length === 0 ? signals : isFirst ? [owner, ...signals] : [...signals, owner];
-      for (const next of order) if (!this.tasks.some((task) => task.owner === next && !task.label)) this.tasks.push({ owner: next });
+    // The name of a slot in the signals of lines, and the slot of that name.
+    keyOf(slot) {
+      const { owner, number } = this.names.get(slot);
+      return `${owner.word}:${number}`;
     }
 
-    // Lets the DOM run its microtasks.
-    async checkpoint() {
-      await null;
-      await null;
+    slotOf(key) {
+      const [word, number] = key.split(":");
+      return this.owners.get(word).nodes[number];
     }
 
-    // A slot was signalled: which line it was, where this run finds that out.
+    // The DOM tells a slot that it was signalled: at which line that was, where this run finds it out.
     signalled(event) {
       if (this.atCommand || event.target !== event.currentTarget) return;
-      const word = this.names.get(event.target).owner.word;
-      const line = (this.found[this.at] = this.found[this.at] || []);
-      if (!line.includes(word)) line.push(word);
-    }
-
-    async endTurn() {
-      await this.checkpoint();
-      for (const { owner, label } of this.tasks) {
-        if (label) this.put(`${owner.word} micro ${label}`);
-        else this.notify(owner);
-      }
-      for (const owner of this.owners.values()) {
-        this.notify(owner);
-        if (endTurn(owner, ({ isPending }) => isPending)) this.met.add("transients");
-        for (const observer of owner.observers) observer.isPending = false;
-      }
-      this.tasks = [];
-      this.turn = null;
-    }
-
-    // Puts what the DOM told the owner at the checkpoint: its records, then its slots' events.
-    notify(owner) {
-      for (const line of [...owner.records.splice(0), ...owner.slotEvents.splice(0)]) this.put(line);
+      if (this.signals) this.queue.tellSlot(event);
+      else (this.found[this.at] = this.found[this.at] || []).push(this.keyOf(event.target));
     }
 
     // ---- observers and listeners
@@ -209,8 +195,8 @@
       refuseFull(owner, "observers");
       const number = owner.observers.length;
       const line = (record) => this.recordLine(owner, number, record);
-      const observer = { line, kept: [], fresh: [], twin: new this.window.MutationObserver(() => {}) };
-      observer.real = new this.window.MutationObserver((records) => owner.records.push(...this.recordsOf(observer, records).map(line)));
+      const observer = { line, number, kept: [], fresh: [], twin: new this.window.MutationObserver(() => {}) };
+      observer.real = new this.window.MutationObserver((records) => this.queue.tellRecords(owner, observer, this.recordsOf(observer, records).map(line)));
       owner.observers.push(observer);
       return "o" + number;
     }
@@ -241,23 +227,33 @@
     }
 
     // The event of a signalled slot is told and acted on where it comes at the end of a turn: not where a run looks for signals, lest a
-    // listener keep the event from `signalled`. It is told with the notification of the slot's owner, whoever hears it.
+    // listener keep the event from `signalled`. With fixes a listener of one call is taken away here, and so may be spared a call.
     visit(owner, label, listener, event) {
-      if (!this.signals && !this.atCommand) return;
+      if (!this.atCommand && (!this.signals || this.queue.isSilent)) return;
       const show = (node) => this.show(owner, node);
       if (listener.once) listener.action = null;
+      if (listener.once && this.fixes.length) event.currentTarget.removeEventListener(event.type, listener, { capture: listener.capture });
       const line = `${owner.word} event ${label} ${event.type} phase=${event.eventPhase} target=${show(event.target)}`
         + ` current=${show(event.currentTarget)} related=${show(event.relatedTarget)} path=${this.showList(owner, event.composedPath())}`;
       if (this.atCommand) this.put(line);
-      else this.names.get(event.target).owner.slotEvents.push(line);
+      else this.queue.tellEvent(event, line);
       if (listener.acts === "stop") event.stopPropagation();
       if (listener.acts === "stop-now") event.stopImmediatePropagation();
       if (listener.acts === "cancel") event.preventDefault();
     }
   }
 
+  // The run that is under way.
+  let current = null;
+
+  // Ends the comparison of the script that is run behind this command or checkpoint, under the name of a difference.
+  function stop(name) {
+    current.stopped = current.stopped || name;
+  }
+
   // Runs the script up to where the DOM cannot be brought to where the protocol is. Gives the name of that difference; null: to its end.
   async function upToEnd(run, text) {
+    current = run;
     try {
       await run.script(text);
       return null;
@@ -267,11 +263,14 @@
     }
   }
 
+  // Fixes that a run which looks for signals takes: those that carry commands out in other steps.
+  const OF_STEPS = ["normalize-steps", "same-text", "insert-node-offset", "document-inside-itself", "contents-left"];
+
   // What the DOM of the window answers the script, as domrun would write it, and the names of the fixes that were met.
   async function run(window, text, fixes = []) {
     let signals = [];
-    if (/^p attach /m.test(text)) {
-      const first = new Run(window, null, []);
+    if (/^\S+ attach /m.test(text)) {
+      const first = new Run(window, null, fixes.filter((fix) => OF_STEPS.includes(fix)));
       await upToEnd(first, text);
       signals = first.found;
     }
@@ -289,11 +288,12 @@
     return answers;
   }
 
-  exports.owlantimony = { run, runAll };
+  exports.owlantimony = { run, runAll, stop };
 })(
   typeof module === "object" ? module.exports : globalThis,
   typeof require === "function" ? require("./lines.js").protocol : globalThis.protocol,
   typeof require === "function" ? require("./commands.js").commands : globalThis.commands,
   typeof require === "function" ? require("./fixes.js").fixing : globalThis.fixing,
   typeof require === "function" ? require("./lasting.js").lasting : globalThis.lasting,
+  typeof require === "function" ? require("./queue.js").queueing : globalThis.queueing,
 );

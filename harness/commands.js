@@ -105,8 +105,8 @@
 
   function listen(run, owner, [node, type, label, action], { capture = false, once = false, passive = false }) {
     const listener = run.listenerOf(owner, node, type, label, capture);
-    if (!listener.action) Object.assign(listener, { action, acts: action, once });
-    node.addEventListener(type, listener, { capture, once, passive });
+    if (!listener.action) Object.assign(listener, { action, acts: action, once, capture });
+    node.addEventListener(type, listener, { capture, once: once && !run.fixes.length, passive });
   }
 
   function unlisten(run, owner, [node, type, label], { capture = false }) {
@@ -214,7 +214,7 @@
     observe,
     disconnect,
     take,
-    micro: (run, owner, [label]) => void run.tasks.push({ owner, label }),
+    micro: (run, owner, [label]) => run.queue.addMicrotask(owner, label),
   };
 
   exports.commands = { COMMANDS, Refused, refuseWhere, refuseFull, quotedOrNull };

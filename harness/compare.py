@@ -44,14 +44,14 @@ class Comparison:
         """Puts the names of its differences in the place of each None, where the script, changed so, agrees after one at least."""
         open_ones = [i for i, names in enumerate(found) if names is None]
         tried = [change(given[i], wanted[i]) for i in open_ones]
-        again = engines.answers(self.engine, tried, known.FIXES)
+        again = engines.answers(self.engine, tried, known.fixes_in(self.engine.name))
         for i, script, want, (output, met) in zip(open_ones, tried, engines.run_programs(self.program, tried), again):
             found[i] = judging.judge(self.engine.name, script, want, output, met) or None
 
     def show(self, given):
         """For each script a text with it and its first difference, with the lines before that."""
         wanted = engines.run_programs(self.program, given)
-        plain, fixed = (engines.answers(self.engine, given, fixes) for fixes in ((), known.FIXES))
+        plain, fixed = (engines.answers(self.engine, given, fixes) for fixes in ((), known.fixes_in(self.engine.name)))
         return [shown(*outputs) for outputs in zip(given, wanted, (output for output, _ in plain), (output for output, _ in fixed))]
 
     def unexplained(self, tried):

@@ -17,7 +17,7 @@ HERE = os.path.dirname(os.path.abspath(__file__))
 PROGRAM = os.path.normpath(os.path.join(HERE, "..", "crates", "domrun", "out", "domrun"))
 # Seconds after which an engine is taken to give no answer to a batch of scripts.
 PATIENCE = 600
-SOURCES = ("lines.js", "commands.js", "lasting.js", "fixes.js", "adapter.js")
+SOURCES = ("lines.js", "commands.js", "lasting.js", "fixes.js", "slots.js", "queue.js", "adapter.js")
 
 
 class Missing(Exception):

@@ -1,7 +1,7 @@
 // The differences between a DOM and the protocol that can be made good by smaller steps: with a fix the adapter carries a command out
 // as the DOM Standard has it, and a script that then agrees differs by just this. What a fix does is met only where it changes something.
 "use strict";
-(function (exports, { planIterators, planRoots, planUntold, planTransients, Unrepresentable }) {
+(function (exports, { planIterators, planRoots, planUntold, planTransients, observesWhatLeft, Unrepresentable }) {
   const indexOf = (node) => {
     let index = 0;
     for (let before = node.previousSibling; before; before = before.previousSibling) index += 1;
@@ -135,7 +135,7 @@
 
   // Deletion and extraction: nodes leave in tree order, so that what is behind one of them is still there.
   function planRemovals(range) {
-    const found = held(range).sort((a, b) => (a.compareDocumentPosition(b) & a.DOCUMENT_POSITION_FOLLOWING ? -1 : 1));
+    const found = held(range);
     const places = new Map(found.map((node) => {
       let previousSibling = node.previousSibling;
       while (found.includes(previousSibling)) previousSibling = previousSibling.previousSibling;
@@ -152,7 +152,8 @@
     });
   }
 
-  // The nodes that a range holds whole, without those below them: from the start upwards what follows, to the end what comes before.
+  // The nodes that a range holds whole, without those below them, in tree order: from the start upwards what follows, to the end what comes
+  // before.
   function held(range) {
     const { startContainer: start, startOffset, endContainer: end, endOffset, commonAncestorContainer: common } = range;
     const childrenOf = (node) => (node.nodeType === 3 || node.nodeType === 8 ? [] : [...node.childNodes]);
@@ -165,7 +166,7 @@
       found.push(...childrenOf(node.parentNode).slice(indexOf(node) + 1));
     for (let node = end; node !== common && node.parentNode !== common; node = node.parentNode)
       found.push(...childrenOf(node.parentNode).slice(0, indexOf(node)));
-    return found;
+    return found.sort((a, b) => (a.compareDocumentPosition(b) & a.DOCUMENT_POSITION_FOLLOWING ? -1 : 1));
   }
 
   // Deletion and extraction take all that the range holds: whether it all went, and the command was not refused.
@@ -249,7 +250,7 @@
   function join(run, owner, text) {
     if (text.length === 0) return text.remove();
     const behind = textsBeside(text, "nextSibling");
-    if (behind.length === 0) return tellsOfLoneTexts(run) ? text.replaceData(text.length, 0, "") : undefined;
+    if (behind.length === 0) return run.habits.tellsOfLoneTexts ? text.replaceData(text.length, 0, "") : undefined;
     let length = text.length;
     text.replaceData(length, 0, behind.map((one) => one.data).join(""));
     const points = new Points(owner);
@@ -276,9 +277,10 @@
 
   // Whether this DOM writes a record of a Text that it joins with none, as the Standard's text does.
   function tellsOfLoneTexts(run) {
-    const parent = run.first.createElement("p");
+    const other = run.makeDocument();
+    const parent = other.createElement("p");
     const observer = new run.window.MutationObserver(() => {});
-    parent.appendChild(run.first.createTextNode("a"));
+    parent.appendChild(other.createTextNode("a"));
     observer.observe(parent, { characterData: true, childList: false, subtree: true });
     parent.normalize();
     return observer.takeRecords().length > 0;
@@ -365,11 +367,15 @@
 
   // What is to be done at a command for these fixes, by name: `call` in place of its call, `after` with the observers behind it.
   function plansFor(run, owner, name, values, options) {
-    const plans = run.fixes.map((fix) => ({ fix, ...FIXES[fix](run, owner, name, values, options) }));
+    const plans = run.fixes.filter((fix) => FIXES[fix]).map((fix) => ({ fix, ...FIXES[fix](run, owner, name, values, options) }));
     return plans.filter(({ call, after }) => call || after);
   }
 
-  exports.fixing = { plansFor };
+  // What is to be known of a DOM before a script is run with fixes. It is asked then, and in another document,
+  // since records that come queue a notification, and some steps are others in a document that was observed.
+  const habitsOf = (run) => ({ observesWhatLeft: observesWhatLeft(run), tellsOfLoneTexts: tellsOfLoneTexts(run) });
+
+  exports.fixing = { plansFor, habitsOf, held };
 })(
   typeof module === "object" ? module.exports : globalThis,
   typeof require === "function" ? require("./lasting.js").lasting : globalThis.lasting,

@@ -118,14 +118,11 @@
   // Follows an observer: what it observes, the copies of registrations that nodes got by leaving in this turn, and those that it keeps
   // from earlier. A copy has a source: the observed node whose registration it copies, or null where it copies a copy.
   function follow(run, observer) {
-    if (observer.lasting) return observer.lasting;
-    const scout = new run.window.MutationObserver(() => {});
-    return (observer.lasting = { scout, observed: new Map(), left: [], kept: [] });
+    return (observer.lasting = observer.lasting || { observed: new Map(), since: new Map(), left: [], kept: [] });
   }
 
   function observeOn(observer, node, options) {
     for (const one of [observer.real, observer.twin]) one.observe(node, options);
-    if (options.subtree) observer.lasting.scout.observe(node, { childList: true, subtree: true });
   }
 
   // No call gives a node two registrations of one observer.
@@ -141,7 +138,7 @@
 
   // No call takes one registration away: all go, and those that stay come again.
   function observeAfresh(observer) {
-    for (const one of [observer.real, observer.twin, observer.lasting.scout]) one.disconnect();
+    for (const one of [observer.real, observer.twin]) one.disconnect();
     for (const [node, options] of observer.lasting.observed) observeOn(observer, node, options);
     observeCopies(observer, observer.lasting.kept);
   }
@@ -167,25 +164,27 @@
       const isAgain = following.observed.has(node);
       return { after: () => {
         following.observed.set(node, options);
-        if (options.subtree) following.scout.observe(node, { childList: true, subtree: true });
+        run.registrations = (run.registrations || 0) + 1;
+        if (!isAgain) following.since.set(node, run.registrations);
         refuseTwo(following);
         return isAgain && observeAgain(observer, node);
       } };
     }
     if (name === "disconnect") return { after: () => {
-      if (observer.lasting) observer.lasting.scout.disconnect();
       observer.lasting = undefined;
     } };
     return { after: () => {
       const following = owner.observers.filter(({ lasting }) => lasting);
-      for (const { lasting } of following) noteLeft(lasting, name === "replace" ? values[2] : null);
-      return following.length > 0 && !observesWhatLeft(run) && following.map(keepLeft).includes(true);
+      const taken = run.queue.wanted ? run.queue.wanted.taken : [];
+      for (const { lasting } of following) for (const one of taken) if (noteLeft(lasting, one)) run.queue.noteLeft();
+      return following.length > 0 && !run.habits.observesWhatLeft && following.map(keepLeft).includes(true);
     } };
   }
 
   // Whether this DOM gives what leaves copies of registrations at all.
   function observesWhatLeft(run) {
-    const [parent, child] = [run.first.createElement("p"), run.first.createElement("p")];
+    const other = run.makeDocument();
+    const [parent, child] = [other.createElement("p"), other.createElement("p")];
     const observer = new run.window.MutationObserver(() => {});
     parent.appendChild(child);
     observer.observe(parent, { attributes: true, childList: false, subtree: true });
@@ -205,18 +204,13 @@
     return left.length > 0;
   }
 
-  // The nodes that left a tree in this command get what was asked of all that is below; a child that is replaced left first.
-  function noteLeft(lasting, replaced) {
-    const records = lasting.scout.takeRecords();
-    const isFirst = (record) => [...record.removedNodes].includes(replaced);
-    for (const record of [...records.filter(isFirst), ...records.filter((one) => !isFirst(one))]) {
-      for (const node of record.removedNodes) {
-        const sources = [...lasting.observed].filter(([top, options]) => options.subtree && top.contains(record.target));
-        const copied = [...lasting.left, ...lasting.kept].filter((one) => one.options.subtree && one.node.contains(record.target));
-        lasting.left.push(...sources.map(([source, options]) => ({ node, options, source })));
-        lasting.left.push(...copied.map(({ options }) => ({ node, options, source: null })));
-      }
-    }
+  // A node that left its place gets what was asked of all that is below one of the nodes above it. True: there was such.
+  function noteLeft(lasting, { node, above }) {
+    const sources = [...lasting.observed].filter(([top, options]) => options.subtree && above.includes(top));
+    const copied = [...lasting.left, ...lasting.kept].filter((one) => one.options.subtree && above.includes(one.node));
+    lasting.left.push(...sources.map(([source, options]) => ({ node, options, source })));
+    lasting.left.push(...copied.map(({ options }) => ({ node, options, source: null })));
+    return sources.length + copied.length > 0;
   }
 
   // At the end of a turn: an observer that took a record is notified, and observes no longer what left; another one goes on.
@@ -237,5 +231,39 @@
     return met;
   }
 
-  exports.lasting = { planIterators, planRoots, planUntold, planTransients, endTurn, Unrepresentable };
+  // ---- the order in which observers become pending by one command
+
+  const isAsked = (options, { type, attributeName: name }) =>
+    type !== "attributes" ? options[type] || (type === "characterData" && options.characterDataOldValue)
+      : options.attributeFilter ? options.attributeFilter.includes(name) : options.attributes || options.attributeOldValue;
+
+  // How far above the target of a record the registration stands that an observer has it by, and when that one was made.
+  function placeOf({ lasting }, record) {
+    const all = [...lasting.observed].map(([node, options]) => ({ node, options, since: lasting.since.get(node) }));
+    all.push(...[...lasting.left, ...lasting.kept].map((copy) => ({ ...copy, since: Infinity })));
+    let far = 0;
+    for (let node = record.target; node; node = node.parentNode, far += 1) {
+      const found = all.filter((one) => one.node === node && (far === 0 || one.options.subtree) && isAsked(one.options, record));
+      if (found.length) return [far, Math.min(...found.map(({ since }) => since))];
+    }
+    return [Infinity, Infinity];
+  }
+
+  // Of two observers the one whose first record came first: that of a record which the other one has too, but behind it; of one and the
+  // same record, that which is nearer to the target, and then that which was there first; else by the steps of the command.
+  function compare(one, other, stepOf) {
+    const textOf = (observer, record) => observer.line(record).replace(/^(\S+ \S+) \S+/, "$1").replace(/ old=.*/, "");
+    const [first, second] = [one, other].map((observer) => observer.fresh.map((record) => textOf(observer, record)));
+    if (first[0] !== second[0])
+      return second.includes(first[0]) ? 1 : first.includes(second[0]) ? -1 : stepOf(one.fresh[0]) - stepOf(other.fresh[0]) || 0;
+    const [place, further] = [one, other].map((observer) => placeOf(observer, observer.fresh[0]));
+    return place[0] - further[0] || (place[1] === further[1] ? 0 : place[1] - further[1]);
+  }
+
+  // The observers that became pending by one command, in order; `stepOf` tells behind which of its steps a record stands.
+  function inOrder(observers, stepOf) {
+    return observers.every(({ lasting }) => lasting) ? [...observers].sort((one, other) => compare(one, other, stepOf)) : observers;
+  }
+
+  exports.lasting = { inOrder, observesWhatLeft, planIterators, planRoots, planUntold, planTransients, endTurn, Unrepresentable };
 })(typeof module === "object" ? module.exports : globalThis);

@@ -5,7 +5,6 @@ const { JSDOM } = require("jsdom");
 const { findSlot } = require("jsdom/lib/jsdom/living/helpers/shadow-dom.js");
 const { implementation: Node } = require("jsdom/lib/jsdom/living/nodes/Node-impl.js");
 const { owlantimony } = require("./adapter.js");
-const { Unrepresentable } = require("./lasting.js").lasting;
 
 // A node of jsdom keeps the slot that it was assigned to when it is assigned to none any more, and the path of an event goes over that
 // slot. With fixes the comparison ends there. Without them it goes on, up to where a path comes to a node again, as where the slot's host
@@ -16,7 +15,10 @@ function watchPaths(fixes) {
   Node.prototype._getTheParent = function (event) {
     const nodes = passed.get(event) || new Set();
     const isKept = this._assignedSlot && this._assignedSlot !== findSlot(this);
-    if (nodes.has(this) || (isKept && fixes.length)) throw new Unrepresentable("slot-kept");
+    if (nodes.has(this) || (isKept && fixes.length)) {
+      owlantimony.stop("slot-kept");
+      return null;
+    }
     passed.set(event, nodes.add(this));
     return parentOf.call(this, event);
   };

@@ -248,7 +248,7 @@ class Maker(Draft):
 
     def host(self):
         """Attaches a component: to an element of the page, or of another component."""
-        if len(self.owners) > 4 or self.owner is not self.page and self.chance.random() < 0.3:
+        if len(self.owners) > 8 or self.owner is not self.page and self.chance.random() < 0.3:
             return self.slot()
         hosts = [name for name, node in self.owner.nodes.items() if node.tag in SLOTTED]
         value = self.say(f"attach {self.one(hosts or list(self.owner.nodes))}")
@@ -277,7 +277,7 @@ class Maker(Draft):
     def begin_component(self, component):
         """The first lines of a component: a slot, which in every second one stands in a host of a component inside, and so on."""
         self.owner, host = component, "m0"
-        if self.chance.random() < 0.5:
+        if self.chance.random() < 0.6:
             self.made(self.say("new element div"), "element", "div")
             host = max(component.nodes)
             self.change(f"append m0 {host}", "m0", host)
