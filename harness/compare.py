@@ -1,27 +1,29 @@
 #!/usr/bin/env python3
 """Runs scripts in domrun and in a browser or jsdom, and shows where the two part.
 
-Usage: harness/compare.py [--engine chromium|firefox|jsdom] [--program DOMRUN] SCRIPT..
-       harness/compare.py [--engine ..] [--program ..] --random N [--seed S] [--lines N] [--first I]
-       harness/compare.py [--engine ..] [--program ..] --known
-       harness/compare.py [--engine ..] [--program ..] --examples
+Usage: harness/compare.py [--engine chromium|firefox|jsdom] [--program DOMRUN | --unproved] [--verbose] [--json] WHAT
 
-A script whose output differs is tried again with each named difference made good (known.py, fixes.js). Where it then agrees, it is
-counted under their names (judging.py); else it is unexplained: it is made small, its first difference is printed, and the status is 1.
+WHAT is SCRIPT.., --random N, --known or --examples. A script whose output differs is tried again with each named difference made good
+(known.py). Where it then agrees it differs by these names (judging.py); else it is unexplained, and is made small. What differs is shown as
+
+    2.in:7: p take o0                       the script, the line, and the command at which the outputs part
+      domrun: p record o0 ..                what each wrote there
+      engine: p record o0 ..
+      named: sibling-inserted               or: UNEXPLAINED
+
+Exit status: 0; 1 where a script is unexplained, or nothing could be run; 2 where the words are refused.
 """
 import argparse
 import collections
 import glob
 import os
-import re
 import sys
 
 import engines
 import judging
 import known
 import scripts
-
-NAME = re.compile(r"(?<![\w:\"'=.#\[-])([nmriwo])(\d+)(?![\w:-])")
+import shrinking
 
 
 class Comparison:
@@ -30,183 +32,154 @@ class Comparison:
     def __init__(self, engine, program):
         self.engine, self.program = engine, program
 
-    def judged(self, given):
-        """For each script the names of its differences: none where it agrees, and None where it is unexplained."""
-        wanted = engines.run_programs(self.program, given)
-        plain = [output for output, _ in engines.answers(self.engine, given)]
-        found = [set() if a == b else None for a, b in zip(wanted, plain)]
-        self.explain(found, given, wanted, lambda script, _: script)
+    def judged(self, named):
+        """The verdict on each of these scripts, which are pairs of a title and the script."""
+        given = [script for _, script in named]
+        outputs = [output for output, _ in engines.answers(self.engine, given)]
+        found = [judging.Verdict(title, script, wanted, got) for (title, script), wanted, got in zip(named, self.program.run(given), outputs)]
+        self.explain([verdict for verdict in found if verdict.names is None], lambda script, _: script)
         if self.engine.name in judging.PROBED:
-            self.explain(found, given, wanted, judging.probed)
+            self.explain([verdict for verdict in found if verdict.names is None], judging.probed)
         return found
 
-    def explain(self, found, given, wanted, change):
-        """Puts the names of its differences in the place of each None, where the script, changed so, agrees after one at least."""
-        open_ones = [i for i, names in enumerate(found) if names is None]
-        tried = [change(given[i], wanted[i]) for i in open_ones]
+    def explain(self, verdicts, change):
+        """Gives each verdict the names of its differences, where the script, changed so, agrees after one at least."""
+        tried = [change(verdict.script, verdict.wanted) for verdict in verdicts]
+        wanted = [verdict.wanted for verdict in verdicts]
+        if tried != [verdict.script for verdict in verdicts]:
+            wanted = self.program.run(tried)
         again = engines.answers(self.engine, tried, known.fixes_in(self.engine.name))
-        for i, script, want, (output, met) in zip(open_ones, tried, engines.run_programs(self.program, tried), again):
-            found[i] = judging.judge(self.engine.name, script, want, output, met) or None
-
-    def show(self, given):
-        """For each script a text with it and its first difference, with the lines before that."""
-        wanted = engines.run_programs(self.program, given)
-        plain, fixed = (engines.answers(self.engine, given, fixes) for fixes in ((), known.fixes_in(self.engine.name)))
-        return [shown(*outputs) for outputs in zip(given, wanted, (output for output, _ in plain), (output for output, _ in fixed))]
+        for verdict, script, want, (output, met) in zip(verdicts, tried, wanted, again):
+            verdict.names = judging.judge(self.engine.name, script, want, output, met) or None
+            verdict.fixed = output if script == verdict.script else verdict.fixed
 
     def unexplained(self, tried):
         """The scripts of these, each a list of lines, that are unexplained."""
-        judged = self.judged(["".join(line + "\n" for line in lines) for lines in tried])
-        return [lines for lines, names in zip(tried, judged) if names is None]
+        judged = self.judged([("", "".join(line + "\n" for line in lines)) for lines in tried])
+        return [lines for lines, verdict in zip(tried, judged) if verdict.names is None]
 
-    def small(self, script):
-        """The script without lines that it does without, while it stays unexplained: runs of lines go, long ones first."""
-        lines = judging.lines_of(script)
-        size = len(lines) // 2
-        while size:
-            made = names_made(self.program, lines)
-            shorter = [without(made, lines, start, size) for start in range(0, len(lines), size)]
-            kept = self.unexplained([tried for tried in shorter if tried != lines])
-            if kept:
-                lines = min(kept, key=len)
-                size = min(size, max(1, len(lines) // 2))
-            else:
-                size //= 2
-        return "".join(line + "\n" for line in lines)
+    def small(self, verdict):
+        """The verdict on the script made small, as long as a program that need not be built again tells what it answers."""
+        if not isinstance(self.program, engines.Program):
+            return verdict
+        script = shrinking.small(verdict.script, self.program, self.unexplained)
+        return self.judged([(f"{verdict.title}, made small", script)])[0]
 
 
-def shown(script, wanted, plain, fixed):
-    """A script and the first difference of what an engine wrote for it, as it is and with each named difference made good."""
-    wanted, text = wanted.splitlines(), script
-    for title, output in (("as it is", plain), ("with each named difference made good", fixed)):
-        got = output.splitlines()
-        at = judging.first_difference(wanted, got)
-        if at is None:
-            text += f"-- {title}: no difference\n"
-            continue
-        text += f"-- {title}: at `{judging.line_of(script, wanted, at)}`\n"
-        text += "".join(f"     both: {line}\n" for line in wanted[max(0, at - 3):at])
-        text += f"   domrun: {wanted[at] if at < len(wanted) else '(no line)'}\n"
-        text += f"   engine: {got[at] if at < len(got) else '(no line)'}\n"
-    return text
+class Printed:
+    """Prints verdicts as text, and the counts of a run."""
 
+    def __init__(self, is_verbose, most):
+        self.is_verbose, self.most = is_verbose, most
+        self.counts, self.first = collections.Counter(), {}
 
-def names_made(program, lines):
-    """For each line how many names each owner has made when it has run, by owner and letter."""
-    output = engines.run_program(program, "".join(line + "\n" for line in lines)).splitlines()
-    replies = [line for line in output if judging.REPLY.match(line)]
-    counts, made = collections.Counter(), []
-    for line, reply in zip(lines, replies):
-        found = re.fullmatch(r"(\S+) ok ([nmriwo])(\d+)", reply)
-        if found and re.match(r"\S+ (new|document|split|extract|range-new|iter-new|walk-new|observer)", line):
-            counts[found[1], found[2]] = max(counts[found[1], found[2]], int(found[3]) + 1)
-        made.append(dict(counts))
-    return made
-
-
-def without(made, lines, start, size):
-    """The lines without a run of them: names made later are counted down, and lines with a name that was made there go too."""
-    before = made[start - 1] if start else {}
-    after = made[min(start + size, len(made)) - 1]
-    left = list(lines[:start])
-    for line in lines[start + size:]:
-        owner = line.split(" ")[0]
-        gone = []
-
-        def renamed(match, owner=owner, gone=gone):
-            letter, number = match[1], int(match[2])
-            base = 1 if letter in "nm" else 0
-            low, high = (counts.get((owner, letter), base) for counts in (before, after))
-            if low <= number < high:
-                gone.append(match[0])
-            return f"{letter}{number - (high - low) if number >= high else number}"
-
-        new = NAME.sub(renamed, line)
-        if not gone:
-            left.append(new)
-    return left
-
-
-def report(counts, total):
-    """Prints how many scripts agree, and after which named differences."""
-    print(f"{counts['agree']} of {total} agree byte for byte")
-    for name, count in sorted(counts.items()):
-        if name not in ("agree", "unexplained", "named"):
-            print(f"  {count} met {name}")
-    print(f"{counts['named']} agree after named differences, {counts['unexplained']} are unexplained")
-
-
-def compare(comparison, batches, shown):
-    """Judges batches of named scripts, prints what is unexplained, made small, and then the counts. Gives the status."""
-    counts, total = collections.Counter(), 0
-    for batch in batches:
-        for (title, script), names in zip(batch, comparison.judged([script for _, script in batch])):
-            total += 1
-            counts["agree" if names == set() else "unexplained" if names is None else "named"] += 1
-            counts.update(names or ())
-            if names is None:
-                print(f"== {title}: unexplained")
-            if names is None and counts["unexplained"] <= shown:
-                print(comparison.show([comparison.small(script)])[0], end="")
+    def put(self, comparison, verdict):
+        """Counts a verdict, and prints it: a named one where all are to be shown, an unexplained one made small, up to the most."""
+        self.counts[verdict.word()] += 1
+        for name in verdict.names or ():
+            self.counts["met", name] += 1
+            self.first.setdefault(name, verdict.place())
+        if verdict.names == set():
+            if self.is_verbose:
+                print(f"{verdict.title}: agrees byte for byte")
+        elif verdict.names is None:
+            print(verdict.text(), end="")
+            if self.counts["unexplained"] <= self.most:
+                print(comparison.small(verdict).whole_text(), end="")
+        elif self.is_verbose:
+            print(verdict.whole_text() if self.is_verbose > 1 else verdict.text(), end="")
         sys.stdout.flush()
-    report(counts, total)
-    return 1 if counts["unexplained"] else 0
+
+    def end(self):
+        total = sum(self.counts[word] for word in ("agree", "named", "unexplained"))
+        print(f"{self.counts['agree']} of {total} agree byte for byte")
+        for name, place in sorted(self.first.items(), key=lambda entry: (-self.counts["met", entry[0]], entry[0])):
+            print(f"  {self.counts['met', name]} met {name}, first at {place}")
+        print(f"{self.counts['named']} agree after named differences, {self.counts['unexplained']} are unexplained")
 
 
-def random_batches(words, program):
-    """Batches of random scripts, named by seed and number."""
-    size = 500
+class Json(Printed):
+    """Prints verdicts as JSON, one object in each line; the last has the counts."""
+
+    def put(self, comparison, verdict):
+        self.counts[verdict.word()] += 1
+        if verdict.names is None and self.counts["unexplained"] <= self.most:
+            verdict.small = comparison.small(verdict).script
+        print(verdict.json(self.is_verbose), flush=True)
+
+    def end(self):
+        print(judging.json_of({word: self.counts[word] for word in ("agree", "named", "unexplained")}))
+
+
+def random_batches(words):
+    """Batches of random scripts, titled by seed and number: the size of one is that for which `rt try` builds the program once."""
+    size = max(words.random, 1) if words.unproved else 500
     for first in range(words.first, words.first + words.random, size):
         count = min(size, words.first + words.random - first)
-        made = scripts.random_scripts(program, words.seed, count, words.lines, first)
+        made = scripts.random_scripts(words.seed, count, words.lines, first)
         yield [(f"seed {words.seed} number {first + i}", script) for i, script in enumerate(made)]
+
+
+def known_scripts():
+    return [(f"{name} {number}", script) for name, difference in known.KNOWN.items() for number, script in enumerate(difference.scripts, 1)]
 
 
 def print_known(comparison):
     """Prints each named difference, with the scripts that show it and whether they do so in this engine. Gives the status."""
-    named = [(name, script) for name, difference in known.KNOWN.items() for script in difference.scripts]
-    given = [script for _, script in named]
-    found = list(zip(named, comparison.judged(given), comparison.show(given)))
+    found = comparison.judged(known_scripts())
     for name, difference in known.KNOWN.items():
-        print(f"== {name} ({difference.sort}): {difference.text}")
-        for (_, names, text) in (one for one in found if one[0][0] == name):
-            says = "not here" if names == set() else "UNEXPLAINED here" if names is None else "here: " + ", ".join(sorted(names))
-            print(f"-- this script is {says}\n{text}", end="")
-    return 1 if any(names is None for _, names, _ in found) else 0
+        print(f"== {name} ({difference.sort}; in {', '.join(difference.engines)}): {difference.text}")
+        for verdict in (one for one in found if one.title.rpartition(" ")[0] == name):
+            print(f"-- this script is {verdict.here()}\n{verdict.whole_text()}", end="")
+    return 1 if any(verdict.names is None for verdict in found) else 0
 
 
-def print_examples(comparison):
-    """Prints for each folder of examples how many agree, and which ones differ by what."""
+def example_batches():
+    """The scripts of each folder of examples that has scripts."""
     found = collections.defaultdict(list)
     for path in sorted(glob.glob(os.path.join(engines.HERE, "..", "examples", "*", "*.in"))):
-        found[os.path.basename(os.path.dirname(path))].append((os.path.basename(path)[:-3], script_of(path)))
-    status = 0
-    for folder, named in found.items():
-        judged = comparison.judged([script for _, script in named])
-        print(f"{folder}: {judged.count(set())} of {len(named)} agree byte for byte")
-        for (name, _), names in zip(named, judged):
-            if names != set():
-                print(f"  {name}: {'UNEXPLAINED' if names is None else ', '.join(sorted(names))}")
-            status = 1 if names is None else status
-    return status
+        found[os.path.dirname(path)].append((os.path.relpath(path), script_of(path)))
+    return list(found.values())
+
+
+def print_all(words, comparison, batches):
+    """Judges batches of titled scripts, and prints verdicts and counts. Gives the status."""
+    printed = (Json if words.json else Printed)(words.verbose, words.shown)
+    for batch in batches:
+        for verdict in comparison.judged(batch):
+            printed.put(comparison, verdict)
+    printed.end()
+    return 1 if printed.counts["unexplained"] else 0
 
 
 def words_given():
     """The words of the command line: one kind of scripts, and how they are run."""
-    parser = argparse.ArgumentParser(description=__doc__.splitlines()[0])
-    parser.add_argument("--engine", choices=engines.ENGINES, default="chromium")
-    parser.add_argument("--program", default=engines.PROGRAM, help="the built domrun")
-    parser.add_argument("--random", type=int, metavar="N", help="this many random scripts")
-    parser.add_argument("--seed", default="1", help="of the random scripts")
-    parser.add_argument("--lines", type=int, default=100, help="of each random script")
-    parser.add_argument("--first", type=int, default=0, help="number of the first random script")
-    parser.add_argument("--shown", type=int, default=3, help="how many unexplained scripts are made small and printed")
-    parser.add_argument("--known", action="store_true", help="the scripts of the named differences")
-    parser.add_argument("--examples", action="store_true", help="the scripts in examples/")
-    parser.add_argument("scripts", nargs="*", metavar="SCRIPT", help="scripts of your own")
+    parser = argparse.ArgumentParser(description=__doc__.split("Exit")[0], epilog="Exit" + __doc__.split("Exit")[1],
+                                     usage=__doc__.split("Usage: ")[1].split("\n")[0], formatter_class=argparse.RawDescriptionHelpFormatter)
+    what = parser.add_argument_group("what is run (one of these)")
+    what.add_argument("scripts", nargs="*", metavar="SCRIPT", help="files of scripts of your own; docs/PROTOCOL.md has the lines")
+    what.add_argument("--random", type=int, metavar="N", help="so many random scripts, half of them with components, also inside components")
+    what.add_argument("--known", action="store_true", help="the scripts of the named differences, and whether the engine has these")
+    what.add_argument("--examples", action="store_true", help="the scripts in examples/")
+    how = parser.add_argument_group("where it is run")
+    how.add_argument("--engine", choices=engines.ENGINES, default="chromium", help="the browser or library (chromium)")
+    how.add_argument("--program", default=engines.PROGRAM, metavar="DOMRUN", help="the built domrun (that of `rt run` in crates/domrun)")
+    how.add_argument("--unproved", action="store_true", help="build the program without a proof, by `rt try`: two minutes, not kept")
+    random = parser.add_argument_group("random scripts")
+    random.add_argument("--seed", default="1", metavar="S", help="which scripts; number I of a seed is the same everywhere (1)")
+    random.add_argument("--lines", type=int, default=100, metavar="N", help="of each script (100)")
+    random.add_argument("--first", type=int, default=0, metavar="I", help="number of the first script (0)")
+    shown = parser.add_argument_group("what is printed")
+    shown.add_argument("--verbose", action="count", default=0, help="each verdict, also named ones and what agrees; twice: with the scripts. "
+                                                                    "Without it, named ones are shown for scripts of your own alone")
+    shown.add_argument("--json", action="store_true", help="one JSON object for each script in a line, and a last one with the counts")
+    shown.add_argument("--shown", type=int, default=3, metavar="N", help="how many unexplained scripts are made small (3)")
     words = parser.parse_args()
     if [words.random is not None, words.known, words.examples, bool(words.scripts)].count(True) != 1:
         parser.error("one of SCRIPT.., --random N, --known and --examples is wanted")
+    if words.random is not None and words.random < 1:
+        parser.error("--random wants a number from 1 on")
+    words.verbose = words.verbose or int(bool(words.scripts))
     return words
 
 
@@ -218,24 +191,23 @@ def script_of(path):
 
 def run(words, comparison, given):
     """Does what the words ask for. Gives the status."""
-    if words.known:
+    if words.known and not words.json:
         return print_known(comparison)
-    if words.examples:
-        return print_examples(comparison)
-    return compare(comparison, [given] if given else random_batches(words, comparison.program), words.shown)
+    batches = [known_scripts()] if words.known else example_batches() if words.examples else [given] if given else random_batches(words)
+    return print_all(words, comparison, batches)
 
 
 def main():
     words = words_given()
     try:
         given = [(path, script_of(path)) for path in words.scripts]
-        program = engines.find(words.program)
+        program = engines.Unproved() if words.unproved else engines.Program(words.program)
         engine = engines.ENGINES[words.engine]()
     except engines.Missing as fault:
         raise SystemExit(str(fault)) from None
     except OSError as fault:
         raise SystemExit(f"{fault.filename}: {fault.strerror}") from None
-    print(engine.version, flush=True)
+    print(engine.version, file=sys.stderr if words.json else sys.stdout, flush=True)
     try:
         return run(words, Comparison(engine, program), given)
     finally:

@@ -1,116 +1,124 @@
-"""A script in the making: its lines, its owners and how their trees stand, and choices among their nodes."""
+"""A script in the making: its lines, its owners with what they have made (sketch.py), and choices among their nodes."""
+import random
 import re
-import subprocess
 
-TOKEN = re.compile(r'\(|\)|"(?:[^"\\]|\\.)*"|[^\s()"]+="(?:[^"\\]|\\.)*"|[^\s()]+')
+from sketch import DATA, HOSTS, Node, Owner, Refused, refuse_where
 
-
-class Node:
-    """What is known of a node: its kind, its name if it is an element, its tree, and the length of its data."""
-
-    def __init__(self, kind):
-        self.kind, self.tag, self.parent, self.children, self.units = kind, "", None, [], 0
+NAME = re.compile(r"[A-Za-z_][A-Za-z0-9_-]*")
+MADE_BY_NUMBER = {"iter-new": "i", "walk-new": "w", "observer": "o"}
+OBSERVED = ("childList", "attributes", "characterData", "attributeOldValue", "characterDataOldValue", "filter")
 
 
-class Owner:
-    """The page or a component: its nodes by name, and its numbers of ranges, iterators, walkers and observers."""
-
-    def __init__(self, word):
-        self.word, self.nodes = word, {}
-        self.ranges, self.iterators, self.walkers, self.observers, self.heard = [], [], [], [], []
+def units_of(text: str) -> int:
+    """The length of a string that is written with its quotation marks."""
+    return len(re.sub(r"\\u....|\\.", "x", text[1:-1]))
 
 
 class Draft:
     """The lines of a script so far, and what is known behind them. `chance` makes the choices."""
 
-    def __init__(self, program, chance):
-        self.chance, self.lines, self.answers = chance, [], []
-        self.process = subprocess.Popen([program, "-"], stdin=subprocess.PIPE, stdout=subprocess.PIPE, text=True, bufsize=1)
-        self.page = Owner("p")
-        self.page.nodes["n0"] = Node("document")
-        self.owners, self.owner, self.open = [self.page], self.page, None
+    def __init__(self, chance: random.Random) -> None:
+        self.chance, self.lines, self.open = chance, [], None
+        self.page = self.with_lists(Owner("p", Node("document")))
+        self.owners, self.owner = [self.page], self.page
 
-    def ask(self, line):
-        """Runs a line, and gives its reply behind the owner's word, and the lines before it."""
-        word = line.split(" ", 1)[0]
-        self.process.stdin.write(line + "\n")
-        before = []
-        while True:
-            answer = self.process.stdout.readline()
-            if not answer:
-                raise SystemExit(f"{self.process.args[0]} ended at `{line}`")
-            answer = answer.rstrip("\n")
-            if answer.startswith((word + " ok", word + " !", "! owner")):
-                return answer[len(word) + 1:], before
-            before.append(answer)
+    @staticmethod
+    def with_lists(owner: Owner) -> Owner:
+        """An owner with lists of what it made and may name, and of the nodes at which it listens."""
+        owner.ranges, owner.iterators, owner.walkers, owner.observers, owner.heard = [], [], [], [], []
+        return owner
 
-    def say(self, words):
-        """Adds a line of the owner whose turn it is to the script, and gives the value of its answer, or None where it is refused."""
-        line = f"{self.owner.word} {words}"
-        reply, before = self.ask(line)
-        self.lines.append(line)
-        self.answers.append((words.split(" ")[0], reply, before))
-        if reply.startswith("!"):
+    def say(self, words: str) -> str | None:
+        """Adds a line of the owner whose turn it is to the script, and gives what it makes, or None where it is refused."""
+        self.lines.append(f"{self.owner.word} {words}")
+        if words == ".":
+            self.open = None
+            return ""
+        if self.owner is not self.page and self.open == "p":
             return None
-        self.open = None if words == "." else self.open or self.owner.word
-        return reply[3:]
+        try:
+            made = self.carry_out(*re.findall(r'"(?:[^"\\]|\\.)*"|\S+', words))
+        except (Refused, KeyError):
+            return None
+        self.open = "p" if self.open == "p" else self.owner.word
+        return made
 
-    # ---- what is known
+    def carry_out(self, verb: str, *words: str) -> str:
+        """What a command makes, in the trees that it changes. A KeyError says that there is no such name."""
+        owner = self.owner
+        if verb in MADE_BY_NUMBER:
+            return owner.number(MADE_BY_NUMBER[verb])
+        if verb in ("new", "document"):
+            return self.make_node(*words) if words else owner.add(Node("document"))
+        if verb.startswith("range-") or verb in ("delete", "extract", "insert-node"):
+            return self.use_points(verb, *words)
+        if verb == "observe":
+            refuse_where(not any(word.startswith(OBSERVED) for word in words[2:]))
+        changes = {
+            "attach": self.attach, "append": lambda parent, name: (owner.check(parent, name, None), owner.insert(parent, name, None)),
+            "insert": lambda parent, name, child: (owner.check(parent, name, child), owner.insert(parent, name, child)),
+            "replace": owner.replace, "remove": owner.take, "normalize": owner.normalize, "adopt": self.adopt,
+            "text": lambda name, text: owner.set_text(name, units_of(text)),
+            "data": lambda name, text: self.replace_data(name, "0", str(owner.nodes[name].units), text),
+            "replace-data": self.replace_data, "split": self.split,
+        }
+        if verb not in changes:
+            return ""
+        made = changes[verb](*words)
+        return made if isinstance(made, str) else ""
 
-    def read_tree(self, name):
-        """Reads how the tree of a node stands now."""
-        nodes, stack = self.owner.nodes, []
-        reply, _ = self.ask(f"{self.owner.word} tree {name}")
-        before = self.below(name)
-        tokens = iter(TOKEN.findall(reply[3:]))
-        for token in tokens:
-            if token == "(":
-                child, kind = next(tokens), next(tokens)
-                node = nodes.setdefault(child, Node(kind))
-                node.children = []
-                if stack:
-                    node.parent = stack[-1]
-                    nodes[stack[-1]].children.append(child)
-                if kind == "element":
-                    node.tag = next(tokens)
-                stack.append(child)
-            elif token == ")":
-                stack.pop()
-            elif nodes[stack[-1]].kind in ("text", "comment"):
-                nodes[stack[-1]].units = len(re.sub(r"\\u....|\\.", "x", token[1:-1]))
-        now = self.below(name)
-        for gone in before - now:
-            if nodes[gone].parent in now:
-                nodes[gone].parent = None
+    def make_node(self, kind: str, word: str = '""') -> str:
+        refuse_where(kind == "element" and not NAME.fullmatch(word))
+        if kind == "element":
+            return self.owner.add(Node(kind, word))
+        return self.owner.add(Node(kind, units=units_of(word)))
 
-    def below(self, name):
-        found, left = set(), [name]
-        while left:
-            found.add(left[-1])
-            left += self.owner.nodes[left.pop()].children if left[-1] in self.owner.nodes else []
-        return found
+    def attach(self, name: str) -> str:
+        owner, node = self.owner, self.owner.nodes[name]
+        refuse_where(node.tag not in HOSTS or name in owner.hosts or owner.word.count(".") >= 7)
+        owner.hosts.add(name)
+        owner.attached += 1
+        word = f"c{owner.attached}" if owner is self.page else f"{owner.word}.{owner.attached}"
+        self.owners.append(self.with_lists(Owner(word, Node("shadow"))))
+        return word
 
-    def root(self, name):
-        while self.owner.nodes[name].parent:
-            name = self.owner.nodes[name].parent
-        return name
+    def adopt(self, document: str, name: str) -> None:
+        refuse_where(self.owner.nodes[document].kind != "document" or self.owner.nodes[name].kind in ("document", "shadow"))
+        self.owner.take(name)
 
-    def change(self, words, *names):
-        """Says a line that changes the trees of these nodes."""
-        roots = {self.root(name) for name in names}
-        value = self.say(words)
-        if value is not None:
-            for root in sorted(roots | {self.root(name) for name in names}):
-                self.read_tree(root)
-        return value
-
-    def length(self, name):
+    def replace_data(self, name: str, offset: str, count: str, text: str) -> None:
         node = self.owner.nodes[name]
-        return node.units if node.kind in ("text", "comment") else len(node.children)
+        refuse_where(node.kind not in DATA or int(offset) > node.units)
+        self.owner.replace_data(name, int(offset), int(count), units_of(text))
+
+    def split(self, name: str, offset: str) -> str:
+        refuse_where(self.owner.nodes[name].kind != "text")
+        return self.owner.split(name, int(offset))
+
+    def use_points(self, verb: str, name: str = "", *words: str) -> str:
+        owner = self.owner
+        if verb == "range-new":
+            name = owner.number("r")
+            owner.points[name] = [(owner.letter + "0", 0)] * 2
+            return name
+        points = owner.points[name]
+        if verb in ("range-start", "range-end"):
+            owner.set_end(name, verb == "range-end", (words[0], int(words[1])))
+        elif verb == "range-collapse":
+            points[:] = [points[words[0] == "end"]] * 2
+        elif verb == "range-drop":
+            del owner.points[name]
+        elif verb == "insert-node":
+            owner.insert_node(name, words[0])
+        elif verb in ("delete", "extract"):
+            fragment = owner.add(Node("fragment")) if verb == "extract" else None
+            owner.cut(name, fragment)
+            return fragment or ""
+        return ""
 
     # ---- choices
 
-    def pick(self, *kinds):
+    def pick(self, *kinds: str) -> str:
         """A node of these kinds, mostly one that was made late or has children; now and then any node."""
         names = [name for name, node in self.owner.nodes.items() if not kinds or node.kind in kinds]
         if self.chance.random() < 0.01 or not names:
@@ -118,31 +126,26 @@ class Draft:
         within = [name for name in names if self.owner.nodes[name].parent or self.owner.nodes[name].children]
         return self.chance.choice(within if within and self.chance.random() < 0.8 else names)
 
-    def parent(self):
+    def parent(self) -> str:
         """A node that may have children: a document seldom takes one more."""
         empty = [name for name, node in self.owner.nodes.items() if node.kind == "document" and not node.children]
         if empty and self.chance.random() < 0.2:
             return self.one(empty)
         return self.pick("element", "fragment", "shadow", *self.some_of(0.1, "document"))
 
-    def child_of(self, parent):
+    def child_of(self, parent: str) -> str:
         children = self.owner.nodes[parent].children
         return self.chance.choice(children) if children and self.chance.random() < 0.97 else self.pick()
 
-    def offset(self, name):
-        length = self.length(name)
+    def offset(self, name: str) -> int:
+        length = self.owner.length(name)
         return length + 1 if self.chance.random() < 0.02 else self.chance.randint(0, length)
 
     def one(self, values):
         return self.chance.choice(values)
 
-    def some_of(self, share, *words):
+    def some_of(self, share: float, *words: str) -> list[str]:
         return [word for word in words if self.chance.random() < share]
 
-    def some(self, *words):
+    def some(self, *words: str) -> list[str]:
         return self.some_of(0.5, *words)
-
-    def made(self, value, kind, tag="", units=0):
-        if value is not None:
-            node = self.owner.nodes[value] = Node(kind)
-            node.tag, node.units = tag, units

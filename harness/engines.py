@@ -34,7 +34,7 @@ def find(*names):
         path = shutil.which(name)
         if path:
             return path
-    raise Missing(f"{names[0]} is not on this machine: harness/README.md says how to get it")
+    raise Missing(f"{names[0]} is not on this machine: harness/README.md, 'Install', says how to get it")
 
 
 def run_within(words, **options):
@@ -50,17 +50,48 @@ def end_of(text):
     return " ".join(text.split())[-300:]
 
 
-def run_program(program, script):
-    """What domrun writes for a script."""
-    done = subprocess.run([program, "-"], input=script.encode("latin-1"), capture_output=True, check=False)
-    if done.returncode or done.stderr:
-        raise SystemExit(f"{program}: status {done.returncode}: {done.stderr.decode()}")
-    return done.stdout.decode("latin-1")
+class Program:
+    """A built domrun."""
+
+    def __init__(self, path: str) -> None:
+        self.path = find(path)
+
+    def run_one(self, script: str) -> str:
+        done = subprocess.run([self.path, "-"], input=script.encode("latin-1"), capture_output=True, check=False)
+        if done.returncode or done.stderr:
+            raise SystemExit(f"{self.path}: status {done.returncode}: {done.stderr.decode()}")
+        return done.stdout.decode("latin-1")
+
+    def run(self, scripts: list[str]) -> list[str]:
+        """What domrun writes for each script."""
+        with ThreadPoolExecutor(os.cpu_count() or 1) as pool:
+            return list(pool.map(self.run_one, scripts))
 
 
-def run_programs(program, scripts):
-    with ThreadPoolExecutor(os.cpu_count() or 1) as pool:
-        return list(pool.map(lambda script: run_program(program, script), scripts))
+class Unproved:
+    """The program as `rt try` builds it, without a proof: once for each list of scripts, which takes about two minutes, and it is not kept."""
+
+    head = re.compile(rb"^== (\d+)\n", re.MULTILINE)
+
+    def __init__(self) -> None:
+        find("rt")
+
+    def run(self, scripts: list[str]) -> list[str]:
+        """What domrun writes for each script."""
+        if not scripts:
+            return []
+        with tempfile.TemporaryDirectory() as room:
+            for number, script in enumerate(scripts):
+                with open(os.path.join(room, f"{number:05}"), "wb") as file:
+                    file.write(script.encode("latin-1"))
+            # With a word for the program, here the name of standard input, the kit's slow interpreter is left out.
+            words = ["rt", "try", "--cases", room, "--", "-"]
+            done = subprocess.run(words, cwd=os.path.dirname(os.path.dirname(PROGRAM)), capture_output=True, check=False)
+        parts = self.head.split(done.stdout)
+        outputs = {int(number): text.decode("latin-1") for number, text in zip(parts[1::2], parts[2::2])}
+        if done.returncode or len(outputs) != len(scripts):
+            raise SystemExit(f"rt try: status {done.returncode}, {len(outputs)} of {len(scripts)} answered: {end_of(done.stderr.decode())}")
+        return [outputs[number] for number in range(len(scripts))]
 
 
 def page_of(scripts, fixes):

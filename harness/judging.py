@@ -1,4 +1,5 @@
 """How what an engine answers a script is judged by the differences that have a name (known.py)."""
+import json
 import re
 
 REPLY = re.compile(r"\S+ (ok|!)|! owner")
@@ -65,3 +66,65 @@ def judge(engine, script, wanted, got, met):
         if name == engine and at is not None and at < len(got) and reply.match(got[at]) and command.match(line_of(script, wanted, at)):
             return names | {end}
     return names if wanted == got else None
+
+
+def json_of(values):
+    return json.dumps(values, ensure_ascii=True)
+
+
+class Verdict:
+    """What is found of a script: the names of its differences, none where it agrees, and None where it is unexplained."""
+
+    def __init__(self, title, script, wanted, got):
+        self.title, self.script, self.wanted, self.got = title, script, wanted, got
+        self.names = set() if wanted == got else None
+        self.fixed, self.small = got, None
+
+    def parts_of(self, output):
+        """Where an output parts from the wanted one, behind some lines that both have: the number of the script's line, the line,
+        what both wrote before, and what each wrote there."""
+        wanted, got = self.wanted.splitlines(), output.splitlines()
+        at = first_difference(wanted, got)
+        if at is None:
+            return None
+        number = sum(1 for line in wanted[:at] if REPLY.match(line)) + 1
+        before = [line for line in wanted[max(0, at - 3):at] if not REPLY.match(line)]
+        return number, line_of(self.script, wanted, at), before, *(lines[at] if at < len(lines) else "(no line)" for lines in (wanted, got))
+
+    def word(self):
+        return "agree" if self.names == set() else "unexplained" if self.names is None else "named"
+
+    def here(self):
+        """What a named difference's script is in an engine."""
+        return {"agree": "not here", "unexplained": "UNEXPLAINED here"}.get(self.word(), "here: " + ", ".join(sorted(self.names or ())))
+
+    def place(self):
+        """The script and the number of the line at which it parts."""
+        parts = self.parts_of(self.got)
+        return f"{self.title}:{parts[0]}" if parts else self.title
+
+    def text(self):
+        """The place, the line, and what each wrote there."""
+        parts = self.parts_of(self.fixed if self.names is None else self.got) or self.parts_of(self.got)
+        if not parts:
+            return f"{self.title}: agrees byte for byte\n"
+        number, line, before, wanted, got = parts
+        both = "".join(f"    both: {one}\n" for one in before)
+        verdict = "UNEXPLAINED" if self.names is None else "named: " + ", ".join(sorted(self.names))
+        return f"{self.title}:{number}: {line}\n{both}  domrun: {wanted}\n  engine: {got}\n  {verdict}\n"
+
+    def whole_text(self):
+        """The script, and the text."""
+        return "".join(f"    {line}\n" for line in lines_of(self.script)) + self.text()
+
+    def json(self, is_whole):
+        """The verdict as one line of JSON, with the script where that is asked for."""
+        values = {"script": self.title, "verdict": self.word(), "names": sorted(self.names or ())}
+        parts = self.parts_of(self.fixed if self.names is None else self.got) or self.parts_of(self.got)
+        if parts:
+            values |= dict(zip(("line", "command", "before", "domrun", "engine"), parts))
+        if is_whole:
+            values["lines"] = lines_of(self.script)
+        if self.small is not None:
+            values["small"] = lines_of(self.small)
+        return json_of(values)

@@ -1,10 +1,10 @@
 #!/usr/bin/env python3
 """Random scripts of the protocol, which stay mostly accepted and reach deep states in every family of commands.
 
-Usage: harness/scripts.py [--program DOMRUN] [--seed S] [--lines N] [--count K] [--coverage]
+Usage: harness/scripts.py [--seed S] [--lines N] [--count K] [--coverage [--program DOMRUN]]
 
-Prints K scripts, or with --coverage how often each command, answer and refusal came in them. Script number i of a seed is the same
-on every machine. While a script is made it is run line by line in domrun, which tells what was made and how the trees stand.
+Prints K scripts, or with --coverage how often each command, answer and refusal came in them, which the program tells. Script number i of a
+seed is the same on every machine, and wants no program: sketch.py follows what is made and how the trees stand.
 """
 import argparse
 import collections
@@ -12,10 +12,10 @@ import os
 import random
 import re
 import sys
-from concurrent.futures import ThreadPoolExecutor
 
 import engines
-from draft import Draft, Node, Owner
+import judging
+from draft import Draft
 
 ELEMENTS = ("div", "p", "b", "i", "span", "ul", "li", "section", "x-a", "hr", "DIV", "article")
 SLOTTED = ("div", "section", "article", "span", "x-a", "p")
@@ -30,55 +30,55 @@ MOVES = ("parent", "first", "last", "next", "previous", "next-sibling", "previou
 class Maker(Draft):
     """Makes one script, by families of commands."""
 
-    def __init__(self, program, chance):
-        super().__init__(program, chance)
+    def __init__(self, chance):
+        super().__init__(chance)
         self.weights = {family: chance.choice((0.3, 1, 1, 3)) * weight for family, (weight, _) in FAMILIES.items()}
 
     def make(self):
         tag = self.one(ELEMENTS if self.owner is self.page or self.chance.random() < 0.5 else ("slot",))
         tag = tag if self.chance.random() < 0.99 else "1a"
-        self.made(self.say(f"new element {tag}"), "element", tag)
+        self.say(f"new element {tag}")
 
     def make_other(self):
         text = self.one(TEXTS)
         kind = self.one(("text", "text", "text", "comment", "fragment", "document"))
         if kind == "document":
-            self.made(self.say("document"), "document")
+            self.say("document")
         elif kind == "fragment":
-            self.made(self.say("new fragment"), "fragment")
+            self.say("new fragment")
         else:
-            self.made(self.say(f'new {kind} "{text}"'), kind, "", len(re.sub(r"\\u....|\\.", "x", text)))
+            self.say(f'new {kind} "{text}"')
 
     def place(self):
         """A node without a parent goes below another tree, or any node goes anywhere."""
         parent = self.parent()
         loose = [name for name, node in self.owner.nodes.items()
-                 if not node.parent and node.kind not in ("document", "shadow") and name != self.root(parent)]
+                 if not node.parent and node.kind not in ("document", "shadow") and name != self.owner.root(parent)]
         if self.owner.nodes[parent].kind == "document":
             loose = [name for name in loose if self.owner.nodes[name].kind in ("element", "comment")]
         node = self.one(loose) if loose and self.chance.random() < 0.75 else self.pick("element", "text", "comment", "fragment")
         if self.owner.nodes[parent].children and self.chance.random() < 0.5:
-            self.change(f"insert {parent} {node} {self.child_of(parent)}", parent, node)
+            self.say(f"insert {parent} {node} {self.child_of(parent)}")
         else:
-            self.change(f"append {parent} {node}", parent, node)
+            self.say(f"append {parent} {node}")
 
     def move(self):
         verb, parent = self.one(("replace", "replace", "remove", "adopt", "normalize", "text")), self.parent()
         if verb == "replace":
             parent = self.one([name for name, node in self.owner.nodes.items() if node.children] or [parent])
             node = self.pick("element", "text", "comment", "fragment")
-            self.change(f"replace {parent} {node} {self.child_of(parent)}", parent, node)
+            self.say(f"replace {parent} {node} {self.child_of(parent)}")
         elif verb == "remove":
             node = self.pick("element", "text", "comment")
-            self.change(f"remove {node}", node)
+            self.say(f"remove {node}")
         elif verb == "adopt":
             node = self.pick("element", "text", "comment", "fragment")
-            self.change(f"adopt {self.pick('document')} {node}", node)
+            self.say(f"adopt {self.pick('document')} {node}")
         elif verb == "normalize":
-            self.change(f"normalize {parent}", parent)
+            self.say(f"normalize {parent}")
         elif self.chance.random() < 0.4:
             node = self.pick("element", "element", "text")
-            self.change(f'text {node} "{self.one(TEXTS)}"', node)
+            self.say(f'text {node} "{self.one(TEXTS)}"')
 
     def write(self):
         verb = self.one(("data", "replace-data", "replace-data", "split"))
@@ -86,12 +86,11 @@ class Maker(Draft):
             return self.make_other()
         node = self.pick("text") if verb == "split" else self.pick("text", "text", "comment")
         if verb == "data":
-            self.change(f'data {node} "{self.one(TEXTS)}"', node)
+            self.say(f'data {node} "{self.one(TEXTS)}"')
         elif verb == "split":
-            self.made(self.change(f"split {node} {self.offset(node)}", node), "text")
-            self.read_tree(self.root(node))
+            self.say(f"split {node} {self.offset(node)}")
         else:
-            self.change(f'replace-data {node} {self.offset(node)} {self.chance.randint(0, 4)} "{self.one(TEXTS)}"', node)
+            self.say(f'replace-data {node} {self.offset(node)} {self.chance.randint(0, 4)} "{self.one(TEXTS)}"')
         return None
 
     def name(self):
@@ -110,13 +109,13 @@ class Maker(Draft):
             line = self.one((f"assigned {self.one(slots)}", f'set {self.one(slots)} name "{self.one(("", "a", "b"))}"', "append"))
             if line == "append":
                 node = self.one(slots)
-                self.change(f"append {self.one(('m0', self.parent()))} {node}", node, "m0")
+                self.say(f"append {self.one(('m0', self.parent()))} {node}")
             else:
                 self.say(line)
 
     def read(self):
         node = self.pick()
-        self.say(self.one((f"tree {node}", f"tree {self.root(node)}", f"attr {self.pick('element')} {self.one(ATTRIBUTES)}", f"parent {node}",
+        self.say(self.one((f"tree {node}", f"tree {self.owner.root(node)}", f"attr {self.pick('element')} {self.one(ATTRIBUTES)}", f"parent {node}",
                            f"docof {node}", f"children {self.parent()}", f"contains {node} {self.pick()}", f"connected {node}",
                            f"shadow-root {self.pick('element')}", f"slot-of {self.pick('element', 'text')}")))
 
@@ -124,11 +123,11 @@ class Maker(Draft):
         value = self.say("range-new")
         if value is not None:
             self.owner.ranges.append(value)
-            top = self.root(self.pick("element", "text"))
+            top = self.owner.root(self.pick("element", "text"))
             self.set_range(value, top)
 
     def set_range(self, name, top):
-        nodes = sorted(self.below(top))
+        nodes = sorted(self.owner.below(top))
         for end in self.one((("start", "end"), ("end", "start"))):
             node = self.one(nodes)
             self.say(f"range-{end} {name} {node} {self.offset(node)}")
@@ -139,7 +138,7 @@ class Maker(Draft):
         name = self.one(self.owner.ranges)
         verb = self.one(("set", "set", "get", "get", "get", "text", "collapse", "drop"))
         if verb == "set":
-            self.set_range(name, self.root(self.pick()))
+            self.set_range(name, self.owner.root(self.pick()))
         elif verb == "drop":
             if self.chance.random() < 0.2:
                 self.say(f"range-drop {name}")
@@ -152,16 +151,8 @@ class Maker(Draft):
         if not self.owner.ranges:
             return self.make_range()
         name, verb = self.one(self.owner.ranges), self.one(("delete", "extract", "insert-node", "insert-node"))
-        start = self.ask(f"{self.owner.word} range-get {name}")[0].split(" ")[1] if self.open == self.owner.word else None
-        names = [start] if start in self.owner.nodes else []
-        if verb == "insert-node":
-            node = self.pick("element", "text", "comment", "fragment")
-            self.change(f"insert-node {name} {node}", node, *names)
-        else:
-            value = self.change(f"{verb} {name}", *names)
-            if value and verb == "extract":
-                self.made(value, "fragment")
-                self.read_tree(value)
+        node = f' {self.pick("element", "text", "comment", "fragment")}' if verb == "insert-node" else ""
+        self.say(f"{verb} {name}{node}")
         if self.chance.random() < 0.5:
             self.say(f"range-get {name}")
         return None
@@ -204,7 +195,7 @@ class Maker(Draft):
             self.say(f'matches {self.pick("element")} "{text}"')
 
     def hear(self):
-        node, event = self.one((self.pick(), self.parent(), self.root(self.pick()))), self.one(TYPES)
+        node, event = self.one((self.pick(), self.parent(), self.owner.root(self.pick()))), self.one(TYPES)
         label = f"{self.one('abcd')}{node}"
         self.owner.heard.append(node)
         if self.chance.random() < 0.85:
@@ -215,7 +206,7 @@ class Maker(Draft):
             self.say(" ".join(["unlisten", node, event, label, *self.some("capture")]))
 
     def fire(self):
-        below = sorted(self.below(self.one(self.owner.heard))) if self.owner.heard else [self.pick()]
+        below = sorted(self.owner.below(self.one(self.owner.heard))) if self.owner.heard else [self.pick()]
         target = self.one((self.pick("element", "text"), self.one(below), self.one(below)))
         words = [f"dispatch {target} {self.one(TYPES)}", *self.some_of(0.7, "bubbles"),
                  *self.some("cancelable", "composed")]
@@ -232,7 +223,7 @@ class Maker(Draft):
         if verb == "observe":
             words = self.some("childList", "attributes", "characterData", "subtree", "attributeOldValue", "characterDataOldValue")
             filtered = [] if self.chance.random() < 0.8 else [f"filter={self.one(ATTRIBUTES)},{self.one(ATTRIBUTES)}"]
-            node = self.one((self.pick(), self.root(self.pick()), self.parent()))
+            node = self.one((self.pick(), self.owner.root(self.pick()), self.parent()))
             self.say(" ".join([f"observe {name} {node}", *words, *filtered]))
         elif verb == "take" or self.chance.random() < 0.2:
             self.say(f"{verb} {name}")
@@ -251,12 +242,7 @@ class Maker(Draft):
         if len(self.owners) > 8 or self.owner is not self.page and self.chance.random() < 0.3:
             return self.slot()
         hosts = [name for name, node in self.owner.nodes.items() if node.tag in SLOTTED]
-        value = self.say(f"attach {self.one(hosts or list(self.owner.nodes))}")
-        if value:
-            owner = Owner(value)
-            owner.nodes["m0"] = Node("shadow")
-            self.owners.append(owner)
-        return None
+        return self.say(f"attach {self.one(hosts or list(self.owner.nodes))}")
 
     def begin(self):
         """The first lines: a few nodes, and in every second script a host with a child and components with slots, one in another."""
@@ -265,9 +251,8 @@ class Maker(Draft):
         self.place()
         if self.chance.random() < 0.5:
             return
-        self.made(self.say("new element div"), "element", "div")
-        host = max(self.owner.nodes, key=lambda name: int(name[1:]))
-        self.change(f"append {self.pick('document')} {host}", host)
+        host = self.say("new element div")
+        self.say(f"append {self.pick('document')} {host}")
         self.host()
         self.place()
         self.say(".")
@@ -277,22 +262,21 @@ class Maker(Draft):
     def begin_component(self, component):
         """The first lines of a component: a slot, which in every second one stands in a host of a component inside, and so on."""
         self.owner, host = component, "m0"
-        if self.chance.random() < 0.6:
-            self.made(self.say("new element div"), "element", "div")
-            host = max(component.nodes)
-            self.change(f"append m0 {host}", "m0", host)
+        if self.chance.random() < 0.7:
+            host = self.say("new element div")
+            self.say(f"append m0 {host}")
             self.host()
-        self.made(self.say("new element slot"), "element", "slot")
-        slot = max(component.nodes, key=lambda name: int(name[1:]))
-        self.change(f"append {host} {slot}", host, slot)
+        slot = self.say("new element slot")
+        self.say(f"append {host} {slot}")
         self.hear()
         for inner in [owner for owner in self.owners if owner.word.rpartition(".")[0] == component.word]:
             self.begin_component(inner)
 
     def stray(self):
-        """A line that is refused, or that another owner says in between."""
-        self.say(self.one(("remove n999", "tree m7", "append m0 c1:m1", "tre n0", "range-get r77", "new  fragment", 'new text "', "take o9",
-                           "append n0", "tree c1:m0", "walk w0 up", "iter-new n0 text,element", "dispatch n0 a b", "observe o0 n0")))
+        """A line that is refused."""
+        line = self.one(("remove n999", "tree m7", "append m0 c1:m1", "tre n0", "range-get r77", "new  fragment", 'new text "', "take o9",
+                         "append n0", "tree c1:m0", "walk w0 up", "iter-new n0 text,element", "dispatch n0 a b", "observe o0 n0"))
+        self.lines.append(f"{self.owner.word} {line}")
 
     def script(self, lines):
         """The lines of the script: the first ones, and then families by their weights."""
@@ -301,7 +285,6 @@ class Maker(Draft):
             families = list(self.weights)
             family = self.chance.choices(families, [self.weights[name] for name in families])[0]
             FAMILIES[family][1](self)
-        self.process.communicate()
         return self.lines
 
 
@@ -314,51 +297,46 @@ FAMILIES = {
 }
 
 
-def made(program, seed, number, lines):
-    """The maker of a script, when it has made it."""
-    maker = Maker(program, random.Random(f"{seed} {number}"))
-    maker.script(lines)
-    return maker
+def random_scripts(seed, count, lines, first=0):
+    """The scripts of a seed, from number `first` on."""
+    makers = (Maker(random.Random(f"{seed} {number}")) for number in range(first, first + count))
+    return ["".join(line + "\n" for line in maker.script(lines)) for maker in makers]
 
 
-def random_scripts(program, seed, count, lines, first=0):
-    """The scripts of a seed, from number `first` on. They are made side by side, since each waits for the program line by line."""
-    with ThreadPoolExecutor(2 * (os.cpu_count() or 1)) as pool:
-        makers = pool.map(lambda number: made(program, seed, number, lines), range(first, first + count))
-        return ["".join(line + "\n" for line in maker.lines) for maker in makers]
-
-
-def print_coverage(makers):
+def print_coverage(made, outputs):
     """How often each command came, was accepted and was refused for what, and how often each kind of line came before an answer."""
-    commands, lines = collections.defaultdict(collections.Counter), collections.Counter()
-    for maker in makers:
-        for command, reply, before in maker.answers:
-            commands[command]["ok" if not reply.startswith("!") else reply[2:]] += 1
-            lines.update(line.split(" ")[1] + (" " + line.split(" ")[3] if " record " in line else "") for line in before)
-    for command in sorted(commands):
-        counts = commands[command]
+    commands, before = collections.defaultdict(collections.Counter), collections.Counter()
+    for script, output in zip(made, outputs):
+        lines = iter(script.splitlines())
+        for line in output.splitlines():
+            reply = judging.REPLY.match(line)
+            if reply:
+                commands[next(lines).split(" ")[1]]["ok" if reply[1] == "ok" else line.split("! ")[1]] += 1
+            else:
+                before[line.split(" ")[1] + (" " + line.split(" ")[3] if " record " in line else "")] += 1
+    for command, counts in sorted(commands.items()):
         print(f"{command:16} {sum(counts.values()):7}  " + "  ".join(f"{name} {count}" for name, count in counts.most_common()))
-    print("lines before answers: " + "  ".join(f"{name} {count}" for name, count in lines.most_common()))
+    print("lines before answers: " + "  ".join(f"{name} {count}" for name, count in before.most_common()))
+    depths = collections.Counter(max(line.split(" ")[0].count(".") + line.startswith("c") for line in script.splitlines()) for script in made)
+    print("scripts by the depth of their components: " + "  ".join(f"{depth}: {count}" for depth, count in sorted(depths.items())))
 
 
 def main():
     parser = argparse.ArgumentParser(description=__doc__.splitlines()[0])
-    parser.add_argument("--program", default=engines.PROGRAM)
-    parser.add_argument("--seed", default="1")
-    parser.add_argument("--lines", type=int, default=100)
-    parser.add_argument("--count", type=int, default=1)
-    parser.add_argument("--coverage", action="store_true")
+    parser.add_argument("--program", default=engines.PROGRAM, help="the built domrun, for --coverage")
+    parser.add_argument("--seed", default="1", help="which scripts: number i of a seed is the same everywhere")
+    parser.add_argument("--lines", type=int, default=100, help="of each script")
+    parser.add_argument("--count", type=int, default=1, help="how many scripts")
+    parser.add_argument("--coverage", action="store_true", help="print what came in the scripts, in place of them")
     words = parser.parse_args()
+    made = random_scripts(words.seed, words.count, words.lines)
+    if not words.coverage:
+        sys.stdout.write("".join(made))
+        return
     try:
-        program = engines.find(words.program)
+        print_coverage(made, engines.Program(words.program).run(made))
     except engines.Missing as missing:
         raise SystemExit(str(missing)) from None
-    makers = (made(program, words.seed, number, words.lines) for number in range(words.count))
-    if words.coverage:
-        print_coverage(makers)
-        return
-    for maker in makers:
-        sys.stdout.write("".join(line + "\n" for line in maker.lines))
 
 
 if __name__ == "__main__":
