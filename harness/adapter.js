@@ -4,7 +4,7 @@
 // DOM's, and that each owner has its own notification. `run` runs a script that attaches components twice: the first time it lets the DOM
 // notify after every line, to see which line signals which slots; the second time at the ends of turns, as the protocol has it.
 "use strict";
-(function (exports, { parse, linesOf, KINDS }, { COMMANDS, Refused, refuseWhere, refuseFull, quotedOrNull }, { plansFor, habitsOf }, { Unrepresentable }, { Queue }) {
+(function (exports, { parse, linesOf, KINDS }, { COMMANDS, Refused, refuseWhere, refuseFull, quotedOrNull }, { plansFor, habitsOf }, { Unrepresentable }, { Queue }, { plant }) {
   const XHTML = "http://www.w3.org/1999/xhtml";
   const REFUSALS = {
     HierarchyRequestError: "hierarchy", NotFoundError: "not-found", NotSupportedError: "not-supported",
@@ -195,16 +195,16 @@
       refuseFull(owner, "observers");
       const number = owner.observers.length;
       const line = (record) => this.recordLine(owner, number, record);
-      const observer = { line, number, kept: [], fresh: [], twin: new this.window.MutationObserver(() => {}) };
+      const observer = { line, number, kept: [], raw: [], fresh: [], twin: new this.window.MutationObserver(() => {}) };
       observer.real = new this.window.MutationObserver((records) => this.queue.tellRecords(owner, observer, this.recordsOf(observer, records).map(line)));
       owner.observers.push(observer);
       return "o" + number;
     }
 
-    // The records that an observer is given: with fixes those that were kept, as the fixes left them.
+    // The records that an observer is given: with fixes those that were kept, as the fixes left them, if they are those that its twin had.
     recordsOf(observer, records) {
-      const kept = observer.kept.splice(0);
-      return this.fixes.length ? kept : records;
+      const [kept, raw] = [observer.kept.splice(0), observer.raw.splice(0)];
+      return this.fixes.length && raw.join("\n") === records.map(observer.line).join("\n") ? kept : records;
     }
 
     recordLine(owner, number, record) {
@@ -280,11 +280,18 @@
     return { output: last.output.join(""), met: [...last.met] };
   }
 
-  // The same of each script; one on which the harness itself fails says so in its output.
-  async function runAll(window, { scripts, fixes }) {
+  // A window of its own in a page.
+  const framed = (window) => window.document.body.appendChild(window.document.createElement("iframe")).contentWindow;
+
+  // The same of each script; one on which the harness itself fails says so in its output. `faults` has for each script a wrong behaviour that
+  // is planted in a window for it (faults.js).
+  async function runAll(window, { scripts, fixes, faults = [] }, windowFor = framed) {
     const answers = [];
-    for (const script of scripts)
-      answers.push(await run(window, script, fixes).catch((error) => ({ output: `harness: ${error.stack}\n`, met: [] })));
+    for (const [i, script] of scripts.entries()) {
+      const target = faults[i] ? windowFor(window) : window;
+      if (faults[i]) plant(target, faults[i]);
+      answers.push(await run(target, script, fixes).catch((error) => ({ output: `harness: ${error.stack}\n`, met: [] })));
+    }
     return answers;
   }
 
@@ -296,4 +303,5 @@
   typeof require === "function" ? require("./fixes.js").fixing : globalThis.fixing,
   typeof require === "function" ? require("./lasting.js").lasting : globalThis.lasting,
   typeof require === "function" ? require("./queue.js").queueing : globalThis.queueing,
+  typeof require === "function" ? require("./faults.js").planting : globalThis.planting,
 );

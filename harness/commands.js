@@ -135,7 +135,7 @@
   }
 
   function disconnect(run, owner, [observer]) {
-    observer.kept = [];
+    [observer.kept, observer.raw] = [[], []];
     for (const one of [observer.real, observer.twin]) one.disconnect();
   }
 

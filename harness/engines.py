@@ -17,7 +17,7 @@ HERE = os.path.dirname(os.path.abspath(__file__))
 PROGRAM = os.path.normpath(os.path.join(HERE, "..", "crates", "domrun", "out", "domrun"))
 # Seconds after which an engine is taken to give no answer to a batch of scripts.
 PATIENCE = 600
-SOURCES = ("lines.js", "commands.js", "lasting.js", "fixes.js", "slots.js", "queue.js", "adapter.js")
+SOURCES = ("lines.js", "commands.js", "lasting.js", "fixes.js", "slots.js", "queue.js", "faults.js", "adapter.js")
 
 
 class Missing(Exception):
@@ -94,10 +94,10 @@ class Unproved:
         return [outputs[number] for number in range(len(scripts))]
 
 
-def page_of(scripts, fixes):
-    """A page that runs the scripts and leaves a JSON list of their answers, in base 64, as its text."""
+def page_of(given):
+    """A page that runs what is given, and leaves a JSON list of the answers, in base 64, as its text."""
     sources = "\n".join(f"<script>{open(os.path.join(HERE, name)).read()}</script>" for name in SOURCES)
-    given = json.dumps({"scripts": scripts, "fixes": fixes}).replace("<", "\\u003c")
+    given = json.dumps(given).replace("<", "\\u003c")
     return f"""<!DOCTYPE html><meta charset="utf-8"><pre id="out"></pre>{sources}<script>
       owlantimony.runAll(window, {given}).then((answers) => {{
         document.getElementById("out").textContent = btoa(unescape(encodeURIComponent(JSON.stringify(answers))));
@@ -121,10 +121,10 @@ class Chromium:
         self.version = subprocess.run([self.path, "--version"], capture_output=True, text=True, check=True).stdout.strip()
         self.version = self.version.split(" built")[0]
 
-    def run(self, scripts, fixes):
+    def run(self, given):
         with tempfile.TemporaryDirectory(ignore_cleanup_errors=True) as room:
             with open(os.path.join(room, "page.html"), "w", encoding="ascii", errors="xmlcharrefreplace") as page:
-                page.write(page_of(scripts, fixes))
+                page.write(page_of(given))
             words = [self.path, "--headless=new", "--no-sandbox", "--disable-gpu", f"--user-data-dir={room}/profile",
                      "--dump-dom", f"file://{room}/page.html"]
             done = run_within(words)
@@ -201,11 +201,11 @@ class Firefox:
             raise NoAnswer(f"{error['error']}: {error['message']}")
         return value
 
-    def run(self, scripts, fixes):
+    def run(self, given):
         """Where there is no answer, another process is started for the scripts to come."""
         path = os.path.join(self.room, "page.html")
         with open(path, "w", encoding="ascii", errors="xmlcharrefreplace") as page:
-            page.write(page_of(scripts, fixes))
+            page.write(page_of(given))
         try:
             return answers_of(base64.b64decode(self.text_of(path)))
         except OSError as fault:
@@ -252,10 +252,9 @@ class Jsdom:
             raise Missing("jsdom is not on this machine: harness/README.md says how to get it")
         self.version = done.stdout.strip()
 
-    def run(self, scripts, fixes):
-        given = json.dumps({"scripts": scripts, "fixes": fixes})
+    def run(self, given):
         words = [self.path, "--stack-size=4000", f"--max-old-space-size={self.heap}", os.path.join(HERE, "run_in_jsdom.js")]
-        done = run_within(words, input=given, env=self.environment)
+        done = run_within(words, input=json.dumps(given), env=self.environment)
         if done.returncode:
             raise NoAnswer(f"node ended with status {done.returncode}: {end_of(done.stderr)}")
         return answers_of(done.stdout)
@@ -267,20 +266,23 @@ class Jsdom:
 ENGINES = {"chromium": Chromium, "firefox": Firefox, "jsdom": Jsdom}
 
 
-def answers_of_batch(engine, scripts, fixes):
+def answers_of_batch(engine, given):
     """What the engine writes for each script of a batch. Where it gives no answer, each half is run as a batch; a script alone on which
     it gives none has that for its answer."""
+    scripts, faults = given["scripts"], given["faults"]
     try:
-        return engine.run(scripts, fixes)
+        return engine.run(given)
     except NoAnswer as fault:
         if len(scripts) == 1:
             return [(f"harness: {engine.name}: {fault}\n", set())]
     half = len(scripts) // 2
-    return [answer for part in (scripts[:half], scripts[half:]) for answer in answers_of_batch(engine, part, fixes)]
+    parts = [(scripts[:half], faults[:half]), (scripts[half:], faults[half:])]
+    return [answer for part, of in parts for answer in answers_of_batch(engine, {**given, "scripts": part, "faults": of})]
 
 
-def answers(engine, scripts, fixes=()):
-    """What the engine writes for each script, and which of the fixes were met in it, batch by batch."""
-    batches = [scripts[start:start + engine.batch] for start in range(0, len(scripts), engine.batch)]
+def answers(engine, scripts, fixes=(), faults=()):
+    """What the engine writes for each script, and which of the fixes were met in it, batch by batch. `faults` are planted, one for each script."""
+    batches = [{"scripts": scripts[start:start + engine.batch], "fixes": list(fixes), "faults": list(faults[start:start + engine.batch])}
+               for start in range(0, len(scripts), engine.batch)]
     with ThreadPoolExecutor(engine.at_once) as pool:
-        return [answer for found in pool.map(lambda batch: answers_of_batch(engine, batch, list(fixes)), batches) for answer in found]
+        return [answer for found in pool.map(lambda batch: answers_of_batch(engine, batch), batches) for answer in found]

@@ -79,7 +79,7 @@
 
   // Replacement: the child leaves before the node does, and one record has both.
   function planReplacement(owner, [parent, node, child]) {
-    if (child.parentNode !== parent) return null;
+    if (child.parentNode !== parent || (node.parentNode !== parent && !child.contains(node))) return null;
     const following = child.nextSibling;
     const reference = following === node ? node.nextSibling : following;
     const last = { type: "childList", target: parent, previousSibling: child.previousSibling, nextSibling: reference, removedNodes: [child] };
@@ -239,12 +239,26 @@
     return beside;
   }
 
-  // Each Text with Texts directly behind it gets all their data in one step, and what points into them or at them goes into the first.
+  // Each Text with Texts directly behind it gets all their data in one step, and what points into them or at them goes into the first. Where
+  // this DOM brings a copy to another tree than these steps do, it is left to it.
   function planNormalize(run, owner, top) {
     const texts = textsBelow(top);
-    return { call: () => {
+    return { call: (normalize) => {
+      if (!joinsAlike(run, top)) return normalize();
       for (const text of texts) if (text.parentNode) join(run, owner, text);
+      return undefined;
     } };
+  }
+
+  function joinsAlike(run, top) {
+    const [joined, normalized] = [0, 1].map(() => {
+      const copy = run.makeDocument().createDocumentFragment();
+      for (const child of top.childNodes) copy.appendChild(copy.ownerDocument.importNode(child, true));
+      return copy;
+    });
+    for (const text of textsBelow(joined)) if (text.parentNode) join({ met: new Set(), habits: {} }, { ranges: [] }, text);
+    normalized.normalize();
+    return normalized.isEqualNode(joined);
   }
 
   function join(run, owner, text) {
@@ -333,6 +347,18 @@
     }
   }
 
+  // A fragment that gives its children keeps its document.
+  function planFragment(name, values) {
+    const fragment = ["append", "insert", "replace", "insert-node"].includes(name) ? values[1] : null;
+    if (!fragment || fragment.nodeType !== 11 || fragment.host) return null;
+    const { ownerDocument } = fragment;
+    return () => {
+      if (fragment.ownerDocument === ownerDocument) return false;
+      ownerDocument.adoptNode(fragment);
+      return true;
+    };
+  }
+
   // A record of children in which none came and none went is left out.
   function withoutEmpty(taken) {
     const isEmpty = ({ type, addedNodes, removedNodes }) => type === "childList" && addedNodes.length + removedNodes.length === 0;
@@ -358,6 +384,7 @@
     "contents-left": (run, owner, name, values) => (name === "delete" || name === "extract" ? planContents(values[0]) : null),
     "split-alone": (run, owner, name, values) => (name === "split" ? after(planSplitAlone(owner, values)) : null),
     "host-matched": (run, owner, name, values) => (name === "query" ? planQuery(run, owner, values) : null),
+    "fragment-adopted": (run, owner, name, values) => after(planFragment(name, values)),
     "empty-records": () => ({ after: withoutEmpty }),
     "iterator-kept": ofIterators(planIterators),
     "root-left": ofIterators(planRoots),

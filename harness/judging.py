@@ -7,8 +7,14 @@ REPLY = re.compile(r"\S+ (ok|!)|! owner")
 ENDS = [
     ("jsdom", "filters", re.compile(r"\S+ (iter-next|iter-prev|walk) "), re.compile(r"\S+ ! type")),
     ("jsdom", "ranges", re.compile(r"\S+ range-(get|text) "), REPLY),
-    ("jsdom", "selectors", re.compile(r'\S+ (query|matches) \S+ ".*([A-Z]|\|=\s*(\'\'|\\"\\"))'), REPLY),
+]
+# Where an answer that changes nothing may be another one under a name, and the rest of the script is compared: the same.
+TRUTH_OR_LIST = re.compile(r"\S+ ok (true|false|\[.*\])")
+PASSED = [
+    ("jsdom", "selectors", re.compile(r'\S+ (query|matches) \S+ ".*([A-Z]|[~|^$*]=\s*(\'\'|\\"\\"))'), TRUTH_OR_LIST),
     ("jsdom", "selectors", re.compile(r"\S+ (query|matches) "), re.compile(r"\S+ ! RangeError")),
+    ("", "replaced-units", re.compile(r"\S+ (query|matches) \S+ .*\\u0000"), TRUTH_OR_LIST),
+    ("firefox", "replaced-units", re.compile(r"\S+ (query|matches) \S+ .*\\u[dD][89a-fA-F]"), TRUTH_OR_LIST),
 ]
 # Engines whose ranges may be elsewhere long before a line tells it.
 PROBED = ("jsdom",)
@@ -54,6 +60,25 @@ def through_reply(output, count):
     return output[:ends[count - 1]] if count else []
 
 
+def is_of(entry, engine, line, reply):
+    """Whether an entry of ENDS or PASSED is of this engine, of the script's line and of what the engine replies."""
+    of, _, command, answer = entry
+    return of in ("", engine) and bool(command.match(line)) and bool(answer.fullmatch(reply) if answer is TRUTH_OR_LIST else answer.match(reply))
+
+
+def passed(engine, script, wanted, got):
+    """The names of the answers that may be others, and the engine's output with the wanted ones in their place."""
+    names, got = set(), list(got)
+    while (at := first_difference(wanted, got)) is not None and at < min(len(wanted), len(got)):
+        line = line_of(script, wanted, at)
+        found = [name for entry in PASSED for name in [entry[1]] if is_of(entry, engine, line, got[at]) and TRUTH_OR_LIST.fullmatch(wanted[at])]
+        if not found:
+            break
+        names.add(found[0])
+        got[at] = wanted[at]
+    return names, got
+
+
 def judge(engine, script, wanted, got, met):
     """The names of the differences after which an output agrees with the one that is wanted, or None where it does not."""
     names, wanted, got = set(met), wanted.splitlines(), got.splitlines()
@@ -61,11 +86,13 @@ def judge(engine, script, wanted, got, met):
         names.add(got.pop().split(" ")[-1])
         number = sum(1 for line in got if REPLY.match(line))
         wanted, got = (through_reply(output, number) for output in (wanted, got))
+    also, got = passed(engine, script, wanted, got)
+    names |= also
     at = first_difference(wanted, got)
-    for name, end, command, reply in ENDS:
-        if name == engine and at is not None and at < len(got) and reply.match(got[at]) and command.match(line_of(script, wanted, at)):
-            return names | {end}
-    return names if wanted == got else None
+    if at is None:
+        return names
+    ends = [entry[1] for entry in ENDS if at < len(got) and is_of(entry, engine, line_of(script, wanted, at), got[at])]
+    return names | {ends[0]} if ends else None
 
 
 def json_of(values):

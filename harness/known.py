@@ -1,7 +1,8 @@
 """The differences between browsers and the protocol that have a name.
 
-A difference is of one of two sorts:
+A difference is of one of three sorts:
   fixed    the adapter can do as the DOM Standard has it (fixes.js, lasting.js, slots.js, queue.js); the whole output must then agree;
+  passed   a command that changes nothing is answered otherwise: that answer is passed over, and all else must agree;
   ends     the DOM cannot be brought to where the protocol is: the output must agree up to there, and the rest is not compared.
 It is looked for in those engines alone that are known to have it; C, F and J are Chromium, Firefox and jsdom.
 """
@@ -376,15 +377,33 @@ KNOWN = {
         p listen n1 e a log
         p remove n2
         p dispatch n2 e bubbles composed""")),
-    "selectors": Known("ends", "J", "a name in a selector is looked for in lower case; `|=` with the empty string does not find what begins with a hyphen; "
-                       "and a selector of many thousand parts takes all stack", lines("""
+    "selectors": Known("passed", "J", "a name in a selector is looked for in lower case; `|=` with the empty string does not find what begins with a "
+                       "hyphen; `^=`, `$=`, `*=` and `~=` with it find an empty value; and a selector of many thousand parts takes all stack", lines("""
         p new element DIV
         p matches n1 "DIV\""""), lines("""
         p new element a
         p set n1 lang "-x"
-        p matches n1 "[lang|='']\""""), lines(f"""
+        p matches n1 "[lang|='']\""""), lines("""
+        p new element a
+        p set n1 lang ""
+        p matches n1 "[lang^='']\""""), lines(f"""
         p new element a
         p matches n1 "{"a " * 30000}a\"""")),
+    "replaced-units": Known("passed", "CFJ", "U+0000 in a selector stands for U+FFFD, and in Firefox a lone surrogate does (own rule of the protocol: "
+                            "each stands for itself)", lines("""
+        p new element a
+        p set n1 lang "\\u0000"
+        p matches n1 "[lang='\\u0000']\""""), lines("""
+        p new element a
+        p set n1 lang "\\ud83d"
+        p matches n1 "[lang='\\ud83d']\"""")),
+    "fragment-adopted": Known("fixed", "J", "a fragment that gives its children gets its parent's document", lines("""
+        p document
+        p new fragment
+        p new element a
+        p append n2 n3
+        p append n1 n2
+        p docof n2""")),
 }
 ENDED = ("contents-left", "root-left", "iterator-untold")
 

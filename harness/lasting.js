@@ -49,12 +49,13 @@
   // Where an iterator goes that is before a node which leaves with nothing behind it: behind the node in front of it.
   function planIterator(owner, number, name, values) {
     const iterator = owner.iterators[number];
+    if (!iterator.pointerBeforeReferenceNode) return () => false;
     const { root, referenceNode } = iterator;
     const chain = [];
     for (let node = referenceNode; node && node !== root; node = node.parentNode)
       chain.push({ node, parent: node.parentNode, before: node.previousSibling });
     const gone = chain.find(({ node }) => leaving(name, values).includes(node));
-    const stays = gone && iterator.pointerBeforeReferenceNode && !isFollowed(root, gone.node);
+    const stays = gone && !isFollowed(root, gone.node);
     const target = stays && (gone.before ? lastInside(gone.before) : gone.parent);
     return () => {
       const neverLeft = !gone && root.contains(referenceNode);

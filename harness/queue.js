@@ -37,7 +37,10 @@
 
     // Behind a command: queues the notifications that it asks for.
     endLine(owner, plans) {
-      for (const observer of owner.observers) observer.fresh = observer.twin.takeRecords();
+      for (const observer of owner.observers) {
+        observer.fresh = observer.twin.takeRecords();
+        observer.raw.push(...observer.fresh.map(observer.line));
+      }
       for (const { fix, after } of plans) if (after && after(owner.observers)) this.run.met.add(fix);
       const taken = owner.observers.filter(({ fresh }) => fresh.length);
       for (const observer of taken) observer.kept.push(...observer.fresh);

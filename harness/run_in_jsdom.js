@@ -1,4 +1,4 @@
-// Runs scripts in jsdom, each in a window of its own: reads { scripts, fixes } as JSON from standard input, and writes a JSON list of
+// Runs scripts in jsdom, each in a window of its own: reads { scripts, fixes, faults } as JSON from standard input, and writes a JSON list of
 // their answers.
 "use strict";
 const { JSDOM } = require("jsdom");
@@ -24,11 +24,11 @@ function watchPaths(fixes) {
   };
 }
 
-async function runEach({ scripts, fixes }) {
+async function runEach({ scripts, fixes, faults }) {
   const answers = [];
-  for (const script of scripts) {
+  for (const [i, script] of scripts.entries()) {
     const { window } = new JSDOM("");
-    answers.push(...await owlantimony.runAll(window, { scripts: [script], fixes }));
+    answers.push(...await owlantimony.runAll(window, { scripts: [script], fixes, faults: faults.slice(i, i + 1) }, () => window));
     window.close();
     await new Promise(setImmediate);
   }
