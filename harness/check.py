@@ -94,7 +94,9 @@ def run_in(engine, wanted: dict) -> tuple[dict, dict]:
 def record(engine, wanted: dict, right: dict, wrong: dict) -> None:
     """Writes the answers of an engine."""
     def rows(table: dict) -> str:
-        parts = {name: [edits_between(wanted[name.split("/")[0]], text) for text in (one.plain, one.fixed)] + [one.met] for name, one in table.items()}
+        parts = {}
+        for name, one in table.items():
+            parts[name] = [*(edits_between(wanted[name.split("/")[0]], text) for text in (one.plain, one.fixed)), one.met]
         return ",\n".join(f"{json.dumps(name)}: {json.dumps(values)}" for name, values in parts.items())
 
     lines = ",\n".join(f"{json.dumps(name)}: {json.dumps(text.splitlines())}" for name, text in wanted.items())
@@ -105,7 +107,10 @@ def record(engine, wanted: dict, right: dict, wrong: dict) -> None:
 
 def unseen(engine: str, wanted: dict, right: dict, wrong: dict) -> list[str]:
     """What is not as it should be: scripts that do not agree, and wrong behaviours of the engine, or of the program, that go unseen."""
-    faults = [f"{name}: the script does not agree" for name, one in right.items() if one.names(engine, script_of(name), wanted[name]) is None]
+    faults = []
+    for name, one in right.items():
+        if one.names(engine, script_of(name), wanted[name]) is None:
+            faults.append(f"{name}: the script does not agree")
     for name, one in wrong.items():
         script, short = script_of(name), name.split("/")[0]
         found = one.names(engine, script, wanted[short])

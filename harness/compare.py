@@ -36,7 +36,8 @@ class Comparison:
         """The verdict on each of these scripts, which are pairs of a title and the script."""
         given = [script for _, script in named]
         outputs = [output for output, _ in engines.answers(self.engine, given)]
-        found = [judging.Verdict(title, script, wanted, got) for (title, script), wanted, got in zip(named, self.program.run(given), outputs)]
+        rows = zip(named, self.program.run(given), outputs)
+        found = [judging.Verdict(title, script, wanted, got) for (title, script), wanted, got in rows]
         self.explain([verdict for verdict in found if verdict.names is None], lambda script, _: script)
         if self.engine.name in judging.PROBED:
             self.explain([verdict for verdict in found if verdict.names is None], judging.probed)
@@ -152,13 +153,21 @@ def print_all(words, comparison, batches):
     return 1 if printed.counts["unexplained"] else 0
 
 
+def parts_of_help():
+    """What stands behind the usage above, and the line about the exit status."""
+    about, end = __doc__.split("Usage: ")[1].split("\n\n", 1)[1].split("Exit status")
+    return about.rstrip(), "Exit status" + end
+
+
 def words_given():
     """The words of the command line: one kind of scripts, and how they are run."""
-    parser = argparse.ArgumentParser(description=__doc__.split("Exit")[0], epilog="Exit" + __doc__.split("Exit")[1],
-                                     usage=__doc__.split("Usage: ")[1].split("\n")[0], formatter_class=argparse.RawDescriptionHelpFormatter)
+    first, usage = __doc__.split("\n")[0], __doc__.split("Usage: ")[1].split("\n")[0]
+    about, end = parts_of_help()
+    parser = argparse.ArgumentParser(description=f"{first}\n\n{about}", epilog=end, usage=usage,
+                                     formatter_class=argparse.RawDescriptionHelpFormatter)
     what = parser.add_argument_group("what is run (one of these)")
     what.add_argument("scripts", nargs="*", metavar="SCRIPT", help="files of scripts of your own; docs/PROTOCOL.md has the lines")
-    what.add_argument("--random", type=int, metavar="N", help="so many random scripts, half of them with components, also inside components")
+    what.add_argument("--random", type=int, metavar="N", help="so many random scripts, half of them with components in components")
     what.add_argument("--known", action="store_true", help="the scripts of the named differences, and whether the engine has these")
     what.add_argument("--examples", action="store_true", help="the scripts in examples/")
     how = parser.add_argument_group("where it is run")
@@ -170,8 +179,9 @@ def words_given():
     random.add_argument("--lines", type=int, default=100, metavar="N", help="of each script (100)")
     random.add_argument("--first", type=int, default=0, metavar="I", help="number of the first script (0)")
     shown = parser.add_argument_group("what is printed")
-    shown.add_argument("--verbose", action="count", default=0, help="each verdict, also named ones and what agrees; twice: with the scripts. "
-                                                                    "Without it, named ones are shown for scripts of your own alone")
+    shown.add_argument("--verbose", action="count", default=0,
+                       help="each verdict, also named ones and what agrees; twice: with the scripts. Without it named ones are shown for "
+                            "scripts of your own alone")
     shown.add_argument("--json", action="store_true", help="one JSON object for each script in a line, and a last one with the counts")
     shown.add_argument("--shown", type=int, default=3, metavar="N", help="how many unexplained scripts are made small (3)")
     words = parser.parse_args()

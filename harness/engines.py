@@ -17,7 +17,7 @@ HERE = os.path.dirname(os.path.abspath(__file__))
 PROGRAM = os.path.normpath(os.path.join(HERE, "..", "crates", "domrun", "out", "domrun"))
 # Seconds after which an engine is taken to give no answer to a batch of scripts.
 PATIENCE = 600
-SOURCES = ("lines.js", "commands.js", "lasting.js", "fixes.js", "slots.js", "queue.js", "faults.js", "adapter.js")
+SOURCES = ("lines.js", "commands.js", "lasting.js", "slots.js", "fixes.js", "queue.js", "faults.js", "adapter.js")
 
 
 class Missing(Exception):
@@ -69,7 +69,7 @@ class Program:
 
 
 class Unproved:
-    """The program as `rt try` builds it, without a proof: once for each list of scripts, which takes about two minutes, and it is not kept."""
+    """The program as `rt try` builds it, without a proof: once for each list of scripts, in about two minutes. It is not kept."""
 
     head = re.compile(rb"^== (\d+)\n", re.MULTILINE)
 
@@ -281,7 +281,7 @@ def answers_of_batch(engine, given):
 
 
 def answers(engine, scripts, fixes=(), faults=()):
-    """What the engine writes for each script, and which of the fixes were met in it, batch by batch. `faults` are planted, one for each script."""
+    """What the engine writes for each script, and which of the fixes were met, batch by batch. `faults` are planted, one for each."""
     batches = [{"scripts": scripts[start:start + engine.batch], "fixes": list(fixes), "faults": list(faults[start:start + engine.batch])}
                for start in range(0, len(scripts), engine.batch)]
     with ThreadPoolExecutor(engine.at_once) as pool:

@@ -35,7 +35,6 @@
       if (!slots.includes(event.target)) slots.push(event.target);
       return false;
     });
-    // Where nobody hears an event it has to be known all the same.
     wrap(window.Document.prototype, "createElement", (create) => function (name) {
       const element = create.call(this, name);
       if (name === "slot") element.addEventListener("slotchange", () => {});

@@ -1,13 +1,7 @@
 // The differences between a DOM and the protocol that can be made good by smaller steps: with a fix the adapter carries a command out
 // as the DOM Standard has it, and a script that then agrees differs by just this. What a fix does is met only where it changes something.
 "use strict";
-(function (exports, { planIterators, planRoots, planUntold, planTransients, observesWhatLeft, Unrepresentable }) {
-  const indexOf = (node) => {
-    let index = 0;
-    for (let before = node.previousSibling; before; before = before.previousSibling) index += 1;
-    return index;
-  };
-
+(function (exports, { planIterators, planRoots, planUntold, planTransients, observesWhatLeft, Unrepresentable }, { held, indexOf }) {
   // The boundary points of an owner's ranges, moved as the Standard's steps move them.
   class Points {
     constructor(owner) {
@@ -150,23 +144,6 @@
         return removal ? copyOf(removal, places.get(removal.removedNodes[0])) : record;
       });
     });
-  }
-
-  // The nodes that a range holds whole, without those below them, in tree order: from the start upwards what follows, to the end what comes
-  // before.
-  function held(range) {
-    const { startContainer: start, startOffset, endContainer: end, endOffset, commonAncestorContainer: common } = range;
-    const childrenOf = (node) => (node.nodeType === 3 || node.nodeType === 8 ? [] : [...node.childNodes]);
-    const towards = (node) => childrenOf(common).findIndex((child) => child.contains(node));
-    const first = start === common ? startOffset : towards(start) + 1;
-    const found = childrenOf(common).slice(first, end === common ? endOffset : towards(end));
-    if (start !== common) found.push(...childrenOf(start).slice(startOffset));
-    if (end !== common) found.push(...childrenOf(end).slice(0, endOffset));
-    for (let node = start; node !== common && node.parentNode !== common; node = node.parentNode)
-      found.push(...childrenOf(node.parentNode).slice(indexOf(node) + 1));
-    for (let node = end; node !== common && node.parentNode !== common; node = node.parentNode)
-      found.push(...childrenOf(node.parentNode).slice(0, indexOf(node)));
-    return found.sort((a, b) => (a.compareDocumentPosition(b) & a.DOCUMENT_POSITION_FOLLOWING ? -1 : 1));
   }
 
   // Deletion and extraction take all that the range holds: whether it all went, and the command was not refused.
@@ -402,8 +379,9 @@
   // since records that come queue a notification, and some steps are others in a document that was observed.
   const habitsOf = (run) => ({ observesWhatLeft: observesWhatLeft(run), tellsOfLoneTexts: tellsOfLoneTexts(run) });
 
-  exports.fixing = { plansFor, habitsOf, held };
+  exports.fixing = { plansFor, habitsOf };
 })(
   typeof module === "object" ? module.exports : globalThis,
   typeof require === "function" ? require("./lasting.js").lasting : globalThis.lasting,
+  typeof require === "function" ? require("./slots.js").slots : globalThis.slots,
 );

@@ -63,7 +63,8 @@ def through_reply(output, count):
 def is_of(entry, engine, line, reply):
     """Whether an entry of ENDS or PASSED is of this engine, of the script's line and of what the engine replies."""
     of, _, command, answer = entry
-    return of in ("", engine) and bool(command.match(line)) and bool(answer.fullmatch(reply) if answer is TRUTH_OR_LIST else answer.match(reply))
+    is_answer = answer.fullmatch(reply) if answer is TRUTH_OR_LIST else answer.match(reply)
+    return of in ("", engine) and bool(command.match(line)) and bool(is_answer)
 
 
 def passed(engine, script, wanted, got):
@@ -71,8 +72,8 @@ def passed(engine, script, wanted, got):
     names, got = set(), list(got)
     while (at := first_difference(wanted, got)) is not None and at < min(len(wanted), len(got)):
         line = line_of(script, wanted, at)
-        found = [name for entry in PASSED for name in [entry[1]] if is_of(entry, engine, line, got[at]) and TRUTH_OR_LIST.fullmatch(wanted[at])]
-        if not found:
+        found = [entry[1] for entry in PASSED if is_of(entry, engine, line, got[at])]
+        if not found or not TRUTH_OR_LIST.fullmatch(wanted[at]):
             break
         names.add(found[0])
         got[at] = wanted[at]

@@ -4,7 +4,7 @@
 // was queued first stands where the DOM put it. The notification of another owner, whose first record or signal came behind more
 // microtasks, stands behind these.
 "use strict";
-(function (exports, { endTurn, inOrder }, { held }, { signalsOf, namesOf }) {
+(function (exports, { endTurn, inOrder }, { signalsOf, namesOf }) {
   // The commands that change a tree, an attribute or data.
   const CHANGES = ["append", "insert", "replace", "remove", "adopt", "normalize", "text", "set", "unset", "data", "replace-data", "split",
     "delete", "extract", "insert-node"];
@@ -27,7 +27,7 @@
       this.isChange = CHANGES.includes(name);
       const { run } = this;
       const isWanted = run.signals && (run.owners.size > 1 || (run.fixes.length > 0 && owner.observers.length > 0));
-      this.wanted = isWanted ? signalsOf(run, name, values, held) : null;
+      this.wanted = isWanted ? signalsOf(run, name, values) : null;
     }
 
     forgetLine() {
@@ -176,6 +176,5 @@
 })(
   typeof module === "object" ? module.exports : globalThis,
   typeof require === "function" ? require("./lasting.js").lasting : globalThis.lasting,
-  typeof require === "function" ? require("./fixes.js").fixing : globalThis.fixing,
   typeof require === "function" ? require("./slots.js").slots : globalThis.slots,
 );

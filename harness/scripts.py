@@ -115,8 +115,8 @@ class Maker(Draft):
 
     def read(self):
         node = self.pick()
-        self.say(self.one((f"tree {node}", f"tree {self.owner.root(node)}", f"attr {self.pick('element')} {self.one(ATTRIBUTES)}", f"parent {node}",
-                           f"docof {node}", f"children {self.parent()}", f"contains {node} {self.pick()}", f"connected {node}",
+        self.say(self.one((f"tree {node}", f"tree {self.owner.root(node)}", f"attr {self.pick('element')} {self.one(ATTRIBUTES)}",
+                           f"parent {node}", f"docof {node}", f"children {self.parent()}", f"contains {node} {self.pick()}", f"connected {node}",
                            f"shadow-root {self.pick('element')}", f"slot-of {self.pick('element', 'text')}")))
 
     def make_range(self):
@@ -200,8 +200,8 @@ class Maker(Draft):
         self.owner.heard.append(node)
         if self.chance.random() < 0.85:
             action = self.one(("log",) * 6 + ("stop", "stop-now", "cancel"))
-            self.say(" ".join(["listen", node, event, label, action, *self.some("capture", "once" if self.chance.random() < 0.4 else "capture1",
-                               "passive")]).replace(" capture1", ""))
+            once = "once" if self.chance.random() < 0.4 else "capture1"
+            self.say(" ".join(["listen", node, event, label, action, *self.some("capture", once, "passive")]).replace(" capture1", ""))
         else:
             self.say(" ".join(["unlisten", node, event, label, *self.some("capture")]))
 
@@ -317,7 +317,8 @@ def print_coverage(made, outputs):
     for command, counts in sorted(commands.items()):
         print(f"{command:16} {sum(counts.values()):7}  " + "  ".join(f"{name} {count}" for name, count in counts.most_common()))
     print("lines before answers: " + "  ".join(f"{name} {count}" for name, count in before.most_common()))
-    depths = collections.Counter(max(line.split(" ")[0].count(".") + line.startswith("c") for line in script.splitlines()) for script in made)
+    words = [{line.split(" ")[0] for line in script.splitlines()} for script in made]
+    depths = collections.Counter(max(word.count(".") + word.startswith("c") for word in of_script) for of_script in words)
     print("scripts by the depth of their components: " + "  ".join(f"{depth}: {count}" for depth, count in sorted(depths.items())))
 
 

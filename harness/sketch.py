@@ -1,10 +1,10 @@
-"""The trees and ranges of a script in the making, as the protocol's commands change them: enough to know what each line makes and where it stands.
+"""The trees and ranges of a script in the making, as commands change them: enough to know what each line makes and where it stands.
 
 It is no engine: attributes, slots, events, cursors, observers and the data of Texts are not here, for no name comes of them.
 """
 
-HOSTS = ("article", "aside", "blockquote", "body", "div", "footer", "h1", "h2", "h3", "h4", "h5", "h6", "header", "main", "nav", "p", "section",
-         "span", "x-a")
+HOSTS = ("article", "aside", "blockquote", "body", "div", "footer", "h1", "h2", "h3", "h4", "h5", "h6", "header", "main", "nav", "p",
+         "section", "span", "x-a")
 DATA = ("text", "comment")
 
 
@@ -161,7 +161,13 @@ class Owner:
     def join(self, name: str, behind: str) -> None:
         length, place = self.nodes[name].units, (self.nodes[behind].parent, self.index(behind))
         self.nodes[name].units += self.nodes[behind].units
-        self.move_points(lambda at, offset: (name, length + offset) if at == behind else (name, length) if (at, offset) == place else (at, offset))
+
+        def moved(at: str, offset: int) -> tuple[str, int]:
+            if at == behind:
+                return name, length + offset
+            return (name, length) if (at, offset) == place else (at, offset)
+
+        self.move_points(moved)
         self.take(behind)
 
     def set_text(self, name: str, units: int) -> None:

@@ -5,6 +5,29 @@
   const isSlot = (node) => node.localName === "slot";
   const isSame = (some, others) => some.length === others.length && some.every((one, i) => one === others[i]);
 
+  const indexOf = (node) => {
+    let index = 0;
+    for (let before = node.previousSibling; before; before = before.previousSibling) index += 1;
+    return index;
+  };
+
+  // The nodes that a range holds whole, without those below them, in tree order: from the start upwards what follows, to the end what comes
+  // before.
+  function held(range) {
+    const { startContainer: start, startOffset, endContainer: end, endOffset, commonAncestorContainer: common } = range;
+    const childrenOf = (node) => (node.nodeType === 3 || node.nodeType === 8 ? [] : [...node.childNodes]);
+    const towards = (node) => childrenOf(common).findIndex((child) => child.contains(node));
+    const first = start === common ? startOffset : towards(start) + 1;
+    const found = childrenOf(common).slice(first, end === common ? endOffset : towards(end));
+    if (start !== common) found.push(...childrenOf(start).slice(startOffset));
+    if (end !== common) found.push(...childrenOf(end).slice(0, endOffset));
+    for (let node = start; node !== common && node.parentNode !== common; node = node.parentNode)
+      found.push(...childrenOf(node.parentNode).slice(indexOf(node) + 1));
+    for (let node = end; node !== common && node.parentNode !== common; node = node.parentNode)
+      found.push(...childrenOf(node.parentNode).slice(0, indexOf(node)));
+    return found.sort((a, b) => (a.compareDocumentPosition(b) & a.DOCUMENT_POSITION_FOLLOWING ? -1 : 1));
+  }
+
   // The trees of all owners as they stand, and the slots that the steps on them signal, each with its reasons.
   class Trees {
     constructor(run) {
@@ -185,18 +208,18 @@
     text: (trees, [node, data]) => trees.setText(node, data),
     normalize: (trees, [node]) => trees.normalize(node),
     split: (trees, [text]) => void trees.split(text),
-    delete: (trees, [range], held) => held(range).forEach((node) => trees.take(node)),
-    extract: (trees, [range], held) => held(range).forEach((node) => trees.take(node)),
+    delete: (trees, [range]) => held(range).forEach((node) => trees.take(node)),
+    extract: (trees, [range]) => held(range).forEach((node) => trees.take(node)),
     "insert-node": (trees, [range, node]) => trees.insertNode(range, node),
     set: (trees, [element, name, value]) => trees.setAttribute(element, name, value),
     unset: (trees, [element, name]) => trees.setAttribute(element, name, null),
   };
 
   // The trees behind a command, with what it did by the Standard's text; null: it changes no tree, or it is refused.
-  function treesBehind(run, carryOut, values, held) {
+  function treesBehind(run, carryOut, values) {
     const trees = new Trees(run);
     try {
-      carryOut(trees, values, held);
+      carryOut(trees, values);
     } catch {
       return null;
     }
@@ -208,13 +231,13 @@
   // `unmoved` is the slot whose name, or the name of whose node, is set to the empty string where it had none.
   // `taken` are the nodes that leave their places, each with what was above it, and `stepOf` and
   // `isBefore` tell behind which step a record stands, and whether it comes before the signal of a slot.
-  function signalsOf(run, name, values, held) {
-    const trees = COMMANDS[name] ? treesBehind(run, COMMANDS[name], values, held) : null;
+  function signalsOf(run, name, values) {
+    const trees = COMMANDS[name] ? treesBehind(run, COMMANDS[name], values) : null;
     if (!trees) return null;
     const { reasons, crowds, taken } = trees;
     const stepOf = (record) => stepOfRecord(trees, record);
     const isBefore = (record, slot) => stepOf(record) < (trees.signalSteps.get(slot) ?? Infinity);
-    const lateOnes = name === "replace" ? treesBehind(run, (late, words) => late.replaceLate(...words), values, held) : null;
+    const lateOnes = name === "replace" ? treesBehind(run, (late, words) => late.replaceLate(...words), values) : null;
     return { slots: reasons, late: lateOnes && lateOnes.reasons, crowds, taken, stepOf, isBefore, unmoved: name === "set" ? unmovedBy(run, values) : null };
   }
 
@@ -265,5 +288,5 @@
     return [...names];
   }
 
-  exports.slots = { signalsOf, namesOf };
+  exports.slots = { signalsOf, namesOf, held, indexOf };
 })(typeof module === "object" ? module.exports : globalThis);
