@@ -44,7 +44,7 @@ OBSERVERS = {
     "early-notification": Known(
         "fixed", "J",
         "a change that no observer takes queues a notification, which then stands before microtasks that come before the first "
-        "record", lines("""
+        "record (own rule of the protocol: such a change queues none; by the Standard's text there is one)", lines("""
         p new element a
         p new element b
         p observer
