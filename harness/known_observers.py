@@ -1,6 +1,25 @@
 """The named differences in observers, slots and their notifications (known.py)."""
 from differences import Known, lines
 
+# A host whose component has a slot and listens there: with nothing assigned, and with a child of the host, when a turn has ended.
+BARE_SLOT = lines("""
+        p new element div
+        p attach n1
+        p .
+        c1 new element slot
+        c1 append m0 m1
+        c1 listen m1 slotchange a log""")
+TAKEN_SLOT = lines("""
+        p new element div
+        p new element b
+        p attach n1
+        p append n1 n2
+        p .
+        c1 new element slot
+        c1 append m0 m1
+        c1 listen m1 slotchange a log
+        c1 .""")
+
 OBSERVERS = {
     "observer-order": Known(
         "fixed", "CFJ",
@@ -89,13 +108,7 @@ OBSERVERS = {
     "slot-replaced": Known(
         "fixed", "CFJ",
         "a child is replaced where that signals slots: browsers remove the new node first, so that a slot is signalled which a "
-        "child of its own takes the place of, and slots stand in another order", lines("""
-        p new element div
-        p attach n1
-        p .
-        c1 new element slot
-        c1 append m0 m1
-        c1 listen m1 slotchange a log
+        "child of its own takes the place of, and slots stand in another order", BARE_SLOT + lines("""
         c1 new element i
         c1 append m1 m2
         c1 .
@@ -103,43 +116,19 @@ OBSERVERS = {
         c1 .""")),
     "comment-untold": Known(
         "fixed", "C",
-        "a Comment comes to a slot that has nothing assigned, or leaves it: the slot is not signalled", lines("""
-        p new element div
-        p attach n1
-        p .
-        c1 new element slot
-        c1 append m0 m1
-        c1 listen m1 slotchange a log
+        "a Comment comes to a slot that has nothing assigned, or leaves it: the slot is not signalled", BARE_SLOT + lines("""
         c1 .
         c1 new comment "x"
         c1 append m1 m2
         c1 .""")),
     "empty-name": Known(
         "fixed", "CF",
-        "the `name` of a slot is set to the empty string where there was none: the slot is signalled", lines("""
-        p new element div
-        p new element b
-        p attach n1
-        p append n1 n2
-        p .
-        c1 new element slot
-        c1 append m0 m1
-        c1 listen m1 slotchange a log
-        c1 .
+        "the `name` of a slot is set to the empty string where there was none: the slot is signalled", TAKEN_SLOT + lines("""
         c1 set m1 name ""
         c1 .""")),
     "empty-slot": Known(
         "fixed", "C",
-        "the `slot` of a host's child is set to the empty string where there was none: its slot is signalled", lines("""
-        p new element div
-        p new element b
-        p attach n1
-        p append n1 n2
-        p .
-        c1 new element slot
-        c1 append m0 m1
-        c1 listen m1 slotchange a log
-        c1 .
+        "the `slot` of a host's child is set to the empty string where there was none: its slot is signalled", TAKEN_SLOT + lines("""
         p set n2 slot ""
         p .""")),
     "slots-together": Known(
