@@ -1,7 +1,7 @@
 """The named differences in observers, slots and their notifications (known.py)."""
 from differences import Known, lines
 
-# A host whose component has a slot and listens there: with nothing assigned, and with a child of the host, when a turn has ended.
+# A host whose component has a slot and listens there: with nothing assigned; with a child of the host; with a second slot of its name.
 BARE_SLOT = lines("""
         p new element div
         p attach n1
@@ -18,6 +18,19 @@ TAKEN_SLOT = lines("""
         c1 new element slot
         c1 append m0 m1
         c1 listen m1 slotchange a log
+        c1 .""")
+TWO_SLOTS = lines("""
+        p new element div
+        p new element b
+        p attach n1
+        p append n1 n2
+        p .
+        c1 new element slot
+        c1 new element slot
+        c1 append m0 m1
+        c1 append m0 m2
+        c1 listen m1 slotchange a log
+        c1 listen m2 slotchange b log
         c1 .""")
 
 OBSERVERS = {
@@ -76,33 +89,9 @@ OBSERVERS = {
     "slot-order": Known(
         "fixed", "CFJ",
         "a slot comes, goes or gets another name: the Standard signals the slots of its tree whose lists change by that in tree "
-        "order, and behind them the slots of what left; browsers in another order", lines("""
-        p new element div
-        p attach n1
-        p new text "x"
-        p append n1 n2
-        p .
-        c1 new element slot
-        c1 new element slot
-        c1 append m0 m1
-        c1 append m0 m2
-        c1 listen m1 slotchange a log
-        c1 listen m2 slotchange b log
-        c1 .
+        "order, and behind them the slots of what left; browsers in another order", TWO_SLOTS + lines("""
         c1 remove m1
-        c1 ."""), lines("""
-        p new element div
-        p new element b
-        p attach n1
-        p append n1 n2
-        p .
-        c1 new element slot
-        c1 new element slot
-        c1 append m0 m1
-        c1 append m0 m2
-        c1 listen m1 slotchange a log
-        c1 listen m2 slotchange b log
-        c1 .
+        c1 ."""), TWO_SLOTS + lines("""
         c1 replace m0 m2 m1
         c1 .""")),
     "slot-replaced": Known(
