@@ -73,6 +73,20 @@ OBSERVERS = {
         p micro k
         p set n1 id "x"
         p .""")),
+    "removal-notifies": Known(
+        "fixed", "F",
+        "`remove` and `adopt` of a node below one that an observer observes, whatever it asks for: a notification is queued, which "
+        "then stands before microtasks that come before the first record", lines("""
+        p new element a
+        p new element b
+        p append n1 n2
+        p observer
+        p observe o0 n1 attributes
+        p .
+        p remove n2
+        p micro k
+        p set n1 id "x"
+        p .""")),
     "early-notification": Known(
         "fixed", "J",
         "a change that no observer takes queues a notification, which then stands before microtasks that come before the first "

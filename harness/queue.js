@@ -16,7 +16,7 @@
     }
 
     clear() {
-      Object.assign(this, { log: [], pending: [], microtasks: 0, firstChange: undefined, firstLeft: undefined, isSilent: false, isAnew: false });
+      Object.assign(this, { log: [], pending: [], microtasks: 0, firsts: new Map(), isSilent: false, isAnew: false });
       [this.places, this.signalled, this.told, this.names] = [new Map(), new Set(), new Set(), new Set()];
     }
 
@@ -46,7 +46,7 @@
       for (const observer of taken) observer.kept.push(...observer.fresh);
       this.pending.push(...inOrder(taken.filter(({ isPending }) => !isPending), this.wanted ? this.wanted.stepOf : () => 0));
       for (const observer of taken) observer.isPending = true;
-      if (this.isChange) this.firstChange = this.firstChange ?? this.microtasks;
+      if (this.isChange) this.noteFirst("early-notification");
       for (const next of this.ownersOf(owner, taken)) if (!this.places.has(next)) this.places.set(next, this.microtasks);
     }
 
@@ -72,9 +72,9 @@
       return [...this.wanted.slots.keys()];
     }
 
-    // A node left that an observer goes on observing.
-    noteLeft() {
-      this.firstLeft = this.firstLeft ?? this.microtasks;
+    // What queues a notification by a named difference came here first, behind so many microtasks.
+    noteFirst(name) {
+      if (!this.firsts.has(name)) this.firsts.set(name, this.microtasks);
     }
 
     addMicrotask(owner, label) {
@@ -138,8 +138,8 @@
       const place = this.places.get(owner);
       if (place === undefined) return told;
       if (this.isAnew) return place;
-      const early = [["early-notification", this.firstChange], ["leaving-notifies", this.firstLeft]];
-      const [name] = early.find(([fix, first]) => this.run.fixes.includes(fix) && told < place && told === first) || [];
+      const isEarly = ([fix, first]) => this.run.fixes.includes(fix) && told < place && told === first;
+      const [name] = [...this.firsts].find(isEarly) || [];
       if (name) {
         if (place === Math.min(...this.places.values())) this.run.met.add(name);
         return place;
