@@ -238,7 +238,9 @@
     const stepOf = (record) => stepOfRecord(trees, record);
     const isBefore = (record, slot) => stepOf(record) < (trees.signalSteps.get(slot) ?? Infinity);
     const lateOnes = name === "replace" ? treesBehind(run, (late, words) => late.replaceLate(...words), values) : null;
-    return { slots: reasons, late: lateOnes && lateOnes.reasons, crowds, taken, stepOf, isBefore, unmoved: name === "set" ? unmovedBy(run, values) : null };
+    const unmoved = name === "set" ? unmovedBy(run, values) : null;
+    if (unmoved && unmoved.name === "empty-name") crowds.add("");
+    return { slots: reasons, late: lateOnes && lateOnes.reasons, crowds, taken, stepOf, isBefore, unmoved };
   }
 
   // The step behind which a record stands: records of attributes, of data and of a fragment that gives its children stand before all.
