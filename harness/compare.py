@@ -167,7 +167,7 @@ def words_given():
                                      formatter_class=argparse.RawDescriptionHelpFormatter)
     what = parser.add_argument_group("what is run (one of these)")
     what.add_argument("scripts", nargs="*", metavar="SCRIPT", help="files of scripts of your own; docs/PROTOCOL.md has the lines")
-    what.add_argument("--random", type=int, metavar="N", help="so many random scripts, half of them with components in components")
+    what.add_argument("--random", type=int, metavar="N", help="so many random scripts, one of three with components in components")
     what.add_argument("--known", action="store_true", help="the scripts of the named differences, and whether the engine has these")
     what.add_argument("--examples", action="store_true", help="the scripts in examples/")
     how = parser.add_argument_group("where it is run")

@@ -34,7 +34,7 @@ def find(*names):
         path = shutil.which(name)
         if path:
             return path
-    raise Missing(f"{names[0]} is not on this machine: harness/README.md, 'Install', says how to get it")
+    raise Missing(f"{names[0]} is not on this machine: harness/README.md says how to get it")
 
 
 def run_within(words, **options):
