@@ -22,6 +22,14 @@ import known
 
 PLANTED = os.path.join(engines.HERE, "planted")
 ANSWERS = os.path.join(PLANTED, "answers.json")
+# What only the program can do wrong, since an engine has one notification for all: in the answers of a script the first of these lines stands
+# in front of the second.
+OF_THE_PROGRAM = {
+    "owners/one-notification-for-all": ("p record o0 attributes n1 name=id old=null", "p micro k"),
+    "owners/microtask-before-its-turn": ("c1 micro l", "c1 record o0 childList m0 added=[m2] removed=[] prev=m1 next=null"),
+    "owners/events-behind-other-owners": ("p micro k", "c1 event t slotchange phase=2 target=m1 current=m1 related=null path=[m1,m0]"),
+    "owners/microtask-behind-the-line": ("p ok (n0 document (n1 element div id=\"v\" (n2 text \"x\")))", "c1 micro m"),
+}
 ONE_SCRIPT = "p new element a\np query n1 \"b\"\np range-new\np range-get r0\np matches n1 \"[k='\\u0000']\"\n"
 ONE_ANSWER = ["p ok n1", "p ok []", "p ok r0", "p ok n0 0 n0 0", "p ok true"]
 
@@ -121,6 +129,19 @@ def unseen(engine: str, wanted: dict, right: dict, wrong: dict) -> list[str]:
     return faults
 
 
+def unseen_moves(engine: str, wanted: dict, right: dict) -> list[str]:
+    """Which of the program's own wrong behaviours go unseen, or move nothing."""
+    found = []
+    for name, (line, other) in OF_THE_PROGRAM.items():
+        short = name.split("/")[0]
+        lines = wanted[short].splitlines()
+        at, place = lines.index(line), lines.index(other)
+        lines.insert(place, lines.pop(at))
+        if at <= place or right[short].names(engine, script_of(name), "\n".join(lines) + "\n") is not None:
+            found.append(f"{name}: unseen in the program")
+    return found
+
+
 def lax_rules() -> list[str]:
     """Rules of judging.py that let by what they are not to: an answer that differs in an engine or at a command that they are not for."""
     found = []
@@ -155,14 +176,14 @@ def live(words: argparse.Namespace, wanted: dict) -> tuple[str, str, dict, dict]
 def main() -> int:
     words = words_given()
     program = engines.Program(words.program) if os.path.exists(words.program) else None
-    names = sorted({name.split("/")[0] for name in names_of_faults()})
+    names = sorted({name.split("/")[0] for name in [*names_of_faults(), *OF_THE_PROGRAM]})
     if words.record:
         wanted = dict(zip(names, engines.Program(words.program).run([script_of(name) for name in names])))
     else:
         engine, version, wanted, right, wrong = recorded()
     if words.engine:
         engine, version, right, wrong = live(words, wanted)
-    faults = unseen(engine, wanted, right, wrong) + lax_rules()
+    faults = unseen(engine, wanted, right, wrong) + unseen_moves(engine, wanted, right) + lax_rules()
     faults += [f"{name}: there is no answer for it" for name in names_of_faults() if name not in wrong]
     if program:
         outputs = program.run([script_of(name) for name in names])
@@ -170,7 +191,7 @@ def main() -> int:
     for fault in faults:
         print(f"check: {fault}")
     how = "planted in" if words.engine else "recorded in"
-    print(f"check: {len(wrong)} wrong behaviours, {how} {version}, {len(faults)} faults; {'with' if program else 'without'} the program")
+    print(f"check: {len(wrong) + len(OF_THE_PROGRAM)} wrong behaviours, {how} {version}, {len(faults)} faults; {'with' if program else 'without'} the program")
     return 1 if faults else 0
 
 

@@ -8,7 +8,8 @@ const { owlantimony } = require("./adapter.js");
 
 // A node of jsdom keeps the slot that it was assigned to when it is assigned to none any more, and the path of an event goes over that
 // slot. With fixes the comparison ends there. Without them it goes on, up to where a path comes to a node again, as where the slot's host
-// is below the target by now: there jsdom goes round without an end, until node has no memory left.
+// is below the target by now: there jsdom would go round without an end, so the path is ended. Nothing is thrown, since jsdom also asks
+// for paths while it notifies, where no one would catch it.
 function watchPaths(fixes) {
   const { _getTheParent: parentOf } = Node.prototype;
   const passed = new WeakMap();
