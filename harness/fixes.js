@@ -25,18 +25,18 @@
       }
     }
 
-    // Gives the ranges these points. True: one of them moves by that.
-    put() {
+    // Gives the ranges these points; with `late` those alone that stand where these other points are. True: one of them moves by that.
+    put(late = null) {
       let moved = false;
       this.ranges.forEach((range, i) => {
-        const [start, end] = this.points[i];
-        const isAt = () => range.startContainer === start.node && range.startOffset === start.offset
+        const isAt = ([start, end]) => range.startContainer === start.node && range.startOffset === start.offset
           && range.endContainer === end.node && range.endOffset === end.offset;
-        if (isAt()) return;
+        if (isAt(this.points[i]) || (late && !isAt(late.points[i]))) return;
+        const [start, end] = this.points[i];
         moved = true;
         range.setStart(start.node, start.offset);
         range.setEnd(end.node, end.offset);
-        if (!isAt()) throw new Unrepresentable("start-behind-end");
+        if (!isAt(this.points[i])) throw new Unrepresentable("start-behind-end");
       });
       return moved;
     }
@@ -61,12 +61,17 @@
     if (node.parentNode !== parent) return null;
     const reference = child === node ? node.nextSibling : child || null;
     const previousSibling = reference ? reference.previousSibling : parent.lastChild;
-    const points = new Points(owner);
-    if (reference) points.makeRoom(parent, indexOf(reference), 1);
-    points.remove(parent, node, indexOf(node));
+    const [points, late, at] = [new Points(owner), new Points(owner), indexOf(node)];
+    const index = reference && indexOf(reference);
+    if (reference) points.makeRoom(parent, index, 1);
+    points.remove(parent, node, at);
+    late.remove(parent, node, at);
+    if (reference) late.makeRoom(parent, at < index ? index - 1 : index, 1);
+    const lateSibling = previousSibling === node ? node.previousSibling : previousSibling;
     return (taken) => {
-      const moved = points.put();
-      const isIt = (record) => record.type === "childList" && record.target === parent && [...record.addedNodes].includes(node);
+      const moved = points.put(late);
+      const isIt = (record) => record.type === "childList" && record.target === parent && [...record.addedNodes].includes(node)
+        && record.previousSibling === lateSibling;
       return rewrite(taken, (records) => records.map((record) => (isIt(record) ? copyOf(record, { previousSibling }) : record))) || moved;
     };
   }
@@ -83,15 +88,18 @@
       type: "childList", target: parent, addedNodes: [], removedNodes: [node],
       previousSibling: beside(node.previousSibling, child.previousSibling), nextSibling: beside(node.nextSibling, child.nextSibling),
     };
-    const points = new Points(owner);
+    const [points, late] = [new Points(owner), new Points(owner)];
     if (first) {
       const [index, at] = [indexOf(child), indexOf(node)];
+      late.remove(parent, node, at);
+      late.remove(parent, child, at < index ? index - 1 : index);
+      if (reference) late.makeRoom(parent, at < index ? index - 1 : index, 1);
       points.remove(parent, child, index);
       if (reference) points.makeRoom(parent, indexOf(reference) - 1, 1);
       points.remove(parent, node, at > index ? at - 1 : at);
     }
     return (taken) => {
-      const moved = first ? points.put() : false;
+      const moved = first ? points.put(late) : false;
       const isOurs = (record) => record.type === "childList" && record.target === parent;
       return rewrite(taken, (records) => {
         if (!records.some(isOurs)) return records;
