@@ -2,29 +2,22 @@
 from differences import Known, lines
 
 # A host whose component has a slot and listens there: with nothing assigned; with a child of the host; with a second slot of its name.
-BARE_SLOT = lines("""
-        p new element div
-        p attach n1
-        p .
+SLOT = lines("""
         c1 new element slot
         c1 append m0 m1
         c1 listen m1 slotchange a log""")
-TAKEN_SLOT = lines("""
+HOST_WITH_A_CHILD = lines("""
         p new element div
         p new element b
         p attach n1
         p append n1 n2
-        p .
-        c1 new element slot
-        c1 append m0 m1
-        c1 listen m1 slotchange a log
-        c1 .""")
-TWO_SLOTS = lines("""
+        p .""")
+BARE_SLOT = lines("""
         p new element div
-        p new element b
         p attach n1
-        p append n1 n2
-        p .
+        p .""") + SLOT
+TAKEN_SLOT = HOST_WITH_A_CHILD + SLOT + "c1 .\n"
+TWO_SLOTS = HOST_WITH_A_CHILD + lines("""
         c1 new element slot
         c1 new element slot
         c1 append m0 m1
