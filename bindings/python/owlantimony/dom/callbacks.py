@@ -1,0 +1,88 @@
+"""What an owner is told, and whom it calls back for it."""
+from __future__ import annotations
+
+from collections.abc import Callable
+from typing import TYPE_CHECKING, Any
+
+from .events import ShownEvent
+from .records import record_of
+
+if TYPE_CHECKING:
+    from .observers import MutationObserver
+    from .owner import Owner
+
+__all__ = ["Callbacks"]
+
+Listener = Callable[[ShownEvent], Any]
+
+
+class Callbacks:
+    """An owner's listeners, microtasks and observers, by the labels under which the engine knows them.
+
+    A callback has one label as a capturing listener and another one as one that does not capture, so that a node, a type and a label
+    name one listener.
+    """
+
+    __slots__ = ("_owner", "_labels", "_listeners", "_registered", "_microtasks", "_count", "observers")
+
+    def __init__(self, owner: Owner) -> None:
+        self._owner = owner
+        self._labels: dict[tuple[Listener, bool], str] = {}
+        self._listeners: dict[str, tuple[Listener, bool]] = {}
+        self._registered: dict[str, dict[tuple[str, str], bool]] = {}
+        self._microtasks: dict[str, Callable[[], Any]] = {}
+        self._count = 0
+        self.observers: dict[str, MutationObserver] = {}
+
+    def _label(self, letter: str) -> str:
+        self._count += 1
+        return f"{letter}{self._count}"
+
+    def listen(self, node: str, kind: str, callback: Listener, capture: bool, words: str, once: bool) -> None:
+        """Add a listener at a node. One that is there already stays as it is."""
+        key = (callback, capture)
+        label = self._labels.get(key) or self._label("l")
+        self._owner.ask(f"listen {node} {kind} {label} {words}")
+        self._labels[key] = label
+        self._listeners[label] = key
+        self._registered.setdefault(label, {}).setdefault((node, kind), once)
+
+    def unlisten(self, node: str, kind: str, callback: Listener, capture: bool) -> None:
+        """Take a listener away, if it is there."""
+        label = self._labels.get((callback, capture))
+        if label is not None and (node, kind) in self._registered[label]:
+            self._owner.ask(f"unlisten {node} {kind} {label}{' capture' if capture else ''}")
+            self._forget(label, node, kind)
+
+    def _forget(self, label: str, node: str, kind: str) -> None:
+        """Forget a listener that is gone, and its callback where it was the last one with it."""
+        places = self._registered[label]
+        del places[node, kind]
+        if not places:
+            del self._registered[label], self._labels[self._listeners.pop(label)]
+
+    def event_call(self, line: str) -> Callable[[], Any]:
+        """Give what is to be called for a line that shows an event to a listener."""
+        _, _, label, kind, *fields = line.split(" ")
+        shown = dict(field.split("=", 1) for field in fields)
+        callback, _ = self._listeners[label]
+        if self._registered[label][shown["current"], kind]:
+            self._forget(label, shown["current"], kind)
+        event = ShownEvent(self._owner, kind, shown)
+        return lambda: callback(event)
+
+    def queue(self, callback: Callable[[], Any]) -> None:
+        """Queue a microtask."""
+        label = self._label("t")
+        self._owner.ask(f"micro {label}")
+        self._microtasks[label] = callback
+
+    def microtask_call(self, label: str) -> Callable[[], Any]:
+        """Give what is to be called for a microtask that was run."""
+        return self._microtasks.pop(label)
+
+    def record_call(self, observer: str, lines: list[str]) -> Callable[[], Any]:
+        """Give what is to be called for the records of an observer."""
+        told = self.observers[observer]
+        records = [record_of(self._owner, line) for line in lines]
+        return lambda: told.callback(records, told)

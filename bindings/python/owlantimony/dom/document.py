@@ -1,0 +1,206 @@
+"""Documents, fragments and shadow roots, and what makes nodes."""
+from __future__ import annotations
+
+from collections.abc import Callable
+from types import TracebackType
+from typing import Any
+from xml.dom import HierarchyRequestErr, NotSupportedErr
+
+from .attributes import Attr
+from .characterdata import Comment, Text
+from .cloning import clone
+from .element import Element
+from .engine import Engine, Lines
+from .node import Node
+from .owner import NODE_CLASSES, Owner
+from .parents import ParentNode
+from .ranges import Range
+from .traversal import NodeIterator, NodeNameFilter, TreeWalker
+from .treetext import text_in
+
+__all__ = ["DOMImplementation", "Document", "DocumentFragment", "NodeFactory", "ShadowRoot", "getDOMImplementation"]
+
+
+class NodeFactory:
+    """What a document and a component make: nodes, ranges, iterators, walkers and microtasks of their own."""
+
+    __slots__ = ()
+    _owner: Owner
+
+    def _made(self, node: Any) -> Any:
+        return node
+
+    def createElement(self, name: str) -> Element:
+        """Make an element. Raise InvalidCharacterErr for what is no name here: a letter or `_`, then letters, digits, `-` and `_`."""
+        return self._made(self._owner.make_element(name))
+
+    def createTextNode(self, data: str) -> Text:
+        """Make a Text."""
+        return self._made(self._owner.make_data("text", data))
+
+    def createComment(self, data: str) -> Comment:
+        """Make a Comment."""
+        return self._made(self._owner.make_data("comment", data))
+
+    def createDocumentFragment(self) -> DocumentFragment:
+        """Make an empty fragment."""
+        return self._made(self._owner.make("new fragment", "#document-fragment"))
+
+    def createDocument(self) -> Document:
+        """Make one more document of this owner, empty."""
+        return self._owner.make_document()
+
+    def importNode(self, node: Node, deep: bool = False) -> Any:
+        """Give a clone of a node of another document of this owner, with this node document.
+
+        Raise NotSupportedErr for a document or a shadow root, and WrongDocumentErr for another owner's node."""
+        self._owner.name_of(node)
+        if node.nodeType == Node.DOCUMENT_NODE:
+            raise NotSupportedErr(f"not-supported: {node!r} is a document")
+        return self._made(clone(node, deep))
+
+    def createRange(self) -> Range:
+        """Make a range at the start of the first document, or of a component's shadow root."""
+        return Range(self._owner)
+
+    def createNodeIterator(self, root: Node, whatToShow: int = 0xFFFFFFFF, filter: NodeNameFilter | None = None) -> NodeIterator:
+        """Make an iterator over a tree, which changes of the tree do not confuse."""
+        return NodeIterator(self._owner, root, whatToShow, filter)
+
+    def createTreeWalker(self, root: Node, whatToShow: int = 0xFFFFFFFF, filter: NodeNameFilter | None = None) -> TreeWalker:
+        """Make a walker over a tree."""
+        return TreeWalker(self._owner, root, whatToShow, filter)
+
+    def queueMicrotask(self, callback: Callable[[], Any]) -> None:
+        """Call back when the turn ends, after what was queued before."""
+        self._owner.callbacks.queue(callback)
+
+    def end_turn(self) -> None:
+        """End the open turn: call microtasks, and observers that have records, until nothing is left.
+
+        It also ends where another owner acts, and where the document is closed."""
+        self._owner.engine.end_turn()
+
+
+class Document(NodeFactory, ParentNode):
+    """A document (DOM Standard, #interface-document).
+
+    `Document()` opens a session, and is the page's first document there. `close`, or the end of a `with` block, frees it all: every node,
+    range and component of the session.
+    """
+
+    nodeType = Node.DOCUMENT_NODE
+    __slots__ = ()
+
+    def __new__(cls, session: Lines | None = None) -> Any:
+        """Open the page over a session of its own, or over what has the methods of one."""
+        return Owner(Engine(session), "p").node("n0")
+
+    def __init__(self, session: Lines | None = None) -> None:
+        """Do nothing more."""
+
+    def __enter__(self) -> Document:
+        return self
+
+    def __exit__(self, kind: type[BaseException] | None, fault: BaseException | None, trace: TracebackType | None) -> None:
+        if kind is None:
+            self.close()
+        else:
+            self._owner.engine.close()
+
+    def close(self) -> None:
+        """End the open turn, with its callbacks, and free the session. Raise WrongThreadError in another thread than its own."""
+        try:
+            self._owner.engine.end_turn()
+        finally:
+            self._owner.engine.close()
+
+    def _made(self, node: Any) -> Any:
+        if self._owner.has_documents and node.ownerDocument is not self:
+            self.adoptNode(node)
+        return node
+
+    @property
+    def documentElement(self) -> Any:
+        """The child that is an element, or None."""
+        return self.firstElementChild
+
+    @property
+    def implementation(self) -> DOMImplementation:
+        """What makes documents."""
+        return getDOMImplementation()
+
+    def adoptNode(self, node: Node) -> Any:
+        """Take a node out of its parent, and give it and all below it this node document (DOM Standard, #dom-document-adoptnode).
+
+        Raise NotSupportedErr for a document, and HierarchyRequestErr for a shadow root."""
+        self._owner.ask(f"adopt {self._name} {self._owner.name_of(node)}")
+        self._owner.memory.forget_parent(node._name)
+        return node
+
+    def createAttribute(self, name: str) -> Attr:
+        """Make an attribute of no element yet: `element.attributes[name] = attribute` gives the element its value."""
+        return Attr(name)
+
+    def createElementNS(self, namespaceURI: str | None, qualifiedName: str) -> Element:
+        """Make an element without a namespace. Raise NotSupportedErr for one with a namespace."""
+        if namespaceURI is not None:
+            raise NotSupportedErr(f"not-supported: the namespace {namespaceURI}")
+        return self.createElement(qualifiedName)
+
+
+class DocumentFragment(ParentNode):
+    """A fragment (DOM Standard, #interface-documentfragment): inserting it inserts its children."""
+
+    nodeType = Node.DOCUMENT_FRAGMENT_NODE
+    __slots__ = ()
+
+    @property
+    def textContent(self) -> str | None:
+        """The data of all Texts below. Setting it puts one Text, or nothing, in the place of the children."""
+        return text_in(self._owner.ask(f"tree {self._name}"))
+
+    @textContent.setter
+    def textContent(self, text: str | None) -> None:
+        self._owner.set_text(self._name, text or "")
+
+
+class ShadowRoot(DocumentFragment):
+    """The root of a component's closed tree (DOM Standard, #interface-shadowroot)."""
+
+    mode = "closed"
+    __slots__ = ()
+
+
+class DOMImplementation:
+    """Makes documents, as `xml.dom` asks for it."""
+
+    def hasFeature(self, feature: str, version: str | None = None) -> bool:
+        """Give whether this is a DOM of level 1 or 2."""
+        return feature.lower() in ("core", "xml") and version in (None, "", "1.0", "2.0")
+
+    def createDocument(self, namespaceURI: str | None, qualifiedName: str | None, doctype: Any = None) -> Document:
+        """Open a session, and give its document, with an element of this name if one is given."""
+        if namespaceURI is not None or doctype is not None:
+            raise NotSupportedErr("not-supported: a document with a namespace or a doctype")
+        document = Document()
+        if qualifiedName:
+            document.appendChild(document.createElement(qualifiedName))
+        return document
+
+    def createDocumentType(self, qualifiedName: str, publicId: str, systemId: str) -> Any:
+        """Raise NotSupportedErr: no document has a doctype. `owlantimony.html` carries it beside the document."""
+        raise NotSupportedErr("not-supported: a doctype")
+
+
+_IMPLEMENTATION = DOMImplementation()
+
+
+def getDOMImplementation(features: Any = None) -> DOMImplementation:
+    """Give the implementation, as `xml.dom` asks for it."""
+    return _IMPLEMENTATION
+
+
+NODE_CLASSES["#document"] = Document
+NODE_CLASSES["#document-fragment"] = DocumentFragment
+NODE_CLASSES["#shadow-root"] = ShadowRoot

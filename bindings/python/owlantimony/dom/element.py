@@ -1,0 +1,162 @@
+"""Elements."""
+from __future__ import annotations
+
+from typing import TYPE_CHECKING, Any
+from xml.dom import NotSupportedErr
+from xml.dom.minicompat import NodeList
+
+from ..strings import quote, unquote_known
+from .attributes import Attr, DOMTokenList, NamedNodeMap
+from .node import Node
+from .owner import NODE_CLASSES, names_in
+from .parents import ChildNode, ParentNode
+from .treetext import text_in
+
+if TYPE_CHECKING:
+    from .components import Component
+
+__all__ = ["Element"]
+
+
+class Element(ParentNode, ChildNode):
+    """An element (DOM Standard, #interface-element). Names are kept as they are given, and none has a namespace."""
+
+    nodeType = Node.ELEMENT_NODE
+    shadowRoot = None
+    """None: all shadow roots are closed, and `attachShadow` gives the only way in."""
+    __slots__ = ()
+
+    @property
+    def tagName(self) -> str:
+        """The name."""
+        return self._owner.kind(self._name)
+
+    localName = tagName
+
+    def __repr__(self) -> str:
+        return f"<Element {self.tagName} {self._shown}>"
+
+    @property
+    def textContent(self) -> str | None:
+        """The data of all Texts below. Setting it puts one Text, or nothing, in the place of the children."""
+        return text_in(self._owner.ask(f"tree {self._name}"))
+
+    @textContent.setter
+    def textContent(self, text: str | None) -> None:
+        self._owner.set_text(self._name, text or "")
+
+    # ---- attributes
+
+    @property
+    def attributes(self) -> NamedNodeMap:
+        """The attributes by their names, as they are at each moment that one asks."""
+        return NamedNodeMap(self)
+
+    def getAttributeNames(self) -> list[str]:
+        """Give the names of the attributes, in order."""
+        return list(self._owner.attributes(self._name))
+
+    def getAttribute(self, name: str) -> str | None:
+        """Give an attribute's value, and None where there is none."""
+        if name not in self._owner.attributes(self._name):
+            return None
+        return unquote_known(self._owner.ask(f"attr {self._name} {name}"))
+
+    def setAttribute(self, name: str, value: str) -> None:
+        """Give an attribute a value; one that is there keeps its place. Raise InvalidCharacterErr for what is no name here."""
+        self._owner.set_attribute(self._name, name, value)
+
+    def removeAttribute(self, name: str) -> None:
+        """Take an attribute away, if it is there."""
+        self._owner.unset_attribute(self._name, name)
+
+    def hasAttribute(self, name: str) -> bool:
+        """Give whether there is such an attribute."""
+        return name in self._owner.attributes(self._name)
+
+    def hasAttributes(self) -> bool:
+        """Give whether there is any attribute."""
+        return bool(self._owner.attributes(self._name))
+
+    def toggleAttribute(self, name: str, force: bool | None = None) -> bool:
+        """Take an attribute away where it is there, and else add it, empty; with `force`, only add or only take away. Give whether it is
+        there now (DOM Standard, #dom-element-toggleattribute)."""
+        there = self.hasAttribute(name)
+        wanted = not there if force is None else force
+        if wanted and not there:
+            self.setAttribute(name, "")
+        elif there and not wanted:
+            self.removeAttribute(name)
+        return wanted
+
+    def getAttributeNode(self, name: str) -> Attr | None:
+        """Give an attribute, and None where there is none."""
+        return self.attributes.getNamedItem(name)
+
+    @property
+    def id(self) -> str:
+        """The attribute `id`, empty where there is none."""
+        return self.getAttribute("id") or ""
+
+    @id.setter
+    def id(self, value: str) -> None:
+        self.setAttribute("id", value)
+
+    @property
+    def className(self) -> str:
+        """The attribute `class`, empty where there is none."""
+        return self.getAttribute("class") or ""
+
+    @className.setter
+    def className(self, value: str) -> None:
+        self.setAttribute("class", value)
+
+    @property
+    def slot(self) -> str:
+        """The attribute `slot`, empty where there is none."""
+        return self.getAttribute("slot") or ""
+
+    @slot.setter
+    def slot(self, value: str) -> None:
+        self.setAttribute("slot", value)
+
+    @property
+    def classList(self) -> DOMTokenList:
+        """The classes."""
+        return DOMTokenList(self, "class")
+
+    # ---- selectors
+
+    def matches(self, selectors: str) -> bool:
+        """Give whether this element matches. Raise SyntaxErr for text that is no selector here."""
+        return self._owner.ask(f"matches {self._name} {quote(selectors)}") == "true"
+
+    def closest(self, selectors: str) -> Any:
+        """Give the nearest of this element and those above it that matches, or None. Raise SyntaxErr for text that is no selector here."""
+        at: Any = self
+        while at is not None and not at.matches(selectors):
+            at = at.parentElement
+        return at
+
+    # ---- closed trees
+
+    def attachShadow(self, mode: str = "closed") -> Component:
+        """Give this element a closed shadow tree, and give the component that owns it: the only object by which that tree can be reached.
+
+        Raise NotSupportedErr where an element of this name can't be a host or is one already, and for another mode than "closed"."""
+        from .components import Component
+
+        if mode != "closed":
+            raise NotSupportedErr(f"not-supported: a shadow root that is {mode}")
+        return Component._of(self._owner.engine, self._owner.ask(f"attach {self._name}"))
+
+    @property
+    def assignedSlot(self) -> None:
+        """None: all shadow roots are closed."""
+
+    def assignedNodes(self) -> NodeList[Any]:
+        """Give the nodes that are assigned to this slot, an element `slot` of a component: own ones, or `ForeignNode`s."""
+        return NodeList(self._owner.seen(name) for name in names_in(self._owner.ask(f"assigned {self._name}")))
+
+
+NODE_CLASSES["element"] = Element

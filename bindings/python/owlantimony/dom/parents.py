@@ -1,0 +1,190 @@
+"""What nodes with children have, and what children have (the Standard's mixins ParentNode and ChildNode)."""
+from __future__ import annotations
+
+import re
+from typing import TYPE_CHECKING, Any
+from xml.dom import HierarchyRequestErr
+from xml.dom.minicompat import NodeList
+
+from ..strings import quote
+from .node import Node
+from .treetext import tokens
+
+if TYPE_CHECKING:
+    from .owner import Owner
+
+__all__ = ["ChildNode", "ParentNode"]
+
+_NAME = re.compile(r"[A-Za-z_][A-Za-z0-9_-]*")
+_SPACES = re.compile("[\t\n\f\r ]+")
+_NOT_IN_A_VALUE = re.compile("[\\\\\n\f\r]")
+
+
+def _one_node(owner: Owner, nodes: tuple[Node | str, ...]) -> Any:
+    """Convert nodes and strings into one node (DOM Standard, #converting-nodes-into-a-node): more than one go into a fragment."""
+    found = [owner.make_data("text", node) if isinstance(node, str) else node for node in nodes]
+    for node in found:
+        owner.name_of(node)
+    if len(found) == 1:
+        return found[0]
+    fragment = owner.make("new fragment", "#document-fragment")
+    for node in found:
+        fragment.appendChild(node)
+    return fragment
+
+
+class ParentNode(Node):
+    """A document, a fragment, a shadow root or an element.
+
+    Where a call takes several nodes they go into a fragment first, as the Standard says; if the fragment is refused they stay in it.
+    """
+
+    __slots__ = ()
+
+    @property
+    def children(self) -> NodeList[Any]:
+        """The children that are elements, as they are now."""
+        return NodeList(node for node in self.childNodes if node.nodeType == Node.ELEMENT_NODE)
+
+    @property
+    def firstElementChild(self) -> Any:
+        """The first child that is an element, or None."""
+        return next(iter(self.children), None)
+
+    @property
+    def lastElementChild(self) -> Any:
+        """The last child that is an element, or None."""
+        return next(iter(reversed(self.children)), None)
+
+    @property
+    def childElementCount(self) -> int:
+        """How many children are elements."""
+        return len(self.children)
+
+    def append(self, *nodes: Node | str) -> None:
+        """Append nodes and strings (DOM Standard, #dom-parentnode-append)."""
+        self.appendChild(_one_node(self._owner, nodes))
+
+    def prepend(self, *nodes: Node | str) -> None:
+        """Insert nodes and strings before the first child (DOM Standard, #dom-parentnode-prepend)."""
+        node = _one_node(self._owner, nodes)
+        self.insertBefore(node, self.firstChild)
+
+    def replaceChildren(self, *nodes: Node | str) -> None:
+        """Put nodes and strings in the place of all children (DOM Standard, #dom-parentnode-replacechildren).
+
+        Where there are several children, an observer gets one record of what leaves and one of what comes; the Standard has one for both."""
+        node = _one_node(self._owner, nodes)
+        self._check_insertion(node)
+        children = list(self.childNodes)
+        if self.nodeType != Node.DOCUMENT_NODE and len(children) == 1:
+            self.replaceChild(node, children[0])
+            return
+        if self.nodeType != Node.DOCUMENT_NODE:
+            self._owner.change(f'text {self._name} ""')
+        else:
+            for child in children:
+                child.remove()
+        if node.nodeType != Node.DOCUMENT_FRAGMENT_NODE or node.hasChildNodes():
+            self.appendChild(node)
+
+    def _check_insertion(self, node: Node) -> None:
+        """Raise what appending `node` would raise (DOM Standard, #concept-node-ensure-pre-insertion-validity), and change nothing."""
+        if node.nodeType == Node.DOCUMENT_NODE or node.nodeName == "#shadow-root" or node.contains(self):
+            raise HierarchyRequestErr(f"hierarchy: {node!r} can't stand below {self!r}")
+        if self.nodeType == Node.DOCUMENT_NODE:
+            coming = list(node.childNodes) if node.nodeType == Node.DOCUMENT_FRAGMENT_NODE else [node]
+            kinds = [child.nodeType for child in coming]
+            elements = kinds.count(Node.ELEMENT_NODE)
+            if Node.TEXT_NODE in kinds or elements > 1 or (elements and self.firstElementChild is not None):
+                raise HierarchyRequestErr(f"hierarchy: a document has one element and no Text: {self!r}")
+
+    def querySelector(self, selectors: str) -> Any:
+        """Give the first element below that matches, or None. Raise SyntaxErr for text that is no selector here."""
+        return next(iter(self._query(selectors)), None)
+
+    def querySelectorAll(self, selectors: str) -> NodeList[Any]:
+        """Give all elements below that match, in tree order. Raise SyntaxErr for text that is no selector here."""
+        return self._query(selectors)
+
+    def getElementsByTagName(self, name: str) -> NodeList[Any]:
+        """Give the elements below with this tag name, or all for "*", as they are now."""
+        return self._query(name) if name == "*" or _NAME.fullmatch(name) else NodeList()
+
+    def getElementsByClassName(self, names: str) -> NodeList[Any]:
+        """Give the elements below that have all of these classes, as they are now."""
+        words = [word for word in _SPACES.split(names) if word]
+        return self._with_values("class", "~=", words) if words else NodeList()
+
+    def getElementById(self, id: str) -> Any:
+        """Give the first element below with this id, or None."""
+        return next(iter(self._with_values("id", "=", [id])), None) if id else None
+
+    def _with_values(self, name: str, sign: str, values: list[str]) -> NodeList[Any]:
+        """Give the elements below whose attribute is, or has as words, these values. What no selector can write is looked for in the tree."""
+        quotations = ["'" if '"' in value else '"' for value in values]
+        if any(sign in value or _NOT_IN_A_VALUE.search(value) for sign, value in zip(quotations, values)):
+            return NodeList(self._owner.node(node) for node in self._holding(name, values, words=sign == "~="))
+        return self._query("".join(f"[{name}{sign}{mark}{value}{mark}]" for mark, value in zip(quotations, values)))
+
+    def _holding(self, name: str, values: list[str], words: bool) -> list[str]:
+        """Give the names of the elements below whose attribute is, or has as words, these values."""
+        found, at = [], self._name
+        for token in tokens(self._owner.ask(f"tree {self._name}")):
+            if token.what == "open":
+                at = token.name
+            elif token.name == name and at != self._name:
+                there = _SPACES.split(token.value) if words else [token.value]
+                if all(value in there for value in values):
+                    found.append(at)
+        return found
+
+    def _query(self, selectors: str) -> NodeList[Any]:
+        return NodeList(self._owner.nodes(self._owner.ask(f"query {self._name} {quote(selectors)}")))
+
+
+class ChildNode(Node):
+    """An element, a Text or a Comment. Several nodes go into a fragment first, as `ParentNode` says."""
+
+    __slots__ = ()
+
+    def remove(self) -> None:
+        """Leave the parent, if there is one."""
+        self._owner.remove(self._name)
+
+    def before(self, *nodes: Node | str) -> None:
+        """Insert nodes and strings in front of this node (DOM Standard, #dom-childnode-before). Without a parent do nothing."""
+        parent = self.parentNode
+        if parent is None:
+            return
+        left = _viable(self, nodes, "previousSibling")
+        node = _one_node(self._owner, nodes)
+        parent.insertBefore(node, parent.firstChild if left is None else left.nextSibling)
+
+    def after(self, *nodes: Node | str) -> None:
+        """Insert nodes and strings behind this node (DOM Standard, #dom-childnode-after). Without a parent do nothing."""
+        parent = self.parentNode
+        if parent is None:
+            return
+        right = _viable(self, nodes, "nextSibling")
+        parent.insertBefore(_one_node(self._owner, nodes), right)
+
+    def replaceWith(self, *nodes: Node | str) -> None:
+        """Put nodes and strings in the place of this node (DOM Standard, #dom-childnode-replacewith). Without a parent do nothing."""
+        parent = self.parentNode
+        if parent is None:
+            return
+        right = _viable(self, nodes, "nextSibling")
+        node = _one_node(self._owner, nodes)
+        if self._owner.parent(self._name) == parent._name:
+            parent.replaceChild(node, self)
+        else:
+            parent.insertBefore(node, right)
+
+
+def _viable(node: Node, nodes: tuple[Node | str, ...], side: str) -> Any:
+    """Give the nearest sibling on a side that is none of the nodes."""
+    sibling = getattr(node, side)
+    while sibling is not None and any(sibling is given for given in nodes):
+        sibling = getattr(sibling, side)
+    return sibling
