@@ -1,10 +1,11 @@
 """Replays the stored examples through the Python binding, and tries what it raises. Run by bindings/check."""
 import os
+import threading
 import unittest
 
-from owlantimony import Closed, NoOwner, Session
+from owlantimony import ClosedError, NoOwnerError, Session, WrongThreadError
 
-EXAMPLES = os.path.join(os.path.dirname(os.path.abspath(__file__)), "..", "..", "examples")
+EXAMPLES = os.path.join(os.path.dirname(os.path.abspath(__file__)), "..", "..", "..", "examples")
 
 
 def examples():
@@ -75,21 +76,49 @@ class Sessions(unittest.TestCase):
     def test_a_word_that_is_no_owners_is_refused(self):
         with Session() as session:
             for word in ("", "x", "c", "c0", "c01", "pp", "p.1", "c1.", "c1.0", "c1.01", "c1..1", "c1.2.3.4.5.6.7.8.9"):
-                self.assertRaises(NoOwner, session.view, word)
+                self.assertRaises(NoOwnerError, session.view, word)
 
     def test_a_closed_session_says_so(self):
         session = Session()
         session.close()
         session.close()
-        self.assertRaises(Closed, session.line, "p .")
-        self.assertRaises(Closed, session.finish)
-        self.assertRaises(Closed, session.view, "p")
+        self.assertRaises(ClosedError, session.line, "p .")
+        self.assertRaises(ClosedError, session.finish)
+        self.assertRaises(ClosedError, session.view, "p")
 
     def test_sessions_know_nothing_of_each_other(self):
         with Session() as one, Session() as other:
             self.assertEqual(one.line("p new element a"), ["p ok n1"])
             self.assertEqual(other.line("p new element b"), ["p ok n1"])
             self.assertEqual(one.line("p new element a"), ["p ok n2"])
+
+    def test_another_thread_may_neither_use_nor_close_a_session(self):
+        raised = []
+
+        def use():
+            for call in (lambda: session.line("p ."), session.finish, lambda: session.view("p"), session.close):
+                try:
+                    call()
+                except WrongThreadError as fault:
+                    raised.append(str(fault))
+
+        with Session() as session:
+            thread = threading.Thread(target=use)
+            thread.start()
+            thread.join()
+            self.assertEqual(session.line("p new element a"), ["p ok n1"])
+        self.assertEqual(raised, ["a session is used and closed by the thread that made it"] * 4)
+
+    def test_a_long_answer_is_whole(self):
+        text = "a" * 60_000
+        with Session() as session:
+            for _ in range(3):
+                session.line(f'p new text "{text}"')
+            session.line("p new fragment")
+            for number in (1, 2, 3):
+                session.line(f"p append n4 n{number}")
+            self.assertEqual(len(session.line("p tree n4")[0]), 180_000 + len('p ok (n4 fragment)') + 3 * len(' (n1 text "")'))
+            self.assertEqual(session.line("p parent n1"), ["p ok n4"])
 
 
 if __name__ == "__main__":

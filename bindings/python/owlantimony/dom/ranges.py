@@ -244,22 +244,21 @@ class Range:
     def cloneContents(self) -> Any:
         """Give a fragment with clones of what is in the range (DOM Standard, #concept-range-clone)."""
         fragment = self._owner.make("new fragment", "#document-fragment")
-        (start, first), (end, last) = self._points()
-        start, end = self._owner.node(start), self._owner.node(end)
+        (start_name, first), (end_name, last) = self._points()
+        start, end = self._owner.node(start_name), self._owner.node(end_name)
+        if start is end and first == last:
+            return fragment
         if start is end and isinstance(start, CharacterData):
             fragment.appendChild(clone_with_data(start, slice_of(start.data, first, last)))
             return fragment
         common = self.commonAncestorContainer
         children = list(common.childNodes)
-        low, high = (first if start is common else None), (last if end is common else None)
-        front = None if low is not None else _edge(start, first, common, is_start=True)
-        back = None if high is not None else _edge(end, last, common, is_start=False)
-        low = low if low is not None else self._owner.index(_below(start, common)._name) + 1
-        high = high if high is not None else self._owner.index(_below(end, common)._name)
-        middle = [clone(child, True) for child in children[low:high]]
-        for node in [front, *middle, back]:
-            if node is not None:
-                fragment.appendChild(node)
+        front = [] if start is common else [_edge(start, first, common, is_start=True)]
+        back = [] if end is common else [_edge(end, last, common, is_start=False)]
+        low = children.index(_below(start, common)) + 1 if front else first
+        high = children.index(_below(end, common)) if back else last
+        for node in [*front, *(clone(child, True) for child in children[low:high]), *back]:
+            fragment.appendChild(node)
         return fragment
 
 
