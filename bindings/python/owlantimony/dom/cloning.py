@@ -17,7 +17,7 @@ def clone(node: Node, deep: bool, owner: Owner | None = None) -> Any:
     if node.nodeName == "#shadow-root":
         raise NotSupportedErr(f"not-supported: {node!r} is a shadow root")
     parts = tokens(node._owner.ask(f"tree {node._name}")) if deep else _parts_of_one(node)
-    copy = _built(owner, parts)
+    copy = _built(owner, parts, node._owner)
     if node._owner.has_documents and node._owner is owner:
         document = node.ownerDocument
         if document is not None and document is not copy.ownerDocument:
@@ -43,12 +43,14 @@ def _parts_of_one(node: Any) -> list[Token]:
     return [*parts, Token("close")]
 
 
-def _built(owner: Owner, parts: Any) -> Any:
-    """Make the nodes that the parts of a tree's text say, each below the one in which it stands there."""
+def _built(owner: Owner, parts: Any, source: Owner) -> Any:
+    """Make the nodes that the parts of the text of a tree of `source` say, each below the one in which it stands there."""
     above: list[Any] = []
     for token in parts:
         if token.what == "open":
             above.append(_made(owner, token))
+            if token.name in source.beside:
+                owner.beside[above[-1]._name] = source.beside[token.name].copy()
         elif token.what == "attribute":
             owner.set_attribute(above[-1]._name, token.name, token.value)
         else:

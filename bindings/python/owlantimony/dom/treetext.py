@@ -8,7 +8,7 @@ from typing import NamedTuple
 
 from ..strings import unquote_known
 
-__all__ = ["Token", "attributes_of_first", "kind_of_first", "text_in", "tokens"]
+__all__ = ["Part", "Token", "attributes_of_first", "kind_of_first", "parts_of", "text_in", "tokens"]
 
 _STRING = r'"[^"\\]*(?:\\.[^"\\]*)*"'
 _TOKEN = re.compile(
@@ -27,7 +27,18 @@ class Token(NamedTuple):
     value: str = ""
 
 
+class Part(NamedTuple):
+    """The beginning of a node with all that it has itself (`begin`), or its end (`end`)."""
+
+    what: str
+    name: str = ""
+    node_name: str = ""
+    value: str = ""
+    attributes: dict[str, str] = {}
+
+
 _CLOSE = Token("close")
+_END = Part("end")
 
 
 def tokens(text: str) -> Iterator[Token]:
@@ -44,6 +55,19 @@ def tokens(text: str) -> Iterator[Token]:
             yield Token("open", match["node"], NODE_NAMES[match["data"]], unquote_known(match["value"]))
         else:
             yield Token("open", match["node"], NODE_NAMES[match["kind"]])
+
+
+def parts_of(text: str) -> Iterator[Part]:
+    """Give the beginnings and the ends of a tree's nodes in tree order."""
+    attributes: dict[str, str] = {}
+    for token in tokens(text):
+        if token.what == "attribute":
+            attributes[token.name] = token.value
+        elif token.what == "close":
+            yield _END
+        else:
+            attributes = {}
+            yield Part("begin", token.name, token.node_name, token.value, attributes)
 
 
 def text_in(text: str) -> str:

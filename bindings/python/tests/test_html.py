@@ -1,0 +1,164 @@
+"""HTML in and out, beside html5lib's own trees of the same pages. Skipped where html5lib is not there."""
+import os
+import subprocess
+import sys
+import tempfile
+import unittest
+
+from owlantimony.dom import Document, ForeignNode, HierarchyRequestErr
+from support import outline
+
+try:
+    import html5lib
+    from html5lib.constants import prefixes
+
+    from owlantimony import html
+except ImportError:
+    html = None
+
+PAGES = os.path.join(os.path.dirname(os.path.abspath(__file__)), "..", "..", "..", "examples", "pages")
+
+
+def pages_in(folder):
+    """Give the names and the contents of the pages in a folder."""
+    for file in sorted(os.listdir(folder)):
+        if file.endswith(".html"):
+            with open(os.path.join(folder, file), encoding="utf-8", newline="") as page:
+                yield file, page.read()
+
+
+def theirs(page):
+    """Give html5lib's own tree of a page, in minidom, as the tokens of its walker."""
+    tree = html5lib.HTMLParser(tree=html5lib.getTreeBuilder("dom")).parse(page, scripting=True)
+    tree.normalize()
+    return joined(html5lib.getTreeWalker("dom")(tree))
+
+
+def ours(node):
+    """Give a tree of ours as such tokens."""
+    return joined(html._Walker(node))
+
+
+def joined(tokens):
+    """Give tokens in one form: texts in one piece, attributes under the names that HTML writes. A line feed that a start tag loses stays."""
+    plain = []
+    for token in tokens:
+        kind, data = token["type"], token.get("data")
+        if kind in ("Characters", "SpaceCharacters") and plain and plain[-1][0] == "text":
+            plain[-1] = ("text", plain[-1][1] + data)
+        elif kind in ("Characters", "SpaceCharacters"):
+            plain.append(("text", data))
+        elif kind in ("StartTag", "EmptyTag"):
+            attributes = {f"{prefixes[space]}:{name}" if space and ":" not in name and name != "xmlns" else name: value for (space, name), value in data.items()}
+            plain.append((kind, token["namespace"], token["name"], attributes))
+        else:
+            plain.append(tuple(token.get(key) for key in ("type", "name", "namespace", "data", "publicId", "systemId")))
+    return plain
+
+
+@unittest.skipIf(html is None, "html5lib is not there")
+class Pages(unittest.TestCase):
+    def check(self, name, page):
+        with self.subTest(name), html.parse(page) as document:
+            expected = theirs(page)
+            self.assertEqual(without_added_line_feeds(ours(document)), expected)
+            self.assertGreater(len(expected), 8)
+            written = html.serialize(document)
+            with html.parse(written) as again:
+                self.assertEqual(ours(again), ours(document))
+                self.assertEqual(html.serialize(again), written)
+
+    def test_pages_are_read_as_html5lib_reads_them_and_come_back(self):
+        tried = 0
+        for name, page in pages_in(PAGES):
+            self.check(name, page)
+            tried += 1
+        self.assertGreater(tried, 6)
+
+    def test_large_pages(self):
+        with tempfile.TemporaryDirectory() as folder:
+            subprocess.run([sys.executable, os.path.join(PAGES, "make"), folder], check=True)
+            large = list(pages_in(folder))
+        self.assertEqual(len(large), 4)
+        for name, page in large:
+            self.check(name, page)
+
+
+def without_added_line_feeds(tokens):
+    """Take away the line feed that is written behind the start tags that lose one."""
+    plain = list(tokens)
+    for at, token in enumerate(plain[:-1]):
+        following = plain[at + 1]
+        if token[0] == "StartTag" and token[2] in ("pre", "textarea", "listing") and following[0] == "text" and following[1].startswith("\n\n"):
+            plain[at + 1] = ("text", following[1][1:])
+    return plain
+
+
+@unittest.skipIf(html is None, "html5lib is not there")
+class Reading(unittest.TestCase):
+    def test_html5libs_own_builder_and_walker_take_our_documents(self):
+        """The tree builder and the walker for any implementation of `xml.dom`, as they are, on a page inside the profile."""
+        import owlantimony.dom
+
+        builder = html5lib.getTreeBuilder("dom", implementation=owlantimony.dom)
+        page = "<title>t</title><p id=a>one<b>two</b><!--c--><table>x<tr><td>y</table>"
+        document = html5lib.HTMLParser(tree=builder, namespaceHTMLElements=False).parse(page)
+        self.addCleanup(document.close)
+        document.normalize()
+        plain = html5lib.HTMLParser(tree=html5lib.getTreeBuilder("dom"), namespaceHTMLElements=False).parse(page)
+        plain.normalize()
+        walk = html5lib.getTreeWalker("dom")
+        self.assertEqual(joined(walk(document)), joined(walk(plain)))
+        self.assertEqual(builder.testSerializer(None, document), builder.testSerializer(None, plain))
+
+    def test_what_is_carried_is_listed_and_written_back(self):
+        with html.parse('<!--c--><!DOCTYPE html PUBLIC "p" "s"><p @click="go" id=x>a<o:p>b</o:p><svg xlink:href="u"></svg>') as document:
+            things = [(repr(thing.node), thing.what, thing.value) for thing in html.carried(document)]
+            p, o, svg = document.querySelectorAll("p, o_p, svg")
+            expected = [
+                (repr(document), "doctype", "html"),
+                (repr(p), "attribute @click", "go"),
+                (repr(o), "name", "o:p"),
+                (repr(svg), "namespace", "http://www.w3.org/2000/svg"),
+                (repr(svg), "attribute xlink:href", "u"),
+            ]
+            self.assertEqual(things, expected)
+            self.assertEqual(html.doctype_of(document), ("html", "p", "s", 1))
+            written = html.serialize(document)
+            self.assertTrue(written.startswith('<!--c--><!DOCTYPE html PUBLIC "p" "s"><html>'), written)
+            self.assertIn('<p @click="go" id="x">a<o:p>b</o:p><svg xlink:href="u"></svg></p>', written)
+
+    def test_clones_carry_the_same(self):
+        with html.parse('<o:p :a="1">x</o:p>') as document:
+            copy = document.querySelector("o_p").cloneNode(True)
+            self.assertEqual(html.serialize(copy), '<o:p :a="1">x</o:p>')
+            self.assertEqual(len(html.carried(document)), 4)
+
+    def test_a_part_of_a_page_for_a_component(self):
+        with html.parse("<div>x</div>") as document:
+            widget = document.querySelector("div").attachShadow()
+            widget.root.append(html.parse_fragment("<b>in</b> <slot></slot>", widget))
+            self.assertEqual(html.serialize(widget.root), "<b>in</b> <slot></slot>")
+            self.assertIsInstance(widget.root.querySelector("slot").assignedNodes()[0], ForeignNode)
+            self.assertEqual(html.serialize(document.querySelector("div")), "<div>x</div>")
+
+    def test_a_part_is_read_as_its_container_has_it(self):
+        with Document() as document:
+            self.assertEqual(outline(html.parse_fragment("<td>x", document, "tr")), "#document-fragment(td('x'))")
+            self.assertEqual(outline(html.parse_fragment("<td>x", document)), "#document-fragment('x')")
+
+    def test_a_page_goes_into_an_empty_document(self):
+        with Document() as document:
+            self.assertIs(html.parse("<p>x", document), document)
+            self.assertEqual(outline(document), "#document(html(head(),body(p('x'))))")
+            self.assertRaises(HierarchyRequestErr, html.parse, "<p>y", document)
+
+    def test_what_html_can_not_write_is_refused(self):
+        with html.parse("<plaintext>all the rest") as document:
+            self.assertRaises(ValueError, html.serialize, document)
+        with html.parse("<br><script></script>") as document:
+            document.querySelector("br").append("x")
+            self.assertRaises(ValueError, html.serialize, document)
+            document.querySelector("br").textContent = ""
+            document.querySelector("script").textContent = "a = '</SCRIPT>'"
+            self.assertRaises(ValueError, html.serialize, document)
