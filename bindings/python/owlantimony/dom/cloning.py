@@ -1,6 +1,7 @@
 """Clones, built of the commands that make nodes."""
 from __future__ import annotations
 
+from collections.abc import Iterable
 from typing import Any
 from xml.dom import NotSupportedErr
 
@@ -11,24 +12,22 @@ from .treetext import Token, tokens
 __all__ = ["clone", "clone_with_data"]
 
 
-def clone(node: Node, deep: bool, owner: Owner | None = None) -> Any:
-    """Clone a node for an owner, which is the node's own if none is given (DOM Standard, #concept-node-clone)."""
-    owner = owner or node._owner
+def clone(node: Node, deep: bool) -> Any:
+    """Clone a node, alone or with all below it (DOM Standard, #concept-node-clone), and what is carried beside it."""
     if node.nodeName == "#shadow-root":
         raise NotSupportedErr(f"not-supported: {node!r} is a shadow root")
     parts = tokens(node._owner.ask(f"tree {node._name}")) if deep else _parts_of_one(node)
-    copy = _built(owner, parts, node._owner)
-    if node._owner.has_documents and node._owner is owner:
-        document = node.ownerDocument
-        if document is not None and document is not copy.ownerDocument:
-            document.adoptNode(copy)
-    return copy
+    return _with_document_of(node, _built(node._owner, parts))
 
 
 def clone_with_data(node: Any, data: str) -> Any:
     """Clone a Text or Comment, with other data."""
-    copy = node._owner.make_data(node.nodeName[1:], data)
-    if node._owner.has_documents and node.ownerDocument is not copy.ownerDocument:
+    return _with_document_of(node, node._owner.make_data(node.nodeName[1:], data))
+
+
+def _with_document_of(node: Any, copy: Any) -> Any:
+    """Give a clone the node document of what it is cloned from."""
+    if node._owner.has_documents and node.ownerDocument is not None and node.ownerDocument != copy.ownerDocument:
         node.ownerDocument.adoptNode(copy)
     return copy
 
@@ -43,14 +42,14 @@ def _parts_of_one(node: Any) -> list[Token]:
     return [*parts, Token("close")]
 
 
-def _built(owner: Owner, parts: Any, source: Owner) -> Any:
-    """Make the nodes that the parts of the text of a tree of `source` say, each below the one in which it stands there."""
+def _built(owner: Owner, parts: Iterable[Token]) -> Any:
+    """Make the nodes that the parts of a tree's text say, each below the one in which it stands there."""
     above: list[Any] = []
     for token in parts:
         if token.what == "open":
             above.append(_made(owner, token))
-            if token.name in source.beside:
-                owner.beside[above[-1]._name] = source.beside[token.name].copy()
+            if token.name in owner.beside:
+                owner.beside[above[-1]._name] = owner.beside[token.name].copy()
         elif token.what == "attribute":
             owner.set_attribute(above[-1]._name, token.name, token.value)
         else:

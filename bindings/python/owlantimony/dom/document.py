@@ -116,7 +116,7 @@ class Document(NodeFactory, ParentNode):
             self._owner.engine.close()
 
     def _made(self, node: Any) -> Any:
-        if self._owner.has_documents and node.ownerDocument is not self:
+        if self._owner.has_documents and node.ownerDocument != self:
             self.adoptNode(node)
         return node
 
