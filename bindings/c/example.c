@@ -10,23 +10,29 @@
 #include <stdlib.h>
 #include <string.h>
 
-/* Copies the text of the last answer, or what its owner sees of it, and writes it. */
-static int write_answer(owlantimony_session *session, const char *owner)
+/* Writes what an owner sees of the last answer. */
+static int write_view(owlantimony_session *session, const char *owner)
 {
-    size_t size = 0, room = 256;
-    char *text = calloc(room, 1);
-    uint32_t status = OWLANTIMONY_MEMORY;
-    while (text) {
-        status = owner ? owlantimony_view(session, owner, strlen(owner), text, room, &size) : owlantimony_text(session, text, room, &size);
-        if (status != OWLANTIMONY_SHORT)
-            break;
-        free(text);
-        room = size;
-        text = calloc(room, 1);
-    }
+    size_t size = 0;
+    owlantimony_status status = owlantimony_view(session, owner, strlen(owner), NULL, 0, &size);
+    char *text = (char *)calloc(size + 1, 1);
+    if (text && (status == OWLANTIMONY_SHORT || status == OWLANTIMONY_DONE))
+        status = owlantimony_view(session, owner, strlen(owner), text, size, &size);
     int ended = status == OWLANTIMONY_OWNER ? 2 : !text || status != OWLANTIMONY_DONE ? 3 : fwrite(text, 1, size, stdout) == size ? 0 : 4;
     free(text);
     return ended;
+}
+
+/* Writes the last answer, or what an owner sees of it. */
+static int write_answer(owlantimony_session *session, const char *owner)
+{
+    const char *text;
+    size_t size;
+    if (owner)
+        return write_view(session, owner);
+    if (owlantimony_answer(session, &text, &size) != OWLANTIMONY_DONE)
+        return 3;
+    return fwrite(text, 1, size, stdout) == size ? 0 : 4;
 }
 
 /* Runs a line, and writes its answer. */
@@ -55,14 +61,14 @@ static int run_all(owlantimony_session *session, const char *owner, const char *
 static char *read_all(size_t *count)
 {
     size_t room = 1 << 16;
-    char *bytes = malloc(room);
+    char *bytes = (char *)malloc(room);
     *count = 0;
     while (bytes) {
         *count += fread(bytes + *count, 1, room - *count, stdin);
         if (*count < room)
             return bytes;
         room *= 2;
-        char *more = realloc(bytes, room);
+        char *more = (char *)realloc(bytes, room);
         if (!more)
             free(bytes);
         bytes = more;
@@ -72,7 +78,7 @@ static char *read_all(size_t *count)
 
 int main(int words, char **word)
 {
-    owlantimony_session session = OWLANTIMONY_CLOSED;
+    owlantimony_session session = OWLANTIMONY_SESSION_INIT;
     size_t count;
     char *bytes = read_all(&count);
     int ended = ferror(stdin) ? 1 : !bytes || owlantimony_new(&session) != OWLANTIMONY_DONE ? 3 : run_all(&session, words > 1 ? word[1] : NULL, bytes, count);

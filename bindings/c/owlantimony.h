@@ -1,20 +1,23 @@
 /*
- * Owlantimony in a C program: sessions of the line protocol (docs/PROTOCOL.md).
+ * Owlantimony in a C program: sessions of the line protocol (docs/PROTOCOL.md). C99, and C++ may include it.
  *
- * Link with libdom_c.a and the kit's libc_c.a (bindings/check shows how), or with a shared object made of the two.
+ * Nodes without the protocol's lines are in owlantimony_dom.h, which stands on this header.
  *
- *     owlantimony_session session = OWLANTIMONY_CLOSED;
+ * Link with -lowlantimony (`pkg-config --cflags --libs owlantimony`), or with libdom_c.a and the kit's libc_c.a.
+ *
+ *     owlantimony_session session = OWLANTIMONY_SESSION_INIT;
+ *     const char *text;
  *     size_t size;
  *     if (owlantimony_new(&session) != OWLANTIMONY_DONE) ...
  *     if (owlantimony_line(&session, "p new element div", 17, &size) != OWLANTIMONY_DONE) ...
- *     char *text = malloc(size);
- *     if (owlantimony_text(&session, text, size, &size) != OWLANTIMONY_DONE) ...
+ *     if (owlantimony_answer(&session, &text, &size) == OWLANTIMONY_DONE)
+ *         fputs(text, stdout);
  *     owlantimony_drop(&session);
  *
  * What the program has to keep:
- *   - A handle begins as OWLANTIMONY_CLOSED. After that only the functions below write it; it may be moved, but never copied to a
- *     second one that is used beside it.
- *   - One call at a time has a handle, and a handle stays on the thread that opened it. Other handles may be used by other threads.
+ *   - A session begins as OWLANTIMONY_SESSION_INIT. After that only the functions below write it; it may be moved, but never copied to
+ *     a second one that is used beside it.
+ *   - One call at a time has a session, and a session stays on the thread that opened it. Other sessions may be used by other threads.
  *   - The blocks that a call is given do not overlap each other, and none is 2^63 bytes or more. The bytes of a line or a word are
  *     initialised, and so are those of a buffer.
  *   - malloc, realloc and free are those of one allocator, and give blocks aligned as C wants it. No call is made from a signal
@@ -26,35 +29,45 @@
 #include <stdbool.h>
 #include <stddef.h>
 #include <stdint.h>
+#include <stdlib.h>
+
+#define OWLANTIMONY_VERSION_MAJOR 0
+#define OWLANTIMONY_VERSION_MINOR 1
+#define OWLANTIMONY_VERSION_PATCH 0
+#define OWLANTIMONY_VERSION "0.1.0"
+/* Grows with the version, so that a program may compare it: 0.1.0 is 100. */
+#define OWLANTIMONY_VERSION_NUMBER (OWLANTIMONY_VERSION_MAJOR * 10000 + OWLANTIMONY_VERSION_MINOR * 100 + OWLANTIMONY_VERSION_PATCH)
 
 #ifdef __cplusplus
 extern "C" {
 #endif
 
 /* What a call answers. */
-enum {
-    OWLANTIMONY_DONE = 0,   /* it did what it is for */
-    OWLANTIMONY_CLOSED_HANDLE = 1, /* the handle is closed */
-    OWLANTIMONY_MEMORY = 2, /* memory was refused: to this call, or to a line, an ending or a view before; then every call but
-                               owlantimony_drop answers so from now on */
-    OWLANTIMONY_SHORT = 3,  /* the buffer is too short; nothing is lost, and the size that it needs is written */
-    OWLANTIMONY_OWNER = 4,  /* the word is no owner's */
-    OWLANTIMONY_OPEN_HANDLE = 5,   /* the handle is open already */
-    OWLANTIMONY_NULL = 6    /* a pointer is null that may not be; the library was not called */
-};
+typedef enum owlantimony_status {
+    OWLANTIMONY_DONE = 0,          /* it did what it is for */
+    OWLANTIMONY_CLOSED_HANDLE = 1, /* the session is closed */
+    OWLANTIMONY_MEMORY = 2,        /* memory was refused to a line, an ending or a view, this one or one before: then every call but
+                                      owlantimony_drop answers so from now on; or to owlantimony_new or owlantimony_answer alone */
+    OWLANTIMONY_SHORT = 3,         /* the buffer is too short; nothing is lost, and the size that it needs is written */
+    OWLANTIMONY_OWNER = 4,         /* the word is no owner's */
+    OWLANTIMONY_OPEN_HANDLE = 5,   /* the session is open already */
+    OWLANTIMONY_NULL = 6           /* a pointer is null that may not be; nothing was done */
+} owlantimony_status;
 
-/* A handle of one session. Its fields are the library's. */
+/* A session. Its fields are the library's and this header's. */
 typedef struct owlantimony_session {
     bool is_open;
     void *held;
+    char *text;
+    size_t room;
 } owlantimony_session;
 
-/* A handle that holds nothing. */
-#define OWLANTIMONY_CLOSED {false, NULL}
+/* What a session is before it is opened: closed. */
+#define OWLANTIMONY_SESSION_INIT {false, NULL, NULL, 0}
 
 /*
- * The library's own functions, for a language that reaches them itself. No pointer is null, also where its size is 0, and a size of
- * bytes follows their address. Their contracts are proved (crates/dom_c/src/exports.rt).
+ * The library's own functions, for a language that reaches them itself. They know the first two fields of a session alone. No pointer is
+ * null, also where its size is 0, and a size of bytes follows their address. Their contracts are proved (crates/dom_c/src/exports.rt).
  */
 uint32_t dom_session_new(owlantimony_session *session);
 uint32_t dom_session_line(owlantimony_session *session, const uint8_t *line, size_t line_size, size_t *size);
@@ -63,51 +76,105 @@ uint32_t dom_session_text(owlantimony_session *session, uint8_t *buffer, size_t 
 uint32_t dom_session_view(owlantimony_session *session, const uint8_t *owner, size_t owner_size, uint8_t *buffer, size_t buffer_size, size_t *size);
 uint32_t dom_session_drop(owlantimony_session *session);
 
-/* Opens a closed handle: a session before its first line. Where memory is refused the handle stays closed. */
-static inline uint32_t owlantimony_new(owlantimony_session *session)
+/* Gives what a status says, as a text that stays: one line without its end. */
+static inline const char *owlantimony_message(owlantimony_status status)
 {
-    return session ? dom_session_new(session) : OWLANTIMONY_NULL;
+    switch (status) {
+    case OWLANTIMONY_DONE: return "done";
+    case OWLANTIMONY_CLOSED_HANDLE: return "the session is closed";
+    case OWLANTIMONY_MEMORY: return "memory was refused";
+    case OWLANTIMONY_SHORT: return "the buffer is too short";
+    case OWLANTIMONY_OWNER: return "the word is no owner's";
+    case OWLANTIMONY_OPEN_HANDLE: return "the session is open already";
+    case OWLANTIMONY_NULL: return "a pointer is null";
+    }
+    return "no status";
 }
 
-/* Runs a line, without its line feed, and keeps the text that answers it until the next line or ending. Writes that text's size,
-   and 0 where the status is another than OWLANTIMONY_DONE. The line may be null where its size is 0. */
-static inline uint32_t owlantimony_line(owlantimony_session *session, const void *line, size_t line_size, size_t *size)
+/* Opens a closed session, before its first line.
+ *   DONE: it is open.   MEMORY: it stays closed.   OPEN_HANDLE, NULL: nothing was done. */
+static inline owlantimony_status owlantimony_new(owlantimony_session *session)
+{
+    return session ? (owlantimony_status)dom_session_new(session) : OWLANTIMONY_NULL;
+}
+
+/* Runs a line, without its line feed, and keeps the text that answers it until the next line or ending. The line may be null where its
+ * size is 0.
+ *   DONE: *size is that text's size.   CLOSED_HANDLE, MEMORY: *size is 0.   NULL: nothing was done. */
+static inline owlantimony_status owlantimony_line(owlantimony_session *session, const void *line, size_t line_size, size_t *size)
 {
     if (!session || !size || (!line && line_size))
         return OWLANTIMONY_NULL;
-    return dom_session_line(session, line ? (const uint8_t *)line : (const uint8_t *)"", line_size, size);
+    return (owlantimony_status)dom_session_line(session, line ? (const uint8_t *)line : (const uint8_t *)"", line_size, size);
 }
 
-/* Ends the input: an open turn is ended, and the text of that is kept. More lines may follow. */
-static inline uint32_t owlantimony_finish(owlantimony_session *session, size_t *size)
+/* Ends the input: an open turn is ended, and the text of that is kept. More lines may follow. Answers as owlantimony_line does. */
+static inline owlantimony_status owlantimony_finish(owlantimony_session *session, size_t *size)
 {
-    return session && size ? dom_session_finish(session, size) : OWLANTIMONY_NULL;
+    return session && size ? (owlantimony_status)dom_session_finish(session, size) : OWLANTIMONY_NULL;
 }
 
-/* Copies the text of the last answer into the buffer, without a byte 0 behind it, and writes its size. Where the buffer is too
-   short it writes the size alone. The buffer may be null where its size is 0. */
-static inline uint32_t owlantimony_text(owlantimony_session *session, void *buffer, size_t buffer_size, size_t *size)
+/* Copies the text of the last answer to a buffer, with no byte 0 behind it. The buffer may be null where its size is 0.
+ *   DONE: all of it was copied, and *size is its size.   SHORT: it needs *size bytes.   CLOSED_HANDLE, MEMORY: *size is 0.
+ * But for DONE the buffer is as it was. The text stays until the next owlantimony_line, owlantimony_finish or owlantimony_drop. */
+static inline owlantimony_status owlantimony_text(owlantimony_session *session, void *buffer, size_t buffer_size, size_t *size)
 {
     uint8_t none = 0;
     if (!session || !size || (!buffer && buffer_size))
         return OWLANTIMONY_NULL;
-    return dom_session_text(session, buffer ? (uint8_t *)buffer : &none, buffer_size, size);
+    return (owlantimony_status)dom_session_text(session, buffer ? (uint8_t *)buffer : &none, buffer_size, size);
 }
 
-/* The same of the lines that one owner sees: the owner's word is p, or a component's: c1, c2, .., and c1.1 of one
-   that c1 attached. */
-static inline uint32_t owlantimony_view(owlantimony_session *session, const void *owner, size_t owner_size, void *buffer, size_t buffer_size, size_t *size)
+/* Copies as owlantimony_text does, of the text's lines those that one owner sees: p, or a component such as c1, c2 and c1.1.
+ *   OWNER: the word is no owner's, and *size is 0.   The others as owlantimony_text has them. */
+static inline owlantimony_status owlantimony_view(owlantimony_session *session, const void *owner, size_t owner_size, void *buffer,
+                                                  size_t buffer_size, size_t *size)
 {
     uint8_t none = 0;
     if (!session || !size || (!owner && owner_size) || (!buffer && buffer_size))
         return OWLANTIMONY_NULL;
-    return dom_session_view(session, owner ? (const uint8_t *)owner : (const uint8_t *)"", owner_size, buffer ? (uint8_t *)buffer : &none, buffer_size, size);
+    return (owlantimony_status)dom_session_view(session, owner ? (const uint8_t *)owner : (const uint8_t *)"", owner_size,
+                                                buffer ? (uint8_t *)buffer : &none, buffer_size, size);
 }
 
-/* Closes a handle, and frees what it holds. It may be opened again. */
-static inline uint32_t owlantimony_drop(owlantimony_session *session)
+/* Gives the text of the last answer, with a byte 0 behind it, in a block of the session's: it holds until the next call on the session.
+ *   DONE: *text is the text, and *size its size without the byte 0.   CLOSED_HANDLE, MEMORY: *text is null, and *size is 0; where
+ *   memory was refused to this call alone, nothing is lost and the session is as it was. */
+static inline owlantimony_status owlantimony_answer(owlantimony_session *session, const char **text, size_t *size)
 {
-    return session ? dom_session_drop(session) : OWLANTIMONY_NULL;
+    if (!session || !text || !size)
+        return OWLANTIMONY_NULL;
+    *text = NULL;
+    owlantimony_status status = owlantimony_text(session, session->text, session->room ? session->room - 1 : 0, size);
+    if (status == OWLANTIMONY_SHORT || (status == OWLANTIMONY_DONE && !session->room)) {
+        size_t room = *size + *size / 2 + 64;
+        char *block = (char *)calloc(room, 1);
+        if (!block) {
+            *size = 0;
+            return OWLANTIMONY_MEMORY;
+        }
+        free(session->text);
+        session->text = block;
+        session->room = room;
+        status = owlantimony_text(session, block, room - 1, size);
+    }
+    if (status == OWLANTIMONY_DONE) {
+        session->text[*size] = 0;
+        *text = session->text;
+    }
+    return status;
+}
+
+/* Closes a session, and frees what it holds. It may be opened again.
+ *   DONE: it is closed.   CLOSED_HANDLE: it was.   NULL: nothing was done. */
+static inline owlantimony_status owlantimony_drop(owlantimony_session *session)
+{
+    if (!session)
+        return OWLANTIMONY_NULL;
+    free(session->text);
+    session->text = NULL;
+    session->room = 0;
+    return (owlantimony_status)dom_session_drop(session);
 }
 
 #ifdef __cplusplus

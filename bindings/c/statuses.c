@@ -1,6 +1,6 @@
 /*
  * Calls each function where it answers another status than OWLANTIMONY_DONE, and with each request for memory refused in turn.
- * Writes what is not as it should be. Built with -Wl,--wrap=malloc,--wrap=realloc.
+ * Writes what is not as it should be. Built with -Wl,--wrap=malloc,--wrap=realloc,--wrap=calloc.
  */
 #include "owlantimony.h"
 
@@ -10,33 +10,16 @@
 static int faults;
 static long left = -1; /* how many requests for memory are granted; below 0 all are */
 
-void *__real_malloc(size_t size);
-void *__real_realloc(void *block, size_t size);
-
-static bool is_granted(void)
-{
-    if (left > 0)
-        left--;
-    return left != 0;
-}
-
-void *__wrap_malloc(size_t size)
-{
-    return is_granted() ? __real_malloc(size) : NULL;
-}
-
-void *__wrap_realloc(void *block, size_t size)
-{
-    return is_granted() ? __real_realloc(block, size) : NULL;
-}
+#include "refused_memory.h"
 
 #define WANT(fact) ((fact) ? (void)0 : (void)(faults++, fprintf(stderr, "%s:%d: %s\n", __FILE__, __LINE__, #fact)))
 
 /* All calls but the one that drops, on a handle: each answers this status. */
-static void all_answer(owlantimony_session *session, uint32_t status)
+static void all_answer(owlantimony_session *session, owlantimony_status status)
 {
     size_t size = 9;
     char text[4] = "abc";
+    const char *answer = text;
     WANT(owlantimony_line(session, "p .", 3, &size) == status && size == 0);
     size = 9;
     WANT(owlantimony_finish(session, &size) == status && size == 0);
@@ -45,12 +28,42 @@ static void all_answer(owlantimony_session *session, uint32_t status)
     size = 9;
     WANT(owlantimony_view(session, "p", 1, text, 4, &size) == status && size == 0);
     WANT(!strcmp(text, "abc"));
+    size = 9;
+    WANT(owlantimony_answer(session, &answer, &size) == status && size == 0 && !answer);
+}
+
+/* Each status has words of its own. */
+static void try_messages(void)
+{
+    for (int status = OWLANTIMONY_DONE; status <= OWLANTIMONY_NULL; status++)
+        for (int other = OWLANTIMONY_DONE; other < status; other++)
+            WANT(strcmp(owlantimony_message((owlantimony_status)status), owlantimony_message((owlantimony_status)other)));
+    WANT(!strcmp(owlantimony_message((owlantimony_status)7), "no status"));
+    WANT(OWLANTIMONY_VERSION_NUMBER >= 100 && strlen(OWLANTIMONY_VERSION) >= 5);
+}
+
+/* The answer as a text of the session's: after a short one, a long one and a short one again. */
+static void try_answers(void)
+{
+    owlantimony_session session = OWLANTIMONY_SESSION_INIT;
+    const char *text;
+    size_t size;
+    WANT(owlantimony_new(&session) == OWLANTIMONY_DONE);
+    WANT(owlantimony_answer(&session, &text, &size) == OWLANTIMONY_DONE && size == 0 && !text[0]);
+    WANT(owlantimony_line(&session, "p new element div", 17, &size) == OWLANTIMONY_DONE);
+    WANT(owlantimony_answer(&session, &text, &size) == OWLANTIMONY_DONE && size == 8 && !strcmp(text, "p ok n1\n"));
+    WANT(owlantimony_line(&session, "p tree n1", 9, &size) == OWLANTIMONY_DONE);
+    WANT(owlantimony_answer(&session, &text, &size) == OWLANTIMONY_DONE && size == strlen(text) && !strcmp(text, "p ok (n1 element div)\n"));
+    WANT(owlantimony_line(&session, "p .", 3, &size) == OWLANTIMONY_DONE);
+    WANT(owlantimony_answer(&session, &text, &size) == OWLANTIMONY_DONE && size == 5 && !strcmp(text, "p ok\n"));
+    WANT(owlantimony_answer(&session, NULL, &size) == OWLANTIMONY_NULL && owlantimony_answer(NULL, &text, &size) == OWLANTIMONY_NULL);
+    WANT(owlantimony_drop(&session) == OWLANTIMONY_DONE);
 }
 
 /* Null pointers, a closed handle, an open one, a buffer that is too short and a word that is no owner's. */
 static void try_statuses(void)
 {
-    owlantimony_session session = OWLANTIMONY_CLOSED;
+    owlantimony_session session = OWLANTIMONY_SESSION_INIT;
     size_t size = 0;
     char text[64] = "";
     all_answer(&session, OWLANTIMONY_CLOSED_HANDLE);
@@ -77,21 +90,25 @@ static void try_statuses(void)
    was. */
 static bool is_refused_after(long granted)
 {
-    owlantimony_session session = OWLANTIMONY_CLOSED;
+    owlantimony_session session = OWLANTIMONY_SESSION_INIT;
     size_t size;
     char text[64] = "";
+    const char *answer = NULL;
     left = granted + 1;
-    uint32_t status = owlantimony_new(&session);
+    owlantimony_status status = owlantimony_new(&session);
     if (status == OWLANTIMONY_DONE)
         status = owlantimony_line(&session, "p new element div", 17, &size);
     if (status == OWLANTIMONY_DONE)
         status = owlantimony_line(&session, "p append n0 n1", 14, &size);
     if (status == OWLANTIMONY_DONE)
         status = owlantimony_view(&session, "p", 1, text, 64, &size);
+    bool is_run = status == OWLANTIMONY_DONE;
+    if (is_run)
+        status = owlantimony_answer(&session, &answer, &size);
     left = -1;
     WANT(status == OWLANTIMONY_DONE || status == OWLANTIMONY_MEMORY);
-    if (status == OWLANTIMONY_DONE)
-        WANT(!strcmp(text, "p ok\n"));
+    if (is_run)
+        WANT(!strcmp(text, "p ok\n") && owlantimony_answer(&session, &answer, &size) == OWLANTIMONY_DONE && !strcmp(answer, text));
     else if (session.is_open)
         all_answer(&session, OWLANTIMONY_MEMORY);
     else
@@ -103,6 +120,8 @@ static bool is_refused_after(long granted)
 int main(void)
 {
     long tried = 0;
+    try_messages();
+    try_answers();
     try_statuses();
     while (tried < 1000 && is_refused_after(tried))
         tried++;
