@@ -81,7 +81,9 @@ int main(int words, char **word)
     owlantimony_session session = OWLANTIMONY_SESSION_INIT;
     size_t count;
     char *bytes = read_all(&count);
-    int ended = ferror(stdin) ? 1 : !bytes || owlantimony_new(&session) != OWLANTIMONY_DONE ? 3 : run_all(&session, words > 1 ? word[1] : NULL, bytes, count);
+    int ended = ferror(stdin) ? 1 : !bytes || owlantimony_new(&session) != OWLANTIMONY_DONE ? 3 : 0;
+    if (!ended)
+        ended = run_all(&session, words > 1 ? word[1] : NULL, bytes, count);
     owlantimony_drop(&session);
     free(bytes);
     return fflush(stdout) && !ended ? 4 : ended;

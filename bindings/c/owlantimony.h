@@ -73,7 +73,8 @@ uint32_t dom_session_new(owlantimony_session *session);
 uint32_t dom_session_line(owlantimony_session *session, const uint8_t *line, size_t line_size, size_t *size);
 uint32_t dom_session_finish(owlantimony_session *session, size_t *size);
 uint32_t dom_session_text(owlantimony_session *session, uint8_t *buffer, size_t buffer_size, size_t *size);
-uint32_t dom_session_view(owlantimony_session *session, const uint8_t *owner, size_t owner_size, uint8_t *buffer, size_t buffer_size, size_t *size);
+uint32_t dom_session_view(owlantimony_session *session, const uint8_t *owner, size_t owner_size, uint8_t *buffer, size_t buffer_size,
+                          size_t *size);
 uint32_t dom_session_drop(owlantimony_session *session);
 
 /* Gives what a status says, as a text that stays: one line without its end. */

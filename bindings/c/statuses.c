@@ -53,7 +53,8 @@ static void try_answers(void)
     WANT(owlantimony_line(&session, "p new element div", 17, &size) == OWLANTIMONY_DONE);
     WANT(owlantimony_answer(&session, &text, &size) == OWLANTIMONY_DONE && size == 8 && !strcmp(text, "p ok n1\n"));
     WANT(owlantimony_line(&session, "p tree n1", 9, &size) == OWLANTIMONY_DONE);
-    WANT(owlantimony_answer(&session, &text, &size) == OWLANTIMONY_DONE && size == strlen(text) && !strcmp(text, "p ok (n1 element div)\n"));
+    WANT(owlantimony_answer(&session, &text, &size) == OWLANTIMONY_DONE && size == strlen(text));
+    WANT(!strcmp(text, "p ok (n1 element div)\n"));
     WANT(owlantimony_line(&session, "p .", 3, &size) == OWLANTIMONY_DONE);
     WANT(owlantimony_answer(&session, &text, &size) == OWLANTIMONY_DONE && size == 5 && !strcmp(text, "p ok\n"));
     WANT(owlantimony_answer(&session, NULL, &size) == OWLANTIMONY_NULL && owlantimony_answer(NULL, &text, &size) == OWLANTIMONY_NULL);

@@ -50,7 +50,7 @@ class Doctype(NamedTuple):
     name: str
     publicId: str | None
     systemId: str | None
-    index: int
+    position: int
 
 
 class Carried(NamedTuple):
@@ -164,7 +164,7 @@ class _Attributes(MutableMapping[Key, str]):
         if key in self._beside():
             del self._beside()[key]
         else:
-            del self._element.attributes[key]
+            del self._element.attributes[_qualified(key)]
 
     def __iter__(self) -> Iterator[Key]:
         return iter(self._all())
@@ -178,10 +178,10 @@ def _beside_of(owner: Owner, name: str) -> _Beside:
     return owner.beside.setdefault(name, _Beside())
 
 
-_MODULE = builders.getDomModule(dom)
+_BUILDER: Any = builders.getDomModule(dom)
 
 
-class _Node(_MODULE.NodeBuilder):
+class _Node(_BUILDER.NodeBuilder):
     """A node as html5lib's parser asks for it, over one of ours."""
 
     def __init__(self, node: Any) -> None:
@@ -216,11 +216,11 @@ class _Node(_MODULE.NodeBuilder):
         return _Node(self.element.cloneNode(False))
 
 
-class _Builder(_MODULE.TreeBuilder):
+class _Builder(_BUILDER.TreeBuilder):
     """Builds a page in a document, or a part of one below a fragment."""
 
     def __init__(self, place: Any) -> None:
-        self.dom = place
+        self.dom: Any = place
         self._owner: Owner = place._owner
         super().__init__(True)
 
@@ -238,7 +238,7 @@ class _Builder(_MODULE.TreeBuilder):
         element = self._owner.make_element(_NOT_IN_A_NAME.sub("_", name))
         if element.nodeName != name:
             _beside_of(self._owner, element._name).name = name
-        if namespace not in (None, _HTML):
+        if namespace is not None and namespace != _HTML:
             _beside_of(self._owner, element._name).namespace = namespace
         return _Node(element)
 
@@ -276,7 +276,7 @@ class _Walker(walkers.TreeWalker):
     def _doctype_before(self, index: int | None) -> Iterator[dict[str, Any]]:
         """Give the doctype, once, where it stands before this child of the document or, for None, at the end."""
         doctype = self._doctype
-        if doctype and (index is None or index == doctype.index):
+        if doctype and (index is None or index == doctype.position):
             self._doctype = None
             yield self.doctype(doctype.name, doctype.publicId, doctype.systemId)
 

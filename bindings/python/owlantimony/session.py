@@ -5,6 +5,7 @@ import ctypes
 import os
 import threading
 import warnings
+from collections.abc import Callable
 from types import TracebackType
 
 __all__ = ["ClosedError", "NoOwnerError", "OutOfMemoryError", "Session", "WrongThreadError", "library_path"]
@@ -131,7 +132,7 @@ class Session:
         self._check(self._copy(self._library.dom_session_text), "an answer")
         return self._copied()
 
-    def _copy(self, call: ctypes._CFuncPtr, *words: object) -> int:
+    def _copy(self, call: Callable[..., int], *words: object) -> int:
         """Copy a text into the buffer, which grows where it is too short, and give the status."""
         status = call(self._handle, *words, self._buffer, len(self._buffer), self._size)
         if status == SHORT:

@@ -34,8 +34,8 @@ class Examples(unittest.TestCase):
         status, out, err = run("document_tool.py", ["word", "news", "ones"], PAGE)
         self.assertEqual((status, err), (0, "word in p\nnews in b\nones in h2\n"))
         nav = '<nav><h1>Good <b><mark>news</mark></b></h1><h2 :id="x">Bad <mark>ones</mark></h2></nav>'
-        expected = f"<!DOCTYPE html><html><head><title>t</title></head><body>{nav}<p>one <mark>word</mark> more</p><p>two</p></body></html>\n"
-        self.assertEqual(out, expected)
+        head = "<!DOCTYPE html><html><head><title>t</title></head>"
+        self.assertEqual(out, f"{head}<body>{nav}<p>one <mark>word</mark> more</p><p>two</p></body></html>\n")
         self.assertEqual(run("document_tool.py", ["absent"], PAGE)[0], "document_tool: the page has no 'absent'")
 
     def test_the_widget_is_seen_from_both_sides(self):

@@ -39,8 +39,13 @@ def ours(node):
     return joined(html._Walker(node))
 
 
+def qualified(space, name):
+    """Give the name of an attribute as HTML writes it."""
+    return f"{prefixes[space]}:{name}" if space and ":" not in name and name != "xmlns" else name
+
+
 def joined(tokens):
-    """Give tokens in one form: texts in one piece, attributes under the names that HTML writes. A line feed that a start tag loses stays."""
+    """Give tokens in one form: texts in one piece, and attributes under the names that HTML writes."""
     plain = []
     for token in tokens:
         kind, data = token["type"], token.get("data")
@@ -49,8 +54,7 @@ def joined(tokens):
         elif kind in ("Characters", "SpaceCharacters"):
             plain.append(("text", data))
         elif kind in ("StartTag", "EmptyTag"):
-            attributes = {f"{prefixes[space]}:{name}" if space and ":" not in name and name != "xmlns" else name: value for (space, name), value in data.items()}
-            plain.append((kind, token["namespace"], token["name"], attributes))
+            plain.append((kind, token["namespace"], token["name"], {qualified(*key): value for key, value in data.items()}))
         else:
             plain.append(tuple(token.get(key) for key in ("type", "name", "namespace", "data", "publicId", "systemId")))
     return plain
@@ -89,7 +93,8 @@ def without_added_line_feeds(tokens):
     plain = list(tokens)
     for at, token in enumerate(plain[:-1]):
         following = plain[at + 1]
-        if token[0] == "StartTag" and token[2] in ("pre", "textarea", "listing") and following[0] == "text" and following[1].startswith("\n\n"):
+        is_added = following[0] == "text" and following[1].startswith("\n\n")
+        if token[0] == "StartTag" and token[2] in ("pre", "textarea", "listing") and is_added:
             plain[at + 1] = ("text", following[1][1:])
     return plain
 

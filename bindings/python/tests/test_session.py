@@ -50,10 +50,11 @@ class Sessions(unittest.TestCase):
 
     def test_a_view_has_its_owners_lines_alone(self):
         with Session() as session:
-            for line in ("p new element div", "p append n0 n1", "p attach n1", "p listen n1 pick page log", "p .", "c1 new element b", "c1 append m0 m1"):
+            for line in ("p new element div", "p append n0 n1", "p attach n1", "p listen n1 pick page log", "p ."):
                 session.line(line)
-            for line in ("c1 listen m1 pick inner log", "c1 .", "p .", "c1 dispatch m1 pick bubbles composed"):
-                both = session.line(line)
+            for line in ("c1 new element b", "c1 append m0 m1", "c1 listen m1 pick inner log", "c1 .", "p ."):
+                session.line(line)
+            both = session.line("c1 dispatch m1 pick bubbles composed")
             self.assertEqual([line.split(" ")[0] for line in both], ["c1", "p", "c1"])
             self.assertEqual(session.view("p"), [both[1]])
             self.assertEqual(session.view("c1"), [both[0], both[2]])

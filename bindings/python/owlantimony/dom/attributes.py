@@ -79,16 +79,16 @@ class NamedNodeMap(MutableMapping[str, Any]):
             raise KeyError(name)
         self._element.removeAttribute(name)
 
-    def items(self) -> list[tuple[str, str]]:  # type: ignore[override]
-        """Give the names and values."""
+    def items(self) -> Any:
+        """Give the names and values, as a list of pairs of strings."""
         return [(name, self._element.getAttribute(name) or "") for name in self._names()]
 
-    def keys(self) -> list[str]:  # type: ignore[override]
-        """Give the names."""
+    def keys(self) -> Any:
+        """Give the names, as a list."""
         return self._names()
 
-    def values(self) -> list[Attr]:  # type: ignore[override]
-        """Give the attributes."""
+    def values(self) -> Any:
+        """Give the attributes, as a list of `Attr`s."""
         return [Attr(name, self._element) for name in self._names()]
 
     @property
@@ -156,16 +156,18 @@ class DOMTokenList(MutableSet[str]):
         """Give whether a word is there."""
         return word in self
 
-    def add(self, *words: str) -> None:  # type: ignore[override]
+    def add(self, *words: str) -> None:
         """Add words. Raise SyntaxErr for an empty one, and InvalidCharacterErr for one with white space."""
         self._update(dict.fromkeys([*self._words(), *map(_word, words)]))
 
-    def remove(self, *words: str) -> None:  # type: ignore[override]
+    def remove(self, *words: str) -> None:
         """Take words away, also where they are not there. Raise as `add` does."""
         gone = set(map(_word, words))
         self._update(dict.fromkeys(word for word in self._words() if word not in gone))
 
-    discard = remove
+    def discard(self, *words: str) -> None:
+        """Do as `remove` does."""
+        self.remove(*words)
 
     def toggle(self, word: str, force: bool | None = None) -> bool:
         """Take a word away where it is there, and else add it; with `force`, only add or only take away. Give whether it is there now."""

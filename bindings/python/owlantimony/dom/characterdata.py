@@ -25,7 +25,7 @@ def offset_or_error(offset: int) -> int:
 class CharacterData(ChildNode):
     """A node with data (DOM Standard, #interface-characterdata). Offsets and lengths count 16-bit code units.
 
-    Data that no line of the engine's protocol has room for, about 60,000 bytes, are changed by pieces, and an observer gets a record of each.
+    Data that no line of the engine's protocol has room for, about 60,000 bytes, are changed by pieces: an observer gets a record of each.
     """
 
     __slots__ = ()

@@ -1,9 +1,8 @@
 """Components: the owners of closed shadow trees."""
 from __future__ import annotations
 
-from typing import Any
-
 from .document import NodeFactory, ShadowRoot
+from .element import Element
 from .engine import Engine
 from .owner import Owner
 
@@ -32,7 +31,7 @@ class Component(NodeFactory):
         """The shadow root."""
         return self._owner.node("m0")
 
-    def getElementById(self, id: str) -> Any:
+    def getElementById(self, id: str) -> Element | None:
         """Give the first element of the closed tree with this id, or None."""
         return self.root.getElementById(id)
 

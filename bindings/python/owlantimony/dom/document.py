@@ -121,7 +121,7 @@ class Document(NodeFactory, ParentNode):
         return node
 
     @property
-    def documentElement(self) -> Any:
+    def documentElement(self) -> Element | None:
         """The child that is an element, or None."""
         return self.firstElementChild
 

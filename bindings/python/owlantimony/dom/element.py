@@ -31,7 +31,10 @@ class Element(ParentNode, ChildNode):
         """The name."""
         return self._owner.kind(self._name)
 
-    localName = tagName
+    @property
+    def localName(self) -> str | None:
+        """The name: none has a prefix."""
+        return self.tagName
 
     def __repr__(self) -> str:
         return f"<Element {self.tagName} {self._shown}>"
@@ -131,7 +134,7 @@ class Element(ParentNode, ChildNode):
         """Give whether this element matches. Raise SyntaxErr for text that is no selector here."""
         return self._owner.ask(f"matches {self._name} {quote(selectors)}") == "true"
 
-    def closest(self, selectors: str) -> Any:
+    def closest(self, selectors: str) -> Element | None:
         """Give the nearest of this element and those above it that matches, or None. Raise SyntaxErr for text that is no selector here."""
         at: Any = self
         while at is not None and not at.matches(selectors):

@@ -27,7 +27,9 @@ class Event:
     NONE, CAPTURING_PHASE, AT_TARGET, BUBBLING_PHASE = range(4)
     __slots__ = ("type", "bubbles", "cancelable", "composed", "relatedTarget")
 
-    def __init__(self, type: str, *, bubbles: bool = False, cancelable: bool = False, composed: bool = False, relatedTarget: Any = None) -> None:
+    def __init__(
+        self, type: str, *, bubbles: bool = False, cancelable: bool = False, composed: bool = False, relatedTarget: Any = None
+    ) -> None:
         self.type = _type_or_error(type)
         self.bubbles = bubbles
         self.cancelable = cancelable
@@ -84,7 +86,13 @@ class EventTarget:
     _name: str
 
     def addEventListener(
-        self, type: str, callback: Callable[[ShownEvent], Any], capture: bool = False, once: bool = False, passive: bool = False, action: str = "log"
+        self,
+        type: str,
+        callback: Callable[[ShownEvent], Any],
+        capture: bool = False,
+        once: bool = False,
+        passive: bool = False,
+        action: str = "log",
     ) -> None:
         """Add a listener whose callback can't change the dispatch under way: it is called once the dispatch is over.
 

@@ -37,7 +37,9 @@ class ChildNodes(Sequence[Any]):
         return map(self._parent._owner.node, self._names())
 
     def __eq__(self, other: object) -> bool:
-        return list(self) == list(other) if isinstance(other, (ChildNodes, list, tuple)) else NotImplemented
+        if not isinstance(other, (ChildNodes, list, tuple)):
+            return NotImplemented
+        return list(self) == list(other)
 
     def __repr__(self) -> str:
         return repr(list(self))
@@ -64,7 +66,7 @@ class Node(EventTarget):
     PROCESSING_INSTRUCTION_NODE, COMMENT_NODE, DOCUMENT_NODE, DOCUMENT_TYPE_NODE, DOCUMENT_FRAGMENT_NODE, NOTATION_NODE = range(7, 13)
     DOCUMENT_POSITION_DISCONNECTED, DOCUMENT_POSITION_PRECEDING, DOCUMENT_POSITION_FOLLOWING = 1, 2, 4
     DOCUMENT_POSITION_CONTAINS, DOCUMENT_POSITION_CONTAINED_BY, DOCUMENT_POSITION_IMPLEMENTATION_SPECIFIC = 8, 16, 32
-    namespaceURI = prefix = localName = None
+    namespaceURI = prefix = None
     nodeType: int
     __slots__ = ("_owner", "_name", "__weakref__")
 
@@ -92,7 +94,9 @@ class Node(EventTarget):
         return hash((id(self._owner.engine), self._shown))
 
     def __eq__(self, other: object) -> bool:
-        return True if self is other else NotImplemented
+        if self is not other:
+            return NotImplemented
+        return True
 
     def __bool__(self) -> bool:
         return True
@@ -106,6 +110,11 @@ class Node(EventTarget):
     def nodeName(self) -> str:
         """The tag name of an element, and a name such as "#text" of another node."""
         return self._owner.kind(self._name)
+
+    @property
+    def localName(self) -> str | None:
+        """The tag name of an element, and None of another node."""
+        return None
 
     @property
     def nodeValue(self) -> str | None:

@@ -37,9 +37,8 @@ class ForeignNode:
         self._shown = shown
 
     def __eq__(self, other: object) -> bool:
-        if not hasattr(other, "_shown"):
-            return NotImplemented
-        return self._shown == other._shown and self._engine is other._engine
+        shown, engine = getattr(other, "_shown", None), getattr(other, "_engine", None)
+        return NotImplemented if shown is None else self._shown == shown and self._engine is engine
 
     def __hash__(self) -> int:
         return hash((id(self._engine), self._shown))
@@ -55,8 +54,21 @@ class Owner:
     Parents and children are what the engine answered, until a change forgets it.
     """
 
-    __slots__ = ("engine", "word", "own", "memory", "callbacks", "beside", "dropped", "has_documents", "_objects", "_kinds", "_attributes")
-    __slots__ += ("_walkers", "_next")
+    __slots__ = (
+        "engine",
+        "word",
+        "own",
+        "memory",
+        "callbacks",
+        "beside",
+        "dropped",
+        "has_documents",
+        "_objects",
+        "_kinds",
+        "_attributes",
+        "_walkers",
+        "_next",
+    )
 
     def __init__(self, engine: Engine, word: str) -> None:
         self.engine = engine

@@ -11,6 +11,7 @@ from .node import Node
 from .treetext import tokens
 
 if TYPE_CHECKING:
+    from .element import Element
     from .owner import Owner
 
 __all__ = ["ChildNode", "ParentNode"]
@@ -42,17 +43,17 @@ class ParentNode(Node):
     __slots__ = ()
 
     @property
-    def children(self) -> NodeList[Any]:
+    def children(self) -> NodeList[Element]:
         """The children that are elements, as they are now."""
         return NodeList(node for node in self.childNodes if node.nodeType == Node.ELEMENT_NODE)
 
     @property
-    def firstElementChild(self) -> Any:
+    def firstElementChild(self) -> Element | None:
         """The first child that is an element, or None."""
         return next(iter(self.children), None)
 
     @property
-    def lastElementChild(self) -> Any:
+    def lastElementChild(self) -> Element | None:
         """The last child that is an element, or None."""
         return next(iter(reversed(self.children)), None)
 
@@ -73,7 +74,7 @@ class ParentNode(Node):
     def replaceChildren(self, *nodes: Node | str) -> None:
         """Put nodes and strings in the place of all children (DOM Standard, #dom-parentnode-replacechildren).
 
-        Where there are several children, an observer gets one record of what leaves and one of what comes; the Standard has one for both."""
+        Where several leave, an observer gets one record of what leaves and one of what comes; the Standard has one for both."""
         node = _one_node(self._owner, nodes)
         self._check_insertion(node)
         children = list(self.childNodes)
@@ -99,29 +100,29 @@ class ParentNode(Node):
             if Node.TEXT_NODE in kinds or elements > 1 or (elements and self.firstElementChild is not None):
                 raise HierarchyRequestErr(f"hierarchy: a document has one element and no Text: {self!r}")
 
-    def querySelector(self, selectors: str) -> Any:
+    def querySelector(self, selectors: str) -> Element | None:
         """Give the first element below that matches, or None. Raise SyntaxErr for text that is no selector here."""
         return next(iter(self._query(selectors)), None)
 
-    def querySelectorAll(self, selectors: str) -> NodeList[Any]:
+    def querySelectorAll(self, selectors: str) -> NodeList[Element]:
         """Give all elements below that match, in tree order. Raise SyntaxErr for text that is no selector here."""
         return self._query(selectors)
 
-    def getElementsByTagName(self, name: str) -> NodeList[Any]:
+    def getElementsByTagName(self, name: str) -> NodeList[Element]:
         """Give the elements below with this tag name, or all for "*", as they are now."""
         return self._query(name) if name == "*" or _NAME.fullmatch(name) else NodeList()
 
-    def getElementsByClassName(self, names: str) -> NodeList[Any]:
+    def getElementsByClassName(self, names: str) -> NodeList[Element]:
         """Give the elements below that have all of these classes, as they are now."""
         words = [word for word in _SPACES.split(names) if word]
         return self._with_values("class", "~=", words) if words else NodeList()
 
-    def getElementById(self, id: str) -> Any:
+    def getElementById(self, id: str) -> Element | None:
         """Give the first element below with this id, or None."""
         return next(iter(self._with_values("id", "=", [id])), None) if id else None
 
-    def _with_values(self, name: str, sign: str, values: list[str]) -> NodeList[Any]:
-        """Give the elements below whose attribute is, or has as words, these values. What no selector can write is looked for in the tree."""
+    def _with_values(self, name: str, sign: str, values: list[str]) -> NodeList[Element]:
+        """Give the elements below whose attribute is, or has as words, these values, also such as no selector can write."""
         quotations = ["'" if '"' in value else '"' for value in values]
         if any(sign in value or _NOT_IN_A_VALUE.search(value) for sign, value in zip(quotations, values)):
             return NodeList(self._owner.node(node) for node in self._holding(name, values, words=sign == "~="))
@@ -139,7 +140,7 @@ class ParentNode(Node):
                     found.append(at)
         return found
 
-    def _query(self, selectors: str) -> NodeList[Any]:
+    def _query(self, selectors: str) -> NodeList[Element]:
         return NodeList(self._owner.nodes(self._owner.ask(f"query {self._name} {quote(selectors)}")))
 
 
