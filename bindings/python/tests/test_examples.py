@@ -1,9 +1,11 @@
 """Runs the examples of bindings/examples. What they write is written here as the Standard has it."""
 import contextlib
 import io
+import itertools
 import os
 import runpy
 import sys
+import textwrap
 import unittest
 from unittest import mock
 
@@ -12,6 +14,7 @@ try:
 except ImportError:
     html5lib = None
 
+PAGE_OF_DOCS = os.path.join(os.path.dirname(os.path.abspath(__file__)), "..", "..", "..", "docs", "FROM-PYTHON.md")
 EXAMPLES = os.path.join(os.path.dirname(os.path.abspath(__file__)), "..", "..", "examples")
 PAGE = '<!DOCTYPE html><title>t</title><h1>Good <b>news</b></h1><p>one word more<h2 :id="x">Bad ones</h2><p>two'
 
@@ -29,6 +32,18 @@ def run(name, words=(), text=""):
 
 
 class Examples(unittest.TestCase):
+    def test_the_first_example_of_the_page_of_docs_prints_what_stands_beside_it(self):
+        with open(PAGE_OF_DOCS, encoding="utf-8") as page:
+            behind = page.read().split("## A document\n\n", 1)[1]
+        block = itertools.takewhile(lambda line: not line or line.startswith("    "), behind.splitlines())
+        program = textwrap.dedent("\n".join(block))
+        expected = [line.split("# ", 1)[1] for line in program.splitlines() if "# " in line]
+        out = io.StringIO()
+        with contextlib.redirect_stdout(out):
+            exec(program, {})
+        self.assertEqual(out.getvalue().splitlines(), expected)
+        self.assertEqual(len(expected), 2)
+
     @unittest.skipIf(html5lib is None, "html5lib is not there")
     def test_the_document_tool_moves_headings_and_keeps_marks(self):
         status, out, err = run("document_tool.py", ["word", "news", "ones"], PAGE)
