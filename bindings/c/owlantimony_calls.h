@@ -39,6 +39,13 @@ static inline owl_status owli_node(owl_owner owner, owl_node node)
     return node.owner == owner.index ? OWL_OK : OWL_FOREIGN;
 }
 
+/* Begins a line: the owner's word, the command, and a node. */
+static inline owl_status owli_begin_on(owl_owner owner, const char *command, owl_node node)
+{
+    owli_begin(owner, command);
+    return owli_node(owner, node);
+}
+
 /* Puts the words of a listener or an event in the line. */
 static inline void owli_words(owli_text *line, int words)
 {

@@ -193,8 +193,7 @@ static inline owl_status owl_remove(owl_owner owner, owl_node node)
 /* Puts a Text, or nothing for "", in the place of the children; of a Text or Comment the data. */
 static inline owl_status owl_set_text(owl_owner owner, owl_node node, const char *text)
 {
-    owli_begin(owner, "text");
-    owl_status status = owli_node(owner, node);
+    owl_status status = owli_begin_on(owner, "text", node);
     owli_string(&owner.dom->line, text);
     return status ? status : owli_run(owner);
 }
@@ -203,8 +202,7 @@ static inline owl_status owl_set_text(owl_owner owner, owl_node node, const char
 
 static inline owl_status owl_set_attribute(owl_owner owner, owl_node element, const char *name, const char *value)
 {
-    owli_begin(owner, "set");
-    owl_status status = owli_node(owner, element);
+    owl_status status = owli_begin_on(owner, "set", element);
     owli_word(&owner.dom->line, name);
     owli_string(&owner.dom->line, value);
     return status ? status : owli_run(owner);
@@ -212,8 +210,7 @@ static inline owl_status owl_set_attribute(owl_owner owner, owl_node element, co
 
 static inline owl_status owl_remove_attribute(owl_owner owner, owl_node element, const char *name)
 {
-    owli_begin(owner, "unset");
-    owl_status status = owli_node(owner, element);
+    owl_status status = owli_begin_on(owner, "unset", element);
     owli_word(&owner.dom->line, name);
     return status ? status : owli_run(owner);
 }
@@ -221,8 +218,7 @@ static inline owl_status owl_remove_attribute(owl_owner owner, owl_node element,
 /* Writes an attribute's value to *value, or NULL where there is none. */
 static inline owl_status owl_get_attribute(owl_owner owner, owl_node element, const char *name, const char **value)
 {
-    owli_begin(owner, "attr");
-    owl_status status = owli_node(owner, element);
+    owl_status status = owli_begin_on(owner, "attr", element);
     owli_word(&owner.dom->line, name);
     status = status ? status : owli_run(owner);
     if (!status)
@@ -251,8 +247,7 @@ static inline owl_status owl_children(owl_owner owner, owl_node node, owl_node *
 /* Writes the elements below a node that match a selector, in tree order, as owl_children does. SELECTOR: the text is none here. */
 static inline owl_status owl_query(owl_owner owner, owl_node node, const char *selector, owl_node *nodes, size_t room, size_t *count)
 {
-    owli_begin(owner, "query");
-    owl_status status = owli_node(owner, node);
+    owl_status status = owli_begin_on(owner, "query", node);
     owli_string(&owner.dom->line, selector);
     status = status ? status : owli_run(owner);
     return status ? status : owli_read_list(owner, owner.dom->value, nodes, room, count);
@@ -261,8 +256,7 @@ static inline owl_status owl_query(owl_owner owner, owl_node node, const char *s
 /* Writes whether an element matches a selector. SELECTOR: the text is none here. */
 static inline owl_status owl_matches(owl_owner owner, owl_node element, const char *selector, bool *does)
 {
-    owli_begin(owner, "matches");
-    owl_status status = owli_node(owner, element);
+    owl_status status = owli_begin_on(owner, "matches", element);
     owli_string(&owner.dom->line, selector);
     status = status ? status : owli_run(owner);
     if (!status)
@@ -309,8 +303,7 @@ static inline owl_status owl_listen(owl_owner owner, owl_node node, const char *
         return OWL_SYNTAX;
     if (!owli_new_listener(owner.dom, &at))
         return OWL_MEMORY;
-    owli_begin(owner, "listen");
-    owl_status status = owli_node(owner, node);
+    owl_status status = owli_begin_on(owner, "listen", node);
     owli_word(&owner.dom->line, type);
     owli_label(owner.dom, at);
     owli_word(&owner.dom->line, actions[action]);
@@ -333,8 +326,7 @@ static inline owl_status owl_unlisten(owl_owner owner, size_t listener)
         return OWL_OK;
     owli_listener there = owner.dom->listeners[listener];
     owl_node node = {there.owner, there.number};
-    owli_begin(owner, "unlisten");
-    owl_status status = owli_node(owner, node);
+    owl_status status = owli_begin_on(owner, "unlisten", node);
     owli_word(&owner.dom->line, there.type);
     owli_label(owner.dom, listener);
     owli_words(&owner.dom->line, there.is_capture ? OWL_CAPTURE : 0);
@@ -350,8 +342,7 @@ static inline owl_status owl_unlisten(owl_owner owner, size_t listener)
 static inline owl_status owl_dispatch(owl_owner owner, owl_node node, const char *type, int words, owl_node related, bool *is_kept)
 {
     char *told;
-    owli_begin(owner, "dispatch");
-    owl_status status = owli_node(owner, node);
+    owl_status status = owli_begin_on(owner, "dispatch", node);
     owli_word(&owner.dom->line, type);
     owli_words(&owner.dom->line, words);
     if (!status && !owl_is_none(related)) {

@@ -16,7 +16,6 @@ from .owner import NODE_CLASSES, Owner
 from .parents import ParentNode
 from .ranges import Range
 from .traversal import NodeIterator, NodeNameFilter, TreeWalker
-from .treetext import text_in
 
 __all__ = ["DOMImplementation", "Document", "DocumentFragment", "NodeFactory", "ShadowRoot", "getDOMImplementation"]
 
@@ -121,6 +120,15 @@ class Document(NodeFactory, ParentNode):
         return node
 
     @property
+    def textContent(self) -> str | None:
+        """None: a document has no text. Setting it changes nothing."""
+        return None
+
+    @textContent.setter
+    def textContent(self, text: str | None) -> None:
+        """Change nothing."""
+
+    @property
     def documentElement(self) -> Element | None:
         """The child that is an element, or None."""
         return self.firstElementChild
@@ -154,15 +162,6 @@ class DocumentFragment(ParentNode):
 
     nodeType = Node.DOCUMENT_FRAGMENT_NODE
     __slots__ = ()
-
-    @property
-    def textContent(self) -> str | None:
-        """The data of all Texts below. Setting it puts one Text, or nothing, in the place of the children."""
-        return text_in(self._owner.ask(f"tree {self._name}"))
-
-    @textContent.setter
-    def textContent(self, text: str | None) -> None:
-        self._owner.set_text(self._name, text or "")
 
 
 class ShadowRoot(DocumentFragment):

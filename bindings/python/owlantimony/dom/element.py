@@ -10,7 +10,6 @@ from .attributes import Attr, DOMTokenList, NamedNodeMap
 from .node import Node
 from .owner import NODE_CLASSES, names_in
 from .parents import ChildNode, ParentNode
-from .treetext import text_in
 
 if TYPE_CHECKING:
     from .components import Component
@@ -38,15 +37,6 @@ class Element(ParentNode, ChildNode):
 
     def __repr__(self) -> str:
         return f"<Element {self.tagName} {self._shown}>"
-
-    @property
-    def textContent(self) -> str | None:
-        """The data of all Texts below. Setting it puts one Text, or nothing, in the place of the children."""
-        return text_in(self._owner.ask(f"tree {self._name}"))
-
-    @textContent.setter
-    def textContent(self, text: str | None) -> None:
-        self._owner.set_text(self._name, text or "")
 
     # ---- attributes
 

@@ -8,7 +8,7 @@ from xml.dom.minicompat import NodeList
 
 from ..strings import quote
 from .node import Node
-from .treetext import tokens
+from .treetext import text_in, tokens
 
 if TYPE_CHECKING:
     from .element import Element
@@ -41,6 +41,15 @@ class ParentNode(Node):
     """
 
     __slots__ = ()
+
+    @property
+    def textContent(self) -> str | None:
+        """The data of all Texts below. Setting it puts one Text, or nothing, in the place of the children."""
+        return text_in(self._owner.ask(f"tree {self._name}"))
+
+    @textContent.setter
+    def textContent(self, text: str | None) -> None:
+        self._owner.set_text(self._name, text or "")
 
     @property
     def children(self) -> NodeList[Element]:
@@ -165,10 +174,9 @@ class ChildNode(Node):
     def after(self, *nodes: Node | str) -> None:
         """Insert nodes and strings behind this node (DOM Standard, #dom-childnode-after). Without a parent do nothing."""
         parent = self.parentNode
-        if parent is None:
-            return
-        right = _viable(self, nodes, "nextSibling")
-        parent.insertBefore(_one_node(self._owner, nodes), right)
+        if parent is not None:
+            right = _viable(self, nodes, "nextSibling")
+            parent.insertBefore(_one_node(self._owner, nodes), right)
 
     def replaceWith(self, *nodes: Node | str) -> None:
         """Put nodes and strings in the place of this node (DOM Standard, #dom-childnode-replacewith). Without a parent do nothing."""
