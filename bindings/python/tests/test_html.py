@@ -139,6 +139,18 @@ class Reading(unittest.TestCase):
             self.assertEqual(html.serialize(copy), '<o:p :a="1">x</o:p>')
             self.assertEqual(len(html.carried(document)), 4)
 
+    def test_what_a_range_takes_out_carries_the_same(self):
+        with html.parse("<p><o:p :a=1>one<x:y>two</x:y></o:p><i>three</i><o:p :b=2>four</o:p></p>") as document:
+            o, last = document.querySelectorAll("o_p")
+            made = document.createRange()
+            made.setStart(o.querySelector("x_y").firstChild, 1)
+            made.setEnd(last.firstChild, 2)
+            taken = '<o:p :a="1"><x:y>wo</x:y></o:p><i>three</i><o:p :b="2">fo</o:p>'
+            self.assertEqual(html.serialize(made.cloneContents()), taken)
+            self.assertEqual(html.serialize(made.extractContents()), taken)
+            left = '<p><o:p :a="1">one<x:y>t</x:y></o:p><o:p :b="2">ur</o:p></p>'
+            self.assertEqual(html.serialize(document.querySelector("p")), left)
+
     def test_a_part_of_a_page_for_a_component(self):
         with html.parse("<div>x</div>") as document:
             widget = document.querySelector("div").attachShadow()

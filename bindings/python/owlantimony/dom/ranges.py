@@ -214,9 +214,23 @@ class Range:
 
     def extractContents(self) -> Any:
         """Move what is in the range into a new fragment, and give it."""
-        fragment = self._owner.change(f"extract {self._name}")
+        chains = self._cloned_chains() if self._owner.beside else ([], [])
+        fragment = self._owner.node(self._owner.change(f"extract {self._name}"))
         self._owner.lose_count()
-        return self._owner.node(fragment)
+        for chain, side in zip(chains, ("firstChild", "lastChild")):
+            copy = fragment
+            for name in chain:
+                copy = getattr(copy, side)
+                if name in self._owner.beside:
+                    self._owner.beside[copy._name] = self._owner.beside[name].copy()
+        return fragment
+
+    def _cloned_chains(self) -> tuple[list[str], list[str]]:
+        """Give the names of the nodes that `extract` clones, from the outermost inwards: those that hold the start alone, or the end."""
+        (start, _), (end, _) = self._points()
+        paths = self._owner.path(start), self._owner.path(end)
+        shared = sum(1 for pair in zip(*paths) if pair[0] == pair[1])
+        return paths[0][shared:], paths[1][shared:]
 
     def insertNode(self, node: Node) -> None:
         """Insert a node at the start. Raise HierarchyRequestErr where the Standard refuses it."""
