@@ -89,7 +89,7 @@ static void try_attributes_and_queries(owl_owner page)
 static void try_closed_trees(owl_owner page)
 {
     owl_node host = made(page, "div"), span = made(page, "span"), found[4], parent;
-    owl_owner widget;
+    owl_owner widget = page;
     size_t count;
     WANT(owl_append(page, owl_root(page), host) == OWL_OK && owl_append(page, host, span) == OWL_OK);
     WANT(owl_attach(page, host, &widget) == OWL_OK && owl_attach(page, host, &widget) == OWL_NOT_SUPPORTED);
@@ -117,7 +117,7 @@ static void try_closed_trees(owl_owner page)
 static void try_inner_closed_trees(owl_owner page)
 {
     owl_node host = made(page, "div");
-    owl_owner outer, inner;
+    owl_owner outer = page, inner = page;
     WANT(owl_attach(page, host, &outer) == OWL_OK);
     owl_node section = made(outer, "section");
     WANT(owl_append(outer, owl_root(outer), section) == OWL_OK && owl_attach(outer, section, &inner) == OWL_OK);

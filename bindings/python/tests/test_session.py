@@ -4,6 +4,7 @@ import threading
 import unittest
 
 from owlantimony import ClosedError, NoOwnerError, Session, WrongThreadError
+from owlantimony.dom import Document
 
 EXAMPLES = os.path.join(os.path.dirname(os.path.abspath(__file__)), "..", "..", "..", "examples")
 
@@ -109,6 +110,24 @@ class Sessions(unittest.TestCase):
             thread.join()
             self.assertEqual(session.line("p new element a"), ["p ok n1"])
         self.assertEqual(raised, ["a session is used and closed by the thread that made it"] * 4)
+
+    def test_another_thread_may_neither_use_nor_close_a_document(self):
+        raised = []
+
+        def use():
+            for call in (document.createTextNode, lambda data: document.close()):
+                try:
+                    call("x")
+                except WrongThreadError:
+                    raised.append(call)
+
+        with Document() as document:
+            thread = threading.Thread(target=use)
+            thread.start()
+            thread.join()
+            self.assertEqual(document.createTextNode("x").data, "x")
+        self.assertEqual(len(raised), 2)
+        self.assertRaises(ClosedError, document.createTextNode, "x")
 
     def test_a_long_answer_is_whole(self):
         text = "a" * 60_000
