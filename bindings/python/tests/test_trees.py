@@ -1,5 +1,6 @@
 """Trees: what the Standard says of each call, with the ids of its definitions."""
 import gc
+import xml.dom
 from xml.dom import HierarchyRequestErr, IndexSizeErr, InvalidCharacterErr, NotFoundErr, NotSupportedErr
 
 import owlantimony
@@ -269,6 +270,11 @@ class Making(DocumentTest):
             self.assertIsInstance(document, Document)
             self.assertEqual(outline(document), "#document(html())")
         self.assertRaises(NotSupportedErr, getDOMImplementation().createDocumentType, "html", "", "")
+
+    def test_the_implementation_may_be_registered_with_xml_dom(self):
+        xml.dom.registerDOMImplementation("owlantimony", getDOMImplementation)
+        with xml.dom.getDOMImplementation("owlantimony").createDocument(None, "p", None) as document:
+            self.assertEqual(outline(document), "#document(p())")
 
     def test_a_document_takes_another_way_to_the_engine(self):
         class Counting:
