@@ -60,11 +60,11 @@ class Engine:
             self.session.line(f"{owner.word} range-drop {owner.dropped.pop()}")
         line = f"{owner.word} {command}"
         answer = self.session.line(line)
-        reply = answer.pop()[len(owner.word) + 1 :]
-        if not reply.startswith("ok"):
-            raise refusal(reply[2:], line)
+        _, done, *value = answer.pop().split(" ", 2)
+        if done != "ok":
+            raise refusal(value[0], line)
         self._turn = owner
-        return answer, reply[3:]
+        return answer, value[0] if value else ""
 
     def end_turn(self) -> None:
         """End the open turn: microtasks are run and observers notified, until nothing is left, also of what the callbacks queue."""

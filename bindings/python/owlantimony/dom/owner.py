@@ -97,11 +97,12 @@ class Owner:
     def node(self, name: str) -> Any:
         """Give the object of an own node, and None for "null"."""
         found = self._objects.get(name)
-        if found is None and name != "null":
-            kind = self.kind(name)
-            found = (NODE_CLASSES.get(kind) or NODE_CLASSES["element"])._of(self, name)
-            self._objects[name] = found
-        return found
+        return self._new_object(name, self.kind(name)) if found is None and name != "null" else found
+
+    def _new_object(self, name: str, kind: str) -> Any:
+        """Give an object for a node that has none."""
+        made = self._objects[name] = (NODE_CLASSES.get(kind) or NODE_CLASSES["element"])._of(self, name)
+        return made
 
     def seen(self, name: str) -> Any:
         """Give the object of a node that a line shows: an own one, a foreign one, or None."""
@@ -133,7 +134,7 @@ class Owner:
         name = self.ask(command)
         self._kinds[name] = kind
         self._next = int(name[1:]) + 1
-        return self.node(name)
+        return self._new_object(name, kind)
 
     def make_element(self, tag: str) -> Any:
         """Make an element without attributes."""
