@@ -4,7 +4,7 @@ from __future__ import annotations
 from collections.abc import Callable
 from types import TracebackType
 from typing import Any
-from xml.dom import HierarchyRequestErr, NotSupportedErr
+from xml.dom import NotSupportedErr
 
 from .attributes import Attr
 from .characterdata import Comment, Text
