@@ -84,6 +84,9 @@ static void try_attributes_and_queries(owl_owner page)
     WANT(owl_matches(page, owl_root(page), "b", &does) == OWL_WRONG_KIND);
     WANT(owl_set_text(page, b, awkward) == OWL_OK && owl_tree(page, b, &value) == OWL_OK);
     WANT(strstr(value, "\"\\u00e9 \\\"q\\\" \\\\ \\ud83d\\ude00 \\ud800\\u000a\"") != NULL);
+    WANT(owl_data(page, b, &value) == OWL_WRONG_KIND && owl_children(page, b, found, 4, &count) == OWL_OK && count == 1);
+    WANT(owl_data(page, found[0], &value) == OWL_OK && !strcmp(value, awkward));
+    WANT(owl_create_comment(page, "c \"d\"", &b) == OWL_OK && owl_data(page, b, &value) == OWL_OK && !strcmp(value, "c \"d\""));
 }
 
 static void try_closed_trees(owl_owner page)

@@ -264,6 +264,19 @@ static inline owl_status owl_matches(owl_owner owner, owl_node element, const ch
     return status;
 }
 
+/* Writes the data of a Text or a Comment. WRONG_KIND: it is another node. */
+static inline owl_status owl_data(owl_owner owner, owl_node node, const char **data)
+{
+    owl_status status = owli_run_on(owner, "tree", &node, 1);
+    if (status)
+        return status;
+    char *kind = strchr(owner.dom->value, ' ') + 1;
+    if (strncmp(kind, "text ", 5) && strncmp(kind, "comment ", 8))
+        return OWL_WRONG_KIND;
+    *data = owli_unquote(strchr(kind, ' ') + 1);
+    return OWL_OK;
+}
+
 /* Writes the tree below a node as docs/PROTOCOL.md has it under `tree`. */
 static inline owl_status owl_tree(owl_owner owner, owl_node node, const char **text)
 {

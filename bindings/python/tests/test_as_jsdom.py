@@ -1,4 +1,4 @@
-"""The same random calls in jsdom and here: what a browser's mixins do, beside what is built of commands. Skipped where jsdom is not there."""
+"""The same random calls in jsdom and here, for what is built of commands here. Skipped where jsdom is not there."""
 import json
 import os
 import random

@@ -1,5 +1,8 @@
 """Replays the stored examples through the Python binding, and tries what it raises. Run by bindings/check."""
 import os
+import subprocess
+import sys
+import textwrap
 import threading
 import unittest
 
@@ -7,6 +10,7 @@ from owlantimony import ClosedError, NoOwnerError, Session, WrongThreadError
 from owlantimony.dom import Document
 
 EXAMPLES = os.path.join(os.path.dirname(os.path.abspath(__file__)), "..", "..", "..", "examples")
+MODULE = os.path.join(os.path.dirname(os.path.abspath(__file__)), "..")
 
 
 def examples():
@@ -128,6 +132,32 @@ class Sessions(unittest.TestCase):
             self.assertEqual(document.createTextNode("x").data, "x")
         self.assertEqual(len(raised), 2)
         self.assertRaises(ClosedError, document.createTextNode, "x")
+
+    def test_want_of_memory_is_an_error_of_its_own_and_stays(self):
+        """In a process that may not have more than 60 MB beside what it has."""
+        program = textwrap.dedent("""
+            import resource
+            from owlantimony import OutOfMemoryError, Session
+
+            with open("/proc/self/statm") as sizes:
+                limit = int(sizes.read().split()[0]) * resource.getpagesize() + 60_000_000
+            session, line = Session(), b'p new text "' + b"a" * 60_000 + b'"'
+            resource.setrlimit(resource.RLIMIT_AS, (limit, limit))
+            for count in range(100_000):
+                try:
+                    session.line_bytes(line)
+                except OutOfMemoryError as fault:
+                    assert isinstance(fault, MemoryError) and "p new text" in str(fault)
+                    break
+            try:
+                session.line("p .")
+            except OutOfMemoryError:
+                session.close()
+                print("refused", count > 10)
+        """)
+        environment = {**os.environ, "PYTHONPATH": MODULE}
+        ran = subprocess.run([sys.executable, "-c", program], capture_output=True, text=True, env=environment, check=False)
+        self.assertEqual((ran.stdout, ran.stderr), ("refused True\n", ""))
 
     def test_a_long_answer_is_whole(self):
         text = "a" * 60_000
