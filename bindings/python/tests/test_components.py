@@ -102,6 +102,14 @@ class Closed(DocumentTest):
         self.host.id = "i"
         self.assertEqual(self.told[1:], ["inner"])
 
+    def test_a_dropped_range_opens_a_turn_that_is_ended(self):
+        made = self.document.createRange()
+        self.document.end_turn()
+        del made
+        self.assertRaises(HierarchyRequestErr, self.host.appendChild, self.host)
+        self.slot.setAttribute("name", "s")
+        self.assertEqual(self.slot.getAttribute("name"), "s")
+
     def test_a_component_in_a_component(self):
         section = self.widget.createElement("section")
         self.widget.root.appendChild(section)

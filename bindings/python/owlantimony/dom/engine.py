@@ -58,6 +58,7 @@ class Engine:
             self.end_turn()
         while owner.dropped:
             self.session.line(f"{owner.word} range-drop {owner.dropped.pop()}")
+            self._turn = owner
         line = f"{owner.word} {command}"
         answer = self.session.line(line)
         _, done, *value = answer.pop().split(" ", 2)
