@@ -24,7 +24,7 @@ class Closed(DocumentTest):
         self.assertRaises(TypeError, Component)
 
     def test_a_node_of_another_owner_is_refused_before_a_line_is_sent(self):
-        lines = []
+        lines, made = [], self.document.createRange()
         session = self.document._owner.engine.session
         self.document._owner.engine.session = Noting(session, lines)
         for call in (
@@ -34,8 +34,14 @@ class Closed(DocumentTest):
             lambda: self.host.isEqualNode(self.slot),
             lambda: self.widget.importNode(self.span),
             lambda: self.widget.createTreeWalker(self.span),
-            lambda: self.document.createRange.__self__.adoptNode(self.slot),
-            lambda: self.host.append(self.slot),
+            lambda: self.document.adoptNode(self.slot),
+            lambda: self.host.append("x", self.slot),
+            lambda: self.span.before("x", self.slot),
+            lambda: self.span.after(self.slot),
+            lambda: self.span.replaceWith(self.slot),
+            lambda: self.host.compareDocumentPosition(self.slot),
+            lambda: made.intersectsNode(self.slot),
+            lambda: MutationObserver(print).observe(ForeignNode(self.document._owner.engine, "n2"), childList=True),
         ):
             self.assertRaises(WrongDocumentErr, call)
         self.assertEqual(lines, [])

@@ -203,7 +203,8 @@ class Node(EventTarget):
         their roots were made."""
         if other is self:
             return 0
-        mine, others = self._owner.path(self._name), self._owner.path(self._owner.name_of(other))
+        others = self._owner.path(self._owner.name_of(other))
+        mine = self._owner.path(self._name)
         if mine[0] != others[0]:
             follows = int(others[0][1:]) > int(mine[0][1:])
             order = self.DOCUMENT_POSITION_FOLLOWING if follows else self.DOCUMENT_POSITION_PRECEDING

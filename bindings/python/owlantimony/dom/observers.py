@@ -67,12 +67,14 @@ class MutationObserver:
 
     def _owner_for(self, target: Node) -> Owner:
         """Give the owner of the nodes that this observer observes, which is that of the first."""
+        owner: Owner | None = self._owner or getattr(target, "_owner", None)
+        if owner is None:
+            raise WrongDocumentErr(f"foreign: {target!r} is no node of one's own")
+        owner.name_of(target)
         if self._owner is None:
-            self._owner = target._owner
-            self._name = self._owner.ask("observer")
-        if target._owner is not self._owner:
-            raise WrongDocumentErr(f"foreign: {target!r} is another owner's node than those that are observed")
-        return self._owner
+            self._owner = owner
+            self._name = owner.ask("observer")
+        return owner
 
     def disconnect(self) -> None:
         """Observe nothing any longer, and lose the records that were not told yet."""

@@ -21,11 +21,17 @@ _SPACES = re.compile("[\t\n\f\r ]+")
 _NOT_IN_A_VALUE = re.compile("[\\\\\n\f\r]")
 
 
+def _check_owner(owner: Owner, nodes: tuple[Node | str, ...]) -> None:
+    """Raise WrongDocumentErr where one of the nodes is another owner's, and TypeError for what is neither a node nor a string."""
+    for node in nodes:
+        if not isinstance(node, str):
+            owner.name_of(node)
+
+
 def _one_node(owner: Owner, nodes: tuple[Node | str, ...]) -> Any:
     """Convert nodes and strings into one node (DOM Standard, #converting-nodes-into-a-node): more than one go into a fragment."""
+    _check_owner(owner, nodes)
     found = [owner.make_data("text", node) if isinstance(node, str) else node for node in nodes]
-    for node in found:
-        owner.name_of(node)
     if len(found) == 1:
         return found[0]
     fragment = owner.make("new fragment", "#document-fragment")
@@ -164,6 +170,7 @@ class ChildNode(Node):
 
     def before(self, *nodes: Node | str) -> None:
         """Insert nodes and strings in front of this node (DOM Standard, #dom-childnode-before). Without a parent do nothing."""
+        _check_owner(self._owner, nodes)
         parent = self.parentNode
         if parent is None:
             return
@@ -173,6 +180,7 @@ class ChildNode(Node):
 
     def after(self, *nodes: Node | str) -> None:
         """Insert nodes and strings behind this node (DOM Standard, #dom-childnode-after). Without a parent do nothing."""
+        _check_owner(self._owner, nodes)
         parent = self.parentNode
         if parent is not None:
             right = _viable(self, nodes, "nextSibling")
@@ -180,6 +188,7 @@ class ChildNode(Node):
 
     def replaceWith(self, *nodes: Node | str) -> None:
         """Put nodes and strings in the place of this node (DOM Standard, #dom-childnode-replacewith). Without a parent do nothing."""
+        _check_owner(self._owner, nodes)
         parent = self.parentNode
         if parent is None:
             return

@@ -190,13 +190,14 @@ class Range:
 
     def intersectsNode(self, node: Node) -> bool:
         """Give whether a node, or some of it, is in the range."""
+        name = self._owner.name_of(node)
         start, end = self._points()
         if node.getRootNode() is not self._owner.node(start[0]).getRootNode():
             return False
         parent = node.parentNode
         if parent is None:
             return True
-        index = self._owner.index(self._owner.name_of(node))
+        index = self._owner.index(name)
         is_before_end = compare_points(self._owner, (parent._name, index), end) < 0
         return is_before_end and compare_points(self._owner, (parent._name, index + 1), start) > 0
 
