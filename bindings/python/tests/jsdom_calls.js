@@ -11,25 +11,27 @@ function outline(node) {
 function opened() {
   const { document } = new JSDOM("<r/>", { contentType: "application/xml" }).window;
   const nodes = [document.documentElement, ...[..."abcdef"].map((name) => document.createElementNS(null, name))];
-  return [...nodes, document.createTextNode("x"), document.createTextNode("y"), document.createComment("c")];
+  const others = [document.createTextNode("x"), document.createTextNode("y"), document.createComment("c")];
+  return { nodes: [...nodes, ...others], ranges: [document.createRange(), document.createRange()] };
 }
 
-function call(nodes, [method, at, given]) {
-  if (!(method in nodes[at])) return ["no such call", []];
-  const words = given.map((word) => (typeof word === "number" ? nodes[word] : word));
+function call({ nodes, ranges }, [method, at, given]) {
+  const things = [...nodes, ...ranges];
+  if (!(method in things[at])) return ["no such call", []];
+  const words = given.map((word) => (typeof word === "number" ? things[word] : Array.isArray(word) ? word[0] : word));
   let answer;
   try {
-    answer = nodes[at][method](...words) ?? null;
+    answer = things[at][method](...words) ?? null;
   } catch (fault) {
     answer = fault.name;
   }
-  if (method === "cloneNode") answer = outline(answer);
-  if (typeof answer === "number") answer = answer & 41 || answer;
+  if (answer !== null && answer.nodeType) answer = outline(answer);
+  if (method === "compareDocumentPosition" && answer & 1) answer = 33; // the order of two trees is the implementation's own
   return [answer, [...new Set(nodes.map((node) => outline(node.getRootNode())))].sort()];
 }
 
 const scripts = JSON.parse(require("fs").readFileSync(0, "utf8"));
 console.log(JSON.stringify(scripts.map((script) => {
-  const nodes = opened();
-  return script.map((one) => call(nodes, one));
+  const things = opened();
+  return script.map((one) => call(things, one));
 })));

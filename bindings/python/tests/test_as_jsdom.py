@@ -16,6 +16,9 @@ SCRIPTS, CALLS = 12, 40
 ON_CHILDREN = ("before", "after", "replaceWith")
 ON_PARENTS = ("append", "prepend", "replaceChildren")
 ON_PAIRS = ("compareDocumentPosition", "contains", "isEqualNode")
+RANGES = (10, 11)
+ON_NODES = ("setStartBefore", "setStartAfter", "setEndBefore", "setEndAfter", "selectNode", "selectNodeContents", "intersectsNode")
+ON_POINTS = ("setStart", "setEnd", "setStart", "setEnd", "comparePoint", "isPointInRange")
 
 
 def has_jsdom():
@@ -26,7 +29,23 @@ def has_jsdom():
 
 
 def made_script(dice):
-    """Give random calls: the method, the number of the node, and the words; a number among these is that of a node."""
+    """Give random calls: the method, the number of the node or range, and the words: a number is a node's, one in a list itself."""
+    script = changes(dice)
+    for _ in range(CALLS):
+        made, node, kind = dice.choice(RANGES), dice.randrange(10), dice.randrange(10)
+        if kind < 5:
+            script.append([dice.choice(ON_POINTS), made, [node, [dice.randrange(3)]]])
+        elif kind < 7:
+            script.append([dice.choice(ON_NODES), made, [node]])
+        elif kind < 8:
+            script.append(["compareBoundaryPoints", made, [[dice.randrange(4)], dice.choice(RANGES)]])
+        else:
+            script.append([dice.choice(["cloneContents", "toString"]), made, []])
+    return script
+
+
+def changes(dice):
+    """Give random calls that change the trees and read them."""
     script = []
     for _ in range(CALLS):
         node = dice.randrange(10)
@@ -44,26 +63,30 @@ def made_script(dice):
 
 
 class Ours:
-    """Ten nodes in a document, which the calls are made on: the root `r`, elements, Texts and a Comment."""
+    """Ten nodes in a document, which the calls are made on: the root `r`, elements, Texts and a Comment. And two ranges."""
 
     def __init__(self, document):
         self.nodes = [document.appendChild(document.createElement("r"))]
         self.nodes += [document.createElement(name) for name in "abcdef"]
         self.nodes += [document.createTextNode("x"), document.createTextNode("y"), document.createComment("c")]
+        self.ranges = [document.createRange() for _ in RANGES]
 
     def call(self, method, node, words):
         """Make a call, and give what it answers and the trees that are left."""
-        words = [self.nodes[word] if type(word) is int else word for word in words]
-        if not hasattr(self.nodes[node], method):
+        things = [*self.nodes, *self.ranges]
+        words = [things[word] if type(word) is int else word[0] if type(word) is list else word for word in words]
+        if not hasattr(things[node], method):
             return ["no such call", []]
         try:
-            answer = getattr(self.nodes[node], method)(*words)
+            answer = getattr(things[node], method)(*words)
         except DOMException as fault:
             answer = type(fault).__name__ + "or"
-        if method == "cloneNode":
+        if hasattr(answer, "nodeType"):
             answer = outline(answer)
+        if method == "compareDocumentPosition" and answer & 1:
+            answer = 33  # the order of two trees is the implementation's own
         roots = {outline(node.getRootNode()) for node in self.nodes}
-        return [answer & 41 or answer if type(answer) is int else answer, sorted(roots)]
+        return [answer, sorted(roots)]
 
 
 @unittest.skipUnless(has_jsdom(), "jsdom is not there")
@@ -72,13 +95,13 @@ class AsJsdom(unittest.TestCase):
         scripts = [made_script(random.Random(seed)) for seed in range(SCRIPTS)]
         words = ["node", os.path.join(HERE, "jsdom_calls.js")]
         ran = subprocess.run(words, input=json.dumps(scripts), capture_output=True, text=True, env=ENVIRONMENT, check=True)
-        tried = changed = 0
+        tried = silent = 0
         for script, theirs in zip(scripts, json.loads(ran.stdout)):
             with Document() as document:
                 ours = Ours(document)
                 for call, answer in zip(script, theirs):
                     self.assertEqual(ours.call(*call), answer, call)
                     tried += 1
-                    changed += answer[0] is None
-        self.assertEqual(tried, SCRIPTS * CALLS)
-        self.assertGreater(changed, 100)
+                    silent += answer[0] is None
+        self.assertEqual(tried, 2 * SCRIPTS * CALLS)
+        self.assertGreater(silent, 200)
