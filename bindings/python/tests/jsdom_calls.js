@@ -1,4 +1,4 @@
-// The calls of test_as_jsdom.py in jsdom: scripts come on standard input, and what each call answers, with the trees that are left, is written.
+// The calls of test_as_jsdom.py in jsdom: scripts come on standard input, and what each call answers is written, with the trees that are left.
 "use strict";
 const { JSDOM } = require("jsdom");
 
