@@ -36,8 +36,9 @@ __all__ = ["Carried", "Doctype", "carried", "doctype_of", "parse", "parse_fragme
 
 _HTML = namespaces["html"]
 _NOT_IN_A_NAME = re.compile(r"[^A-Za-z0-9_-]")
-_MAY_BE_AN_END = "Unexpected </ in CDATA"
-"""What html5lib says of each `</` in a script; here the end tag of the element itself is what can't be written."""
+_TESTED_HERE = ("Unexpected </ in CDATA", "Comment contains --")
+"""What html5lib says of each `</` in a script and each `--` in a comment: only some of those can't be written."""
+_NOT_IN_A_COMMENT = re.compile(r"^-?>|--!?>|\r")
 _LOSE_A_LINE_FEED = ("pre", "textarea", "listing")
 
 Key = Union[str, "tuple[str | None, str, str]"]
@@ -98,10 +99,10 @@ def serialize(node: dom.Node) -> str:
     Raise ValueError for a tree that HTML can't write, as a `br` with children."""
     serializer = HTMLSerializer(omit_optional_tags=False, quote_attr_values="always", minimize_boolean_attributes=False)
     text: str = serializer.render(_Walker(node))
-    errors = [error for error in serializer.errors if error != _MAY_BE_AN_END]
+    errors = [error for error in serializer.errors if error not in _TESTED_HERE]
     if errors:
         raise ValueError(f"HTML can't write this tree: {'; '.join(errors)}")
-    return text
+    return text.replace("\r", "&#13;")
 
 
 def doctype_of(document: dom.Document) -> Doctype | None:
@@ -282,9 +283,8 @@ class _Walker(walkers.TreeWalker):
 
     def _begin(self, part: Part, following: Part, parent: Part | None) -> Iterator[dict[str, Any]]:
         """Give what stands for the beginning of a node."""
+        self._check(part, parent)
         if part.node_name == "#text":
-            if parent and parent.node_name in rcdataElements and f"</{parent.node_name}" in part.value.lower():
-                raise ValueError(f"HTML can't write </{parent.node_name} in a {parent.node_name}")
             yield from self.text(part.value)
         elif part.node_name == "#comment":
             yield self.comment(part.value)
@@ -293,14 +293,26 @@ class _Walker(walkers.TreeWalker):
             attributes = {(None, _qualified(key)): value for key, value in self._beside(part.name).attributes.items()}
             attributes.update({(None, key): value for key, value in part.attributes.items()})
             has_children = following.what == "begin"
-            if namespace == _HTML and name == "plaintext":
-                raise ValueError("HTML can't write a plaintext: it has no end")
             if namespace == _HTML and name in voidElements:
                 yield from self.emptyTag(namespace, name, attributes, has_children)
                 return
             yield self.startTag(namespace, name, attributes)
             if name in _LOSE_A_LINE_FEED and following.node_name == "#text" and following.value.startswith("\n"):
                 yield from self.text("\n")
+
+    def _check(self, part: Part, parent: Part | None) -> None:
+        """Raise ValueError for what a parser would not read as it is written."""
+        is_wrong = any("\x00" in text for text in (part.value, *part.attributes.values()))
+        if part.node_name == "#comment":
+            is_wrong = is_wrong or bool(_NOT_IN_A_COMMENT.search(part.value))
+        elif part.node_name == "plaintext":
+            is_wrong = True
+        elif part.node_name == "#text" and parent and self._name(parent)[0] in rcdataElements:
+            name, namespace = self._name(parent)
+            signs = [f"</{name}", "\r"] if namespace == _HTML else ["<", "&", "\r"]
+            is_wrong = is_wrong or any(sign in part.value.lower() for sign in signs)
+        if is_wrong:
+            raise ValueError(f"HTML can't write this {part.node_name}: {part.value[:80]!r}")
 
     def _end(self, part: Part) -> Iterator[dict[str, Any]]:
         """Give what stands for the end of a node."""

@@ -179,3 +179,17 @@ class Reading(unittest.TestCase):
             document.querySelector("br").textContent = ""
             document.querySelector("script").textContent = "a = '</SCRIPT>'"
             self.assertRaises(ValueError, html.serialize, document)
+        with html.parse("<svg><style>a</style></svg>") as document:
+            for element, text in (("style", "a<b"), ("style", "\r"), ("body", "\x00")):
+                document.querySelector(element).textContent = text
+                self.assertRaises(ValueError, html.serialize, document.querySelector(element))
+            for data in (">", "->", "a-->", "--!>", "\r"):
+                self.assertRaises(ValueError, html.serialize, document.createComment(data))
+
+    def test_what_is_seldom_written_comes_back(self):
+        page = "<!-- a -- b - --><p title='&#13;a\n'>&#13;x&nbsp;</p><script>if (a --> b) '</p>'</script>"
+        with html.parse(page) as document:
+            written = html.serialize(document)
+            with html.parse(written) as again:
+                self.assertEqual(ours(again), ours(document))
+                self.assertEqual(again.querySelector("p").textContent, "\rx\u00a0")
