@@ -108,6 +108,14 @@ class Closed(DocumentTest):
         self.host.id = "i"
         self.assertEqual(self.told[1:], ["inner"])
 
+    def test_what_is_remembered_is_not_used_before_the_other_turn_has_ended(self):
+        """The callback of the widget's microtask moves the page's node, after the page asked where it stands."""
+        other = self.host.appendChild(self.document.createElement("b"))
+        self.assertIs(self.span.nextSibling, other)
+        self.widget.queueMicrotask(self.span.remove)
+        self.assertIsNone(self.span.nextSibling)
+        self.assertIs(self.host.firstChild, other)
+
     def test_a_dropped_range_opens_a_turn_that_is_ended(self):
         made = self.document.createRange()
         self.document.end_turn()

@@ -40,6 +40,7 @@ class Callbacks:
 
     def listen(self, node: str, kind: str, callback: Listener, capture: bool, words: str, once: bool) -> None:
         """Add a listener at a node. One that is there already stays as it is."""
+        self._owner.engine.begin(self._owner)
         key = (callback, capture)
         label = self._labels.get(key) or self._label("l")
         self._owner.ask(f"listen {node} {kind} {label} {words}")

@@ -54,8 +54,7 @@ class Engine:
 
     def exchange(self, owner: Owner, command: str) -> tuple[list[str], str]:
         """Run a command of an owner, and give the lines in front of its reply, and the value of the reply."""
-        if self._turn is not None and self._turn is not owner:
-            self.end_turn()
+        self.begin(owner)
         while owner.dropped:
             self.session.line(f"{owner.word} range-drop {owner.dropped.pop()}")
             self._turn = owner
@@ -66,6 +65,11 @@ class Engine:
             raise refusal(value[0], line)
         self._turn = owner
         return answer, value[0] if value else ""
+
+    def begin(self, owner: Owner) -> None:
+        """End the open turn, with its callbacks, where it is another owner's."""
+        if self._turn is not None and self._turn is not owner:
+            self.end_turn()
 
     def end_turn(self) -> None:
         """End the open turn: microtasks are run and observers notified, until nothing is left, also of what the callbacks queue."""

@@ -193,6 +193,7 @@ class Owner:
 
     def index(self, name: str) -> int:
         """Give the index of a node that has a parent."""
+        self.engine.begin(self)
         parent = self.parent(name)
         assert parent is not None
         self.children(parent)
@@ -200,6 +201,7 @@ class Owner:
 
     def end_child(self, name: str, move: str) -> str | None:
         """Give the name of a node's first or last child, as `move` says."""
+        self.engine.begin(self)
         if name not in self.memory.children and self.memory.asks_alone(name):
             return self._walk(name, name, move)
         children = self.children(name)
@@ -207,6 +209,7 @@ class Owner:
 
     def sibling(self, name: str, step: int) -> str | None:
         """Give the name of a node's next sibling, where `step` is 1, or previous one, where it is -1."""
+        self.engine.begin(self)
         parent = self.parent(name)
         if parent is None:
             return None
