@@ -177,6 +177,7 @@ class Owner:
 
     def parent(self, name: str) -> str | None:
         """Give the name of a node's parent."""
+        self.engine.begin(self)
         parents = self.memory.parents
         if name not in parents:
             answer = self.ask(f"parent {name}")
@@ -185,6 +186,7 @@ class Owner:
 
     def children(self, name: str) -> tuple[str, ...]:
         """Give the names of a node's children."""
+        self.engine.begin(self)
         children = self.memory.children.get(name)
         if children is None:
             children = () if self.kind(name) in _LEAVES else names_in(self.ask(f"children {name}"))
@@ -193,7 +195,6 @@ class Owner:
 
     def index(self, name: str) -> int:
         """Give the index of a node that has a parent."""
-        self.engine.begin(self)
         parent = self.parent(name)
         assert parent is not None
         self.children(parent)
@@ -209,7 +210,6 @@ class Owner:
 
     def sibling(self, name: str, step: int) -> str | None:
         """Give the name of a node's next sibling, where `step` is 1, or previous one, where it is -1."""
-        self.engine.begin(self)
         parent = self.parent(name)
         if parent is None:
             return None
