@@ -73,7 +73,7 @@ impl Write for Taker {
 }
 
 // A reader of these bytes, given so many at a time.
-fn giver(bytes: &[u8], most: usize) -> Giver<'_> {
+fn giving(bytes: &[u8], most: usize) -> Giver<'_> {
     Giver {
         bytes,
         most,
@@ -83,7 +83,7 @@ fn giver(bytes: &[u8], most: usize) -> Giver<'_> {
 }
 
 // A writer that takes all, so many bytes at a time.
-fn taker(alloc: Global, most: usize) -> Taker {
+fn taking(alloc: Global, most: usize) -> Taker {
     Taker {
         taken: Vec::new(alloc),
         most,
@@ -112,7 +112,14 @@ fn check(
 #[test]
 fn one_byte_is_read_and_written_at_a_time(rt: HostRuntime) {
     let alloc = rt.alloc();
-    check(&rt, alloc, giver(SCRIPT, 1), taker(alloc, 1), Ok(()), TEXT);
+    check(
+        &rt,
+        alloc,
+        giving(SCRIPT, 1),
+        taking(alloc, 1),
+        Ok(()),
+        TEXT,
+    );
 }
 
 #[test]
@@ -134,7 +141,7 @@ fn a_failed_read_stops_the_run(rt: HostRuntime) {
             &rt,
             alloc,
             reader,
-            taker(alloc, 4096),
+            taking(alloc, 4096),
             Err(RunFault::Read),
             taken,
         );
@@ -146,26 +153,26 @@ fn each_failed_write_stops_the_run(rt: HostRuntime) {
     let alloc = rt.alloc();
     for kind in [Some(ErrorKind::Other), Some(ErrorKind::Interrupted), None] {
         for writes in 0..TEXT.len() {
-            let mut writer = taker(alloc, 1);
+            let mut writer = taking(alloc, 1);
             writer.writes = writes;
             writer.fault = kind;
             let fault = Err(RunFault::Write);
             check(
                 &rt,
                 alloc,
-                giver(SCRIPT, 4096),
+                giving(SCRIPT, 4096),
                 writer,
                 fault,
                 &TEXT[..writes],
             );
         }
     }
-    let mut writer = taker(alloc, 4096);
+    let mut writer = taking(alloc, 4096);
     writer.flush_fault = Some(ErrorKind::Other);
     check(
         &rt,
         alloc,
-        giver(SCRIPT, 4096),
+        giving(SCRIPT, 4096),
         writer,
         Err(RunFault::Write),
         TEXT,
