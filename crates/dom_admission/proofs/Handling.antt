@@ -39,20 +39,33 @@ pub passed : (e : Option Refusal) → let_pass e ≡ Ok tt → e ≡ None
 passed None h = refl
 passed (Some r) h = absurd cc
 
--- the one node that a line names is of the kind that is asked for
-pub fitting : (w : World) (o : Owner) (n : Operand) → let_pass (early_refusal w o (n ∷ [])) ≡ Ok tt → is_fit (part_of w o) n ≡ true
-fitting w o n e = cases (is_busy w o) (has_foreign (n ∷ [])) (is_there w o) (are_there (part_of w o) (n ∷ [])) (is_fit (part_of w o) n)
-    (passed (early_refusal w o (n ∷ [])) e)
+-- the nodes that a line names are of the kinds that are asked for
+all_fitting : (w : World) (o : Owner) (ns : List Operand) → let_pass (early_refusal w o ns) ≡ Ok tt → are_fitting (part_of w o) ns ≡ true
+all_fitting w o ns e = cases (is_busy w o) (has_foreign ns) (is_there w o) (are_there (part_of w o) ns) (are_fitting (part_of w o) ns)
+    (passed (early_refusal w o ns) e)
   where
-    cases : (busy foreign there present fits : Bool) →
-        first_refusal ((busy, Busy) ∷ (foreign, Foreign) ∷ (not there, Unknown) ∷ (not present, Unknown) ∷ (not (fits && true), WrongKind) ∷ []) ≡
-        None → fits ≡ true
-    cases true foreign there present fits h = absurd cc
-    cases false true there present fits h = absurd cc
-    cases false false false present fits h = absurd cc
-    cases false false true false fits h = absurd cc
+    cases : (busy foreign there present fitting : Bool) →
+        first_refusal ((busy, Busy) ∷ (foreign, Foreign) ∷ (not there, Unknown) ∷ (not present, Unknown) ∷ (not fitting, WrongKind) ∷ []) ≡ None →
+        fitting ≡ true
+    cases true foreign there present fitting h = absurd cc
+    cases false true there present fitting h = absurd cc
+    cases false false false present fitting h = absurd cc
+    cases false false true false fitting h = absurd cc
     cases false false true true true h = refl
     cases false false true true false h = absurd cc
+
+-- so the first is
+pub fitting_first : (w : World) (o : Owner) (n : Operand) (ns : List Operand) → let_pass (early_refusal w o (n ∷ ns)) ≡ Ok tt →
+    is_fit (part_of w o) n ≡ true
+fitting_first w o n ns e = first (is_fit (part_of w o) n) (are_fitting (part_of w o) ns) (all_fitting w o (n ∷ ns) e)
+  where
+    first : (a b : Bool) → (a && b) ≡ true → a ≡ true
+    first true b h = refl
+    first false b h = absurd cc
+
+-- and so is the only one
+pub fitting : (w : World) (o : Owner) (n : Operand) → let_pass (early_refusal w o (n ∷ [])) ≡ Ok tt → is_fit (part_of w o) n ≡ true
+fitting w o n e = fitting_first w o n [] e
 
 -- what a line names that passes is there
 pub all_there : (w : World) (o : Owner) (ns : List Operand) → let_pass (early_refusal w o ns) ≡ Ok tt → are_there (part_of w o) ns ≡ true

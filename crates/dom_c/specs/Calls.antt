@@ -1,5 +1,6 @@
 -- What a call finds and leaves of what a handle holds, which is none where the handle is closed.
-use Rattle.std.specs.Prelude.{◌≡◌, ℕ, ◌<◌, Bool, true, false, ◌==◌, ◌||◌, List, [], ◌∷◌, ◌++◌, length, drop, Option, Some, None}
+use Rattle.std.specs.Prelude.{◌≡◌, ℕ, ◌<◌, Bool, true, false, ◌==◌, ◌||◌, List, [], ◌∷◌, ◌++◌, length, drop, Option, Some, None, ⊤}
+use denote.RawPtr.{Ptr}
 use Rattle.dom_base.specs.declared.Owner.{Owner}
 use Rattle.dom_model.specs.World.{World}
 use Rattle.dom_model.specs.Output.{Output}
@@ -7,9 +8,27 @@ use Rattle.dom_text.specs.Text.{output_text}
 use Rattle.dom_streams.specs.Views.{viewed}
 use Rattle.dom_c.specs.State.{HeldState}
 
--- a handle that was just opened holds the world and no text
-abbrev pub opened : World → Option HeldState
-opened world = Some (record { world = world; text = []; has_failed = false })
+-- the handle is open, memory was refused to no call, and it holds this world and this text
+abbrev pub Holds : Option HeldState → World → List ℕ → Type 0
+Holds None world text = ⊥
+Holds (Some held) world text = (held.world ≡ world) × (held.text ≡ text) × (held.has_failed ≡ false)
+
+-- both handles are closed, or hold the same world and text, and memory was refused to calls of both or of none
+abbrev pub HoldSame : Option HeldState → Option HeldState → Type 0
+HoldSame None None = ⊤
+HoldSame None (Some new) = ⊥
+HoldSame (Some old) None = ⊥
+HoldSame (Some old) (Some new) = (new.world ≡ old.world) × (new.text ≡ old.text) × (new.has_failed ≡ old.has_failed)
+
+-- the handle is open, and at this address these bytes of its own stand
+abbrev pub StandsAt : Option HeldState → Ptr → List ℕ → Type 0
+StandsAt None at bytes = ⊥
+StandsAt (Some held) at bytes = (held.at ≡ at) × (held.bytes ≡ bytes)
+
+-- the handle is open, and no turn is open in its world
+abbrev pub HasNoTurn : Option HeldState → Type 0
+HasNoTurn None = ⊥
+HasNoTurn (Some held) = held.world.turn ≡ None
 
 -- the handle is open, and memory was refused to a call
 abbrev pub HasFailed : Option HeldState → Type 0
@@ -31,8 +50,7 @@ text_seen_by (Some owner) text = Some (viewed (Some owner) text)
 abbrev pub Runs : (World → World × List Output) → Option HeldState → Option HeldState → ℕ → Type 0
 Runs run None new size = ⊥
 Runs run (Some held) new size =
-    (held.has_failed ≡ false) × (new ≡ Some (record { world = (run held.world).0; text = output_text (run held.world).1; has_failed = false }))
-    × (size ≡ length (output_text (run held.world).1))
+    (held.has_failed ≡ false) × Holds new (run held.world).0 (output_text (run held.world).1) × (size ≡ length (output_text (run held.world).1))
 
 -- the text stands in the buffer's first bytes, and the others are as they were
 abbrev pub IsCopied : List ℕ → List ℕ → List ℕ → ℕ → Type 0

@@ -3,7 +3,7 @@ ghost use Rattle.std.specs.Prelude.{◌≡◌, ◌<◌, ◌++◌, [], ◌∷◌,
 ghost use Rattle.dom_model.specs.DocumentMachine.{first_world, step, finish};
 ghost use Rattle.dom_text.specs.Decode.{decode};
 ghost use Rattle.dom_text.specs.Readers.{owner_of};
-ghost use Rattle.dom_c.specs.Calls.{opened, Runs, HasFailed, HasText, text_seen_by, IsCopied, IsShort, is_one_of};
+ghost use Rattle.dom_c.specs.Calls.{Holds, HoldSame, HasNoTurn, StandsAt, Runs, HasFailed, HasText, text_seen_by, IsCopied, IsShort, is_one_of};
 
 use crate::handle::DomSession;
 use crate::held::Held;
@@ -31,7 +31,7 @@ pub const OPEN: u32 = 5;
 /// opened later.
 #[unsafe(no_mangle)]
 pub extern "C" fn dom_session_new(alloc: Global, session: &mut DomSession) -> u32
-    ensures done { result ≡ DONE → (session.old.held.value ≡ None) × (session.new.held.value ≡ opened first_world) }
+    ensures done { result ≡ DONE → (session.old.held.value ≡ None) × Holds session.new.held.value first_world [] }
     ensures memory { result ≡ MEMORY → (session.old.held.value ≡ None) × (session.new.held.value ≡ None) }
     ensures open { result ≡ OPEN → IsSome session.old.held.value × (session.new.held.value ≡ session.old.held.value) }
     ensures status { IsTrue (is_one_of result (DONE ∷ MEMORY ∷ OPEN ∷ [])) }
@@ -86,6 +86,7 @@ pub extern "C" fn dom_session_finish(
     size: &mut usize,
 ) -> u32
     ensures done { result ≡ DONE → Runs finish session.old.held.value session.new.held.value size.new }
+    ensures turn { result ≡ DONE → HasNoTurn session.new.held.value }
     ensures closed { result ≡ CLOSED → (session.old.held.value ≡ None) × (session.new.held.value ≡ None) × (size.new ≡ 0) }
     ensures memory { result ≡ MEMORY → IsSome session.old.held.value × HasFailed session.new.held.value × (size.new ≡ 0) }
     ensures status { IsTrue (is_one_of result (DONE ∷ CLOSED ∷ MEMORY ∷ [])) }
@@ -134,6 +135,40 @@ pub extern "C" fn dom_session_text(
     status
 }
 
+/// Shows the text of the last answer where it stands: writes the address of its first byte, and its size. Behind it stands a byte 0.
+/// They stay so until the next call with this handle. Where memory is refused for the byte 0, nothing is lost.
+#[unsafe(no_mangle)]
+pub extern "C" fn dom_session_answer(
+    alloc: Global,
+    session: &mut DomSession,
+    text: &mut *const u8,
+    size: &mut usize,
+) -> u32
+    ensures done { result ≡ DONE → HasText session.old.held.value (λ answer.
+        StandsAt session.new.held.value text.new (answer ++ 0 ∷ []) × (size.new ≡ length answer)) }
+    ensures closed { result ≡ CLOSED → (session.old.held.value ≡ None) × (size.new ≡ 0) }
+    ensures memory { result ≡ MEMORY → IsSome session.old.held.value × (size.new ≡ 0) }
+    ensures session { HoldSame session.old.held.value session.new.held.value }
+    ensures text { (result ≡ DONE → ⊥) → text.new ≡ text.old }
+    ensures status { IsTrue (is_one_of result (DONE ∷ CLOSED ∷ MEMORY ∷ [])) }
+{
+    *size = 0;
+    let Some(mut held) = session.take(alloc) else {
+        return CLOSED;
+    };
+    let shown = held.shown();
+    let count = held.size();
+    session.put(held);
+    match shown {
+        Ok(at) => {
+            *text = at;
+            *size = count;
+            DONE
+        }
+        Err(_) => MEMORY,
+    }
+}
+
 /// Copies as `dom_session_text` does, of the text's lines only those that begin with an owner's word, as `p`, `c1` or `c1.2`,
 /// and a space.
 #[unsafe(no_mangle)]
@@ -168,7 +203,7 @@ pub extern "C" fn dom_session_view(
     }
 }
 
-/// Closes a handle, and frees what it holds.
+/// Closes a handle. That what it held is freed is tested, and in no clause.
 #[unsafe(no_mangle)]
 pub extern "C" fn dom_session_drop(alloc: Global, session: &mut DomSession) -> u32
     ensures done { result ≡ DONE → IsSome session.old.held.value }

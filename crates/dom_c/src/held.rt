@@ -1,5 +1,5 @@
 //! What an open handle holds: a session and the text of its last answer.
-ghost use Rattle.std.specs.Prelude.{◌≡◌, true, false, [], IfOk, OnOk, OnErr, IsOk, option_map, length};
+ghost use Rattle.std.specs.Prelude.{◌≡◌, true, false, [], ◌∷◌, ◌++◌, None, IfOk, OnOk, OnErr, IsOk, option_map, length};
 ghost use Rattle.dom_model.specs.DocumentMachine.{first_world, step, finish};
 ghost use Rattle.dom_text.specs.Text.{output_text};
 ghost use Rattle.dom_text.specs.Decode.{decode};
@@ -11,17 +11,20 @@ use dom_reader::owner_of;
 use std::alloc::{AllocError, Global};
 use std::marker::Model;
 
-/// A session, and the text of what it answered last: none before its first line. After want of memory in one call every call
-/// answers `AllocError`.
+/// A session, and the text of what it answered last: none before its first line. The bytes are that text, and a 0 behind it where it
+/// was shown in place. After want of memory in a call of the session every call answers `AllocError`.
 #[derive(Drop)]
 pub struct Held {
     session: Session,
-    text: Vec<u8>,
+    bytes: Vec<u8>,
+    size: usize,
     has_failed: bool,
 }
 
 impl Model for Held {
+    ghost use Rattle.std.specs.Prelude.{◌≡◌, ◌<◌, ◌≤◌, [], ◌∷◌, ◌++◌, length, take};
     ghost use Rattle.std.specs.Coded.{codes};
+    ghost use Rattle.std_alloc.specs.Vec.{vec_ptr};
     ghost use Rattle.dom_model.specs.Codes.{trees_code};
     ghost use Rattle.dom_c.specs.State.{HeldState};
 
@@ -29,17 +32,26 @@ impl Model for Held {
 
     ghost coded = { Prim.hlevel (codes, trees_code) };
 
-    ghost view = { λ h. record { world = h.session.world; text = h.text.items; has_failed = h.has_failed } };
+    ghost view = { λ h. record {
+      world = h.session.world;
+      text = take h.size h.bytes.items;
+      at = vec_ptr h.bytes;
+      bytes = h.bytes.items;
+      has_failed = h.has_failed;
+    } };
+
+    ghost invariant = { λ h. (h.size ≤ length h.bytes.items) × (h.size < length h.bytes.items → h.bytes.items ≡ take h.size h.bytes.items ++ 0 ∷ []) };
 }
 
 impl Held {
     /// A session before its first line.
     pub(crate) fn new(alloc: Global) -> Result<Box<Held>, AllocError>
-        ensures { IfOk result (λ held. held.value ≡ record { world = first_world; text = []; has_failed = false }) }
+        ensures { IfOk result (λ held. (held.value.world ≡ first_world) × (held.value.text ≡ []) × (held.value.has_failed ≡ false)) }
     {
         let held = Held {
             session: Session::new(alloc)?,
-            text: Vec::new(alloc),
+            bytes: Vec::new(alloc),
+            size: 0,
             has_failed: false,
         };
         Ok(Box::new(alloc, held)?)
@@ -66,6 +78,7 @@ impl Held {
         ensures was { OnOk result (self.old.has_failed ≡ false) }
         ensures world { OnOk result (self.new.world ≡ (finish self.old.world).0) }
         ensures text { OnOk result (self.new.text ≡ output_text (finish self.old.world).1) }
+        ensures closed { OnOk result (self.new.world.turn ≡ None) }
         ensures ok { OnOk result (self.new.has_failed ≡ false) }
         ensures size { IfOk result (λ size. size ≡ length self.new.text) }
         ensures err { OnErr result (self.new.has_failed ≡ true) }
@@ -88,15 +101,22 @@ impl Held {
     {
         match answer {
             Ok(text) => {
-                let size = text.len();
-                self.text = text;
-                Ok(size)
+                self.size = text.len();
+                self.bytes = text;
+                Ok(self.size)
             }
             Err(error) => {
                 self.has_failed = true;
                 Err(error)
             }
         }
+    }
+
+    /// The size of the text of the last answer.
+    pub(crate) fn size(&self) -> usize
+        ensures { result ≡ length self.now.text }
+    {
+        self.size
     }
 
     /// The text of the last answer.
@@ -108,7 +128,25 @@ impl Held {
         if self.has_failed {
             return Err(AllocError);
         }
-        Ok(&self.text)
+        Ok(&self.bytes[..self.size])
+    }
+
+    /// Where the text of the last answer stands, with a 0 behind it. Where memory is refused for the 0, the session goes on.
+    pub(crate) fn shown(&mut self) -> Result<*const u8, AllocError>
+        ensures was { OnOk result (self.old.has_failed ≡ false) }
+        ensures at { IfOk result (λ at. at ≡ self.new.at) }
+        ensures bytes { OnOk result (self.new.bytes ≡ self.old.text ++ 0 ∷ []) }
+        ensures world { self.new.world ≡ self.old.world }
+        ensures text { self.new.text ≡ self.old.text }
+        ensures same { self.new.has_failed ≡ self.old.has_failed }
+    {
+        if self.has_failed {
+            return Err(AllocError);
+        }
+        if self.bytes.len() == self.size {
+            self.bytes.push(0)?;
+        }
+        Ok(self.bytes.as_ptr())
     }
 
     /// The lines of the last answer that begin with an owner's word; none where the word is no owner's.
@@ -128,7 +166,7 @@ impl Held {
         let Some(owner) = owner_of(word) else {
             return Ok(None);
         };
-        let seen = lines_seen_by(alloc, owner, &self.text);
+        let seen = lines_seen_by(alloc, owner, &self.bytes[..self.size]);
         self.has_failed = seen.is_err();
         Ok(Some(seen?))
     }

@@ -1,7 +1,7 @@
 //! Sessions for C: what the static library exports. `bindings/c/owlantimony.h` declares it.
 //!
 //! A handle is a block of the caller's own. All zero bytes are a closed handle; `dom_session_new` opens it, and `dom_session_drop`
-//! frees what it holds. Each call answers a status: `DONE`, or why not. Where memory is refused to a line, an ending or a view,
+//! closes it. Each call answers a status: `DONE`, or why not. Where memory is refused to a line, an ending or a view,
 //! every later call but `dom_session_drop` answers `MEMORY`. All own rules.
 #![tactic(auto)]
 
@@ -11,7 +11,7 @@ mod held;
 mod place;
 
 pub use exports::{
-    CLOSED, DONE, MEMORY, OPEN, OWNER, SHORT, dom_session_drop, dom_session_finish,
-    dom_session_line, dom_session_new, dom_session_text, dom_session_view,
+    CLOSED, DONE, MEMORY, OPEN, OWNER, SHORT, dom_session_answer, dom_session_drop,
+    dom_session_finish, dom_session_line, dom_session_new, dom_session_text, dom_session_view,
 };
 pub use handle::DomSession;

@@ -4,6 +4,7 @@ mod Selections
 mod Hosting
 mod InHand
 mod Outlines
+mod PutFirst
 mod Rearranged
 mod Rooms
 mod Written

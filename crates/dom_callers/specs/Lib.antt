@@ -3,6 +3,7 @@ pub mod Editing
 pub mod Focus
 pub mod Fronts
 pub mod Headings
+pub mod Items
 pub mod Labels
 pub mod Moving
 pub mod Notes

@@ -4,6 +4,7 @@
 
 mod arena;
 mod editing;
+mod items;
 mod moving;
 mod notes;
 mod observing;
@@ -18,6 +19,7 @@ mod widgets;
 
 pub use arena::move_to_front;
 pub use editing::rewrite;
+pub use items::{count_items, item_at, last_comes_first};
 pub use moving::move_before;
 pub use notes::{Note, write_note};
 pub use observing::watch_attributes;

@@ -4,15 +4,24 @@ ghost use Rattle.dom_model.specs.CommandRefusals.{past_limit};
 ghost use Rattle.dom_observers.specs.Owners.{tables_of, ChangesTables, KeepsTables};
 ghost use Rattle.dom_observers.specs.Tables.{with_observer, observing};
 ghost use Rattle.dom_callers.specs.Words.{attribute_words};
+ghost use Rattle.dom_tree.specs.Forest.{IsNode, name_of};
 
 use dom_base::{Fault, Owner, Refusal};
 use dom_observers::{Observers, Options};
+use dom_tree::Forest;
 use node_arena::Key;
 
-/// Makes an observer of the attributes of one node, and gives its number (DOM Standard, constructor of MutationObserver
+/// Makes an observer of the attributes of one node of an owner, and gives its number (DOM Standard, constructor of MutationObserver
 /// and observe()). It is refused with `Limit` where the owner has made a million observers; then nothing changes. It is
 /// refused with `Memory` where memory is refused; then nothing is observed, but the observer may have been made.
-pub fn watch_attributes(observers: &mut Observers, owner: Owner, node: Key) -> Result<u32, Fault>
+pub fn watch_attributes(
+    observers: &mut Observers,
+    forest: &Forest,
+    owner: Owner,
+    node: Key,
+) -> Result<u32, Fault>
+    requires node_is_node { IsNode forest.now node }
+    requires own { (name_of forest.now node).owner ≡ owner }
     ensures number { IfOk result (λ k. k ≡ length (tables_of observers.old owner).record_queues) }
     ensures tables { IfOk result (λ k. ChangesTables owner
         (observing nat_eq k node attribute_words (with_observer (tables_of observers.old owner))) observers.old observers.new) }
@@ -22,6 +31,7 @@ pub fn watch_attributes(observers: &mut Observers, owner: Owner, node: Key) -> R
     ensures err { OnErr result (KeepsTables observers.old observers.new ⊎
         ChangesTables owner (with_observer (tables_of observers.old owner)) observers.old observers.new) }
 {
+    dom_laws::law_names();
     let observer = observers.make(owner)?;
     let options = Options {
         child_list: false,
@@ -32,6 +42,6 @@ pub fn watch_attributes(observers: &mut Observers, owner: Owner, node: Key) -> R
         character_data_old_value: false,
         filter: None,
     };
-    observers.observe(owner, observer, node, options)?;
+    observers.observe(forest, owner, observer, node, options)?;
     Ok(observer)
 }

@@ -10,6 +10,7 @@ ghost use Rattle.dom_ranges.specs.Staying.{AreWithin};
 ghost use Rattle.dom_ranges.specs.Tables.{ranges_of, with_ranges, EachRange, BothEnds};
 
 use dom_base::{Fault, Owner, Refusal};
+use dom_laws::law_names;
 use dom_ranges::{RangeTable, law_ends_stay};
 use dom_tree::Forest;
 use node_arena::Key;
@@ -36,6 +37,7 @@ pub fn select_contents(
         AreWithin forest.now.names most ranges.old → OnOk result (AreWithin forest.now.names most ranges.new) }
 {
     law_ends_stay();
+    law_names();
     let number = ranges.make(owner, node)?;
     let length = forest.length(node);
     let Ok(()) = ranges.set_end(owner, number, forest, node, length) else {

@@ -18,7 +18,7 @@ use Rattle.dom_worlds.specs.Tables.{IsNodeIn}
 use Rattle.dom_worlds.proofs.TableWorlds.{each-part}
 use Rattle.dom_worlds.proofs.Tests.{either_way}
 use Rattle.dom_commands.specs.WithListeners.{hearing, heard}
-use Rattle.dom_range_commands.specs.RangeWorlds.{HasFirstNodes}
+use Rattle.dom_commands.specs.RangeWorlds.{HasFirstNodes}
 use Rattle.dom_commands.proofs.ListenerWorlds.{FitsIn, there-heard, part-heard}
 
 -- a part is written

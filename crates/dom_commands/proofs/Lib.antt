@@ -12,4 +12,5 @@ mod Listening
 mod Machines
 mod Opening
 mod RangeLaws
+mod RangePlans
 mod SameWorlds

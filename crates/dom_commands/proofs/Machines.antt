@@ -31,7 +31,7 @@ use Rattle.dom_dispatch.specs.ListenersByName.{IsListenerAt}
 use Rattle.dom_admission.specs.Handled.{IsHandled}
 use Rattle.dom_commands.specs.WithListeners.{heard, own_listeners}
 use Rattle.dom_commands.specs.Machine.{MachineNow, machine_now, IsAtRest, AreAtNodes, KeepsListeners}
-use Rattle.dom_range_commands.specs.RangeWorlds.{HasFirstNodes, HasLoneShadowRoots, HasRangeEnds}
+use Rattle.dom_commands.specs.RangeWorlds.{HasFirstNodes, HasLoneShadowRoots, HasRangeEnds}
 use Rattle.dom_admission.specs.Handled.{BeginsWith, KeepsNames}
 use Rattle.dom_commands.specs.CommandGroups.{is_plain}
 use Rattle.dom_commands.proofs.Bounded.{bounded-unheard, first_nodes-unheard}

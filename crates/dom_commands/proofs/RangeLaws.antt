@@ -19,7 +19,7 @@ use Rattle.dom_worlds.proofs.ReachedFacts.{no_other_shadow_roots, shadow_roots-a
 use Rattle.dom_worlds.specs.Tables.{EndsIn}
 use Rattle.dom_range_ops.specs.Extractions.{ShadowRootsHaveNoParent}
 use Rattle.dom_commands.specs.WithListeners.{heard}
-use Rattle.dom_range_commands.specs.RangeWorlds.{HasLoneShadowRoots, HasRangeEnds}
+use Rattle.dom_commands.specs.RangeWorlds.{HasLoneShadowRoots, HasRangeEnds}
 use Rattle.dom_commands.proofs.ListenerWorlds.{FitsIn, part-heard}
 
 -- the ends of live ranges stand at nodes also where the listeners are left out

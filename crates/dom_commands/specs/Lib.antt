@@ -2,3 +2,4 @@
 pub mod CommandGroups
 pub mod WithListeners
 pub mod Machine
+pub mod RangeWorlds

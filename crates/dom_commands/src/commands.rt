@@ -3,15 +3,14 @@ ghost use Rattle.std.specs.Prelude.{◌≡◌, true, false};
 ghost use Rattle.dom_worlds.specs.Bounds.{IsBounded};
 ghost use Rattle.dom_reader.specs.Views.{command_view};
 ghost use Rattle.dom_admission.specs.Handled.{IsHandled, KeepsNames};
-ghost use Rattle.dom_range_commands.specs.RangeWorlds.{HasFirstNodes, HasLoneShadowRoots, HasRangeEnds};
+ghost use Rattle.dom_commands.specs.RangeWorlds.{HasFirstNodes, HasLoneShadowRoots, HasRangeEnds};
 ghost use Rattle.dom_commands.specs.CommandGroups.{is_plain, is_change};
 
+use crate::ranging::perform_on_range;
 use dom_admission::State;
 use dom_base::{Fault, Owner};
 use dom_node_commands::{attributes, data, making, moving, shadows};
-use dom_observer_commands::{microtasks, observing};
-use dom_query_commands::{cursors, reads, selecting};
-use dom_range_commands::perform_on_range;
+use dom_query_commands::{cursors, microtasks, observing, reads, selecting};
 use dom_reader::Command;
 
 /// A command that neither reads listeners nor changes them, by its handler.

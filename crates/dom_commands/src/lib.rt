@@ -1,4 +1,4 @@
-//! What one line does: the dispatch of commands to their handlers, the listeners and the events, and the ends of turns.
+//! What one line does: the dispatch of commands to their handlers, the live ranges, the listeners and the events, and the ends of turns.
 #![tactic(auto)]
 
 mod answering;
@@ -6,6 +6,7 @@ mod calls;
 mod commands;
 mod events;
 mod machine;
+mod ranging;
 mod tasks;
 mod turns;
 

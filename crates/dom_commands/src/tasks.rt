@@ -12,8 +12,8 @@ use crate::machine::Machine;
 use dom_base::Owner;
 use dom_dispatch::EventInit;
 use dom_microtasks::{Queue, Task};
-use dom_observer_commands::microtasks::{take_signals, tell_observers};
 use dom_printer::put_micro;
+use dom_query_commands::microtasks::{take_signals, tell_observers};
 use node_arena::Key;
 use std::alloc::AllocError;
 

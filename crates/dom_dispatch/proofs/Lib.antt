@@ -5,3 +5,5 @@ mod Entered
 mod Visiting
 mod Placing
 mod Opening
+mod Staying
+mod Typed

@@ -21,6 +21,7 @@ use Rattle.dom_slots.proofs.Hosted.{key-test}
 use Rattle.dom_tree.specs.Forest.{name_at}
 use Rattle.dom_tree.specs.Apart.{TellApart}
 use Rattle.dom_path.specs.Items.{view_named}
+use Rattle.dom_dispatch.proofs.Staying.{all-kept, heard_by, called-at, visited-at}
 use Rattle.dom_dispatch.specs.ListenersByName.{listener_named, visit_named, line_named, dispatching_named, IsListenerAt, IsViewOf}
 
 -- two lists mapped are both mapped
@@ -46,15 +47,6 @@ filter-mapped f P {p} q same (x ∷ xs) h =
     sym (cond-true (q (f x)) (f x ∷ filter q (map f xs)) (filter q (map f xs)) (sym (same x h.0) ∙ e)))
     (λ e. ap (map f) (cond-false (p x) (x ∷ filter p xs) (filter p xs) e) ∙ rest ∙
     sym (cond-false (q (f x)) (f x ∷ filter q (map f xs)) (filter q (map f xs)) (sym (same x h.0) ∙ e)))
-
--- what holds of all holds of those that are kept
-all-kept : {X : Type 0} (P : X → Type 0) (p : X → Bool) (xs : List X) → AllByRecursion P xs → AllByRecursion P (filter p xs)
-all-kept P p [] h = tt
-all-kept P p (x ∷ xs) h = by (p x) (all-kept P p xs h.1)
-  where
-    by : (b : Bool) → AllByRecursion P (filter p xs) → AllByRecursion P (if b then x ∷ filter p xs else filter p xs)
-    by true rest = (h.0, rest)
-    by false rest = rest
 
 module _ (names : List NodeName) (apart : TellApart names) where
   abbrev name : ℕ → NodeName
@@ -110,14 +102,6 @@ module _ (names : List NodeName) (apart : TellApart names) where
       by true = unlistened-named ls h l.node k l.words.event l.words.label l.words.capture
       by false = refl
 
-  -- they are listeners of these nodes
-  kept-at : (l : Listener ℕ) (ls : List (Listener ℕ)) → AllByRecursion (IsListenerAt names) ls → AllByRecursion (IsListenerAt names) (kept_after nat_eq l ls)
-  kept-at l ls h = by l.words.once
-    where
-      by : (b : Bool) → AllByRecursion (IsListenerAt names) (if b then unlistened nat_eq l.node l.words.event l.words.label l.words.capture ls else ls)
-      by true = all-kept (IsListenerAt names) (λ m. not (is_listener nat_eq l.node l.words.event l.words.label l.words.capture m)) ls h
-      by false = h
-
   -- what an action does
   acted-named : (a : Action) (cancels : Bool) (s : Dispatching ℕ) →
       dispatching_named names (after_action a cancels s) ≡ after_action a cancels (dispatching_named names s)
@@ -126,18 +110,7 @@ module _ (names : List NodeName) (apart : TellApart names) where
   acted-named StopNow cancels s = refl
   acted-named Cancel cancels s = refl
 
-  -- it leaves the listeners
-  acted-listeners : (a : Action) (cancels : Bool) (s : Dispatching ℕ) → (after_action a cancels s).listeners ≡ s.listeners
-  acted-listeners Log cancels s = refl
-  acted-listeners Stop cancels s = refl
-  acted-listeners StopNow cancels s = refl
-  acted-listeners Cancel cancels s = refl
-
   module _ (e : EventWords) where
-    -- the state in which a listener acts
-    abbrev heard_by : Visit ℕ → Dispatching ℕ → Listener ℕ → Dispatching ℕ
-    heard_by v s l = record s { listeners = kept_after nat_eq l s.listeners; lines = s.lines ++ line_of v l.words ∷ [] }
-
     -- one call
     called-named : (v : Visit ℕ) (s : Dispatching ℕ) (l : Listener ℕ) → IsListenerAt names l → AllByRecursion (IsListenerAt names) s.listeners
         → dispatching_named names (called nat_eq e v s l) ≡ called name_eq e (visit_named names v) (dispatching_named names s) (listener_named names l)
@@ -163,16 +136,6 @@ module _ (names : List NodeName) (apart : TellApart names) where
               lines = map-join (line_named names) s.lines (line_of v l.words ∷ []) j;
             }))
 
-    -- it leaves listeners of these nodes
-    called-at : (v : Visit ℕ) (s : Dispatching ℕ) (l : Listener ℕ) → AllByRecursion (IsListenerAt names) s.listeners →
-        AllByRecursion (IsListenerAt names) (called nat_eq e v s l).listeners
-    called-at v s l h = by s.stopped_now
-      where
-        by : (b : Bool) → AllByRecursion (IsListenerAt names) (if b then s else after_action l.words.action (may_cancel e l.words) (heard_by v s l)).listeners
-        by true = h
-        by false = subst (AllByRecursion (IsListenerAt names)) (sym (acted-listeners l.words.action (may_cancel e l.words) (heard_by v s l)))
-            (kept-at l s.listeners h)
-
     -- the calls of some listeners
     calls-named : (v : Visit ℕ) (heard : List (Listener ℕ)) (s : Dispatching ℕ) → AllByRecursion (IsListenerAt names) heard →
         AllByRecursion (IsListenerAt names) s.listeners
@@ -180,14 +143,8 @@ module _ (names : List NodeName) (apart : TellApart names) where
         (map (listener_named names) heard)
     calls-named v [] s g h = refl
     calls-named v (l ∷ heard) s g h =
-        calls-named v heard (called nat_eq e v s l) g.1 (called-at v s l h)
+        calls-named v heard (called nat_eq e v s l) g.1 (called-at names e v s l h)
         ∙ ap (λ d. fold (called name_eq e (visit_named names v)) d (map (listener_named names) heard)) (called-named v s l g.0 h)
-
-    -- they leave listeners of these nodes
-    calls-at : (v : Visit ℕ) (heard : List (Listener ℕ)) (s : Dispatching ℕ) → AllByRecursion (IsListenerAt names) s.listeners →
-        AllByRecursion (IsListenerAt names) (fold (called nat_eq e v) s heard).listeners
-    calls-at v [] s h = h
-    calls-at v (l ∷ heard) s h = calls-at v heard (called nat_eq e v s l) (called-at v s l h)
 
     -- one visit
     visited-named : (v : Visit ℕ) → v.current < length names → (s : Dispatching ℕ) → AllByRecursion (IsListenerAt names) s.listeners
@@ -208,22 +165,13 @@ module _ (names : List NodeName) (apart : TellApart names) where
             calls-named v (filter (hears nat_eq e v) s.listeners) s (all-kept (IsListenerAt names) (hears nat_eq e v) s.listeners h) h
             ∙ ap (fold (called name_eq e (visit_named names v)) (dispatching_named names s)) hear
 
-    -- it leaves listeners of these nodes
-    visited-at : (v : Visit ℕ) (s : Dispatching ℕ) → AllByRecursion (IsListenerAt names) s.listeners →
-        AllByRecursion (IsListenerAt names) (visited nat_eq e s v).listeners
-    visited-at v s h = by s.stopped
-      where
-        by : (b : Bool) → AllByRecursion (IsListenerAt names) (if b then s else fold (called nat_eq e v) s (filter (hears nat_eq e v) s.listeners)).listeners
-        by true = h
-        by false = calls-at v (filter (hears nat_eq e v) s.listeners) s h
-
     -- all visits
     visits-named : (vs : List (Visit ℕ)) → AllByRecursion (λ v. v.current < length names) vs → (s : Dispatching ℕ) →
         AllByRecursion (IsListenerAt names) s.listeners
         → dispatching_named names (fold (visited nat_eq e) s vs) ≡ fold (visited name_eq e) (dispatching_named names s) (map (visit_named names) vs)
     visits-named [] g s h = refl
     visits-named (v ∷ vs) g s h =
-        visits-named vs g.1 (visited nat_eq e s v) (visited-at v s h)
+        visits-named vs g.1 (visited nat_eq e s v) (visited-at names e v s h)
         ∙ ap (λ d. fold (visited name_eq e) d (map (visit_named names) vs)) (visited-named v g.0 s h)
 
     -- ---- the visits of a path

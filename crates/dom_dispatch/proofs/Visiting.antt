@@ -1,7 +1,7 @@
 -- The steps of loops over listeners and over the visits of a path, and the dispatch in a world.
 use Rattle.std.proofs.Common.{◌≡◌, ℕ, ◌+◌, ◌<◌, Bool, true, false, cond, List, [], ◌∷◌, ◌++◌, length, get_or, take, drop, filter, fold, map, reverse}
 use Rattle.std.proofs.Common.{Option, Some, option_map, zero, suc, refl, sym, ap, ◌∙◌, arith, drop-cons}
-use Rattle.std.specs.Prelude.{slice_get}
+use Rattle.std.specs.Prelude.{◌&&◌, nat_eq, slice_get, if◌then◌else◌}
 use Rattle.std.specs.List.{AllByRecursion}
 use Rattle.std.proofs.lemmas.List.{map-append, reverse-append}
 use Rattle.std.proofs.lemmas.List.Elements.{filter_more}
@@ -10,7 +10,8 @@ use Rattle.std.proofs.lemmas.Option.{slice_get-map, slice_get-get_or, slice_get_
 use Rattle.dom_base.specs.declared.NodeName.{NodeName}
 use Rattle.dom_model.specs.Command.{EventWords}
 use Rattle.dom_model.specs.Dispatch.{event_output}
-use Rattle.dom_model.specs.Listeners.{Listener}
+use Rattle.dom_model.specs.Listeners.{Listener, Visit, hears, called, visited, begun}
+use Rattle.dom_model.specs.Names.{text_eq}
 use Rattle.dom_model.specs.Output.{EventLine}
 use Rattle.dom_model.specs.Paths.{View}
 use Rattle.dom_model.specs.World.{part_of}
@@ -67,6 +68,23 @@ module _ {D V W : Type 0} (step : D → W → D) (g : V → W) where
         a ∙ ap (λ d. step d (g v)) (b ∙ ap (λ m. fold step from (map g (reverse (drop m vs)))) next)
         ∙ sym (fold-append step from (map g rest) (g v ∷ []))
         ∙ ap (fold step from) (sym (ap (map g) (ap reverse all ∙ reverse-append (v ∷ []) (drop (suc k) vs)) ∙ map-append g rest (v ∷ [])))
+
+-- where nobody listens for its type a dispatch ends as it begins
+module _ (e : EventWords) where
+  unheard : (ls : List (Listener ℕ)) → AllByRecursion (λ l. text_eq l.words.event e.event ≡ false) ls → (v : Visit ℕ) → filter (hears nat_eq e v) ls ≡ []
+  unheard [] all v = refl
+  unheard (l ∷ ls) all v =
+      ap (λ b. if b then l ∷ filter (hears nat_eq e v) ls else filter (hears nat_eq e v) ls) (deaf (nat_eq l.node v.current) _ _ all.0) ∙
+      unheard ls all.1 v
+    where
+      deaf : (a b d : Bool) → b ≡ false → (a && (b && d)) ≡ false
+      deaf true b d none = ap (λ x. x && d) none
+      deaf false b d none = refl
+
+  pub silent : (ls : List (Listener ℕ)) → AllByRecursion (λ l. text_eq l.words.event e.event ≡ false) ls → (vs : List (Visit ℕ)) →
+      fold (visited nat_eq e) (begun ls) vs ≡ begun ls
+  silent ls all [] = refl
+  silent ls all (v ∷ vs) = ap (λ d. fold (visited nat_eq e) d vs) (ap (fold (called nat_eq e v) (begun ls)) (unheard ls all v)) ∙ silent ls all vs
 
 -- an item that is there
 there : {X : Type 0} (xs : List X) (i : ℕ) → i < length xs → (x : X) × (slice_get xs i ≡ Some x)

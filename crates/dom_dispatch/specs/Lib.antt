@@ -4,3 +4,4 @@ pub mod Kept
 pub mod Entries
 pub mod Dispatches
 pub mod Tables
+pub mod Staying

@@ -45,6 +45,12 @@ impl Listeners {
         forest.law_nodes_stand_once();
         let alloc = self.alloc;
         let path = Path::build(alloc, forest, slots, target, event.related, event.composed)?;
+        if !self.may_hear(event.name.as_str()) {
+            return Ok(Outcome {
+                answer: true,
+                lines: Vec::new(alloc),
+            });
+        }
         let mut so_far = Progress::new(alloc);
         self.capture(forest, &event, &path, &mut so_far)?;
         self.bubble(forest, &event, &path, &mut so_far)?;

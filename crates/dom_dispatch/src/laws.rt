@@ -1,6 +1,7 @@
 //! Laws of listeners and dispatch, for callers that keep a world.
 ghost use Rattle.dom_dispatch.specs.Kept.{DispatchedAmong, DispatchedAlong};
 ghost use Rattle.dom_dispatch.specs.ListenersByName.{ListenedByNames, UnlistenedByNames, DispatchedByNames};
+ghost use Rattle.dom_dispatch.specs.Staying.{NoneStay, MoreStay, ListenedStay, UnlistenedStay, DispatchedStay};
 
 /// Holds of every forest, since names tell its nodes apart: what is done to listeners by keys, and what a dispatch along the views of
 /// a path by keys does, is what is done by names (DOM Standard, 2.7 and 2.9).
@@ -16,4 +17,14 @@ pub fn law_keys_stand_for_names()
 pub fn law_one_list_serves_all()
     ensures names { DispatchedAmong }
     ensures keys { DispatchedAlong }
+{}
+
+/// Listeners stay at nodes after each call, and where there are more nodes, as `dispatch` and the other laws ask of them by names (own
+/// rule). So it is where nobody listens.
+pub fn law_listeners_stay()
+    ensures none { NoneStay }
+    ensures more { MoreStay }
+    ensures listened { ListenedStay }
+    ensures unlistened { UnlistenedStay }
+    ensures dispatched { DispatchedStay }
 {}

@@ -12,5 +12,5 @@ mod table;
 mod visit;
 
 pub use event::{EventInit, LogLine, Outcome};
-pub use laws::{law_keys_stand_for_names, law_one_list_serves_all};
+pub use laws::{law_keys_stand_for_names, law_listeners_stay, law_one_list_serves_all};
 pub use listeners::{ListenerInit, Listeners};

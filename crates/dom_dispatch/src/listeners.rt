@@ -1,7 +1,9 @@
 //! The listeners of all nodes.
-ghost use Rattle.std.specs.Prelude.{◌≡◌, nat_eq, [], string_bytes, IfOk, OnOk, OnErr};
+ghost use Rattle.std.specs.Prelude.{◌≡◌, ℕ, List, nat_eq, true, false, [], string_bytes, IfOk, OnOk, OnErr};
 ghost use Rattle.dom_model.specs.Listeners.{is_listener, listened, unlistened};
-ghost use Rattle.std.specs.List.{list_any};
+ghost use Rattle.std.specs.HashSet.{contains_text};
+ghost use Rattle.std.specs.List.{list_any, AllByRecursion};
+ghost use Rattle.dom_model.specs.Names.{text_eq};
 ghost use Rattle.dom_dispatch.specs.Entries.{words_of, listener_of, hears_at};
 
 use crate::table::Table;
@@ -9,6 +11,7 @@ use dom_attributes::is_same_text;
 use dom_base::Action;
 use node_arena::Key;
 use std::alloc::{AllocError, Global};
+use std::collections::HashSet;
 use std::marker::Model;
 
 /// The words with which a listener is added (DOM Standard, addEventListener(); own rule for the label and the action).
@@ -70,10 +73,11 @@ impl Entry {
 }
 
 /// The listeners of all nodes, in the order of adding (DOM Standard, concept: event listener list). A node's own are found by one
-/// look.
+/// look. The types for which there was a listener are kept, so that an event of another type visits no node.
 #[derive(Drop)]
 pub struct Listeners {
     pub(crate) table: Table,
+    types: HashSet<String>,
     pub(crate) alloc: Global,
 }
 
@@ -84,11 +88,11 @@ impl Model for Listeners {
     ghost Value = { List (Listener ℕ) };
 
     ghost use Rattle.dom_dispatch.specs.Entries.{listeners_in};
-    ghost use Rattle.dom_dispatch.specs.Tables.{present, IsIndexed};
+    ghost use Rattle.dom_dispatch.specs.Tables.{present, IsTable};
 
     ghost view = { λ l. listeners_in (present l.table.entries.items) };
 
-    ghost invariant = { λ l. IsIndexed l.table.places l.table.entries.items };
+    ghost invariant = { λ l. IsTable l.table.places l.table.entries.items l.types };
 }
 
 impl Listeners {
@@ -98,6 +102,7 @@ impl Listeners {
     {
         Listeners {
             table: Table::new(alloc),
+            types: HashSet::new(alloc),
             alloc,
         }
     }
@@ -111,7 +116,15 @@ impl Listeners {
         if self.has(node, &words) {
             return Ok(());
         }
+        note(self.alloc, &mut self.types, words.event.as_str())?;
         self.table.push(Entry { node, words })
+    }
+
+    /// Whether there may be a listener for events of this type: there was one.
+    pub(crate) fn may_hear(&self, event: &str) -> bool
+        ensures { result ≡ false → AllByRecursion (λ l. text_eq l.words.event event.now ≡ false) self.now }
+    {
+        self.types.contains(event)
     }
 
     /// Whether a node has a listener with the type, the label and the capture of these words.
@@ -136,4 +149,16 @@ impl Listeners {
             self.table.take(node, at);
         }
     }
+}
+
+/// Adds a type to those for which there was a listener.
+fn note(alloc: Global, types: &mut HashSet<String>, event: &str) -> Result<(), AllocError>
+    ensures kept { (text : List ℕ) → contains_text types.old text ≡ true → contains_text types.new text ≡ true }
+    ensures noted { OnOk result (contains_text types.new event.now ≡ true) }
+{
+    if types.contains(event) {
+        return Ok(());
+    }
+    let _ = types.insert(String::from_str(alloc, event)?)?;
+    Ok(())
 }

@@ -4,7 +4,7 @@ use Rattle.std.proofs.Common.{subst, ◌∙◌, append_assoc, append-nil, inl, i
 use Rattle.std.proofs.lemmas.List.{take-append-drop, take-append-le}
 use Rattle.std.proofs.lemmas.List.Elements.{filter-append}
 use Rattle.std.specs.Prelude.{⊤}
-use Rattle.std.specs.Io.KnownBytes.{Appends, IsAtEnd}
+use Rattle.std.specs.Io.KnownBytes.{IsAtEnd}
 use Rattle.std.proofs.KnownBytes.{Consumes-whole}
 use Rattle.dom_base.specs.declared.Owner.{Owner}
 use Rattle.dom_base.specs.declared.Owner.TheVariants.{Page, Component}
@@ -24,6 +24,7 @@ use Rattle.dom_isolation.proofs.PlainLines.{decode-reads_plain_words}
 use Rattle.dom_isolation.proofs.PlainTexts.{picked_lines-agree_so_far_in_full}
 use Rattle.dom_streams.specs.declared.fault.RunFault.{RunFault}
 use Rattle.dom_streams.specs.declared.fault.RunFault.TheVariants.{Read, Write, Memory, InputLimit}
+use Rattle.dom_streams.specs.Writing.{Taken, Takes}
 use Rattle.dom_engine.specs.Run.{answers, answers_to_end, finished_text, run_text, RunsToEnd, StopsAtWrite, StopsRun}
 use Rattle.dom_streams.specs.Views.{viewed}
 use Rattle.dom_engine.specs.PageLaws.{page_text_so_far, page_text_to_end, page_text, HasPage, page_seen, PageSees, PageSeesFront, PageSeesLinesNamed}
@@ -108,19 +109,19 @@ lines_of-taken count bytes more (inr none) =
 -- ---- faults
 
 -- A view, what is written from one state of a sink to the next, and a text at the front of another one.
-module _ (view : Option Owner) (old new : Option (List ℕ)) (seen rest all : List ℕ) (e : all ≡ seen ++ rest) where
+module _ (view : Option Owner) (old new : Taken) (seen rest all : List ℕ) (e : all ≡ seen ++ rest) where
   -- what the page sees is the one, so it is at the front of the other
   sees-front : PageSees view old new seen → PageSeesFront view old new all
-  sees-front s = record { written = s.written; appends = s.appends; back = rest; split = e ∙ ap (λ (x : List ℕ). x ++ rest) (sym s.seen) }
+  sees-front s = record { written = s.written; takes = s.takes; back = rest; split = e ∙ ap (λ (x : List ℕ). x ++ rest) (sym s.seen) }
 
   -- some first bytes of a text of which the page sees the one
-  sees-cut : {text : List ℕ} (front back : List ℕ) → text ≡ front ++ back → page_seen view text ≡ seen → Appends old new front →
+  sees-cut : {text : List ℕ} (front back : List ℕ) → text ≡ front ++ back → page_seen view text ≡ seen → Takes old new front →
       PageSeesFront view old new all
   sees-cut front back split is written =
       let cut = seen-front view front back in
       record {
         written = front;
-        appends = written;
+        takes = written;
         back = cut.0 ++ rest;
         split = e ∙ ap (λ (x : List ℕ). x ++ rest) (sym is ∙ ap (page_seen view) split ∙ cut.1) ∙ append_assoc (page_seen view front) cut.0 rest;
       }
@@ -128,12 +129,12 @@ module _ (view : Option Owner) (old new : Option (List ℕ)) (seen rest all : Li
 -- Of lines that pass, with what the page machine writes for them.
 module _ {so_far to_end : List (List ℕ) → List ℕ} {Passes : List (List ℕ) → Type 0} (machines : IsPageMachines so_far to_end Passes) where
   -- of a run that has come to its end
-  at-end : {view : Option Owner} {from to old new : Option (List ℕ)} (r : RunsToEnd view from to old new) → HasPage view →
+  at-end : {view : Option Owner} {from to : Option (List ℕ)} {old new : Taken} (r : RunsToEnd view from to old new) → HasPage view →
       Passes (lines_of r.given) → PageSees view old new (to_end (lines_of r.given))
   at-end {view = view} r p h =
       record {
         written = run_text view r.given;
-        appends = r.written;
+        takes = r.written;
         seen = seen-viewed view (answers_to_end (lines_of r.given)) p ∙ machines.ended r.given h;
       }
 
@@ -146,27 +147,27 @@ module _ {so_far to_end : List (List ℕ) → List ℕ} {Passes : List (List ℕ
   more-bytes bytes more = more-lines (cut_of bytes).finished (lines_of ((cut_of bytes).rest ++ more)) (lines_of (bytes ++ more)) (cut_of-append bytes more)
 
   -- A fault, where the lines named pass.
-  module _ (view : Option Owner) (from to old new : Option (List ℕ)) where
+  module _ (view : Option Owner) (from to : Option (List ℕ)) (old new : Taken) where
     -- the lines named
     lines-named : (e : RunFault) (s : StopsRun e view from to old new) → HasPage view → WritesWholeLines e →
         Passes (lines_named view from to old new e s) → PageSees view old new (so_far (lines_named view from to old new e s))
     lines-named Read s p whole h =
         record {
           written = finished_text view s.given;
-          appends = s.written;
+          takes = s.written;
           seen = seen-viewed view (answers first_world (cut_of s.given).finished) p ∙ machines.answered (cut_of s.given).finished h;
         }
     lines-named InputLimit s p whole h =
         record {
           written = finished_text view s.given;
-          appends = s.written;
+          takes = s.written;
           seen = seen-viewed view (answers first_world (cut_of s.given).finished) p ∙ machines.answered (cut_of s.given).finished h;
         }
     lines-named Memory s p whole h =
         let lines = take s.count (lines_of (s.early ++ s.late)) in
         record {
           written = viewed view (answers first_world lines);
-          appends = s.written;
+          takes = s.written;
           seen = seen-viewed view (answers first_world lines) p ∙ machines.answered lines h;
         }
     lines-named Write s p whole h = absurd whole
@@ -211,14 +212,14 @@ module _ {so_far to_end : List (List ℕ) → List ℕ} {Passes : List (List ℕ
     prefix-of Write s p h more follows = write-prefix s p h more follows
 
 -- The end of a run, with interference and without.
-pub page-at_end_in_full : {view : Option Owner} {from to old new : Option (List ℕ)} → RunsToEnd view from to old new
+pub page-at_end_in_full : {view : Option Owner} {from to : Option (List ℕ)} {old new : Taken} → RunsToEnd view from to old new
     → IfSome from (λ bytes. HasPage view → PageSees view old new (full_page_text bytes))
 page-at_end_in_full {view = view} {from = from} {to = to} {old = old} {new = new} r =
     Consumes-whole from to r.given (λ bytes. HasPage view → PageSees view old new (full_page_text bytes)) r.consumed r.at_end
     (λ p. at-end page-in_full r p tt)
 
 -- without
-pub page-at_end : {view : Option Owner} {from to old new : Option (List ℕ)} → RunsToEnd view from to old new
+pub page-at_end : {view : Option Owner} {from to : Option (List ℕ)} {old new : Taken} → RunsToEnd view from to old new
     → IfSome from (λ bytes. HasPage view → IsTrue (no_component_stops decode (lines_of bytes)) → PageSees view old new (page_text bytes))
 page-at_end {view = view} {from = from} {to = to} {old = old} {new = new} r =
     Consumes-whole from to r.given (λ bytes. HasPage view → IsTrue (no_component_stops decode (lines_of bytes)) →

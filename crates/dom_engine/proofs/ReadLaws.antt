@@ -2,8 +2,8 @@
 use Rattle.std.proofs.Common.{◌≡◌, ℕ, ◌<◌, ◌≤◌, ◌⊎◌, List, [], ◌∷◌, ◌++◌, length, length-append, ◌+◌, take, map, Option, refl, sym, ap, subst, ◌∙◌}
 use Rattle.std.proofs.Common.{append_assoc, append-nil, arith, inl, inr}
 use Rattle.std.proofs.lemmas.List.{length-map, take-map}
-use Rattle.std.specs.Io.KnownBytes.{Appends, Consumes, IsAtEnd}
-use Rattle.std.proofs.KnownBytes.{Appends-nil, Appends-trans, Consumes-nil, Consumes-trans}
+use Rattle.std.specs.Io.KnownBytes.{Consumes, IsAtEnd}
+use Rattle.std.proofs.KnownBytes.{Consumes-nil, Consumes-trans}
 use Rattle.dom_base.specs.declared.Owner.{Owner}
 use Rattle.dom_model.specs.World.{World}
 use Rattle.dom_model.specs.DocumentMachine.{first_world}
@@ -14,7 +14,8 @@ use Rattle.dom_streams.specs.declared.fault.RunFault.{RunFault}
 use Rattle.dom_streams.specs.declared.fault.RunFault.TheVariants.{Read, Write, Memory, InputLimit}
 use Rattle.dom_engine.specs.Run.{world_after, answers, ending, shown, finished_text, WritesSome, RunsToEnd, StopsRun, StopsAtRead, StopsAtWrite}
 use Rattle.dom_engine.specs.Run.{StopsAtMemory, StopsAtLimit, run_text, read_size, input_limit}
-use Rattle.dom_streams.specs.Writing.{AppendsFront, StopsWriting}
+use Rattle.dom_streams.specs.Writing.{Taken, Takes, TakesFront, StopsWriting}
+use Rattle.dom_streams.proofs.WriteLaws.{Takes-nil, Takes-trans}
 use Rattle.dom_streams.specs.Views.{viewed}
 use Rattle.dom_engine.specs.Reading.{HasRead, StopsOneRead, MoreAt}
 use Rattle.dom_engine.proofs.RunLaws.{world_after-append, world_after-kept, answers-kept, answers-ended, answers_to_end-split, viewed-append, shown-append}
@@ -28,7 +29,7 @@ pub start-kept : IsKept []
 start-kept = record { one_line = tt; short = omega arith }
 
 -- nothing was read yet
-pub read-none : {kept : List ℕ} {w : World} (view : Option Owner) (from old : Option (List ℕ)) → kept ≡ [] → w ≡ first_world →
+pub read-none : {kept : List ℕ} {w : World} (view : Option Owner) (from : Option (List ℕ)) (old : Taken) → kept ≡ [] → w ≡ first_world →
     HasRead [] view from from old old kept w
 read-none view from old k e =
     let none = fed-none [] start-kept in
@@ -86,19 +87,20 @@ nothing_next {given} {mid} few = record { near = omega arith; few = omega (arith
 
 -- ---- behind bytes that were read
 
-module _ {given : List ℕ} {view : Option Owner} {from mid old between : Option (List ℕ)} {kept : List ℕ} {w : World}
+module _ {given : List ℕ} {view : Option Owner} {from mid : Option (List ℕ)} {old between : Taken} {kept : List ℕ} {w : World}
     (read : HasRead given view from mid old between kept w) where
   -- what is kept behind them
   pub read-kept : IsKept kept
   read-kept = subst IsKept (sym read.kept_is) (fed-is_kept [] given)
 
   -- a read fails
-  pub stops-read : (to new : Option (List ℕ)) → length given ≤ input_limit → Consumes mid to [] → Appends between new [] → StopsAtRead view from to old new
+  pub stops-read : (to : Option (List ℕ)) (new : Taken) → length given ≤ input_limit → Consumes mid to [] → Takes between new [] →
+      StopsAtRead view from to old new
   stops-read to new few consumed written = record {
     given = given;
     few = few;
     consumed = subst (Consumes from to) (append-nil given) (Consumes-trans from mid to given [] read.consumed consumed);
-    written = subst (Appends old new) (append-nil _ ∙ finished-shown view given) (Appends-trans old between new _ [] read.written written);
+    written = subst (Takes old new) (append-nil _ ∙ finished-shown view given) (Takes-trans old between new _ [] read.written written);
   }
 
   -- there is more than a run reads
@@ -111,22 +113,22 @@ module _ {given : List ℕ} {view : Option Owner} {from mid old between : Option
     over = over.0;
     one_read = over.1;
     consumed = Consumes-trans from mid to given more read.consumed consumed;
-    written = subst (Appends old between) (finished-shown view given) read.written;
+    written = subst (Takes old between) (finished-shown view given) read.written;
   }
 
   -- One read more, behind all that a run reads, finds no end.
   pub stops-more : (e : RunFault) (more : List ℕ) (to : Option (List ℕ)) → length given ≡ input_limit → Consumes mid to more → MoreAt e more →
       StopsRun e view from to old between
-  stops-more Read more to full consumed at = stops-read to between (omega (arith, full)) (subst (Consumes mid to) at consumed) (Appends-nil between)
+  stops-more Read more to full consumed at = stops-read to between (omega (arith, full)) (subst (Consumes mid to) at consumed) (Takes-nil between)
   stops-more InputLimit more to full consumed at = stops-limit more to full at consumed
   stops-more Write more to full consumed at = absurd at
   stops-more Memory more to full consumed at = absurd at
 
   -- a write fails behind the lines of the bytes that were read
-  stops-write : {bytes : List ℕ} {to : Option (List ℕ)} (new : Option (List ℕ)) (text : List ℕ) → CameNext given bytes mid to
+  stops-write : {bytes : List ℕ} {to : Option (List ℕ)} (new : Taken) (text : List ℕ) → CameNext given bytes mid to
       → (finished_text view (given ++ bytes) ≡ shown view first_world (fed [] given).finished ++ text)
       ⊎ ((run_text view (given ++ bytes) ≡ shown view first_world (fed [] given).finished ++ text) × IsAtEnd to)
-      → AppendsFront between new text → StopsAtWrite view from to old new
+      → TakesFront between new text → StopsAtWrite view from to old new
   stops-write {bytes} {to} new text next which part = record {
     early = given;
     late = bytes;
@@ -136,8 +138,8 @@ module _ {given : List ℕ} {view : Option Owner} {from mid old between : Option
     front = part.front;
     back = part.back;
     split = elim which [ inl e ↦ inl (e ∙ behind) | inr e ↦ inr (e.0 ∙ behind, e.1) ];
-    written = subst (Appends old new) (ap (λ x. x ++ part.front) (finished-shown view given))
-        (Appends-trans old between new _ part.front read.written part.appends);
+    written = subst (Takes old new) (ap (λ x. x ++ part.front) (finished-shown view given))
+        (Takes-trans old between new _ part.front read.written part.takes);
   }
     where
       behind : shown view first_world (fed [] given).finished ++ text ≡ (finished_text view given ++ part.front) ++ part.back
@@ -147,7 +149,7 @@ module _ {given : List ℕ} {view : Option Owner} {from mid old between : Option
           ∙ ap (λ x. (x ++ part.front) ++ part.back) (finished-shown view given)
 
   -- a flush fails
-  pub stops-flush : (e : RunFault) (failed fails : ℕ) (new : Option (List ℕ)) → length given ≤ input_limit →
+  pub stops-flush : (e : RunFault) (failed fails : ℕ) (new : Taken) → length given ≤ input_limit →
       StopsWriting e failed fails between new [] ⊥ → StopsRun e view from mid old new
   stops-flush Write failed fails new few stops =
       let shows = shown view first_world (fed [] given).finished in
@@ -172,8 +174,8 @@ module _ {given : List ℕ} {view : Option Owner} {from mid old between : Option
       lines-more = fed-lines [] kept given bytes (given ++ bytes) read.kept_is refl
 
       -- they were read
-      pub read-more : {kept' : List ℕ} {w' : World} (to new : Option (List ℕ)) → Consumes mid to bytes → kept' ≡ (fed kept bytes).rest →
-          w' ≡ world_after w (fed kept bytes).finished → Appends between new (shown view' w (fed kept bytes).finished) →
+      pub read-more : {kept' : List ℕ} {w' : World} (to : Option (List ℕ)) (new : Taken) → Consumes mid to bytes → kept' ≡ (fed kept bytes).rest →
+          w' ≡ world_after w (fed kept bytes).finished → Takes between new (shown view' w (fed kept bytes).finished) →
           HasRead (given ++ bytes) view from to old new kept' w'
       read-more to new consumed k e written = record {
         consumed = Consumes-trans from mid to given bytes read.consumed consumed;
@@ -183,7 +185,7 @@ module _ {given : List ℕ} {view : Option Owner} {from mid old between : Option
       }
 
     -- memory is refused to lines behind those of the bytes that were read
-    stops-memory : {bytes : List ℕ} {to new : Option (List ℕ)} {more : List (List ℕ)} (rest : List (List ℕ)) → CameNext given bytes mid to
+    stops-memory : {bytes : List ℕ} {to : Option (List ℕ)} {new : Taken} {more : List (List ℕ)} (rest : List (List ℕ)) → CameNext given bytes mid to
         → map kept_line (lines_of (given ++ bytes)) ≡ ((fed [] given).finished ++ more) ++ rest
         → (length ((fed [] given).finished ++ more) ≤ length (cut_of (given ++ bytes)).finished) ⊎ IsAtEnd to →
         WritesSome between new (shown view' w) more → StopsAtMemory view from to old new
@@ -202,7 +204,7 @@ module _ {given : List ℕ} {view : Option Owner} {from mid old between : Option
           since = omega (arith, found.1, length-map (cut_of given).finished kept_line);
           within = omega (arith, found.0.within, length-map all kept_line);
           ended = elim ended [ inl few ↦ inl (omega (arith, few, found.2)) | inr end ↦ inr end ];
-          written = subst (Appends old new) front found.0.appends;
+          written = subst (Takes old new) front found.0.takes;
         }
 
     -- There is so much room for one read more.
@@ -216,7 +218,7 @@ module _ {given : List ℕ} {view : Option Owner} {from mid old between : Option
       }
 
       -- it meets a fault
-      pub stops-one_read : (e : RunFault) (to new : Option (List ℕ)) (failed fails : ℕ)
+      pub stops-one_read : (e : RunFault) (to : Option (List ℕ)) (new : Taken) (failed fails : ℕ)
           → StopsOneRead e room (shown view' w) kept mid to failed fails between new → StopsRun e view from to old new
       stops-one_read Read to new failed fails stops = stops-read to new (omega (arith, most)) stops.0 stops.1
       stops-one_read InputLimit to new failed fails stops = absurd stops
@@ -238,21 +240,21 @@ module _ {given : List ℕ} {view : Option Owner} {from mid old between : Option
 
     module _ (end : IsAtEnd mid) (few : length given ≤ input_limit) where
       -- The run's text is written where what is left at the end is.
-      pub ends-run : (new : Option (List ℕ))
-          → Appends between new (shown view' w (last_line kept) ++ viewed view' (ending (world_after w (last_line kept)))) → RunsToEnd view from mid old new
+      pub ends-run : (new : Taken)
+          → Takes between new (shown view' w (last_line kept) ++ viewed view' (ending (world_after w (last_line kept)))) → RunsToEnd view from mid old new
       ends-run new written =
-          let at_view = subst (λ x. Appends between new (shown x w (last_line kept) ++ viewed x (ending (world_after w (last_line kept))))) same written in
+          let at_view = subst (λ x. Takes between new (shown x w (last_line kept) ++ viewed x (ending (world_after w (last_line kept))))) same written in
           record {
             given = given;
             few = few;
             consumed = read.consumed;
             at_end = end;
-            written = subst (Appends old new) (sym (run_text-split view given kept w read.kept_is read.world_is))
-                (Appends-trans old between new _ _ read.written at_view);
+            written = subst (Takes old new) (sym (run_text-split view given kept w read.kept_is read.world_is))
+                (Takes-trans old between new _ _ read.written at_view);
           }
 
       -- A fault stops what is left at the end.
-      pub stops-end : (e : RunFault) (new : Option (List ℕ)) (failed fails : ℕ)
+      pub stops-end : (e : RunFault) (new : Taken) (failed fails : ℕ)
           → StopsWriting e failed fails between new (shown view' w (last_line kept) ++ viewed view' (ending (world_after w (last_line kept))))
           (WritesSome between new (shown view' w) (last_line kept))
           → StopsRun e view from mid old new
@@ -264,11 +266,11 @@ module _ {given : List ℕ} {view : Option Owner} {from mid old between : Option
           stops-memory [] (nothing_next few) whole (inr end) stops.1
       stops-end Write new failed fails stops =
           let text = ap (run_text view) (append-nil given) ∙ run_text-split view given kept w read.kept_is read.world_is in
-          let at_view = subst (λ x. AppendsFront between new (shown x w (last_line kept) ++ viewed x (ending (world_after w (last_line kept))))) same stops.1 in
+          let at_view = subst (λ x. TakesFront between new (shown x w (last_line kept) ++ viewed x (ending (world_after w (last_line kept))))) same stops.1 in
           stops-write new _ (nothing_next few) (inr (text, end)) at_view
 
 -- Memory is refused before anything is read.
-pub stops-before : (view : Option Owner) (from old : Option (List ℕ)) → StopsAtMemory view from from old old
+pub stops-before : (view : Option Owner) (from : Option (List ℕ)) (old : Taken) → StopsAtMemory view from from old old
 stops-before view from old = record {
   early = [];
   late = [];

@@ -2,8 +2,8 @@
 use Rattle.std.proofs.Common.{◌≡◌, ℕ, List, [], ◌∷◌, ◌++◌, map, filter, Option, Some, None, refl, sym, ap, subst, ◌∙◌, append-nil, arith}
 use Rattle.std.proofs.lemmas.List.{map-append}
 use Rattle.std.proofs.lemmas.List.Elements.{filter-append}
-use Rattle.std.specs.Io.KnownBytes.{Appends}
-use Rattle.std.proofs.KnownBytes.{Appends-nil}
+use Rattle.dom_streams.specs.Writing.{Taken, Takes}
+use Rattle.dom_streams.proofs.WriteLaws.{Takes-nil}
 use Rattle.dom_base.specs.declared.Owner.{Owner}
 use Rattle.dom_model.specs.Command.{Line}
 use Rattle.dom_model.specs.Runs.{Run, run_then, run_each}
@@ -118,5 +118,5 @@ pub shown-append : (view : Option Owner) (w : World) (xs ys : List (List ℕ)) �
 shown-append view w xs ys = ap (viewed view) (answers-append w xs ys) ∙ viewed-append view (answers w xs) (answers (world_after w xs) ys) (answers-ended w xs)
 
 -- nothing is written of no line
-pub none_written : (a : Option (List ℕ)) (view : Option Owner) (w : World) (lines : List (List ℕ)) → WritesSome a a (shown view w) lines
-none_written a view w lines = record { count = 0; within = omega arith; appends = subst (Appends a a) (sym (shown-none view w)) (Appends-nil a) }
+pub none_written : (a : Taken) (view : Option Owner) (w : World) (lines : List (List ℕ)) → WritesSome a a (shown view w) lines
+none_written a view w lines = record { count = 0; within = omega arith; takes = subst (Takes a a) (sym (shown-none view w)) (Takes-nil a) }

@@ -1,6 +1,6 @@
 -- What a run writes of the page: the isolation theorem for the engine's runs, at their end and where a fault stops them.
 use Rattle.std.specs.Prelude.{◌≡◌, ℕ, IsTrue, List, [], ◌++◌, take, Option, None, Some, ⊤}
-use Rattle.std.specs.Io.KnownBytes.{Appends, IsAtEnd}
+use Rattle.std.specs.Io.KnownBytes.{IsAtEnd}
 use Rattle.dom_base.specs.declared.Owner.{Owner}
 use Rattle.dom_base.specs.declared.Owner.TheVariants.{Page, Component}
 use Rattle.dom_model.specs.PageMachine.{first_page, run_page, page_outputs_of}
@@ -12,6 +12,7 @@ use Rattle.dom_text.specs.Text.{output_text}
 use Rattle.dom_text.specs.Decode.{decode}
 use Rattle.dom_streams.specs.declared.fault.RunFault.{RunFault}
 use Rattle.dom_streams.specs.declared.fault.RunFault.TheVariants.{Read, Write, Memory, InputLimit}
+use Rattle.dom_streams.specs.Writing.{Taken, Takes}
 use Rattle.dom_engine.specs.Run.{run_text, StopsRun}
 use Rattle.dom_streams.specs.Views.{viewed}
 
@@ -74,19 +75,19 @@ page_seen None text = viewed (Some Page) text
 page_seen (Some o) text = text
 
 -- of what is written the page sees this text
-pub record PageSees (view : Option Owner) (old new : Option (List ℕ)) (text : List ℕ) : Type 0 where
+pub record PageSees (view : Option Owner) (old new : Taken) (text : List ℕ) : Type 0 where
   pub written : List ℕ
-  pub appends : Appends old new written
+  pub takes : Takes old new written
   pub seen : page_seen view written ≡ text
 
 -- of what is written the page sees some first bytes of this text
-pub record PageSeesFront (view : Option Owner) (old new : Option (List ℕ)) (text : List ℕ) : Type 0 where
+pub record PageSeesFront (view : Option Owner) (old new : Taken) (text : List ℕ) : Type 0 where
   pub written : List ℕ
-  pub appends : Appends old new written
+  pub takes : Takes old new written
   pub back : List ℕ
   pub split : text ≡ page_seen view written ++ back
 
-module _ (view : Option Owner) (from to old new : Option (List ℕ)) where
+module _ (view : Option Owner) (from to : Option (List ℕ)) (old new : Taken) where
   -- the bytes that were read when a fault stopped a run
   abbrev pub bytes_read : (e : RunFault) → StopsRun e view from to old new → List ℕ
   bytes_read Read s = s.given
@@ -119,14 +120,15 @@ WritesWholeLines InputLimit = ⊤
 -- without the ending, where no component listener of these lines stops or cancels.
 abbrev pub PageSeesLinesNamed : Type 0
 PageSeesLinesNamed =
-    (view : Option Owner) (from to old new : Option (List ℕ)) (e : RunFault) (s : StopsRun e view from to old new) → HasPage view → WritesWholeLines e →
+    (view : Option Owner) (from to : Option (List ℕ)) (old new : Taken) (e : RunFault) (s : StopsRun e view from to old new) → HasPage view →
+    WritesWholeLines e →
     IsTrue (no_component_stops decode (lines_named view from to old new e s)) → PageSees view old new (page_text_so_far (lines_named view from to old new e s))
 
 -- On every fault it sees some first bytes of the page machine's output on the trace of any input that begins with the bytes
 -- read; where the end was reached, that input is these bytes.
 abbrev pub PageSeesPrefix : Type 0
 PageSeesPrefix =
-    (view : Option Owner) (from to old new : Option (List ℕ)) (e : RunFault) (s : StopsRun e view from to old new) → HasPage view →
+    (view : Option Owner) (from to : Option (List ℕ)) (old new : Taken) (e : RunFault) (s : StopsRun e view from to old new) → HasPage view →
     IsTrue (no_component_stops decode (lines_named view from to old new e s)) →
     (more : List ℕ) → MayFollow e to more → PageSeesFront view old new (page_text (bytes_read view from to old new e s ++ more))
 
@@ -134,12 +136,13 @@ PageSeesPrefix =
 -- without the ending.
 abbrev pub PageSeesLinesNamedInFull : Type 0
 PageSeesLinesNamedInFull =
-    (view : Option Owner) (from to old new : Option (List ℕ)) (e : RunFault) (s : StopsRun e view from to old new) → HasPage view → WritesWholeLines e →
+    (view : Option Owner) (from to : Option (List ℕ)) (old new : Taken) (e : RunFault) (s : StopsRun e view from to old new) → HasPage view →
+    WritesWholeLines e →
     PageSees view old new (full_page_text_so_far (lines_named view from to old new e s))
 
 -- On every fault it sees some first bytes of the page machine's output on the full trace of any input that begins with the bytes
 -- read; where the end was reached, that input is these bytes.
 abbrev pub PageSeesPrefixInFull : Type 0
 PageSeesPrefixInFull =
-    (view : Option Owner) (from to old new : Option (List ℕ)) (e : RunFault) (s : StopsRun e view from to old new) → HasPage view →
+    (view : Option Owner) (from to : Option (List ℕ)) (old new : Taken) (e : RunFault) (s : StopsRun e view from to old new) → HasPage view →
     (more : List ℕ) → MayFollow e to more → PageSeesFront view old new (full_page_text (bytes_read view from to old new e s ++ more))

@@ -1,6 +1,6 @@
 -- What a run writes: the output of the lines that it reads, and of a view the lines of one owner.
 use Rattle.std.specs.Prelude.{◌≡◌, ◌⊎◌, ℕ, ◌+◌, ◌^◌, ◌<◌, ◌≤◌, List, [], ◌++◌, length, take, map, Option, Some, None, Result, Ok, Err}
-use Rattle.std.specs.Io.KnownBytes.{Appends, Consumes, IsAtEnd}
+use Rattle.std.specs.Io.KnownBytes.{Consumes, IsAtEnd}
 use Rattle.dom_base.specs.declared.Owner.{Owner}
 use Rattle.dom_model.specs.World.{World}
 use Rattle.dom_model.specs.DocumentMachine.{first_world, run_lines, finish, run_to_end}
@@ -10,7 +10,7 @@ use Rattle.dom_text.specs.Decode.{decode}
 use Rattle.dom_streams.specs.declared.fault.RunFault.{RunFault}
 use Rattle.dom_streams.specs.declared.fault.RunFault.TheVariants.{Read, Write, Memory, InputLimit}
 use Rattle.dom_streams.specs.Views.{viewed}
-use Rattle.dom_streams.specs.Writing.{EndsWriting}
+use Rattle.dom_streams.specs.Writing.{Taken, Takes, EndsWriting}
 
 -- the world after the lines
 unfoldable pub world_after : World → List (List ℕ) → World
@@ -41,14 +41,14 @@ abbrev pub shown : Option Owner → World → List (List ℕ) → List ℕ
 shown view w lines = viewed view (answers w lines)
 
 -- what is written of some first lines was written
-pub record WritesSome (old new : Option (List ℕ)) (text : List (List ℕ) → List ℕ) (lines : List (List ℕ)) : Type 0 where
+pub record WritesSome (old new : Taken) (text : List (List ℕ) → List ℕ) (lines : List (List ℕ)) : Type 0 where
   pub count : ℕ
   pub within : count ≤ length lines
-  pub appends : Appends old new (text (take count lines))
+  pub takes : Takes old new (text (take count lines))
 
 -- How the running of lines ends, of which this text is written: all of it is, or a fault stops it, at Memory behind some of
 -- the lines.
-abbrev pub EndsLines : {A : Type 0} → Result A RunFault → ℕ → ℕ → Option (List ℕ) → Option (List ℕ) → (List (List ℕ) → List ℕ) → List (List ℕ) → Type 0
+abbrev pub EndsLines : {A : Type 0} → Result A RunFault → ℕ → ℕ → Taken → Taken → (List (List ℕ) → List ℕ) → List (List ℕ) → Type 0
 EndsLines r failed fails old new text lines = EndsWriting r failed fails old new (text lines) (WritesSome old new text lines)
 
 -- the count of a sink's failed calls: one more where a write or the flush failed, and else the same
@@ -88,35 +88,35 @@ ReadsWithin (Err Memory) old new = new ≤ old + input_limit
 ReadsWithin (Err InputLimit) old new = (old + input_limit < new) × (new ≤ old + read_most)
 
 -- The end was reached: all bytes were read, they are no more than a run reads, and the whole run's text is written.
-pub record RunsToEnd (view : Option Owner) (from to old new : Option (List ℕ)) : Type 0 where
+pub record RunsToEnd (view : Option Owner) (from to : Option (List ℕ)) (old new : Taken) : Type 0 where
   pub given : List ℕ
   pub few : length given ≤ input_limit
   pub consumed : Consumes from to given
   pub at_end : IsAtEnd to
-  pub written : Appends old new (run_text view given)
+  pub written : Takes old new (run_text view given)
 
 -- Faults. The bytes that were read are no more than a run reads, but for those of the one read more that decides at the limit.
 
 -- A read failed: what is written is the text of the lines that the bytes read before it end.
-pub record StopsAtRead (view : Option Owner) (from to old new : Option (List ℕ)) : Type 0 where
+pub record StopsAtRead (view : Option Owner) (from to : Option (List ℕ)) (old new : Taken) : Type 0 where
   pub given : List ℕ
   pub few : length given ≤ input_limit
   pub consumed : Consumes from to given
-  pub written : Appends old new (finished_text view given)
+  pub written : Takes old new (finished_text view given)
 
 -- There are more bytes than a run reads: what is written is the text of the lines that those end which it does read.
-pub record StopsAtLimit (view : Option Owner) (from to old new : Option (List ℕ)) : Type 0 where
+pub record StopsAtLimit (view : Option Owner) (from to : Option (List ℕ)) (old new : Taken) : Type 0 where
   pub given : List ℕ
   pub more : List ℕ
   pub full : length given ≡ input_limit
   pub over : 0 < length more
   pub one_read : length more ≤ read_size
   pub consumed : Consumes from to (given ++ more)
-  pub written : Appends old new (finished_text view given)
+  pub written : Takes old new (finished_text view given)
 
 -- Memory was refused: what is written is the text of some first lines of the bytes read, among them all that are ended
 -- before the bytes of the last read; a line that is not ended is among them only at the end of the input.
-pub record StopsAtMemory (view : Option Owner) (from to old new : Option (List ℕ)) : Type 0 where
+pub record StopsAtMemory (view : Option Owner) (from to : Option (List ℕ)) (old new : Taken) : Type 0 where
   pub early : List ℕ
   pub late : List ℕ
   pub near : length late ≤ read_size
@@ -126,11 +126,11 @@ pub record StopsAtMemory (view : Option Owner) (from to old new : Option (List �
   pub since : length (cut_of early).finished ≤ count
   pub within : count ≤ length (lines_of (early ++ late))
   pub ended : (count ≤ length (cut_of (early ++ late)).finished) ⊎ IsAtEnd to
-  pub written : Appends old new (viewed view (answers first_world (take count (lines_of (early ++ late)))))
+  pub written : Takes old new (viewed view (answers first_world (take count (lines_of (early ++ late)))))
 
 -- A write or the flush failed: what is written is the text of the lines that are ended before the bytes of the last read,
 -- and some first bytes of what comes behind it.
-pub record StopsAtWrite (view : Option Owner) (from to old new : Option (List ℕ)) : Type 0 where
+pub record StopsAtWrite (view : Option Owner) (from to : Option (List ℕ)) (old new : Taken) : Type 0 where
   pub early : List ℕ
   pub late : List ℕ
   pub near : length late ≤ read_size
@@ -140,10 +140,10 @@ pub record StopsAtWrite (view : Option Owner) (from to old new : Option (List �
   pub back : List ℕ
   pub split : (finished_text view (early ++ late) ≡ (finished_text view early ++ front) ++ back)
       ⊎ ((run_text view (early ++ late) ≡ (finished_text view early ++ front) ++ back) × IsAtEnd to)
-  pub written : Appends old new (finished_text view early ++ front)
+  pub written : Takes old new (finished_text view early ++ front)
 
 -- how a fault stops a run, of what it has read and written
-abbrev pub StopsRun : RunFault → Option Owner → Option (List ℕ) → Option (List ℕ) → Option (List ℕ) → Option (List ℕ) → Type 0
+abbrev pub StopsRun : RunFault → Option Owner → Option (List ℕ) → Option (List ℕ) → Taken → Taken → Type 0
 StopsRun Read view from to old new = StopsAtRead view from to old new
 StopsRun Write view from to old new = StopsAtWrite view from to old new
 StopsRun Memory view from to old new = StopsAtMemory view from to old new

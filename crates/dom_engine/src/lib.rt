@@ -6,6 +6,6 @@ pub mod laws;
 mod runner;
 mod session;
 
-pub use dom_streams::{FromReader, IntoWriter, RunFault, Sink, Source, lines_seen_by};
+pub use dom_streams::{Count, FromReader, IntoWriter, RunFault, Sink, Source, lines_seen_by};
 pub use runner::run;
 pub use session::Session;

@@ -3,15 +3,15 @@
 ghost use Rattle.std.specs.Prelude.{◌≡◌, ◌+◌, ◌<◌, ◌≤◌, ℕ, List, ◌∷◌, [], ◌++◌, length, map, take, IsTrue, IfErr, IfOk, IfSome, OnOk};
 ghost use Rattle.std.specs.Io.{ReadsAtMost};
 ghost use Rattle.dom_streams.specs.Streams.{CountsBytes};
-ghost use Rattle.std.specs.Io.KnownBytes.{Appends, Consumes, IsAtEnd, ReadConsumes};
+ghost use Rattle.std.specs.Io.KnownBytes.{Consumes, IsAtEnd, ReadConsumes};
 ghost use Rattle.dom_model.specs.DocumentMachine.{first_world};
 ghost use Rattle.dom_model.specs.Trace.{no_component_stops};
 ghost use Rattle.dom_text.specs.Decode.{decode};
 ghost use Rattle.dom_text.specs.Lines.{last_line, lines_of};
 ghost use Rattle.dom_reader.specs.Streams.{fed, IsKept};
 ghost use Rattle.dom_engine.specs.Run.{world_after, ending, shown, EndsLines, WritesSome, CountsReads, CountsWrites, ReadsWithin, RunsToEnd};
-ghost use Rattle.dom_engine.specs.Run.{StopsRun, read_most, read_size};
-ghost use Rattle.dom_streams.specs.Writing.{EndsWriting};
+ghost use Rattle.dom_engine.specs.Run.{StopsRun, read_size};
+ghost use Rattle.dom_streams.specs.Writing.{EndsWriting, Takes};
 ghost use Rattle.dom_streams.specs.Views.{viewed};
 ghost use Rattle.dom_engine.specs.Reading.{HasReadAll, LeavesMore, ReadsMore, StopsOneRead};
 ghost use Rattle.dom_engine.specs.PageLaws.{HasPage, PageSees, page_text, full_page_text};
@@ -52,17 +52,15 @@ impl Runner {
 
     /// Runs all that the source gives, and the ending.
     fn run_all<R: Source, W: Sink>(&mut self, source: &mut R, sink: &mut W) -> Result<(), RunFault>
-        requires reads { R.failures source.old < u64.MAX }
-        requires within { R.delivered source.old + read_most ≤ u64.MAX }
-        requires writes { W.failures sink.old < u64.MAX }
         requires splitter { self.old.splitter ≡ [] }
         requires world { self.old.session.world ≡ first_world }
-        ensures ok { OnOk result (RunsToEnd self.old.view (R.remaining source.old) (R.remaining source.new) (W.contents sink.old) (W.contents sink.new)) }
+        ensures ok { OnOk result (RunsToEnd self.old.view (R.remaining source.old) (R.remaining source.new)
+            (W.contents sink.old, W.taken sink.old) (W.contents sink.new, W.taken sink.new)) }
         ensures reads { CountsReads result (R.failures source.old) (R.failures source.new) }
         ensures delivered { ReadsWithin result (R.delivered source.old) (R.delivered source.new) }
         ensures writes { CountsWrites result (W.failures sink.old) (W.failures sink.new) }
         ensures stops { IfErr result (λ e. StopsRun e self.old.view (R.remaining source.old) (R.remaining source.new)
-            (W.contents sink.old) (W.contents sink.new)) }
+            (W.contents sink.old, W.taken sink.old) (W.contents sink.new, W.taken sink.new)) }
     {
         self.read_all(source, sink)?;
         self.run_end(sink)
@@ -70,8 +68,8 @@ impl Runner {
 
     /// Runs one line, and writes its output.
     fn run_line<W: Sink>(&mut self, sink: &mut W, line: &[u8]) -> Result<(), RunFault>
-        requires { W.failures sink.old < u64.MAX }
-        ensures written { EndsLines result (W.failures sink.old) (W.failures sink.new) (W.contents sink.old) (W.contents sink.new)
+        ensures written { EndsLines result (W.failures sink.old) (W.failures sink.new)
+            (W.contents sink.old, W.taken sink.old) (W.contents sink.new, W.taken sink.new)
             (shown self.old.view self.old.session.world) (line.now ∷ []) }
         ensures world { OnOk result (self.new.session.world ≡ world_after self.old.session.world (line.now ∷ [])) }
         ensures splitter { self.new.splitter ≡ self.old.splitter }
@@ -84,8 +82,8 @@ impl Runner {
 
     /// Runs lines one after another, each one's output being written before the next is run.
     fn run_lines<W: Sink>(&mut self, sink: &mut W, lines: &[Vec<u8>]) -> Result<(), RunFault>
-        requires { W.failures sink.old < u64.MAX }
-        ensures written { EndsLines result (W.failures sink.old) (W.failures sink.new) (W.contents sink.old) (W.contents sink.new)
+        ensures written { EndsLines result (W.failures sink.old) (W.failures sink.new)
+            (W.contents sink.old, W.taken sink.old) (W.contents sink.new, W.taken sink.new)
             (shown self.old.view self.old.session.world) (map (λ line. line.items) lines.now) }
         ensures world { OnOk result (self.new.session.world ≡ world_after self.old.session.world (map (λ line. line.items) lines.now)) }
         ensures splitter { self.new.splitter ≡ self.old.splitter }
@@ -99,8 +97,8 @@ impl Runner {
 
     /// Takes a piece of the input, and runs the lines that it ends.
     fn take_piece<W: Sink>(&mut self, sink: &mut W, piece: &[u8]) -> Result<(), RunFault>
-        requires { W.failures sink.old < u64.MAX }
-        ensures written { EndsLines result (W.failures sink.old) (W.failures sink.new) (W.contents sink.old) (W.contents sink.new)
+        ensures written { EndsLines result (W.failures sink.old) (W.failures sink.new)
+            (W.contents sink.old, W.taken sink.old) (W.contents sink.new, W.taken sink.new)
             (shown self.old.view self.old.session.world) (fed self.old.splitter piece.now).finished }
         ensures world { OnOk result (self.new.session.world ≡ world_after self.old.session.world (fed self.old.splitter piece.now).finished) }
         ensures splitter { OnOk result (self.new.splitter ≡ (fed self.old.splitter piece.now).rest) }
@@ -114,9 +112,9 @@ impl Runner {
     /// copy. Each other piece of them has one line feed at most, so that memory which is refused to a piece is refused to one
     /// line.
     fn take_bytes<W: Sink>(&mut self, sink: &mut W, bytes: &[u8]) -> Result<(), RunFault>
-        requires writes { W.failures sink.old < u64.MAX }
         requires kept { IsKept self.old.splitter }
-        ensures written { EndsLines result (W.failures sink.old) (W.failures sink.new) (W.contents sink.old) (W.contents sink.new)
+        ensures written { EndsLines result (W.failures sink.old) (W.failures sink.new)
+            (W.contents sink.old, W.taken sink.old) (W.contents sink.new, W.taken sink.new)
             (shown self.old.view self.old.session.world) (fed self.old.splitter bytes.now).finished }
         ensures world { OnOk result (self.new.session.world ≡ world_after self.old.session.world (fed self.old.splitter bytes.now).finished) }
         ensures splitter { OnOk result (self.new.splitter ≡ (fed self.old.splitter bytes.now).rest) }
@@ -144,9 +142,6 @@ impl Runner {
         sink: &mut W,
         buffer: &mut [u8],
     ) -> Result<usize, RunFault>
-        requires reads { R.failures source.old < u64.MAX }
-        requires within { R.delivered source.old + length buffer.old ≤ u64.MAX }
-        requires writes { W.failures sink.old < u64.MAX }
         requires kept { IsKept self.old.splitter }
         requires room { 0 < length buffer.old }
         ensures bound { ReadsAtMost result buffer.new }
@@ -155,14 +150,15 @@ impl Runner {
         ensures splitter { IfOk result (λ n. self.new.splitter ≡ (fed self.old.splitter (take n buffer.new)).rest) }
         ensures world { IfOk result (λ n. self.new.session.world ≡ world_after self.old.session.world (fed self.old.splitter (take n buffer.new)).finished) }
         ensures view { self.new.view ≡ self.old.view }
-        ensures written { IfOk result (λ n. Appends (W.contents sink.old) (W.contents sink.new)
+        ensures written { IfOk result (λ n. Takes (W.contents sink.old, W.taken sink.old) (W.contents sink.new, W.taken sink.new)
             (shown self.old.view self.old.session.world (fed self.old.splitter (take n buffer.new)).finished)) }
         ensures delivered { IfOk result (λ n. R.delivered source.new ≡ R.delivered source.old + n) }
         ensures few { R.delivered source.new ≤ R.delivered source.old + length buffer.old }
         ensures reads { CountsReads result (R.failures source.old) (R.failures source.new) }
         ensures writes { CountsWrites result (W.failures sink.old) (W.failures sink.new) }
         ensures stops { IfErr result (λ e. StopsOneRead e (length buffer.old) (shown self.old.view self.old.session.world) self.old.splitter
-            (R.remaining source.old) (R.remaining source.new) (W.failures sink.old) (W.failures sink.new) (W.contents sink.old) (W.contents sink.new)) }
+            (R.remaining source.old) (R.remaining source.new) (W.failures sink.old) (W.failures sink.new)
+            (W.contents sink.old, W.taken sink.old) (W.contents sink.new, W.taken sink.new)) }
     {
         flush_before_read(source, sink)?;
         let n = read_some(source, buffer)?;
@@ -173,19 +169,16 @@ impl Runner {
     /// Reads to the end of the source, and runs the lines that are ended by then. Past the limit of a run's input one more
     /// read decides.
     fn read_all<R: Source, W: Sink>(&mut self, source: &mut R, sink: &mut W) -> Result<(), RunFault>
-        requires reads { R.failures source.old < u64.MAX }
-        requires within { R.delivered source.old + read_most ≤ u64.MAX }
-        requires writes { W.failures sink.old < u64.MAX }
         requires splitter { self.old.splitter ≡ [] }
         requires world { self.old.session.world ≡ first_world }
         ensures read { OnOk result (HasReadAll self.old.view (R.remaining source.old) (R.remaining source.new)
-            (W.contents sink.old) (W.contents sink.new) self.new.splitter self.new.session.world) }
+            (W.contents sink.old, W.taken sink.old) (W.contents sink.new, W.taken sink.new) self.new.splitter self.new.session.world) }
         ensures view { self.new.view ≡ self.old.view }
         ensures reads { CountsReads result (R.failures source.old) (R.failures source.new) }
         ensures delivered { ReadsWithin result (R.delivered source.old) (R.delivered source.new) }
         ensures writes { CountsWrites result (W.failures sink.old) (W.failures sink.new) }
         ensures stops { IfErr result (λ e. StopsRun e self.old.view (R.remaining source.old) (R.remaining source.new)
-            (W.contents sink.old) (W.contents sink.new)) }
+            (W.contents sink.old, W.taken sink.old) (W.contents sink.new, W.taken sink.new)) }
     {
         let mut buffer = [0; READ_SIZE];
         let mut left = INPUT_LIMIT;
@@ -203,8 +196,8 @@ impl Runner {
 
     /// Runs the line that is not ended, where there is one, as the last line.
     fn run_last_line<W: Sink>(&mut self, sink: &mut W) -> Result<(), RunFault>
-        requires { W.failures sink.old < u64.MAX }
-        ensures written { EndsLines result (W.failures sink.old) (W.failures sink.new) (W.contents sink.old) (W.contents sink.new)
+        ensures written { EndsLines result (W.failures sink.old) (W.failures sink.new)
+            (W.contents sink.old, W.taken sink.old) (W.contents sink.new, W.taken sink.new)
             (shown self.old.view self.old.session.world) (last_line self.old.splitter) }
         ensures world { OnOk result (self.new.session.world ≡ world_after self.old.session.world (last_line self.old.splitter)) }
         ensures view { self.new.view ≡ self.old.view }
@@ -217,11 +210,11 @@ impl Runner {
 
     /// Runs what is left at the end of the input: the last line, where it is not ended, and the ending.
     fn run_end<W: Sink>(&mut self, sink: &mut W) -> Result<(), RunFault>
-        requires { W.failures sink.old < u64.MAX }
-        ensures { EndsWriting result (W.failures sink.old) (W.failures sink.new) (W.contents sink.old) (W.contents sink.new)
+        ensures { EndsWriting result (W.failures sink.old) (W.failures sink.new) (W.contents sink.old, W.taken sink.old) (W.contents sink.new, W.taken sink.new)
             (shown self.old.view self.old.session.world (last_line self.old.splitter)
             ++ viewed self.old.view (ending (world_after self.old.session.world (last_line self.old.splitter))))
-            (WritesSome (W.contents sink.old) (W.contents sink.new) (shown self.old.view self.old.session.world) (last_line self.old.splitter)) }
+            (WritesSome (W.contents sink.old, W.taken sink.old) (W.contents sink.new, W.taken sink.new)
+            (shown self.old.view self.old.session.world) (last_line self.old.splitter)) }
     {
         self.run_last_line(sink)?;
         self.run_ending(sink)
@@ -229,9 +222,8 @@ impl Runner {
 
     /// Ends the turn that is open, writes what that says, and flushes.
     fn run_ending<W: Sink>(&mut self, sink: &mut W) -> Result<(), RunFault>
-        requires { W.failures sink.old < u64.MAX }
-        ensures { EndsWriting result (W.failures sink.old) (W.failures sink.new) (W.contents sink.old) (W.contents sink.new)
-            (viewed self.old.view (ending self.old.session.world)) (Appends (W.contents sink.old) (W.contents sink.new) []) }
+        ensures { EndsWriting result (W.failures sink.old) (W.failures sink.new) (W.contents sink.old, W.taken sink.old) (W.contents sink.new, W.taken sink.new)
+            (viewed self.old.view (ending self.old.session.world)) (Takes (W.contents sink.old, W.taken sink.old) (W.contents sink.new, W.taken sink.new) []) }
     {
         let text = self.session.finish()?;
         self.view.write(sink, &text)?;
@@ -253,8 +245,6 @@ fn piece_len(bytes: &[u8]) -> usize
 
 /// One read.
 fn read_some<R: Source>(source: &mut R, buffer: &mut [u8]) -> Result<usize, RunFault>
-    requires reads { R.failures source.old < u64.MAX }
-    requires within { R.delivered source.old + length buffer.old ≤ u64.MAX }
     ensures bound { ReadsAtMost result buffer.new }
     ensures bytes { ReadConsumes (R.remaining source.old) (R.remaining source.new) result buffer.new }
     ensures fault { IfErr result (λ e. e ≡ RunFault.Read) }
@@ -266,8 +256,6 @@ fn read_some<R: Source>(source: &mut R, buffer: &mut [u8]) -> Result<usize, RunF
 
 /// Reads once more, where a run has read as much as it reads.
 fn expect_end<R: Source>(source: &mut R, buffer: &mut [u8]) -> Result<(), RunFault>
-    requires reads { R.failures source.old < u64.MAX }
-    requires within { R.delivered source.old + length buffer.old ≤ u64.MAX }
     requires room { 0 < length buffer.old }
     requires few { length buffer.old ≤ read_size }
     ensures end { OnOk result (IsAtEnd (R.remaining source.new)) }
@@ -291,27 +279,25 @@ fn expect_end<R: Source>(source: &mut R, buffer: &mut [u8]) -> Result<(), RunFau
 /// `laws::law_page_prefix`.
 ///
 /// What was read, and that the end was reached, is said of a source that tells its bytes (`remaining`); what was written, of a sink
-/// that does (`contents`). Of every source and sink the counts say which fault it was: one read has failed on `Read`, one write
-/// or flush on `Write`, and no call on any other ending; and how many bytes were read: on `InputLimit` more than 2^30, and else
-/// no more. And of a sink that tells its bytes, what is written is the text of some input of at most 2^30 bytes, whatever the
-/// source tells. Before each read the sink is flushed where the source asks for it.
+/// that does (`contents`), and of every sink how many bytes these were (`taken`). Of every source and sink the counts say which
+/// fault it was: one read has failed on `Read`, one write or flush on `Write`, and no call on any other ending; and how many bytes
+/// were read: on `InputLimit` more than 2^30, and else no more. What is written is the text of some input of at most 2^30 bytes,
+/// whatever the source tells. Before each read the sink is flushed where the source asks for it.
 pub fn run<R: Source, W: Sink>(
     alloc: Global,
     source: &mut R,
     sink: &mut W,
     view: Option<Owner>,
 ) -> Result<(), RunFault>
-    requires reads { R.failures source.old < u64.MAX }
-    requires within { R.delivered source.old + read_most ≤ u64.MAX }
-    requires writes { W.failures sink.old < u64.MAX }
     // All that the source gave was read, and the whole run's text was written.
-    ensures ok { OnOk result (RunsToEnd view (R.remaining source.old) (R.remaining source.new) (W.contents sink.old) (W.contents sink.new)) }
+    ensures ok { OnOk result (RunsToEnd view (R.remaining source.old) (R.remaining source.new)
+        (W.contents sink.old, W.taken sink.old) (W.contents sink.new, W.taken sink.new)) }
     // Isolation: where no component listener stops or cancels, what the page sees of it is the page machine's output on the trace.
     ensures page { OnOk result (IfSome (R.remaining source.old) (λ bytes. HasPage view → IsTrue (no_component_stops decode (lines_of bytes)) →
-        PageSees view (W.contents sink.old) (W.contents sink.new) (page_text bytes))) }
+        PageSees view (W.contents sink.old, W.taken sink.old) (W.contents sink.new, W.taken sink.new) (page_text bytes))) }
     // Whatever listeners do, it is the page machine's output on the full trace, which tells the interference.
     ensures page_in_full { OnOk result (IfSome (R.remaining source.old) (λ bytes. HasPage view →
-        PageSees view (W.contents sink.old) (W.contents sink.new) (full_page_text bytes))) }
+        PageSees view (W.contents sink.old, W.taken sink.old) (W.contents sink.new, W.taken sink.new) (full_page_text bytes))) }
     // A fault is `Read` only where a read failed, and `Write` only where a write or the flush failed.
     ensures reads { CountsReads result (R.failures source.old) (R.failures source.new) }
     ensures writes { CountsWrites result (W.failures sink.old) (W.failures sink.new) }
@@ -319,7 +305,7 @@ pub fn run<R: Source, W: Sink>(
     ensures delivered { ReadsWithin result (R.delivered source.old) (R.delivered source.new) }
     // What was read and written when a fault stopped the run.
     ensures stops { IfErr result (λ e. StopsRun e view (R.remaining source.old) (R.remaining source.new)
-        (W.contents sink.old) (W.contents sink.new)) }
+        (W.contents sink.old, W.taken sink.old) (W.contents sink.new, W.taken sink.new)) }
 {
     let mut runner = Runner::new(alloc, view)?;
     runner.run_all(source, sink)

@@ -1,5 +1,5 @@
 -- What stands above a node stays above it when trees are placed, added and given other contents.
-use Rattle.std.proofs.Common.{◌≡◌, inl, inr, Bool, true, false, cond, List, [], ◌∷◌, Option, None, refl, sym, ap, subst, ◌∙◌}
+use Rattle.std.proofs.Common.{◌≡◌, inl, inr, true, false, cond, List, [], ◌∷◌, Option, None, refl, sym, ap, subst, ◌∙◌}
 use Rattle.std.proofs.lemmas.Bool.{cases_Bool, both_ways}
 use Rattle.dom_base.specs.declared.NodeName.{NodeName}
 use Rattle.dom_model.specs.Names.{name_eq, is_in}
@@ -14,7 +14,7 @@ use Rattle.dom_laws.proofs.Removal.{without-apart, above-without, above-put_othe
 use Rattle.dom_laws.proofs.Chains.{above-chain}
 use Rattle.dom_laws.proofs.Paths.{lacks_from}
 use Rattle.dom_laws.proofs.Moves.{path_placed}
-use Rattle.dom_laws.proofs.Relatives.{path_mapped}
+use Rattle.dom_laws.proofs.Relatives.{path_mapped, same_if}
 
 -- whoever stands above a node still does
 abbrev pub KeepsAbove : Trees → Trees → Type 0
@@ -29,10 +29,6 @@ Has-from_above ts a y i = elim (has_or_not ts y) [ inl h ↦ h | inr off ↦ abs
 
 pub keeps_mapped : (f : Node → Node) → ((n : Node) → (f n).name ≡ n.name) → (ts : Trees) → KeepsAbove ts (map_nodes f ts)
 keeps_mapped f same ts a y h = ap (is_in name_eq a) (path_mapped f same ts y) ∙ h
-
-same_if : (b : Bool) (f : Node → Node) → ((n : Node) → (f n).name ≡ n.name) → (n : Node) → (cond b (f n) n).name ≡ n.name
-same_if true f same n = same n
-same_if false f same n = refl
 
 pub keeps_changed : (f : Node → Node) → ((n : Node) → (f n).name ≡ n.name) → (x : NodeName) (ts : Trees) → KeepsAbove ts (change_node f x ts)
 keeps_changed f same x ts = keeps_mapped (λ n. cond (name_eq n.name x) (f n) n) (λ n. same_if (name_eq n.name x) f same n) ts

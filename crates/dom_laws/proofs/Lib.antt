@@ -13,3 +13,4 @@ pub mod Moves
 pub mod Relatives
 pub mod Walks
 pub mod KeptAncestors
+pub mod Siblings

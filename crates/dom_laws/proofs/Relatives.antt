@@ -1,5 +1,5 @@
 -- Parents, children, siblings and the names in tree order, in trees where each name stands once.
-use Rattle.std.proofs.Common.{◌≡◌, ◌+◌, inl, inr, false, List, [], ◌∷◌, ◌++◌, drop, Some, refl, sym, ap, subst, ◌∙◌, arith}
+use Rattle.std.proofs.Common.{◌≡◌, inl, inr, Bool, true, false, cond, List, [], ◌∷◌, ◌++◌, drop, Some, refl, sym, ap, subst, ◌∙◌, arith}
 use Rattle.std.specs.List.{AllByRecursion}
 use Rattle.std.proofs.lemmas.Bool.{cases_Bool, cond-true, cond-false}
 use Rattle.std.proofs.lemmas.List.{map-append}
@@ -8,7 +8,7 @@ use Rattle.dom_base.specs.declared.NodeName.{NodeName}
 use Rattle.dom_model.specs.Names.{name_eq, first_of, items_after}
 use Rattle.dom_model.specs.Tree.{Trees, none, tree, Node, roots, names_of, subtree, or_else, trees_below, inclusive_ancestors, parent_of, children_of}
 use Rattle.dom_model.specs.Tree.{nodes, next_sibling, times_in, inclusive_descendants}
-use Rattle.dom_model.specs.TreeChanges.{map_nodes}
+use Rattle.dom_model.specs.TreeChanges.{map_nodes, change_node}
 use Rattle.dom_model.proofs.OwnerLaws.{name_eq-true}
 use Rattle.dom_laws.proofs.Lists.{In, Single, is_in-not}
 use Rattle.dom_laws.proofs.Counts.{Once, once_parts}
@@ -165,3 +165,29 @@ subtree_mapped f keeps (tree n c r) x = elim (cases_Bool (name_eq n.name x)) [
 pub descendants_mapped : (f : Node → Node) → ((n : Node) → (f n).name ≡ n.name) → (ts : Trees) (x : NodeName) →
     inclusive_descendants (map_nodes f ts) x ≡ inclusive_descendants ts x
 descendants_mapped f keeps ts x = ap (λ t. names_of (nodes t)) (subtree_mapped f keeps ts x) ∙ names_mapped f keeps (subtree ts x)
+
+-- the children of a node stay
+root_names : (f : Node → Node) → ((n : Node) → (f n).name ≡ n.name) → (ts : Trees) → names_of (roots (map_nodes f ts)) ≡ names_of (roots ts)
+root_names f keeps none = refl
+root_names f keeps (tree n c r) = rw (keeps n, root_names f keeps r) refl
+
+children_mapped : (f : Node → Node) → ((n : Node) → (f n).name ≡ n.name) → (ts : Trees) (x : NodeName) →
+    children_of (map_nodes f ts) x ≡ children_of ts x
+children_mapped f keeps ts x = ap (λ t. names_of (roots (trees_below t))) (subtree_mapped f keeps ts x) ∙ below (subtree ts x)
+  where
+    below : (t : Trees) → names_of (roots (trees_below (map_nodes f t))) ≡ names_of (roots (trees_below t))
+    below none = refl
+    below (tree n c r) = root_names f keeps c
+
+-- a change of some nodes keeps their names
+pub same_if : (b : Bool) (f : Node → Node) → ((n : Node) → (f n).name ≡ n.name) → (n : Node) → (cond b (f n) n).name ≡ n.name
+same_if true f same n = same n
+same_if false f same n = refl
+
+-- so one node with other contents leaves all nodes where they stand
+module _ (f : Node → Node) (keeps : (n : Node) → (f n).name ≡ n.name) (x : NodeName) (ts : Trees) (y : NodeName) where
+  pub path_changed : inclusive_ancestors (change_node f x ts) y ≡ inclusive_ancestors ts y
+  path_changed = path_mapped (λ n. cond (name_eq n.name x) (f n) n) (λ n. same_if (name_eq n.name x) f keeps n) ts y
+
+  pub children_changed : children_of (change_node f x ts) y ≡ children_of ts y
+  children_changed = children_mapped (λ n. cond (name_eq n.name x) (f n) n) (λ n. same_if (name_eq n.name x) f keeps n) ts y

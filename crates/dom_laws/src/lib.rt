@@ -1,2 +1,7 @@
-// Laws on lists of names and on trees in which each name stands once; they stand in proofs/, and this crate has no code.
+//! Laws on names, on lists of names and on trees in which each name stands once. The law that a caller cites is a function here;
+//! the others stand in proofs/.
 #![tactic(auto)]
+
+mod names;
+
+pub use names::law_names;

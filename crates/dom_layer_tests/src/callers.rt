@@ -4,8 +4,8 @@ ghost use Rattle.dom_tree.specs.Forest.{IsNode};
 
 use dom_base::{Fault, Kind, NodeName, Owner};
 use dom_callers::{
-    has_match, headings, label, move_to_front, next_focus, rearrange, select_contents,
-    watch_attributes,
+    count_items, has_match, headings, item_at, label, last_comes_first, move_to_front, next_focus,
+    rearrange, select_contents, watch_attributes,
 };
 use dom_observers::{Observers, inclusive_ancestors};
 use dom_ranges::RangeTable;
@@ -102,7 +102,8 @@ fn a_document_is_watched(rt: HostRuntime) {
         .expect(&rt, "the range is not there");
     assert!(rt; points.start == (top, 0) && points.end == (top, 2));
     let mut observers = Observers::new(rt.alloc());
-    let watched = watch_attributes(&mut observers, Owner::Page, top);
+    let owner = forest.name(top).owner;
+    let watched = watch_attributes(&mut observers, &forest, owner, top);
     assert!(rt; matches!(watched, Ok(0)));
     assert!(rt; observers.is_watched(Owner::Page));
 }
@@ -125,6 +126,20 @@ fn a_note_is_rearranged(rt: HostRuntime) {
         .points(Owner::Page, range)
         .expect(&rt, "the range is not there");
     assert!(rt; points.start == (article, 0) && points.end == (article, 2));
+}
+
+#[test]
+fn the_last_button_comes_first(rt: HostRuntime) {
+    let mut forest = buttons(&rt, rt.alloc());
+    let top = key_of(&rt, &forest, 0);
+    let first = key_of(&rt, &forest, 1);
+    let second = key_of(&rt, &forest, 2);
+    assert!(rt; count_items(&forest, top) == 2);
+    assert!(rt; item_at(&forest, top, 1) == Some(second));
+    assert!(rt; last_comes_first(&mut forest, top) == Some(second));
+    assert!(rt; item_at(&forest, top, 0) == Some(second));
+    assert!(rt; item_at(&forest, top, 1) == Some(first));
+    assert!(rt; item_at(&forest, top, 2).is_none());
 }
 
 #[test]

@@ -1,5 +1,16 @@
--- Lemmas on what a `Doc` is ready for.
+-- Lemmas of the Standard's mutation algorithms, and on what a `Doc` is ready for.
 mod BarePlans
+pub mod BoundedDocs
+mod Emptied
+mod ExactJoins
+mod Grown
+mod Inserted
+mod Joined
+mod Joining
+mod Listing
+mod Nodes
+mod NormalizedEach
+pub mod Placed
 pub mod ReadyCalls
 pub mod ReadyEnds
 mod ReadyFirst
@@ -7,8 +18,11 @@ pub mod ReadyPlans
 mod ReadyRoots
 mod ReadyTables
 mod ReadyWorlds
+mod Replaced
 mod StillCalls
 mod StillEffects
 mod StillNew
 pub mod StillParts
 mod StillWorlds
+mod Tails
+pub mod Turns

@@ -25,7 +25,7 @@ use Rattle.dom_model.proofs.StepLaws.{owner-part_step, part_of-stepped}
 use Rattle.dom_worlds.specs.Tables.{IsNodeIn}
 use Rattle.dom_worlds.specs.Worlds.{IsPart}
 use Rattle.dom_worlds.proofs.TableSteps.{Fits, MadeIn}
-use Rattle.dom_parts.specs.Doc.{DocState, Makes, MakesSaying, made, stepped, name_in, owner_in, trees_in}
+use Rattle.dom_parts.specs.Doc.{DocState, Makes, MakesSaying, made, planned, stepped, name_in, owner_in, trees_in}
 use Rattle.dom_parts.specs.Hosting.{IsAlone, SetsOwnDocuments}
 use Rattle.dom_mutation.specs.Ready.{IsReadyPart, AreReady, IsReady, MayStand}
 use Rattle.dom_mutation.proofs.ReadyPlans.{KeepReady, ready-make, ready-set_range}
@@ -107,20 +107,25 @@ module _ (b d e : DocState) (same : b ≡ d) (laws : HasLaws b) (k : ℕ) (there
   Keeps = HasLaws d → IsPart (part_of d.world (owner_in d k)) → IsReadyPart (part_of d.world (owner_in d k)) →
       KeepReady (part_of d.world (owner_in d k)) (plan d (part_of d.world (owner_in d k)))
 
-  left : Keeps → e.world ≡ made (owner_in b k) (plan b) b.world → IsReady d → IsReady e
-  left keep w h =
+  -- all that it does is the plan
+  pub plan-done : Keeps → e.world ≡ made (owner_in b k) (plan b) b.world → IsReady d → IsReady e
+  plan-done keep w h =
       ready-planned d k (owner_in d k) (plan d) e.world (subst HasLaws same laws) there refl
       (subst (λ (a : DocState). e.world ≡ made (owner_in a k) (plan a) a.world) same w) h (keep (subst HasLaws same laws))
 
   -- where it is done
   pub plan-call : {X E : Type 0} (m : Result X E) → OnOk m (e.world ≡ made (owner_in b k) (plan b) b.world) → Keeps → IsReady d → OnOk m (IsReady e)
-  plan-call m w keep h = if-done m (λ v. left keep v h) w
+  plan-call m w keep h = if-done m (λ v. plan-done keep v h) w
+
+  -- where all that it does is the plan
+  pub planned-call : {X E : Type 0} (m : Result X E) → OnOk m (e ≡ planned (owner_in b k) (plan b) b) → Keeps → IsReady d → OnOk m (IsReady e)
+  planned-call m is = plan-call m (if-done m (ap (λ (s : DocState). s.world)) is)
 
   -- where no test refuses it
   pub tested-call : {X : Type 0} (m : Result X Fault) (test : DocState → Option Refusal) →
       ((r : Refusal) → (m ≡ Err (Refused r)) ↔ (test b ≡ Some r)) → OnOk m (e.world ≡ made (owner_in b k) (plan b) b.world) →
       (test d ≡ None → Keeps) → IsReady d → OnOk m (IsReady e)
-  tested-call m test refused w keep h = if-unrefused m (test b) refused (λ none v. left (keep (ap test (sym same) ∙ none)) v h) w
+  tested-call m test refused w keep h = if-unrefused m (test b) refused (λ none v. plan-done (keep (ap test (sym same) ∙ none)) v h) w
 
 -- Here it changes an owner's tables alone.
 module _ (b d e : DocState) (same : b ≡ d) (o : Owner) (c : Command) where

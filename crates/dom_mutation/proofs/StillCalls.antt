@@ -1,5 +1,5 @@
 -- What a call of a `Doc` leaves of its nodes and of what each owner has, by what its contract says of the world; and its new node.
-use Rattle.std.proofs.Common.{◌≡◌, ◌<◌, ℕ, true, List, [], ◌∷◌, ◌++◌, length, Some, refl, sym, ap, ◌∙◌, arith, subst, unwrap_or}
+use Rattle.std.proofs.Common.{◌≡◌, ◌<◌, ℕ, true, false, List, [], ◌∷◌, ◌++◌, length, Some, refl, sym, ap, ◌∙◌, arith, subst, unwrap_or}
 use Rattle.std.proofs.Math.ListN.{get_or-append}
 use Rattle.std.proofs.Math.Seq.{get_or-append_seam}
 use Rattle.std.proofs.lemmas.List.{length-append}
@@ -13,6 +13,7 @@ use Rattle.dom_worlds.proofs.TableWorlds.{each-part}
 use Rattle.dom_worlds.proofs.TreeChangeLaws.{nodes-with_node}
 use Rattle.dom_model.specs.Changes.{Plan}
 use Rattle.dom_model.specs.Command.{Command}
+use Rattle.dom_model.specs.DocumentMachine.{attaching}
 use Rattle.dom_model.specs.Names.{first_of, node_of}
 use Rattle.dom_model.specs.Output.{Value, Said}
 use Rattle.dom_model.specs.Part.{Part, empty_part, next_name}
@@ -20,15 +21,15 @@ use Rattle.dom_model.specs.Steps.{Step, make}
 use Rattle.dom_model.specs.Tree.{Trees, Node, kind_of, has_node}
 use Rattle.dom_model.specs.TreeChanges.{with_name}
 use Rattle.dom_model.specs.Turns.{notified}
-use Rattle.dom_model.specs.World.{World, find_part, part_of, with_part}
+use Rattle.dom_model.specs.World.{World, find_part, part_of, with_part, is_there, component_made}
 use Rattle.dom_model.specs.WorldSteps.{world_after, stepped}
 use Rattle.dom_model.proofs.PartLaws.{owner-part_of}
 use Rattle.dom_model.proofs.StepLaws.{part_of-stepped}
-use Rattle.dom_parts.specs.Doc.{DocState, MakesSaying, made, name_in, trees_in}
+use Rattle.dom_parts.specs.Doc.{DocState, MakesSaying, made, name_in, owner_in, trees_in}
 use Rattle.dom_mutation.specs.Still.{HasNodes, HasStillAll, DropsNone}
 use Rattle.dom_mutation.proofs.StillEffects.{KeepsTables, KeepsEffect, effect-still}
 use Rattle.dom_mutation.proofs.StillParts.{IsKindAt, kind-kept, kind-read, still-each, tables-same, tables-then}
-use Rattle.dom_mutation.proofs.StillWorlds.{KeepsWorld, keeps-world_after}
+use Rattle.dom_mutation.proofs.StillWorlds.{KeepsWorld, keeps-world_after, keeps-attaching}
 use Rattle.dom_tree.specs.Forest.{name_at}
 
 -- the names that were there
@@ -42,27 +43,38 @@ pub record IsPlanned (was now : DocState) (o : Owner) (plan : Plan) (more : List
   pub names : now.names ≡ was.names ++ more
   pub world : now.world ≡ made o plan was.world
 
--- After a plan kinds and tables stay as the parts do.
+-- Where all nodes stand and names come behind those that were there:
+module _ (was now : DocState) (more : List NodeName) (before : HasNodes was) (after : HasNodes now) (longer : now.names ≡ was.names ++ more) where
+  -- kinds and tables stay as the parts do,
+  still-kept : KeepsWorld was.world now.world → HasStillAll was now
+  still-kept keeps =
+      record {
+        nodes = record { nodes = there; names = names-still was.names now.names more longer; kinds = kinds };
+        tables = λ q. (keeps q).tables;
+      }
+    where
+      there : (k : ℕ) → k < length was.names → k < length now.names
+      there k few = let a = ap length longer ∙ length-append was.names more in omega arith
+
+      kinds : (k : ℕ) → k < length was.names → kind_of (trees_in now k) (name_in now k) ≡ kind_of (trees_in was k) (name_in was k)
+      kinds k few =
+          let x = name_in was k in
+          let named : name_in now k ≡ x = names-still was.names now.names more longer k few in
+          ap (λ (y : NodeName). kind_of (part_of now.world y.owner).trees y) named
+          ∙ kind-kept (before.parts x.owner) (keeps x.owner) x (before.stand k few)
+          (subst (λ (y : NodeName). has_node (part_of now.world y.owner).trees y ≡ true) named (after.stand k (there k few)))
+
+  -- as after the attaching of a new component
+  pub still-attaching : (host : ℕ) → now.world ≡ (attaching was.world (owner_in was host) (name_in was host)).0 →
+      is_there was.world (component_made (owner_in was host) (length (part_of was.world (owner_in was host)).attached)) ≡ false → HasStillAll was now
+  still-attaching host e fresh =
+      still-kept (subst (KeepsWorld was.world) (sym e) (keeps-attaching was.world (owner_in was host) (name_in was host) fresh))
+
+-- So it is after a plan.
 pub still-plan : (was now : DocState) (o : Owner) (plan : Plan) (more : List NodeName) → IsPlanned was now o plan more → HasStillAll was now
 still-plan was now o plan more is =
-    record {
-      nodes = record { nodes = there; names = names-still was.names now.names more is.names; kinds = kinds };
-      tables = λ q. (keeps q).tables;
-    }
-  where
-    keeps : KeepsWorld was.world now.world
-    keeps = subst (KeepsWorld was.world) (sym is.world) (keeps-world_after o was.world (plan (part_of was.world o)))
-
-    there : (k : ℕ) → k < length was.names → k < length now.names
-    there k few = let a = ap length is.names ∙ length-append was.names more in omega arith
-
-    kinds : (k : ℕ) → k < length was.names → kind_of (trees_in now k) (name_in now k) ≡ kind_of (trees_in was k) (name_in was k)
-    kinds k few =
-        let x = name_in was k in
-        let named : name_in now k ≡ x = names-still was.names now.names more is.names k few in
-        ap (λ (y : NodeName). kind_of (part_of now.world y.owner).trees y) named
-        ∙ kind-kept (is.before.parts x.owner) (keeps x.owner) x (is.before.stand k few)
-        (subst (λ (y : NodeName). has_node (part_of now.world y.owner).trees y ≡ true) named (is.after.stand k (there k few)))
+    still-kept was now more is.before is.after is.names
+    (subst (KeepsWorld was.world) (sym is.world) (keeps-world_after o was.world (plan (part_of was.world o))))
 
 -- nothing changes
 tables-kept : (p : Part) → KeepsTables p p

@@ -1,17 +1,20 @@
--- What every step leaves in all parts of the world, and so every plan; and what a command that changes tables alone leaves.
-use Rattle.std.proofs.Common.{◌≡◌, true, false, List, [], ◌∷◌, fold, sym, ◌∙◌, subst}
+-- What every step leaves in all parts of the world, and so every plan; and what an attaching leaves.
+use Rattle.std.proofs.Common.{◌≡◌, true, false, List, [], ◌∷◌, ◌++◌, length, Option, Some, None, fold, refl, sym, ◌∙◌, subst, arith, unwrap_or}
+use Rattle.std.specs.Prelude.{is_some}
+use Rattle.dom_base.specs.declared.Kind.TheVariants.{Shadow}
 use Rattle.dom_base.specs.declared.NodeName.{NodeName}
 use Rattle.dom_base.specs.declared.Owner.{Owner}
 use Rattle.dom_worlds.proofs.TableWorlds.{each-part}
 use Rattle.dom_model.specs.Names.{max_depth}
-use Rattle.dom_model.specs.Part.{Part}
+use Rattle.dom_model.specs.DocumentMachine.{attaching, part_with_root}
+use Rattle.dom_model.specs.Part.{Part, empty_part}
 use Rattle.dom_model.specs.Steps.{Step, place, take_out, set_document, set_attribute, queue_record, part_step, is_taken}
-use Rattle.dom_model.specs.Tree.{parent_of}
-use Rattle.dom_model.specs.World.{World, part_of, with_part, components_below, shadow_root_of}
+use Rattle.dom_model.specs.Tree.{node_in, parent_of}
+use Rattle.dom_model.specs.World.{World, find_part, part_of, with_part, is_there, component_made, components_below, shadow_root_of}
 use Rattle.dom_model.specs.WorldSteps.{world_step, world_after, stepped, with_signals, with_removal_signals, with_notify_if, with_shadow_document}
 use Rattle.dom_model.proofs.PartLaws.{owner-part_of}
 use Rattle.dom_model.proofs.StepLaws.{owner-part_step, part_of-with_signals, part_of-with_removal_signals, part_of-with_notify_if}
-use Rattle.dom_mutation.proofs.StillParts.{KeepsPart, keeps-same, keeps-then, keeps-step}
+use Rattle.dom_mutation.proofs.StillParts.{KeepsPart, keeps-same, keeps-then, keeps-step, tables-same}
 
 -- all parts keep what they have
 abbrev pub KeepsWorld : World → World → Type 0
@@ -66,3 +69,31 @@ pub keeps-world_after : (o : Owner) (w : World) (steps : List Step) → KeepsWor
 keeps-world_after o w [] = λ q. keeps-same (part_of w q)
 keeps-world_after o w (s ∷ steps) =
     keeps-both w (world_step o w s) (world_after o w (s ∷ steps)) (keeps-world_step o w s) (keeps-world_after o (world_step o w s) steps)
+
+-- ---- one component more
+
+-- an owner that is not there has nothing that could go
+keeps-none : (o : Owner) (q : Part) → KeepsPart (empty_part o) q
+keeps-none o q = record {
+  count = omega arith;
+  kinds = λ x k few h. absurd (omega (arith, few));
+  tables = record { ranges = λ k h. absurd cc; iterators = λ k h. absurd cc; walkers = λ k h. absurd cc; observers = λ k h. absurd cc };
+}
+
+-- the part of such an owner
+none-there : (found : Option Part) (o : Owner) → is_some found ≡ false → unwrap_or found (empty_part o) ≡ empty_part o
+none-there None o e = refl
+none-there (Some p) o e = cc
+
+-- a component comes, which was not there
+pub keeps-attaching : (w : World) (o : Owner) (x : NodeName) → is_there w (component_made o (length (part_of w o).attached)) ≡ false →
+    KeepsWorld w (attaching w o x).0
+keeps-attaching w o x fresh =
+    let p = part_of w o in
+    let c = component_made o (length p.attached) in
+    let more : Part = record p { attached = p.attached ++ x ∷ [] } in
+    let root : Part = part_with_root c Shadow (node_in p.trees x).document in
+    let marked : KeepsPart p more = record { count = omega arith; kinds = λ y k few h. h; tables = tables-same p more refl refl refl refl } in
+    each-part (λ q r. KeepsPart (part_of w q) r) (with_part w more) root c refl
+    (subst (λ (q : Part). KeepsPart q root) (sym (none-there (find_part w.parts c) c fresh)) (keeps-none c root))
+    (keeps-written w more o (owner-part_of w o) marked)

@@ -1,5 +1,5 @@
 //! The documents of a run.
-ghost use Rattle.std.specs.Prelude.{◌≡◌, ℕ, ◌∷◌, [], true, length, None, IfOk};
+ghost use Rattle.std.specs.Prelude.{◌≡◌, ℕ, ◌∷◌, [], true, None, IfOk};
 ghost use Rattle.dom_base.specs.declared.Owner.{Owner as OwnerOf};
 ghost use Rattle.dom_base.specs.declared.Owner.TheVariants.{Page};
 ghost use Rattle.dom_model.specs.Names.{node_of};

@@ -1,29 +1,35 @@
 //! What is still there after a call.
-ghost use Rattle.std.specs.Prelude.{◌≡◌, ◌<◌, ◌++◌, ◌∷◌, ℕ, List, Some, length, is_some, slice_get, true};
+ghost use Rattle.std.specs.Prelude.{◌≡◌, ◌<◌, ◌++◌, ◌∷◌, ℕ, List, Some, length, is_some, slice_get, true, false};
 ghost use Rattle.dom_base.specs.declared.NodeName.{NodeName as Name};
 ghost use Rattle.dom_base.specs.declared.Owner.{Owner as OwnerOf};
 ghost use Rattle.dom_model.specs.Changes.{Plan};
 ghost use Rattle.dom_model.specs.Command.{Command, Filter, NodeWord};
+ghost use Rattle.dom_model.specs.DocumentMachine.{attaching};
 ghost use Rattle.dom_model.specs.Names.{first_of};
 ghost use Rattle.dom_model.specs.Output.{Value, Said, a_range, an_iterator, a_walker, an_observer};
 ghost use Rattle.dom_model.specs.Part.{next_name, range_at};
 ghost use Rattle.dom_model.specs.Steps.{make};
 ghost use Rattle.dom_model.specs.Tree.{Node, kind_of};
 ghost use Rattle.dom_model.specs.Turns.{notified};
-ghost use Rattle.dom_model.specs.World.{World, part_of, with_part};
+ghost use Rattle.dom_model.specs.World.{World, part_of, with_part, is_there, component_made};
 ghost use Rattle.dom_mutation.specs.Doc.{DocState, Makes, MakesSaying, made, name_in, owner_in, trees_in};
 ghost use Rattle.dom_mutation.specs.Still.{HasNodes, HasStillAll, DropsNone};
 
 /// Whatever call changes a `Doc`, its nodes keep their keys, their names and so their owners, and their kinds; and each owner's live
 /// ranges, iterators, walkers and observers are still there (own rule). So it is after each
 /// call whose clause says that the world is the one that an owner's plan makes (`plans`): new nodes, insertions, removals and the operations
-/// on live ranges; after each that changes an owner's tables alone (`tables`), but where a live range is dropped; after `notify`
-/// (`notified`), and where no part changes (`parts`); and so it is after one call and the next (`next`).
+/// on live ranges; after each that changes an owner's tables alone (`tables`), but where a live range is dropped; after `attach`, whose
+/// component is a new one (`attached`); after `notify` (`notified`), and where no part changes (`parts`); and so it is after one call and
+/// the next (`next`).
 pub fn law_still()
     ensures plans { (was now : DocState) (o : OwnerOf) (plan : Plan) (more : List Name) → HasNodes was → HasNodes now →
         now.names ≡ was.names ++ more → now.world ≡ made o plan was.world → HasStillAll was now }
     ensures tables { (was now : DocState) (o : OwnerOf) (c : Command) (lines : List Said) (v : Value) → DropsNone c → now.names ≡ was.names →
         MakesSaying o c lines v was.world now.world → HasStillAll was now }
+    ensures attached { (was now : DocState) (host : ℕ) (more : List Name) → HasNodes was → HasNodes now → now.names ≡ was.names ++ more →
+        now.world ≡ (attaching was.world (owner_in was host) (name_in was host)).0 →
+        is_there was.world (component_made (owner_in was host) (length (part_of was.world (owner_in was host)).attached)) ≡ false →
+        HasStillAll was now }
     ensures notified { (was now : DocState) (o : OwnerOf) → now.names ≡ was.names →
         now.world ≡ with_part was.world (notified (part_of was.world o)) → HasStillAll was now }
     ensures parts { (was now : DocState) → now.names ≡ was.names → now.world.parts ≡ was.world.parts → HasStillAll was now }

@@ -7,7 +7,7 @@ use Rattle.dom_base.specs.declared.Refusal.{Refusal}
 use Rattle.dom_base.specs.declared.Refusal.TheVariants.{Hierarchy, NotSupported}
 use Rattle.dom_base.specs.declared.Owner.{Owner}
 use Rattle.dom_base.specs.declared.NodeName.{NodeName}
-use Rattle.dom_model.specs.Tree.{kind_of, is_shadow, is_document, has_data}
+use Rattle.dom_model.specs.Tree.{kind_of, is_shadow, is_document}
 use Rattle.dom_model.specs.Command.{Command, NodeWord}
 use Rattle.dom_model.specs.CommandNames.{named}
 use Rattle.dom_model.specs.CommandRefusals.{own_refusal, past_end, past_limit, made_by_text}
@@ -93,10 +93,10 @@ module _ (names : List NodeName) (w : World) (o : Owner) where
       let second = subst (λ (y : NodeName). new ≡ made y.owner (adopting d y) w) node.is first in
       subst (λ (q : Owner). new ≡ made q (adopting d (named (part_of w o) node.word)) w) (owner-named w o node.word) second
 
-  pub has_data-key : (x : NodeWord) (node : ℕ) → IsKey names w o node x →
-      has_data (kind_of (part_of w (name_at names node).owner).trees (name_at names node)) ≡ has_data
-      (kind_of (part_of w o).trees (named (part_of w o) x))
-  has_data-key x node node_is = rw (node_is, owner-named w o x) refl
+  -- the kind of a node, of which a test is asked
+  pub kind-key : (test : Kind → Bool) (x : NodeWord) (node : ℕ) → IsKey names w o node x →
+      test (kind_of (part_of w (name_at names node).owner).trees (name_at names node)) ≡ test (kind_of (part_of w o).trees (named (part_of w o) x))
+  kind-key test x node node_is = rw (node_is, owner-named w o x) refl
 
   pub past_end-key : (x : NodeWord) (node offset : ℕ) → IsKey names w o node x →
       past_end (part_of w (name_at names node).owner) (name_at names node) offset ≡ past_end (part_of w o) (named (part_of w o) x) offset

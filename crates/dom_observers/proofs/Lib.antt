@@ -10,4 +10,5 @@ mod Lookups
 pub mod Ascending
 pub mod Naming
 pub mod Speaking
+mod Staying
 mod Watching

@@ -10,3 +10,4 @@ pub mod InterestedObservers
 pub mod TablesByOwner
 pub mod Owners
 pub mod Naming
+pub mod Staying

@@ -5,6 +5,8 @@ ghost use Rattle.dom_tree.specs.Forest.{IsNode, name_of};
 ghost use Rattle.dom_observers.specs.Naming.{MakingLaw, ObservingLaw, DisconnectedLaw, EmptiedLaw, TakenLaw, ToldLaw, LeftLaw, NotifiedLaw};
 ghost use Rattle.dom_observers.specs.Naming.{NoticesLaw, IsKey, AreAll};
 ghost use Rattle.dom_observers.specs.Paths.{path_keys};
+ghost use Rattle.dom_observers.specs.Staying.{NoneStay, SameStay, MoreStay, KeysStay, RecordsStay, MadeStay, ObservingStay, DisconnectedStay, EmptiedStay};
+ghost use Rattle.dom_observers.specs.Staying.{ToldStay, LeftStay, NotifiedStay};
 
 use dom_tree::Forest;
 use node_arena::Key;
@@ -33,3 +35,21 @@ pub fn law_path_keys_are_named(forest: &Forest, key: Key)
     let _key = key;
     forest.law_nodes_stand_once();
 }
+
+/// Registrations stay on nodes of their owner, and records go on naming such nodes alone, after each call and where there are more nodes
+/// (own rule). So it is where nobody has an observer. `keys` and `records` say what the other laws ask of it, and what holds of the
+/// records that a call gives.
+pub fn law_registrations_stay()
+    ensures none { NoneStay }
+    ensures same { SameStay }
+    ensures more { MoreStay }
+    ensures keys { KeysStay }
+    ensures records { RecordsStay }
+    ensures made { MadeStay }
+    ensures observing { ObservingStay }
+    ensures disconnected { DisconnectedStay }
+    ensures emptied { EmptiedStay }
+    ensures told { ToldStay }
+    ensures left { LeftStay }
+    ensures notified { NotifiedStay }
+{}

@@ -80,16 +80,20 @@ impl Observers {
         Ok(())
     }
 
-    /// Registers an owner's observer on a node, or gives its registration there other options (DOM Standard, observe()).
-    /// It is refused with `Unknown` where the owner has no observer of this number, with `TypeFault` where the options ask
-    /// for no kind of change, and with `Memory` where memory is refused; then all is as it was.
+    /// Registers an owner's observer on a node of this owner, or gives its registration there other options (DOM Standard,
+    /// observe(); own rule for the owner: nobody is told of changes of another one's nodes). It is refused with `Unknown` where the
+    /// owner has no observer of this number, with `TypeFault` where the options ask for no kind of change, and with `Memory` where
+    /// memory is refused; then all is as it was.
     pub fn observe(
         &mut self,
+        forest: &Forest,
         owner: Owner,
         observer: u32,
         node: Key,
         options: Options,
     ) -> Result<(), Fault>
+        requires node_is_node { IsNode forest.now node }
+        requires own { (name_of forest.now node).owner ≡ owner }
         ensures tables { OnOk result (ChangesTables owner (observing nat_eq observer node (words_of options) (tables_of self.old owner)) self.old self.new) }
         ensures unknown { (result ≡ Err (Fault.Refused Refusal.Unknown)) ↔ (nat_lt observer (length (tables_of self.old owner).record_queues) ≡ false) }
         ensures no_kind { (result ≡ Err (Fault.Refused Refusal.TypeFault)) ↔
@@ -97,6 +101,7 @@ impl Observers {
         ensures other { IfErr result (λ fault. (fault ≡ Fault.Refused Refusal.Unknown) ⊎ ((fault ≡ Fault.Refused Refusal.TypeFault) ⊎ (fault ≡ Fault.Memory))) }
         ensures err { OnErr result (KeepsTables self.old self.new) }
     {
+        prove!(forest.name(node).owner == owner);
         let Some(table) = self.tables.get_mut(&owner) else {
             return Err(Fault::Refused(Refusal::Unknown));
         };

@@ -31,7 +31,7 @@ use Rattle.dom_model.specs.Ranges.{Range}
 use Rattle.dom_parts.specs.Contents.{Tables}
 use Rattle.dom_parts.specs.Numbering.{AreNumbered}
 use Rattle.dom_parts.specs.Ranging.{AreRangesOf}
-use Rattle.dom_cursors.specs.OwnTables.{KeyedTables, no_keyed_tables}
+use Rattle.dom_traversal.specs.OwnTables.{KeyedTables, no_keyed_tables}
 use Rattle.dom_parts.specs.AllTables.{AllTables, tables_view, AreTablesOf}
 use Rattle.dom_parts.specs.Hosting.{maker_of, hosts_of, AreMadeBehind, host_names, host_owners, attached_of, AreHostsOf, IsAttached}
 use Rattle.dom_parts.specs.Doc.{named_trees, contents, world_from, IsDoc, IsDue}

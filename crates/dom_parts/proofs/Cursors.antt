@@ -24,8 +24,8 @@ use Rattle.dom_tree.proofs.Owned.{stays_own}
 use Rattle.dom_traversal.specs.Iterators.{KeyedIterator, iterator_view, iterator_at}
 use Rattle.dom_traversal.specs.Walkers.{KeyedWalker, walker_view, walker_at}
 use Rattle.dom_parts.specs.Contents.{part_with}
-use Rattle.dom_cursors.specs.OwnTables.{KeyedTables, no_keyed_tables}
-use Rattle.dom_cursors.proofs.Owners.{with-own, with-other}
+use Rattle.dom_traversal.specs.OwnTables.{KeyedTables, no_keyed_tables}
+use Rattle.dom_traversal.proofs.Owners.{with-own, with-other}
 use Rattle.dom_parts.specs.AllTables.{AreTablesOf, AllTables, with_table}
 use Rattle.dom_parts.specs.Doc.{named_trees, shown_tables, contents, world_from, IsDoc, Makes}
 use Rattle.dom_parts.proofs.Worlds.{part_at, part_off, there_same, changed}

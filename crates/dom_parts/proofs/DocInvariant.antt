@@ -12,7 +12,7 @@ use Rattle.dom_tree.specs.Forest.{NamedTrees, name_at, count_of}
 use Rattle.dom_tree.specs.Owners.{AreOwned, trees_of_owner, IsOwnChange}
 use Rattle.dom_observers.specs.Tables.{TablesOf, no_tables as no_observers}
 use Rattle.dom_observers.specs.Naming.{IsKey, SpeaksOf}
-use Rattle.dom_cursors.specs.OwnTables.{no_keyed_tables}
+use Rattle.dom_traversal.specs.OwnTables.{no_keyed_tables}
 use Rattle.dom_parts.specs.AllTables.{AreTablesOf, AllTables, signals_of, with_queue, with_observers}
 use Rattle.dom_node_trees.specs.Signalled.{AreSignals}
 use Rattle.dom_parts.specs.Hosting.{maker_of, hosts_of, host_names, host_owners, AreMadeBehind, AreHostsOf}

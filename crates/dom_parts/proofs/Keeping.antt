@@ -20,7 +20,7 @@ use Rattle.dom_traversal.specs.Walkers.{KeyedWalker, walker_view}
 use Rattle.dom_observers.specs.Tables.{TablesOf}
 use Rattle.dom_observers.specs.Naming.{named_tables, IsKey, SpeaksOf}
 use Rattle.dom_observers.proofs.Speaking.{same_tables, speaks_more}
-use Rattle.dom_cursors.specs.OwnTables.{KeyedTables, EachItem, IsLeft, AreLeft}
+use Rattle.dom_traversal.specs.OwnTables.{KeyedTables, EachItem, IsLeft, AreLeft}
 use Rattle.dom_parts.specs.AllTables.{tables_with, tables_view, IsOwnIterator, IsOwnWalker, AreTablesOf}
 use Rattle.dom_parts.specs.Doc.{named_trees}
 use Rattle.dom_laws.proofs.KeptAncestors.{KeepsAbove, above_added}

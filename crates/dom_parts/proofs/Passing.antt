@@ -21,11 +21,11 @@ use Rattle.dom_traversal.specs.Iterators.{KeyedIterator, IsIteratorOf, iterator_
 use Rattle.dom_traversal.specs.Walkers.{KeyedWalker, IsWalkerOf, walker_view, walker_at}
 use Rattle.dom_tree.proofs.Standing.{StandOnce}
 use Rattle.dom_laws.proofs.Shapes.{above-itself}
-use Rattle.dom_cursors.specs.OwnTables.{KeyedTables, EachItem}
-use Rattle.dom_cursors.specs.Cursors.{with_cursors}
+use Rattle.dom_traversal.specs.OwnTables.{KeyedTables, EachItem}
+use Rattle.dom_traversal.specs.Cursors.{with_cursors}
 use Rattle.dom_parts.specs.AllTables.{IsOwnIterator, IsOwnWalker, AreTablesOf, AllTables}
 use Rattle.dom_parts.specs.Doc.{DocState, world_from, state_from, IsDoc, Makes}
-use Rattle.dom_cursors.proofs.Items.{set_items, push_items}
+use Rattle.dom_traversal.proofs.Items.{set_items, push_items}
 use Rattle.dom_tree.specs.Owners.{AreOwned}
 use Rattle.dom_parts.proofs.OwnNodes.{moved_own}
 use Rattle.dom_parts.proofs.Limits.{limit_count}

@@ -31,8 +31,8 @@ use Rattle.dom_observers.specs.Naming.{IsKey, SpeaksOf}
 use Rattle.dom_parts.specs.Contents.{Contents, part_in, world_of}
 use Rattle.dom_parts.specs.Hosting.{host_owners, signals_in}
 use Rattle.dom_node_trees.specs.Signalled.{SignalTables, HasSignalled, HasLeft}
-use Rattle.dom_cursors.specs.OwnTables.{KeyedTables, AreLeft, no_keyed_tables}
-use Rattle.dom_cursors.specs.Cursors.{with_cursors}
+use Rattle.dom_traversal.specs.OwnTables.{KeyedTables, AreLeft, no_keyed_tables}
+use Rattle.dom_traversal.specs.Cursors.{with_cursors}
 use Rattle.dom_parts.specs.AllTables.{AllTables, AreTablesOf, AreFirst, signals_of, with_live, with_signals, with_observers}
 use Rattle.dom_parts.specs.Ranging.{AreRangesOf, ranged}
 use Rattle.dom_parts.specs.Doc.{DocState, named_trees, shown_tables, contents, world_from, state_from, IsDoc, IsDue, name_in, owner_in, stepped}

@@ -32,9 +32,9 @@ use Rattle.dom_traversal.specs.Walkers.{walker_view}
 use Rattle.dom_ranges.specs.Settings.{named_ranges}
 use Rattle.dom_ranges.specs.Tables.{ranges_of}
 use Rattle.dom_parts.specs.Contents.{Contents, part_with, part_in, world_of}
-use Rattle.dom_cursors.specs.OwnTables.{KeyedTables, AreLeft, no_keyed_tables}
-use Rattle.dom_cursors.specs.Cursors.{with_cursors}
-use Rattle.dom_cursors.proofs.Owners.{with-own, with-other}
+use Rattle.dom_traversal.specs.OwnTables.{KeyedTables, AreLeft, no_keyed_tables}
+use Rattle.dom_traversal.specs.Cursors.{with_cursors}
+use Rattle.dom_traversal.proofs.Owners.{with-own, with-other}
 use Rattle.dom_parts.specs.AllTables.{tables_with, AreTablesOf, AllTables, with_table, with_observers}
 use Rattle.dom_parts.specs.Doc.{named_trees, shown_tables, contents, world_from, IsDoc}
 use Rattle.dom_parts.specs.Hosting.{attached_of}

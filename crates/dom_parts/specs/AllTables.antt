@@ -11,8 +11,8 @@ use Rattle.dom_traversal.specs.Walkers.{KeyedWalker, walker_view, IsWalkerOf}
 use Rattle.dom_observers.specs.Tables.{TablesOf, no_tables as no_observers}
 use Rattle.dom_observers.specs.Naming.{named_tables}
 use Rattle.dom_ranges.specs.Tables.{RangeLists, ranges_of}
-use Rattle.dom_cursors.specs.OwnTables.{KeyedTables, EachItem, no_keyed_tables}
-use Rattle.dom_cursors.specs.Cursors.{with_cursors}
+use Rattle.dom_traversal.specs.OwnTables.{KeyedTables, EachItem, no_keyed_tables}
+use Rattle.dom_traversal.specs.Cursors.{with_cursors}
 use Rattle.dom_parts.specs.Contents.{Tables, no_tables}
 use Rattle.dom_node_trees.specs.Signalled.{SignalTables, signal_tables}
 

@@ -35,8 +35,8 @@ use Rattle.dom_node_trees.specs.Signalled.{AreSignals}
 use Rattle.dom_parts.specs.Hosting.{attached_of, host_owners, AreMadeBehind}
 use Rattle.dom_parts.specs.Ranging.{AreRangesOf}
 use Rattle.dom_parts.specs.Numbering.{AreNumbered}
-use Rattle.dom_cursors.specs.OwnTables.{KeyedTables, no_keyed_tables}
-use Rattle.dom_cursors.specs.Cursors.{cursors_of}
+use Rattle.dom_traversal.specs.OwnTables.{KeyedTables, no_keyed_tables}
+use Rattle.dom_traversal.specs.Cursors.{cursors_of}
 use Rattle.dom_parts.specs.AllTables.{AllTables, tables_view, AreTablesOf, tables_of, signals_of}
 use Rattle.dom_observers.specs.Tables.{TablesOf, no_tables as no_observers}
 use Rattle.dom_observers.specs.Owners.{tables_of as observers_of}

@@ -31,11 +31,11 @@ mod tasks;
 mod validity;
 
 use dom_base::{Fault, Kind, Owner};
-use dom_cursors::Cursors;
 use dom_microtasks::{Queue, Signals};
 use dom_observers::Observers;
 use dom_ranges::RangeTable;
 use dom_slots::Slots;
+use dom_traversal::Cursors;
 use dom_tree::{Forest, NodeData};
 use indexmap::IndexMap;
 use node_arena::Key;

@@ -1,10 +1,11 @@
 -- The items of a path while it is built: what may still come, and what is there.
 use Rattle.std.proofs.Common.{◌≡◌, ℕ, Bool, false, List, [], ◌∷◌, ◌++◌, Option, Some, None, refl, sym, ap, subst, ◌∙◌, arith, append_assoc}
-use Rattle.std.specs.Prelude.{option_map, Result, Ok, Err, IfOk}
+use Rattle.std.specs.Prelude.{option_map, map, Result, Ok, Err, IfOk}
 use Rattle.std.specs.List.{AllByRecursion}
 use Rattle.std.specs.Option.{ForSome}
 use Rattle.std.proofs.lemmas.List.{append-nil}
 use Rattle.dom_base.specs.declared.NodeName.{NodeName}
+use Rattle.dom_model.specs.Tree.{is_shadow, node_in, root_of}
 use Rattle.dom_tree.specs.Forest.{NamedTrees, name_at}
 use Rattle.dom_slots.specs.Hosts.{ShadowHost}
 use Rattle.dom_slots.specs.Shadows.{shadows, is_assigned_at}
@@ -13,9 +14,11 @@ use Rattle.dom_path.specs.declared.path_node.PathNode.{PathNode}
 use Rattle.dom_path.specs.declared.trees.Tree.{Tree}
 use Rattle.dom_path.specs.Built.{IsEvent, IsItemOf, IsWay, IsBuilt, GoesOn, next_name, related_name}
 use Rattle.dom_path.specs.Hosted.{IsHosted}
+use Rattle.dom_path.specs.Items.{item_named}
 use Rattle.dom_path.specs.Nests.{Grows}
+use Rattle.dom_path.specs.Paths.{FollowsUp, IsTrail}
 use Rattle.dom_path.specs.PathNodes.{AreTrees, IsPathNode}
-use Rattle.dom_path.specs.Ways.{is_empty_at}
+use Rattle.dom_path.specs.Ways.{event_parent_at, is_empty_at}
 use Rattle.dom_path.proofs.Goings.{tree-kept, stand-kept}
 use Rattle.dom_path.proofs.Nesting.{grows-longer}
 
@@ -60,11 +63,20 @@ module _ (f : NamedTrees) (hosts : List ShadowHost) (t : NodeName) (r : Option N
     Comes depth (Some x) [] = ⊥
     Comes depth (Some x) (i ∷ rest) = (i.node ≡ x.node) × (i.slot_in_closed ≡ x.is_entered) × GoesOn f hosts t r depth composed (name_at f.names i.node) rest
 
+    -- so too as they follow one another up
+    abbrev pub Rises : Option PathNode → List Item → Type 0
+    Rises None rest = rest ≡ []
+    Rises (Some x) [] = ⊥
+    Rises (Some x) (i ∷ rest) =
+        (i.node ≡ x.node) × (i.slot_in_closed ≡ x.is_entered) × (i.root_of_closed ≡ is_shadow (node_in f.trees (name_at f.names i.node)).kind)
+        × FollowsUp (shadows f hosts) t composed (name_at f.names i.node) (map (item_named f.names) rest)
+
     -- the items so far, and those that come, make up the path
     pub record IsTrack (trees : List Tree) (items : List Item) (next : Option PathNode) : Type 0 where
       pub place : ForSome next (IsPathNode f hosts trees)
       pub each : AllByRecursion (IsItemOf f hosts t r trees) items
       pub way : (depth : ℕ) → IsHosted f hosts depth → (rest : List Item) → Comes depth next rest → IsWay f hosts t r depth composed (items ++ rest)
+      pub trail : (rest : List Item) → Rises next rest → IsTrail (shadows f hosts) t composed (map (item_named f.names) (items ++ rest))
 
     -- as it begins
     pub track-first : {trees : List Tree} {items : List Item} {x : PathNode} → items ≡ [] → IsPathNode f hosts trees x → name_at f.names x.node ≡ t →
@@ -73,8 +85,13 @@ module _ (f : NamedTrees) (hosts : List ShadowHost) (t : NodeName) (r : Option N
       place = λ y h. subst (IsPathNode f hosts trees) (let same : x ≡ y = cc in same) place;
       each = tt;
       way = λ depth hosted rest h. begins depth rest h;
+      trail = rises;
     })
       where
+        rises : (rest : List Item) → Rises (Some x) rest → IsTrail (shadows f hosts) t composed (map (item_named f.names) rest)
+        rises [] h = absurd h
+        rises (i ∷ rest) h = (ap (name_at f.names) h.0 ∙ named, h.1 ∙ off, h.2, h.3)
+
         begins : (depth : ℕ) (rest : List Item) → Comes depth (Some x) rest → IsWay f hosts t r depth composed rest
         begins depth [] h = h
         begins depth (i ∷ rest) h = (ap (name_at f.names) h.0 ∙ named, h.1 ∙ off, h.2)
@@ -86,15 +103,30 @@ module _ (f : NamedTrees) (hosts : List ShadowHost) (t : NodeName) (r : Option N
       pub track-more : Grows trees new → more ≡ items ++ i ∷ [] → Says trees i x →
           ForSome next (IsPathNode f hosts new) → ((depth : ℕ) → IsHosted f hosts depth → option_map (λ (y : PathNode). name_at f.names y.node) next
           ≡ next_name f hosts t r depth composed (name_at f.names x.node)) →
-          ForSome next (λ y. y.is_entered ≡ is_assigned_at (shadows f hosts) (name_at f.names y.node) (name_at f.names x.node)) → IsTrack new more next
+          ForSome next (λ y. (event_parent_at (shadows f hosts) composed (root_of f.trees t) (name_at f.names x.node) ≡ Some (name_at f.names y.node))
+          × (y.is_entered ≡ is_assigned_at (shadows f hosts) (name_at f.names y.node) (name_at f.names x.node))) → IsTrack new more next
       track-more g e says place value behind = subst (λ is. IsTrack new is next) (sym e) (record {
         place = place;
         each = all-other (IsItemOf f hosts t r trees) (IsItemOf f hosts t r new) (item-kept trees new g) (items ++ i ∷ [])
             (all-more (IsItemOf f hosts t r trees) items i track.each says.item);
         way = λ depth hosted rest h. subst (IsWay f hosts t r depth composed) (sym (append_assoc items (i ∷ []) rest))
-            (track.way depth hosted (i ∷ rest) (says.node, says.entered, goes depth next (value depth hosted) behind rest h));
+            (track.way depth hosted (i ∷ rest) (says.node, says.entered, goes depth next (value depth hosted) (λ y is. (behind y is).1) rest h));
+        trail = λ rest h. subst (λ is. IsTrail (shadows f hosts) t composed (map (item_named f.names) is)) (sym (append_assoc items (i ∷ []) rest))
+            (track.trail (i ∷ rest) (says.node, says.entered, says.item.shadow, rises next behind rest h));
       })
         where
+          rises : (next : Option PathNode) →
+              ForSome next (λ y. (event_parent_at (shadows f hosts) composed (root_of f.trees t) (name_at f.names x.node) ≡ Some (name_at f.names y.node))
+              × (y.is_entered ≡ is_assigned_at (shadows f hosts) (name_at f.names y.node) (name_at f.names x.node)))
+              → (rest : List Item) → Rises next rest → FollowsUp (shadows f hosts) t composed (name_at f.names i.node) (map (item_named f.names) rest)
+          rises None up rest h =
+              subst (λ is. FollowsUp (shadows f hosts) t composed (name_at f.names i.node) (map (item_named f.names) is)) (sym h) tt
+          rises (Some y) up [] h = absurd h
+          rises (Some y) up (j ∷ rest) h =
+              let same : name_at f.names y.node ≡ name_at f.names j.node = ap (name_at f.names) (sym h.0) in
+              subst (λ z. FollowsUp (shadows f hosts) t composed z (map (item_named f.names) (j ∷ rest))) (ap (name_at f.names) (sym says.node))
+              ((up y refl).0 ∙ ap Some same, h.1 ∙ (up y refl).1 ∙ ap (λ z. is_assigned_at (shadows f hosts) z (name_at f.names x.node)) same, h.2, h.3)
+
           at : name_at f.names x.node ≡ name_at f.names i.node
           at = ap (name_at f.names) (sym says.node)
 
@@ -122,12 +154,19 @@ module _ (f : NamedTrees) (hosts : List ShadowHost) (t : NodeName) (r : Option N
     track-last {items} e track depth hosted =
         subst (IsWay f hosts t r depth composed) (append-nil items) (track.way depth hosted [] (subst (λ n. Comes depth n []) (sym e) refl))
 
+    pub trail-last : {trees : List Tree} {items : List Item} {next : Option PathNode} → next ≡ None → IsTrack trees items next →
+        IsTrail (shadows f hosts) t composed (map (item_named f.names) items)
+    trail-last {items} e track =
+        subst (λ is. IsTrail (shadows f hosts) t composed (map (item_named f.names) is)) (append-nil items)
+        (track.trail [] (subst (λ n. Rises n []) (sym e) refl))
+
 -- an event's places stay among more trees
 pub event-kept : {f : NamedTrees} {hosts : List ShadowHost} {trees new : List Tree} {target : PathNode} {related : Option PathNode} → Grows trees new →
     IsEvent f hosts trees target related → IsEvent f hosts new target related
 event-kept {f} {hosts} {trees} {new} {target} g h = record {
   at_target = stand-kept f hosts trees new target g h.at_target;
   at_related = λ x e. stand-kept f hosts trees new x g (h.at_related x e);
+  root = tree-kept f hosts trees new target.tree (name_at f.names target.node) g h.root;
   begins = h.begins;
 }
 

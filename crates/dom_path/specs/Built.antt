@@ -13,10 +13,11 @@ use Rattle.dom_path.specs.Hosted.{IsHosted}
 use Rattle.dom_path.specs.PathNodes.{IsPathNode, IsTreeOf, key_if}
 use Rattle.dom_path.specs.Ways.{is_empty_at, next_at, seen_at, related_at}
 
--- the target and the related node have their places, and no slot was entered at the target
+-- the target and the related node have their places, the target in its own tree, and no slot was entered at the target
 pub record IsEvent (f : NamedTrees) (hosts : List ShadowHost) (trees : List Tree) (target : PathNode) (related : Option PathNode) : Type 0 where
   pub at_target : IsPathNode f hosts trees target
   pub at_related : ForSome related (IsPathNode f hosts trees)
+  pub root : IsTreeOf f trees target.tree (name_at f.names target.node)
   pub begins : target.is_entered ≡ false
 
 -- the name of a related node by its place

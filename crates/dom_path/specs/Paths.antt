@@ -5,10 +5,26 @@ use Rattle.std.specs.Option.{option_map_or}
 use Rattle.dom_base.specs.declared.NodeName.{NodeName}
 use Rattle.dom_model.specs.Names.{name_eq}
 use Rattle.dom_model.specs.Paths.{View}
-use Rattle.dom_model.specs.Tree.{is_shadow, node_in}
+use Rattle.dom_model.specs.Tree.{is_shadow, node_in, root_of}
 use Rattle.dom_slots.specs.Shadows.{ShadowTrees, is_assigned_at}
 use Rattle.dom_path.specs.Items.{PathItem}
-use Rattle.dom_path.specs.Ways.{is_empty_at, is_hidden_at, next_at, related_at, seen_at}
+use Rattle.dom_path.specs.Ways.{event_parent_at, is_empty_at, is_hidden_at, next_at, related_at, seen_at}
+
+-- In any trees with hosts, of an event with this target:
+module _ (s : ShadowTrees) (target : NodeName) (composed : Bool) where
+  -- the items behind a node x: each is that of the event parent of the one before, and says whether it is the slot of that one, and
+  -- whether it is a shadow root (DOM Standard, concept: get the parent)
+  abbrev pub FollowsUp : NodeName → List PathItem → Type 0
+  FollowsUp x [] = Unit {0}
+  FollowsUp x (i ∷ rest) =
+      (event_parent_at s composed (root_of s.trees target) x ≡ Some i.node) × (i.slot_in_closed ≡ is_assigned_at s i.node x)
+      × (i.root_of_closed ≡ is_shadow (node_in s.trees i.node).kind) × FollowsUp i.node rest
+
+  -- items, of which the first is the target's, and behind it each is that of the event parent of the one before
+  abbrev pub IsTrail : List PathItem → Type 0
+  IsTrail [] = Unit {0}
+  IsTrail (i ∷ rest) =
+      (i.node ≡ target) × (i.slot_in_closed ≡ false) × (i.root_of_closed ≡ is_shadow (node_in s.trees i.node).kind) × FollowsUp i.node rest
 
 -- In trees whose shadow trees lie in one another at most so deep:
 module _ (s : ShadowTrees) (depth : ℕ) where

@@ -1,7 +1,8 @@
 //! The rules by which a path is built.
-ghost use Rattle.std.specs.Prelude.{◌≡◌, ℕ, ◌<◌, length, None, option_map, IfOk, OnOk};
+ghost use Rattle.std.specs.Prelude.{◌≡◌, ℕ, ◌<◌, length, map, None, Some, option_map, IfOk, OnOk};
 ghost use Rattle.std.specs.Option.{ForSome};
 ghost use Rattle.std.specs.List.{AllByRecursion};
+ghost use Rattle.dom_model.specs.Tree.{root_of};
 ghost use Rattle.dom_tree.specs.Forest.{IsNode, name_of};
 ghost use Rattle.dom_slots.specs.Hosts.{HostsAreNodes};
 ghost use Rattle.dom_slots.specs.Kept.{AreSlotsOf};
@@ -10,7 +11,9 @@ ghost use Rattle.dom_path.specs.Hosted.{IsHosted};
 ghost use Rattle.dom_path.specs.Nests.{Grows};
 ghost use Rattle.dom_path.specs.PathNodes.{AreTrees, IsPathNode, item_from, ends_before, is_silent, related_from};
 ghost use Rattle.dom_path.specs.Built.{IsEvent, IsItemOf, IsWay, IsBuilt, related_name};
-ghost use Rattle.dom_path.specs.Ways.{next_at};
+ghost use Rattle.dom_path.specs.Items.{item_named};
+ghost use Rattle.dom_path.specs.Paths.{IsTrail};
+ghost use Rattle.dom_path.specs.Ways.{event_parent_at, next_at};
 
 use crate::item::Item;
 use crate::path_node::PathNode;
@@ -51,6 +54,8 @@ pub(crate) fn items_of(
     ensures each { IfOk result (λ items. AllByRecursion
         (IsItemOf forest.now slots.now.hosts (name_of forest.now target) (option_map (name_of forest.now) related) trees.new)
         items.items) }
+    ensures trail { IfOk result (λ items. IsTrail (shadows forest.now slots.now.hosts) (name_of forest.now target) composed
+        (map (item_named forest.now.names) items.items)) }
 {
     forest.law_nodes_stand_once();
     let target = PathNode::of(trees, forest, slots, target)?;
@@ -87,6 +92,8 @@ impl Event {
         ensures each { IfOk result (λ items. AllByRecursion
             (IsItemOf forest.now slots.now.hosts (name_of forest.now self.now.target.node) (related_name forest.now.names self.now.related)
             trees.new) items.items) }
+        ensures trail { IfOk result (λ items. IsTrail (shadows forest.now slots.now.hosts) (name_of forest.now self.now.target.node)
+            self.now.composed (map (item_named forest.now.names) items.items)) }
     {
         forest.law_nodes_stand_once();
         let mut items = SmallVec::new(alloc);
@@ -135,6 +142,9 @@ impl Event {
             option_map (λ x. name_of forest.now x.node) next ≡ next_at (shadows forest.now slots.now.hosts) depth
             (name_of forest.now self.now.target.node) (related_name forest.now.names self.now.related) self.now.composed
             (name_of forest.now at.now.node)) }
+        ensures up { IfOk result (λ next. ForSome next (λ x. event_parent_at (shadows forest.now slots.now.hosts) self.now.composed
+            (root_of forest.now.trees (name_of forest.now self.now.target.node)) (name_of forest.now at.now.node) ≡
+            Some (name_of forest.now x.node))) }
         ensures entered { IfOk result (λ next. ForSome next
             (λ x. x.is_entered ≡ is_assigned_at (shadows forest.now slots.now.hosts) (name_of forest.now x.node)
             (name_of forest.now at.now.node))) }

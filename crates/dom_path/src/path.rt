@@ -8,7 +8,7 @@ ghost use Rattle.dom_tree.specs.Forest.{IsNode, name_of};
 ghost use Rattle.dom_slots.specs.Kept.{AreSlotsOf};
 ghost use Rattle.dom_slots.specs.Shadows.{shadows};
 ghost use Rattle.dom_path.specs.Hosted.{IsHosted};
-ghost use Rattle.dom_path.specs.Paths.{IsPathShown};
+ghost use Rattle.dom_path.specs.Paths.{IsPathShown, IsTrail};
 ghost use Rattle.dom_path.specs.PathNodes.{view_in};
 ghost use Rattle.dom_path.specs.Items.{IsWorldOf, HasNodes, ShowsNodes, item_named, view_named, path_items};
 
@@ -48,6 +48,10 @@ impl Model for Path {
 impl Path {
     /// The path of an event at a target (DOM Standard, concept: dispatch). `related` is its related node, and an event that
     /// isn't composed stays within the shadow tree of its target. Where memory is refused there is no path.
+    ///
+    /// In any forest the path goes from the target up from event parent to event parent (`trail`). Where it ends, and what the event
+    /// shows, is said of forests whose shadow trees lie in one another (`hosted`), as `law_hosts_nest` gives it. Hosts that go round in
+    /// a circle are answered as if memory was refused.
     pub fn build(
         alloc: Global,
         forest: &Forest,
@@ -70,6 +74,8 @@ impl Path {
             IsPathShown (shadows forest.now slots.now.hosts) depth (name_of forest.now target)
             (option_map (name_of forest.now) related) composed (map (item_named forest.now.names) p.items)
             (map (view_named forest.now.names) p.views)) }
+        ensures trail { IfOk result (λ p. IsTrail (shadows forest.now slots.now.hosts) (name_of forest.now target) composed
+            (map (item_named forest.now.names) p.items)) }
         ensures nodes { IfOk result (λ p. AllByRecursion (HasNodes forest.now.names) p.items) }
         ensures shown_nodes { IfOk result (λ p. AllByRecursion (ShowsNodes forest.now.names) p.views) }
     {

@@ -8,7 +8,7 @@ ghost use Rattle.dom_slots.specs.Kept.{AreSlotsOf};
 ghost use Rattle.dom_slots.specs.Shadows.{shadows, slot_at, is_assigned_at};
 ghost use Rattle.std.specs.Option.{option_or};
 ghost use Rattle.dom_path.specs.Nests.{Grows};
-ghost use Rattle.dom_path.specs.PathNodes.{AreTrees, IsPathNode, IsSlotBelow, seen_of};
+ghost use Rattle.dom_path.specs.PathNodes.{AreTrees, IsPathNode, IsTreeOf, IsSlotBelow, seen_of};
 ghost use Rattle.dom_path.specs.Ways.{event_parent_at};
 
 use crate::trees::Trees;
@@ -50,6 +50,7 @@ impl PathNode {
         ensures trees { OnOk result (AreTrees forest.now slots.now.hosts trees.new) }
         ensures stands { IfOk result (λ x. IsPathNode forest.now slots.now.hosts trees.new x) }
         ensures node { IfOk result (λ x. x.node ≡ node) }
+        ensures tree { IfOk result (λ x. IsTreeOf forest.now trees.new x.tree (name_of forest.now x.node)) }
         ensures entered { IfOk result (λ x. x.is_entered ≡ false) }
     {
         let tree = trees.add(forest, slots, node)?;

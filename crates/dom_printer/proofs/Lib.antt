@@ -1,4 +1,5 @@
 mod KeepLaws
 mod LineLaws
+mod PlainLaws
 mod PutLaws
 mod TreeLaws

@@ -1,7 +1,10 @@
 -- Events and records of the code, seen as those of the specification.
-use Rattle.std.specs.Prelude.{List, option_copied}
+use Rattle.std.specs.Prelude.{ℕ, List, ◌++◌, codes, option_copied}
+use Rattle.std.specs.Fmt.{decimal}
 use Rattle.dom_base.specs.declared.NodeName.{NodeName}
+use Rattle.dom_base.specs.declared.Owner.{Owner}
 use Rattle.dom_model.specs.Output as model
+use Rattle.dom_text.specs.Text.{node_text, node_or_null}
 use Rattle.dom_printer.specs.declared.records.Change.{Change}
 use Rattle.dom_printer.specs.declared.records.Change.TheVariants as changes
 use Rattle.dom_printer.specs.declared.records.Event.{Event}
@@ -17,6 +20,12 @@ event_view path e = record {
   related = e.related;
   path = path;
 }
+
+-- what the line of a call says, as an owner sees it, whatever stands for the text of its path
+abbrev pub event_text : Owner → Event → List ℕ
+event_text viewer e =
+    codes "event " ++ e.label.now ++ codes " " ++ e.event.now ++ codes " phase=" ++ decimal e.phase ++ codes " target=" ++ node_text viewer e.target
+    ++ codes " current=" ++ node_text viewer e.current ++ codes " related=" ++ node_or_null viewer e.related ++ codes " path=" ++ e.path.now
 
 -- a change
 abbrev pub change_view : Change → model.Change NodeName

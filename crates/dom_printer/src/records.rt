@@ -2,7 +2,8 @@
 ghost use Rattle.std.specs.Prelude.{◌≡◌, List, ◌++◌, ◌∷◌, [], OnOk, OnErr, option_copied};
 ghost use Rattle.dom_model.specs.Output.{attributes, character_data, event_seen, micro_ran, recorded, says};
 ghost use Rattle.dom_text.specs.Text.{list_text, output_text};
-ghost use Rattle.dom_printer.specs.Records.{event_view, change_view};
+ghost use Rattle.dom_printer.specs.Lines.{line_text};
+ghost use Rattle.dom_printer.specs.Records.{event_text, event_view, change_view};
 
 use crate::pieces::{Piece, put_line};
 use dom_base::{NodeName, Owner};
@@ -43,11 +44,12 @@ pub enum Change<'a> {
 }
 
 /// Puts a call of a listener of this owner as a line with its end: `event` and what the listener sees, nodes as this owner
-/// sees them. It is the line of the event with the path whose text for this owner is given, and the same text serves any
-/// number of lines. Where memory is refused, the buffer is as before.
+/// sees them. The text that is given for the path is put as it is (`line`). Where it is that of a path for this owner, the line is the
+/// event's with this path (`ok`), and the same text serves any number of lines. Where memory is refused, the buffer is as before.
 ///
 /// Own rule.
 pub fn put_event(out: &mut Vec<u8>, owner: Owner, event: &Event<'_>) -> Result<(), AllocError>
+    ensures line { OnOk result (out.new.items ≡ out.old.items ++ line_text owner (event_text owner event.now)) }
     ensures ok { OnOk result ((path : List NodeName) → event.now.path.now ≡ list_text owner path → out.new.items
         ≡ out.old.items ++ output_text (says owner (event_seen (event_view path event.now)) ∷ [])) }
     ensures err { OnErr result (out.new.items ≡ out.old.items) }

@@ -62,6 +62,9 @@ pub fn put_reply(out: &mut Vec<u8>, owner: Owner, value: &Value<'_>) -> Result<(
 {
     match (owner, value) {
         (Owner::Page, Value::Nothing) => out.extend_from_slice(b"p ok\n"),
+        (Owner::Page, Value::Null) => out.extend_from_slice(b"p ok null\n"),
+        (Owner::Page, Value::Truth(true)) => out.extend_from_slice(b"p ok true\n"),
+        (Owner::Page, Value::Truth(false)) => out.extend_from_slice(b"p ok false\n"),
         (
             Owner::Page,
             Value::Node(

@@ -1,11 +1,10 @@
 //! Input and output behind buffers: output is kept until more input is needed, so that nobody waits for an answer that is ready.
-ghost use Rattle.std.specs.Prelude.{◌≡◌, ◌<◌, [], IfOk, IsErr, OnOk};
+ghost use Rattle.std.specs.Prelude.{◌≡◌, ◌+◌, ◌<◌, [], false, IfOk, IsErr, OnOk};
 ghost use Rattle.std.specs.Io.{WritesAtMost};
 ghost use Rattle.std.specs.Io.Buffered.{writer_buffer, writer_contents};
 ghost use Rattle.std.specs.Io.KnownBytes.{Keeps, WriteAppends};
-ghost use Rattle.dom_program.specs.Buffers.{handed_to};
 
-use dom_streams::{Sink, Source};
+use dom_streams::{Count, Sink, Source};
 use std::alloc::{AllocError, Global};
 use std::io;
 use std::io::{BufReader, BufWriter, ErrorKind, Read, Write};
@@ -17,38 +16,57 @@ const ROOM: usize = 1 << 16;
 /// what is kept at the end is dropped.
 pub struct Output<W: Write + Drop> {
     kept: BufWriter<W>,
-    failed_calls: u64,
+    has_failed: bool,
+    taken_bytes: Count,
+    failed_calls: Count,
+    ghost noted: { has_failed ≡ false → failed_calls.total ≡ 0 },
 }
 
 impl<W: Write + Drop> Output<W> {
+    ghost use Rattle.dom_program.specs.Buffers.{handed_to};
+
     /// Output before its first byte, of which no call has failed yet.
     pub fn new(alloc: Global, writer: W) -> Result<Output<W>, AllocError>
         ensures contents { IfOk result (λ output. ⟦<Output<W> as Sink>⟧.contents output ≡ W.contents writer) }
+        ensures taken { IfOk result (λ output. ⟦<Output<W> as Sink>⟧.taken output ≡ 0) }
         ensures failures { IfOk result (λ output. ⟦<Output<W> as Sink>⟧.failures output ≡ 0) }
     {
         let kept = BufWriter::with_capacity(alloc, ROOM, writer).map_err(|_| AllocError)?;
         Ok(Output {
             kept,
-            failed_calls: 0,
+            has_failed: false,
+            taken_bytes: Count::new(),
+            failed_calls: Count::new(),
         })
     }
 
     /// Fails where a call has failed.
     fn expect_no_failure(&self) -> io::Result<()>
-        ensures { 0 < self.now.failed_calls → IsErr result }
+        ensures { 0 < self.now.failed_calls.total → IsErr result }
     {
-        if self.failed_calls > 0 {
+        if self.has_failed {
             return Err(ErrorKind::BrokenPipe.into());
         }
         Ok(())
+    }
+
+    /// Counts a call that has failed.
+    fn note_failure(&mut self)
+        ensures failed { self.new.failed_calls.total ≡ self.old.failed_calls.total + 1 }
+        ensures kept { self.new.kept ≡ self.old.kept }
+        ensures taken { self.new.taken_bytes.total ≡ self.old.taken_bytes.total }
+    {
+        self.has_failed = true;
+        self.failed_calls = self.failed_calls.with(1);
     }
 
     /// Keeps some first bytes, and gives their number. What was kept before is handed on where they find no room.
     fn keep(&mut self, bytes: &[u8]) -> io::Result<usize>
         ensures bound { WritesAtMost result bytes.now }
         ensures bytes { WriteAppends (writer_contents W.contents self.old.kept) (writer_contents W.contents self.new.kept) result bytes.now }
-        ensures calls { self.new.failed_calls ≡ self.old.failed_calls }
-        ensures ended { 0 < self.old.failed_calls → self.new.kept ≡ self.old.kept }
+        ensures calls { self.new.failed_calls.total ≡ self.old.failed_calls.total }
+        ensures taken { self.new.taken_bytes.total ≡ self.old.taken_bytes.total }
+        ensures ended { 0 < self.old.failed_calls.total → self.new.kept ≡ self.old.kept }
     {
         self.expect_no_failure()?;
         self.kept.write(bytes)
@@ -59,12 +77,27 @@ impl<W: Write + Drop> Output<W> {
         ensures bytes { Keeps (writer_contents W.contents self.old.kept) (writer_contents W.contents self.new.kept) }
         ensures empty { OnOk result (writer_buffer self.new.kept ≡ []) }
         ensures all { OnOk result (writer_contents W.contents self.new.kept ≡ W.contents (handed_to self.new)) }
-        ensures calls { self.new.failed_calls ≡ self.old.failed_calls }
-        ensures ended { 0 < self.old.failed_calls → self.new.kept ≡ self.old.kept }
-        ensures refused { 0 < self.old.failed_calls → IsErr result }
+        ensures calls { self.new.failed_calls.total ≡ self.old.failed_calls.total }
+        ensures taken { self.new.taken_bytes.total ≡ self.old.taken_bytes.total }
+        ensures ended { 0 < self.old.failed_calls.total → self.new.kept ≡ self.old.kept }
+        ensures refused { 0 < self.old.failed_calls.total → IsErr result }
     {
         self.expect_no_failure()?;
         self.kept.flush()
+    }
+
+    /// Ends the output, and gives the writer back, which takes no more: what is kept is dropped.
+    pub fn into_writer(self) -> W
+        ensures { result ≡ handed_to self }
+    {
+        let Output {
+            kept,
+            has_failed: _,
+            taken_bytes: _,
+            failed_calls: _,
+        } = self;
+        let (writer, _) = kept.into_parts();
+        writer
     }
 }
 
@@ -74,7 +107,9 @@ impl<W: Write + Drop> Sink for Output<W> {
 
     ghost contents = { λ s. writer_contents W.contents s.kept };
 
-    ghost failures = { λ s. s.failed_calls };
+    ghost taken = { λ s. s.taken_bytes.total };
+
+    ghost failures = { λ s. s.failed_calls.total };
 
     ghost held = { λ s. length (writer_buffer s.kept) };
 
@@ -82,7 +117,10 @@ impl<W: Write + Drop> Sink for Output<W> {
         let outcome = self.keep(bytes);
         let is_taken = matches!(outcome, Ok(n) if n > 0 || bytes.is_empty());
         if !is_taken {
-            self.failed_calls += 1;
+            self.note_failure();
+        }
+        if let Ok(n) = outcome {
+            self.taken_bytes = self.taken_bytes.with(n);
         }
         outcome
     }
@@ -90,7 +128,7 @@ impl<W: Write + Drop> Sink for Output<W> {
     fn flush(&mut self) -> io::Result<()> {
         let outcome = self.hand_on();
         if outcome.is_err() {
-            self.failed_calls += 1;
+            self.note_failure();
         }
         outcome
     }
@@ -101,6 +139,8 @@ impl<W: Write + Drop> Drop for Output<W> {
     fn drop(self) {
         let Output {
             kept,
+            has_failed: _,
+            taken_bytes: _,
             failed_calls: _,
         } = self;
         let _ = kept.into_parts();
@@ -111,8 +151,8 @@ impl<W: Write + Drop> Drop for Output<W> {
 #[derive(Drop)]
 pub struct Input<R: Read + Drop> {
     reader: BufReader<R>,
-    failed_reads: u64,
-    given_bytes: u64,
+    failed_reads: Count,
+    given_bytes: Count,
 }
 
 impl<R: Read + Drop> Input<R> {
@@ -125,8 +165,8 @@ impl<R: Read + Drop> Input<R> {
         let reader = BufReader::with_capacity(alloc, ROOM, reader).map_err(|_| AllocError)?;
         Ok(Input {
             reader,
-            failed_reads: 0,
-            given_bytes: 0,
+            failed_reads: Count::new(),
+            given_bytes: Count::new(),
         })
     }
 }
@@ -137,9 +177,9 @@ impl<R: Read + Drop> Source for Input<R> {
 
     ghost remaining = { λ s. reader_remaining R.remaining s.reader };
 
-    ghost failures = { λ s. s.failed_reads };
+    ghost failures = { λ s. s.failed_reads.total };
 
-    ghost delivered = { λ s. s.given_bytes };
+    ghost delivered = { λ s. s.given_bytes.total };
 
     ghost is_awaited = { λ s. length (reader_buffer s.reader) == 0 };
 
@@ -150,8 +190,8 @@ impl<R: Read + Drop> Source for Input<R> {
     fn read(&mut self, buffer: &mut [u8]) -> io::Result<usize> {
         let outcome = self.reader.read(buffer);
         match outcome {
-            Ok(n) => self.given_bytes += n as u64,
-            Err(_) => self.failed_reads += 1,
+            Ok(n) => self.given_bytes = self.given_bytes.with(n),
+            Err(_) => self.failed_reads = self.failed_reads.with(1),
         }
         outcome
     }

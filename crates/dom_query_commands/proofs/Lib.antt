@@ -1,5 +1,7 @@
 mod Connecting
 mod CursorLaws
+mod Notices
+mod ObserverLaws
 mod Places
 mod SelectorLaws
 mod Siblings

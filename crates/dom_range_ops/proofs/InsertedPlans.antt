@@ -18,8 +18,8 @@ use Rattle.dom_parts.proofs.Made.{planned_then}
 use Rattle.dom_laws.proofs.Relatives.{parent_path}
 use Rattle.dom_parts.proofs.OwnPlans.{plans_removing, plans_inserting}
 use Rattle.dom_laws.proofs.Paths.{Lacks, lacks_from, lacks_to}
-use Rattle.dom_algorithms.proofs.Placed.{Counted, once_in, removal_keeps}
-use Rattle.dom_algorithms.proofs.Turns.{Stays}
+use Rattle.dom_mutation.proofs.Placed.{Counted, once_in, removal_keeps}
+use Rattle.dom_mutation.proofs.Turns.{Stays}
 use Rattle.dom_range_ops.specs.Insertions.{offset_behind}
 
 -- a state by its names and its world

@@ -14,7 +14,7 @@ use Rattle.node_arena.proofs.Numbers.{slice_get-set}
 use Rattle.dom_ranges.specs.Rules.{is_inside}
 use Rattle.dom_ranges.specs.Settings.{have_one_root, is_key_before, start_set, end_set}
 use Rattle.dom_ranges.specs.Staying.{IsWithin, HasRanges, Brings, NoneWithin, SameWithin, MoreWithin, WithinAtNodes}
-use Rattle.dom_ranges.specs.Staying.{MadeWithin, RemovedWithin, StartWithin, EndWithin, CollapsedWithin}
+use Rattle.dom_ranges.specs.Staying.{MadeWithin, RemovedWithin, WrittenWithin, StartWithin, EndWithin, CollapsedWithin}
 use Rattle.dom_ranges.specs.Staying.{InsertWithin, RemovalWithin, ReplaceDataWithin, SplitWithin, JoinWithin}
 use Rattle.dom_ranges.specs.Tables.{RangeList, RangeLists, EachRange, BothEnds, ranges_of, range_in, collapsed_range}
 use Rattle.dom_ranges.proofs.Naming.{EachRange-ends}
@@ -117,6 +117,12 @@ pub removed-within : RemovedWithin
 removed-within names most was now owner number is within =
     each_owner (BothEnds (IsWithin names most)) was now owner within _ is
     (each_set (BothEnds (IsWithin names most)) (ranges_of was owner) number None (within owner) (λ r e. absurd (none-some r e)))
+
+pub written-within : WrittenWithin
+written-within names most was now owner number r here is within =
+    let P = BothEnds (IsWithin names most) in
+    each_owner P was now owner within _ is
+    (each_set P (ranges_of was owner) number (Some r) (within owner) (λ s e. subst P (same_Some r s e) here))
 
 -- a choice of ranges
 both_if : (P : Range ℕ → Type 0) (c : Bool) (q r : Range ℕ) → P q → P r → P (cond c q r)

@@ -1,13 +1,19 @@
--- A table without live ranges: no rule rewrites anything there.
-use Rattle.std.proofs.Common.{◌≡◌, ℕ, zero, suc, cond, List, [], ◌∷◌, Option, Some, None, is_some, refl, ap, arith}
+-- A table without live ranges: no rule rewrites anything there. And what is held, by what is shown.
+use Rattle.std.proofs.Common.{◌≡◌, ◌⊎◌, inl, inr, ℕ, zero, suc, Bool, true, false, cond, List, [], ◌∷◌, Option, Some, None, is_some, refl, sym, ap, ◌∙◌, arith}
 use Rattle.std.specs.Prelude.{count_by, slice_index_or}
-use Rattle.std.specs.Option.{option_map}
+use Rattle.std.specs.Option.{option_map, option_flatten}
+use Rattle.std.proofs.lemmas.Option.{same_Some, none-some}
 use Rattle.std.proofs.lemmas.List.Sums.{sum_by-cons}
-use Rattle.slab.specs.Slab.{Slab, slab_len}
+use Rattle.slab.specs.Slab.{Slab, get, slab_len}
+use Rattle.dom_base.specs.declared.Owner.{Owner}
 use Rattle.dom_model.specs.Place.{Boundary}
+use Rattle.dom_ranges.specs.declared.ends.RangeEnd.{RangeEnd}
+use Rattle.dom_ranges.specs.declared.numbers.Numbers.{Numbers}
 use Rattle.dom_ranges.specs.declared.table.Points.{Points}
-use Rattle.dom_ranges.specs.RangeSlots.{range_kept}
-use Rattle.dom_ranges.specs.Tables.{RangeList, range_in, range_from, ends_by}
+use Rattle.dom_ranges.specs.Listed.{IsListed, IsListedAt, end_of, end_in}
+use Rattle.dom_ranges.specs.RangeSlots.{range_kept, HaveNumbers}
+use Rattle.dom_ranges.specs.Tables.{RangeList, RangeLists, ranges_of, range_in, range_from, ends_by, HasEndAt}
+use Rattle.dom_ranges.proofs.Writing.{Shows, range-standing}
 
 -- no rule rewrites anything
 pub ends-none : (f : Boundary ℕ → Boundary ℕ) (rs : RangeList) → ((k : ℕ) → range_in rs k ≡ None) → ends_by f rs ≡ rs
@@ -25,3 +31,43 @@ none-counted (Some p ∷ ms) e s = absurd (let h = sum_by-cons (λ (m : Option P
 pub none-kept : (live : Slab Points) → slab_len live ≡ 0 → (m : Option ℕ) → range_kept live m ≡ None
 none-kept live e None = refl
 none-kept live e (Some slot) = ap (option_map range_from) (none-counted live.slots e slot)
+
+-- and the other way round
+counted-none : (ms : List (Option Points)) → ((s : ℕ) → slice_index_or ms s None ≡ None) → count_by is_some ms ≡ 0
+counted-none [] none = refl
+counted-none (None ∷ ms) none =
+    let h = sum_by-cons (λ (m : Option Points). cond (is_some m) 1 0) None ms in
+    let rest = counted-none ms (λ s. none (suc s)) in
+    omega (arith, h, rest)
+counted-none (Some p ∷ ms) none = let h = none 0 in cc
+
+-- where no range is shown, none is held
+module _ (live : Slab Points) (n : Numbers) (v : RangeLists) (shows : Shows live n v) (held : HaveNumbers live n) where
+  pub none-held : ((o : Owner) (k : ℕ) → range_in (ranges_of v o) k ≡ None) → slab_len live ≡ 0
+  none-held none = counted-none live.slots (λ s. by s (get live s) refl)
+    where
+      by : (s : ℕ) (m : Option Points) → get live s ≡ m → m ≡ None
+      by s None e = refl
+      by s (Some p) e =
+          let w = held.used s (ap is_some e) in
+          absurd (none-some (range_from p) (sym (none w.0 w.1) ∙ ap option_flatten (range-standing live n v shows s w.1 w.0 p w.2 e)))
+
+-- ---- an end that is listed
+
+module _ (live : Slab Points) (n : Numbers) (v : RangeLists) (shows : Shows live n v) (held : HaveNumbers live n) where
+  pub end-shown : (es : List RangeEnd) → IsListed live es → (b : Boundary ℕ) → IsListedAt es b → HasEndAt v b
+  end-shown es listed b at_b =
+      let d = end_in 0 false b in
+      let e = slice_index_or es at_b.0 d in
+      by e.slot e.is_end (get live e.slot) refl (listed.standing at_b.0 d at_b.1 ∙ ap Some (at_b.2 d))
+    where
+      by : (slot : ℕ) (is_end : Bool) (m : Option Points) → get live slot ≡ m → option_map (end_of is_end) (get live slot) ≡ Some b → HasEndAt v b
+      by slot is_end None e f = absurd (none-some b (ap (option_map (end_of is_end)) (sym e) ∙ f))
+      by slot is_end (Some p) e f =
+          let w = held.used slot (ap is_some e) in
+          let here = same_Some _ _ (ap (option_map (end_of is_end)) (sym e) ∙ f) in
+          (w.0, w.1, range_from p, range-standing live n v shows slot w.1 w.0 p w.2 e, side is_end here)
+        where
+          side : (is_end' : Bool) → end_of is_end' p ≡ b → ((range_from p).start ≡ b) ⊎ ((range_from p).end ≡ b)
+          side true h = inr h
+          side false h = inl h

@@ -53,6 +53,10 @@ pub record IsListed (live : Slab Points) (es : List RangeEnd) : Type 0 where
   pub counted : (slot : ℕ) (is_end : Bool) → times slot is_end es ≡ cond (is_some (get live slot)) 1 0
   pub standing : (k : ℕ) (d : RangeEnd) → k < length es → Stands live (slice_index_or es k d)
 
+-- an end is listed at this boundary point
+abbrev pub IsListedAt : List RangeEnd → Boundary ℕ → Type 0
+IsListedAt es b = (k : ℕ) × (k < length es) × ((d : RangeEnd) → point_of (slice_index_or es k d) ≡ b)
+
 -- of two boundary points the first does not come after the second, by nodes and then by offsets
 abbrev pub AtMost : Boundary ℕ → Boundary ℕ → Type 0
 AtMost b c = (b.node ≤ c.node) × (b.node ≡ c.node → b.offset ≤ c.offset)

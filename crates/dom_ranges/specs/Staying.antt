@@ -3,7 +3,7 @@ use Rattle.std.specs.Prelude.{◌≡◌, ℕ, ◌+◌, ◌^◌, ◌<◌, ◌≤�
 use Rattle.dom_base.specs.declared.Owner.{Owner}
 use Rattle.dom_base.specs.declared.NodeName.{NodeName}
 use Rattle.dom_model.specs.Place.{Boundary}
-use Rattle.dom_model.specs.Ranges.{at, from_to, after_insert, after_removal, after_replace_data, after_split, after_join}
+use Rattle.dom_model.specs.Ranges.{Range, at, from_to, after_insert, after_removal, after_replace_data, after_split, after_join}
 use Rattle.dom_tree.specs.Forest.{NamedTrees}
 use Rattle.dom_ranges.specs.Rules.{Fits, IsAtNode, is_inside}
 use Rattle.dom_ranges.specs.Settings.{start_set, end_set}
@@ -66,6 +66,11 @@ MadeWithin = (names : List NodeName) (most : ℕ) (was now : RangeLists) (owner 
 abbrev pub RemovedWithin : Type 0
 RemovedWithin = (names : List NodeName) (most : ℕ) (was now : RangeLists) (owner : Owner) (number : ℕ) →
     HasRanges owner (slice_set (ranges_of was owner) number None) was now → AreWithin names most was → AreWithin names most now
+
+-- a range that was given other ends
+abbrev pub WrittenWithin : Type 0
+WrittenWithin = (names : List NodeName) (most : ℕ) (was now : RangeLists) (owner : Owner) (number : ℕ) (r : Range ℕ) → BothEnds (IsWithin names most) r →
+    HasRanges owner (slice_set (ranges_of was owner) number (Some r)) was now → AreWithin names most was → AreWithin names most now
 
 -- a range with another start
 abbrev pub StartWithin : Type 0

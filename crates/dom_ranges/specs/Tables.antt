@@ -1,5 +1,5 @@
 -- What a contract sees of a `RangeTable`: each owner's live ranges, with keys in place of their nodes' names.
-use Rattle.std.specs.Prelude.{◌≡◌, ℕ, List, [], ◌∷◌, map, slice_get, Bool, true, false, Option, Some, option_map, if◌then◌else◌}
+use Rattle.std.specs.Prelude.{◌≡◌, ◌⊎◌, ℕ, List, [], ◌∷◌, map, slice_get, Bool, true, false, Option, Some, option_map, if◌then◌else◌}
 use Rattle.std.specs.Option.{option_flatten}
 use Rattle.dom_base.specs.declared.Owner.{Owner}
 use Rattle.dom_model.specs.Names.{owner_eq}
@@ -47,6 +47,11 @@ EachRange P rs = (k : ℕ) (r : Range ℕ) → slice_get rs k ≡ Some (Some r) 
 -- both ends hold a fact
 abbrev pub BothEnds : (Boundary ℕ → Type 0) → Range ℕ → Type 0
 BothEnds P r = P r.start × P r.end
+
+-- a live range has an end at this boundary point
+abbrev pub HasEndAt : RangeLists → Boundary ℕ → Type 0
+HasEndAt t b =
+    (o : Owner) × (k : ℕ) × (r : Range ℕ) × (slice_get (ranges_of t o) k ≡ Some (Some r)) × ((r.start ≡ b) ⊎ (r.end ≡ b))
 
 -- a range with both ends at one of them (DOM Standard, collapse)
 abbrev pub collapsed_range : {N : Type 0} → Bool → Range N → Range N

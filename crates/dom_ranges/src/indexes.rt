@@ -1,9 +1,10 @@
 //! The index of a child, which is looked for only as far as ends of live ranges stand behind the child in its parent.
-ghost use Rattle.std.specs.Prelude.{◌≡◌, ℕ, ◌<◌, length, slice_index_or, None};
+ghost use Rattle.std.specs.Prelude.{◌≡◌, ◌⊎◌, ℕ, ◌<◌, length, slice_index_or, None};
 ghost use Rattle.std.specs.Option.{ForSome};
+ghost use Rattle.dom_model.specs.Ranges.{at};
 ghost use Rattle.dom_model.specs.Tree.{index_of};
 ghost use Rattle.dom_tree.specs.Forest.{IsNode, name_of};
-ghost use Rattle.dom_ranges.specs.Listed.{IsSortedByPoint, point_of};
+ghost use Rattle.dom_ranges.specs.Listed.{IsSortedByPoint, IsListedAt, point_of};
 ghost use Rattle.dom_ranges.specs.Rules.{IsUpTo, IsNear};
 
 use crate::ends::RangeEnd;
@@ -14,7 +15,8 @@ use node_arena::Key;
 /// The greatest offset of the ends at a node, which is that of the last one; 0 where there are none.
 pub(crate) fn reach(ends: &[RangeEnd], node: Key) -> usize
     requires { IsSortedByPoint ends.now }
-    ensures { (k : ℕ) (d : RangeEnd) → k < length ends.now → IsUpTo node result (point_of (slice_index_or ends.now k d)) }
+    ensures up_to { (k : ℕ) (d : RangeEnd) → k < length ends.now → IsUpTo node result (point_of (slice_index_or ends.now k d)) }
+    ensures reached { (result ≡ 0) ⊎ IsListedAt ends.now (at node result) }
 {
     let behind = behind_node(ends, node);
     if behind > 0 && ends[behind - 1].node == node {

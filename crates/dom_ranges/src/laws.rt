@@ -1,7 +1,7 @@
 //! Laws of live ranges, for a caller whose own tables are over names. They make no calls.
 ghost use Rattle.dom_ranges.specs.Naming.{InsertNamed, RemovalNamed, ReplaceDataNamed, SplitNamed, JoinNamed, StartNamed, EndNamed, GrownNamed};
 ghost use Rattle.dom_ranges.specs.Naming.{MadeNamed, RemovedNamed, RewrittenNamed, CollapsedNamed};
-ghost use Rattle.dom_ranges.specs.Staying.{NoneWithin, SameWithin, MoreWithin, WithinAtNodes, MadeWithin, RemovedWithin, StartWithin, EndWithin};
+ghost use Rattle.dom_ranges.specs.Staying.{NoneWithin, SameWithin, MoreWithin, WithinAtNodes, MadeWithin, RemovedWithin, WrittenWithin, StartWithin, EndWithin};
 ghost use Rattle.dom_ranges.specs.Staying.{CollapsedWithin, InsertWithin, RemovalWithin, ReplaceDataWithin, SplitWithin, JoinWithin};
 
 /// With every key replaced by its name, where the keys are of nodes and the names tell them apart, each rule over keys is
@@ -32,6 +32,7 @@ pub fn law_ends_stay()
     ensures at_nodes { WithinAtNodes }
     ensures made { MadeWithin }
     ensures removed { RemovedWithin }
+    ensures written { WrittenWithin }
     ensures start { StartWithin }
     ensures end { EndWithin }
     ensures collapsed { CollapsedWithin }

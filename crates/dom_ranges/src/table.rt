@@ -11,7 +11,7 @@ ghost use Rattle.dom_tree.specs.Forest.{IsNode, name_of};
 ghost use Rattle.slab.specs.Slab.{get, Updates};
 ghost use Rattle.dom_ranges.specs.Rules.{Fits, IsAtNode, IsNear, IsUpTo, is_inside};
 ghost use Rattle.dom_ranges.specs.Settings.{start_set, end_set, named_ranges, with_named, without_named};
-ghost use Rattle.dom_ranges.specs.Tables.{ranges_of, range_in, with_ranges, range_from, ends_by, EachRange, BothEnds, collapsed_range};
+ghost use Rattle.dom_ranges.specs.Tables.{ranges_of, range_in, with_ranges, range_from, ends_by, EachRange, BothEnds, HasEndAt, collapsed_range};
 
 use crate::change::{Join, Replacement, Split};
 use crate::concerned::LocalChange;
@@ -254,7 +254,7 @@ impl RangeTable {
 
     /// Whether no owner has a live range. Where it is so, no step of a change has to be told to the table.
     pub fn is_empty(&self) -> bool
-        ensures { result ≡ true → (o : Owners) (k : ℕ) → range_in (ranges_of self.now o) k ≡ None }
+        ensures { (result ≡ true) ↔ ((o : Owners) (k : ℕ) → range_in (ranges_of self.now o) k ≡ None) }
     {
         self.live.is_empty()
     }
@@ -262,7 +262,8 @@ impl RangeTable {
     /// A number that no offset of a boundary point in a node is greater than: the greatest of these offsets, or 0 where there
     /// are none (own rule).
     pub fn reach(&self, node: Key) -> usize
-        ensures { (o : Owners) → EachRange (BothEnds (IsUpTo node result)) (ranges_of self.now o) }
+        ensures up_to { (o : Owners) → EachRange (BothEnds (IsUpTo node result)) (ranges_of self.now o) }
+        ensures reached { (result ≡ 0) ⊎ HasEndAt self.now (at node result) }
     {
         reach(self.ends.as_slice(), node)
     }

@@ -14,7 +14,7 @@ use Rattle.dom_slots.specs.Shadows.{ShadowTrees, is_assigned_at, is_first_at, lo
 use Rattle.dom_slots.proofs.NamesOfNodes.{InNodes, in_tree, node_in-self}
 
 -- texts that are the same one by one
-text_true : (xs ys : List ℕ) → text_eq xs ys ≡ true → xs ≡ ys
+pub text_true : (xs ys : List ℕ) → text_eq xs ys ≡ true → xs ≡ ys
 text_true [] [] e = refl
 text_true [] (y ∷ ys) e = absurd (true≢false (sym e))
 text_true (x ∷ xs) [] e = absurd (true≢false (sym e))
@@ -22,7 +22,7 @@ text_true (x ∷ xs) (y ∷ ys) e =
     let parts = and_parts (x == y) (text_eq xs ys) e in
     ap (λ z. z ∷ xs) (eqb-true x y parts.0) ∙ ap (λ zs. y ∷ zs) (text_true xs ys parts.1)
 
-text_same : (xs : List ℕ) → text_eq xs xs ≡ true
+pub text_same : (xs : List ℕ) → text_eq xs xs ≡ true
 text_same [] = refl
 text_same (x ∷ xs) = ap (λ b. b && text_eq xs xs) (eq-eqb x x refl) ∙ text_same xs
 

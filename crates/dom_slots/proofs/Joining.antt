@@ -8,7 +8,7 @@ use Rattle.std.proofs.lemmas.List.{map-append, append-nil}
 use Rattle.std.proofs.lemmas.List.Elements.{All-nil, All-cons, All-head, All-tail, All-append, filter-append}
 use Rattle.std.proofs.lemmas.Option.{same_Some, none-some}
 use Rattle.dom_base.specs.declared.NodeName.{NodeName}
-use Rattle.dom_model.specs.Names.{name_eq, list_eq, is_in, first_of, items_before, items_after}
+use Rattle.dom_model.specs.Names.{name_eq, list_eq, is_in, is_empty, first_of, items_before, items_after}
 use Rattle.dom_model.specs.Slots.{slot_name}
 use Rattle.dom_model.specs.Tree.{node_in, parent_of, root_of, children_of, siblings}
 use Rattle.dom_model.proofs.OwnerLaws.{name_eq-other}
@@ -173,25 +173,37 @@ module _ (f : NamedTrees) (once : Once f.trees) (distinct : TellApart f.names) (
       let parent : parent_of f.trees z ≡ Some h = (parent-of_child f.trees h z once stands (after-in x z all i)).0 in
       sym (assigned-first s once h y z parent ∙ ap (λ b. b && looks_for (slot_name (node_in f.trees y)) (node_in f.trees z)) first)
 
+  -- the first behind it that looks for the name of the slot
+  abbrev next : Option NodeName
+  next = first_of (filter (λ z. looks_for (slot_name (node_in f.trees y)) (node_in f.trees z)) (items_after name_eq x (siblings f.trees x)))
+
+  next-rear : next ≡ first_of rear
+  next-rear =
+      ap (λ ys. first_of (filter (λ z. looks_for (slot_name (node_in f.trees y)) (node_in f.trees z)) (items_after name_eq x ys)))
+      (siblings-children f once x h at up)
+      ∙ ap first_of (filter-same (λ z. looks_for (slot_name (node_in f.trees y)) (node_in f.trees z)) mine (items_after name_eq x all) looks)
+
   module _ (list : List ℕ) (inside : All (λ j. j < length f.names) list) (right : map (name_at f.names) list ≡ names_but x (assigned_at s y))
       (before : Option ℕ) (node : ForSome before (λ j. j < length f.names))
-      (is : option_map (name_at f.names) before ≡ first_of
-      (filter (λ z. looks_for (slot_name (node_in f.trees y)) (node_in f.trees z)) (items_after name_eq x (siblings f.trees x)))) where
+      (is : option_map (name_at f.names) before ≡ (if is_empty list then None else next)) where
     parts : map (name_at f.names) list ≡ front ++ rear
     parts = right ∙ (ap (names_but x) assigned-parts ∙ but-between x front rear off_front off_rear)
 
     parted : AreParted f.names list front rear
     parted = record { inside = inside; named = parts }
 
+    -- of an empty list nobody stands behind it
+    behind : (ks : List ℕ) → map (name_at f.names) ks ≡ front ++ rear → (if is_empty ks then None else next) ≡ first_of rear
+    behind [] e = no-rear front e
+      where
+        no-rear : (ys : List NodeName) → [] ≡ ys ++ rear → None ≡ first_of rear
+        no-rear [] e' = ap first_of e'
+        no-rear (z ∷ ys) e' = absurd (none-some z (ap first_of e'))
+    behind (k ∷ ks) e = next-rear
+
     -- with the node at its place the list is that of what is assigned
     pub joined : map (name_at f.names) (insert_before list n before) ≡ assigned_at s y
-    joined =
-        inserted-named f.names distinct n before node apart
-        (is ∙ (ap (λ ys. first_of (filter (λ z. looks_for (slot_name (node_in f.trees y)) (node_in f.trees z)) (items_after name_eq x ys)))
-        (siblings-children f once x h at up)
-        ∙ ap first_of (filter-same (λ z. looks_for (slot_name (node_in f.trees y)) (node_in f.trees z)) mine (items_after name_eq x all) looks)))
-        parted
-        ∙ sym assigned-parts
+    joined = inserted-named f.names distinct n before node apart (is ∙ behind list parts) parted ∙ sym assigned-parts
 
     -- it was not in the list
     pub not-listed : is_in nat_eq n list ≡ false

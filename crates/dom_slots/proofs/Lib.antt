@@ -37,3 +37,6 @@ mod Shortened
 mod InLine
 mod Counted
 mod Unlisted
+mod Serving
+mod TreeSlots
+mod Waited

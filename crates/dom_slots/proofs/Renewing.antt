@@ -1,24 +1,25 @@
 -- The list of a slot is renewed.
 use Rattle.std.proofs.Common.{◌≡◌, inl, inr, ℕ, ◌<◌, Bool, true, false, not, ◌&&◌, ◌||◌, List, [], ◌∷◌, ◌++◌, All, map, fold, filter, length, refl}
-use Rattle.std.proofs.Common.{sym, ap, subst, ◌∙◌, true≢false}
+use Rattle.std.proofs.Common.{◌+◌, take, get_or, append_assoc, sym, ap, subst, ◌∙◌, true≢false}
 use Rattle.std.specs.Prelude.{nat_eq, if◌then◌else◌}
 use Rattle.std.proofs.lemmas.Bool.{and_parts, or_parts, or_left, or_right, eqb-true}
-use Rattle.std.proofs.lemmas.List.{append-nil}
-use Rattle.std.proofs.lemmas.List.Elements.{All-nil}
+use Rattle.std.proofs.lemmas.List.{append-nil, map-append, take_more}
+use Rattle.std.proofs.lemmas.List.Elements.{All-nil, filter-append}
 use Rattle.std.proofs.lemmas.List.Folds.{list_any-append}
 use Rattle.dom_base.specs.declared.NodeName.{NodeName}
 use Rattle.dom_model.specs.Names.{name_eq, list_eq, is_in, append_once}
 use Rattle.dom_model.proofs.OwnerLaws.{name_eq-turned, name_eq-true}
 use Rattle.dom_tree.specs.Forest.{NamedTrees, name_at}
 use Rattle.dom_tree.specs.Apart.{TellApart}
-use Rattle.dom_laws.proofs.Lists.{filter-yes, filter-no}
+use Rattle.dom_laws.proofs.Lists.{In, In-parts, In-from, is_in-from, filter-yes, filter-no, filter-none}
 use Rattle.dom_slots.specs.Hosts.{ShadowHost}
 use Rattle.dom_slots.specs.Renewals.{AreRenewed}
+use Rattle.dom_slots.specs.Insides.{AreRight}
 use Rattle.dom_slots.specs.Shadows.{shadows, assigned_at}
 use Rattle.dom_slots.specs.Tables.{SlotTable, list_of}
 use Rattle.dom_slots.proofs.Entering.{entered_nodes, entered_beyond}
 use Rattle.dom_slots.proofs.Hosted.{key-test}
-use Rattle.dom_slots.proofs.OwnSignals.{again_added, passing}
+use Rattle.dom_slots.proofs.OwnSignals.{again_added, passing, passes}
 use Rattle.dom_slots.proofs.Signalled.{list_eq-self, list_eq-named, one_signalled, node_added}
 
 -- keys that are the same one by one
@@ -194,6 +195,72 @@ renewed-anew {f} {hosts} {p} {old} {done} {told} {table} r = record {
         ∙ (and_true (p (name_at f.names k))
         ∙ (r.others k within ∙ ap (λ ks. not (list_eq name_eq (map (name_at f.names) ks) (assigned_at (shadows f hosts) (name_at f.names k))))
         (sym (r.kept k within i))))
+
+-- slots that were renewed already add nothing
+pub renewed-again : {f : NamedTrees} {hosts : List ShadowHost} {p : NodeName → Bool} {old : SlotTable} {done told : List NodeName} {table : SlotTable}
+    {keys : List ℕ} → AreRenewed f hosts p old done told table keys → (ys : List NodeName) → ((y : NodeName) → In y ys → is_in name_eq y done ≡ true)
+    → AreRenewed f hosts p old (done ++ ys) (told ++ filter p ys) table keys
+renewed-again {f} {hosts} {p} {old} {done} {told} {table} r ys there = record {
+  others = r.others;
+  renewed = λ k within i. r.renewed k within (in_done (name_at f.names k) i);
+  kept = λ k within i.
+      r.kept k within (or_parts (is_in name_eq (name_at f.names k) done) _ (sym (list_any-append (name_eq (name_at f.names k)) done ys) ∙ i)).0;
+  nodes = r.nodes;
+  beyond = r.beyond;
+  keys_nodes = r.keys_nodes;
+  keys_are = r.keys_are ∙ sym (again_added told (filter p ys) (λ y i. let w = passing p y ys i in r.among y (there y w.0) w.1));
+  among = λ y i pass. list_any-append (name_eq y) told (filter p ys) ∙ or_left (is_in name_eq y told) _ (r.among y (in_done y i) pass);
+}
+  where
+    in_done : (y : NodeName) → is_in name_eq y (done ++ ys) ≡ true → is_in name_eq y done ≡ true
+    in_done y i = elim (In-parts y done ys (In-from y (done ++ ys) i)) [ inl j ↦ is_in-from y done j | inr j ↦ there y j ]
+
+-- and of those whose lists are right none is signalled
+pub renewed-right : {f : NamedTrees} {hosts : List ShadowHost} {q : NodeName → Bool} {old : SlotTable} → (ys : List NodeName) →
+    ((y : NodeName) → In y ys → (k : ℕ) × (k < length f.names) × (name_at f.names k ≡ y)) → AreRight f hosts ys old →
+    AreRenewed f hosts q old [] [] old [] → AreRenewed f hosts q old ys (filter q ys) old []
+renewed-right {f} {hosts} {q} {old} ys nodes right start = record {
+  others = start.others;
+  renewed = right;
+  kept = λ k within i. refl;
+  nodes = start.nodes;
+  beyond = start.beyond;
+  keys_nodes = start.keys_nodes;
+  keys_are = ap (fold (append_once name_eq) []) (sym (filter-none q ys quiet));
+  among = λ y i pass. is_in-from y (filter q ys) (passes q y ys (In-from y ys i) pass);
+}
+  where
+    quiet : (y : NodeName) → In y ys → q y ≡ false
+    quiet y i =
+        let w = nodes y i in
+        let k = w.0 in
+        ap q (sym w.2) ∙ (start.others k w.1
+        ∙ (ap (λ xs. not (list_eq name_eq xs (assigned_at (shadows f hosts) (name_at f.names k))))
+        (right k w.1 (ap (λ z. is_in name_eq z ys) w.2 ∙ is_in-from y ys i)) ∙ ap not (list_eq-self (assigned_at (shadows f hosts) (name_at f.names k)))))
+
+-- Slots are renewed one after another.
+module _ (f : NamedTrees) (hosts : List ShadowHost) (p : NodeName → Bool) (old : SlotTable) (done told : List NodeName) where
+  -- before the first
+  pub none_yet : (table : SlotTable) (keys : List ℕ) → AreRenewed f hosts p old done told table keys →
+      AreRenewed f hosts p old (done ++ []) (told ++ []) table keys
+  none_yet table keys r = subst (λ ds. AreRenewed f hosts p old ds (told ++ []) table keys) (sym (append-nil done))
+      (subst (λ ts. AreRenewed f hosts p old done ts table keys) (sym (append-nil told)) r)
+
+  -- one more
+  pub one_more : {table : SlotTable} {keys : List ℕ} (slots : List ℕ) (i s : ℕ) → s ≡ get_or slots i s → i < length slots
+      → AreRenewed f hosts p old ((done ++ map (name_at f.names) (take i slots)) ++ name_at f.names s ∷ [])
+      ((told ++ filter p (map (name_at f.names) (take i slots))) ++ filter p (name_at f.names s ∷ [])) table keys
+      → AreRenewed f hosts p old (done ++ map (name_at f.names) (take (i + 1) slots)) (told ++ filter p (map (name_at f.names) (take (i + 1) slots))) table keys
+  one_more {table} {keys} slots i s at within r =
+      let longer : map (name_at f.names) (take (i + 1) slots) ≡ map (name_at f.names) (take i slots) ++ name_at f.names s ∷ [] =
+      ap (map (name_at f.names)) (take_more slots i s within ∙ ap (λ j. take i slots ++ j ∷ []) (sym at)) ∙
+      map-append (name_at f.names) (take i slots) (s ∷ []) in
+      subst (λ xs. AreRenewed f hosts p old (done ++ xs) (told ++ filter p xs) table keys) (sym longer)
+      (subst (λ ts. AreRenewed f hosts p old (done ++ (map (name_at f.names) (take i slots) ++ name_at f.names s ∷ [])) ts table keys)
+      (append_assoc told (filter p (map (name_at f.names) (take i slots))) (filter p (name_at f.names s ∷ [])) ∙
+      ap (λ ys. told ++ ys) (sym (filter-append p (map (name_at f.names) (take i slots)) (name_at f.names s ∷ []))))
+      (subst (λ ds. AreRenewed f hosts p old ds ((told ++ filter p (map (name_at f.names) (take i slots))) ++ filter p (name_at f.names s ∷ [])) table keys)
+      (append_assoc done (map (name_at f.names) (take i slots)) (name_at f.names s ∷ [])) r))
 
 -- Slots were renewed.
 module _ {f : NamedTrees} {hosts : List ShadowHost} {p : NodeName → Bool} {old : SlotTable} {done told : List NodeName} {table : SlotTable}

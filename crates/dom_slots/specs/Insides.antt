@@ -1,15 +1,17 @@
 -- What a step inside of a shadow tree renews and signals.
-use Rattle.std.specs.Prelude.{◌≡◌, ◌⊎◌, ℕ, Bool, false, ◌&&◌, List, [], ◌∷◌, ◌++◌, filter, Option, None, Some, option_map, option_to_list, if◌then◌else◌}
+use Rattle.std.specs.Prelude.{◌≡◌, ◌⊎◌, ℕ, ◌<◌, Bool, true, false, ◌&&◌, List, [], ◌∷◌, ◌++◌, filter, map, length}
+use Rattle.std.specs.Prelude.{Option, None, Some, option_map, option_to_list, if◌then◌else◌}
 use Rattle.std.specs.Option.{option_map_or}
 use Rattle.dom_base.specs.declared.NodeName.{NodeName}
+use Rattle.dom_model.specs.Names.{name_eq, is_in}
 use Rattle.dom_model.specs.Slots.{is_slot_element, slots_among}
 use Rattle.dom_model.specs.Tree.{Trees, node_in, root_of, subtree}
 use Rattle.dom_tree.specs.Forest.{NamedTrees, name_at}
 use Rattle.dom_slots.specs.Hosts.{ShadowHost}
 use Rattle.dom_slots.specs.Renewals.{AreRenewed}
-use Rattle.dom_slots.specs.Shadows.{shadows, slot_at, is_bare_at}
+use Rattle.dom_slots.specs.Shadows.{shadows, slot_at, is_bare_at, assigned_at}
 use Rattle.dom_slots.specs.Steps.{step_node, is_move, around_of, left_behind}
-use Rattle.dom_slots.specs.Tables.{SlotTable}
+use Rattle.dom_slots.specs.Tables.{SlotTable, list_of}
 use Rattle.dom_slots.specs.declared.step.Step.{Step}
 
 -- the slots of the tree in which a node stands
@@ -37,6 +39,12 @@ module _ (f : NamedTrees) (hosts : List ShadowHost) where
   abbrev pub MovesNone : Step → Type 0
   MovesNone step = (slots_among (subtree f.trees (name_at f.names (step_node step))) ≡ []) ⊎
       ((is_move step ≡ false) × (is_slot_element (node_in f.trees (name_at f.names (step_node step))) ≡ false))
+
+  -- the lists of slots are right in a table
+  abbrev pub AreRight : List NodeName → SlotTable → Type 0
+  AreRight slots table =
+      (k : ℕ) → k < length f.names → is_in name_eq (name_at f.names k) slots ≡ true → map (name_at f.names) (list_of table k) ≡ assigned_at
+      (shadows f hosts) (name_at f.names k)
 
   -- from a table to another one the lists of slots are renewed, whoever is signalled
   abbrev pub AreSilent : List NodeName → SlotTable → SlotTable → Type 0

@@ -10,3 +10,4 @@ pub mod Kept
 pub mod Fields
 pub mod Renewals
 pub mod Insides
+pub mod Waiting

@@ -1,9 +1,10 @@
 -- Elementary steps, and the slots that they signal.
-use Rattle.std.specs.Prelude.{◌≡◌, ℕ, ◌<◌, Bool, true, false, ◌&&◌, List, [], length, Option, Some, None, option_map, is_none}
+use Rattle.std.specs.Prelude.{◌≡◌, ℕ, ◌<◌, Bool, true, false, ◌&&◌, ◌||◌, not, List, [], length, Option, Some, None, option_map, is_none}
 use Rattle.std.specs.Option.{option_map_or, ForSome}
 use Rattle.dom_base.specs.declared.NodeName.{NodeName}
-use Rattle.dom_model.specs.Names.{Word, DomString}
-use Rattle.dom_model.specs.Tree.{Trees, parent_of, root_of}
+use Rattle.dom_model.specs.Names.{Word, DomString, first_of}
+use Rattle.dom_model.specs.Slots.{is_slot_element}
+use Rattle.dom_model.specs.Tree.{Trees, node_in, parent_of, root_of, children_of}
 use Rattle.dom_model.specs.TreeChanges.{placed, taken_out, change_node, with_attribute}
 use Rattle.dom_tree.specs.Forest.{name_at}
 use Rattle.dom_slots.specs.declared.step.Step.{Step}
@@ -56,6 +57,12 @@ IsStepFrom names was now (Attribute x) left = (a : Word) × (v : Option DomStrin
 abbrev pub step_signals : List NodeName → ShadowTrees → ShadowTrees → Step → Option ℕ → List NodeName
 step_signals names was now step left =
     option_map_or (λ around. signals_at was now (name_at names (step_node step)) (name_at names around) (is_move step)) (around_of step left) []
+
+-- whether a step surely moves no slot, and changes no slot's attributes: its node is no slot, and where it is moved has no child
+abbrev pub is_light : List NodeName → Trees → Step → Bool
+is_light names ts step =
+    not (is_slot_element (node_in ts (name_at names (step_node step)))) &&
+    (not (is_move step) || is_none (first_of (children_of ts (name_at names (step_node step)))))
 
 -- whether a node, if there is one, stands in no shadow tree
 abbrev pub is_outside : ShadowTrees → Option NodeName → Bool

@@ -11,6 +11,7 @@ mod node_slots;
 mod slots;
 mod step;
 mod table;
+mod waiting;
 
 pub use laws::{law_new_nodes_are_free, law_slots_are_of_worlds, law_slots_stay, law_steps_end};
 pub use slots::Slots;

@@ -1,13 +1,21 @@
 -- Laws of bytes that are written piece by piece.
-use Rattle.std.proofs.Common.{◌≡◌, ℕ, ◌+◌, ◌-◌, List, [], ◌++◌, length, take, drop, Option, Result, Ok, Err, sym, ap, subst, ◌∙◌, append_assoc}
-use Rattle.std.proofs.Common.{append-nil, arith, length-drop}
+use Rattle.std.proofs.Common.{◌≡◌, ℕ, ◌+◌, ◌-◌, List, [], ◌++◌, length, take, drop, Result, Ok, Err, sym, ap, subst, ◌∙◌, append_assoc}
+use Rattle.std.proofs.Common.{append-nil, arith, length-append, length-drop}
 use Rattle.std.proofs.lemmas.List.{take_all, take-append-drop}
-use Rattle.std.specs.Io.KnownBytes.{Appends}
 use Rattle.std.specs.Result.{MatchResult, OnOk}
-use Rattle.std.proofs.KnownBytes.{Appends-trans}
+use Rattle.std.proofs.KnownBytes.{Appends-nil, Appends-trans}
 use Rattle.dom_streams.specs.declared.fault.RunFault.{RunFault}
 use Rattle.dom_streams.specs.declared.fault.RunFault.TheVariants.{Read, Write, Memory, InputLimit}
-use Rattle.dom_streams.specs.Writing.{AppendsFront, StopsWriting, EndsWriting}
+use Rattle.dom_streams.specs.Writing.{Taken, Takes, TakesFront, StopsWriting, EndsWriting}
+
+-- nothing was taken
+pub Takes-nil : (a : Taken) → Takes a a []
+Takes-nil a = (Appends-nil a.0, omega arith)
+
+-- a text was taken, and then another
+module _ (a b c : Taken) where
+  pub Takes-trans : (bs cs : List ℕ) → Takes a b bs → Takes b c cs → Takes a c (bs ++ cs)
+  Takes-trans bs cs p q = (Appends-trans a.0 b.0 c.0 bs cs p.0 q.0, omega (arith, p.1, q.1, length-append bs cs))
 
 -- what is left of bytes of which n were taken
 pub rest_behind : (bytes front rest : List ℕ) (n : ℕ) → bytes ≡ front ++ rest → bytes ≡ (front ++ take n rest) ++ take (length rest - n) (drop n rest)
@@ -16,18 +24,18 @@ rest_behind bytes front rest n h =
     h ∙ ap (λ (x : List ℕ). front ++ x) (sym (take-append-drop n rest)) ∙ sym (append_assoc front (take n rest) (drop n rest)) ∙
     ap (λ (x : List ℕ). (front ++ take n rest) ++ x) (sym all)
 
--- a front was written, and no call of the sink failed: its counts of failed calls and what it holds, before and after
-pub record HasWritten (failed fails : ℕ) (old new : Option (List ℕ)) (front : List ℕ) : Type 0 where
+-- a front was taken, and no call of the sink failed: its counts of failed calls and what it took, before and after
+pub record HasWritten (failed fails : ℕ) (old new : Taken) (front : List ℕ) : Type 0 where
   pub none_failed : fails ≡ failed
-  pub appends : Appends old new front
+  pub takes : Takes old new front
 
 -- ---- behind a front that was written
 
-module _ {f₀ f₁ : ℕ} {a b : Option (List ℕ)} {front : List ℕ} (before : HasWritten f₀ f₁ a b front) where
+module _ {f₀ f₁ : ℕ} {a b : Taken} {front : List ℕ} (before : HasWritten f₀ f₁ a b front) where
   -- A text is begun, behind which another one was to come.
-  module _ (c : Option (List ℕ)) (text back : List ℕ) where
+  module _ (c : Taken) (text back : List ℕ) where
     -- some first bytes of both are written
-    front_behind : AppendsFront b c text → AppendsFront a c ((front ++ text) ++ back)
+    front_behind : TakesFront b c text → TakesFront a c ((front ++ text) ++ back)
     front_behind h = record {
       front = front ++ h.front;
       back = h.back ++ back;
@@ -35,7 +43,7 @@ module _ {f₀ f₁ : ℕ} {a b : Option (List ℕ)} {front : List ℕ} (before 
           ap (λ (x : List ℕ). (front ++ x) ++ back) h.split
           ∙ ap (λ (x : List ℕ). x ++ back) (sym (append_assoc front h.front h.back))
           ∙ append_assoc (front ++ h.front) h.back back;
-      appends = Appends-trans a b c front h.front before.appends h.appends;
+      takes = Takes-trans a b c front h.front before.takes h.takes;
     }
 
     -- a fault stops it
@@ -46,21 +54,21 @@ module _ {f₀ f₁ : ℕ} {a b : Option (List ℕ)} {front : List ℕ} (before 
     stops_between InputLimit f₂ some h = h
 
   -- A text is written.
-  pub ends_behind : {A : Type 0} (r : Result A RunFault) (f₂ : ℕ) (c : Option (List ℕ)) (text : List ℕ) (some : Type 0)
+  pub ends_behind : {A : Type 0} (r : Result A RunFault) (f₂ : ℕ) (c : Taken) (text : List ℕ) (some : Type 0)
       → EndsWriting r f₁ f₂ b c text some → EndsWriting r f₀ f₂ a c (front ++ text) some
-  ends_behind (Ok x) f₂ c text some h = (h.0 ∙ before.none_failed, Appends-trans a b c front text before.appends h.1)
+  ends_behind (Ok x) f₂ c text some h = (h.0 ∙ before.none_failed, Takes-trans a b c front text before.takes h.1)
   ends_behind (Err Write) f₂ c text some h =
-      (h.0 ∙ ap (λ n. n + 1) before.none_failed, subst (AppendsFront a c) (append-nil (front ++ text)) (front_behind c text [] h.1))
+      (h.0 ∙ ap (λ n. n + 1) before.none_failed, subst (TakesFront a c) (append-nil (front ++ text)) (front_behind c text [] h.1))
   ends_behind (Err Memory) f₂ c text some h = (h.0 ∙ before.none_failed, h.1)
   ends_behind (Err Read) f₂ c text some h = h
   ends_behind (Err InputLimit) f₂ c text some h = h
 
--- ---- a text is written, with the sink's count of failed calls and what it holds, before and after
+-- ---- a text is written, with the sink's count of failed calls and what it took, before and after
 
-module _ (f₀ f₁ : ℕ) (a b : Option (List ℕ)) where
+module _ (f₀ f₁ : ℕ) (a b : Taken) where
   -- the two ends of the writing
   pub ends_cases : {A : Type 0} (r : Result A RunFault) (text : List ℕ) (some : Type 0) → EndsWriting r f₀ f₁ a b text some →
-      MatchResult r (λ _. (f₁ ≡ f₀) × Appends a b text) (λ e. StopsWriting e f₀ f₁ a b text some)
+      MatchResult r (λ _. (f₁ ≡ f₀) × Takes a b text) (λ e. StopsWriting e f₀ f₁ a b text some)
   ends_cases (Ok x) text some h = h
   ends_cases (Err e) text some h = h
 
@@ -68,14 +76,14 @@ module _ (f₀ f₁ : ℕ) (a b : Option (List ℕ)) where
   module _ {text all : List ℕ} {some some' : Type 0} (same : text ≡ all) (weaker : some → some') where
     -- A fault stops the writing.
     pub stops_as : (e : RunFault) → StopsWriting e f₀ f₁ a b text some → StopsWriting e f₀ f₁ a b all some'
-    stops_as Write h = (h.0, subst (AppendsFront a b) same h.1)
+    stops_as Write h = (h.0, subst (TakesFront a b) same h.1)
     stops_as Memory h = (h.0, weaker h.1)
     stops_as Read h = h
     stops_as InputLimit h = h
 
     -- The writing ends.
     pub ends_as : {A : Type 0} (r : Result A RunFault) → EndsWriting r f₀ f₁ a b text some → EndsWriting r f₀ f₁ a b all some'
-    ends_as (Ok x) h = (h.0, subst (Appends a b) same h.1)
+    ends_as (Ok x) h = (h.0, subst (Takes a b) same h.1)
     ends_as (Err e) h = stops_as e h
 
 -- what always holds

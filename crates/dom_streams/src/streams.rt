@@ -5,6 +5,7 @@ ghost use Rattle.std.specs.Io.{ReadsAtMost, WritesAtMost};
 ghost use Rattle.std.specs.Io.KnownBytes.{Keeps, ReadConsumes, WriteAppends};
 ghost use Rattle.dom_streams.specs.Streams.{CountsBytes, CountsFailure, CountsWrite};
 
+use crate::count::Count;
 use std::io;
 use std::io::{Read, Write};
 
@@ -29,18 +30,20 @@ pub trait Source {
     /// Puts the next bytes at the front of the buffer, and gives their number: at least 1, unless the bytes are at
     /// their end or the buffer is empty. A read that fails takes no byte, and is counted.
     fn read(&mut self, buffer: &mut [u8]) -> io::Result<usize>
-        requires countable { failures self.old < u64.MAX }
-        requires within { delivered self.old + length buffer.old ≤ u64.MAX }
         ensures bound { ReadsAtMost result buffer.new }
         ensures bytes { ReadConsumes (remaining self.old) (remaining self.new) result buffer.new }
         ensures count { CountsFailure result (failures self.old) (failures self.new) }
         ensures delivered { CountsBytes result (delivered self.old) (delivered self.new) };
 }
 
-/// What takes the bytes that a run writes, and may hold some of them back. It counts the calls that failed, and the writes that took nothing of some bytes.
+/// What takes the bytes that a run writes, and may hold some of them back. It counts these bytes, the calls that failed, and the writes that took nothing
+/// of some bytes.
 pub trait Sink {
     // The bytes that were taken so far, where they are known.
     ghost contents: { Self → Option (List ℕ) };
+
+    // How many bytes were taken so far.
+    ghost taken: { Self → ℕ };
 
     // How many writes and flushes have failed. A write that took nothing is one of them, but for a write of no bytes.
     ghost failures: { Self → ℕ };
@@ -51,15 +54,15 @@ pub trait Sink {
     /// Takes some first bytes, and gives their number. A write that fails takes none. It is counted, as is one that does not
     /// fail and takes none where there are bytes to take.
     fn write(&mut self, bytes: &[u8]) -> io::Result<usize>
-        requires { failures self.old < u64.MAX }
         ensures bound { WritesAtMost result bytes.now }
         ensures bytes { WriteAppends (contents self.old) (contents self.new) result bytes.now }
+        ensures taken { CountsBytes result (taken self.old) (taken self.new) }
         ensures count { CountsWrite result bytes.now (failures self.old) (failures self.new) };
 
     /// Passes on what it holds back of the bytes that it took.
     fn flush(&mut self) -> io::Result<()>
-        requires { failures self.old < u64.MAX }
         ensures bytes { Keeps (contents self.old) (contents self.new) }
+        ensures taken { taken self.new ≡ taken self.old }
         ensures passed { OnOk result (held self.new ≡ 0) }
         ensures count { CountsFailure result (failures self.old) (failures self.new) };
 }
@@ -68,8 +71,8 @@ pub trait Sink {
 #[derive(Drop)]
 pub struct FromReader<R: Read> {
     reader: R,
-    failed_reads: u64,
-    given_bytes: u64,
+    failed_reads: Count,
+    given_bytes: Count,
 }
 
 impl<R: Read> FromReader<R> {
@@ -81,8 +84,8 @@ impl<R: Read> FromReader<R> {
     {
         FromReader {
             reader,
-            failed_reads: 0,
-            given_bytes: 0,
+            failed_reads: Count::new(),
+            given_bytes: Count::new(),
         }
     }
 }
@@ -90,9 +93,9 @@ impl<R: Read> FromReader<R> {
 impl<R: Read> Source for FromReader<R> {
     ghost remaining = { λ s. R.remaining s.reader };
 
-    ghost failures = { λ s. s.failed_reads };
+    ghost failures = { λ s. s.failed_reads.total };
 
-    ghost delivered = { λ s. s.given_bytes };
+    ghost delivered = { λ s. s.given_bytes.total };
 
     ghost use Rattle.std.specs.Prelude.{false};
 
@@ -105,8 +108,8 @@ impl<R: Read> Source for FromReader<R> {
     fn read(&mut self, buffer: &mut [u8]) -> io::Result<usize> {
         let outcome = self.reader.read(buffer);
         match outcome {
-            Ok(n) => self.given_bytes += n as u64,
-            Err(_) => self.failed_reads += 1,
+            Ok(n) => self.given_bytes = self.given_bytes.with(n),
+            Err(_) => self.failed_reads = self.failed_reads.with(1),
         }
         outcome
     }
@@ -116,18 +119,21 @@ impl<R: Read> Source for FromReader<R> {
 #[derive(Drop)]
 pub struct IntoWriter<W: Write> {
     writer: W,
-    failed_calls: u64,
+    taken_bytes: Count,
+    failed_calls: Count,
 }
 
 impl<W: Write> IntoWriter<W> {
-    /// The writer, of which no call has failed yet.
+    /// The writer, which has taken no byte and of which no call has failed yet.
     pub fn new(writer: W) -> IntoWriter<W>
         ensures contents { ⟦<IntoWriter<W> as Sink>⟧.contents result ≡ W.contents writer }
+        ensures taken { ⟦<IntoWriter<W> as Sink>⟧.taken result ≡ 0 }
         ensures failures { ⟦<IntoWriter<W> as Sink>⟧.failures result ≡ 0 }
     {
         IntoWriter {
             writer,
-            failed_calls: 0,
+            taken_bytes: Count::new(),
+            failed_calls: Count::new(),
         }
     }
 }
@@ -135,7 +141,9 @@ impl<W: Write> IntoWriter<W> {
 impl<W: Write> Sink for IntoWriter<W> {
     ghost contents = { λ s. W.contents s.writer };
 
-    ghost failures = { λ s. s.failed_calls };
+    ghost taken = { λ s. s.taken_bytes.total };
+
+    ghost failures = { λ s. s.failed_calls.total };
 
     ghost held = { λ _. 0 };
 
@@ -143,7 +151,10 @@ impl<W: Write> Sink for IntoWriter<W> {
         let outcome = self.writer.write(bytes);
         let is_taken = matches!(outcome, Ok(n) if n > 0 || bytes.is_empty());
         if !is_taken {
-            self.failed_calls += 1;
+            self.failed_calls = self.failed_calls.with(1);
+        }
+        if let Ok(n) = outcome {
+            self.taken_bytes = self.taken_bytes.with(n);
         }
         outcome
     }
@@ -151,7 +162,7 @@ impl<W: Write> Sink for IntoWriter<W> {
     fn flush(&mut self) -> io::Result<()> {
         let outcome = self.writer.flush();
         if outcome.is_err() {
-            self.failed_calls += 1;
+            self.failed_calls = self.failed_calls.with(1);
         }
         outcome
     }

@@ -47,8 +47,8 @@ impl View {
 
     /// Writes the lines of the text that the view keeps.
     pub fn write<W: Sink>(&self, sink: &mut W, text: &[u8]) -> Result<(), RunFault>
-        requires { W.failures sink.old < u64.MAX }
-        ensures { EndsWriting result (W.failures sink.old) (W.failures sink.new) (W.contents sink.old) (W.contents sink.new) (viewed self.now text.now) ⊥ }
+        ensures { EndsWriting result (W.failures sink.old) (W.failures sink.new) (W.contents sink.old, W.taken sink.old) (W.contents sink.new, W.taken sink.new)
+            (viewed self.now text.now) ⊥ }
     {
         match self.owner {
             Some(_) => write_lines_with(sink, &self.prefix, text),
@@ -93,8 +93,7 @@ fn lines_with(alloc: Global, prefix: &[u8], text: &[u8]) -> Result<Vec<u8>, Allo
 
 /// Writes the lines of the text that begin with the prefix.
 fn write_lines_with<W: Sink>(sink: &mut W, prefix: &[u8], text: &[u8]) -> Result<(), RunFault>
-    requires { W.failures sink.old < u64.MAX }
-    ensures { EndsWriting result (W.failures sink.old) (W.failures sink.new) (W.contents sink.old) (W.contents sink.new)
+    ensures { EndsWriting result (W.failures sink.old) (W.failures sink.new) (W.contents sink.old, W.taken sink.old) (W.contents sink.new, W.taken sink.new)
         (text_of_lines (filter (begins_with prefix.now) (cut_of text.now).finished)) ⊥ }
 {
     let mut rest = text;

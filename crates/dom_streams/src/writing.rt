@@ -8,8 +8,8 @@ use crate::streams::{Sink, Source};
 
 /// Writes all of the bytes.
 pub fn write_all_to<W: Sink>(sink: &mut W, bytes: &[u8]) -> Result<(), RunFault>
-    requires { W.failures sink.old < u64.MAX }
-    ensures { EndsWriting result (W.failures sink.old) (W.failures sink.new) (W.contents sink.old) (W.contents sink.new) bytes.now ⊥ }
+    ensures { EndsWriting result (W.failures sink.old) (W.failures sink.new)
+        (W.contents sink.old, W.taken sink.old) (W.contents sink.new, W.taken sink.new) bytes.now ⊥ }
 {
     let mut rest = bytes;
     while !rest.is_empty() {
@@ -23,8 +23,8 @@ pub fn write_all_to<W: Sink>(sink: &mut W, bytes: &[u8]) -> Result<(), RunFault>
 
 /// Flushes the sink.
 pub fn flush<W: Sink>(sink: &mut W) -> Result<(), RunFault>
-    requires { W.failures sink.old < u64.MAX }
-    ensures written { EndsWriting result (W.failures sink.old) (W.failures sink.new) (W.contents sink.old) (W.contents sink.new) [] ⊥ }
+    ensures written { EndsWriting result (W.failures sink.old) (W.failures sink.new)
+        (W.contents sink.old, W.taken sink.old) (W.contents sink.new, W.taken sink.new) [] ⊥ }
     ensures passed { OnOk result (W.held sink.new ≡ 0) }
 {
     sink.flush().map_err(|_| RunFault::Write)
@@ -32,8 +32,8 @@ pub fn flush<W: Sink>(sink: &mut W) -> Result<(), RunFault>
 
 /// Flushes the sink where the source asks for it, before its next read.
 pub fn flush_before_read<R: Source, W: Sink>(source: &R, sink: &mut W) -> Result<(), RunFault>
-    requires { W.failures sink.old < u64.MAX }
-    ensures written { EndsWriting result (W.failures sink.old) (W.failures sink.new) (W.contents sink.old) (W.contents sink.new) [] ⊥ }
+    ensures written { EndsWriting result (W.failures sink.old) (W.failures sink.new)
+        (W.contents sink.old, W.taken sink.old) (W.contents sink.new, W.taken sink.new) [] ⊥ }
     ensures passed { R.is_awaited source.now ≡ true → OnOk result (W.held sink.new ≡ 0) }
 {
     if source.wants_flush() {

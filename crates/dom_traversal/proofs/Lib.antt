@@ -15,3 +15,9 @@ mod ReachingBack
 mod BeginningBack
 mod Fewer
 mod Rest
+pub mod Items
+mod Standing
+mod Listing
+mod Leaving
+mod Inside
+pub mod Owners

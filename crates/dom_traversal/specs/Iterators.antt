@@ -1,10 +1,10 @@
 -- What a contract sees of an `Iter`: a node iterator with keys in place of names.
-use Rattle.std.specs.Prelude.{◌≡◌, ℕ, ◌<◌, Bool, false, List, filter, length, Option, Some, None}
+use Rattle.std.specs.Prelude.{◌≡◌, ℕ, ◌<◌, Bool, false, List, filter, length, Option, Some, None, option_map}
 use Rattle.dom_base.specs.declared.NodeName.{NodeName}
 use Rattle.dom_model.specs.Command.{Filter}
 use Rattle.dom_model.specs.Traversal.{Iterator, nodes_ahead, accepts}
 use Rattle.dom_model.specs.Tree.{is_inclusive_ancestor}
-use Rattle.dom_model.specs.TreeChanges.{taken_out}
+use Rattle.dom_model.specs.TreeChanges.{taken_out, placed}
 use Rattle.dom_tree.specs.Forest.{NamedTrees, name_at}
 use Rattle.dom_tree.specs.Within.{StandsIn}
 
@@ -46,3 +46,8 @@ HasLeft f i node =
 -- the same nodes with the tree of one of them taken out
 abbrev pub with_taken_out : NamedTrees → ℕ → NamedTrees
 with_taken_out f node = record { names = f.names; trees = taken_out (name_at f.names node) f.trees }
+
+-- the same nodes with the tree of one of them placed below another one, before the child given or behind all
+abbrev pub with_placed : NamedTrees → ℕ → ℕ → Option ℕ → NamedTrees
+with_placed f node parent before =
+    record { names = f.names; trees = placed (name_at f.names node) (name_at f.names parent) (option_map (name_at f.names) before) f.trees }

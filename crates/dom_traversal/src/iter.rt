@@ -1,12 +1,13 @@
 //! Iterators over the nodes of a tree, which survive removals.
-ghost use Rattle.std.specs.Prelude.{◌≡◌, ℕ, ◌<◌, length, true, false, count_by};
+ghost use Rattle.std.specs.Prelude.{◌≡◌, ℕ, ◌<◌, length, true, false, count_by, Option, None};
 ghost use Rattle.std.specs.Option.{option_map, ForSome};
+ghost use Rattle.dom_base.specs.declared.NodeName.{NodeName as Name};
 ghost use Rattle.dom_model.specs.Names.{name_eq};
 ghost use Rattle.dom_model.specs.Traversal.{nodes_ahead, nodes_passed, iterator_next_node, iterator_previous_node, adjusted_iterator};
-ghost use Rattle.dom_model.specs.Tree.{nodes, is_inclusive_ancestor};
+ghost use Rattle.dom_model.specs.Tree.{nodes, parent_of, inclusive_ancestors, is_inclusive_ancestor};
 ghost use Rattle.dom_tree.specs.Forest.{NamedTrees, name_at, IsNode, name_of};
 ghost use Rattle.dom_traversal.specs.Filters.{filter_of};
-ghost use Rattle.dom_traversal.specs.Iterators.{KeyedIterator, iterator_view, IsIteratorOf, iterator_at, iterator_left, HasLeft, with_taken_out};
+ghost use Rattle.dom_traversal.specs.Iterators.{KeyedIterator, iterator_view, IsIteratorOf, iterator_at, iterator_left, HasLeft, with_taken_out, with_placed};
 ghost use Rattle.dom_laws.specs.Within.{from_node, up_to_node};
 ghost use Rattle.dom_tree.specs.Within.{StandsIn};
 
@@ -159,4 +160,22 @@ pub fn law_iterators_stay(forest: &Forest)
         IsIteratorOf (with_taken_out forest.now node) i }
 {
     forest.law_nodes_stand_once();
+}
+
+/// Holds of every forest (own rule): an iterator whose root is in the tree of a node that moves goes along. It stays one of the
+/// forest when that tree is taken out, without a call of `on_remove`. So does every iterator when a tree is placed below a node, and
+/// while above each node stands what stood there, as under changes of contents.
+pub fn law_iterators_go_along(forest: &Forest)
+    ensures taken_out { (i : KeyedIterator) (node : ℕ) → IsNode forest.now node → IsIteratorOf forest.now i →
+        is_inclusive_ancestor forest.now.trees (name_of forest.now node) (name_of forest.now i.root) ≡ true →
+        IsIteratorOf (with_taken_out forest.now node) i }
+    ensures placed { (i : KeyedIterator) (node parent : ℕ) (before : Option ℕ) → IsNode forest.now node → IsNode forest.now parent →
+        parent_of forest.now.trees (name_of forest.now node) ≡ None →
+        is_inclusive_ancestor forest.now.trees (name_of forest.now node) (name_of forest.now parent) ≡ false →
+        IsIteratorOf forest.now i → IsIteratorOf (with_placed forest.now node parent before) i }
+    ensures kept { (i : KeyedIterator) (f : NamedTrees) → f.names ≡ forest.now.names →
+        ((x : Name) → inclusive_ancestors f.trees x ≡ inclusive_ancestors forest.now.trees x) → IsIteratorOf forest.now i → IsIteratorOf f i }
+{
+    forest.law_nodes_stand_once();
+    law_iterators_stay(forest);
 }

@@ -24,5 +24,6 @@ pub mod OwnPlacings
 mod EachNode
 mod Ordered
 mod Stays
+mod ChildLists
 pub mod Standing
 pub mod Searching

@@ -108,10 +108,10 @@ siblings-root nodes lists whole x node e =
 abbrev pub Tells : (ℕ → NodeName) → ℕ → List ℕ → Type 0
 Tells f x ks = Each (λ k. name_eq (f x) (f k) ≡ eqb k x) ks
 
-tells-rest : (f : ℕ → NodeName) (x k : ℕ) (ks : List ℕ) → Tells f x (k ∷ ks) → Tells f x ks
+pub tells-rest : (f : ℕ → NodeName) (x k : ℕ) (ks : List ℕ) → Tells f x (k ∷ ks) → Tells f x ks
 tells-rest f x k ks tells j found = tells j (or_right (eqb k j) (contains ks j) found)
 
-tells-here : (f : ℕ → NodeName) (x k : ℕ) (ks : List ℕ) → Tells f x (k ∷ ks) → name_eq (f x) (f k) ≡ eqb k x
+pub tells-here : (f : ℕ → NodeName) (x k : ℕ) (ks : List ℕ) → Tells f x (k ∷ ks) → name_eq (f x) (f k) ≡ eqb k x
 tells-here f x k ks tells = tells k (contains-head k ks)
 
 pub first_of-items_after : (f : ℕ → NodeName) (x : ℕ) (ks : List ℕ) → Tells f x ks →

@@ -68,7 +68,7 @@ path_at {ps = ps} {lists = lists} kept y node =
     ∙ (inclusive_ancestors-at (nodes_of ps) lists (IsWhole-kept kept) y (omega (arith, kept.paired))
     ∙ map_names (stored_names ps) ps refl (y ∷ ancestors_of lists y))
 
-same_names : (names more : List NodeName) (ks : List ℕ) → ((k : ℕ) → contains ks k ≡ true → name_at more k ≡ name_at names k) →
+pub same_names : (names more : List NodeName) (ks : List ℕ) → ((k : ℕ) → contains ks k ≡ true → name_at more k ≡ name_at names k) →
     map (name_at more) ks ≡ map (name_at names) ks
 same_names names more [] same = refl
 same_names names more (k ∷ ks) same =

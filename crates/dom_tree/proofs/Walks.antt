@@ -1,9 +1,9 @@
 -- Walks up a tree.
-use Rattle.std.proofs.Common.{◌≡◌, ◌⊎◌, inl, inr, ℕ, zero, suc, ◌-◌, ◌^◌, ◌<◌, ◌≤◌, Bool, true, false, ◌||◌, eqb, List, [], ◌∷◌, map, length, Option, Some}
+use Rattle.std.proofs.Common.{◌≡◌, inl, inr, ℕ, suc, ◌-◌, ◌^◌, ◌<◌, ◌≤◌, true, false, eqb, List, [], ◌∷◌, map, length, Option, Some}
 use Rattle.std.proofs.Common.{None, refl, sym, ap, subst, ◌∙◌, arith, true≢false}
-use Rattle.std.specs.Prelude.{unwrap_or, is_some}
+use Rattle.std.specs.Prelude.{unwrap_or}
 use Rattle.std.specs.Option.{option_map, option_map_or, option_and_then}
-use Rattle.std.proofs.lemmas.Bool.{eq-eqb, ne_eqb, eqb-true, cases_Bool, or_cases, or_right, or_from, or_parts, both_ways, false_from_ne_true}
+use Rattle.std.proofs.lemmas.Bool.{eq-eqb, ne_eqb, eqb-true, cases_Bool, or_cases, or_right, or_parts, both_ways, false_from_ne_true}
 use Rattle.dom_base.specs.declared.Owner.{Owner}
 use Rattle.dom_base.specs.declared.NodeName.{NodeName}
 use Rattle.dom_model.specs.Names.{last_of, name_eq, items_before}
@@ -50,27 +50,6 @@ root_of-at nodes lists whole x node =
     mapped None = refl
     mapped (Some k) = refl
 
--- whether a key is the one given or above it; where none is given, it is not
-pub above_from : List (List ℕ) → ℕ → Option ℕ → Bool
-above_from lists a at = option_map_or (λ k. contains (k ∷ ancestors_of lists k) a) at false
-
-pub above_from-up : {lists : List (List ℕ)} → IsForest lists → {a k : ℕ} {up : Option ℕ} → (k ≡ a → ⊥) → up ≡ parent_of lists k →
-    above_from lists a up ≡ above_from lists a (Some k)
-unfolding above_from
-above_from-up {lists} forest {a} {k} other is =
-    ap (λ o. option_map_or (λ j. contains (j ∷ ancestors_of lists j) a) o false) is ∙
-    (by (cases_Option (parent_of lists k)) ∙ sym (ap (λ b. b || contains (ancestors_of lists k) a) (ne_eqb k a other)))
-  where
-    by : (parent_of lists k ≡ None) ⊎ ((p : ℕ) × (parent_of lists k ≡ Some p)) →
-        option_map_or (λ j. contains (j ∷ ancestors_of lists j) a) (parent_of lists k) false ≡ contains (ancestors_of lists k) a
-    by (inl e) = ap (λ o. option_map_or (λ j. contains (j ∷ ancestors_of lists j) a) o false) e ∙ sym (ap (λ ys. contains ys a) (ancestors_of-root lists k e))
-    by (inr w) = ap (λ o. option_map_or (λ j. contains (j ∷ ancestors_of lists j) a) o false) w.1 ∙
-        sym (ap (λ ys. contains ys a) (ancestors_of-child lists forest k w.0 w.1))
-
--- how many steps are left
-abbrev pub steps_up : List (List ℕ) → Option ℕ → ℕ
-steps_up lists at = option_map_or (λ k. suc (length (ancestors_of lists k))) at 0
-
 -- ---- the answers
 
 module _ {f : NamedTrees} {ps : List Stored} {lists : List (List ℕ)} {keys : Owner → List ℕ} (is : seen ps lists ≡ f) (kept : IsKept ps lists keys) where
@@ -85,8 +64,7 @@ module _ {f : NamedTrees} {ps : List Stored} {lists : List (List ℕ)} {keys : O
       ∙ ap (root_of (trees_of (nodes_of ps) lists)) (sym (name_at-same (stored_names ps) ps x)))))
 
   pub shows_above : (a x : ℕ) → a < length f.names → x < length f.names →
-      above_from lists a (Some x) ≡ is_inclusive_ancestor f.trees (name_at f.names a) (name_at f.names x)
-  unfolding above_from
+      contains (x ∷ ancestors_of lists x) a ≡ is_inclusive_ancestor f.trees (name_at f.names a) (name_at f.names x)
   shows_above a x at_a at_x =
       let inside_a = within is kept a at_a in
       let inside_x = within is kept x at_x in
@@ -98,13 +76,11 @@ module _ {f : NamedTrees} {ps : List Stored} {lists : List (List ℕ)} {keys : O
   -- the test of a node above another one, in the lists
   pub asked_above : (top x : ℕ) → top < length f.names → x < length f.names → is_inclusive_ancestor f.trees (name_at f.names top) (name_at f.names x) ≡ true →
       contains (x ∷ ancestors_of lists x) top ≡ true
-  unfolding above_from
   asked_above top x at_top at_x above = shows_above top x at_top at_x ∙ above
 
   -- and of one that is not above it
   pub off_from : (a x : ℕ) → a < length f.names → x < length f.names → is_inclusive_ancestor f.trees (name_at f.names a) (name_at f.names x) ≡ false →
       contains (x ∷ ancestors_of lists x) a ≡ false
-  unfolding above_from
   off_from a x at_a at_x off = shows_above a x at_a at_x ∙ off
 
 -- a node in the tree of another one
@@ -121,46 +97,6 @@ in_tree is kept {top} {x} at_top at_x above = record {
   top_is_node = let inside = within is kept top at_top in omega (arith, kept.paired);
   whole = IsWhole-kept kept;
 }
-
-pub above_from-none : (lists : List (List ℕ)) (a : ℕ) → above_from lists a None ≡ false
-unfolding above_from
-above_from-none lists a = refl
-
-pub above_from-here : (lists : List (List ℕ)) (a k : ℕ) → k ≡ a → above_from lists a (Some k) ≡ true
-unfolding above_from
-above_from-here lists a k e = ap (λ b. b || contains (ancestors_of lists k) a) (eq-eqb k a e)
-
--- a list without a first key
-pub no_children : (ks : List ℕ) (r : Option ℕ) → r ≡ head_of ks → is_some r ≡ false → ks ≡ []
-no_children [] r is lacks = refl
-no_children (k ∷ ks) r is lacks = absurd (true≢false (ap is_some (sym is) ∙ lacks))
-
--- a node without children is above none but itself
-pub above_from-leaf : (lists : List (List ℕ)) → IsForest lists → (a x : ℕ) → children_of lists a ≡ [] → (x ≡ a → ⊥) → above_from lists a (Some x) ≡ false
-unfolding above_from
-above_from-leaf lists forest a x leaf other = or_from (eqb x a) _ (ne_eqb x a other) (apart (length (ancestors_of lists x)) x (omega arith))
-  where
-    apart : (d k : ℕ) → length (ancestors_of lists k) ≤ d → contains (ancestors_of lists k) a ≡ false
-    apart zero k deep = elim (cases_Option (parent_of lists k)) [
-      | inl e ↦ ap (λ ys. contains ys a) (ancestors_of-root lists k e)
-      | inr w ↦ absurd (omega (arith, ap (length {A = ℕ}) (ancestors_of-child lists forest k w.0 w.1)))
-    ]
-    apart (suc d) k deep = elim (cases_Option (parent_of lists k)) [
-      | inl e ↦ ap (λ ys. contains ys a) (ancestors_of-root lists k e)
-      | inr w ↦
-          let up = ancestors_of-child lists forest k w.0 w.1 in
-          let child = contains-parent lists k w.0 w.1 in
-          ap (λ ys. contains ys a) up
-          ∙ or_from (eqb w.0 a) _ (ne_eqb w.0 a (λ e. true≢false (sym child ∙ ap (λ ks. contains ks k) (ap (children_of lists) e ∙ leaf))))
-          (apart d w.0 (omega (arith, ap (length {A = ℕ}) up)))
-    ]
-
-pub steps_fall : (lists : List (List ℕ)) → IsForest lists → (k : ℕ) (up : Option ℕ) → up ≡ parent_of lists k → steps_up lists up < steps_up lists (Some k)
-steps_fall lists forest k up is = rw is (by (cases_Option (parent_of lists k)))
-  where
-    by : (parent_of lists k ≡ None) ⊎ ((p : ℕ) × (parent_of lists k ≡ Some p)) → steps_up lists (parent_of lists k) < suc (length (ancestors_of lists k))
-    by (inl e) = rw e (omega arith)
-    by (inr w) = rw w.1 (omega (arith, ap (length {A = ℕ}) (ancestors_of-child lists forest k w.0 w.1)))
 
 pub none_left : {X : Type 0} (o : Option X) → ((x : X) → o ≡ Some x → ⊥) → o ≡ None
 none_left None never = refl

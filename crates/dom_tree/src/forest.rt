@@ -77,6 +77,8 @@ impl Forest {
         ensures named { OnOk result ((k : ℕ) → IsNode self.old k → name_of self.new k ≡ name_of self.old k) }
         ensures above { OnOk result ((k : ℕ) → IsNode self.old k →
             inclusive_ancestors self.new.trees (name_of self.old k) ≡ inclusive_ancestors self.old.trees (name_of self.old k)) }
+        ensures children { OnOk result ((k : ℕ) → IsNode self.old k →
+            children_of self.new.trees (name_of self.old k) ≡ children_of self.old.trees (name_of self.old k)) }
 
         // An owner's nodes are at most 1,000,000. Nothing else but memory stops one more.
         ensures limit { (result ≡ Err (Fault.Refused Refusal.Limit)) ↔ (count_of owner self.old.names ≡ MAX_NODES) }

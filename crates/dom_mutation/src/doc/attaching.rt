@@ -1,10 +1,11 @@
 //! Shadow roots (DOM Standard, concept: attach a shadow root).
-ghost use Rattle.std.specs.Prelude.{◌≡◌, ◌↔◌, ◌++◌, ◌∷◌, [], length, Some, IfOk, OnOk};
+ghost use Rattle.std.specs.Prelude.{◌≡◌, ◌↔◌, ◌++◌, ◌∷◌, [], length, true, false, Some, IfOk, OnOk};
 ghost use Rattle.dom_base.specs.declared.Kind.TheVariants.{Shadow};
 ghost use Rattle.dom_base.specs.declared.Refusal.{Refusal as RefusalOf};
 ghost use Rattle.dom_model.specs.DocumentMachine.{attaching};
-ghost use Rattle.dom_model.specs.World.{part_of, component_made, shadow_root_of};
-ghost use Rattle.dom_mutation.specs.Doc.{name_in, owner_in, attaching_refusal};
+ghost use Rattle.dom_model.specs.Tree.{kind_of, is_element};
+ghost use Rattle.dom_model.specs.World.{part_of, is_there, component_made, shadow_root_of};
+ghost use Rattle.dom_mutation.specs.Doc.{name_in, owner_in, trees_in, attaching_refusal};
 ghost use Rattle.dom_mutation.specs.Ready.{IsReady};
 ghost use Rattle.dom_parts.specs.Doc.{HoldsNode};
 
@@ -18,7 +19,8 @@ impl Doc {
     /// `Limit` where the owner has made as many components as it may or its word has as many numbers as it may, with nothing
     /// changed (DOM Standard, attach a shadow root; the limit is an own rule). Where memory is refused, the document is only to be dropped.
     pub fn attach(&mut self, host: Key) -> Result<Key, Fault>
-        requires { HoldsNode self.old host }
+        requires host_is_node { HoldsNode self.old host }
+        requires element { is_element (kind_of (trees_in self.old host) (name_in self.old host)) ≡ true }
         ensures key { IfOk result (λ key. key ≡ length self.old.names) }
         ensures names { OnOk result (self.new.names ≡ self.old.names ++
             shadow_root_of (component_made (owner_in self.old host) (length (part_of self.old.world (owner_in self.old host)).attached)) ∷ []) }
@@ -26,6 +28,10 @@ impl Doc {
         ensures refused { (r : RefusalOf) → (result ≡ Err (Fault.Refused r)) ↔
             (attaching_refusal (part_of self.old.world (owner_in self.old host)) (name_in self.old host) ≡ Some r) }
         ensures unchanged { (r : RefusalOf) → result ≡ Err (Fault.Refused r) → self.new ≡ self.old }
+
+        // The component is a new one.
+        ensures fresh { OnOk result (is_there self.old.world
+            (component_made (owner_in self.old host) (length (part_of self.old.world (owner_in self.old host)).attached)) ≡ false) }
         ensures ready { IsReady self.old → OnOk result (IsReady self.new) }
     {
         self.parts.attach(host)

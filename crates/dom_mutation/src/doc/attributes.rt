@@ -1,15 +1,16 @@
 //! Attributes (DOM Standard, 4.9.2 Interface Attr; concepts: change, append, remove an attribute).
-ghost use Rattle.std.specs.Prelude.{◌≡◌, ◌↔◌, ◌⊎◌, false, OnOk, IfErr};
+ghost use Rattle.std.specs.Prelude.{◌≡◌, ◌↔◌, ◌⊎◌, true, false, OnOk, IfErr};
+ghost use Rattle.std.specs.List.{list_all};
 ghost use Rattle.dom_base.specs.declared.Refusal.TheVariants.{InvalidCharacter};
-ghost use Rattle.dom_model.specs.Names.{is_name};
+ghost use Rattle.dom_model.specs.Names.{begins_name, continues_name, is_name};
 ghost use Rattle.dom_model.specs.Changes.{setting_attribute, unsetting_attribute};
-ghost use Rattle.dom_mutation.specs.Doc.{made, name_in, owner_in};
+ghost use Rattle.dom_model.specs.Tree.{kind_of, is_element};
+ghost use Rattle.dom_mutation.specs.Doc.{made, name_in, owner_in, trees_in};
 ghost use Rattle.dom_mutation.specs.Ready.{IsReady};
 ghost use Rattle.dom_parts.specs.Doc.{HoldsNode};
 
 use crate::Doc;
-use dom_algorithms::{remove_attr, set_attr};
-use dom_base::{DomStr, Fault};
+use dom_base::{DomStr, Fault, Refusal};
 use node_arena::Key;
 use std::alloc::AllocError;
 
@@ -18,7 +19,8 @@ impl Doc {
     /// `InvalidCharacter` where the name is none, with nothing changed: it is a letter or `_`, then letters, digits, `-` and `_`
     /// (own rule). Where memory is refused, the document is only to be dropped.
     pub fn set_attr(&mut self, node: Key, name: &str, value: DomStr) -> Result<(), Fault>
-        requires { HoldsNode self.old node }
+        requires node_is_node { HoldsNode self.old node }
+        requires element { is_element (kind_of (trees_in self.old node) (name_in self.old node)) ≡ true }
         ensures refused { (result ≡ Err (Fault.Refused InvalidCharacter)) ↔ (is_name name.now ≡ false) }
         ensures other { IfErr result (λ fault. (fault ≡ Fault.Refused InvalidCharacter) ⊎ (fault ≡ Fault.Memory)) }
         ensures unchanged { is_name name.now ≡ false → self.new ≡ self.old }
@@ -27,11 +29,16 @@ impl Doc {
             (setting_attribute (name_in self.old node) name.now value.items) self.old.world) }
         ensures ready { IsReady self.old → OnOk result (IsReady self.new) }
     {
+        if !is_name(name.as_bytes()) {
+            return Err(Fault::Refused(Refusal::InvalidCharacter));
+        }
         self.parts.laws();
-        set_attr(&mut self.parts, node, name, value)
+        self.parts.tell_attribute(node, name)?;
+        self.parts.set_attribute(node, name, value)?;
+        Ok(())
     }
 
-    /// Takes an attribute away from an element. Without it nothing changes. Where memory is refused, the document is only to be
+    /// Takes an attribute away from a node. Without it nothing changes. Where memory is refused, the document is only to be
     /// dropped.
     pub fn remove_attr(&mut self, node: Key, name: &str) -> Result<(), AllocError>
         requires { HoldsNode self.old node }
@@ -39,8 +46,12 @@ impl Doc {
         ensures world { OnOk result (self.new.world ≡ made (owner_in self.old node) (unsetting_attribute (name_in self.old node) name.now) self.old.world) }
         ensures ready { IsReady self.old → OnOk result (IsReady self.new) }
     {
+        if !self.parts.has_attr(node, name) {
+            return Ok(());
+        }
         self.parts.laws();
-        remove_attr(&mut self.parts, node, name)
+        self.parts.tell_attribute(node, name)?;
+        self.parts.unset_attribute(node, name)
     }
 }
 
@@ -48,5 +59,29 @@ impl Doc {
 pub fn is_name(text: &[u8]) -> bool
     ensures { result ≡ is_name text.now }
 {
-    dom_algorithms::is_name(text)
+    match text {
+        [] => false,
+        [first, others @ ..] => begins_name(*first) && all_continue_name(others),
+    }
+}
+
+/// Whether a name can go on with each of these bytes.
+fn all_continue_name(bytes: &[u8]) -> bool
+    ensures { result ≡ list_all continues_name bytes.now }
+{
+    bytes.iter().all(|b| continues_name(*b))
+}
+
+/// Whether a name can begin with this byte.
+fn begins_name(byte: u8) -> bool
+    ensures { result ≡ begins_name byte }
+{
+    byte.is_ascii_alphabetic() || byte == b'_'
+}
+
+/// Whether a name can go on with this byte.
+fn continues_name(byte: u8) -> bool
+    ensures { result ≡ continues_name byte }
+{
+    begins_name(byte) || byte.is_ascii_digit() || byte == b'-'
 }

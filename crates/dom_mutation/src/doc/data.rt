@@ -11,8 +11,8 @@ ghost use Rattle.dom_mutation.specs.Ready.{IsReady};
 ghost use Rattle.dom_parts.specs.Doc.{HoldsNode};
 
 use crate::Doc;
-use dom_algorithms::{delete_data, replace_data, set_data};
-use dom_base::{DomStr, Fault};
+use crate::character_data::{replacing_data, set_data};
+use dom_base::{DomStr, Fault, Refusal};
 use node_arena::Key;
 use std::alloc::AllocError;
 
@@ -39,8 +39,12 @@ impl Doc {
             (replacing_data (name_in self.old node) offset count «data».items) self.old.world) }
         ensures ready { IsReady self.old → OnOk result (IsReady self.new) }
     {
+        if offset > self.length(node) {
+            return Err(Fault::Refused(Refusal::IndexSize));
+        }
         self.parts.laws();
-        replace_data(&mut self.parts, node, offset, count, data)
+        replacing_data(&mut self.parts, node, offset, count, data)?;
+        Ok(())
     }
 
     /// All data of a Text or a Comment give way to others, which are not copied (DOM Standard, replace data). Where
@@ -65,6 +69,7 @@ impl Doc {
         ensures ready { IsReady self.old → has_data (kind_of (trees_in self.old node) (name_in self.old node)) ≡ true → OnOk result (IsReady self.new) }
     {
         self.parts.laws();
-        delete_data(&mut self.parts, node, offset, count)
+        let none = Vec::new(self.parts.alloc());
+        replacing_data(&mut self.parts, node, offset, count, none)
     }
 }

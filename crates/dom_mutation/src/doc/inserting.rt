@@ -14,7 +14,8 @@ ghost use Rattle.dom_mutation.specs.Ready.{IsReady};
 ghost use Rattle.dom_parts.specs.Doc.{HoldsNode};
 
 use crate::Doc;
-use dom_algorithms::{insert, pre_insert, reference_for};
+use crate::inserting::{inserting, reference_for};
+use crate::removing::SuppressObserversFlag;
 use dom_base::{Fault, Refusal};
 use node_arena::Key;
 use std::alloc::AllocError;
@@ -42,8 +43,14 @@ impl Doc {
         ensures unchanged { (r : RefusalOf) → result ≡ Err (Fault.Refused r) → self.new ≡ self.old }
         ensures ready { IsReady self.old → OnOk result (IsReady self.new) }
     {
-        self.parts.laws();
-        pre_insert(&mut self.parts, parent, node, child)
+        let at = child;
+        if let Err(refusal) = self.check_insert(parent, node, at) {
+            return Err(Fault::Refused(refusal));
+        }
+        self.laws();
+        let before = self.reference_for(parent, node, child);
+        self.insert_before(parent, node, before)?;
+        Ok(())
     }
 
     /// Puts a node among the children of a parent, before a child of it or last; of a fragment its children. It leaves its
@@ -65,7 +72,13 @@ impl Doc {
             is_shadow (kind_of (trees_in self.old node) (name_in self.old node)) ≡ false → OnOk result (IsReady self.new) }
     {
         self.parts.laws();
-        insert(&mut self.parts, parent, node, child)
+        inserting(
+            &mut self.parts,
+            SuppressObserversFlag::Observed,
+            node,
+            parent,
+            child,
+        )
     }
 
     /// Tests whether a node may be put among the children of a parent, before the child given or last: `Hierarchy` or `NotFound`

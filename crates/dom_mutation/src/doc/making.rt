@@ -14,7 +14,7 @@ ghost use Rattle.dom_mutation.specs.Doc.{HoldsNode, made, name_in, owner_in, tre
 ghost use Rattle.dom_mutation.specs.Ready.{IsReady};
 
 use crate::Doc;
-use dom_algorithms::add;
+use crate::making::add;
 use dom_base::{Fault, Owner};
 use dom_tree::NodeData;
 use node_arena::Key;

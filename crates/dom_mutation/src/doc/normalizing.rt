@@ -8,7 +8,7 @@ ghost use Rattle.dom_mutation.specs.Ready.{IsReady};
 ghost use Rattle.dom_parts.specs.Doc.{HoldsNode};
 
 use crate::Doc;
-use dom_algorithms::normalize;
+use crate::normalizing::{normalize_each, texts_below};
 use node_arena::Key;
 use std::alloc::AllocError;
 
@@ -24,6 +24,7 @@ impl Doc {
         ensures ready { IsReady self.old → OnOk result (IsReady self.new) }
     {
         self.parts.laws();
-        normalize(&mut self.parts, node)
+        let texts = texts_below(&self.parts, node)?;
+        normalize_each(&mut self.parts, node, texts.as_slice())
     }
 }

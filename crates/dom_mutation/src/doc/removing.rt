@@ -1,16 +1,16 @@
 //! Removal and adoption (DOM Standard, concepts: remove, adopt).
-ghost use Rattle.std.specs.Prelude.{◌≡◌, ◌↔◌, ◌⊎◌, Some, IfErr, OnOk};
+ghost use Rattle.std.specs.Prelude.{◌≡◌, ◌↔◌, ◌⊎◌, true, Some, IfErr, OnOk};
 ghost use Rattle.dom_base.specs.declared.Refusal.{Refusal as RefusalOf};
 ghost use Rattle.dom_base.specs.declared.Refusal.TheVariants.{Hierarchy, NotSupported};
-ghost use Rattle.dom_model.specs.Tree.{kind_of};
+ghost use Rattle.dom_model.specs.Tree.{kind_of, is_document};
 ghost use Rattle.dom_model.specs.Changes.{removing, adopting, observed};
 ghost use Rattle.dom_mutation.specs.Doc.{made, name_in, owner_in, trees_in, adoption_refusal};
 ghost use Rattle.dom_mutation.specs.Ready.{IsReady};
 ghost use Rattle.dom_parts.specs.Doc.{HoldsNode};
 
 use crate::Doc;
-use dom_algorithms::{adopt, remove};
-use dom_base::Fault;
+use crate::removing::{SuppressObserversFlag, adopting, removing};
+use dom_base::{Fault, Kind, Refusal};
 use node_arena::Key;
 use std::alloc::AllocError;
 
@@ -24,7 +24,7 @@ impl Doc {
         ensures ready { IsReady self.old → OnOk result (IsReady self.new) }
     {
         self.parts.laws();
-        remove(&mut self.parts, node)
+        removing(&mut self.parts, SuppressObserversFlag::Observed, node)
     }
 
     /// A node leaves its parent and gets a node document, with all below it (DOM Standard, adopt). A shadow root is refused
@@ -32,6 +32,7 @@ impl Doc {
     /// holds them is only to be dropped.
     pub fn adopt(&mut self, document: Key, node: Key) -> Result<(), Fault>
         requires document_is_node { HoldsNode self.old document }
+        requires document { is_document (kind_of (trees_in self.old document) (name_in self.old document)) ≡ true }
         requires node_is_node { HoldsNode self.old node }
         requires one_owner { owner_in self.old document ≡ owner_in self.old node }
         ensures refused { (r : RefusalOf) →
@@ -43,7 +44,14 @@ impl Doc {
             self.old.world) }
         ensures ready { IsReady self.old → OnOk result (IsReady self.new) }
     {
-        self.parts.laws();
-        adopt(&mut self.parts, document, node)
+        match self.kind(node) {
+            Kind::Document => Err(Fault::Refused(Refusal::NotSupported)),
+            Kind::Shadow => Err(Fault::Refused(Refusal::Hierarchy)),
+            _ => {
+                self.parts.laws();
+                adopting(&mut self.parts, document, node)?;
+                Ok(())
+            }
+        }
     }
 }

@@ -10,7 +10,7 @@ ghost use Rattle.dom_mutation.specs.Ready.{IsReady};
 ghost use Rattle.dom_parts.specs.Doc.{HoldsNode};
 
 use crate::Doc;
-use dom_algorithms::replace;
+use crate::replacing::replace;
 use dom_base::Fault;
 use node_arena::Key;
 

@@ -1,7 +1,7 @@
 //! The splitting of a Text (DOM Standard, concept: split a Text node).
 ghost use Rattle.std.specs.Prelude.{◌≡◌, ◌↔◌, ◌⊎◌, ◌++◌, ◌∷◌, [], length, true, IfOk, OnOk, Some};
 ghost use Rattle.dom_base.specs.declared.Refusal.{Refusal as RefusalOf};
-ghost use Rattle.dom_base.specs.declared.Refusal.TheVariants.{IndexSize, Limit};
+ghost use Rattle.dom_base.specs.declared.Refusal.TheVariants.{IndexSize};
 ghost use Rattle.dom_model.specs.Part.{next_name};
 ghost use Rattle.dom_model.specs.TextChanges.{splitting};
 ghost use Rattle.dom_model.specs.Tree.{kind_of, is_text};
@@ -13,7 +13,7 @@ ghost use Rattle.dom_mutation.specs.Ready.{IsReady};
 ghost use Rattle.dom_parts.specs.Doc.{HoldsNode};
 
 use crate::Doc;
-use dom_algorithms::split;
+use crate::splitting::split;
 use dom_base::Fault;
 use node_arena::Key;
 
@@ -23,6 +23,7 @@ impl Doc {
     /// owner has as many nodes as it may.
     pub fn split(&mut self, node: Key, offset: usize) -> Result<Key, Fault>
         requires node_is_node { HoldsNode self.old node }
+        requires text { is_text (kind_of (trees_in self.old node) (name_in self.old node)) ≡ true }
         requires bounds { HasBounds (part_of self.old.world (owner_in self.old node)) }
         ensures key { IfOk result (λ key. key ≡ length self.old.names) }
         ensures names { OnOk result (self.new.names ≡ self.old.names ++ next_name (part_of self.old.world (owner_in self.old node)) ∷ []) }
@@ -37,7 +38,7 @@ impl Doc {
             splitting_refusal (part_of self.old.world (owner_in self.old node)) (name_in self.old node) offset ≡ Some r →
             (result ≡ Err (Fault.Refused r)) ⊎ (result ≡ Err Fault.Memory) }
         ensures unchanged { (r : RefusalOf) → result ≡ Err (Fault.Refused r) → self.new ≡ self.old }
-        ensures ready { IsReady self.old → is_text (kind_of (trees_in self.old node) (name_in self.old node)) ≡ true → OnOk result (IsReady self.new) }
+        ensures ready { IsReady self.old → OnOk result (IsReady self.new) }
     {
         self.parts.laws();
         split(&mut self.parts, node, offset)

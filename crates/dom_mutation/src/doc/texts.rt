@@ -10,7 +10,7 @@ ghost use Rattle.dom_mutation.specs.Ready.{IsReady};
 ghost use Rattle.dom_parts.specs.Doc.{HoldsNode};
 
 use crate::Doc;
-use dom_algorithms::set_text;
+use crate::texts::set_text;
 use dom_base::{DomStr, Fault};
 use node_arena::Key;
 

@@ -1,12 +1,12 @@
 //! Shadow roots (DOM Standard, concept: attach a shadow root).
-ghost use Rattle.std.specs.Prelude.{◌≡◌, ◌≢◌, ℕ, ◌<◌, ◌≤◌, ◌↔◌, ◌++◌, ◌∷◌, [], length, None, Some, IfOk, OnOk};
+ghost use Rattle.std.specs.Prelude.{◌≡◌, ◌≢◌, ℕ, ◌<◌, ◌≤◌, ◌↔◌, ◌++◌, ◌∷◌, [], length, false, None, Some, IfOk, OnOk};
 ghost use Rattle.dom_base.specs.declared.Kind.TheVariants.{Shadow};
 ghost use Rattle.dom_base.specs.declared.Refusal.{Refusal as RefusalOf};
 ghost use Rattle.dom_model.specs.Names.{owner_depth, max_depth};
 ghost use Rattle.dom_model.specs.Tree.{node_in};
 ghost use Rattle.dom_model.specs.TreeChanges.{with_node};
 ghost use Rattle.dom_model.specs.DocumentMachine.{attaching, new_root};
-ghost use Rattle.dom_model.specs.World.{part_of, component_made, shadow_root_of};
+ghost use Rattle.dom_model.specs.World.{part_of, is_there, component_made, shadow_root_of};
 ghost use Rattle.dom_slots.specs.Hosts.{root_of_host};
 ghost use Rattle.dom_slots.specs.Kept.{AreSlotsOf};
 ghost use Rattle.dom_tree.specs.Forest.{next_name, count_of, err_of, IsNode, name_of};
@@ -36,6 +36,10 @@ impl Parts {
         ensures refused { (r : RefusalOf) → (result ≡ Err (Fault.Refused r)) ↔
             (attaching_refusal (part_of self.old.world (owner_in self.old host)) (name_in self.old host) ≡ Some r) }
         ensures unchanged { (r : RefusalOf) → result ≡ Err (Fault.Refused r) → self.new ≡ self.old }
+
+        // The component is a new one.
+        ensures fresh { OnOk result (is_there self.old.world
+            (component_made (owner_in self.old host) (length (part_of self.old.world (owner_in self.old host)).attached)) ≡ false) }
     {
         let owner = match self.component_for(host) {
             Ok(owner) => owner,

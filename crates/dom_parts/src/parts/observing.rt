@@ -59,7 +59,8 @@ impl Parts {
         ensures err { OnErr result (self.new ≡ self.old) }
     {
         self.forest.law_nodes_stand_once();
-        self.observers.observe(owner, number, node, options)
+        self.observers
+            .observe(&self.forest, owner, number, node, options)
     }
 
     /// Takes the registrations of an observer away, transient ones too, and empties its record queue (DOM Standard,

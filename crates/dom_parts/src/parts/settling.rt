@@ -1,15 +1,15 @@
 //! What is left of a `Doc` after a step of which memory was refused (own rule).
 ghost use Rattle.std.specs.Prelude.{◌≡◌, OnOk, OnErr, []};
 ghost use Rattle.dom_model.specs.Tree.{none};
-ghost use Rattle.dom_cursors.specs.Cursors.{cursors_of};
+ghost use Rattle.dom_traversal.specs.Cursors.{cursors_of};
 ghost use Rattle.dom_observers.specs.Owners.{tables_of as observers_of};
 ghost use Rattle.dom_parts.specs.AllTables.{tables_of, AreFirst};
 
-use dom_cursors::Cursors;
 use dom_microtasks::{Queue, Signals};
 use dom_observers::Observers;
 use dom_ranges::RangeTable;
 use dom_slots::Slots;
+use dom_traversal::Cursors;
 use dom_tree::Forest;
 use std::alloc::{AllocError, Global};
 

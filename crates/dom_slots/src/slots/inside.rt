@@ -6,7 +6,7 @@ ghost use Rattle.dom_model.specs.Slots.{is_slot_element, slots_among};
 ghost use Rattle.dom_model.specs.Tree.{node_in, subtree};
 ghost use Rattle.dom_tree.specs.Forest.{IsNode, name_of};
 ghost use Rattle.dom_slots.specs.Hosts.{HostsAreNodes};
-ghost use Rattle.dom_slots.specs.Insides.{tree_slots, bare_around, left_slots, MovesNone, MayMove, IsInside};
+ghost use Rattle.dom_slots.specs.Insides.{tree_slots, bare_around, left_slots, AreRight, AreSilent, MovesNone, MayMove, IsInside};
 ghost use Rattle.dom_slots.specs.Renewals.{AreRenewed, IsButFor};
 ghost use Rattle.dom_slots.specs.Shadows.{shadows, is_bare_at};
 ghost use Rattle.dom_slots.specs.Steps.{StepHasNodes, step_node, is_move};
@@ -17,22 +17,26 @@ use crate::Slots;
 use crate::changes::add_once;
 use crate::find::{is_slot, slots_below};
 use crate::step::Step;
+use crate::waiting::waiting_below;
 use dom_tree::Forest;
 use node_arena::Key;
 use std::alloc::AllocError;
 
 impl Slots {
-    /// Renews the lists that a step inside of a shadow tree may have changed, and gives the slots that it signals: the old and
-    /// the new slot of its node, the node around, and where a slot was moved or changed those of the trees that it concerns.
+    /// Renews the lists that a step inside of a shadow tree may have changed, and gives the slots that it signals, if it can in a
+    /// list that is empty before: the old and the new slot of its node, the node around, and where a slot was moved or changed
+    /// those of the trees that it concerns.
     pub(super) fn inside_signals(
         &mut self,
         forest: &Forest,
         begun: Begun,
+        signals: Vec<Key>,
     ) -> Result<Vec<Key>, AllocError>
         requires hosts { HostsAreNodes forest.now.names self.old.hosts }
         requires nodes { StepHasNodes forest.now.names begun.step }
         requires left { ForSome begun.left (IsNode forest.now) }
         requires slot { ForSome begun.slot (IsNode forest.now) }
+        requires signals { signals.items ≡ [] }
         ensures hosts { IfOk result (λ keys. self.new.hosts ≡ self.old.hosts) }
         ensures begun { IfOk result (λ keys. self.new.begun ≡ self.old.begun) }
         ensures renewed { (p : Name → Truth) →
@@ -43,17 +47,23 @@ impl Slots {
         let kept = begun;
         let moved = self.moved_slots(forest, kept)?;
         if moved.is_empty() {
-            return self.still_signals(forest, begun);
+            return self.still_signals(forest, begun, signals);
         }
         self.stirred_signals(forest, begun, &moved)
     }
 
-    /// The slots that a step inside a shadow tree signals, where it moved or changed no slot.
-    fn still_signals(&mut self, forest: &Forest, begun: Begun) -> Result<Vec<Key>, AllocError>
+    /// The slots that a step inside a shadow tree signals, where it moved or changed no slot, in a list that is empty before.
+    fn still_signals(
+        &mut self,
+        forest: &Forest,
+        begun: Begun,
+        signals: Vec<Key>,
+    ) -> Result<Vec<Key>, AllocError>
         requires hosts { HostsAreNodes forest.now.names self.old.hosts }
         requires nodes { StepHasNodes forest.now.names begun.step }
         requires left { ForSome begun.left (IsNode forest.now) }
         requires slot { ForSome begun.slot (IsNode forest.now) }
+        requires signals { signals.items ≡ [] }
         requires still { MovesNone forest.now self.old.hosts begun.step }
         ensures hosts { IfOk result (λ keys. self.new.hosts ≡ self.old.hosts) }
         ensures begun { IfOk result (λ keys. self.new.begun ≡ self.old.begun) }
@@ -63,8 +73,7 @@ impl Slots {
     {
         let node = begun.step.node();
         let moves = begun.step.is_move();
-        let empty = self.empty_list();
-        let mut signals = self.moved_signals(forest, node, moves, begun.slot, empty)?;
+        let mut signals = self.moved_signals(forest, node, moves, begun.slot, signals)?;
         if let Some(around) = begun.step.around(begun.left) {
             self.add_bare(forest, begun.step, around, &mut signals)?;
         }
@@ -158,8 +167,38 @@ impl Slots {
             signals.new.items) }
     {
         self.renew_tree(forest, around, signals)?;
-        self.renew(forest, moved, signals)?;
-        self.renew_left(forest, begun)
+        self.renew_below(forest, begun.step.node(), around, moved, signals)?;
+        self.renew_left(forest, begun, around)
+    }
+
+    /// Renews the lists of the slots in the tree of a node, unless that stands in the tree of another one, whose slots are done.
+    fn renew_below(
+        &mut self,
+        forest: &Forest,
+        node: Key,
+        around: Key,
+        moved: &[Key],
+        signals: &mut Vec<Key>,
+    ) -> Result<(), AllocError>
+        requires hosts { HostsAreNodes forest.now.names self.old.hosts }
+        requires node { IsNode forest.now node }
+        requires around { IsNode forest.now around }
+        requires moved { map (name_of forest.now) moved.now ≡ slots_among (subtree forest.now.trees (name_of forest.now node)) }
+        requires moved_nodes { All (IsNode forest.now) moved.now }
+        ensures hosts { OnOk result (self.new.hosts ≡ self.old.hosts) }
+        ensures begun { OnOk result (self.new.begun ≡ self.old.begun) }
+        ensures renewed { (p : Name → Truth) (old : SlotTable) (done told : List Name) →
+            AreRenewed forest.now self.old.hosts p old (done ++ tree_slots forest.now.trees (name_of forest.now around)) told self.old.table
+            signals.old.items →
+            OnOk result (AreRenewed forest.now self.old.hosts p old
+            ((done ++ tree_slots forest.now.trees (name_of forest.now around)) ++ map (name_of forest.now) moved.now)
+            (told ++ filter p (map (name_of forest.now) moved.now)) self.new.table signals.new.items) }
+    {
+        forest.law_nodes_stand_once();
+        if forest.root(node) == forest.root(around) {
+            return Ok(());
+        }
+        self.renew(forest, moved, signals)
     }
 
     /// The slots that a step moves, or the slots below a slot whose attributes it changes.
@@ -193,27 +232,36 @@ impl Slots {
             OnOk result (AreRenewed forest.now self.old.hosts p old (done ++ tree_slots forest.now.trees (name_of forest.now node))
             (told ++ filter p (tree_slots forest.now.trees (name_of forest.now node))) self.new.table signals.new.items) }
     {
-        let slots = slots_below(self.alloc, forest, forest.root(node))?;
-        self.renew(forest, &slots, signals)
+        forest.law_nodes_stand_once();
+        let root = forest.root(node);
+        let slots = slots_below(self.alloc, forest, root)?;
+        match self.host_of(root) {
+            Some(host) if self.root_of(host) == Some(root) => {
+                let waiting = waiting_below(self.alloc, forest, host)?;
+                self.renew_waiting(forest, &slots, waiting, signals)
+            }
+            _ => self.renew(forest, &slots, signals),
+        }
     }
 
-    /// Renews the lists of the slots in the tree that a placed node left.
-    fn renew_left(&mut self, forest: &Forest, begun: Begun) -> Result<(), AllocError>
+    /// Renews the lists of the slots in the tree that a placed node left, unless that is the tree around, whose slots are done.
+    fn renew_left(&mut self, forest: &Forest, begun: Begun, around: Key) -> Result<(), AllocError>
         requires hosts { HostsAreNodes forest.now.names self.old.hosts }
         requires left { ForSome begun.left (IsNode forest.now) }
+        requires around { IsNode forest.now around }
         ensures hosts { OnOk result (self.new.hosts ≡ self.old.hosts) }
         ensures begun { OnOk result (self.new.begun ≡ self.old.begun) }
-        ensures renewed { (q : Name → Truth) → AreRenewed forest.now self.old.hosts q self.old.table [] [] self.old.table [] →
-            OnOk result ((keys : List ℕ) ×
-            AreRenewed forest.now self.old.hosts q self.old.table (left_slots forest.now self.old.hosts begun.step begun.left)
-            (filter q (left_slots forest.now self.old.hosts begun.step begun.left)) self.new.table keys) }
+        ensures renewed { AreRight forest.now self.old.hosts (tree_slots forest.now.trees (name_of forest.now around)) self.old.table →
+            OnOk result (AreSilent forest.now self.old.hosts (left_slots forest.now self.old.hosts begun.step begun.left) self.old.table self.new.table) }
     {
-        match begun.step.left_behind(begun.left) {
-            Some(left) => {
-                let mut signals = Vec::new(self.alloc);
-                self.renew_tree(forest, left, &mut signals)
-            }
-            None => Ok(()),
+        forest.law_nodes_stand_once();
+        let Some(left) = begun.step.left_behind(begun.left) else {
+            return Ok(());
+        };
+        if forest.root(left) == forest.root(around) {
+            return Ok(());
         }
+        let mut signals = Vec::new(self.alloc);
+        self.renew_tree(forest, left, &mut signals)
     }
 }

@@ -1,14 +1,17 @@
 //! Steps that move no slot: their node leaves the list of its old slot and joins that of its new one.
-ghost use Rattle.std.specs.Prelude.{◌≡◌, ℕ, ◌++◌, [], true, Bool as Truth, List, Some, map, filter, option_to_list, OnOk, IfOk};
+ghost use Rattle.std.specs.Prelude.{◌≡◌, ℕ, ◌++◌, [], true, Bool as Truth, List, Some, None, map, filter, option_to_list, OnOk, IfOk};
+ghost use Rattle.std.specs.Prelude.{if◌then◌else◌};
 ghost use Rattle.std.specs.Option.{option_map, ForSome};
 ghost use Rattle.dom_base.specs.declared.NodeName.{NodeName as Name};
-ghost use Rattle.dom_model.specs.Tree.{parent_of, root_of};
+ghost use Rattle.dom_model.specs.Names.{name_eq, is_empty, first_of, items_after};
+ghost use Rattle.dom_model.specs.Slots.{slot_name};
+ghost use Rattle.dom_model.specs.Tree.{node_in, parent_of, root_of, siblings};
 ghost use Rattle.dom_tree.specs.Forest.{IsNode, name_of};
 ghost use Rattle.node_arena.specs.Nodes.{without};
 ghost use Rattle.dom_slots.specs.Hosts.{HostsAreNodes, host_named};
 ghost use Rattle.dom_slots.specs.Insides.{own_slots};
 ghost use Rattle.dom_slots.specs.Renewals.{AreRenewed, IsButFor, names_but};
-ghost use Rattle.dom_slots.specs.Shadows.{shadows, slot_at, assigned_at};
+ghost use Rattle.dom_slots.specs.Shadows.{shadows, slot_at, assigned_at, looks_for};
 ghost use Rattle.dom_slots.specs.Steps.{step_node, is_move};
 ghost use Rattle.dom_slots.specs.Tables.{SlotTable, list_of};
 ghost use Rattle.dom_slots.specs.declared.step.Step.{Step};
@@ -56,13 +59,6 @@ impl Slots {
         Ok(signals)
     }
 
-    /// An empty list, which takes no memory yet.
-    pub(super) fn empty_list(&self) -> Vec<Key>
-        ensures { result.items ≡ [] }
-    {
-        Vec::new(self.alloc)
-    }
-
     /// Takes a node out of the list of a slot, if there is one, and adds the slot to the signals where the node stood there.
     fn leave(
         &mut self,
@@ -93,7 +89,7 @@ impl Slots {
     }
 
     /// Puts a node into the list of its slot, if it has one, just before the first sibling behind it that has this slot, and adds
-    /// the slot to the signals.
+    /// the slot to the signals. Where the list is empty no sibling is looked at.
     fn join(
         &mut self,
         forest: &Forest,
@@ -121,9 +117,26 @@ impl Slots {
         if !self.is_of_parent(forest, key, node) {
             return self.renew_slot(forest, key, signals);
         }
-        let before = next_looking_for(forest, node, key);
+        let before = self.sibling_behind(forest, key, node);
         self.table.put(self.alloc, key, node, before)?;
         add_once(signals, key)
+    }
+
+    /// The first sibling behind a node that looks for the name of this slot; none where the list of the slot is empty, and no
+    /// sibling is looked at.
+    fn sibling_behind(&self, forest: &Forest, slot: Key, node: Key) -> Option<Key>
+        requires slot { IsNode forest.now slot }
+        requires node { IsNode forest.now node }
+        requires parent { (h : Name) × (parent_of forest.now.trees (name_of forest.now node) ≡ Some h) }
+        ensures value { option_map (name_of forest.now) result ≡ (if is_empty (list_of self.now.table slot) then None else first_of
+            (filter (λ y. looks_for (slot_name (node_in forest.now.trees (name_of forest.now slot))) (node_in forest.now.trees y))
+            (items_after name_eq (name_of forest.now node) (siblings forest.now.trees (name_of forest.now node))))) }
+        ensures node { ForSome result (IsNode forest.now) }
+    {
+        if self.table.list(slot).is_empty() {
+            return None;
+        }
+        next_looking_for(forest, node, slot)
     }
 
     /// Whether a slot stands in the shadow tree of the parent of a node.

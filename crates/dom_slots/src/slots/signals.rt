@@ -49,12 +49,12 @@ impl Slots {
 
     /// The slots that a step signals which has been done since it was begun, in order (own rule; DOM Standard, concept:
     /// signal a slot change). Then no step is begun. A value to which memory was refused is only dropped. Where there is no
-    /// host this costs one look. A step outside of shadow trees costs the ways from its node and from the parents that the
-    /// node left and has now up to their roots. Where the parent is a host, its shadow tree is walked up to the first slot that
-    /// its node looks for; where that slot is another one than before, the list of the old one is read, and of the siblings
-    /// behind the node those up to the first that has the new one. A step inside of one costs as much, and a walk through
-    /// what it moves. Only where that holds a slot, or a slot's attributes change, the trees that were left and reached are
-    /// walked, and their hosts' children read for each slot there.
+    /// host this costs one look. A step whose node is no slot, and has no child where it is moved, costs no way up to a root. Any
+    /// other one costs those from the parents that its node left and has now, and where one of them stands in a shadow tree a walk
+    /// through what is moved. Where the parent is a host, its shadow tree is walked up to the first slot that its node looks for;
+    /// where that slot is another one than before, the list of the old one is read, and of the siblings behind the node those up
+    /// to the first that has the new one. Only where what is moved holds a slot, or a slot's attributes change, the trees that
+    /// were left and reached are walked, each once, and the children of their hosts are read once.
     pub fn end(&mut self, forest: &Forest) -> Result<Vec<Key>, AllocError>
         requires { (was : Trees) × (b : BegunStep) × IsEndOf was forest.now self.old b }
         ensures value { (was : Trees) (b : BegunStep) → IsEndOf was forest.now self.old b →
@@ -70,14 +70,14 @@ impl Slots {
             self.begun = None;
             return Ok(Vec::new(self.alloc));
         }
+        let mut signals = mem::replace(&mut self.spare, Vec::new(self.alloc));
+        signals.clear();
         match self.begun.take() {
-            Some(begun) if self.is_apart(forest, begun.step, begun.left) => {
-                let mut signals = mem::replace(&mut self.spare, Vec::new(self.alloc));
-                signals.clear();
+            Some(begun) if self.is_far(forest, begun.step, begun.left) => {
                 let node = begun.step.node();
                 self.moved_signals(forest, node, begun.step.is_move(), begun.slot, signals)
             }
-            Some(begun) => self.inside_signals(forest, begun),
+            Some(begun) => self.inside_signals(forest, begun, signals),
             None => Ok(Vec::new(self.alloc)),
         }
     }

@@ -1,7 +1,8 @@
 //! What nodes hold: their kinds, names of elements, attributes, data and node documents.
 ghost use Rattle.std.specs.Prelude.{◌≡◌, Some, None, slice_get, OnOk, OnErr};
 ghost use Rattle.std.specs.Option.{option_map, ForSome};
-ghost use Rattle.dom_model.specs.Tree.{kind_of, node_in, attribute_value};
+ghost use Rattle.dom_base.specs.declared.NodeName.{NodeName as Name};
+ghost use Rattle.dom_model.specs.Tree.{kind_of, node_in, attribute_value, inclusive_ancestors, children_of};
 ghost use Rattle.dom_model.specs.TreeChanges.{change_node, with_text, under_document, with_attribute};
 ghost use Rattle.dom_attributes.specs.Attributes.{HaveOwnNames, attribute_from};
 ghost use Rattle.dom_tree.specs.Forest.{IsNode, name_of};
@@ -53,6 +54,8 @@ impl Forest {
         ensures names { self.new.names ≡ self.old.names }
         ensures trees { self.new.trees ≡ change_node (under_document (option_map (name_of self.old) document)) (name_of self.old key)
             self.old.trees }
+        ensures above { (x : Name) → inclusive_ancestors self.new.trees x ≡ inclusive_ancestors self.old.trees x }
+        ensures children { (x : Name) → children_of self.new.trees x ≡ children_of self.old.trees x }
     {
         self.arena.payload_mut(key).set_document(document);
     }
@@ -62,6 +65,8 @@ impl Forest {
         requires { IsNode self.old key }
         ensures names { self.new.names ≡ self.old.names }
         ensures trees { self.new.trees ≡ change_node (with_text text.items) (name_of self.old key) self.old.trees }
+        ensures above { (x : Name) → inclusive_ancestors self.new.trees x ≡ inclusive_ancestors self.old.trees x }
+        ensures children { (x : Name) → children_of self.new.trees x ≡ children_of self.old.trees x }
     {
         self.arena.payload_mut(key).set_text(text);
     }
@@ -99,6 +104,8 @@ impl Forest {
         ensures names { self.new.names ≡ self.old.names }
         ensures ok { OnOk result (self.new.trees ≡ change_node (with_attribute name.now (Some value.items)) (name_of self.old key) self.old.trees) }
         ensures err { OnErr result (self.new ≡ self.old) }
+        ensures above { (x : Name) → inclusive_ancestors self.new.trees x ≡ inclusive_ancestors self.old.trees x }
+        ensures children { (x : Name) → children_of self.new.trees x ≡ children_of self.old.trees x }
     {
         let alloc = self.alloc;
         let names = &mut self.attribute_names;
@@ -115,6 +122,8 @@ impl Forest {
         ensures value { option_map (λ value. value.items) result ≡ attribute_value (node_in self.old.trees (name_of self.old key)) name.now }
         ensures names { self.new.names ≡ self.old.names }
         ensures trees { self.new.trees ≡ change_node (with_attribute name.now None) (name_of self.old key) self.old.trees }
+        ensures above { (x : Name) → inclusive_ancestors self.new.trees x ≡ inclusive_ancestors self.old.trees x }
+        ensures children { (x : Name) → children_of self.new.trees x ≡ children_of self.old.trees x }
     {
         self.arena.payload_mut(key).remove_attribute(name)
     }

@@ -1,9 +1,10 @@
 //! How nodes stand in their trees, and how a tree is put into another one or taken out.
-ghost use Rattle.std.specs.Prelude.{◌≡◌, ℕ, false, Some, None};
+ghost use Rattle.std.specs.Prelude.{◌≡◌, ◌≢◌, ℕ, false, Some, None};
 ghost use Rattle.std.specs.Option.{option_map, ForSome};
 ghost use Rattle.dom_model.specs.Names.{first_of, last_of};
 ghost use Rattle.dom_model.specs.Tree.{parent_of, children_of, next_sibling, previous_sibling, inclusive_ancestors, is_inclusive_ancestor, root_of};
 ghost use Rattle.dom_model.specs.TreeChanges.{placed, taken_out};
+ghost use Rattle.dom_laws.specs.Siblings.{put_name, without_name};
 ghost use Rattle.dom_tree.specs.Forest.{IsNode, name_of};
 
 use crate::Forest;
@@ -15,6 +16,7 @@ impl Forest {
         requires { IsNode self.now key }
         ensures value { option_map (name_of self.now) result ≡ parent_of self.now.trees (name_of self.now key) }
         ensures node { ForSome result (IsNode self.now) }
+        ensures above { ForSome result (λ p. is_inclusive_ancestor self.now.trees (name_of self.now key) (name_of self.now p) ≡ false) }
     {
         self.arena.parent(key)
     }
@@ -24,6 +26,7 @@ impl Forest {
         requires { IsNode self.now key }
         ensures value { option_map (name_of self.now) result ≡ first_of (children_of self.now.trees (name_of self.now key)) }
         ensures node { ForSome result (IsNode self.now) }
+        ensures child { ForSome result (λ k. parent_of self.now.trees (name_of self.now k) ≡ Some (name_of self.now key)) }
     {
         self.arena.first(key)
     }
@@ -33,6 +36,7 @@ impl Forest {
         requires { IsNode self.now key }
         ensures value { option_map (name_of self.now) result ≡ last_of (children_of self.now.trees (name_of self.now key)) }
         ensures node { ForSome result (IsNode self.now) }
+        ensures child { ForSome result (λ k. parent_of self.now.trees (name_of self.now k) ≡ Some (name_of self.now key)) }
     {
         self.arena.last(key)
     }
@@ -42,6 +46,7 @@ impl Forest {
         requires { IsNode self.now key }
         ensures value { option_map (name_of self.now) result ≡ next_sibling self.now.trees (name_of self.now key) }
         ensures node { ForSome result (IsNode self.now) }
+        ensures sibling { ForSome result (λ k. parent_of self.now.trees (name_of self.now k) ≡ parent_of self.now.trees (name_of self.now key)) }
     {
         self.arena.next(key)
     }
@@ -51,6 +56,7 @@ impl Forest {
         requires { IsNode self.now key }
         ensures value { option_map (name_of self.now) result ≡ previous_sibling self.now.trees (name_of self.now key) }
         ensures node { ForSome result (IsNode self.now) }
+        ensures sibling { ForSome result (λ k. parent_of self.now.trees (name_of self.now k) ≡ parent_of self.now.trees (name_of self.now key)) }
     {
         self.arena.prev(key)
     }
@@ -73,6 +79,10 @@ impl Forest {
         ensures above { (k : ℕ) → IsNode self.old k →
             is_inclusive_ancestor self.old.trees (name_of self.old child) (name_of self.old k) ≡ false →
             inclusive_ancestors self.new.trees (name_of self.old k) ≡ inclusive_ancestors self.old.trees (name_of self.old k) }
+        ensures children { children_of self.new.trees (name_of self.old parent) ≡ put_name (option_map (name_of self.old) before)
+            (name_of self.old child) (children_of self.old.trees (name_of self.old parent)) }
+        ensures others { (k : ℕ) → IsNode self.old k → k ≢ parent →
+            children_of self.new.trees (name_of self.old k) ≡ children_of self.old.trees (name_of self.old k) }
     {
         self.arena.link_before(parent, child, before);
     }
@@ -88,6 +98,10 @@ impl Forest {
         ensures above { (k : ℕ) → IsNode self.old k →
             is_inclusive_ancestor self.old.trees (name_of self.old key) (name_of self.old k) ≡ false →
             inclusive_ancestors self.new.trees (name_of self.old k) ≡ inclusive_ancestors self.old.trees (name_of self.old k) }
+        ensures children { (k : ℕ) → IsNode self.old k → children_of self.new.trees (name_of self.old k) ≡ without_name (name_of self.old key)
+            (children_of self.old.trees (name_of self.old k)) }
+        ensures others { (k : ℕ) → IsNode self.old k → parent_of self.old.trees (name_of self.old key) ≢ Some (name_of self.old k) →
+            children_of self.new.trees (name_of self.old k) ≡ children_of self.old.trees (name_of self.old k) }
     {
         self.arena.unlink(key);
     }
@@ -112,16 +126,6 @@ impl Forest {
         requires key_is_node { IsNode self.now key }
         ensures { result ≡ is_inclusive_ancestor self.now.trees (name_of self.now above) (name_of self.now key) }
     {
-        if above != key && self.arena.first(above).is_none() {
-            return false;
-        }
-        let mut at = Some(key);
-        while let Some(node) = at {
-            if node == above {
-                return true;
-            }
-            at = self.arena.parent(node);
-        }
-        false
+        self.arena.is_inclusive_ancestor(above, key)
     }
 }

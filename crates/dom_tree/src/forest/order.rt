@@ -1,8 +1,10 @@
 //! The order of the nodes of a tree, and the places of nodes among their siblings.
-ghost use Rattle.std.specs.Prelude.{◌≡◌, ◌<◌, ◌≤◌, ℕ, length, true, None};
+ghost use Rattle.std.specs.Prelude.{◌≡◌, ◌<◌, ◌≤◌, ◌^◌, ◌++◌, ◌∷◌, [], ℕ, length, true, false, Some, None};
 ghost use Rattle.std.specs.Option.{option_map, ForSome};
+ghost use Rattle.dom_base.specs.declared.NodeName.{NodeName as Name};
 ghost use Rattle.dom_model.specs.Names.{first_of, last_of, items_after, items_before, name_eq};
-ghost use Rattle.dom_model.specs.Tree.{children_of, is_inclusive_ancestor, index_of, length_of, inclusive_descendants};
+ghost use Rattle.dom_model.specs.Tree.{children_of, parent_of, is_inclusive_ancestor, index_of, length_of, inclusive_descendants, next_sibling};
+ghost use Rattle.dom_laws.specs.Siblings.{from_sibling, without_name};
 ghost use Rattle.dom_tree.specs.Forest.{IsNode, name_of};
 
 use crate::Forest;
@@ -99,6 +101,23 @@ impl Forest {
     /// Holds of every forest (own rule): a node has fewer siblings before it than there are nodes.
     pub fn law_index(&self)
         ensures { (k : ℕ) → IsNode self.now k → index_of self.now.trees (name_of self.now k) < length self.now.names }
+    {
+        let _ = &self.arena;
+    }
+
+    /// Holds of every forest (own rule): a walk from the first child of a node to the next sibling, as long as there is one, comes to
+    /// each child in its order, and to no other node; the last child stands behind all others; no child stands above its parent; and
+    /// there are fewer children than nodes, which are at most 2^64.
+    pub fn law_children(&self)
+        ensures begin { (p : Name) → from_sibling self.now.trees (first_of (children_of self.now.trees p)) ≡ children_of self.now.trees p }
+        ensures step { (x : Name) → from_sibling self.now.trees (Some x) ≡ x ∷ from_sibling self.now.trees (next_sibling self.now.trees x) }
+        ensures last { (p x : Name) → last_of (children_of self.now.trees p) ≡ Some x →
+            without_name x (children_of self.now.trees p) ++ x ∷ [] ≡ children_of self.now.trees p }
+        ensures apart { (k p : ℕ) → IsNode self.now k → IsNode self.now p →
+            parent_of self.now.trees (name_of self.now k) ≡ Some (name_of self.now p) →
+            is_inclusive_ancestor self.now.trees (name_of self.now k) (name_of self.now p) ≡ false }
+        ensures fewer { (k : ℕ) → IsNode self.now k → length (children_of self.now.trees (name_of self.now k)) < length self.now.names }
+        ensures few { length self.now.names ≤ 2 ^ 64 }
     {
         let _ = &self.arena;
     }

@@ -1,5 +1,5 @@
 -- What the run has written is handed on, or the program ends with a failed write.
-use Rattle.std.proofs.Common.{◌∙◌, arith}
+use Rattle.std.proofs.Common.{refl, ◌∙◌, arith}
 use Rattle.domrun.proofs.Handed.{Ending, keeps-at, ok-handed, err-handed, failed-handed}
 use Rattle.domrun.proofs.run_between.Goals as goal
 
@@ -9,7 +9,7 @@ returns-clause-ok g c =
     let ending : Ending c.hand_on.result c.run-ended.result c.ending_of.result =
     record { written = λ ok. c.ending_of.ensures.written (is ∙ ok); lost = λ no. c.ending_of.ensures.lost (is ∙ no) } in
     ok-handed c.args.view _ _ _ _ _ c.hand_on.result c.run-ended.result c.ending_of.result ending
-    (keeps-at _ _ _ c.hand_on.result c.hand_on.ensures.bytes c.hand_on.ensures.all) c.run-ended.ensures.ok
+    (keeps-at (_, _) (_, _) (_, _) c.hand_on.result (c.hand_on.ensures.bytes, c.hand_on.ensures.taken) c.hand_on.ensures.all refl) c.run-ended.ensures.ok
 
 pub returns-clause-stops : goal.returns-clause-stops
 returns-clause-stops g c =
@@ -17,7 +17,7 @@ returns-clause-stops g c =
     let ending : Ending c.hand_on.result c.run-ended.result c.ending_of.result =
     record { written = λ ok. c.ending_of.ensures.written (is ∙ ok); lost = λ no. c.ending_of.ensures.lost (is ∙ no) } in
     err-handed c.args.view _ _ _ _ _ c.hand_on.result c.run-ended.result c.ending_of.result ending
-    (keeps-at _ _ _ c.hand_on.result c.hand_on.ensures.bytes c.hand_on.ensures.all) c.run-ended.ensures.stops
+    (keeps-at (_, _) (_, _) (_, _) c.hand_on.result (c.hand_on.ensures.bytes, c.hand_on.ensures.taken) c.hand_on.ensures.all refl) c.run-ended.ensures.stops
 
 pub returns-clause-failed : goal.returns-clause-failed
 returns-clause-failed g c more =

@@ -8,17 +8,15 @@ use Rattle.dom_model.specs.TextChanges.{splitting, new_text_node}
 use Rattle.dom_model.specs.Tree.{is_text, node_in}
 use Rattle.dom_model.specs.World.{part_of}
 use Rattle.dom_mutation.specs.Doc.{name_in, owner_in}
-use Rattle.dom_mutation.specs.Ready.{IsReady}
 use Rattle.dom_mutation.specs.Still.{HasNodes, HasStillAll}
 use Rattle.dom_tree.specs.Forest.{node_from}
 use Rattle.dom_callers.proofs.editing.write.Goals as goal
 
-pub returns-clause-ready : goal.returns-clause-ready
-returns-clause-ready c =
+pub split-requires-clause-text : goal.split-requires-clause-text
+split-requires-clause-text c =
     let d = c.args.doc.now in
     let e = c.add.new.self in
     let f = c.insert.new.self in
-    let g = c.split.new.self in
     let o = c.args.owner in
     let text = c.in_ok-text.text in
     let n = node_from d.names (next_name (part_of d.world o)) c.args.node in
@@ -33,8 +31,10 @@ returns-clause-ready c =
     (c.law_new_node.ensures.kind d e o (doing (make n)) n _ d_nodes e_nodes c.in_ok-text.ensures.names c.in_ok-text.ensures.world refl
     ∙ c.requires.is_text) in
     let written : IsTextOf f o text = text-still e f o text inserted new in
-    let ready : IsReady f = c.in_ok-insert.ensures.ready (c.in_ok-text.ensures.ready c.requires.ready) in
-    c.in_ok-tail.ensures.ready ready (ap is_text written.kind)
+    ap is_text written.kind
+
+pub returns-clause-ready : goal.returns-clause-ready
+returns-clause-ready c = c.in_ok-tail.ensures.ready (c.in_ok-insert.ensures.ready (c.in_ok-text.ensures.ready c.requires.ready))
 
 pub returns-clause-still : goal.returns-clause-still
 returns-clause-still c =

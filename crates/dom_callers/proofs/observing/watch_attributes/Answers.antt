@@ -3,7 +3,6 @@ use Rattle.std.proofs.lemmas.Bool.{true≢false, lt-ltb}
 use Rattle.std.proofs.lemmas.List.{length-append}
 use Rattle.dom_base.specs.declared.Fault.TheVariants.{Refused, Memory}
 use Rattle.dom_base.specs.declared.Refusal.TheVariants.{Limit}
-use Rattle.dom_callers.proofs.Selections.{owner-same}
 use Rattle.dom_observers.specs.Owners.{tables_of}
 use Rattle.dom_observers.specs.Tables.{with_observer}
 use Rattle.dom_callers.proofs.observing.watch_attributes.Goals as goal
@@ -14,7 +13,7 @@ pub returns-in_err-observe-clause-other : goal.returns-in_err-observe-clause-oth
 returns-in_err-observe-clause-other c =
     let had = tables_of c.args.observers.now c.args.owner in
     let made : tables_of c.make.new.self c.args.owner ≡ with_observer had =
-    rw (owner-same c.args.owner) at (c.in_ok-observer.ensures.tables c.args.owner) in
+    rw (c.law_names.ensures.same_owner c.args.owner) at (c.in_ok-observer.ensures.tables c.args.owner) in
     let longer = length-append had.record_queues ([] ∷ []) in
     let there : ltb c.in_ok-observer.observer (length (tables_of c.make.new.self c.args.owner).record_queues) ≡ true =
     rw made (lt-ltb _ _ (omega (arith, c.in_ok-observer.ensures.number, longer))) in

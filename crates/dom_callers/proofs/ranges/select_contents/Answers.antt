@@ -10,12 +10,13 @@ pub returns-clause-made : goal.returns-clause-made
 returns-clause-made c = λ o.
     let size = length_of c.args.forest.now.trees (name_at c.args.forest.now.names c.args.node) in
     c.in-Ok.ensures.set o ∙ rw (c.in_ok-number.ensures.number, c.length-length.ensures)
-    (all-ended c.args.ranges.now c.make.new.self c.args.owner c.args.node c.in_ok-number.ensures.made c.args.forest.now size o)
+    (all-ended c.law_names.ensures.same_owner c.args.ranges.now c.make.new.self c.args.owner c.args.node c.in_ok-number.ensures.made
+    c.law_names.ensures.same c.args.forest.now size o)
 
 -- src/ranges.rt:38:9
 pub unreachable-requires : goal.unreachable-requires
 unreachable-requires c =
-    let made = range-made c.args.ranges.now c.make.new.self c.args.owner c.args.node c.in_ok-number.ensures.made in
+    let made = range-made c.law_names.ensures.same_owner c.args.ranges.now c.make.new.self c.args.owner c.args.node c.in_ok-number.ensures.made in
     let there = ap (range_in (ranges_of c.make.new.self c.args.owner)) c.in_ok-number.ensures.number ∙ made in
     elim c.in_default.ensures.other [
       | inl e ↦ let none = c.in_default.ensures.unknown.0 (ap Err e) in cc

@@ -1,4 +1,4 @@
-use Rattle.dom_mutation.proofs.StillCalls.{still-plan, still-makes, still-notified, still-parts, still-then}
+use Rattle.dom_mutation.proofs.StillCalls.{still-plan, still-attaching, still-makes, still-notified, still-parts, still-then}
 use Rattle.dom_mutation.proofs.still.law_still.Goals as goal
 
 pub returns-clause-plans : goal.returns-clause-plans
@@ -7,6 +7,9 @@ returns-clause-plans c = λ was now o plan more h g e w.
 
 pub returns-clause-tables : goal.returns-clause-tables
 returns-clause-tables c = λ was now o command lines v d e m. still-makes was now e o command lines v d m
+
+pub returns-clause-attached : goal.returns-clause-attached
+returns-clause-attached c = λ was now host more h g e w fresh. still-attaching was now more h g e host w fresh
 
 pub returns-clause-notified : goal.returns-clause-notified
 returns-clause-notified c = λ was now o e m. still-notified was now e o m

@@ -5,6 +5,7 @@ use Rattle.dom_base.specs.declared.Fault.TheVariants.{Refused}
 use Rattle.dom_base.specs.declared.Refusal.TheVariants.{InvalidCharacter}
 use Rattle.dom_model.specs.Names.{is_name}
 use Rattle.dom_model.specs.Changes.{setting_attribute}
+use Rattle.dom_model.specs.Tree.{is_element}
 use Rattle.dom_model.specs.Command.{Command}
 use Rattle.dom_model.specs.CommandNames.{named}
 use Rattle.dom_model.specs.Output.{nothing}
@@ -12,9 +13,9 @@ use Rattle.dom_mutation.specs.Doc.{made}
 use Rattle.dom_tree.specs.Forest.{name_at}
 use Rattle.dom_reader.specs.Views.{word_view}
 use Rattle.dom_admission.specs.declared.admission.Operand.TheVariants.{Element}
-use Rattle.dom_admission.proofs.Handling.{refused, plans, faults}
+use Rattle.dom_admission.proofs.Handling.{refused, plans, faults, fitting}
 use Rattle.dom_admission.proofs.Finding.{IsKey}
-use Rattle.dom_node_commands.proofs.CommandPlans.{node-made, lacks, lacks_none}
+use Rattle.dom_node_commands.proofs.CommandPlans.{node-made, lacks, lacks_none, kind-key}
 use Rattle.dom_admission.proofs.OwnRefusals.{only_refusal, accepted_not}
 use Rattle.dom_admission.proofs.Refusing.{namings}
 use Rattle.dom_node_commands.proofs.attributes.set_attribute.Goals as goal
@@ -71,3 +72,11 @@ returns-clause-handled c =
     })
     (record { world = c.accept.new.self.world; before = c.args.out.now.items; after = c.accept.new.out.items; result = c.accept.result })
     c.accept.ensures.done
+
+pub set_attr-requires-clause-element : goal.set_attr-requires-clause-element
+set_attr-requires-clause-element c =
+    let d = c.state.inside.doc in
+    let element_is : IsKey d.names d.world c.args.owner c.key-element.result (word_view c.args.element) =
+    rw (← c.state.view_is) at c.key-element.ensures.name in
+    kind-key d.names d.world c.args.owner is_element (word_view c.args.element) c.key-element.result element_is
+    ∙ (rw (← c.state.view_is) at (fitting c.args.state.now.world c.args.owner (Element c.args.element) (sym c.admit.ensures ∙ c.in_ok-admit.was)))

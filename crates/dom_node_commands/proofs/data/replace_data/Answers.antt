@@ -3,6 +3,7 @@ use Rattle.std.proofs.lemmas.Result.{err_from_is_err_and}
 use Rattle.dom_base.specs.declared.Fault.TheVariants.{Refused}
 use Rattle.dom_base.specs.declared.Refusal.TheVariants.{IndexSize}
 use Rattle.dom_model.specs.TextChanges.{replacing_data}
+use Rattle.dom_model.specs.Tree.{has_data}
 use Rattle.dom_model.specs.Command.{Command}
 use Rattle.dom_model.specs.CommandNames.{named}
 use Rattle.dom_model.specs.Output.{nothing}
@@ -12,7 +13,7 @@ use Rattle.dom_admission.specs.declared.admission.Operand.TheVariants.{Data}
 use Rattle.dom_admission.proofs.Turned.{bounded-inside}
 use Rattle.dom_admission.proofs.Handling.{refused, plans, faults, fitting}
 use Rattle.dom_admission.proofs.Finding.{IsKey}
-use Rattle.dom_node_commands.proofs.CommandPlans.{node-made, past_end-key, has_data-key}
+use Rattle.dom_node_commands.proofs.CommandPlans.{node-made, past_end-key, kind-key}
 use Rattle.dom_admission.proofs.OwnRefusals.{lone_holds, lone_fails, only_refusal, accepted_not}
 use Rattle.dom_admission.proofs.Refusing.{namings}
 use Rattle.dom_node_commands.proofs.data.replace_data.Goals as goal
@@ -74,5 +75,5 @@ pub replace_data-requires-clause-has_data : goal.replace_data-requires-clause-ha
 replace_data-requires-clause-has_data c =
     let d = c.state.inside.doc in
     let node_is : IsKey d.names d.world c.args.owner c.key-node.result (word_view c.args.node) = rw (← c.state.view_is) at c.key-node.ensures.name in
-    has_data-key d.names d.world c.args.owner (word_view c.args.node) c.key-node.result node_is
+    kind-key d.names d.world c.args.owner has_data (word_view c.args.node) c.key-node.result node_is
     ∙ (rw (← c.state.view_is) at (fitting c.args.state.now.world c.args.owner (Data c.args.node) (sym c.admit.ensures ∙ c.in_ok-admit.was)))

@@ -1,6 +1,7 @@
 use Rattle.std.proofs.Common.{[], ◌∷◌, refl, sym, ◌∙◌}
 use Rattle.std.proofs.lemmas.Result.{err_from_is_err_and}
 use Rattle.dom_model.specs.TextChanges.{replacing_all_data}
+use Rattle.dom_model.specs.Tree.{has_data}
 use Rattle.dom_model.specs.Command.{Command}
 use Rattle.dom_model.specs.CommandNames.{named}
 use Rattle.dom_model.specs.Output.{nothing}
@@ -11,7 +12,7 @@ use Rattle.dom_admission.proofs.Turned.{bounded-inside}
 use Rattle.dom_admission.proofs.Handling.{refused, plans, fitting}
 use Rattle.dom_admission.proofs.Finding.{IsKey}
 use Rattle.dom_admission.proofs.Refusing.{namings}
-use Rattle.dom_node_commands.proofs.CommandPlans.{node-made, has_data-key}
+use Rattle.dom_node_commands.proofs.CommandPlans.{node-made, kind-key}
 use Rattle.dom_node_commands.proofs.data.set_data.Goals as goal
 
 pub returns-in_err-admit-clause-handled : goal.returns-in_err-admit-clause-handled
@@ -43,7 +44,7 @@ pub set_data-requires-clause-has_data : goal.set_data-requires-clause-has_data
 set_data-requires-clause-has_data c =
     let d = c.state.inside.doc in
     let node_is : IsKey d.names d.world c.args.owner c.key-node.result (word_view c.args.node) = rw (← c.state.view_is) at c.key-node.ensures.name in
-    has_data-key d.names d.world c.args.owner (word_view c.args.node) c.key-node.result node_is
+    kind-key d.names d.world c.args.owner has_data (word_view c.args.node) c.key-node.result node_is
     ∙ (rw (← c.state.view_is) at (fitting c.args.state.now.world c.args.owner (Data c.args.node) (sym c.admit.ensures ∙ c.in_ok-admit.was)))
 
 pub set_data-requires-clause-bounds : goal.set_data-requires-clause-bounds

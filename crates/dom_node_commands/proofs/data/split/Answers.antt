@@ -1,6 +1,7 @@
 use Rattle.std.proofs.Common.{Err, [], ◌∷◌, refl, sym, ap, ◌∙◌}
 use Rattle.std.proofs.lemmas.Result.{err_from_is_err_and}
 use Rattle.dom_model.specs.TextChanges.{splitting}
+use Rattle.dom_model.specs.Tree.{is_text}
 use Rattle.dom_model.specs.Command.{Command}
 use Rattle.dom_model.specs.CommandNames.{named}
 use Rattle.dom_model.specs.Output.{a_node}
@@ -11,9 +12,9 @@ use Rattle.dom_tree.specs.Forest.{name_at}
 use Rattle.dom_reader.specs.Views.{word_view}
 use Rattle.dom_admission.specs.declared.admission.Operand.TheVariants.{Text}
 use Rattle.dom_admission.proofs.Turned.{bounded-inside}
-use Rattle.dom_admission.proofs.Handling.{refused, plans, faults}
+use Rattle.dom_admission.proofs.Handling.{refused, plans, faults, fitting}
 use Rattle.dom_admission.proofs.Finding.{IsKey}
-use Rattle.dom_node_commands.proofs.CommandPlans.{node-made, split-refused, name-last, next-key}
+use Rattle.dom_node_commands.proofs.CommandPlans.{node-made, split-refused, name-last, next-key, kind-key}
 use Rattle.dom_admission.proofs.OwnRefusals.{none_stopped}
 use Rattle.dom_admission.proofs.Refusing.{namings}
 use Rattle.dom_node_commands.proofs.data.split.Goals as goal
@@ -62,3 +63,10 @@ returns-clause-handled c =
 pub split-requires-clause-bounds : goal.split-requires-clause-bounds
 split-requires-clause-bounds c = bounded-inside c.state.inside.turn c.state.inside.doc c.args.state.now c.state.view_is c.requires.bounds
     (owner_in c.state.inside.doc c.key-node.result)
+
+pub split-requires-clause-text : goal.split-requires-clause-text
+split-requires-clause-text c =
+    let d = c.state.inside.doc in
+    let node_is : IsKey d.names d.world c.args.owner c.key-node.result (word_view c.args.node) = rw (← c.state.view_is) at c.key-node.ensures.name in
+    kind-key d.names d.world c.args.owner is_text (word_view c.args.node) c.key-node.result node_is
+    ∙ (rw (← c.state.view_is) at (fitting c.args.state.now.world c.args.owner (Text c.args.node) (sym c.admit.ensures ∙ c.in_ok-admit.was)))

@@ -1,6 +1,6 @@
 use Rattle.std.proofs.Common.{Err, [], ◌∷◌, refl, sym, ap, ◌∙◌}
 use Rattle.std.proofs.lemmas.Result.{err_from_is_err_and}
-use Rattle.dom_model.specs.Tree.{kind_of}
+use Rattle.dom_model.specs.Tree.{kind_of, is_document}
 use Rattle.dom_model.specs.Changes.{adopting}
 use Rattle.dom_model.specs.Command.{Command}
 use Rattle.dom_model.specs.CommandNames.{named}
@@ -10,9 +10,10 @@ use Rattle.dom_mutation.specs.Doc.{adoption_refusal}
 use Rattle.dom_tree.specs.Forest.{name_at}
 use Rattle.dom_reader.specs.Views.{word_view}
 use Rattle.dom_admission.specs.declared.admission.Operand.TheVariants.{Any, Document}
-use Rattle.dom_admission.proofs.Handling.{refused, plans, faults, accepted_none}
+use Rattle.dom_admission.proofs.Finding.{IsKey}
+use Rattle.dom_admission.proofs.Handling.{refused, plans, faults, accepted_none, fitting_first}
 use Rattle.dom_admission.proofs.Refusing.{namings}
-use Rattle.dom_node_commands.proofs.CommandPlans.{KeyedNode, adopt-refused, adopt-made}
+use Rattle.dom_node_commands.proofs.CommandPlans.{KeyedNode, adopt-refused, adopt-made, kind-key}
 use Rattle.dom_node_commands.proofs.moving.adopt.Goals as goal
 
 pub returns-in_err-admit-clause-handled : goal.returns-in_err-admit-clause-handled
@@ -59,3 +60,12 @@ returns-clause-handled c =
     })
     (record { world = c.accept.new.self.world; before = c.args.out.now.items; after = c.accept.new.out.items; result = c.accept.result })
     c.accept.ensures.done
+
+pub adopt-requires-clause-document : goal.adopt-requires-clause-document
+adopt-requires-clause-document c =
+    let d = c.state.inside.doc in
+    let document_is : IsKey d.names d.world c.args.owner c.key-document.result (word_view c.args.document) =
+    rw (← c.state.view_is) at c.key-document.ensures.name in
+    kind-key d.names d.world c.args.owner is_document (word_view c.args.document) c.key-document.result document_is
+    ∙ (rw (← c.state.view_is) at (fitting_first c.args.state.now.world c.args.owner (Document c.args.document) (Any c.args.node ∷ [])
+    (sym c.admit.ensures ∙ c.in_ok-admit.was)))

@@ -2,6 +2,7 @@ use Rattle.std.proofs.Common.{◌≡◌, inl, length, Err, None, Some, [], ◌�
 use Rattle.std.proofs.lemmas.Result.{err_from_is_err_and}
 use Rattle.dom_base.specs.declared.NodeName.{NodeName}
 use Rattle.dom_base.specs.declared.Owner.{Owner}
+use Rattle.dom_model.specs.Tree.{is_element}
 use Rattle.dom_model.specs.Command.{Command}
 use Rattle.dom_model.specs.DocumentMachine.{attaching}
 use Rattle.dom_model.specs.World.{part_of, component_made, shadow_root_of}
@@ -10,10 +11,10 @@ use Rattle.dom_reader.specs.Views.{word_view}
 use Rattle.dom_admission.specs.declared.admission.Operand.TheVariants.{Element}
 use Rattle.dom_node_commands.proofs.Attaching.{attach-faults, attach-done}
 use Rattle.dom_admission.proofs.Finding.{IsKey}
-use Rattle.dom_node_commands.proofs.CommandPlans.{name-last}
+use Rattle.dom_node_commands.proofs.CommandPlans.{name-last, kind-key}
 use Rattle.dom_admission.proofs.OwnRefusals.{none_stopped}
 use Rattle.dom_admission.proofs.Finding.{owner-named}
-use Rattle.dom_admission.proofs.Handling.{refused}
+use Rattle.dom_admission.proofs.Handling.{refused, fitting}
 use Rattle.dom_admission.proofs.Refusing.{namings}
 use Rattle.dom_node_commands.proofs.shadows.attach.Goals as goal
 
@@ -55,3 +56,10 @@ returns-clause-handled c =
     (ap (λ (x : NodeName). x.owner) (name-last d.names (shadow_root_of component) (c.forest.ensures.names ∙ c.in_ok-root.ensures.names
     ∙ ap (λ (q : Owner). d.names ++ shadow_root_of (component_made q (length (part_of d.world q).attached)) ∷ []) own)
     c.in_ok-root.ensures.key c.name-component.ensures.at)) c.accept.ensures.done
+
+pub attach-requires-clause-element : goal.attach-requires-clause-element
+attach-requires-clause-element c =
+    let d = c.state.inside.doc in
+    let host_is : IsKey d.names d.world c.args.owner c.key-host.result (word_view c.args.host) = rw (← c.state.view_is) at c.key-host.ensures.name in
+    kind-key d.names d.world c.args.owner is_element (word_view c.args.host) c.key-host.result host_is
+    ∙ (rw (← c.state.view_is) at (fitting c.args.state.now.world c.args.owner (Element c.args.host) (sym c.admit.ensures ∙ c.in_ok-admit.was)))

@@ -1,5 +1,5 @@
-use Rattle.std.proofs.Common.{◌≡◌, ℕ, true, false, Option, sym, ap, subst, ◌∙◌}
-use Rattle.std.specs.Prelude.{option_map}
+use Rattle.std.proofs.Common.{◌≡◌, ℕ, true, false, List, Option, sym, ap, subst, ◌∙◌}
+use Rattle.std.specs.Prelude.{option_map, map, IfOk}
 use Rattle.smallvec.specs.SmallVec.{SmallVec}
 use Rattle.dom_base.specs.declared.NodeName.{NodeName}
 use Rattle.dom_tree.specs.Forest.{name_at}
@@ -7,8 +7,10 @@ use Rattle.dom_slots.specs.Shadows.{shadows}
 use Rattle.dom_path.specs.declared.item.Item.{Item}
 use Rattle.dom_path.specs.Built.{IsBuilt, IsWay, related_name}
 use Rattle.dom_path.specs.Hosted.{IsHosted}
+use Rattle.dom_path.specs.Items.{item_named}
+use Rattle.dom_path.specs.Paths.{IsTrail}
 use Rattle.dom_path.specs.Ways.{is_empty_at}
-use Rattle.dom_path.proofs.Goings.{stand-kept}
+use Rattle.dom_path.proofs.Goings.{stand-kept, tree-kept}
 use Rattle.dom_path.proofs.Tracks.{ok-other, built-way}
 use Rattle.dom_path.proofs.Viewed.{silent-named, related-key}
 use Rattle.dom_path.proofs.event.items_of.Goals as goal
@@ -18,6 +20,8 @@ items-requires-clause-event c = record {
   at_target = stand-kept c.args.forest.now c.args.slots.now.hosts c.of.new.trees c.of_any.new.trees c.in_ok-target.target
       c.in_ok-related.ensures.grown c.in_ok-target.ensures.stands;
   at_related = c.in_ok-related.ensures.stands;
+  root = tree-kept c.args.forest.now c.args.slots.now.hosts c.of.new.trees c.of_any.new.trees c.in_ok-target.target.tree
+      (name_at c.args.forest.now.names c.in_ok-target.target.node) c.in_ok-related.ensures.grown c.in_ok-target.ensures.tree;
   begins = c.in_ok-target.ensures.entered;
 }
 
@@ -58,3 +62,18 @@ returns-clause-path c =
     subst (λ (p : NodeName × Option NodeName). IsBuilt f hosts p.0 p.1 depth c.args.composed items.items) (λ j. (t j, r j))
     (built-way f hosts (name_at f.names target.node) (related_name f.names related) c.args.composed depth items.items shown (way depth hosted)))
     c.items.result c.items.ensures.way
+
+pub returns-then-is_silent-clause-trail : goal.returns-then-is_silent-clause-trail
+returns-then-is_silent-clause-trail c =
+    let f = c.args.forest.now in
+    let hosts = c.args.slots.now.hosts in
+    subst (λ (items : List Item). IsTrail (shadows f hosts) (name_at f.names c.args.target) c.args.composed (map (item_named f.names) items))
+    (sym c.new.ensures.items) tt
+
+pub returns-clause-trail : goal.returns-clause-trail
+returns-clause-trail c =
+    let f = c.args.forest.now in
+    let hosts = c.args.slots.now.hosts in
+    subst (λ (t : NodeName). IfOk c.items.result
+    (λ items. IsTrail (shadows f hosts) t c.args.composed (map (item_named f.names) items.items)))
+    (ap (name_at f.names) c.in_ok-target.ensures.node) c.items.ensures.trail

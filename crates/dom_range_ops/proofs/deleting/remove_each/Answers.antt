@@ -1,6 +1,6 @@
 use Rattle.dom_model.specs.Changes.{removing, observed}
 use Rattle.dom_mutation.specs.Doc.{planned, name_in, owner_in}
-use Rattle.dom_algorithms.proofs.Turns.{empties_on}
+use Rattle.dom_mutation.proofs.Turns.{empties_on}
 use Rattle.dom_range_ops.proofs.DeletionDocs.{state-is}
 use Rattle.dom_range_ops.proofs.deleting.remove_each.Goals as goal
 

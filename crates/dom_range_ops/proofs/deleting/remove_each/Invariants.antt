@@ -1,6 +1,6 @@
 use Rattle.std.proofs.Common.{drop}
 use Rattle.dom_model.specs.Changes.{observed}
-use Rattle.dom_algorithms.proofs.Turns.{Empties}
+use Rattle.dom_mutation.proofs.Turns.{Empties}
 use Rattle.dom_range_ops.proofs.deleting.remove_each.Given as goal
 
 abbrev pub invariant-loop-key : goal.invariant-loop-key

@@ -7,9 +7,9 @@ use Rattle.dom_model.specs.Tree.{has_node, has_data, kind_of}
 use Rattle.dom_model.specs.World.{part_of}
 use Rattle.dom_mutation.specs.Doc.{made, name_in, owner_in}
 use Rattle.dom_mutation.specs.Hosting.{IsAlone}
-use Rattle.dom_algorithms.proofs.BoundedDocs.{bounds_removed}
+use Rattle.dom_mutation.proofs.BoundedDocs.{bounds_removed}
 use Rattle.dom_parts.proofs.OwnPlans.{plans_removing}
-use Rattle.dom_algorithms.proofs.Turns.{may_now, child_now}
+use Rattle.dom_mutation.proofs.Turns.{may_now, child_now}
 use Rattle.dom_tree.specs.Forest.{name_at}
 use Rattle.dom_range_ops.proofs.InsertedParts.{open-kept}
 use Rattle.dom_range_ops.proofs.InsertedPlans.{state-is, stays-left, inserted-at}

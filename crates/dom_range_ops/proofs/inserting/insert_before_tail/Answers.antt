@@ -1,7 +1,7 @@
 use Rattle.std.proofs.Common.{◌≡◌, ◌++◌, ◌∷◌, [], refl, sym, ap, subst, ◌∙◌}
 use Rattle.dom_model.specs.Part.{next_name}
 use Rattle.dom_model.specs.TextChanges.{splitting}
-use Rattle.dom_model.specs.Tree.{has_node}
+use Rattle.dom_model.specs.Tree.{has_node, is_text, kind_of}
 use Rattle.dom_model.specs.World.{part_of}
 use Rattle.dom_mutation.specs.Doc.{IsChild, made, name_in}
 use Rattle.dom_mutation.specs.Hosting.{IsAlone}
@@ -10,6 +10,12 @@ use Rattle.dom_range_ops.specs.Texts.{range_at_points}
 use Rattle.dom_range_ops.proofs.InsertedRanges.{range-kept}
 use Rattle.dom_range_ops.proofs.InsertedTails.{split-open, split-apart, split-child, split-bounds, split-whole}
 use Rattle.dom_range_ops.proofs.inserting.insert_before_tail.Goals as goal
+
+pub split-requires-clause-text : goal.split-requires-clause-text
+split-requires-clause-text c =
+    let d = c.args.doc.now in
+    let own = c.requires.start_is_child.owner ∙ c.requires.parent_own in
+    ap (λ w. is_text (kind_of (part_of d.world w).trees (name_in d c.args.points.now.start.0))) own ∙ c.requires.text
 
 pub insert_at-requires-clause-there : goal.insert_at-requires-clause-there
 insert_at-requires-clause-there c =

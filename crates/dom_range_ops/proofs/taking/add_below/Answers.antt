@@ -5,7 +5,7 @@ use Rattle.dom_model.specs.Part.{next_name}
 use Rattle.dom_model.specs.Steps.{make}
 use Rattle.dom_model.specs.World.{part_of}
 use Rattle.dom_mutation.specs.Doc.{MayMove, made, planned, name_in, owner_in}
-use Rattle.dom_algorithms.proofs.BoundedDocs.{bounds_added}
+use Rattle.dom_mutation.proofs.BoundedDocs.{bounds_added}
 use Rattle.dom_tree.specs.Forest.{node_from}
 use Rattle.dom_range_ops.proofs.TakingDocs.{new-moves, below-made}
 use Rattle.dom_range_ops.proofs.taking.add_below.Goals as goal

@@ -1,12 +1,14 @@
-use Rattle.std.proofs.Common.{◌≢◌, ◌-◌, ◌<◌, inl, inr, length, ap, ◌∙◌, arith, rules}
+use Rattle.std.proofs.Common.{◌≡◌, ◌≢◌, ℕ, ◌-◌, ◌<◌, inl, inr, length, slice_index_or, sym, ap, ◌∙◌, arith, rules}
+use Rattle.dom_model.specs.Ranges.{at}
+use Rattle.dom_ranges.specs.Listed.{point_of}
 use Rattle.std.proofs.lemmas.Bool.{cases_lt}
 use Rattle.std.proofs.lemmas.List.{get_or_default}
 use Rattle.dom_ranges.specs.declared.ends.RangeEnd.{RangeEnd}
 use Rattle.dom_ranges.proofs.indexes.reach.Goals.{else-behind-gt0-via-then-behind-gt0+else-eq, else-behind-gt0-via-else-behind-gt0}
 use Rattle.dom_ranges.proofs.indexes.reach.Goals as goal
 
-pub returns-then-eq : goal.returns-then-eq
-returns-then-eq c =
+pub returns-then-eq-clause-up_to : goal.returns-then-eq-clause-up_to
+returns-then-eq-clause-up_to c =
     λ k d l e.
     let es = c.args.ends.now in
     let last = c.behind_node-behind.result - 1 in
@@ -23,8 +25,8 @@ returns-then-eq c =
       | inr m ↦ absurd (omega (arith, e, c.behind_node-behind.ensures.more k d m l))
     ]
 
-pub returns : goal.returns
-returns c =
+pub returns-clause-up_to : goal.returns-clause-up_to
+returns-clause-up_to c =
     λ k d l e.
     let es = c.args.ends.now in
     elim c.else-behind-gt0.branch [
@@ -43,3 +45,19 @@ returns c =
       | else-behind-gt0-via-else-behind-gt0 w ↦
           absurd (omega (arith, e, c.behind_node-behind.ensures.more k d (omega (arith, w.if-behind-gt0.false)) l))
     ]
+
+pub returns-then-eq-clause-reached : goal.returns-then-eq-clause-reached
+returns-then-eq-clause-reached c =
+    let es = c.args.ends.now in
+    let last = c.behind_node-behind.result - 1 in
+    let within : last < length es = omega (arith, c.if-behind-gt0.true, c.behind_node-behind.ensures.within) in
+    let read = c.index-ends-behind-then-eq.result in
+    let same : c.index-ends-behind.result.node ≡ c.args.node = search rules in
+    let here = c.index-ends-behind.is ∙ get_or_default es last c.index-ends-behind.result read within in
+    inr (
+      last,
+      within,
+      λ d.
+          ap point_of (get_or_default es last d read within)
+          ∙ ap (λ (n : ℕ). at n (slice_index_or es last read).offset) (sym (ap (λ (x : RangeEnd). x.node) here) ∙ same),
+    )

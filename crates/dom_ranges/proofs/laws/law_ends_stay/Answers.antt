@@ -1,4 +1,5 @@
-use Rattle.dom_ranges.proofs.Staying.{none-within, same-within, more-within, within-at_nodes, made-within, removed-within, start-within, end-within}
+use Rattle.dom_ranges.proofs.Staying.{none-within, same-within, more-within, within-at_nodes, made-within, removed-within, written-within}
+use Rattle.dom_ranges.proofs.Staying.{start-within, end-within}
 use Rattle.dom_ranges.proofs.Staying.{collapsed-within, insert-within, removal-within, replace_data-within, split-within, join-within}
 use Rattle.dom_ranges.proofs.laws.law_ends_stay.Goals as goal
 
@@ -19,6 +20,9 @@ returns-clause-made c = made-within
 
 pub returns-clause-removed : goal.returns-clause-removed
 returns-clause-removed c = removed-within
+
+pub returns-clause-written : goal.returns-clause-written
+returns-clause-written c = written-within
 
 pub returns-clause-start : goal.returns-clause-start
 returns-clause-start c = start-within

@@ -1,9 +1,8 @@
 -- A line is written where it begins with the prefix, and left where it does not.
 use Rattle.std.proofs.Common.{◌++◌, ◌∙◌, sym, ap, append-nil, append_assoc, subst}
 use Rattle.std.proofs.lemmas.Result.{err_from_is_err_and}
-use Rattle.std.specs.Io.KnownBytes.{Appends}
-use Rattle.std.proofs.KnownBytes.{Appends-trans}
-use Rattle.dom_streams.proofs.WriteLaws.{stops_between, stops_as}
+use Rattle.dom_streams.specs.Writing.{Takes}
+use Rattle.dom_streams.proofs.WriteLaws.{Takes-trans, stops_between, stops_as}
 use Rattle.dom_streams.proofs.ViewLaws.{kept_by, kept_by-first, kept_by-later, kept_by-none}
 use Rattle.dom_streams.proofs.view.write_lines_with.Goals as goal
 
@@ -22,7 +21,7 @@ loop-at-preserved-in_ok-write_all_to g c =
     c.split_at.ensures.front c.split_at.ensures.back (sym c.starts_with.ensures.value ∙ c.if-starts_with.true) in (
       i.0 ++ line,
       i.1 ∙ ap (λ x. i.0 ++ x) step ∙ sym (append_assoc i.0 line _),
-      Appends-trans _ _ _ i.0 line i.2 c.in_ok-write_all_to.ensures.1,
+      Takes-trans _ _ _ i.0 line i.2 c.in_ok-write_all_to.ensures.1,
       c.in_ok-write_all_to.ensures.0 ∙ i.3,
     )
 
@@ -35,11 +34,14 @@ returns-in_err-write_all_to g c =
     let p = err_from_is_err_and c.from_residual.result c.from_residual.ensures.1 in
     rw (p.1, p.2)
     (stops_as _ _ _ _ (sym (i.1 ∙ ap (λ x. i.0 ++ x) step ∙ sym (append_assoc i.0 line _))) (λ (x : ⊥). x) _
-    (stops_between (record { none_failed = i.3; appends = i.2 }) _ line (kept_by c.args.prefix.now c.split_at.result.1.now) _ _ ⊥
+    (stops_between (record { none_failed = i.3; takes = i.2 }) _ line (kept_by c.args.prefix.now c.split_at.result.1.now) _ _ ⊥
     c.in_err-write_all_to.ensures))
 
 pub returns : goal.returns
 returns g c =
     let i = c.loop-at.invariant in
-    let all = i.1 ∙ ap (λ x. i.0 ++ x) (kept_by-none c.args.prefix.now c.loop-at.rest.now c.in_default.ensures.none) ∙ append-nil i.0 in
-    (i.3, subst (Appends (g.W.Sink.contents c.args.sink.now) (g.W.Sink.contents c.loop-at.sink)) (sym all) i.2)
+    let all = i.1 ∙ ap (λ x. i.0 ++ x) (kept_by-none c.args.prefix.now c.loop-at.rest.now c.in_default.ensures.none) ∙ append-nil i.0 in (
+      i.3,
+      subst (Takes (g.W.Sink.contents c.args.sink.now, g.W.Sink.taken c.args.sink.now)
+          (g.W.Sink.contents c.loop-at.sink, g.W.Sink.taken c.loop-at.sink)) (sym all) i.2,
+    )

@@ -50,7 +50,7 @@ returns c =
     let narrow : (l : Listener ℕ) → p l ≡ true → nat_eq l.node c.args.node ≡ true =
     λ l h. and-first (nat_eq l.node c.args.node) (text_eq l.words.event c.args.event.now && beq l.words.capture c.args.capturing) h in
     let all : take c.loop-place.place-index places ≡ places_from c.args.node 0 es =
-    take_all c.loop-place.place-index places (omega (arith, c.loop-place-test.false)) ∙ c.of-places.ensures ∙ c.self.invariant c.args.node in
+    take_all c.loop-place.place-index places (omega (arith, c.loop-place-test.false)) ∙ c.of-places.ensures ∙ c.self.invariant.indexed c.args.node in
     c.loop-place.invariant
     ∙ ap (λ ps. filter p (listeners_in (picked es ps))) all
     ∙ picked-kept c.args.node p narrow es

@@ -1,9 +1,22 @@
-use Rattle.std.proofs.Common.{ℕ, Bool, nat_eq, sym, ◌∙◌}
+use Rattle.std.proofs.Common.{◌≡◌, ℕ, Bool, nat_eq, not, filter, subst, sym, ◌∙◌}
 use Rattle.dom_model.specs.Listeners.{Listener, is_listener}
 use Rattle.dom_dispatch.specs.Entries.{listeners_in}
-use Rattle.dom_dispatch.specs.Tables.{present}
+use Rattle.dom_dispatch.specs.Tables.{present, HasTypes}
 use Rattle.dom_dispatch.proofs.Placing.{none-pass}
+use Rattle.dom_dispatch.proofs.Typed.{filter-typed}
 use Rattle.dom_dispatch.proofs.listeners.Listeners.unlisten.Goals as goal
+
+pub invariant_of-self : goal.invariant_of-self
+invariant_of-self c =
+    let p : Listener ℕ → Bool = is_listener nat_eq c.args.node c.args.event.now c.args.label.now c.args.capture in
+    let now = listeners_in (present c.loop-at.self-inside.table.entries.items) in
+    let is : now ≡ filter (λ l. not (p l)) c.args.self.now =
+    sym (none-pass p now (sym c.in_default.ensures.there)) ∙ c.loop-at.invariant.others in
+    record {
+      indexed = c.loop-at.invariant.indexed;
+      typed = subst (HasTypes c.loop-at.self-inside.types) (sym is)
+          (filter-typed c.loop-at.self-inside.types (λ l. not (p l)) c.args.self.now c.loop-at.invariant.typed);
+    }
 
 pub returns : goal.returns
 returns c =

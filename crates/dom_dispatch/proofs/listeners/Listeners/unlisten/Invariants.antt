@@ -1,7 +1,7 @@
 use Rattle.std.proofs.Common.{◌≡◌, not, nat_eq, filter, length}
 use Rattle.dom_model.specs.Listeners.{is_listener}
 use Rattle.dom_dispatch.specs.Entries.{listeners_in}
-use Rattle.dom_dispatch.specs.Tables.{present, IsIndexed}
+use Rattle.dom_dispatch.specs.Tables.{present, IsIndexed, HasTypes}
 use Rattle.dom_dispatch.proofs.listeners.Listeners.unlisten.Given as goal
 
 abbrev pub invariant-loop-at : goal.invariant-loop-at
@@ -9,6 +9,7 @@ invariant-loop-at l = record {
   indexed : IsIndexed l.self-inside.table.places l.self-inside.table.entries.items;
   others : filter (λ x. not (is_listener nat_eq l.node l.event l.label l.capture x)) (listeners_in (present l.self-inside.table.entries.items))
       ≡ filter (λ x. not (is_listener nat_eq l.node l.event l.label l.capture x)) l.fn.self;
+  typed : HasTypes l.self-inside.types l.fn.self;
 }
 
 abbrev pub decreases-loop-at : goal.decreases-loop-at

@@ -66,11 +66,6 @@ loop-left-preserved g c =
       ),
     )
 
-pub take_read-requires-clause-within : goal.take_read-requires-clause-within
-take_read-requires-clause-within g c =
-    let i = c.loop-left.invariant in
-    omega (arith, c.min-room.ensures, length-take c.min-room.result c.loop-left.buffer, i.3, i.6, c.requires.within)
-
 pub returns-in_err-n-clause-delivered : goal.returns-in_err-n-clause-delivered
 returns-in_err-n-clause-delivered g c =
     let i = c.loop-left.invariant in
@@ -97,11 +92,6 @@ returns-in_err-flush_before_read-clause-stops g c =
     let i = c.loop-left.invariant in
     let p = err_from_is_err_and c.from_residual-in_err-flush_before_read.result c.from_residual-in_err-flush_before_read.ensures.1 in
     rw (p.1, p.2) (stops-flush i.1 _ _ _ _ (omega (arith, i.3)) c.in_err-flush_before_read.ensures.written)
-
-pub expect_end-requires-clause-within : goal.expect_end-requires-clause-within
-expect_end-requires-clause-within g c =
-    let i = c.loop-left.invariant in
-    omega (arith, i.3, i.6, c.requires.within, length-take 1 c.loop-left.buffer)
 
 pub returns-clause-delivered : goal.returns-clause-delivered
 returns-clause-delivered g c =

@@ -17,4 +17,4 @@ returns g c =
     let text = c.deref.ensures.value ∙ c.in_ok-text.ensures.text ∙ sym (ending-is c.args.self.now.session.world) in
     let shown = ap (viewed c.args.self.now.view) text in
     ends_as _ _ _ _ (append-nil _ ∙ shown) (λ (x : ⊥). absurd x) c.flush.result
-    (ends_behind (record { none_failed = c.in_ok-write.ensures.0; appends = c.in_ok-write.ensures.1 }) c.flush.result _ _ [] ⊥ c.flush.ensures.written)
+    (ends_behind (record { none_failed = c.in_ok-write.ensures.0; takes = c.in_ok-write.ensures.1 }) c.flush.result _ _ [] ⊥ c.flush.ensures.written)

@@ -1,7 +1,7 @@
 -- Each line is run behind those before it.
 use Rattle.std.proofs.Common.{refl, sym, subst, ◌∙◌, map, take}
-use Rattle.std.specs.Io.KnownBytes.{Appends}
-use Rattle.std.proofs.KnownBytes.{Appends-nil}
+use Rattle.dom_streams.specs.Writing.{Takes}
+use Rattle.dom_streams.proofs.WriteLaws.{Takes-nil}
 use Rattle.std.proofs.lemmas.Result.{err_from_is_err_and}
 use Rattle.dom_engine.proofs.RunLaws.{world_after-none, shown-none}
 use Rattle.dom_engine.proofs.LineRuns.{Behind, world-behind, lines_done, lines_between, one_more, around}
@@ -10,7 +10,7 @@ use Rattle.dom_engine.proofs.runner.Runner.run_lines.Goals as goal
 pub loop-line-init : goal.loop-line-init
 loop-line-init g c =
     let s = c.args.self.now in
-    (sym (world_after-none s.session.world), refl, refl, refl, subst (Appends _ _) (sym (shown-none s.view s.session.world)) (Appends-nil _))
+    (sym (world_after-none s.session.world), refl, refl, refl, subst (Takes _ _) (sym (shown-none s.view s.session.world)) (Takes-nil _))
 
 pub loop-line-preserved : goal.loop-line-preserved
 loop-line-preserved g c =
@@ -32,4 +32,4 @@ returns-in_err-run_line-clause-written g c =
     record { same = i.2; world = i.0 } in
     rw (p.1, p.2)
     (lines_between at _ _ (around (λ line. line.items) c.args.lines.now c.loop-line.line-index c.line-item.result _ c.loop-line-test.true
-    c.line-item.is c.deref.ensures.value) (record { none_failed = i.3; appends = i.4 }) _ _ _ c.in_err-run_line.ensures.written)
+    c.line-item.is c.deref.ensures.value) (record { none_failed = i.3; takes = i.4 }) _ _ _ c.in_err-run_line.ensures.written)

@@ -46,7 +46,7 @@ returns-in_err-run_line-clause-written g c =
     let passed = front-behind i.0 taken.0 later i.1 taken.1 in
     let around = fed-around kept i.0 taken.0 later i.2 passed
     ∙ ap (λ cut. ((fed kept i.0).finished ++ cut.finished) ++ (fed (fed kept (i.0 ++ taken.0)).rest later).finished) taken.2 in
-    rw (p.1, p.2) (lines_between i.3 _ _ around (record { none_failed = i.4; appends = i.5 }) _ _ _ c.in_err-run_line.ensures.written)
+    rw (p.1, p.2) (lines_between i.3 _ _ around (record { none_failed = i.4; takes = i.5 }) _ _ _ c.in_err-run_line.ensures.written)
 
 pub loop-rest-preserved : goal.loop-rest-preserved
 loop-rest-preserved g c =
@@ -72,5 +72,5 @@ returns-in_err-take_piece-clause-written g c =
     let p = err_from_is_err_and c.from_residual-in_err-take_piece.result c.from_residual-in_err-take_piece.ensures.1 in
     let whole = piece-behind i.0 c.loop-rest.rest.now c.piece_len.result i.1 c.split_at.ensures.front c.split_at.ensures.back in
     rw (p.1, p.2)
-    (lines_between i.3 _ _ (fed-around kept i.0 piece later i.2 whole) (record { none_failed = i.4; appends = i.5 }) _ _ _
+    (lines_between i.3 _ _ (fed-around kept i.0 piece later i.2 whole) (record { none_failed = i.4; takes = i.5 }) _ _ _
     c.in_err-take_piece.ensures.written)

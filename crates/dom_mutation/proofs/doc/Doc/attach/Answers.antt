@@ -1,6 +1,7 @@
-use Rattle.std.proofs.Common.{◌≡◌, ◌↔◌, Err, Some, subst, sym}
+use Rattle.std.proofs.Common.{◌≡◌, ◌↔◌, false, length, Err, Some, subst, sym}
+use Rattle.std.specs.Prelude.{OnOk}
 use Rattle.dom_base.specs.declared.Fault.TheVariants.{Refused}
-use Rattle.dom_model.specs.World.{part_of}
+use Rattle.dom_model.specs.World.{part_of, is_there, component_made}
 use Rattle.dom_mutation.specs.Doc.{DocState, name_in, owner_in, attaching_refusal}
 use Rattle.dom_model.specs.DocumentMachine.{attaching}
 use Rattle.dom_mutation.specs.Ready.{AreReady}
@@ -19,3 +20,10 @@ returns-clause-ready c =
     (λ w. subst AreReady (sym (subst (λ (a : DocState). c.attach.new.self.world ≡ (attaching a.world (owner_in a c.args.host) (name_in a c.args.host)).0)
     c.self.view_is w)) (ready-attaching c.args.self.now.world (owner_in c.args.self.now c.args.host) (name_in c.args.self.now c.args.host) h))
     c.attach.ensures.world
+
+pub returns-clause-fresh : goal.returns-clause-fresh
+returns-clause-fresh c =
+    let x = c.args.host in
+    subst (λ (d : DocState). OnOk c.attach.result
+    (is_there d.world (component_made (owner_in d x) (length (part_of d.world (owner_in d x)).attached)) ≡ false))
+    c.self.view_is c.attach.ensures.fresh

@@ -1,26 +1,26 @@
-use Rattle.std.proofs.Common.{subst, sym, ◌≡◌, false, ap}
+use Rattle.std.proofs.Common.{subst, sym, ◌≡◌, false}
 use Rattle.dom_mutation.specs.Doc.{DocState, IsChild, name_in, owner_in}
 use Rattle.std.specs.Prelude.{option_map}
 use Rattle.dom_base.specs.declared.Owner.{Owner}
 use Rattle.dom_model.specs.Changes.{inserting, observed}
 use Rattle.dom_model.specs.Tree.{kind_of, is_shadow}
 use Rattle.dom_model.specs.World.{part_of}
-use Rattle.dom_mutation.proofs.ReadyCalls.{if-done, stands-in, plan-call}
+use Rattle.dom_mutation.proofs.ReadyCalls.{stands-in, planned-call}
 use Rattle.dom_mutation.proofs.ReadyPlans.{ready-inserting}
 use Rattle.dom_mutation.proofs.doc.Doc.insert_before.Goals as goal
 
-pub insert-requires-clause-child_is_child : goal.insert-requires-clause-child_is_child
-insert-requires-clause-child_is_child c x is = subst (λ (d : DocState). IsChild d c.args.parent x) (sym c.self.view_is) (c.requires.child_is_child x is)
+pub inserting-requires-clause-before_is_child : goal.inserting-requires-clause-before_is_child
+inserting-requires-clause-before_is_child c x is = subst (λ (d : DocState). IsChild d c.args.parent x) (sym c.self.view_is) (c.requires.child_is_child x is)
 
 pub returns-clause-ready : goal.returns-clause-ready
 returns-clause-ready c h opened plain =
     let d = c.args.self.now in
     let parent = c.args.parent in
     let node = c.args.node in
-    plan-call c.self.inside.parts c.args.self.now c.insert.new.parts c.self.view_is
+    planned-call c.self.inside.parts c.args.self.now c.inserting.new.parts c.self.view_is
     (record { alone = c.laws.ensures.alone; parts = c.laws.ensures.parts; stand = c.laws.ensures.stand }) parent
-    c.requires.parent_is_node (λ a. inserting observed (name_in a node) (name_in a parent) (option_map (name_in a) c.args.child)) c.insert.result
-    (if-done c.insert.result (ap (λ (s : DocState). s.world)) c.insert.ensures)
+    c.requires.parent_is_node (λ a. inserting observed (name_in a node) (name_in a parent) (option_map (name_in a) c.args.child)) c.inserting.result
+    c.inserting.ensures
     (λ l i r. ready-inserting _ i r (name_in d node) (name_in d parent)
     (stands-in d node (owner_in d parent) l c.requires.may_move.node c.requires.may_move.owner) (l.stand parent c.requires.parent_is_node)
     (option_map (name_in d) c.args.child) c.requires.may_move.not_above opened

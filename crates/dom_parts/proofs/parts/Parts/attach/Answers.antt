@@ -1,12 +1,16 @@
-use Rattle.std.proofs.Common.{◌<◌, length, refl, ◌∙◌}
+use Rattle.std.proofs.Common.{◌<◌, length, refl, sym, ap, ◌∙◌}
+use Rattle.std.specs.Prelude.{nat_lt}
 use Rattle.dom_model.specs.Tree.{node_in}
+use Rattle.dom_model.specs.World.{part_of, component_made}
+use Rattle.dom_model.proofs.OwnerLaws.{component_made-no_page}
 use Rattle.dom_tree.specs.Forest.{name_at}
-use Rattle.dom_cursors.specs.Cursors.{cursors_of}
+use Rattle.dom_traversal.specs.Cursors.{cursors_of}
 use Rattle.dom_observers.specs.Owners.{tables_of as observers_of}
 use Rattle.dom_parts.specs.AllTables.{tables_of}
-use Rattle.dom_parts.specs.Doc.{all_tables}
+use Rattle.dom_parts.specs.Doc.{all_tables, owner_in}
 use Rattle.dom_parts.proofs.HeldNodes.{given_up}
 use Rattle.dom_parts.proofs.Attachable.{accepted, next_is_for, new_owner, held_then, names_then, world_then}
+use Rattle.dom_parts.proofs.OwnersOfNodes.{nodes_there}
 use Rattle.dom_parts.proofs.Shown.{known}
 use Rattle.dom_parts.proofs.parts.Parts.attach.Goals as goal
 
@@ -63,6 +67,18 @@ returns-in-Ok-made-clause-world c =
     c.attach_root-made.new.slots d c.in-Ok-made.ensures.names c.in-Ok-made.ensures.trees
     c.in-Ok-made.ensures.hosts c.in-Ok-made.ensures.free c.in-Ok-made.ensures.slots
     c.args.self.now c.self.view_is c.requires refl
+
+pub returns-in-Ok-made-clause-fresh : goal.returns-in-Ok-made-clause-fresh
+returns-in-Ok-made-clause-fresh c =
+    let f = c.self.inside.forest in
+    let d = c.args.self.now in
+    let o = owner_in d c.args.host in
+    let n = length (part_of d.world o).attached in
+    let next = next_is_for f (all_tables c.self.inside) c.self.invariant c.law_nodes_stand_once.ensures.distinct d c.self.view_is c.args.host c.requires in
+    let none = new_owner f (all_tables c.self.inside) c.self.invariant c.args.host
+    (accepted f (all_tables c.self.inside) c.self.invariant c.law_nodes_stand_once.ensures.distinct d c.self.view_is
+    c.args.host c.requires c.in-Ok.ensures.refusal).1.1 (component_made o n) next in
+    sym (nodes_there f c.self.invariant c.self.view_is (component_made o n) (component_made-no_page o n)) ∙ ap (nat_lt 0) none
 
 pub invariant_of-self-in-Err-made : goal.invariant_of-self-in-Err-made
 invariant_of-self-in-Err-made c =

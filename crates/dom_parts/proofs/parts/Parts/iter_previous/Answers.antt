@@ -7,7 +7,7 @@ use Rattle.dom_traversal.specs.Iterators.{IsIteratorOf, iterator_at}
 use Rattle.dom_laws.proofs.Options.{was_some}
 use Rattle.dom_parts.proofs.Cursors.{previous_effect}
 use Rattle.dom_parts.proofs.Passing.{there_iter, iter_there, iters_of, writes, held_written, iter_moved, name_known}
-use Rattle.dom_cursors.specs.Cursors.{cursors_of}
+use Rattle.dom_traversal.specs.Cursors.{cursors_of}
 use Rattle.dom_parts.specs.Doc.{all_tables}
 use Rattle.dom_parts.proofs.parts.Parts.iter_previous.Goals as goal
 

@@ -2,12 +2,12 @@ use Rattle.std.proofs.Common.{◌≡◌, true, true≢false, Result, Ok, Err, op
 use Rattle.std.specs.Prelude.{is_some, OnOk}
 use Rattle.dom_model.specs.Tree.{parent_of}
 use Rattle.dom_tree.specs.Forest.{name_at}
-use Rattle.dom_cursors.specs.Cursors.{cursors_of, with_cursors}
+use Rattle.dom_traversal.specs.Cursors.{cursors_of, with_cursors}
 use Rattle.dom_observers.specs.Owners.{tables_of as observers_of}
 use Rattle.dom_node_trees.specs.Signalled.{signal_tables}
 use Rattle.dom_base.specs.declared.NodeName.{NodeName}
 use Rattle.dom_base.specs.declared.Owner.{Owner}
-use Rattle.dom_cursors.specs.OwnTables.{KeyedTables, AreLeft}
+use Rattle.dom_traversal.specs.OwnTables.{KeyedTables, AreLeft}
 use Rattle.dom_parts.specs.AllTables.{tables_of}
 use Rattle.dom_parts.specs.Doc.{name_in, trees_in}
 use Rattle.dom_parts.proofs.Observing.{none_held}

@@ -6,7 +6,7 @@ use Rattle.dom_model.specs.Names.{node_of}
 use Rattle.dom_model.specs.TreeChanges.{with_node}
 use Rattle.dom_tree.specs.Forest.{NamedTrees, next_name, node_from}
 use Rattle.dom_tree.specs.declared.data.NodeData.{NodeData}
-use Rattle.dom_cursors.specs.OwnTables.{no_keyed_tables}
+use Rattle.dom_traversal.specs.OwnTables.{no_keyed_tables}
 use Rattle.dom_parts.specs.AllTables.{no_slots, tables_of}
 use Rattle.dom_slots.specs.Kept.{SlotsNow}
 use Rattle.dom_parts.proofs.HeldNodes.{first_held}

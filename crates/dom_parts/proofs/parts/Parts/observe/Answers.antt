@@ -17,6 +17,13 @@ invariant_of-self c =
     (known f c.self.invariant c.self.view_is (λ e. owner_in e c.args.node ≡ c.args.owner) c.requires.own) (words_of c.args.options)
     c.observe.result c.observe.ensures.err c.observe.ensures.tables
 
+pub observe-requires-clause-node_is_node : goal.observe-requires-clause-node_is_node
+observe-requires-clause-node_is_node c = known c.self.inside.forest c.self.invariant c.self.view_is (λ e. c.args.node < length e.names) c.requires.node_is_node
+
+pub observe-requires-clause-own : goal.observe-requires-clause-own
+observe-requires-clause-own c =
+    known c.self.inside.forest c.self.invariant c.self.view_is (λ e. owner_in e c.args.node ≡ c.args.owner) c.requires.own
+
 pub returns-clause-world : goal.returns-clause-world
 returns-clause-world c =
     let f = c.self.inside.forest in

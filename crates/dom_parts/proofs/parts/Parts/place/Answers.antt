@@ -9,7 +9,7 @@ use Rattle.dom_parts.specs.Doc.{name_in, owner_in, trees_in, contents, all_table
 use Rattle.dom_tree.proofs.Standing.{Once-forest, Has-forest}
 use Rattle.dom_laws.proofs.KeptAncestors.{keeps_placed}
 use Rattle.dom_slots.specs.declared.step.Step.TheVariants.{Place}
-use Rattle.dom_cursors.specs.Cursors.{cursors_of}
+use Rattle.dom_traversal.specs.Cursors.{cursors_of}
 use Rattle.dom_observers.specs.Owners.{tables_of as observers_of}
 use Rattle.dom_node_trees.specs.Signalled.{signal_tables}
 use Rattle.dom_parts.specs.AllTables.{tables_of}

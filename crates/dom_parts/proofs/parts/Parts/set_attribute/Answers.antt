@@ -4,7 +4,7 @@ use Rattle.dom_model.specs.Steps.{set_attribute}
 use Rattle.dom_slots.specs.declared.step.Step.TheVariants.{Attribute}
 use Rattle.dom_tree.specs.Forest.{name_at}
 use Rattle.dom_tree.proofs.OwnPlacings.{changed_node}
-use Rattle.dom_cursors.specs.Cursors.{cursors_of}
+use Rattle.dom_traversal.specs.Cursors.{cursors_of}
 use Rattle.dom_observers.specs.Owners.{tables_of as observers_of}
 use Rattle.dom_node_trees.specs.Signalled.{signal_tables}
 use Rattle.dom_parts.specs.AllTables.{tables_of}

@@ -7,7 +7,7 @@ use Rattle.dom_traversal.specs.Walkers.{IsWalkerOf, walker_at}
 use Rattle.dom_laws.proofs.Options.{was_some}
 use Rattle.dom_parts.proofs.Cursors.{walk_effect}
 use Rattle.dom_parts.proofs.Passing.{there_walk, walk_there, walks_of, writes, held_written, walk_moved, walk_stays, name_known}
-use Rattle.dom_cursors.specs.Cursors.{cursors_of}
+use Rattle.dom_traversal.specs.Cursors.{cursors_of}
 use Rattle.dom_parts.specs.Doc.{all_tables}
 use Rattle.dom_parts.proofs.parts.Parts.walk.Goals as goal
 

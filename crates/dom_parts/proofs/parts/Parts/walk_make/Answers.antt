@@ -2,9 +2,9 @@ use Rattle.std.proofs.Common.{◌≡◌, ◌<◌, ap, ◌∙◌, true, length, s
 use Rattle.std.proofs.lemmas.Result.{on_err_weaker}
 use Rattle.dom_base.specs.declared.Owner.{Owner}
 use Rattle.dom_model.specs.World.{is_there}
-use Rattle.dom_cursors.specs.OwnTables.{KeyedTables}
+use Rattle.dom_traversal.specs.OwnTables.{KeyedTables}
 use Rattle.dom_traversal.specs.Filters.{filter_of}
-use Rattle.dom_cursors.specs.Cursors.{cursors_of}
+use Rattle.dom_traversal.specs.Cursors.{cursors_of}
 use Rattle.dom_parts.specs.Doc.{owner_in, world_from, state_from, all_tables}
 use Rattle.dom_parts.proofs.Shown.{known, owner_there}
 use Rattle.dom_parts.proofs.Passing.{walk_made, walk_made_writes, walk_limit}

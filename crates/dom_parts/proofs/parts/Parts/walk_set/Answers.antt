@@ -3,7 +3,7 @@ use Rattle.std.specs.Prelude.{slice_get, slice_set}
 use Rattle.dom_model.specs.Command.{Command, own}
 use Rattle.dom_model.specs.Output.{nothing}
 use Rattle.dom_tree.specs.Forest.{name_at}
-use Rattle.dom_cursors.specs.Cursors.{cursors_of}
+use Rattle.dom_traversal.specs.Cursors.{cursors_of}
 use Rattle.dom_parts.specs.Doc.{owner_in, all_tables}
 use Rattle.dom_parts.proofs.Shown.{known}
 use Rattle.dom_parts.proofs.Cursors.{walk_set_effect}

@@ -4,7 +4,7 @@ use Rattle.dom_model.specs.World.{Task}
 use Rattle.dom_slots.specs.Kept.{SlotsNow}
 use Rattle.dom_observers.specs.Tables.{no_tables as no_observers}
 use Rattle.dom_observers.specs.Owners.{tables_of as observers_of}
-use Rattle.dom_cursors.specs.OwnTables.{no_keyed_tables}
+use Rattle.dom_traversal.specs.OwnTables.{no_keyed_tables}
 use Rattle.dom_parts.specs.AllTables.{tables_of, no_slots}
 use Rattle.dom_parts.proofs.parts.settling.give_up.Goals as goal
 

@@ -2,7 +2,7 @@ use Rattle.std.proofs.Common.{refl, sym, ap, subst}
 use Rattle.dom_tree.specs.Forest.{name_at}
 use Rattle.dom_path.specs.declared.item.Item.{Item}
 use Rattle.dom_path.specs.Built.{IsItemOf, related_name}
-use Rattle.dom_path.proofs.Tracks.{IsTrack, track-more, track-last, event-kept}
+use Rattle.dom_path.proofs.Tracks.{IsTrack, track-more, track-last, trail-last, event-kept}
 use Rattle.dom_path.proofs.Viewed.{item-made}
 use Rattle.dom_path.proofs.event.Event.items.Goals as goal
 
@@ -25,7 +25,7 @@ loop-next-preserved c =
       track = track-more f hosts t r e.composed trees new items x c.item.result c.push.new.self.items c.in_ok-next.next so_far
           c.in_ok-next.ensures.grown c.in_ok-push.ensures.ok
           (record { item = item; node = ap (λ (i : Item). i.node) c.item.ensures; entered = ap (λ (i : Item). i.slot_in_closed) c.item.ensures })
-          c.in_ok-next.ensures.stands c.in_ok-next.ensures.value c.in_ok-next.ensures.entered;
+          c.in_ok-next.ensures.stands c.in_ok-next.ensures.value (λ y is. (c.in_ok-next.ensures.up y is, c.in_ok-next.ensures.entered y is));
       are = c.in_ok-next.ensures.trees;
       event = event-kept c.in_ok-next.ensures.grown c.loop-next.invariant.event;
     }
@@ -35,4 +35,11 @@ returns-clause-way c =
     let f = c.args.forest.now in
     let e = c.args.self.now in
     track-last f c.args.slots.now.hosts (name_at f.names e.target.node) (related_name f.names e.related) e.composed c.in_default.is
+    c.loop-next.invariant.track
+
+pub returns-clause-trail : goal.returns-clause-trail
+returns-clause-trail c =
+    let f = c.args.forest.now in
+    let e = c.args.self.now in
+    trail-last f c.args.slots.now.hosts (name_at f.names e.target.node) (related_name f.names e.related) e.composed c.in_default.is
     c.loop-next.invariant.track

@@ -35,7 +35,7 @@ returns-then-ends_before-clause-value c = λ depth hosted.
     event.at_related
     (c.in_ok-above.ensures.stands x c.in-Some.is)) ∙ sym c.if-ends_before.ensures in
     let both : Some (name_at f.names c.at-top.result.root) ≡ Some (root_of f.trees t) =
-    ap (option_map (λ (a : Tree). name_at f.names a.root)) (sym c.at-top.ensures) ∙ c.requires.event.at_target.tree depth hosted in
+    ap (option_map (λ (a : Tree). name_at f.names a.root)) (sym c.at-top.ensures) ∙ c.requires.event.root in
     let top : name_at f.names c.at-top.result.root ≡ root_of f.trees t = cc in
     let up : Some y ≡ event_parent_at (shadows f hosts) e.composed (name_at f.names c.at-top.result.root) (name_at f.names c.args.at.now.node) =
     ap (option_map (λ (a : PathNode). name_at f.names a.node)) (sym c.in-Some.is) ∙ c.in_ok-above.ensures.value in
@@ -59,10 +59,26 @@ returns-clause-value c = λ depth hosted.
     event.at_related
     (c.in_ok-above.ensures.stands x c.in-Some.is)) ∙ sym c.if-ends_before.ensures in
     let both : Some (name_at f.names c.at-top.result.root) ≡ Some (root_of f.trees t) =
-    ap (option_map (λ (a : Tree). name_at f.names a.root)) (sym c.at-top.ensures) ∙ c.requires.event.at_target.tree depth hosted in
+    ap (option_map (λ (a : Tree). name_at f.names a.root)) (sym c.at-top.ensures) ∙ c.requires.event.root in
     let top : name_at f.names c.at-top.result.root ≡ root_of f.trees t = cc in
     let up : Some y ≡ event_parent_at (shadows f hosts) e.composed (name_at f.names c.at-top.result.root) (name_at f.names c.args.at.now.node) =
     ap (option_map (λ (a : PathNode). name_at f.names a.node)) (sym c.in-Some.is) ∙ c.in_ok-above.ensures.value in
     sym (ap (λ (b : Bool). if b then None else Some y) ends)
     ∙ ap (option_and_then (unless_ended (shadows f hosts) depth t r))
     (up ∙ ap (λ top. event_parent_at (shadows f hosts) e.composed top (name_at f.names c.args.at.now.node)) top)
+
+pub returns-clause-up : goal.returns-clause-up
+returns-clause-up c = λ x is.
+    let f = c.args.forest.now in
+    let hosts = c.args.slots.now.hosts in
+    let e = c.args.self.now in
+    let t = name_at f.names e.target.node in
+    let both : Some (name_at f.names c.at-top.result.root) ≡ Some (root_of f.trees t) =
+    ap (option_map (λ (a : Tree). name_at f.names a.root)) (sym c.at-top.ensures) ∙ c.requires.event.root in
+    let top : name_at f.names c.at-top.result.root ≡ root_of f.trees t = cc in
+    let up : Some (name_at f.names c.in-Some.above.node) ≡ event_parent_at (shadows f hosts) e.composed (name_at f.names c.at-top.result.root)
+    (name_at f.names c.args.at.now.node) =
+    ap (option_map (λ (a : PathNode). name_at f.names a.node)) (sym c.in-Some.is) ∙ c.in_ok-above.ensures.value in
+    let same : Some c.in-Some.above ≡ Some x = is in
+    sym (ap (option_map (λ (a : PathNode). name_at f.names a.node)) (sym same)
+    ∙ up ∙ ap (λ top. event_parent_at (shadows f hosts) e.composed top (name_at f.names c.args.at.now.node)) top)

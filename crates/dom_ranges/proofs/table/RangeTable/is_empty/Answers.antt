@@ -1,15 +1,21 @@
 use Rattle.std.proofs.Common.{sym, ◌∙◌}
 use Rattle.std.specs.Prelude.{slice_get}
 use Rattle.std.specs.Option.{option_flatten}
-use Rattle.std.proofs.lemmas.Bool.{eqb-true}
+use Rattle.std.proofs.lemmas.Bool.{eqb-true, eq-eqb}
 use Rattle.slab.specs.Slab.{slab_len}
 use Rattle.dom_ranges.specs.RangeSlots.{slots_of}
-use Rattle.dom_ranges.proofs.Vacant.{none-kept}
+use Rattle.dom_ranges.proofs.Vacant.{none-kept, none-held}
 use Rattle.dom_ranges.proofs.Writing.{Shows-view, range_in-held}
 use Rattle.dom_ranges.proofs.table.RangeTable.is_empty.Goals as goal
 
 pub returns : goal.returns
-returns c is o k =
-    range_in-held c.self.inside.live c.self.inside.numbers _ (Shows-view c.self.inside.live c.self.inside.numbers _ c.self.view_is) o k
-    ∙ none-kept c.self.inside.live (eqb-true (slab_len c.self.inside.live) 0 (sym c.is_empty.ensures ∙ is))
-    (option_flatten (slice_get (slots_of c.self.inside.numbers o) k))
+returns c =
+    let shows = Shows-view c.self.inside.live c.self.inside.numbers _ c.self.view_is in (
+      λ is o k.
+          range_in-held c.self.inside.live c.self.inside.numbers _ shows o k
+          ∙ none-kept c.self.inside.live (eqb-true (slab_len c.self.inside.live) 0 (sym c.is_empty.ensures ∙ is))
+          (option_flatten (slice_get (slots_of c.self.inside.numbers o) k)),
+      λ none.
+          c.is_empty.ensures ∙ eq-eqb (slab_len c.self.inside.live) 0
+          (none-held c.self.inside.live c.self.inside.numbers _ shows c.self.invariant.0 none),
+    )

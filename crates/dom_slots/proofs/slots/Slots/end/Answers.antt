@@ -3,7 +3,7 @@ use Rattle.std.proofs.Common.{subst, ◌∙◌, arith}
 use Rattle.std.specs.Prelude.{IfOk}
 use Rattle.std.specs.Option.{option_map}
 use Rattle.std.specs.Vec.{vec_len}
-use Rattle.std.proofs.lemmas.Bool.{eqb-true}
+use Rattle.std.proofs.lemmas.Bool.{eqb-true, and_parts}
 use Rattle.std.proofs.lemmas.Option.{same_Some}
 use Rattle.std.proofs.lemmas.Result.{IfOk-weaker}
 use Rattle.dom_base.specs.declared.NodeName.{NodeName}
@@ -115,7 +115,7 @@ module _ (c : After-moved_signals) where
         (ap (option_map begun_in) c.take.ensures.value ∙ (ap (λ (t : SlotsNow). t.begun) c.self.view_is ∙ h.begun))
 
     apart : is_apart (shadows f s.hosts) (name_at f.names (step_node b.step)) (option_map (name_at f.names) b.left) ≡ true
-    apart = begun-apart f hosts_are same c.if-is_apart.ensures
+    apart = begun-apart f hosts_are same (sym (and_parts _ _ (sym c.if-is_far.ensures)).1)
 
     renewed : IfOk c.moved_signals.result (Own was f s b h stands c.moved_signals.result c.moved_signals.new.self s.hosts s.table b)
     renewed =

@@ -25,20 +25,20 @@ returns-clause-renewed c =
     let node = c.args.node in
     let x = name_at f.names node in
     let list = list_of s.table k in
-    let before = c.next_looking_for-before.result in
+    let before = c.sibling_behind-before.result in
     let new = insert_before list node before in
     let keys = c.args.signals.now.items in
     let tables : c.self.inside.table ≡ s.table = ap (λ (t : SlotsNow). t.table) c.self.view_is in
     let under = c.is_of_parent.ensures c.if-not-is_of_parent.false in
     let at = Has-forest f e.once node c.requires.node in
     let own = sym c.requires.own ∙ ap (option_map (name_at f.names)) c.in-Some.is in
-    let is = c.next_looking_for-before.ensures.value in
+    let is = c.sibling_behind-before.ensures.value in
     let names = joined f once e.distinct s.hosts node k under.0 at under.2 under.1 own list (r.nodes k) (right k c.in-Some.is) before
-    c.next_looking_for-before.ensures.node is in
+    c.sibling_behind-before.ensures.node is in
     let within = joined-inside f once e.distinct s.hosts node k under.0 at under.2 under.1 own list (r.nodes k) (right k c.in-Some.is) before
-    c.next_looking_for-before.ensures.node is c.requires.node in
+    c.sibling_behind-before.ensures.node is c.requires.node in
     let off = not-listed f once e.distinct s.hosts node k under.0 at under.2 under.1 own list (r.nodes k) (right k c.in-Some.is) before
-    c.next_looking_for-before.ensures.node is in
+    c.sibling_behind-before.ensures.node is in
     let differs : true ≡ not (list_eq nat_eq list new) = inserted-differs node before list off in
     let lists = λ (j : ℕ). c.in_ok-put.ensures j ∙ ap (λ (t : SlotTable). if nat_eq k j then insert_before (list_of t j) node before else list_of t j) tables in
     on_ok_weaker c.add_once.result

@@ -1,34 +1,10 @@
-use Rattle.std.proofs.Common.{◌≡◌, ◌<◌, ◌++◌, ◌∷◌, [], ℕ, ◌+◌, Bool, List, map, filter, take, length, get_or, refl, sym, ap, subst, ◌∙◌, append_assoc}
-use Rattle.std.proofs.lemmas.List.{append-nil, map-append, take_more, take_all}
-use Rattle.std.proofs.lemmas.List.Elements.{filter-append}
-use Rattle.dom_base.specs.declared.NodeName.{NodeName}
-use Rattle.dom_tree.specs.Forest.{NamedTrees, name_at}
-use Rattle.dom_slots.specs.Hosts.{ShadowHost, HostsAreNodes}
+use Rattle.std.proofs.Common.{◌++◌, ◌∷◌, [], map, filter, take, refl, sym, subst, ◌∙◌}
+use Rattle.std.proofs.lemmas.List.{take_all}
+use Rattle.dom_tree.specs.Forest.{name_at}
+use Rattle.dom_slots.specs.Hosts.{HostsAreNodes}
 use Rattle.dom_slots.specs.Renewals.{AreRenewed}
-use Rattle.dom_slots.specs.Tables.{SlotTable}
+use Rattle.dom_slots.proofs.Renewing.{none_yet, one_more}
 use Rattle.dom_slots.proofs.slots.Slots.renew.Goals as goal
-
-module _ (f : NamedTrees) (hosts : List ShadowHost) (p : NodeName → Bool) (old : SlotTable) (done told : List NodeName) where
-  -- before the first
-  none_yet : (table : SlotTable) (keys : List ℕ) → AreRenewed f hosts p old done told table keys → AreRenewed f hosts p old (done ++ []) (told ++ []) table keys
-  none_yet table keys r = subst (λ ds. AreRenewed f hosts p old ds (told ++ []) table keys) (sym (append-nil done))
-      (subst (λ ts. AreRenewed f hosts p old done ts table keys) (sym (append-nil told)) r)
-
-  -- one more
-  one_more : {table : SlotTable} {keys : List ℕ} (slots : List ℕ) (i s : ℕ) → s ≡ get_or slots i s → i < length slots
-      → AreRenewed f hosts p old ((done ++ map (name_at f.names) (take i slots)) ++ name_at f.names s ∷ [])
-      ((told ++ filter p (map (name_at f.names) (take i slots))) ++ filter p (name_at f.names s ∷ [])) table keys
-      → AreRenewed f hosts p old (done ++ map (name_at f.names) (take (i + 1) slots)) (told ++ filter p (map (name_at f.names) (take (i + 1) slots))) table keys
-  one_more {table} {keys} slots i s at within r =
-      let longer : map (name_at f.names) (take (i + 1) slots) ≡ map (name_at f.names) (take i slots) ++ name_at f.names s ∷ [] =
-      ap (map (name_at f.names)) (take_more slots i s within ∙ ap (λ j. take i slots ++ j ∷ []) (sym at)) ∙
-      map-append (name_at f.names) (take i slots) (s ∷ []) in
-      subst (λ xs. AreRenewed f hosts p old (done ++ xs) (told ++ filter p xs) table keys) (sym longer)
-      (subst (λ ts. AreRenewed f hosts p old (done ++ (map (name_at f.names) (take i slots) ++ name_at f.names s ∷ [])) ts table keys)
-      (append_assoc told (filter p (map (name_at f.names) (take i slots))) (filter p (name_at f.names s ∷ [])) ∙
-      ap (λ ys. told ++ ys) (sym (filter-append p (map (name_at f.names) (take i slots)) (name_at f.names s ∷ []))))
-      (subst (λ ds. AreRenewed f hosts p old ds ((told ++ filter p (map (name_at f.names) (take i slots))) ++ filter p (name_at f.names s ∷ [])) table keys)
-      (append_assoc done (map (name_at f.names) (take i slots)) (name_at f.names s ∷ [])) r))
 
 pub loop-slot-init : goal.loop-slot-init
 loop-slot-init c = record {

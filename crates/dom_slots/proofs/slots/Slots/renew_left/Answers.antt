@@ -1,21 +1,53 @@
-use Rattle.std.proofs.Common.{[], filter, sym, ap, subst}
+use Rattle.std.proofs.Common.{◌≡◌, Bool, Result, Ok, Err, [], filter, sym, ap, subst, ◌∙◌}
+use Rattle.std.specs.Prelude.{OnOk}
 use Rattle.std.specs.Option.{option_map_or}
+use Rattle.std.proofs.lemmas.Bool.{eqb-true}
 use Rattle.std.proofs.lemmas.Result.{on_ok_weaker}
+use Rattle.dom_base.specs.declared.NodeName.{NodeName}
+use Rattle.dom_model.specs.Slots.{slots_among}
+use Rattle.dom_model.specs.Tree.{root_of, subtree}
 use Rattle.dom_tree.specs.Forest.{name_at}
-use Rattle.dom_slots.specs.Insides.{tree_slots}
+use Rattle.dom_slots.specs.Insides.{tree_slots, AreSilent}
 use Rattle.dom_slots.specs.Renewals.{AreRenewed}
+use Rattle.dom_slots.proofs.Renewing.{renewed-right}
+use Rattle.dom_slots.proofs.TreeSlots.{slot-key}
 use Rattle.dom_slots.proofs.slots.Slots.renew_left.Goals as goal
 
-pub returns-in-Some-clause-renewed : goal.returns-in-Some-clause-renewed
-returns-in-Some-clause-renewed c =
-    λ q start.
+-- what holds of each test on a success holds of all on it
+on_ok : {E : Type 0} (r : Result (Unit {0}) E) (A B : (NodeName → Bool) → Type 0) → ((q : NodeName → Bool) → A q → OnOk r (B q)) →
+    OnOk r ((q : NodeName → Bool) → A q → B q)
+on_ok (Ok u) A B h = h
+on_ok (Err e) A B h = tt
+
+pub returns-clause-renewed : goal.returns-clause-renewed
+returns-clause-renewed c =
+    λ right.
     let f = c.args.forest.now in
     let hosts = c.args.self.now.hosts in
     let old = c.args.self.now.table in
     let table = c.renew_tree.new.self.table in
     let keys = c.renew_tree.new.signals.items in
     let slots = tree_slots f.trees (name_at f.names c.in-Some.left) in
-    let is = ap (λ o. option_map_or (λ k. tree_slots f.trees (name_at f.names k)) o []) c.in-Some.ensures in
-    on_ok_weaker c.renew_tree.result
-    (λ (r : AreRenewed f hosts q old slots (filter q slots) table keys). (keys, subst (λ ys. AreRenewed f hosts q old ys (filter q ys) table keys) is r))
-    (c.renew_tree.ensures.renewed q old [] [] (subst (AreRenewed f hosts q old [] [] old) (sym c.new-signals.ensures.items) start))
+    let is = ap (λ o. option_map_or (λ k. tree_slots f.trees (name_at f.names k)) o []) (sym c.in-Some.is ∙ c.left_behind.ensures) in
+    subst (λ ys. OnOk c.renew_tree.result (AreSilent f hosts ys old table)) is
+    (on_ok c.renew_tree.result _ _
+    (λ q start.
+    on_ok_weaker c.renew_tree.result (λ (r : AreRenewed f hosts q old slots (filter q slots) table keys). (keys, r))
+    (c.renew_tree.ensures.renewed q old [] [] (subst (AreRenewed f hosts q old [] [] old) (sym c.new-signals.ensures.items) start))))
+
+pub returns-then-eq-clause-renewed : goal.returns-then-eq-clause-renewed
+returns-then-eq-clause-renewed c =
+    λ right q start.
+    let f = c.args.forest.now in
+    let hosts = c.args.self.now.hosts in
+    let old = c.args.self.now.table in
+    let e = c.law_nodes_stand_once.ensures in
+    let around = name_at f.names c.args.around in
+    let same : root_of f.trees (name_at f.names c.in-Some.left) ≡ root_of f.trees around =
+    sym c.root.ensures.value ∙ (ap (name_at f.names) (eqb-true c.root.result c.root-2.result (sym c.eq.ensures ∙ c.if-eq.true)) ∙ c.root-2.ensures.value) in
+    let is = ap (λ o. option_map_or (λ k. tree_slots f.trees (name_at f.names k)) o []) (sym c.left_behind.ensures ∙ c.in-Some.is) ∙
+    ap (λ r. slots_among (subtree f.trees r)) same in (
+      [],
+      subst (λ ys. AreRenewed f hosts q old ys (filter q ys) old []) (sym is)
+          (renewed-right (tree_slots f.trees around) (slot-key f record { once = e.once; only = e.only } (root_of f.trees around)) right start),
+    )

@@ -1,20 +1,16 @@
-use Rattle.std.proofs.Common.{◌≡◌, inr, ◌++◌, Bool, Result, Ok, Err, map, filter, sym, ap, subst, ◌∙◌, append_assoc}
-use Rattle.std.specs.Prelude.{OnOk}
+use Rattle.std.proofs.Common.{◌≡◌, inr, ◌++◌, map, filter, sym, ap, subst, ◌∙◌, append_assoc}
+use Rattle.std.proofs.lemmas.Bool.{or_left, or_right}
 use Rattle.std.proofs.lemmas.List.Elements.{filter-append}
-use Rattle.dom_base.specs.declared.NodeName.{NodeName}
+use Rattle.std.proofs.lemmas.List.Folds.{list_any-append}
+use Rattle.std.proofs.lemmas.Result.{on_ok_weaker}
+use Rattle.dom_model.specs.Names.{name_eq, is_in}
 use Rattle.dom_model.specs.Slots.{slots_among}
 use Rattle.dom_model.specs.Tree.{subtree}
 use Rattle.dom_tree.specs.Forest.{name_at}
-use Rattle.dom_slots.specs.Insides.{tree_slots, left_slots, AreSilent}
+use Rattle.dom_slots.specs.Insides.{tree_slots, left_slots, AreRight, AreSilent}
 use Rattle.dom_slots.specs.Renewals.{AreRenewed}
 use Rattle.dom_slots.specs.Steps.{step_node}
 use Rattle.dom_slots.proofs.slots.Slots.renew_moved.Goals as goal
-
--- what holds of each test on a success holds of all on it
-on_ok : {E : Type 0} (r : Result (Unit {0}) E) (A B : (NodeName → Bool) → Type 0) {Q : Type 0} → (((q : NodeName → Bool) → A q → B q) → Q) →
-    ((q : NodeName → Bool) → A q → OnOk r (B q)) → OnOk r Q
-on_ok (Ok u) A B follows h = follows h
-on_ok (Err e) A B follows h = tt
 
 pub returns-clause-renewed : goal.returns-clause-renewed
 returns-clause-renewed c =
@@ -25,22 +21,30 @@ returns-clause-renewed c =
     let around = name_at f.names c.args.around in
     let a = tree_slots f.trees around in
     let b = slots_among (subtree f.trees (name_at f.names (step_node step))) in
-    let mid = c.renew.new.self.table in
-    let keys = c.renew.new.signals.items in
+    let mid = c.renew_below.new.self.table in
+    let keys = c.renew_below.new.signals.items in
     let below : map (name_at f.names) c.args.moved.now ≡ b = c.requires.moved in
     let hosts_then : c.renew_tree.new.self.hosts ≡ hosts = c.in_ok-renew_tree.ensures.hosts in
-    let hosts_now : c.renew.new.self.hosts ≡ hosts = c.in_ok-renew.ensures.hosts ∙ hosts_then in
+    let hosts_now : c.renew_below.new.self.hosts ≡ hosts = c.in_ok-renew_below.ensures.hosts ∙ hosts_then in
     let first = c.in_ok-renew_tree.ensures.renewed p old done told r in
     let second : AreRenewed f hosts p old ((done ++ a) ++ b) ((told ++ filter p a) ++ filter p b) mid keys =
     subst (λ ys. AreRenewed f hosts p old ((done ++ a) ++ ys) ((told ++ filter p a) ++ filter p ys) mid keys) below
     (subst (λ hs. AreRenewed f hs p old ((done ++ a) ++ map (name_at f.names) c.args.moved.now)
     ((told ++ filter p a) ++ filter p (map (name_at f.names) c.args.moved.now)) mid keys) hosts_then
-    (c.in_ok-renew.ensures.renewed p old (done ++ a) (told ++ filter p a)
+    (c.in_ok-renew_below.ensures.renewed p old done (told ++ filter p a)
     (subst (λ hs. AreRenewed f hs p old (done ++ a) (told ++ filter p a) c.renew_tree.new.self.table c.renew_tree.new.signals.items)
     (sym hosts_then) first))) in
     let both : AreRenewed f hosts p old (done ++ (a ++ b)) (told ++ filter p (a ++ b)) mid keys =
     subst (λ ys. AreRenewed f hosts p old ys (told ++ filter p (a ++ b)) mid keys) (append_assoc done a b)
     (subst (λ ys. AreRenewed f hosts p old ((done ++ a) ++ b) ys mid keys)
     (append_assoc told (filter p a) (filter p b) ∙ ap (λ ys. told ++ ys) (sym (filter-append p a b))) second) in
-    let silent = subst (λ hs. AreSilent f hs (left_slots f hs step c.args.begun.left) mid c.renew_left.new.self.table) hosts_now in
-    on_ok c.renew_left.result _ _ (λ h. inr (mid, both, silent h)) c.renew_left.ensures.renewed
+    let right : AreRight f c.renew_below.new.self.hosts a mid =
+    subst (λ hs. AreRight f hs a mid) (sym hosts_now)
+    (λ k within i.
+    second.renewed k within
+    (list_any-append (name_eq (name_at f.names k)) (done ++ a) b
+    ∙ or_left _ _ (list_any-append (name_eq (name_at f.names k)) done a ∙ or_right (is_in name_eq (name_at f.names k) done) _ i))) in
+    on_ok_weaker c.renew_left.result
+    (λ (h : AreSilent f c.renew_below.new.self.hosts (left_slots f c.renew_below.new.self.hosts step c.args.begun.left) mid c.renew_left.new.self.table).
+    inr (mid, both, subst (λ hs. AreSilent f hs (left_slots f hs step c.args.begun.left) mid c.renew_left.new.self.table) hosts_now h))
+    (c.renew_left.ensures.renewed right)

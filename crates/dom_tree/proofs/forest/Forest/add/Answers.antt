@@ -9,6 +9,7 @@ use Rattle.dom_tree.specs.Forest.{NamedTrees, next_name, node_from, contents_of}
 use Rattle.dom_tree.proofs.Kept.{kept_with}
 use Rattle.dom_tree.proofs.Adding.{Adds, adds_from, IsKept-keys, IsKept-add, trees_of-add}
 use Rattle.dom_tree.proofs.Stays.{IsAdded, added_root, added_childless, added_above_none, added_named, added_above}
+use Rattle.dom_tree.proofs.ChildLists.{children_added}
 use Rattle.dom_tree.proofs.forest.Forest.add.Goals as goal
 
 pub invariant_of-self-in_err-key : goal.invariant_of-self-in_err-key
@@ -73,3 +74,6 @@ returns-clause-named c = added_named _ c.self.view_is c.self.invariant c.in_ok-k
 
 pub returns-clause-above : goal.returns-clause-above
 returns-clause-above c = added_above _ c.self.view_is c.self.invariant (invariant_of-self-2 c) c.in_ok-key.ensures.ok
+
+pub returns-clause-children : goal.returns-clause-children
+returns-clause-children c = children_added c.self.view_is c.self.invariant (invariant_of-self-2 c) _ c.in_ok-key.ensures.ok

@@ -5,6 +5,7 @@ use Rattle.dom_tree.specs.Contents.{Stored}
 use Rattle.dom_tree.proofs.Changes.{linked}
 use Rattle.dom_tree.proofs.Kept.{link_asked, link_done, kept_with, within}
 use Rattle.dom_tree.proofs.Stays.{AreSameBut, moved_above, parent_shown, linked_apart, linked_parent}
+use Rattle.dom_tree.proofs.ChildLists.{children_linked, children_beside}
 use Rattle.dom_tree.proofs.forest.Forest.link_before.Goals as goal
 
 pub link_before-requires-clause-unlinked : goal.link_before-requires-clause-unlinked
@@ -78,3 +79,13 @@ returns-clause-above c =
     c.args.child c.requires.child_is_node
     (subst (λ (ks : List (List ℕ)). AreSameBut c.args.child c.self.inside.arena.children ks) (sym (children_are c))
     (linked_apart c.self.inside.arena.children c.args.parent c.args.child c.args.before (parent_inside c)))
+
+pub returns-clause-children : goal.returns-clause-children
+returns-clause-children c =
+    children_linked c.self.view_is c.self.invariant (ap (λ a. a.payloads) c.link_before.ensures.linked) c.link_before.ensures.sound
+    c.args.parent c.args.child c.args.before c.requires.parent_is_node (children_are c) c.requires.before_is_node
+
+pub returns-clause-others : goal.returns-clause-others
+returns-clause-others c =
+    children_beside c.self.view_is c.self.invariant (ap (λ a. a.payloads) c.link_before.ensures.linked) c.link_before.ensures.sound
+    c.args.parent c.args.child c.args.before c.requires.parent_is_node (children_are c)

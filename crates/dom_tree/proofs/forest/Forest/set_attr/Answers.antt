@@ -1,10 +1,13 @@
-use Rattle.std.proofs.Common.{ap, refl, Some, Result, Ok, Err}
+use Rattle.std.proofs.Common.{◌≡◌, ◌∙◌, ap, set, refl, Some, Result, Ok, Err}
 use Rattle.std.specs.Prelude.{OnErr}
+use Rattle.dom_model.specs.Tree.{inclusive_ancestors, children_of}
 use Rattle.dom_model.specs.TreeChanges.{with_attribute}
 use Rattle.dom_tree.specs.Contents.{Stored}
-use Rattle.dom_tree.specs.Forest.{node_with}
+use Rattle.dom_tree.specs.Forest.{name_at, node_with}
 use Rattle.dom_tree.proofs.Setting.{IsKept-set_same, set_names, set_done}
+use Rattle.dom_tree.proofs.Kept.{seen}
 use Rattle.dom_tree.proofs.Unchanged.{set_same}
+use Rattle.dom_laws.proofs.Relatives.{path_changed, children_changed}
 use Rattle.dom_tree.proofs.forest.Forest.set_attr.Goals as goal
 
 pub invariant_of-self : goal.invariant_of-self
@@ -19,11 +22,22 @@ pub returns-in_err-set_attribute-clause-names : goal.returns-in_err-set_attribut
 returns-in_err-set_attribute-clause-names c = set_names c.self.view_is c.self.invariant c.args.key _ c.payload_mut.ensures.value
     (ap (λ (s : Stored). s.name) c.in_err-set_attribute.ensures.err)
 
-pub returns-in_err-set_attribute-clause-err : goal.returns-in_err-set_attribute-clause-err
-returns-in_err-set_attribute-clause-err c = on_any c.from_residual.result
-    (set_same c.self.view_is c.self.invariant
+-- a refused call leaves the forest
+left : (c : goal.After-from_residual) →
+    seen (set c.self.inside.arena.payloads c.args.key c.set_attribute.new.self) c.self.inside.arena.children ≡ c.args.self.now
+left c =
+    set_same c.self.view_is c.self.invariant
     (record { at = c.payload_mut.ensures.value; name_kept = ap (λ (s : Stored). s.name) c.in_err-set_attribute.ensures.err })
-    (ap (λ (s : Stored). node_with c.args.self.now.names s.name s.node) c.in_err-set_attribute.ensures.err))
+    (ap (λ (s : Stored). node_with c.args.self.now.names s.name s.node) c.in_err-set_attribute.ensures.err)
+
+pub returns-in_err-set_attribute-clause-above : goal.returns-in_err-set_attribute-clause-above
+returns-in_err-set_attribute-clause-above c = λ x. ap (λ g. inclusive_ancestors g.trees x) (left c)
+
+pub returns-in_err-set_attribute-clause-children : goal.returns-in_err-set_attribute-clause-children
+returns-in_err-set_attribute-clause-children c = λ x. ap (λ g. children_of g.trees x) (left c)
+
+pub returns-in_err-set_attribute-clause-err : goal.returns-in_err-set_attribute-clause-err
+returns-in_err-set_attribute-clause-err c = on_any c.from_residual.result (left c)
   where
     on_any : {T E P : Type 0} (r : Result T E) → P → OnErr r P
     on_any (Ok x) p = tt
@@ -38,3 +52,15 @@ returns-clause-ok c = ap (λ f. f.trees) (set_done c.self.view_is c.self.invaria
     (record { at = c.payload_mut.ensures.value; name_kept = ap (λ (s : Stored). s.name) c.in_ok-set_attribute.ensures.ok })
     (with_attribute c.args.name.now (Some c.args.value.items)) (λ y. refl)
     (ap (λ (s : Stored). node_with c.args.self.now.names s.name s.node) c.in_ok-set_attribute.ensures.ok))
+
+pub returns-clause-above : goal.returns-clause-above
+returns-clause-above c = λ x.
+    let f = c.args.self.now in
+    ap (λ ts. inclusive_ancestors ts x) (returns-clause-ok c)
+    ∙ path_changed (with_attribute c.args.name.now (Some c.args.value.items)) (λ n. refl) (name_at f.names c.args.key) f.trees x
+
+pub returns-clause-children : goal.returns-clause-children
+returns-clause-children c = λ x.
+    let f = c.args.self.now in
+    ap (λ ts. children_of ts x) (returns-clause-ok c)
+    ∙ children_changed (with_attribute c.args.name.now (Some c.args.value.items)) (λ n. refl) (name_at f.names c.args.key) f.trees x

@@ -1,10 +1,12 @@
 use Rattle.std.proofs.Common.{ap, sym, refl, ◌∙◌}
 use Rattle.std.specs.Option.{option_map}
+use Rattle.dom_model.specs.Tree.{inclusive_ancestors, children_of}
 use Rattle.dom_model.specs.TreeChanges.{under_document}
 use Rattle.dom_tree.specs.Contents.{Stored}
 use Rattle.dom_tree.specs.Forest.{name_at, node_with}
 use Rattle.dom_tree.proofs.Kept.{within}
 use Rattle.dom_tree.proofs.Setting.{IsKept-set, set_names, set_done}
+use Rattle.dom_laws.proofs.Relatives.{path_changed, children_changed}
 use Rattle.dom_tree.proofs.forest.Forest.set_document.Goals as goal
 
 pub invariant_of-self : goal.invariant_of-self
@@ -23,3 +25,15 @@ returns-clause-trees c = ap (λ f. f.trees)
     (record { at = c.payload_mut.ensures.value; name_kept = ap (λ (s : Stored). s.name) c.set_document.ensures })
     (under_document (option_map (name_at c.args.self.now.names) c.args.document)) (λ y. refl)
     (ap (λ (s : Stored). node_with c.args.self.now.names s.name s.node) c.set_document.ensures))
+
+pub returns-clause-above : goal.returns-clause-above
+returns-clause-above c = λ x.
+    let f = c.args.self.now in
+    ap (λ ts. inclusive_ancestors ts x) (returns-clause-trees c)
+    ∙ path_changed (under_document (option_map (name_at c.args.self.now.names) c.args.document)) (λ n. refl) (name_at f.names c.args.key) f.trees x
+
+pub returns-clause-children : goal.returns-clause-children
+returns-clause-children c = λ x.
+    let f = c.args.self.now in
+    ap (λ ts. children_of ts x) (returns-clause-trees c)
+    ∙ children_changed (under_document (option_map (name_at c.args.self.now.names) c.args.document)) (λ n. refl) (name_at f.names c.args.key) f.trees x

@@ -3,6 +3,7 @@ use Rattle.node_arena.specs.Nodes.{Nodes, parent_of}
 use Rattle.dom_tree.specs.Contents.{Stored}
 use Rattle.dom_tree.proofs.Kept.{unlink_done, kept_with}
 use Rattle.dom_tree.proofs.Stays.{AreSameBut, moved_above, parent_shown, unlinked_apart, unlinked_root}
+use Rattle.dom_tree.proofs.ChildLists.{children_unlinked, children_spared}
 use Rattle.dom_tree.proofs.forest.Forest.unlink.Goals as goal
 
 pub invariant_of-self : goal.invariant_of-self
@@ -23,3 +24,13 @@ returns-clause-above c =
     moved_above c.self.view_is c.self.invariant (ap (λ a. a.payloads) c.unlink.ensures.unlinked) c.unlink.ensures.sound c.args.key c.requires
     (subst (λ (ks : List (List ℕ)). AreSameBut c.args.key c.self.inside.arena.children ks) (ap (λ (a : Nodes Stored). a.children)
     (sym c.unlink.ensures.unlinked)) (unlinked_apart c.self.inside.arena.children c.args.key))
+
+pub returns-clause-children : goal.returns-clause-children
+returns-clause-children c =
+    children_unlinked c.self.view_is c.self.invariant (ap (λ a. a.payloads) c.unlink.ensures.unlinked) c.unlink.ensures.sound
+    c.args.key c.requires (ap (λ (a : Nodes Stored). a.children) c.unlink.ensures.unlinked)
+
+pub returns-clause-others : goal.returns-clause-others
+returns-clause-others c =
+    children_spared c.self.view_is c.self.invariant (ap (λ a. a.payloads) c.unlink.ensures.unlinked) c.unlink.ensures.sound
+    c.args.key c.requires (ap (λ (a : Nodes Stored). a.children) c.unlink.ensures.unlinked)

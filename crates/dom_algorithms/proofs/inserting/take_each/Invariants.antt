@@ -1,7 +1,0 @@
-use Rattle.std.proofs.Common.{drop}
-use Rattle.dom_algorithms.specs.Observing.{observing_of}
-use Rattle.dom_algorithms.proofs.Turns.{Empties}
-use Rattle.dom_algorithms.proofs.inserting.take_each.Given as goal
-
-abbrev pub invariant-loop-child : goal.invariant-loop-child
-invariant-loop-child l = Empties (observing_of l.how) l.fn.top l.children l.initial.parts (drop l.child-index l.children) l.parts

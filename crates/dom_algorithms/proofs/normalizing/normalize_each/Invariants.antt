@@ -1,6 +1,0 @@
-use Rattle.std.proofs.Common.{drop}
-use Rattle.dom_algorithms.proofs.NormalizedEach.{Normalizes}
-use Rattle.dom_algorithms.proofs.normalizing.normalize_each.Given as goal
-
-abbrev pub invariant-loop-text : goal.invariant-loop-text
-invariant-loop-text l = Normalizes l.fn.top l.texts l.initial.parts (drop l.text-index l.texts) l.parts

@@ -1,0 +1,15 @@
+use Rattle.std.proofs.Common.{◌≡◌, ◌+◌, ◌<◌, length}
+use Rattle.std.specs.Option.{option_map, ForSome}
+use Rattle.dom_model.specs.Tree.{children_of}
+use Rattle.dom_laws.specs.Siblings.{from_sibling}
+use Rattle.dom_tree.specs.Forest.{name_at}
+use Rattle.dom_callers.proofs.items.count_items.Given as goal
+
+abbrev pub invariant-loop-at : goal.invariant-loop-at
+invariant-loop-at l =
+    ForSome l.at (λ k. k < length l.forest.names) ×
+    (l.count + length (from_sibling l.forest.trees (option_map (name_at l.forest.names) l.at)) ≡ length
+    (children_of l.forest.trees (name_at l.forest.names l.fn.list)))
+
+abbrev pub decreases-loop-at : goal.decreases-loop-at
+decreases-loop-at l = length (from_sibling l.forest.trees (option_map (name_at l.forest.names) l.at))

@@ -1,0 +1,262 @@
+-- Insertions as their plans: of one node, and of a fragment's children.
+use Rattle.std.proofs.Common.{◌≡◌, ℕ, ◌<◌, ◌≤◌, Bool, true, false, List, [], ◌∷◌, length, map, Option, Some, option_map, refl, sym, ap, subst, ◌∙◌, arith}
+use Rattle.std.specs.Prelude.{if◌then◌else◌, ◌==◌}
+use Rattle.std.specs.List.{AllByRecursion}
+use Rattle.std.specs.Option.{ForSome}
+use Rattle.std.proofs.lemmas.Bool.{cond-false}
+use Rattle.dom_base.specs.declared.NodeName.{NodeName}
+use Rattle.dom_base.specs.declared.Owner.{Owner}
+use Rattle.dom_model.specs.Names.{is_empty}
+use Rattle.dom_model.specs.Tree.{Trees, none, tree, roots, names_of, trees_below, subtree, children_of, kind_of, is_fragment, inclusive_ancestors}
+use Rattle.dom_model.specs.Tree.{times_in, is_inclusive_ancestor}
+use Rattle.dom_model.specs.Output.{child_list}
+use Rattle.dom_model.specs.Part.{Part}
+use Rattle.dom_model.specs.Steps.{Step}
+use Rattle.dom_model.specs.World.{part_of}
+use Rattle.dom_model.specs.WorldSteps.{world_after}
+use Rattle.dom_model.specs.Changes.{Plan, Observing, ◌and_then◌, in_turn, steps_of, telling, emptying, making_room, placing, sibling_before, inserting}
+use Rattle.dom_model.proofs.OwnerLaws.{name_eq-same}
+use Rattle.dom_laws.proofs.Counts.{times_in-tree, one-true}
+use Rattle.dom_parts.specs.Doc.{DocState, planned, placed_all, name_in, owner_in, trees_in, MayMove, IsChild, NoneAbove}
+use Rattle.dom_parts.specs.Hosting.{PlansOwn, IsAlone}
+use Rattle.dom_laws.proofs.Paths.{Lacks, lacks_from, lacks_to}
+use Rattle.dom_laws.proofs.Moves.{below_lacks}
+use Rattle.dom_laws.proofs.Relatives.{Each, each_all, parent_path}
+use Rattle.dom_parts.proofs.Made.{planned_then}
+use Rattle.dom_parts.proofs.OwnPlans.{plans_then, plans_turn, plans_each_own, plans_room, plans_placing, plans_emptying, children_own}
+use Rattle.dom_mutation.proofs.Placed.{Counted, once_in, before_lacks}
+use Rattle.dom_mutation.proofs.Turns.{Stays}
+
+module _ (o : Owner) (how : Observing) (node parent : NodeName) (before : Option NodeName) where
+  -- what an insertion does with the nodes that it places
+  abbrev placing_plan : List NodeName → Plan → Option NodeName → Plan
+  placing_plan moved emptied prev =
+      emptied and_then making_room parent before (length moved) and_then in_turn (placing parent before) moved and_then steps_of
+      (telling how (child_list parent moved [] prev before))
+
+  -- the steps of an insertion, by whether the node is a fragment
+  abbrev steps_if : Part → Bool → List NodeName → List Step
+  steps_if p b moved =
+      if is_empty moved then [] else placing_plan moved (if b then emptying node moved else steps_of []) (sibling_before p.trees parent before) p
+
+  steps_as : (p : Part) (b : Bool) → is_fragment (kind_of p.trees node) ≡ b →
+      inserting how node parent before p ≡ steps_if p b (if b then children_of p.trees node else node ∷ [])
+  steps_as p b e = ap (λ t. steps_if p t (if t then children_of p.trees node else node ∷ [])) e
+
+  abbrev with_steps : DocState → List Step → DocState
+  with_steps d steps = record d { world = world_after o d.world steps }
+
+  module _ (d : DocState) (alone : IsAlone d.world o) where
+    placed_plan : (moved : List NodeName) (emptied : Plan) (prev : Option NodeName) → PlansOwn o emptied → AllByRecursion (λ (x : NodeName). x.owner ≡ o) moved
+        → placed_all how moved parent before prev o (planned o emptied d) ≡ planned o (placing_plan moved emptied prev) d
+    placed_plan moved emptied prev empties own =
+        let told : Plan = steps_of (telling how (child_list parent moved [] prev before)) in
+        let room = making_room parent before (length moved) in
+        let turn = in_turn (placing parent before) moved in
+        let roomed = plans_then o emptied room empties (plans_room o parent before (length moved)) in
+        let turned = plans_turn o (placing parent before) moved (plans_each_own o (placing parent before) (plans_placing o parent before) moved own) in
+        ap (λ e. planned o told (planned o turn e)) (planned_then o emptied room d alone empties)
+        ∙ ap (planned o told) (planned_then o (emptied and_then room) turn d alone roomed)
+        ∙ planned_then o (emptied and_then room and_then turn) told d alone (plans_then o (emptied and_then room) turn roomed turned)
+
+    module _ (own : node.owner ≡ o) where
+      abbrev ts : Trees
+      ts = (part_of d.world o).trees
+
+      -- one node
+      pub inserted_one : is_fragment (kind_of ts node) ≡ false →
+          placed_all how (node ∷ []) parent before (sibling_before ts parent before) o d ≡ planned o (inserting how node parent before) d
+      inserted_one e =
+          placed_plan (node ∷ []) (steps_of []) (sibling_before ts parent before) (λ p h. tt) (own, tt) ∙
+          ap (with_steps d) (sym (steps_as (part_of d.world o) false e))
+
+      -- a fragment's children
+      pub inserted_children : is_fragment (kind_of ts node) ≡ true → is_empty (children_of ts node) ≡ false
+          → placed_all how (children_of ts node) parent before (sibling_before ts parent before) o
+          (planned o (emptying node (children_of ts node)) d) ≡ planned o (inserting how node parent before) d
+      inserted_children e some =
+          let moved = children_of ts node in
+          placed_plan moved (emptying node moved) (sibling_before ts parent before) (plans_emptying o node moved) (children_own o ts node alone.own)
+          ∙ ap (with_steps d) (sym (steps_as (part_of d.world o) true e ∙
+          cond-false (is_empty moved) [] (placing_plan moved (emptying node moved) (sibling_before ts parent before) (part_of d.world o)) some))
+
+-- ---- a fragment's children may move where it may
+
+roots_stand : (ts : Trees) → Each (λ x. 1 ≤ times_in ts x) (names_of (roots ts))
+roots_stand none = tt
+roots_stand (tree n c r) =
+    let here = times_in-tree n c r n.name in let is = one-true _ (name_eq-same n.name) in (
+      omega arith,
+      each_all (λ x. 1 ≤ times_in r x) (λ x. 1 ≤ times_in (tree n c r) x) (λ x h. let a = times_in-tree n c r x in omega arith)
+          (names_of (roots r)) (roots_stand r),
+    )
+
+children_stand : (ts : Trees) (p : NodeName) → Each (λ x. 1 ≤ times_in (subtree ts p) x) (children_of ts p)
+children_stand ts p = below (subtree ts p)
+  where
+    below : (t : Trees) → Each (λ x. 1 ≤ times_in t x) (names_of (roots (trees_below t)))
+    below none = tt
+    below (tree n c r) = each_all (λ x. 1 ≤ times_in c x) (λ x. 1 ≤ times_in (tree n c r) x) (λ x h. let a = times_in-tree n c r x in omega arith)
+        (names_of (roots c)) (roots_stand c)
+
+module _ (d : DocState) (counted : Counted d) (parent fragment : ℕ) (before : Option ℕ) (may : MayMove d parent before fragment)
+    (child : ForSome before (IsChild d parent)) where
+  abbrev all_trees : Trees
+  all_trees = trees_in d parent
+
+  -- what is in the tree of the fragment is not above the parent, nor above the child
+  inside_lacks : (z : NodeName) → 1 ≤ times_in (subtree all_trees (name_in d fragment)) z → Lacks z (inclusive_ancestors all_trees (name_in d parent))
+  inside_lacks z there =
+      below_lacks (name_in d fragment) (name_in d parent) z all_trees (once_in d counted (owner_in d parent))
+      (lacks_from (name_in d fragment) (inclusive_ancestors all_trees (name_in d parent)) may.not_above) there
+
+  inside_child : (z : NodeName) → 1 ≤ times_in (subtree all_trees (name_in d fragment)) z → (b : ℕ) → before ≡ Some b →
+      Lacks z (inclusive_ancestors all_trees (name_in d b))
+  inside_child z there b is =
+      below_lacks (name_in d fragment) (name_in d b) z all_trees (once_in d counted (owner_in d parent))
+      (before_lacks counted may child is) there
+
+  own_trees : trees_in d fragment ≡ all_trees
+  own_trees = ap (λ o. (part_of d.world o).trees) may.owner
+
+  -- keys of the fragment's children
+  abbrev AreInside : List ℕ → Type 0
+  AreInside ks = AllByRecursion (λ k. 1 ≤ times_in (subtree all_trees (name_in d fragment)) (name_in d k)) ks
+
+  pub are_inside : (ks : List ℕ) → map (name_in d) ks ≡ children_of (trees_in d fragment) (name_in d fragment) → AreInside ks
+  are_inside ks e = keys ks (subst (Each (λ x. 1 ≤ times_in (subtree all_trees (name_in d fragment)) x))
+      (sym (e ∙ ap (λ t. children_of t (name_in d fragment)) own_trees)) (children_stand all_trees (name_in d fragment)))
+    where
+      keys : (ks : List ℕ) → Each (λ x. 1 ≤ times_in (subtree all_trees (name_in d fragment)) x) (map (name_in d) ks) → AreInside ks
+      keys [] h = tt
+      keys (k ∷ ks) h = (h.0, keys ks h.1)
+
+  pub none_above : (ks : List ℕ) → AreInside ks → (y : NodeName) →
+      ((z : NodeName) → 1 ≤ times_in (subtree all_trees (name_in d fragment)) z → Lacks z (inclusive_ancestors all_trees y)) →
+      NoneAbove d fragment y ks
+  none_above [] h y off = tt
+  none_above (k ∷ ks) h y off = (
+    ap (λ t. is_inclusive_ancestor t (name_in d k) y) own_trees ∙ lacks_to (name_in d k) (inclusive_ancestors all_trees y)
+        (off (name_in d k) h.0),
+    none_above ks h.1 y off,
+  )
+
+  -- after the fragment is emptied
+  pub stays_emptied : (ks : List ℕ) → AreInside ks → (e : DocState) (children : List NodeName) →
+      e ≡ planned (owner_in d fragment) (emptying (name_in d fragment) children) d
+      → ((y : NodeName) → NoneAbove d fragment y ks → inclusive_ancestors (trees_in e fragment) y ≡ inclusive_ancestors (trees_in d fragment) y) →
+      Stays parent before d e
+  stays_emptied ks inside e children is paths =
+      let names : e.names ≡ d.names = ap (λ (s : DocState). s.names) is in
+      let own : trees_in e parent ≡ trees_in e fragment =
+      ap (λ o. (part_of e.world o).trees)
+      (ap (λ (ns : List NodeName). (Rattle.dom_tree.specs.Forest.name_at ns parent).owner) names ∙ sym may.owner ∙
+      ap (λ (ns : List NodeName). (Rattle.dom_tree.specs.Forest.name_at ns fragment).owner) (sym names)) in
+      let kept = λ (y : NodeName) (off : NoneAbove d fragment y ks). ap (λ t. inclusive_ancestors t y) own ∙ paths y off ∙
+      ap (λ t. inclusive_ancestors t y) own_trees in
+      record {
+        names = names;
+        parent_path = kept (name_in d parent) (none_above ks inside (name_in d parent) inside_lacks);
+        before_path = λ b at. kept (name_in d b) (none_above ks inside (name_in d b) (λ z there. inside_child z there b at));
+      }
+
+  -- they may move
+  pub all_may : (ks : List ℕ) → AreInside ks → AllByRecursion (λ k. (k < length d.names) × (owner_in d k ≡ owner_in d fragment)) ks →
+      AllByRecursion (MayMove d parent before) ks
+  all_may [] inside nodes = tt
+  all_may (k ∷ ks) inside nodes = (
+    record {
+      node = nodes.0.0;
+      owner = nodes.0.1 ∙ may.owner;
+      not_above = lacks_to (name_in d k) (inclusive_ancestors all_trees (name_in d parent)) (inside_lacks (name_in d k) inside.0);
+      apart = λ b at. (subst (Lacks (name_in d k))
+          (parent_path all_trees (once_in d counted (owner_in d parent)) (name_in d b) (name_in d parent) (child b at).child)
+          (inside_child (name_in d k) inside.0 b at)).0;
+    },
+    all_may ks inside.1 nodes.1,
+  )
+
+-- ---- what the calls say of it
+
+-- an insertion of a node that is no fragment
+pub record NodeInsertion : Type 0 where
+  -- the states
+  pub start : DocState
+  pub end : DocState
+  pub alone : (k : ℕ) → k < length start.names → IsAlone start.world (owner_in start k)
+  pub how : Observing
+  -- the keys of the nodes
+  pub parent : ℕ
+  pub node : ℕ
+  pub before : Option ℕ
+  pub prev : Option NodeName
+  pub parent_is : parent < length start.names
+  pub may : MayMove start parent before node
+  pub no_fragment : is_fragment (kind_of (trees_in start node) (name_in start node)) ≡ false
+  pub prev_is : prev ≡ sibling_before (trees_in start parent) (name_in start parent) (option_map (name_in start) before)
+  pub placed : end ≡ placed_all how (name_in start node ∷ []) (name_in start parent) (option_map (name_in start) before) prev (owner_in start parent) start
+
+-- of one node
+pub inserted_single : (h : NodeInsertion) →
+    h.end ≡ planned (owner_in h.start h.parent) (inserting h.how (name_in h.start h.node) (name_in h.start h.parent) (option_map (name_in h.start) h.before))
+    h.start
+inserted_single h =
+    is ∙ ap (λ q. placed_all how (name_in d node ∷ []) (name_in d parent) (option_map (name_in d) before) q (owner_in d parent) d) was
+    ∙ inserted_one (owner_in d parent) how (name_in d node) (name_in d parent) (option_map (name_in d) before) d (alone parent parent_is) may.owner
+    (ap (λ o. is_fragment (kind_of (part_of d.world o).trees (name_in d node))) (sym may.owner) ∙ kind)
+  where
+    open h use {start as d, alone, how, parent, node, before, parent_is, may, no_fragment as kind, prev_is as was, placed as is}
+
+-- an insertion of a fragment, state by state: it is emptied, and its children are placed
+pub record FragmentInsertion : Type 0 where
+  -- the states
+  pub start : DocState
+  pub emptied_state : DocState
+  pub end : DocState
+  pub alone : (k : ℕ) → k < length start.names → IsAlone start.world (owner_in start k)
+  pub how : Observing
+  -- the keys of the nodes
+  pub parent : ℕ
+  pub fragment : ℕ
+  pub before : Option ℕ
+  pub prev : Option ℕ
+  pub children : List ℕ
+  pub parent_is : parent < length start.names
+  pub may : MayMove start parent before fragment
+  pub is_fragment_kind : is_fragment (kind_of (trees_in start fragment) (name_in start fragment)) ≡ true
+  pub prev_is : option_map (name_in start) prev ≡ sibling_before (trees_in start parent) (name_in start parent) (option_map (name_in start) before)
+  pub listed : map (name_in start) children ≡ children_of (trees_in start fragment) (name_in start fragment)
+  pub some_children : is_empty children ≡ false
+  pub emptied : emptied_state ≡ planned (owner_in start fragment) (emptying (name_in start fragment) (map (name_in start) children)) start
+  pub placed : end ≡ placed_all how (map (name_in emptied_state) children) (name_in emptied_state parent) (option_map (name_in emptied_state) before)
+      (option_map (name_in emptied_state) prev) (owner_in emptied_state parent) emptied_state
+
+-- of a fragment
+pub inserted_fragment : (h : FragmentInsertion) →
+    h.end ≡ planned (owner_in h.start h.parent) (inserting h.how (name_in h.start h.fragment) (name_in h.start h.parent)
+    (option_map (name_in h.start) h.before)) h.start
+inserted_fragment h =
+    let o = owner_in d parent in
+    let here = name_in d parent in
+    let ref = option_map (name_in d) before in
+    let own : trees_in d fragment ≡ trees_in d parent = ap (λ p. (part_of d.world p).trees) may.owner in
+    let children : map (name_in d) ks ≡ children_of (trees_in d parent) (name_in d fragment) = listed ∙ ap (λ t. children_of t (name_in d fragment)) own in
+    placed ∙ ap (λ (s : DocState). placed_all how (map (name_in s) ks) (name_in s parent) (option_map (name_in s) before)
+    (option_map (name_in s) prev) (owner_in s parent) s)
+    (emptied ∙ ap (λ p. planned p (emptying (name_in d fragment) (map (name_in d) ks)) d) may.owner)
+    ∙ ap (λ q. placed_all how (map (name_in d) ks) here ref q o (planned o (emptying (name_in d fragment) (map (name_in d) ks)) d)) was
+    ∙ ap (λ xs. placed_all how xs here ref (sibling_before (trees_in d parent) here ref) o (planned o (emptying (name_in d fragment) xs) d)) children
+    ∙ inserted_children o how (name_in d fragment) here ref d (alone parent parent_is) may.owner
+    (ap (λ t. is_fragment (kind_of t (name_in d fragment))) (sym own) ∙ kind) (ap is_empty (sym children) ∙ mapped ks some)
+  where
+    open h use {start as d, alone, how, parent, fragment, before, prev, children as ks, parent_is, may, is_fragment_kind as kind, prev_is as was}
+    open h use {listed, some_children as some, emptied, placed}
+
+    mapped : (ks : List ℕ) → is_empty ks ≡ false → is_empty (map (name_in d) ks) ≡ false
+    mapped [] h = cc
+    mapped (k ∷ ks) h = refl
+
+-- a test of length, for a test of emptiness
+pub some_left : (ks : List ℕ) → false ≡ (length ks == 0) → is_empty ks ≡ false
+some_left [] e = sym e
+some_left (k ∷ ks) e = refl

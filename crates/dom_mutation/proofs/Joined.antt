@@ -1,0 +1,384 @@
+-- Normalization: the Texts directly after a Text, their data, and the Texts below a node.
+use Rattle.std.proofs.Common.{◌≡◌, ℕ, suc, ◌<◌, ◌≤◌, inl, inr, Bool, true, false, List, [], ◌∷◌, ◌++◌, drop, length, map, Option, Some, None}
+use Rattle.std.proofs.Common.{option_map, refl, sym, ap, subst, ◌∙◌, arith}
+use Rattle.std.specs.Prelude.{◌==◌, filter, flat_map, take_while, if◌then◌else◌}
+use Rattle.std.specs.List.{AllByRecursion}
+use Rattle.std.specs.Option.{ForSome, option_map_or}
+use Rattle.std.proofs.lemmas.Bool.{cases_Bool, cond-true, cond-false, or_left}
+use Rattle.std.proofs.lemmas.List.{map-append, append-nil, append_assoc, drop-append-le}
+use Rattle.std.proofs.lemmas.List.Elements.{filter-append}
+use Rattle.std.proofs.lemmas.List.Sums.{take_while-cons}
+use Rattle.dom_base.specs.declared.NodeName.{NodeName}
+use Rattle.dom_base.specs.declared.Owner.{Owner}
+use Rattle.dom_model.specs.Names.{DomString, name_eq, first_of, is_empty, is_in, items_before, items_after}
+use Rattle.dom_model.specs.Tree.{Trees, kind_of, is_text, node_in, length_of, siblings, children_of, parent_of, next_sibling, inclusive_ancestors}
+use Rattle.dom_model.specs.Tree.{times_in, is_inclusive_ancestor, subtree, inclusive_descendants}
+use Rattle.dom_model.specs.Steps.{Step}
+use Rattle.dom_model.specs.World.{part_of}
+use Rattle.dom_model.specs.WorldSteps.{world_after}
+use Rattle.dom_model.specs.Changes.{◌and_then◌, in_turn, steps_of, observed, removing}
+use Rattle.dom_model.specs.TextChanges.{replacing_data, joins, texts_after, joining, normalizing_text}
+use Rattle.dom_model.proofs.OwnerLaws.{name_eq-same}
+use Rattle.dom_tree.specs.Forest.{name_at}
+use Rattle.dom_parts.specs.Doc.{DocState, planned, name_in, owner_in, trees_in, IsOwnNode}
+use Rattle.dom_parts.specs.Hosting.{IsAlone}
+use Rattle.dom_laws.proofs.Paths.{Lacks, swapped, path_none, path_gone, path_head}
+use Rattle.dom_laws.proofs.Counts.{Once, none_or_some, once_subtree}
+use Rattle.dom_laws.proofs.Relatives.{NoTwice, children_once, next_child, names_once}
+use Rattle.dom_parts.proofs.Made.{planned_then}
+use Rattle.dom_parts.proofs.OwnPlans.{plans_then, plans_data, plans_joins}
+use Rattle.dom_mutation.proofs.Placed.{Counted, once_in}
+use Rattle.dom_laws.proofs.Walks.{walked, StandsIn, left, Walks, walks, first_inside}
+use Rattle.dom_mutation.proofs.Listing.{all_push}
+use Rattle.dom_mutation.proofs.Replaced.{lacks_after}
+
+-- ---- the Texts directly after a Text
+
+-- what stands behind the next name is what stands behind that one
+after_first : (x y : NodeName) (xs rest : List NodeName) → NoTwice xs → items_after name_eq x xs ≡ y ∷ rest → items_after name_eq y xs ≡ rest
+after_first x y [] rest once e = cc
+after_first x y (w ∷ ws) rest once e = elim (cases_Bool (name_eq x w)) [
+  | inl h ↦
+      let is : ws ≡ y ∷ rest = rw h at e in
+      let off : name_eq y w ≡ false = swapped w y (subst (Lacks w) is once.0).0 in
+      rw off (ap (items_after name_eq y) is ∙ cond-true (name_eq y y) rest (items_after name_eq y rest) (name_eq-same y))
+  | inr h ↦
+      let is : items_after name_eq x ws ≡ y ∷ rest = rw h at e in
+      let off : name_eq y w ≡ false = swapped w y (subst (Lacks w) is (lacks_after w x ws once.0)).0 in
+      rw off (after_first x y ws rest once.1 is)
+]
+
+-- some names, and where a walk along these Texts stands, that Text and those after it
+abbrev pub with_rest : Trees → List NodeName → Option NodeName → List NodeName
+with_rest ts xs None = xs
+with_rest ts xs (Some y) = xs ++ y ∷ texts_after ts y
+
+abbrev pub rest_length : Trees → Option NodeName → ℕ
+rest_length ts None = 0
+rest_length ts (Some y) = suc (length (texts_after ts y))
+
+-- with the first of some names, these are all of them
+record IsRest (ts : Trees) (zs : List NodeName) (o : Option NodeName) : Type 0 where
+  pub all : (xs : List NodeName) → with_rest ts xs o ≡ xs ++ zs
+  pub size : rest_length ts o ≡ length zs
+
+rest_none : (ts : Trees) (zs : List NodeName) → zs ≡ [] → IsRest ts zs (first_of zs)
+rest_none ts zs e = subst (λ ys. IsRest ts ys (first_of ys)) (sym e) (record { all = λ xs. sym (append-nil xs); size = refl })
+
+rest_some : (ts : Trees) (zs : List NodeName) (y : NodeName) → zs ≡ y ∷ texts_after ts y → IsRest ts zs (first_of zs)
+rest_some ts zs y e = subst (λ ys. IsRest ts ys (first_of ys)) (sym e) (record { all = λ xs. refl; size = refl })
+
+-- so they are with the first Text after a Text
+after_rest : (ts : Trees) → Once ts → (x : NodeName) → IsRest ts (texts_after ts x) (first_of (texts_after ts x))
+after_rest ts once x = by_parent (parent_of ts x) refl
+  where
+    by_items : (q : NodeName) (zs : List NodeName) → parent_of ts x ≡ Some q → items_after name_eq x (children_of ts q) ≡ zs →
+        texts_after ts x ≡ take_while (λ y. is_text (kind_of ts y)) zs → IsRest ts (texts_after ts x) (first_of (texts_after ts x))
+    by_items q [] up items e = rest_none ts (texts_after ts x) e
+    by_items q (y ∷ rest) up items e = elim (cases_Bool (is_text (kind_of ts y))) [
+      | inl h ↦
+          let next : next_sibling ts x ≡ Some y =
+          ap (λ o. first_of (items_after name_eq x (option_map_or (children_of ts) o (x ∷ [])))) up ∙ ap first_of items in
+          let beside = (next_child ts once x q y up next).0 in
+          let behind : texts_after ts y ≡ take_while (λ y. is_text (kind_of ts y)) rest =
+          ap (λ o. take_while (λ y. is_text (kind_of ts y)) (items_after name_eq y (option_map_or (children_of ts) o (y ∷ [])))) beside
+          ∙ ap (λ zs. take_while (λ y. is_text (kind_of ts y)) zs) (after_first x y (children_of ts q) rest (children_once ts q once) items) in
+          rest_some ts (texts_after ts x) y
+          (e ∙ take_while-cons (λ y. is_text (kind_of ts y)) y rest ∙
+          cond-true (is_text (kind_of ts y)) (y ∷ take_while (λ y. is_text (kind_of ts y)) rest) [] h ∙ ap (λ zs. y ∷ zs) (sym behind))
+      | inr h ↦ rest_none ts (texts_after ts x)
+          (e ∙ take_while-cons (λ y. is_text (kind_of ts y)) y rest ∙
+          cond-false (is_text (kind_of ts y)) (y ∷ take_while (λ y. is_text (kind_of ts y)) rest) [] h)
+    ]
+
+    by_parent : (o : Option NodeName) → parent_of ts x ≡ o → IsRest ts (texts_after ts x) (first_of (texts_after ts x))
+    by_parent None up =
+        rest_none ts (texts_after ts x)
+        (ap (λ o. take_while (λ y. is_text (kind_of ts y)) (items_after name_eq x (option_map_or (children_of ts) o (x ∷ [])))) up
+        ∙ ap (λ zs. take_while (λ y. is_text (kind_of ts y)) zs) (cond-true (name_eq x x) [] [] (name_eq-same x)))
+    by_parent (Some q) up =
+        by_items q (items_after name_eq x (children_of ts q)) up refl
+        (ap (λ o. take_while (λ y. is_text (kind_of ts y)) (items_after name_eq x (option_map_or (children_of ts) o (x ∷ [])))) up)
+
+-- the first of them
+first_while : (p : NodeName → Bool) (zs : List NodeName) (y : NodeName) → first_of zs ≡ Some y → first_of (take_while p zs) ≡ (if p y then Some y else None)
+first_while p [] y e = cc
+first_while p (z ∷ zs) y e = by (p z) refl
+  where
+    same : z ≡ y
+    same = let h : Some z ≡ Some y = e in cc
+
+    by : (b : Bool) → p z ≡ b → first_of (take_while p (z ∷ zs)) ≡ (if p y then Some y else None)
+    by true h =
+        ap first_of (take_while-cons p z zs ∙ cond-true (p z) (z ∷ take_while p zs) [] h) ∙ ap (λ w. Some w) same ∙
+        sym (cond-true (p y) (Some y) None (ap p (sym same) ∙ h))
+    by false h = ap first_of (take_while-cons p z zs ∙ cond-false (p z) (z ∷ take_while p zs) [] h) ∙ sym (cond-false (p y) (Some y) None (ap p (sym same) ∙ h))
+
+-- that is the next sibling, where it is a Text
+pub text_next : (ts : Trees) (x y : NodeName) (b : Bool) → next_sibling ts x ≡ Some y → is_text (kind_of ts y) ≡ b →
+    (if b then Some y else None) ≡ first_of (texts_after ts x)
+text_next ts x y b next kind = sym (first_while (λ y. is_text (kind_of ts y)) (items_after name_eq x (siblings ts x)) y next ∙
+    ap (λ t. if t then Some y else None) kind)
+
+-- how far the loop has come that lists them
+pub record Follows (d : DocState) (node : ℕ) (keys : List ℕ) (at : Option ℕ) : Type 0 where
+  pub listed : with_rest (trees_in d node) (map (name_in d) keys) (option_map (name_in d) at) ≡ texts_after (trees_in d node) (name_in d node)
+  pub nodes : AllByRecursion (IsOwnNode d node) keys
+  pub here : ForSome at (IsOwnNode d node)
+
+pub follows_first : (d : DocState) → Counted d → (node : ℕ) (at : Option ℕ) →
+    option_map (name_in d) at ≡ first_of (texts_after (trees_in d node) (name_in d node)) → ForSome at (IsOwnNode d node) → Follows d node [] at
+follows_first d counted node at found near = record {
+  listed = ap (with_rest (trees_in d node) []) found ∙ (after_rest (trees_in d node) (once_in d counted (owner_in d node)) (name_in d node)).all [];
+  nodes = tt;
+  here = near;
+}
+
+-- a step of it
+pub follows_next : {d : DocState} → Counted d → {node : ℕ} {keys : List ℕ} {at : Option ℕ} (next : Option ℕ) {k : ℕ} → at ≡ Some k → Follows d node keys at
+    → option_map (name_in d) next ≡ first_of (texts_after (trees_in d k) (name_in d k)) → ForSome next (IsOwnNode d k)
+    → Follows d node (keys ++ k ∷ []) next ×
+    (rest_length (trees_in d node) (option_map (name_in d) next) < rest_length (trees_in d node) (option_map (name_in d) at))
+follows_next {d} counted {node} {keys} next {k} is follows found near =
+    let ts = trees_in d node in
+    let y = name_in d k in
+    let here = follows.here k is in
+    let own : option_map (name_in d) next ≡ first_of (texts_after ts y) = found ∙ ap (λ o. first_of (texts_after (part_of d.world o).trees y)) here.1 in
+    let rest = subst (IsRest ts (texts_after ts y)) (sym own) (after_rest ts (once_in d counted (owner_in d node)) y) in
+    let listed = subst (λ (o : Option ℕ). with_rest ts (map (name_in d) keys) (option_map (name_in d) o) ≡ texts_after ts (name_in d node)) is follows.listed in
+    let size = rest.size in (
+      record {
+        listed = rest.all (map (name_in d) (keys ++ k ∷ [])) ∙ ap (λ xs. xs ++ texts_after ts y) (map-append (name_in d) keys (k ∷ [])) ∙
+            append_assoc (map (name_in d) keys) (y ∷ []) (texts_after ts y) ∙ listed;
+        nodes = all_push (IsOwnNode d node) keys k follows.nodes here;
+        here = λ j e. let h = near j e in (h.0, h.1 ∙ here.1);
+      },
+      subst (λ (o : Option ℕ). rest_length ts (option_map (name_in d) next) < rest_length ts (option_map (name_in d) o)) (sym is) (omega (arith, size)),
+    )
+
+-- ---- their data
+
+-- how far the loop has come that collects it, with these Texts left
+pub record Collects (d : DocState) (top : ℕ) (all : List ℕ) (units : DomString) (rest : List ℕ) : Type 0 where
+  pub data_is : let text_of = λ (y : NodeName). (node_in (trees_in d top) y).text in
+      units ++ flat_map text_of (map (name_in d) rest) ≡ flat_map text_of (map (name_in d) all)
+  pub nodes : AllByRecursion (IsOwnNode d top) rest
+
+-- ---- joining
+
+-- nodes stay nodes where the names are the same
+pub own_nodes : (d e : DocState) (top : ℕ) (ks : List ℕ) → e.names ≡ d.names → AllByRecursion (IsOwnNode d top) ks → AllByRecursion (IsOwnNode e top) ks
+own_nodes d e top ks names h = subst (λ (ns : List NodeName). AllByRecursion
+    (λ k. (k < length ns) × ((name_at ns k).owner ≡ (name_at ns top).owner)) ks) (sym names) h
+
+-- a joining, state by state: the units are put into the Text, places move to it, and the joined Texts are taken out
+pub record Joining : Type 0 where
+  -- the states
+  pub start : DocState
+  pub replaced_state : DocState
+  pub carried_state : DocState
+  pub end : DocState
+  -- the keys of the nodes
+  pub node : ℕ
+  pub parent : ℕ
+  -- the length of the Text, and the units of the joined ones
+  pub size : ℕ
+  pub units : DomString
+  -- the joined Texts
+  pub texts : List ℕ
+  pub alone : IsAlone start.world (owner_in start node)
+  pub sized : size ≡ length_of (trees_in start node) (name_in start node)
+  pub collected : units ≡ flat_map (λ y. (node_in (trees_in start node) y).text) (map (name_in start) texts)
+  pub replaced : replaced_state ≡ planned (owner_in start node) (replacing_data (name_in start node) size 0 units) start
+  pub same_steps : joins (trees_in replaced_state node) (name_in replaced_state node) (name_in replaced_state parent) size
+      (map (name_in replaced_state) texts) ≡ joins (trees_in start node) (name_in replaced_state node) (name_in replaced_state parent) size
+      (map (name_in replaced_state) texts)
+  pub carried : carried_state
+      ≡ planned (owner_in replaced_state node)
+      (steps_of (joins (trees_in replaced_state node) (name_in replaced_state node) (name_in replaced_state parent) size
+      (map (name_in replaced_state) texts))) replaced_state
+  pub taken_out : end ≡ planned (owner_in carried_state node) (in_turn (removing observed) (map (name_in carried_state) texts)) carried_state
+
+-- the steps of a joining are its plan
+pub joined_whole : (h : Joining) →
+    h.end ≡ planned (owner_in h.start h.node) (joining (name_in h.start h.node) (name_in h.start h.parent) (map (name_in h.start) h.texts)) h.start
+joined_whole h =
+    let o = owner_in d node in
+    let x = name_in d node in
+    let q = name_in d parent in
+    let ts = trees_in d node in
+    let ys = map (name_in d) ks in
+    let carry : DocState → DocState = λ s. planned (owner_in s node) (steps_of (joins ts (name_in s node) (name_in s parent) size (map (name_in s) ks))) s in
+    let leave : DocState → DocState = λ s. planned (owner_in s node) (in_turn (removing observed) (map (name_in s) ks)) s in
+    let all : ℕ → DomString → DocState =
+    λ n u. planned o (replacing_data x n 0 u and_then steps_of (joins ts x q n ys) and_then in_turn (removing observed) ys) d in
+    left_ ∙ ap leave (carried ∙ ap (λ steps. planned (owner_in e node) (steps_of steps) e) exact) ∙ ap (λ s. leave (carry s)) replaced
+    ∙ ap (planned o (in_turn (removing observed) ys))
+    (planned_then o (replacing_data x size 0 units) (steps_of (joins ts x q size ys)) d alone (plans_data o x size 0 units))
+    ∙ planned_then o (replacing_data x size 0 units and_then steps_of (joins ts x q size ys)) (in_turn (removing observed) ys) d alone
+    (plans_then o (replacing_data x size 0 units) (steps_of (joins ts x q size ys)) (plans_data o x size 0 units) (λ p own. plans_joins o ts x q size ys))
+    ∙ ap (λ n. all n units) sized ∙ ap (all (length_of ts x)) collected
+  where
+    open h use {start as d, replaced_state as e, node, parent, size, units, texts as ks, alone, sized, collected, replaced, same_steps as exact, carried}
+    open h use {taken_out as left_}
+
+-- ---- one Text
+
+-- what is done with it is its plan: it leaves, it stays, or it is joined with those after it
+module _ (d : DocState) (node : ℕ) where
+  abbrev o : Owner
+  o = owner_in d node
+
+  abbrev x : NodeName
+  x = name_in d node
+
+  abbrev ts : Trees
+  ts = trees_in d node
+
+  abbrev join_to : List NodeName → NodeName → List Step
+  join_to nexts q = if is_empty nexts then [] else joining x q nexts (part_of d.world o)
+
+  abbrev steps_if : Bool → Option NodeName → List NodeName → List Step
+  steps_if b up nexts = if b then removing observed x (part_of d.world o) else option_map_or (join_to nexts) up []
+
+  abbrev after_steps : List Step → DocState
+  after_steps steps = record d { world = world_after o d.world steps }
+
+  pub normal_empty : (e : DocState) → (length_of ts x == 0) ≡ true → e ≡ planned o (removing observed x) d → e ≡ planned o (normalizing_text x) d
+  normal_empty e h is = is ∙ ap (λ b. after_steps (steps_if b (parent_of ts x) (texts_after ts x))) (sym h)
+
+  pub normal_root : (length_of ts x == 0) ≡ false → parent_of ts x ≡ None → d ≡ planned o (normalizing_text x) d
+  normal_root h up = ap (λ a. after_steps (steps_if false a (texts_after ts x))) (sym up) ∙
+      ap (λ b. after_steps (steps_if b (parent_of ts x) (texts_after ts x))) (sym h)
+
+  pub normal_lone : (q : NodeName) → (length_of ts x == 0) ≡ false → parent_of ts x ≡ Some q → texts_after ts x ≡ [] → d ≡ planned o (normalizing_text x) d
+  normal_lone q h up lone =
+      ap (λ ys. after_steps (steps_if false (Some q) ys)) (sym lone) ∙ ap (λ a. after_steps (steps_if false a (texts_after ts x))) (sym up) ∙
+      ap (λ b. after_steps (steps_if b (parent_of ts x) (texts_after ts x))) (sym h)
+
+  pub normal_joined : {e : DocState} {q : NodeName} (ks : List ℕ) → (length_of ts x == 0) ≡ false → parent_of ts x ≡ Some q →
+      map (name_in d) ks ≡ texts_after ts x → is_empty ks ≡ false
+      → e ≡ planned o (joining x q (map (name_in d) ks)) d → e ≡ planned o (normalizing_text x) d
+  normal_joined [] h up listed some is = cc
+  normal_joined {q} (k ∷ ks) h up listed some is =
+      is ∙ ap (λ ys. after_steps (steps_if false (Some q) ys)) listed ∙ ap (λ a. after_steps (steps_if false a (texts_after ts x))) (sym up) ∙
+      ap (λ b. after_steps (steps_if b (parent_of ts x) (texts_after ts x))) (sym h)
+
+-- ---- the Texts below a node
+
+-- a node that is there has itself above it
+pub stands_there : (ts : Trees) (x : NodeName) → 1 ≤ times_in ts x → is_inclusive_ancestor ts x x ≡ true
+stands_there ts x there = by (inclusive_ancestors ts x) refl
+  where
+    by : (path : List NodeName) → inclusive_ancestors ts x ≡ path → is_inclusive_ancestor ts x x ≡ true
+    by [] e = let gone = path_gone ts x e in absurd (omega arith)
+    by (a ∷ path) e = ap (is_in name_eq x) e ∙ or_left (name_eq x a) (is_in name_eq x path) (ap (name_eq x) (path_head ts x a path e) ∙ name_eq-same x)
+
+-- a node stands in its own tree, first
+pub first_own : (ts : Trees) (x : NodeName) → is_inclusive_ancestor ts x x ≡ true → (rest : List NodeName) × (inclusive_descendants ts x ≡ x ∷ rest)
+first_own ts x h = elim (none_or_some (times_in ts x)) [
+  | inl e ↦ let gone = ap (is_in name_eq x) (path_none ts x e) in cc
+  | inr there ↦ first_inside ts x there
+]
+
+abbrev pub below_of : DocState → ℕ → List NodeName
+below_of d top = inclusive_descendants (trees_in d top) (name_in d top)
+
+abbrev pub texts_in : DocState → ℕ → List NodeName → List NodeName
+texts_in d top xs = filter (λ y. is_text (kind_of (trees_in d top) y)) xs
+
+-- how far the loop has come that lists them
+pub record Gathers (d : DocState) (top : ℕ) (keys : List ℕ) (at : Option ℕ) : Type 0 where
+  pub listed : map (name_in d) keys ≡ texts_in d top (drop 1 (walked (below_of d top) (option_map (name_in d) at)))
+  pub stands : StandsIn (below_of d top) (option_map (name_in d) at)
+  pub some : 1 ≤ length (walked (below_of d top) (option_map (name_in d) at))
+  pub nodes : AllByRecursion (IsOwnNode d top) keys
+  pub here : ForSome at (IsOwnNode d top)
+  pub within : ForSome at (λ k. is_inclusive_ancestor (trees_in d top) (name_in d top) (name_in d k) ≡ true)
+
+-- each stands once in tree order
+below_once : (d : DocState) → Counted d → (top : ℕ) → NoTwice (below_of d top)
+below_once d counted top = names_once (subtree (trees_in d top) (name_in d top))
+    (once_subtree (trees_in d top) (name_in d top) (once_in d counted (owner_in d top)))
+
+-- at the first one
+pub gathers_first : {d : DocState} → Counted d → {top : ℕ} {at : Option ℕ} → is_inclusive_ancestor (trees_in d top) (name_in d top) (name_in d top) ≡ true
+    → option_map (name_in d) at ≡ first_of (items_after name_eq (name_in d top) (below_of d top)) → ForSome at (IsOwnNode d top)
+    → ForSome at (λ k. is_inclusive_ancestor (trees_in d top) (name_in d top) (name_in d k) ≡ true) → Gathers d top [] at
+gathers_first {d} counted {top} {at} there found near inside =
+    let x = name_in d top in
+    let xs = below_of d top in
+    let first = first_own (trees_in d top) x there in
+    let in_it : is_in name_eq x xs ≡ true = ap (is_in name_eq x) first.1 ∙ or_left (name_eq x x) (is_in name_eq x first.0) (name_eq-same x) in
+    let w = subst (λ o. Walks xs x o) (sym found) (walks xs (below_once d counted top) x in_it) in
+    let none : items_before name_eq x xs ≡ [] =
+    ap (items_before name_eq x) first.1 ∙ cond-true (name_eq x x) [] (x ∷ items_before name_eq x first.0) (name_eq-same x) in
+    let start : walked xs (option_map (name_in d) at) ≡ x ∷ [] = w.more ∙ ap (λ zs. zs ++ x ∷ []) none in
+    record {
+      listed = sym (ap (λ zs. texts_in d top (drop 1 zs)) start);
+      stands = w.stands;
+      some = subst (λ (zs : List NodeName). 1 ≤ length zs) (sym start) (omega arith);
+      nodes = tt;
+      here = near;
+      within = inside;
+    }
+
+-- a step of it, at a Text or another node
+module _ (d : DocState) (counted : Counted d) (top : ℕ) (keys : List ℕ) (at next : Option ℕ) (k : ℕ) (is : at ≡ Some k) (gathers : Gathers d top keys at)
+    (found : option_map (name_in d) next ≡ first_of (items_after name_eq (name_in d k) (below_of d top))) (near : ForSome next (IsOwnNode d top))
+    (inside : ForSome next (λ j. is_inclusive_ancestor (trees_in d top) (name_in d top) (name_in d j) ≡ true)) where
+  abbrev xs : List NodeName
+  xs = below_of d top
+
+  abbrev y : NodeName
+  y = name_in d k
+
+  walk : Walks xs y (option_map (name_in d) next)
+  walk = subst (λ o. Walks xs y o) (sym found)
+      (walks xs (below_once d counted top) y (subst (λ (o : Option ℕ). StandsIn xs (option_map (name_in d) o)) is gathers.stands))
+
+  before : map (name_in d) keys ≡ texts_in d top (drop 1 (items_before name_eq y xs))
+  before = subst (λ (o : Option ℕ). map (name_in d) keys ≡ texts_in d top (drop 1 (walked xs (option_map (name_in d) o)))) is gathers.listed
+
+  some_before : 1 ≤ length (items_before name_eq y xs)
+  some_before = subst (λ (o : Option ℕ). 1 ≤ length (walked xs (option_map (name_in d) o))) is gathers.some
+
+  more : texts_in d top (drop 1 (walked xs (option_map (name_in d) next))) ≡ map (name_in d) keys ++ texts_in d top (y ∷ [])
+  more =
+      ap (λ zs. texts_in d top (drop 1 zs)) walk.more ∙ ap (texts_in d top) (drop-append-le 1 (items_before name_eq y xs) (y ∷ []) some_before)
+      ∙ filter-append (λ y. is_text (kind_of (trees_in d top) y)) (drop 1 (items_before name_eq y xs)) (y ∷ []) ∙
+      ap (λ zs. zs ++ texts_in d top (y ∷ [])) (sym before)
+
+  longer : 1 ≤ length (walked xs (option_map (name_in d) next))
+  longer =
+      subst (λ (zs : List NodeName). 1 ≤ length zs) (sym walk.more)
+      (let size = Rattle.std.proofs.lemmas.List.length_push (items_before name_eq y xs) y in omega (arith, size))
+
+  own_kind : kind_of (trees_in d k) y ≡ kind_of (trees_in d top) y
+  own_kind = ap (λ o. kind_of (part_of d.world o).trees y) (gathers.here k is).1
+
+  pub gathers_text : true ≡ is_text (kind_of (trees_in d k) y) → Gathers d top (keys ++ k ∷ []) next
+  gathers_text text = record {
+    listed = map-append (name_in d) keys (k ∷ []) ∙
+        ap (λ zs. map (name_in d) keys ++ zs)
+        (sym (cond-true (is_text (kind_of (trees_in d top) y)) (y ∷ []) [] (ap is_text (sym own_kind) ∙ sym text))) ∙ sym more;
+    stands = walk.stands;
+    some = longer;
+    nodes = all_push (IsOwnNode d top) keys k gathers.nodes (gathers.here k is);
+    here = near;
+    within = inside;
+  }
+
+  pub gathers_other : false ≡ is_text (kind_of (trees_in d k) y) → Gathers d top keys next
+  gathers_other text = record {
+    listed = sym (more ∙ ap (λ zs. map (name_in d) keys ++ zs)
+        (cond-false (is_text (kind_of (trees_in d top) y)) (y ∷ []) [] (ap is_text (sym own_kind) ∙ sym text)) ∙ append-nil (map (name_in d) keys));
+    stands = walk.stands;
+    some = longer;
+    nodes = gathers.nodes;
+    here = near;
+    within = inside;
+  }
+
+  pub gathers_fewer : left xs (option_map (name_in d) next) < left xs (option_map (name_in d) at)
+  gathers_fewer = subst (λ (o : Option ℕ). left xs (option_map (name_in d) next) < left xs (option_map (name_in d) o)) (sym is) walk.fewer

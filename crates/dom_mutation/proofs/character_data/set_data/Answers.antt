@@ -1,0 +1,13 @@
+use Rattle.std.proofs.Common.{ap, ◌∙◌}
+use Rattle.std.proofs.lemmas.Result.{on_ok_weaker}
+use Rattle.dom_model.specs.TextChanges.{replacing_data}
+use Rattle.dom_parts.specs.Doc.{name_in, owner_in, planned}
+use Rattle.dom_mutation.proofs.character_data.set_data.Goals as goal
+
+pub returns-clause-world : goal.returns-clause-world
+returns-clause-world c =
+    let d = c.args.parts.now in
+    on_ok_weaker c.replacing_data.result
+    (λ done. ap (λ e. e.world) (done ∙
+    ap (λ n. planned (owner_in d c.args.node) (replacing_data (name_in d c.args.node) 0 n c.args.data.items) d) c.length-count.ensures))
+    c.replacing_data.ensures

@@ -1,0 +1,12 @@
+use Rattle.std.proofs.Common.{option_map}
+use Rattle.dom_model.specs.Tree.{children_of}
+use Rattle.dom_parts.specs.Doc.{name_in, trees_in}
+use Rattle.dom_laws.proofs.Walks.{left}
+use Rattle.dom_mutation.proofs.Listing.{Lists}
+use Rattle.dom_mutation.proofs.inserting.children.Given as goal
+
+abbrev pub invariant-loop-at : goal.invariant-loop-at
+invariant-loop-at l = Lists l.parts l.fn.node l.keys.items l.at
+
+abbrev pub decreases-loop-at : goal.decreases-loop-at
+decreases-loop-at l = left (children_of (trees_in l.parts l.fn.node) (name_in l.parts l.fn.node)) (option_map (name_in l.parts) l.at)

@@ -1,0 +1,41 @@
+use Rattle.std.proofs.Common.{[], map, option_map, sym, ap, ◌∙◌}
+use Rattle.std.proofs.lemmas.List.{length-map}
+use Rattle.std.proofs.lemmas.Result.{on_ok_weaker}
+use Rattle.dom_model.specs.Output.{child_list}
+use Rattle.dom_model.specs.Changes.{in_turn, making_room, placing, steps_of, telling}
+use Rattle.dom_parts.specs.Doc.{DocState, name_in, owner_in, planned}
+use Rattle.dom_mutation.specs.Observing.{observing_of}
+use Rattle.dom_mutation.proofs.Turns.{stays_same, all_may_now, child_now}
+use Rattle.dom_mutation.proofs.inserting.place_all.Goals as goal
+
+pub place_each-requires-clause-may_move : goal.place_each-requires-clause-may_move
+place_each-requires-clause-may_move c =
+    let d = c.args.parts.now in
+    let e = c.room_before.new.parts in
+    all_may_now c.args.parent c.args.before d e
+    (stays_same c.args.parent c.args.before d e (ap (λ (s : DocState). s.names) c.room_before.ensures.state) c.room_before.ensures.trees)
+    c.args.moved.now c.requires.may_move
+
+pub place_each-requires-clause-before_is_child : goal.place_each-requires-clause-before_is_child
+place_each-requires-clause-before_is_child c =
+    let d = c.args.parts.now in
+    let e = c.room_before.new.parts in
+    child_now c.args.parent c.args.before d e
+    (stays_same c.args.parent c.args.before d e (ap (λ (s : DocState). s.names) c.room_before.ensures.state) c.room_before.ensures.trees)
+    c.requires.before_is_child
+
+pub returns : goal.returns
+returns c =
+    let d = c.args.parts.now in
+    let parent = c.args.parent in
+    let keys = c.args.moved.now in
+    let tell : DocState → DocState = λ e. planned (owner_in e parent)
+    (steps_of (telling (observing_of c.args.how)
+    (child_list (name_in e parent) (map (name_in e) keys) [] (option_map (name_in e) c.args.prev)
+    (option_map (name_in e) c.args.before)))) e in
+    let turn : DocState → DocState = λ e. planned (owner_in e parent)
+    (in_turn (placing (name_in e parent) (option_map (name_in e) c.args.before)) (map (name_in e) keys)) e in
+    on_ok_weaker c.tell_placed.result (λ told. told ∙ ap tell c.in_ok-place_each.ensures ∙ ap (λ e. tell (turn e)) c.room_before.ensures.state
+    ∙ ap (λ n. tell (turn (planned (owner_in d parent) (making_room (name_in d parent) (option_map (name_in d) c.args.before) n) d)))
+    (sym (length-map keys (name_in d))))
+    c.tell_placed.ensures

@@ -1,0 +1,27 @@
+use Rattle.std.proofs.Common.{[], ◌∷◌, option_map, sym, ap, ◌∙◌}
+use Rattle.dom_model.specs.Tree.{index_of}
+use Rattle.dom_model.specs.Part.{Part}
+use Rattle.dom_model.specs.Steps.{make_room}
+use Rattle.dom_model.specs.World.{part_of}
+use Rattle.dom_model.specs.Changes.{making_room}
+use Rattle.dom_parts.specs.Doc.{name_in, owner_in, trees_in, stepped, planned}
+use Rattle.dom_mutation.proofs.inserting.room_before.Goals as goal
+
+pub returns-in-Some-clause-state : goal.returns-in-Some-clause-state
+returns-in-Some-clause-state c =
+    let d = c.args.parts.now in
+    let parent = name_in d c.args.parent in
+    c.make_room.ensures
+    ∙ ap (λ o. stepped (owner_in d c.args.parent) (make_room parent (index_of (part_of d.world o).trees (name_in d c.in-Some.child)) c.args.count)
+    d) (c.requires.before_is_child c.in-Some.child c.in-Some.is).owner
+    ∙ ap (λ b. planned (owner_in d c.args.parent) (making_room parent (option_map (name_in d) b) c.args.count) d) (sym c.in-Some.is)
+
+pub returns-in-Some-clause-trees : goal.returns-in-Some-clause-trees
+returns-in-Some-clause-trees c =
+    let d = c.args.parts.now in
+    ap (λ e. trees_in e c.args.parent) c.make_room.ensures
+    ∙ ap (λ (p : Part). p.trees) ((c.laws.ensures.alone c.args.parent c.requires.parent_is_node).steps
+    (make_room (name_in d c.args.parent) (index_of (trees_in d c.in-Some.child) (name_in d c.in-Some.child)) c.args.count ∷ []) (tt, tt))
+
+pub make_room-requires-clause-is_child : goal.make_room-requires-clause-is_child
+make_room-requires-clause-is_child c = c.requires.before_is_child c.in-Some.child c.in-Some.is

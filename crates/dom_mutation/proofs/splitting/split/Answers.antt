@@ -1,0 +1,56 @@
+use Rattle.std.proofs.Common.{◌≡◌, ◌-◌, length, option_map, ap, arith}
+use Rattle.dom_model.specs.Names.{DomString}
+use Rattle.dom_model.specs.Tree.{node_in}
+use Rattle.dom_parts.specs.Doc.{name_in, owner_in, trees_in}
+use Rattle.dom_mutation.proofs.Grown.{new_owner, new_unlinked, new_not_above, split_whole}
+use Rattle.dom_model.specs.Part.{next_name}
+use Rattle.dom_model.specs.TextChanges.{new_text_node}
+use Rattle.dom_model.specs.World.{part_of}
+use Rattle.dom_mutation.proofs.BoundedDocs.{bounds_added}
+use Rattle.dom_mutation.proofs.splitting.split.Goals as goal
+
+pub cut_tail-requires-clause-one_owner : goal.cut_tail-requires-clause-one_owner
+cut_tail-requires-clause-one_owner c =
+    new_owner c.args.parts.now c.make_text.new.parts c.args.node c.in_ok-new.new
+    (option_map (name_in c.args.parts.now) c.document-document.result) c.in_ok-tail.tail.items c.in_ok-new.ensures.names
+    c.in_ok-new.ensures.world c.in_ok-new.ensures.key c.requires.node_is_node (c.laws.ensures.alone c.args.node c.requires.node_is_node)
+
+pub cut_tail-requires-clause-unlinked : goal.cut_tail-requires-clause-unlinked
+cut_tail-requires-clause-unlinked c =
+    new_unlinked c.args.parts.now c.make_text.new.parts c.args.node c.in_ok-new.new
+    (option_map (name_in c.args.parts.now) c.document-document.result) c.in_ok-tail.tail.items c.in_ok-new.ensures.names
+    c.in_ok-new.ensures.world c.in_ok-new.ensures.key c.requires.node_is_node (c.laws.ensures.alone c.args.node c.requires.node_is_node)
+    c.laws-2.ensures.distinct c.laws-2.ensures.once
+
+pub cut_tail-requires-clause-not_above : goal.cut_tail-requires-clause-not_above
+cut_tail-requires-clause-not_above c =
+    new_not_above c.args.parts.now c.make_text.new.parts c.args.node c.in_ok-new.new
+    (option_map (name_in c.args.parts.now) c.document-document.result) c.in_ok-tail.tail.items c.in_ok-new.ensures.names
+    c.in_ok-new.ensures.world c.in_ok-new.ensures.key c.requires.node_is_node (c.laws.ensures.alone c.args.node c.requires.node_is_node)
+    c.laws-2.ensures.distinct c.laws-2.ensures.once
+
+pub returns-clause-world : goal.returns-clause-world
+returns-clause-world c =
+    let units = ap (λ (s : DomString). length s) c.text.ensures in
+    let left = c.saturating_sub-count.ensures in
+    let counts : c.saturating_sub-count.result ≡ length
+    (node_in (trees_in c.args.parts.now c.args.node) (name_in c.args.parts.now c.args.node)).text - c.args.offset =
+    omega (arith, units, left) in
+    split_whole c.args.parts.now c.make_text.new.parts c.args.node c.in_ok-new.new
+    (option_map (name_in c.args.parts.now) c.document-document.result) c.in_ok-tail.tail.items c.in_ok-new.ensures.names
+    c.in_ok-new.ensures.world c.in_ok-new.ensures.key c.requires.node_is_node (c.laws.ensures.alone c.args.node c.requires.node_is_node)
+    c.laws-2.ensures.distinct c.laws-2.ensures.once c.args.offset counts
+    c.document-document.ensures.value c.in_ok-tail.ensures c.in_ok-cut_tail.ensures
+
+pub cut_tail-requires-clause-bounds : goal.cut_tail-requires-clause-bounds
+cut_tail-requires-clause-bounds c =
+    let d = c.args.parts.now in
+    let y = next_name (part_of d.world (owner_in d c.args.node)) in
+    bounds_added d c.make_text.new.parts c.args.node y
+    (new_text_node y (option_map (name_in d) c.document-document.result) c.in_ok-tail.tail.items)
+    record {
+      here = c.requires.node_is_node;
+      alone = c.laws.ensures.alone c.args.node c.requires.node_is_node;
+      part = c.laws.ensures.parts _;
+      bounds = c.requires.bounds;
+    } c.in_ok-new.ensures.names c.in_ok-new.ensures.world

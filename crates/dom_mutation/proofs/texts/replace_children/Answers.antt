@@ -1,0 +1,45 @@
+use Rattle.std.proofs.Common.{Some, ap, sym, ◌∙◌}
+use Rattle.dom_model.specs.Names.{is_empty}
+use Rattle.dom_parts.specs.Doc.{name_in, owner_in}
+use Rattle.dom_mutation.proofs.Inserted.{some_left}
+use Rattle.dom_mutation.proofs.Grown.{new_owner, new_not_above}
+use Rattle.dom_mutation.proofs.Emptied.{text_whole}
+use Rattle.dom_model.specs.Part.{next_name}
+use Rattle.dom_model.specs.TextChanges.{new_text_node}
+use Rattle.dom_model.specs.World.{part_of}
+use Rattle.dom_mutation.proofs.BoundedDocs.{bounds_added}
+use Rattle.dom_mutation.proofs.texts.replace_children.Goals as goal
+
+pub put_text-requires-clause-one_owner : goal.put_text-requires-clause-one_owner
+put_text-requires-clause-one_owner c =
+    new_owner c.args.parts.now c.make_text.new.parts c.args.node c.in_ok-text.text
+    (Some (name_in c.args.parts.now c.document_below-document.result)) c.args.units.items c.in_ok-text.ensures.names
+    c.in_ok-text.ensures.world c.in_ok-text.ensures.key c.requires.node_is_node (c.laws.ensures.alone c.args.node c.requires.node_is_node)
+
+pub put_text-requires-clause-not_above : goal.put_text-requires-clause-not_above
+put_text-requires-clause-not_above c =
+    new_not_above c.args.parts.now c.make_text.new.parts c.args.node c.in_ok-text.text
+    (Some (name_in c.args.parts.now c.document_below-document.result)) c.args.units.items c.in_ok-text.ensures.names
+    c.in_ok-text.ensures.world c.in_ok-text.ensures.key c.requires.node_is_node (c.laws.ensures.alone c.args.node c.requires.node_is_node)
+    c.laws-2.ensures.distinct c.laws-2.ensures.once
+
+pub returns-clause-world : goal.returns-clause-world
+returns-clause-world c =
+    text_whole c.args.parts.now c.make_text.new.parts c.args.node c.in_ok-text.text
+    (Some (name_in c.args.parts.now c.document_below-document.result)) c.args.units.items c.in_ok-text.ensures.names
+    c.in_ok-text.ensures.world c.in_ok-text.ensures.key c.requires.node_is_node (c.laws.ensures.alone c.args.node c.requires.node_is_node)
+    c.laws-2.ensures.distinct c.laws-2.ensures.once c.put_text.new.parts
+    (ap is_empty (sym c.as_slice.ensures.value) ∙ some_left c.as_slice.result.now c.if-is_empty.ensures)
+    (ap (λ y. Some y) c.document_below-document.ensures.value) c.in_ok-put_text.ensures
+
+pub put_text-requires-clause-bounds : goal.put_text-requires-clause-bounds
+put_text-requires-clause-bounds c =
+    let d = c.args.parts.now in
+    let y = next_name (part_of d.world (owner_in d c.args.node)) in
+    bounds_added d c.make_text.new.parts c.args.node y (new_text_node y (Some (name_in d c.document_below-document.result)) c.args.units.items)
+    record {
+      here = c.requires.node_is_node;
+      alone = c.laws.ensures.alone c.args.node c.requires.node_is_node;
+      part = c.laws.ensures.parts _;
+      bounds = c.requires.bounds;
+    } c.in_ok-text.ensures.names c.in_ok-text.ensures.world

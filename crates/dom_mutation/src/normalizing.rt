@@ -1,0 +1,152 @@
+//! Normalization (DOM Standard, normalize(); concept: contiguous exclusive Text nodes).
+ghost use Rattle.std.specs.Prelude.{◌≡◌, map, filter, flat_map, true, IfOk, OnOk, Some};
+ghost use Rattle.std.specs.List.{AllByRecursion};
+ghost use Rattle.std.specs.Option.{option_map, ForSome};
+ghost use Rattle.dom_model.specs.Names.{first_of};
+ghost use Rattle.dom_model.specs.Tree.{kind_of, is_text, node_in, parent_of, descendants, is_inclusive_ancestor};
+ghost use Rattle.dom_model.specs.Changes.{in_turn};
+ghost use Rattle.dom_model.specs.TextChanges.{texts_after, joining, normalizing_text};
+ghost use Rattle.dom_model.specs.World.{part_of};
+ghost use Rattle.dom_worlds.specs.Bounds.{HasBounds};
+ghost use Rattle.dom_parts.specs.Doc.{planned, name_in, owner_in, trees_in, IsOwnNode, HoldsNode};
+
+use crate::character_data::replacing_data;
+use crate::inserting::take_each;
+use crate::removing::{SuppressObserversFlag, removing};
+use dom_base::{DomStr, Kind};
+use dom_parts::Parts;
+use node_arena::Key;
+use std::alloc::AllocError;
+
+/// Some Texts are normalized, one after another.
+pub(crate) fn normalize_each(parts: &mut Parts, top: Key, texts: &[Key]) -> Result<(), AllocError>
+    requires top_is_node { HoldsNode parts.old top }
+    requires texts_are_nodes { AllByRecursion (IsOwnNode parts.old top) texts.now }
+    requires are_texts { AllByRecursion (λ k. is_text (kind_of (trees_in parts.old top) (name_in parts.old k)) ≡ true) texts.now }
+    requires bounds { HasBounds (part_of parts.old.world (owner_in parts.old top)) }
+    ensures { OnOk result (parts.new ≡ planned (owner_in parts.old top) (in_turn normalizing_text (map (name_in parts.old) texts.now)) parts.old) }
+{
+    parts.laws();
+    for text in texts {
+        normalize_text(parts, *text)?;
+    }
+    Ok(())
+}
+
+/// A Text without data leaves, and another one is joined with those after it, if there are some.
+fn normalize_text(parts: &mut Parts, node: Key) -> Result<(), AllocError>
+    requires node_is_node { HoldsNode parts.old node }
+    requires is_text { is_text (kind_of (trees_in parts.old node) (name_in parts.old node)) ≡ true }
+    requires bounds { HasBounds (part_of parts.old.world (owner_in parts.old node)) }
+    ensures { OnOk result (parts.new ≡ planned (owner_in parts.old node) (normalizing_text (name_in parts.old node)) parts.old) }
+{
+    if parts.length(node) == 0 {
+        return removing(parts, SuppressObserversFlag::Observed, node);
+    }
+    let Some(parent) = parts.parent(node) else {
+        return Ok(());
+    };
+    let nexts = texts_after(parts, node)?;
+    if nexts.as_slice().is_empty() {
+        return Ok(());
+    }
+    joining(parts, node, parent, nexts.as_slice())
+}
+
+/// A Text gets the data of others, which then leave.
+fn joining(parts: &mut Parts, node: Key, parent: Key, nexts: &[Key]) -> Result<(), AllocError>
+    requires node_is_node { HoldsNode parts.old node }
+    requires nexts_are_nodes { AllByRecursion (IsOwnNode parts.old node) nexts.now }
+    requires is_text { is_text (kind_of (trees_in parts.old node) (name_in parts.old node)) ≡ true }
+    requires is_parent { parent_of (trees_in parts.old node) (name_in parts.old node) ≡ Some (name_in parts.old parent) }
+    requires parent_is_node { HoldsNode parts.old parent }
+    requires parent_owner { owner_in parts.old parent ≡ owner_in parts.old node }
+    requires are_nexts { map (name_in parts.old) nexts.now ≡ texts_after (trees_in parts.old node) (name_in parts.old node) }
+    requires bounds { HasBounds (part_of parts.old.world (owner_in parts.old node)) }
+    ensures { OnOk result (parts.new ≡ planned (owner_in parts.old node)
+        (joining (name_in parts.old node) (name_in parts.old parent) (map (name_in parts.old) nexts.now)) parts.old) }
+{
+    parts.laws();
+    let size = parts.length(node);
+    let units = data_of(parts, node, nexts)?;
+    replacing_data(parts, node, size, 0, units)?;
+    parts.join_each(node, size, nexts, parent);
+    take_each(parts, SuppressObserversFlag::Observed, node, nexts)
+}
+
+/// The data of some Texts, one behind another; `top` is a node of their owner.
+fn data_of(parts: &Parts, top: Key, texts: &[Key]) -> Result<DomStr, AllocError>
+    requires { AllByRecursion (IsOwnNode parts.now top) texts.now }
+    ensures { IfOk result (λ units. units.items ≡ flat_map (λ y. (node_in (trees_in parts.now top) y).text) (map (name_in parts.now) texts.now)) }
+{
+    let mut units = Vec::new(parts.alloc());
+    for text in texts {
+        units.extend_from_slice(parts.text(*text))?;
+    }
+    Ok(units)
+}
+
+/// The Texts directly after a Text.
+fn texts_after(parts: &Parts, node: Key) -> Result<Vec<Key>, AllocError>
+    requires { HoldsNode parts.now node }
+    ensures names { IfOk result (λ keys. map (name_in parts.now) keys.items ≡ texts_after (trees_in parts.now node) (name_in parts.now node)) }
+    ensures nodes { IfOk result (λ keys. AllByRecursion (IsOwnNode parts.now node) keys.items) }
+{
+    parts.laws();
+    let mut keys = Vec::new(parts.alloc());
+    let mut at = text_after(parts, node);
+    while let Some(text) = at {
+        keys.push(text)?;
+        at = text_after(parts, text);
+    }
+    Ok(keys)
+}
+
+/// The sibling just after a node, where it is a Text.
+fn text_after(parts: &Parts, node: Key) -> Option<Key>
+    requires { HoldsNode parts.now node }
+    ensures value { option_map (name_in parts.now) result ≡ first_of (texts_after (trees_in parts.now node) (name_in parts.now node)) }
+    ensures node { ForSome result (IsOwnNode parts.now node) }
+{
+    let next = parts.next(node)?;
+    if is_text(parts, next) {
+        return Some(next);
+    }
+    None
+}
+
+/// Whether a node is a Text.
+fn is_text(parts: &Parts, node: Key) -> bool
+    requires { HoldsNode parts.now node }
+    ensures { result ≡ is_text (kind_of (trees_in parts.now node) (name_in parts.now node)) }
+{
+    matches!(parts.kind(node), Kind::Text)
+}
+
+/// The Texts below a node, in tree order.
+pub(crate) fn texts_below(parts: &Parts, top: Key) -> Result<Vec<Key>, AllocError>
+    requires { HoldsNode parts.now top }
+    ensures names { IfOk result (λ keys. map (name_in parts.now) keys.items ≡ filter (λ y. is_text (kind_of (trees_in parts.now top) y))
+        (descendants (trees_in parts.now top) (name_in parts.now top))) }
+    ensures nodes { IfOk result (λ keys. AllByRecursion (IsOwnNode parts.now top) keys.items) }
+{
+    parts.laws();
+    let mut keys = Vec::new(parts.alloc());
+    stands(parts, top);
+    let mut at = parts.following(top, top);
+    while let Some(node) = at {
+        if is_text(parts, node) {
+            keys.push(node)?;
+        }
+        at = parts.following(node, top);
+    }
+    Ok(keys)
+}
+
+/// Holds of every node: it stands in its owner's trees.
+pub(crate) fn stands(parts: &Parts, node: Key)
+    requires { HoldsNode parts.now node }
+    ensures { is_inclusive_ancestor (trees_in parts.now node) (name_in parts.now node) (name_in parts.now node) ≡ true }
+{
+    parts.laws();
+}

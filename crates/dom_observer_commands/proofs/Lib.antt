@@ -1,2 +1,0 @@
-mod Notices
-mod ObserverLaws

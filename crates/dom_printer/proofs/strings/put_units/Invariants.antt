@@ -1,8 +1,0 @@
--- The buffer has the quote and the units so far.
-use Rattle.std.proofs.Common.{◌≡◌, [], ◌∷◌, ◌++◌, take}
-use Rattle.std.specs.List.{flat_map}
-use Rattle.dom_text.specs.Text.{unit_text}
-use Rattle.dom_printer.proofs.strings.put_units.Given as goal
-
-abbrev pub invariant-loop-unit : goal.invariant-loop-unit
-invariant-loop-unit l = l.out.items ≡ (l.fn.out.items ++ 34 ∷ []) ++ flat_map unit_text (take l.unit-index l.units)

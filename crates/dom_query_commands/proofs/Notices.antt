@@ -1,0 +1,40 @@
+-- The lines of a notification are those of the records that each pending observer is given.
+use Rattle.std.specs.Prelude.{Vec, flat_map}
+use Rattle.std.proofs.Common.{map, ◌≡◌, ℕ, List, [], ◌∷◌, ◌++◌, sym, ap, ◌∙◌, refl}
+use Rattle.dom_base.specs.declared.NodeName.{NodeName}
+use Rattle.dom_base.specs.declared.Owner.{Owner}
+use Rattle.dom_model.specs.Output.{Output, Change, says, recorded}
+use Rattle.dom_model.specs.Part.{queue_of}
+use Rattle.dom_model.specs.Turns.{notified_lines}
+use Rattle.dom_model.specs.World.{World, part_of}
+use Rattle.dom_model.proofs.PartLaws.{owner-part_of}
+use Rattle.dom_observers.specs.declared.change.Change.{Change as KeyedChange}
+use Rattle.dom_mutation.specs.Doc.{DocState, change_in, notice_in, notices_of}
+use Rattle.dom_query_commands.specs.Recorded.{record_lines, notice_lines}
+
+lines_mapped : {X Y Z : Type 0} (f : Y → List Z) (g : X → Y) (xs : List X) → flat_map f (map g xs) ≡ flat_map (λ x. f (g x)) xs
+lines_mapped f g [] = refl
+lines_mapped f g (x ∷ xs) = ap (λ zs. f (g x) ++ zs) (lines_mapped f g xs)
+
+lines_same : {X Y : Type 0} (f g : X → List Y) → ((x : X) → f x ≡ g x) → (xs : List X) → flat_map f xs ≡ flat_map g xs
+lines_same f g same [] = refl
+lines_same f g same (x ∷ xs) = ap (λ ys. ys ++ flat_map f xs) (same x) ∙ ap (λ ys. g x ++ ys) (lines_same f g same xs)
+
+-- the lines of what each observer is told
+told_lines : Owner → ℕ × List (Change NodeName) → List Output
+told_lines o n = map (λ c. says o (recorded n.0 c)) n.1
+
+pub map_twice : {X Y Z : Type 0} (g : X → Y) (h : Y → Z) (xs : List X) → map h (map g xs) ≡ map (λ x. h (g x)) xs
+map_twice g h [] = refl
+map_twice g h (x ∷ xs) = ap (λ zs. h (g x) ∷ zs) (map_twice g h xs)
+
+-- are those of the notification
+pub notice_lines_are : {Z : Type 0} (d : DocState) (w : World) (o : Owner) (list : List (ℕ × Vec KeyedChange Z)) →
+    map (notice_in d) list ≡ notices_of (part_of w o) → notice_lines d.names o list ≡ notified_lines (part_of w o)
+unfolding told_lines
+notice_lines_are {Z} d w o list is =
+    lines_same (λ (n : ℕ × Vec KeyedChange Z). record_lines d.names o n.0 n.1.items) (λ (n : ℕ × Vec KeyedChange Z). told_lines o (notice_in d n))
+    (λ n. sym (map_twice (change_in d) (λ c. says o (recorded n.0 c)) n.1.items)) list
+    ∙ sym (lines_mapped (told_lines o) (notice_in d) list) ∙ ap (flat_map (told_lines o)) is
+    ∙ lines_mapped (told_lines o) (λ k. (k, queue_of (part_of w o).record_queues k)) (part_of w o).pending
+    ∙ ap (λ q. flat_map (λ k. map (λ c. says q (recorded k c)) (queue_of (part_of w o).record_queues k)) (part_of w o).pending) (sym (owner-part_of w o))

@@ -1,0 +1,7 @@
+use Rattle.std.proofs.Common.{◌≡◌, ◌++◌, take}
+use Rattle.dom_text.specs.Text.{output_text}
+use Rattle.dom_query_commands.specs.Recorded.{record_lines}
+use Rattle.dom_query_commands.proofs.records.put_records.Given as goal
+
+abbrev pub invariant-loop-told : goal.invariant-loop-told
+invariant-loop-told l = l.out.items ≡ l.initial.out.items ++ output_text (record_lines l.forest.names l.owner l.observer (take l.told-index l.records))

@@ -1,0 +1,47 @@
+-- The slots of the tree of a node.
+use Rattle.std.proofs.Common.{◌≡◌, ℕ, ◌<◌, true, length, subst}
+use Rattle.std.proofs.lemmas.Option.{get_or_from_slice_get, slice_get_within}
+use Rattle.dom_base.specs.declared.NodeName.{NodeName}
+use Rattle.dom_base.specs.declared.Owner.TheVariants.{Page}
+use Rattle.dom_model.specs.Names.{node_of}
+use Rattle.dom_model.specs.Slots.{is_slot_element, slots_among}
+use Rattle.dom_model.specs.Tree.{has_node, node_in, subtree, root_of, inclusive_descendants}
+use Rattle.dom_tree.specs.Forest.{NamedTrees, name_at}
+use Rattle.dom_laws.proofs.Children.{Has-names}
+use Rattle.dom_laws.proofs.Counts.{Once}
+use Rattle.dom_laws.proofs.Lists.{In}
+use Rattle.dom_laws.proofs.Shapes.{Has, Has-subtree}
+use Rattle.dom_slots.specs.Insides.{tree_slots}
+use Rattle.dom_slots.specs.Kept.{StandsOnce}
+use Rattle.dom_slots.proofs.Attaching.{in_filter}
+use Rattle.dom_slots.proofs.Far.{slot-among}
+use Rattle.dom_slots.proofs.NamesOfNodes.{named-filter}
+use Rattle.dom_slots.proofs.Rooted.{root-below, root-within, in-tree_of_root}
+use Rattle.dom_slots.proofs.Within.{slots-within}
+
+module _ (f : NamedTrees) (once : Once f.trees) where
+  -- a slot in a tree is a slot, and stands there
+  is-there : (top y : NodeName) → In y (slots_among (subtree f.trees top)) → (is_slot_element (node_in f.trees y) ≡ true) × Has (subtree f.trees top) y
+  is-there top y i =
+      let w = in_filter (λ z. is_slot_element (node_in f.trees z)) y (inclusive_descendants f.trees top)
+      (subst (In y) (named-filter f.trees once is_slot_element top) i) in
+      (w.0, Has-names (subtree f.trees top) y w.1)
+
+  -- it has the root of the tree
+  pub slot-root : (x y : NodeName) → Has f.trees x → In y (tree_slots f.trees x) → root_of f.trees y ≡ root_of f.trees x
+  slot-root x y h i = root-within f.trees once x y h (is-there (root_of f.trees x) y i).1
+
+  -- a slot below a node is one of the node's tree
+  pub below-root : (x y : NodeName) → Has f.trees x → In y (slots_among (subtree f.trees x)) → In y (tree_slots f.trees x)
+  below-root x y h i =
+      let w = is-there x y i in
+      slot-among f.trees once (root_of f.trees x) y
+      (subst (λ r. Has (subtree f.trees r) y) (root-below f.trees once x y h w.1) (in-tree_of_root f.trees once y (Has-subtree f.trees x y once w.1))) w.0
+
+-- a slot in a tree has a key
+pub slot-key : (f : NamedTrees) → StandsOnce f → (top y : NodeName) → In y (slots_among (subtree f.trees top)) →
+    (k : ℕ) × (k < length f.names) × (name_at f.names k ≡ y)
+slot-key f stands top y i = slots-within (λ x. (k : ℕ) × (k < length f.names) × (name_at f.names k ≡ x)) f.trees key top y i
+  where
+    key : (x : NodeName) → has_node f.trees x ≡ true → (k : ℕ) × (k < length f.names) × (name_at f.names k ≡ x)
+    key x h = let w = stands.only x h in (w.0, slice_get_within f.names w.0 x w.1, get_or_from_slice_get f.names w.0 x (node_of Page 0) w.1)

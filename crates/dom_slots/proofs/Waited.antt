@@ -1,0 +1,39 @@
+-- Who waits under a name, once others were taken away or put there.
+use Rattle.std.proofs.Common.{◌≡◌, ℕ, Bool, true, false, ◌&&◌, List, [], ◌∷◌, ◌++◌, Option, None, Some, refl, ap, ◌∙◌}
+use Rattle.std.specs.Prelude.{Vec, cond, nat_eq, if◌then◌else◌}
+use Rattle.std.specs.Cmp.Lexicographic.{pointwise}
+use Rattle.std.specs.Global.{Global}
+use Rattle.std.specs.Option.{option_map_or}
+use Rattle.dom_model.specs.Names.{text_eq}
+use Rattle.dom_slots.proofs.Firsts.{text_true}
+
+-- texts that are compared one by one
+same-text : (xs ys : List ℕ) → pointwise nat_eq xs ys ≡ text_eq xs ys
+same-text [] [] = refl
+same-text [] (y ∷ ys) = refl
+same-text (x ∷ xs) [] = refl
+same-text (x ∷ xs) (y ∷ ys) = ap (λ b. nat_eq x y && b) (same-text xs ys)
+
+-- those in a list, if there is one
+abbrev pub listed : Option (Vec ℕ Global) → List ℕ
+listed o = option_map_or (λ v. v.items) o []
+
+-- one list is taken away
+pub taken-away : (name other : List ℕ) (was now : Option (Vec ℕ Global)) → now ≡ cond (pointwise nat_eq name other) None was →
+    listed now ≡ (if text_eq name other then [] else listed was)
+taken-away name other was now e = ap listed (e ∙ ap (λ b. cond b None was) (same-text name other)) ∙ by (text_eq name other)
+  where
+    by : (b : Bool) → listed (cond b None was) ≡ (if b then [] else listed was)
+    by true = refl
+    by false = refl
+
+-- a list with one more is put in the place of one that was taken away
+module _ (name other : List ℕ) (was : List ℕ → List ℕ) (mid now : Option (Vec ℕ Global)) (list : Vec ℕ Global) (child : ℕ) where
+  pub put-back : list.items ≡ was name ++ child ∷ [] → listed mid ≡ (if text_eq name other then [] else was other) →
+      now ≡ cond (pointwise nat_eq name other) (Some list) mid → listed now ≡ (if text_eq name other then was other ++ child ∷ [] else was other)
+  put-back longer rest e = ap listed (e ∙ ap (λ b. cond b (Some list) mid) (same-text name other)) ∙ by (text_eq name other) refl rest
+    where
+      by : (b : Bool) → text_eq name other ≡ b → listed mid ≡ (if b then [] else was other) →
+          listed (cond b (Some list) mid) ≡ (if b then was other ++ child ∷ [] else was other)
+      by true same more = longer ∙ ap (λ a. was a ++ child ∷ []) (text_true name other same)
+      by false same more = more

@@ -1,0 +1,29 @@
+use Rattle.std.proofs.Common.{◌≡◌, map, sym, ap, subst, ◌∙◌}
+use Rattle.std.proofs.lemmas.Bool.{eqb-true, or_right}
+use Rattle.std.proofs.lemmas.List.Folds.{list_any-append}
+use Rattle.dom_model.specs.Names.{name_eq, is_in}
+use Rattle.dom_model.specs.Slots.{slots_among}
+use Rattle.dom_model.specs.Tree.{root_of, subtree}
+use Rattle.dom_tree.specs.Forest.{name_at}
+use Rattle.dom_tree.proofs.Standing.{Once-forest, Has-forest}
+use Rattle.dom_laws.proofs.Lists.{In, is_in-from}
+use Rattle.dom_slots.specs.Insides.{tree_slots}
+use Rattle.dom_slots.proofs.Renewing.{renewed-again}
+use Rattle.dom_slots.proofs.TreeSlots.{below-root}
+use Rattle.dom_slots.proofs.slots.Slots.renew_below.Goals as goal
+
+pub returns-then-eq-clause-renewed : goal.returns-then-eq-clause-renewed
+returns-then-eq-clause-renewed c =
+    λ p old done told r.
+    let f = c.args.forest.now in
+    let e = c.law_nodes_stand_once.ensures in
+    let x = name_at f.names c.args.node in
+    let around = name_at f.names c.args.around in
+    let same : root_of f.trees x ≡ root_of f.trees around =
+    sym c.root.ensures.value ∙ (ap (name_at f.names) (eqb-true c.root.result c.root-2.result (sym c.eq.ensures ∙ c.if-eq.true)) ∙ c.root-2.ensures.value) in
+    renewed-again r (map (name_at f.names) c.args.moved.now)
+    (λ y i.
+    let there : In y (tree_slots f.trees around) =
+    subst (λ t. In y (slots_among (subtree f.trees t))) same
+    (below-root f (Once-forest f e.once e.only) x y (Has-forest f e.once c.args.node c.requires.node) (subst (In y) c.requires.moved i)) in
+    list_any-append (name_eq y) done (tree_slots f.trees around) ∙ or_right (is_in name_eq y done) _ (is_in-from y (tree_slots f.trees around) there))

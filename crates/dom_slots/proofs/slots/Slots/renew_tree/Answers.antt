@@ -1,0 +1,43 @@
+use Rattle.std.proofs.Common.{◌≡◌, ◌<◌, Some, length, map, sym, ap, subst, ◌∙◌}
+use Rattle.std.specs.Option.{option_map}
+use Rattle.dom_model.specs.Slots.{slots_among}
+use Rattle.dom_model.specs.Tree.{subtree}
+use Rattle.dom_tree.specs.Forest.{name_at}
+use Rattle.dom_tree.proofs.Standing.{Once-forest, Has-forest}
+use Rattle.dom_laws.proofs.Lists.{In}
+use Rattle.dom_slots.specs.Hosts.{host_named, root_named}
+use Rattle.dom_slots.specs.Waiting.{waiting_under}
+use Rattle.dom_slots.proofs.Hosted.{host-named, root-named, host-node}
+use Rattle.dom_slots.proofs.Joining.{same-option}
+use Rattle.dom_slots.proofs.Serving.{all-served}
+use Rattle.dom_slots.proofs.TreeSlots.{slot-root}
+use Rattle.dom_slots.proofs.slots.Slots.renew_tree.Goals as goal
+
+pub waiting_below-requires : goal.waiting_below-requires
+waiting_below-requires c =
+    host-node c.args.forest.now.names c.args.self.now.hosts c.requires.hosts c.root-root.result c.in-Some.host (sym c.host_of.ensures ∙ c.in-Some.is)
+
+pub renew_waiting-requires-clause-served : goal.renew_waiting-requires-clause-served
+renew_waiting-requires-clause-served c =
+    let f = c.args.forest.now in
+    let hosts = c.args.self.now.hosts in
+    let e = c.law_nodes_stand_once.ensures in
+    let once = Once-forest f e.once e.only in
+    let x = name_at f.names c.args.node in
+    let key = c.root-root.result in
+    let host = c.in-Some.host in
+    let root = name_at f.names key in
+    let node : host < length f.names = host-node f.names hosts c.requires.hosts key host (sym c.host_of.ensures ∙ c.in-Some.is) in
+    let hosted : host_named f.names hosts root ≡ Some (name_at f.names host) =
+    sym (host-named f.names e.distinct hosts c.requires.hosts key c.root-root.ensures.node) ∙
+    ap (option_map (name_at f.names)) (sym c.host_of.ensures ∙ c.in-Some.is) in
+    let shadow : root_named f.names hosts (name_at f.names host) ≡ Some root =
+    sym (root-named f.names e.distinct hosts c.requires.hosts host node) ∙
+    ap (option_map (name_at f.names)) (sym c.root_of.ensures ∙ same-option c.root_of.result (Some key) (sym c.eq.ensures ∙ c.if-eq.true)) in
+    all-served f once hosts root (name_at f.names host) (Has-forest f e.once host node) hosted shadow
+    (λ y i.
+    slot-root f once x y (Has-forest f e.once c.args.node c.requires.node)
+    (subst (λ t. In y (slots_among (subtree f.trees t))) c.root-root.ensures.value i)
+    ∙ sym c.root-root.ensures.value)
+    (waiting_under c.in_ok-waiting-in-Some.waiting) c.in_ok-waiting-in-Some.ensures.names c.deref.result.now
+    (ap (map (name_at f.names)) c.deref.ensures.value ∙ c.in_ok-slots.ensures.value)

@@ -1,0 +1,94 @@
+use Rattle.std.proofs.Common.{◌≡◌, ℕ, ◌<◌, ◌+◌, ◌++◌, ◌∷◌, [], Bool, true, false, List, All, map, filter, take, drop, length, refl, sym, ap, subst, ◌∙◌}
+use Rattle.std.specs.Prelude.{if◌then◌else◌}
+use Rattle.std.proofs.lemmas.List.{take_all, drop_more}
+use Rattle.std.proofs.lemmas.List.Elements.{All-nil}
+use Rattle.dom_model.specs.Names.{text_eq}
+use Rattle.dom_model.specs.Slots.{slot_name}
+use Rattle.dom_model.specs.Tree.{node_in}
+use Rattle.dom_tree.specs.Forest.{NamedTrees, name_at}
+use Rattle.dom_slots.specs.Hosts.{ShadowHost}
+use Rattle.dom_slots.specs.Renewals.{AreRenewed}
+use Rattle.dom_slots.specs.Shadows.{shadows, assigned_at}
+use Rattle.dom_slots.specs.Waiting.{waiting_under, Serves}
+use Rattle.dom_slots.proofs.Renewing.{none_yet, one_more}
+use Rattle.dom_slots.proofs.slots.Slots.renew_waiting.Goals as goal
+
+-- a slot is served, and then those behind it
+module _ (f : NamedTrees) (hosts : List ShadowHost) (slots : List ℕ) (i s : ℕ) (at : drop i slots ≡ s ∷ drop (i + 1) slots) (now next : List ℕ → List ℕ)
+    (name : List ℕ) (is : name ≡ slot_name (node_in f.trees (name_at f.names s))) (serves : Serves f hosts now (drop i slots)) where
+  abbrev both : Serves f hosts now (s ∷ drop (i + 1) slots)
+  both = subst (Serves f hosts now) at serves
+
+  its-list : (list : List ℕ) → list ≡ now name → map (name_at f.names) list ≡ assigned_at (shadows f hosts) (name_at f.names s)
+  its-list list e = ap (map (name_at f.names)) (e ∙ ap now is) ∙ both.0
+
+  then-others : ((other : List ℕ) → next other ≡ (if text_eq name other then [] else now other)) → Serves f hosts next (drop (i + 1) slots)
+  then-others e =
+      let same : (λ (other : List ℕ). if text_eq (slot_name (node_in f.trees (name_at f.names s))) other then [] else now other) ≡ next =
+      λ j other. sym (e other ∙ ap (λ a. if text_eq a other then [] else now other) is) j in
+      subst (λ (w : List ℕ → List ℕ). Serves f hosts w (drop (i + 1) slots)) same both.1
+
+-- those that wait stay nodes
+nodes-stay : (n : ℕ) (b : Bool) (was now : List ℕ) → now ≡ (if b then [] else was) → All (λ k. k < n) was → All (λ k. k < n) now
+nodes-stay n true was now e all = subst (All (λ k. k < n)) (sym e) (All-nil (λ k. k < n))
+nodes-stay n false was now e all = subst (All (λ k. k < n)) (sym e) all
+
+pub loop-slot-init : goal.loop-slot-init
+loop-slot-init c = record {
+  hosts = refl;
+  begun = refl;
+  renewed = λ p old done told r. none_yet c.args.forest.now c.args.self.now.hosts p old done told c.args.self.now.table c.args.signals.now.items r;
+  served = c.requires.served;
+  nodes = c.requires.waiting_nodes;
+}
+
+pub renew_as-requires-clause-right : goal.renew_as-requires-clause-right
+renew_as-requires-clause-right c =
+    let f = c.args.forest.now in
+    let slots = c.args.slots.now in
+    let i = c.loop-slot.slot-index in
+    let s = c.slot-item.result in
+    let at : drop i slots ≡ s ∷ drop (i + 1) slots =
+    drop_more slots i s c.loop-slot-test.true ∙ ap (λ k. k ∷ drop (i + 1) slots) (sym c.slot-item.is) in
+    its-list f c.args.self.now.hosts slots i s at (waiting_under c.loop-slot.waiting) (waiting_under c.take-list.new.self) c.slot_name.result.now
+    c.slot_name.ensures c.loop-slot.invariant.served c.take-list.result.items c.take-list.ensures.list
+    ∙ ap (λ hs. assigned_at (shadows f hs) (name_at f.names s)) (sym c.loop-slot.invariant.hosts)
+
+pub renew_as-requires-clause-nodes : goal.renew_as-requires-clause-nodes
+renew_as-requires-clause-nodes c =
+    subst (All (λ k. k < length c.args.forest.now.names)) (sym c.take-list.ensures.list) (c.loop-slot.invariant.nodes c.slot_name.result.now)
+
+pub loop-slot-preserved : goal.loop-slot-preserved
+loop-slot-preserved c =
+    let f = c.args.forest.now in
+    let slots = c.args.slots.now in
+    let i = c.loop-slot.slot-index in
+    let s = c.slot-item.result in
+    let names = map (name_at f.names) (take i slots) in
+    let same = c.loop-slot.invariant.hosts in
+    let at : drop i slots ≡ s ∷ drop (i + 1) slots =
+    drop_more slots i s c.loop-slot-test.true ∙ ap (λ k. k ∷ drop (i + 1) slots) (sym c.slot-item.is) in
+    record {
+      hosts = c.in_ok-renew_as.ensures.hosts ∙ same;
+      begun = c.in_ok-renew_as.ensures.begun ∙ c.loop-slot.invariant.begun;
+      renewed = λ p old done told r.
+          one_more f c.args.self.now.hosts p old done told slots i s c.slot-item.is c.loop-slot-test.true
+          (subst (λ hs. AreRenewed f hs p old ((done ++ names) ++ name_at f.names s ∷ []) ((told ++ filter p names) ++ filter p (name_at f.names s ∷ []))
+          c.renew_as.new.self.table c.renew_as.new.signals.items) same
+          (c.in_ok-renew_as.ensures.renewed p old (done ++ names) (told ++ filter p names)
+          (subst (λ hs. AreRenewed f hs p old (done ++ names) (told ++ filter p names) c.loop-slot.self.table c.loop-slot.signals.items)
+          (sym same) (c.loop-slot.invariant.renewed p old done told r))));
+      served = then-others f c.args.self.now.hosts slots i s at (waiting_under c.loop-slot.waiting) (waiting_under c.take-list.new.self)
+          c.slot_name.result.now c.slot_name.ensures c.loop-slot.invariant.served c.take-list.ensures.others;
+      nodes = λ name.
+          nodes-stay (length f.names) (text_eq c.slot_name.result.now name) (waiting_under c.loop-slot.waiting name)
+          (waiting_under c.take-list.new.self name) (c.take-list.ensures.others name) (c.loop-slot.invariant.nodes name);
+    }
+
+pub returns-clause-renewed : goal.returns-clause-renewed
+returns-clause-renewed c =
+    λ p old done told r.
+    let f = c.args.forest.now in
+    subst (λ ks. AreRenewed f c.args.self.now.hosts p old (done ++ map (name_at f.names) ks) (told ++ filter p (map (name_at f.names) ks))
+    c.loop-slot.self.table c.loop-slot.signals.items)
+    (take_all c.loop-slot.slot-index c.args.slots.now c.loop-slot-test.false) (c.loop-slot.invariant.renewed p old done told r)

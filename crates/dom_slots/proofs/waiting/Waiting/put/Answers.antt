@@ -1,0 +1,14 @@
+use Rattle.std.proofs.Common.{◌++◌, ◌∷◌, [], ap, ◌∙◌}
+use Rattle.std.specs.Prelude.{nat_eq}
+use Rattle.std.specs.Cmp.Lexicographic.{pointwise}
+use Rattle.std.specs.HashMap.{get_by}
+use Rattle.dom_slots.specs.Waiting.{waiting_under}
+use Rattle.dom_slots.proofs.Waited.{put-back}
+use Rattle.dom_slots.proofs.waiting.Waiting.put.Goals as goal
+
+pub returns : goal.returns
+returns c = λ other.
+    put-back c.args.name.now other (waiting_under c.args.self.now) (get_by (λ k. pointwise nat_eq other k.now) c.take-list.new.self.lists)
+    (get_by (λ k. pointwise nat_eq other k.now) c.insert.new.self) c.push.new.self c.args.child
+    (c.in_ok-push.ensures.items ∙ ap (λ ks. ks ++ c.args.child ∷ []) c.take-list.ensures.list) (c.take-list.ensures.others other)
+    (c.in_ok-insert.ensures.updates.0 record { ref_ptr = (0, 0); now = other })

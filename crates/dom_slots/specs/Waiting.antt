@@ -1,0 +1,25 @@
+-- Children of a host that wait for slots, and slots that are served in turn.
+use Rattle.std.specs.Prelude.{◌≡◌, ℕ, nat_eq, List, [], ◌∷◌, map, if◌then◌else◌}
+use Rattle.std.specs.Cmp.Lexicographic.{pointwise}
+use Rattle.std.specs.HashMap.{get_by}
+use Rattle.std.specs.Option.{option_map_or}
+use Rattle.dom_model.specs.Names.{text_eq}
+use Rattle.dom_model.specs.Slots.{slot_name}
+use Rattle.dom_model.specs.Tree.{node_in}
+use Rattle.dom_tree.specs.Forest.{NamedTrees, name_at}
+use Rattle.dom_slots.specs.Hosts.{ShadowHost}
+use Rattle.dom_slots.specs.Shadows.{shadows, assigned_at}
+use Rattle.dom_slots.specs.declared.waiting.Waiting.{Waiting}
+
+-- those that wait under a name, in their order
+abbrev pub waiting_under : Waiting → List ℕ → List ℕ
+waiting_under w name = option_map_or (λ v. v.items) (get_by (λ k. pointwise nat_eq name k.now) w.lists) []
+
+-- Slots are served in turn, each with those that wait under its name; then nobody waits there. So each gets what is assigned to
+-- it.
+abbrev pub Serves : NamedTrees → List ShadowHost → (List ℕ → List ℕ) → List ℕ → Type 0
+Serves f hosts waiting [] = Unit {0}
+Serves f hosts waiting (k ∷ ks) =
+    let name = slot_name (node_in f.trees (name_at f.names k)) in
+    (map (name_at f.names) (waiting name) ≡ assigned_at (shadows f hosts) (name_at f.names k)) ×
+    Serves f hosts (λ other. if text_eq name other then [] else waiting other) ks

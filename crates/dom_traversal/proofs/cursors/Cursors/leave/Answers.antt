@@ -1,0 +1,28 @@
+use Rattle.std.proofs.Common.{◌≡◌, List, refl, sym, ap, subst, ◌∙◌}
+use Rattle.std.specs.Option.{IsSome}
+use Rattle.dom_traversal.specs.Iterators.{KeyedIterator, IsIteratorOf}
+use Rattle.dom_traversal.specs.Walkers.{KeyedWalker}
+use Rattle.dom_traversal.specs.declared.cursors.Cursors.TheInside.{Inside}
+use Rattle.dom_traversal.specs.OwnTables.{KeyedTables, EachItem}
+use Rattle.dom_traversal.specs.Cursors.{cursors_of, with_cursors}
+use Rattle.dom_traversal.proofs.Owners.{had, written, with-own}
+use Rattle.dom_traversal.proofs.cursors.Cursors.leave.Goals as goal
+
+pub leave-requires-clause-iterators : goal.leave-requires-clause-iterators
+leave-requires-clause-iterators c =
+    subst (λ (t : KeyedTables). EachItem (IsIteratorOf c.args.forest.now) t.iterators)
+    (had c.self.inside c.args.self.now c.args.owner c.in-Some.tables.now c.self.view_is c.in-Some.ensures.value) c.requires.iterators
+
+pub returns-clause-others : goal.returns-clause-others
+returns-clause-others c =
+    let r : Inside = record { tables = c.get_mut.follows.lender c.leave.new.self; alloc = c.self.inside.alloc } in
+    let here = had c.self.inside c.args.self.now c.args.owner c.in-Some.tables.now c.self.view_is c.in-Some.ensures.value in
+    let is = written c.self.inside r c.args.owner c.leave.new.self c.self.view_is
+    ((c.get_mut.follows.holds c.leave.new.self).3 (subst IsSome c.in-Some.ensures.value refl)).0 in
+    let own : cursors_of r.tables.entries c.args.owner ≡ c.leave.new.self =
+    ap (λ each. each c.args.owner) is ∙ with-own (cursors_of c.args.self.now) c.args.owner c.leave.new.self in
+    is ∙ ap (with_cursors (cursors_of c.args.self.now) c.args.owner)
+    (λ i. with_those (ap (λ (t : KeyedTables). t.iterators) (sym own) i) ((c.leave.ensures.walkers ∙ ap (λ (t : KeyedTables). t.walkers) (sym here)) i))
+  where
+    with_those : List KeyedIterator → List KeyedWalker → KeyedTables
+    with_those is ws = record { iterators = is; walkers = ws }

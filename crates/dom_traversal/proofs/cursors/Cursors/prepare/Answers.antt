@@ -1,0 +1,36 @@
+use Rattle.std.proofs.Common.{◌≡◌, true, OnErr, sym, ap, ◌∙◌, subst}
+use Rattle.std.specs.Prelude.{is_some, Result, Ok, Err}
+use Rattle.std.specs.Map.{lookup}
+use Rattle.std.specs.HashMap.{get}
+use Rattle.dom_base.specs.contracts.OwnerPartialEq.TheImpl as OwnerImpl
+use Rattle.dom_model.specs.Names.{owner_eq}
+use Rattle.dom_traversal.specs.declared.cursors.Cursors.TheInside.{Inside}
+use Rattle.dom_traversal.specs.Cursors.{AllCursors}
+use Rattle.dom_traversal.proofs.Owners.{had-none, entry, written-none, none_from}
+use Rattle.dom_traversal.proofs.cursors.Cursors.prepare.Goals as goal
+
+-- what holds, holds of an error
+on_err : {T E P : Type 0} (r : Result T E) → P → OnErr r P
+on_err (Ok x) p = tt
+on_err (Err e) p = p
+
+pub returns-then-contains_key-clause-there : goal.returns-then-contains_key-clause-there
+returns-then-contains_key-clause-there c =
+    subst (λ (all : AllCursors). is_some (lookup (owner_eq c.args.owner) all) ≡ true) c.self.view_is
+    (entry c.self.inside c.args.owner ∙ sym c.if-contains_key.ensures)
+
+pub returns-in_err-insert-clause-none : goal.returns-in_err-insert-clause-none
+returns-in_err-insert-clause-none c =
+    on_err c.from_residual.result (had-none c.self.inside c.args.self.now c.args.owner c.self.view_is
+    (sym (none_from (get OwnerImpl.ghosts.eq c.self.inside.tables c.args.owner) (sym c.if-contains_key.ensures))))
+
+pub returns : goal.returns
+returns c =
+    let r : Inside = record { tables = c.insert.new.self; alloc = c.self.inside.alloc } in
+    record {
+      keeps = written-none c.self.inside r c.args.owner c.new.result c.self.view_is
+          (sym (none_from (get OwnerImpl.ghosts.eq c.self.inside.tables c.args.owner) (sym c.if-contains_key.ensures))) c.new.ensures
+          c.in_ok-insert.ensures.updates.0;
+      there = entry r c.args.owner ∙ ap is_some c.in_ok-insert.ensures.updates.1;
+      none = tt;
+    }

@@ -1,0 +1,23 @@
+use Rattle.std.proofs.Common.{◌≡◌, true, refl, sym, ap, subst, ◌∙◌}
+use Rattle.std.specs.Prelude.{is_some, slice_get, slice_set}
+use Rattle.std.specs.Option.{IsSome}
+use Rattle.dom_traversal.specs.declared.cursors.Cursors.TheInside.{Inside}
+use Rattle.dom_traversal.specs.OwnTables.{KeyedTables}
+use Rattle.dom_traversal.specs.Cursors.{cursors_of, with_cursors}
+use Rattle.dom_traversal.proofs.Owners.{had, written}
+use Rattle.dom_traversal.proofs.cursors.Cursors.set_walker.Goals as goal
+
+pub set_walker-requires : goal.set_walker-requires
+set_walker-requires c =
+    subst (λ (t : KeyedTables). is_some (slice_get t.walkers c.args.number) ≡ true)
+    (had c.self.inside c.args.self.now c.args.owner c.in-Some.tables.now c.self.view_is c.in-Some.ensures.value) c.requires
+
+pub returns : goal.returns
+returns c x e =
+    let r : Inside = record { tables = c.get_mut.follows.lender c.set_walker.new.self; alloc = c.self.inside.alloc } in
+    let here = had c.self.inside c.args.self.now c.args.owner c.in-Some.tables.now c.self.view_is c.in-Some.ensures.value in
+    let moved : KeyedTables → KeyedTables = λ t. record t { walkers = slice_set t.walkers c.args.number (record x { current = c.args.current }) } in
+    written c.self.inside r c.args.owner c.set_walker.new.self c.self.view_is
+    ((c.get_mut.follows.holds c.set_walker.new.self).3 (subst IsSome c.in-Some.ensures.value refl)).0
+    ∙ ap (with_cursors (cursors_of c.args.self.now) c.args.owner)
+    (c.set_walker.ensures x (ap (λ (t : KeyedTables). slice_get t.walkers c.args.number) (sym here) ∙ e) ∙ ap moved (sym here))

@@ -1,0 +1,16 @@
+use Rattle.std.proofs.Common.{◌≡◌, true, sym, subst}
+use Rattle.std.specs.Prelude.{is_some, slice_get}
+use Rattle.std.specs.Option.{ForSome}
+use Rattle.dom_traversal.specs.OwnTables.{KeyedTables}
+use Rattle.dom_traversal.proofs.Owners.{had}
+use Rattle.dom_traversal.proofs.cursors.Cursors.walker_at.Goals as goal
+
+pub walker_at-requires : goal.walker_at-requires
+walker_at-requires c =
+    subst (λ (t : KeyedTables). is_some (slice_get t.walkers c.args.number) ≡ true)
+    (had c.self.inside c.args.self.now c.args.owner c.in-Some.tables.now c.self.view_is c.in-Some.ensures.value) c.requires
+
+pub returns : goal.returns
+returns c =
+    subst (λ (t : KeyedTables). ForSome (slice_get t.walkers c.args.number) (λ w. c.walker_at.result ≡ w.current))
+    (sym (had c.self.inside c.args.self.now c.args.owner c.in-Some.tables.now c.self.view_is c.in-Some.ensures.value)) c.walker_at.ensures

@@ -1,0 +1,91 @@
+use Rattle.std.proofs.Common.{inl, inr, Some, refl, sym, subst, ◌∙◌}
+use Rattle.std.specs.Prelude.{slice_get}
+use Rattle.std.proofs.lemmas.Bool.{cases_Bool}
+use Rattle.dom_model.specs.Names.{name_eq, is_in}
+use Rattle.dom_model.specs.Tree.{inclusive_descendants}
+use Rattle.dom_tree.specs.Forest.{name_at}
+use Rattle.dom_laws.proofs.Lists.{In-from, In-not}
+use Rattle.dom_tree.proofs.Standing.{Once-forest}
+use Rattle.dom_laws.proofs.Order.{outside-test}
+use Rattle.dom_tree.proofs.Searching.{following_step}
+use Rattle.dom_traversal.specs.OwnTables.{IsLeftIf}
+use Rattle.dom_traversal.proofs.Leaving.{may-none, may-may, may-items, may-left, left-may, all-left, left-outside}
+use Rattle.dom_traversal.proofs.Inside.{from_key, all-from_top, top-stands, next-from}
+use Rattle.dom_traversal.proofs.tables.OwnTables.leave.Goals as goal
+
+pub loop-at-init : goal.loop-at-init
+loop-at-init c =
+    let f = c.args.forest.now in
+    let e = c.law_nodes_stand_once.ensures in
+    record {
+      stands = top-stands f c.args.node e.once e.only c.requires.node_is_node;
+      may = may-none f c.args.node c.args.self.now.iterators;
+      ahead = λ k i there inside. inl (all-from_top f c.args.node e.once e.only c.requires.node_is_node (name_at f.names i.reference) inside);
+      same = refl;
+    }
+
+pub leave_each-requires-clause-iterators : goal.leave_each-requires-clause-iterators
+leave_each-requires-clause-iterators c =
+    may-items c.args.forest.now c.args.node c.args.self.now.iterators c.loop-at.self.iterators c.loop-at.invariant.may c.requires.iterators
+
+pub leave_from-requires-clause-iterators : goal.leave_from-requires-clause-iterators
+leave_from-requires-clause-iterators c =
+    may-items c.args.forest.now c.args.node c.args.self.now.iterators c.loop-at.self.iterators c.loop-at.invariant.may c.requires.iterators
+
+pub following-at-requires-clause-key_is_node : goal.following-at-requires-clause-key_is_node
+following-at-requires-clause-key_is_node c = (c.loop-at.invariant.stands c.in-Some.key c.in-Some.is).node
+
+pub loop-at-preserved : goal.loop-at-preserved
+loop-at-preserved c =
+    let f = c.args.forest.now in
+    let e = c.law_nodes_stand_once.ensures in
+    let was = c.args.self.now.iterators in
+    let mid = c.loop-at.self.iterators in
+    let now = c.leave_from.new.self.iterators in
+    let may = c.loop-at.invariant.may in
+    let stands = c.loop-at.invariant.stands c.in-Some.key c.in-Some.is in
+    let step = following_step f e.once e.only c.args.node c.in-Some.key c.following-at.result stands c.following-at.ensures.value c.following-at.ensures.node in
+    record {
+      stands = step.1;
+      may = may-may f c.args.node was mid now may c.leave_from.ensures.may;
+      ahead = λ k i there inside. elim (c.loop-at.invariant.ahead k i there inside) [
+        | inr left ↦ inr (left-may f c.args.node was mid now c.leave_from.ensures.may k left)
+        | inl from ↦
+            elim (next-from f c.args.node c.following-at.result c.in-Some.is step.0 (name_at f.names i.reference) from) [
+              | inr next ↦ inl next
+              | inl same ↦ inr (elim (may k) [
+                | inl left ↦ left-may f c.args.node was mid now c.leave_from.ensures.may k left
+                | inr kept ↦ may-left f c.args.node was mid now may k
+                    (subst (λ o. IsLeftIf f c.args.node o (slice_get now k)) (sym (kept ∙ there))
+                    (c.leave_from.ensures.left k i (kept ∙ there)
+                    (e.distinct i.reference c.in-Some.key (c.requires.iterators k i there).reference.node stands.node same)))
+              ])
+            ]
+      ];
+      same = c.leave_from.ensures.walkers ∙ c.loop-at.invariant.same;
+    }
+
+pub returns-clause-iterators : goal.returns-clause-iterators
+returns-clause-iterators c =
+    let f = c.args.forest.now in
+    let e = c.law_nodes_stand_once.ensures in
+    let was = c.args.self.now.iterators in
+    let now = c.loop-at.self.iterators in
+    let may = c.loop-at.invariant.may in
+    all-left f c.args.node was now may
+    (λ k i there.
+    let x = name_at f.names i.reference in
+    let all = inclusive_descendants f.trees (name_at f.names c.args.node) in
+    elim (cases_Bool (is_in name_eq x all)) [
+      | inl t ↦ elim (c.loop-at.invariant.ahead k i there (In-from x all t)) [
+        | inr left ↦ left
+        | inl from ↦ absurd (subst (λ o. from_key f c.args.node o x) c.in_default.is from)
+      ]
+      | inr t ↦ elim (may k) [
+        | inl left ↦ left
+        | inr kept ↦
+            let outside = outside-test f.trees (name_at f.names c.args.node) x (Once-forest f e.once e.only) (In-not x all t) in
+            subst (λ o. IsLeftIf f c.args.node o (slice_get now k)) (sym there)
+            (subst (IsLeftIf f c.args.node (Some i)) (sym (kept ∙ there)) (left-outside f c.args.node i (c.requires.iterators k i there) outside))
+      ]
+    ])

@@ -1,0 +1,70 @@
+//! At which nodes an owner's iterators stand: their references in a sorted list, where those at one node are found by
+//! binary search.
+ghost use Rattle.std.specs.Prelude.{◌≡◌, ◌⊎◌, ℕ, ◌<◌, ◌≤◌, length, slice_index_or, IsSome};
+ghost use Rattle.std.specs.List.{Contains};
+ghost use Rattle.std.specs.Option.{ForSome};
+ghost use Rattle.std.specs.Vec.{vec_len, vec_capacity};
+ghost use Rattle.dom_traversal.specs.References.{AreSorted, IsBefore, IsUpTo, reference_at};
+
+use node_arena::Key;
+
+/// The node that is the reference of an iterator, and the iterator's number.
+#[derive(Clone, Copy)]
+pub(crate) struct Reference {
+    node: Key,
+    number: usize,
+}
+
+/// Where the references begin that are not before that of an iterator at a node.
+fn place_of(references: &[Reference], node: Key, number: usize) -> usize
+    requires { AreSorted references.now }
+    ensures within { result ≤ length references.now }
+    ensures before { (k : ℕ) (d : Reference) → k < result → IsBefore (slice_index_or references.now k d) (reference_at node number) }
+    ensures from { (k : ℕ) (d : Reference) → result ≤ k → k < length references.now → IsUpTo (reference_at node number) (slice_index_or references.now k d) }
+{
+    references.partition_point(|reference| reference.node < node
+        || reference.node == node && reference.number < number)
+}
+
+/// The least number, from `least` on, of an iterator whose reference is a node.
+pub(crate) fn number_at(references: &[Reference], node: Key, least: usize) -> Option<usize>
+    requires { AreSorted references.now }
+    ensures found { ForSome result (λ n. (least ≤ n) × Contains references.now (reference_at node n)) }
+    ensures least { (n : ℕ) → least ≤ n → Contains references.now (reference_at node n) → IsSome result × ForSome result (λ m. m ≤ n) }
+{
+    let place = place_of(references, node, least);
+    if place < references.len() && references[place].node == node {
+        return Some(references[place].number);
+    }
+    None
+}
+
+/// Lists the reference of one iterator more, for which there is room.
+pub(crate) fn list(references: &mut Vec<Reference>, number: usize, node: Key)
+    requires sorted { AreSorted references.old.items }
+    requires room { vec_len references.old < vec_capacity references.old }
+    ensures sorted { AreSorted references.new.items }
+    ensures listed { Contains references.new.items (reference_at node number) }
+    ensures kept { (x : Reference) → Contains references.old.items x → Contains references.new.items x }
+    ensures only { (x : Reference) → Contains references.new.items x → (x ≡ reference_at node number) ⊎ Contains references.old.items x }
+{
+    let place = place_of(references.as_slice(), node, number);
+    let _ = references.insert(place, Reference { node, number });
+}
+
+/// Brings the reference of an iterator to another node.
+pub(crate) fn bring(references: &mut Vec<Reference>, number: usize, from: Key, to: Key)
+    requires sorted { AreSorted references.old.items }
+    requires there { Contains references.old.items (reference_at from number) }
+    ensures sorted { AreSorted references.new.items }
+    ensures listed { Contains references.new.items (reference_at to number) }
+    ensures kept { (x : Reference) → (x ≡ reference_at from number → ⊥) → Contains references.old.items x → Contains references.new.items x }
+    ensures only { (x : Reference) → Contains references.new.items x → (x ≡ reference_at to number) ⊎ Contains references.old.items x }
+{
+    if from == to {
+        return;
+    }
+    let place = place_of(references.as_slice(), from, number);
+    let _ = references.remove(place);
+    list(references, number, to);
+}
