@@ -3,7 +3,7 @@
  *
  * Nodes without the protocol's lines are in owlantimony_dom.h, which stands on this header.
  *
- * Link with -lowlantimony (`pkg-config --cflags --libs owlantimony`), or with libdom_c.a and the kit's libc_c.a.
+ * Link with -lowlantimony (`pkg-config --cflags --libs owlantimony`), or with bindings/out/libowlantimony.a.
  *
  *     owlantimony_session session = OWLANTIMONY_SESSION_INIT;
  *     const char *text;
@@ -29,7 +29,6 @@
 #include <stdbool.h>
 #include <stddef.h>
 #include <stdint.h>
-#include <stdlib.h>
 
 #define OWLANTIMONY_VERSION_MAJOR 0
 #define OWLANTIMONY_VERSION_MINOR 1
@@ -54,25 +53,24 @@ typedef enum owlantimony_status {
     OWLANTIMONY_NULL = 6           /* a pointer is null that may not be; nothing was done */
 } owlantimony_status;
 
-/* A session. Its fields are the library's and this header's. */
+/* A session. Its fields are the library's. */
 typedef struct owlantimony_session {
     bool is_open;
     void *held;
-    char *text;
-    size_t room;
 } owlantimony_session;
 
 /* What a session is before it is opened: closed. */
-#define OWLANTIMONY_SESSION_INIT {false, NULL, NULL, 0}
+#define OWLANTIMONY_SESSION_INIT {false, NULL}
 
 /*
- * The library's own functions, for a language that reaches them itself. They know the first two fields of a session alone. No pointer is
- * null, also where its size is 0, and a size of bytes follows their address. Their contracts are proved (crates/dom_c/src/exports.rt).
+ * The library's own functions, for a language that reaches them itself. No pointer is null, also where its size is 0, and a size of bytes
+ * follows their address. Their contracts are proved (crates/dom_c/src/exports.rt).
  */
 uint32_t dom_session_new(owlantimony_session *session);
 uint32_t dom_session_line(owlantimony_session *session, const uint8_t *line, size_t line_size, size_t *size);
 uint32_t dom_session_finish(owlantimony_session *session, size_t *size);
 uint32_t dom_session_text(owlantimony_session *session, uint8_t *buffer, size_t buffer_size, size_t *size);
+uint32_t dom_session_answer(owlantimony_session *session, const uint8_t **text, size_t *size);
 uint32_t dom_session_view(owlantimony_session *session, const uint8_t *owner, size_t owner_size, uint8_t *buffer, size_t buffer_size,
                           size_t *size);
 uint32_t dom_session_drop(owlantimony_session *session);
@@ -138,44 +136,25 @@ static inline owlantimony_status owlantimony_view(owlantimony_session *session, 
                                                 buffer ? (uint8_t *)buffer : &none, buffer_size, size);
 }
 
-/* Gives the text of the last answer, with a byte 0 behind it, in a block of the session's: it holds until the next call on the session.
+/* Gives the text of the last answer where it stands, with a byte 0 behind it. The bytes are the library's: they are only read, and stay until
+ * the next call on the session.
  *   DONE: *text is the text, and *size its size without the byte 0.   CLOSED_HANDLE, MEMORY: *text is null, and *size is 0; where
  *   memory was refused to this call alone, nothing is lost and the session is as it was. */
 static inline owlantimony_status owlantimony_answer(owlantimony_session *session, const char **text, size_t *size)
 {
+    const uint8_t *at = NULL;
     if (!session || !text || !size)
         return OWLANTIMONY_NULL;
-    *text = NULL;
-    owlantimony_status status = owlantimony_text(session, session->text, session->room ? session->room - 1 : 0, size);
-    if (status == OWLANTIMONY_SHORT || (status == OWLANTIMONY_DONE && !session->room)) {
-        size_t room = *size + *size / 2 + 64;
-        char *block = (char *)calloc(room, 1);
-        if (!block) {
-            *size = 0;
-            return OWLANTIMONY_MEMORY;
-        }
-        free(session->text);
-        session->text = block;
-        session->room = room;
-        status = owlantimony_text(session, block, room - 1, size);
-    }
-    if (status == OWLANTIMONY_DONE) {
-        session->text[*size] = 0;
-        *text = session->text;
-    }
+    owlantimony_status status = (owlantimony_status)dom_session_answer(session, &at, size);
+    *text = (const char *)at;
     return status;
 }
 
-/* Closes a session, and frees what it holds. It may be opened again.
+/* Closes a session, which may be opened again. That what it held is freed is tested, and in no contract.
  *   DONE: it is closed.   CLOSED_HANDLE: it was.   NULL: nothing was done. */
 static inline owlantimony_status owlantimony_drop(owlantimony_session *session)
 {
-    if (!session)
-        return OWLANTIMONY_NULL;
-    free(session->text);
-    session->text = NULL;
-    session->room = 0;
-    return (owlantimony_status)dom_session_drop(session);
+    return session ? (owlantimony_status)dom_session_drop(session) : OWLANTIMONY_NULL;
 }
 
 #ifdef __cplusplus

@@ -6,12 +6,27 @@
 
 static inline owl_status owli_tell(owl_dom *dom, char *told);
 
+/* Memory was refused: the document does nothing more, so that nobody goes on from what was done by half. */
+static inline owl_status owli_fail(owl_dom *dom)
+{
+    dom->has_failed = true;
+    return OWL_MEMORY;
+}
+
+/* Whether an owner can act: CLOSED where the document is not open or has no such owner, MEMORY where it has failed. */
+static inline owl_status owli_state(owl_owner owner)
+{
+    if (owner.index >= owner.dom->owner_count)
+        return OWL_CLOSED;
+    return owner.dom->has_failed ? OWL_MEMORY : OWL_OK;
+}
+
 /* Gives the owner with a word, which is added. */
 static inline owl_status owli_add_owner(owl_dom *dom, const char *word, owl_owner *made)
 {
     char(*words)[80] = (char(*)[80])realloc(dom->words, (dom->owner_count + 1) * sizeof *words);
     if (!words)
-        return OWL_MEMORY;
+        return owli_fail(dom);
     dom->words = words;
     snprintf(words[dom->owner_count], sizeof *words, "%s", word);
     made->dom = dom;
@@ -19,31 +34,37 @@ static inline owl_status owli_add_owner(owl_dom *dom, const char *word, owl_owne
     return OWL_OK;
 }
 
-/* Begins a line: the owner's word, and the command. */
-static inline void owli_begin(owl_owner owner, const char *command)
+/* Begins a line: the owner's word, and the command. Where the owner can't act nothing is put into the line, now or later. */
+static inline owl_status owli_begin(owl_owner owner, const char *command)
 {
     owl_dom *dom = owner.dom;
+    owl_status status = owli_state(owner);
     dom->line.size = 0;
-    dom->line.has_failed = false;
+    dom->line.has_failed = status != OWL_OK;
+    if (status)
+        return status;
     owli_put(&dom->line, dom->words[owner.index], strlen(dom->words[owner.index]));
     owli_put(&dom->line, " ", 1);
     owli_put(&dom->line, command, strlen(command));
+    return OWL_OK;
 }
 
-/* Puts an own node in the line; another owner's is refused. */
+/* Puts an own node in the line; another owner's is refused, and so is none. */
 static inline owl_status owli_node(owl_owner owner, owl_node node)
 {
     char name[16];
     snprintf(name, sizeof name, "%c%u", owner.index ? 'm' : 'n', (unsigned)node.number);
     owli_word(&owner.dom->line, name);
+    if (owl_is_none(node))
+        return OWL_UNKNOWN;
     return node.owner == owner.index ? OWL_OK : OWL_FOREIGN;
 }
 
 /* Begins a line: the owner's word, the command, and a node. */
 static inline owl_status owli_begin_on(owl_owner owner, const char *command, owl_node node)
 {
-    owli_begin(owner, command);
-    return owli_node(owner, node);
+    owl_status status = owli_begin(owner, command);
+    return status ? status : owli_node(owner, node);
 }
 
 /* Puts the words of a listener or an event in the line. */
@@ -75,31 +96,36 @@ static inline char *owli_cut_reply(char *text, size_t size)
     return behind;
 }
 
-/* Runs the line, and takes the answer apart: `value` is the reply's, and *told a copy of the lines in front of it, or NULL. The turn is
+/* Runs the line, and takes a copy of the answer apart: `value` is the reply's, and *told a copy of the lines in front of it, or NULL. The turn is
  * then as it is given here, where the line was not refused. */
 static inline owl_status owli_send(owl_dom *dom, uint32_t turn, char **told)
 {
     const char *text;
     size_t size;
     *told = NULL;
-    if (dom->line.has_failed)
-        return OWL_MEMORY;
+    if (dom->line.has_failed || dom->has_failed)
+        return owli_fail(dom);
     owlantimony_status status = owlantimony_line(&dom->session, dom->line.bytes, dom->line.size, &size);
     if (status == OWLANTIMONY_DONE)
         status = owlantimony_answer(&dom->session, &text, &size);
     if (status != OWLANTIMONY_DONE)
-        return status == OWLANTIMONY_MEMORY ? OWL_MEMORY : OWL_CLOSED;
-    char *reply = owli_cut_reply(dom->session.text, size);
+        return owli_fail(dom);
+    dom->answer.size = 0;
+    dom->answer.has_failed = false;
+    owli_put(&dom->answer, text, size);
+    if (dom->answer.has_failed)
+        return owli_fail(dom);
+    char *reply = owli_cut_reply(dom->answer.bytes, size);
     if (reply[0] == '!')
         return owli_refusal(reply + 2);
     dom->turn = turn;
     dom->value = reply[2] ? reply + 3 : reply + 2;
-    if (!*text)
+    if (!dom->answer.bytes[0])
         return OWL_OK;
-    *told = (char *)malloc(strlen(text) + 1);
+    *told = (char *)malloc(strlen(dom->answer.bytes) + 1);
     if (!*told)
-        return OWL_MEMORY;
-    strcpy(*told, text);
+        return owli_fail(dom);
+    strcpy(*told, dom->answer.bytes);
     return OWL_OK;
 }
 
@@ -113,26 +139,27 @@ static inline owl_status owli_end_turn(owl_dom *dom)
     while (status == OWL_OK && dom->turn != UINT32_MAX) {
         char *told;
         owl_owner owner = {dom, dom->turn};
-        owli_begin(owner, ".");
-        status = owli_send(dom, UINT32_MAX, &told);
-        if (status == OWL_OK)
-            status = owli_tell(dom, told);
+        status = owli_begin(owner, ".");
+        status = status ? status : owli_send(dom, UINT32_MAX, &told);
+        status = status ? status : owli_tell(dom, told);
     }
     free(dom->line.bytes);
     dom->line = kept;
     return status;
 }
 
+/* Ends another owner's turn, if one is open: callbacks are called here. Between this and the owner's own line there are none. */
+static inline owl_status owli_take_turn(owl_owner owner)
+{
+    owl_dom *dom = owner.dom;
+    return dom->turn == owner.index || dom->turn == UINT32_MAX ? OWL_OK : owli_end_turn(dom);
+}
+
 /* Runs the line of an owner, whose turn then it is. */
 static inline owl_status owli_exchange(owl_owner owner, char **told)
 {
-    owl_dom *dom = owner.dom;
-    if (dom->turn != owner.index && dom->turn != UINT32_MAX) {
-        owl_status status = owli_end_turn(dom);
-        if (status)
-            return status;
-    }
-    return owli_send(dom, owner.index, told);
+    owl_status status = owli_take_turn(owner);
+    return status ? status : owli_send(owner.dom, owner.index, told);
 }
 
 /* Runs a line that tells nobody anything. */
@@ -147,13 +174,10 @@ static inline owl_status owli_run(owl_owner owner)
 /* Runs a command on nodes. */
 static inline owl_status owli_run_on(owl_owner owner, const char *command, const owl_node *nodes, size_t count)
 {
-    owli_begin(owner, command);
-    for (size_t at = 0; at < count; at++) {
-        owl_status status = owli_node(owner, nodes[at]);
-        if (status)
-            return status;
-    }
-    return owli_run(owner);
+    owl_status status = owli_begin(owner, command);
+    for (size_t at = 0; at < count && !status; at++)
+        status = owli_node(owner, nodes[at]);
+    return status ? status : owli_run(owner);
 }
 
 /* Reads the name of a node as an owner is shown it, and gives the place behind it. */
@@ -188,6 +212,15 @@ static inline owl_status owli_read_list(owl_owner owner, const char *list, owl_n
     return found > room ? OWL_SHORT : OWL_OK;
 }
 
+/* Reads what a node is from the text of its tree: the word for its kind, with all that is behind it. */
+static inline owl_status owli_read_kind(owl_owner owner, owl_node node, char **kind)
+{
+    owl_status status = owli_run_on(owner, "tree", &node, 1);
+    if (!status)
+        *kind = strchr(owner.dom->value, ' ') + 1;
+    return status;
+}
+
 /* Runs a line that makes a node. */
 static inline owl_status owli_run_for_node(owl_owner owner, owl_node *made)
 {
@@ -197,23 +230,40 @@ static inline owl_status owli_run_for_node(owl_owner owner, owl_node *made)
     return status;
 }
 
-/* Gives the place for one more listener. While events are told, no place is given again. */
-static inline bool owli_new_listener(owl_dom *dom, size_t *at)
+/* Makes room for one more listener, if memory is there: those that are gone give theirs, and where half of all is taken then there is more. */
+static inline bool owli_room_for_listener(owl_dom *dom)
 {
-    for (*at = 0; !dom->telling && *at < dom->listener_count; ++*at)
-        if (!dom->listeners[*at].is_there)
-            return true;
-    *at = dom->listener_count;
-    if (*at == dom->listener_room) {
-        size_t room = 2 * dom->listener_room + 16;
-        owli_listener *listeners = (owli_listener *)realloc(dom->listeners, room * sizeof *listeners);
-        if (!listeners)
-            return false;
-        dom->listeners = listeners;
-        dom->listener_room = room;
-    }
-    dom->listeners[dom->listener_count++].is_there = false;
+    size_t kept = 0;
+    if (dom->listener_count < dom->listener_room)
+        return true;
+    for (size_t at = 0; at < dom->listener_count; at++)
+        if (dom->listeners[at].is_there)
+            dom->listeners[kept++] = dom->listeners[at];
+    dom->listener_count = kept;
+    if (2 * kept < dom->listener_room)
+        return true;
+    size_t room = 2 * dom->listener_room + 16;
+    owli_listener *listeners = (owli_listener *)realloc(dom->listeners, room * sizeof *listeners);
+    if (!listeners)
+        return false;
+    dom->listeners = listeners;
+    dom->listener_room = room;
     return true;
+}
+
+/* The listener with a number, or NULL where it is gone. They stand in the order of their numbers. It stays where it is until one is added. */
+static inline owli_listener *owli_find_listener(owl_dom *dom, size_t listener)
+{
+    size_t from = 0, to = dom->listener_count;
+    while (from < to) {
+        size_t middle = from + (to - from) / 2;
+        if (dom->listeners[middle].listener < listener)
+            from = middle + 1;
+        else
+            to = middle;
+    }
+    bool is_it = from < dom->listener_count && dom->listeners[from].listener == listener && dom->listeners[from].is_there;
+    return is_it ? &dom->listeners[from] : NULL;
 }
 
 /* Calls back for one line that shows an event: `X event LABEL TYPE phase=P target=A current=B related=C path=[..]`. */
@@ -227,16 +277,15 @@ static inline owl_status owli_tell_line(owl_dom *dom, char *line)
         if (*line)
             *line++ = 0;
     }
-    size_t label = strtoul(field[2] + 1, NULL, 10);
-    if (label >= dom->listener_count || !dom->listeners[label].is_there)
+    owli_listener *found = owli_find_listener(dom, strtoul(field[2] + 1, NULL, 10));
+    if (!found)
         return OWL_OK;
-    owli_listener there = dom->listeners[label];
-    owl_owner owner = {dom, there.owner};
-    if (there.is_once)
-        dom->listeners[label].is_there = false;
+    owli_listener there = *found;
+    owl_owner owner = {dom, there.node.owner};
+    found->is_there = !there.is_once;
     owl_node *path = (owl_node *)malloc((strlen(field[8]) / 3 + 1) * sizeof *path);
     if (!path)
-        return OWL_MEMORY;
+        return owli_fail(dom);
     event.type = field[3];
     event.phase = field[4][6] - '0';
     owli_read_name(owner, field[5] + 7, &event.target);
@@ -253,14 +302,12 @@ static inline owl_status owli_tell_line(owl_dom *dom, char *line)
 static inline owl_status owli_tell(owl_dom *dom, char *told)
 {
     owl_status status = OWL_OK;
-    dom->telling++;
     for (char *line = told; line && *line && status == OWL_OK;) {
         char *end = strchr(line, '\n');
         *end = 0;
         status = owli_tell_line(dom, line);
         line = end + 1;
     }
-    dom->telling--;
     free(told);
     return status;
 }

@@ -16,11 +16,25 @@
  * An owner, the page or a component, acts by its `owl_owner`, and on its own nodes alone: a node of another owner is refused before a line
  * is sent, and by the engine too. A node is a small value that is copied freely, and stays what it is until the document is closed.
  *
- * Every call answers OWL_OK or why it was not done; after a refusal nothing has changed, and what the call would write is not written.
- * Texts are UTF-8 and end in a byte 0. A text that a call gives holds until the next call on the document.
+ * Every call answers OWL_OK or why it was not done (owl_status and owl_message, in owlantimony_lines.h). After a refusal nothing has changed, but
+ * that another owner's turn may have ended, and what the call would write is not written; SHORT alone writes. After MEMORY the document does
+ * nothing more: each later call answers MEMORY until it is closed, and what was done of the call that met it is unknown. On a document that is
+ * not open each call but owl_open answers CLOSED.
  *
- * An owner that acts ends the turn of the one before, and then events of type slotchange are told. What owlantimony.h asks of the program
- * for a session it has to keep for an owl_dom.
+ * Texts are UTF-8 and end in a byte 0. A lone surrogate stands in the three bytes that it would have; all else that is no UTF-8 is SYNTAX. A call
+ * sends a line of the protocol, which has at most 65,536 bytes: more is SYNTAX. A character of a text takes one byte of it from space to ~, two
+ * for " and \, six else, and twelve past U+FFFF. A text that a call gives holds until the next call on the document, which may be given it.
+ * No pointer and no callback is null, but where a call says that it may be.
+ *
+ * A call of an owner first ends the turn of another one that acted before. So any call may call back before its own work, with the events of type
+ * slotchange that this brings. Those of the last turn come by owl_end_turn alone.
+ *
+ * What an owner made counts for LIMIT also where it was removed, and stays in memory until owl_close.
+ *
+ * What the program has to keep:
+ *   - An owl_dom begins as OWL_DOM_INIT. It stays where it is from owl_open to owl_close, as its owners point to it, and is never copied.
+ *   - One call at a time has a document, and it stays on the thread that opened it. Other documents may be used by other threads.
+ *   - malloc, realloc and free, signals and forks are as owlantimony.h asks.
  */
 #ifndef OWLANTIMONY_DOM_H
 #define OWLANTIMONY_DOM_H
@@ -61,17 +75,20 @@ typedef struct owl_event {
     const char *type;
     int phase; /* 1 on the way in, 2 at a target, 3 on the way out */
     owl_node target, current, related;
-    const owl_node *path;
+    const owl_node *path; /* from the target outwards, without the nodes that are hidden from the current one */
     size_t path_count;
 } owl_event;
 
-/* What is called once for each time that a listener was called in a dispatch, after the dispatch. It may call everything but owl_close. */
+/* What is called once for each time that a listener was called in a dispatch, after the dispatch, but not if owl_unlisten has taken that
+ * listener away since. It may call everything but owl_close, with what it was shown too; what it dispatches is told before the next callback
+ * is called. It returns: it may not throw nor longjmp past this header. */
 typedef void owl_callback(void *data, const owl_event *event);
 
 typedef struct owli_listener {
     owl_callback *callback;
     void *data;
-    uint32_t owner, number;
+    owl_node node;
+    size_t listener; /* its number */
     bool is_there, is_once, is_capture;
     char type[65];
 } owli_listener;
@@ -79,19 +96,19 @@ typedef struct owli_listener {
 /* A document with all its owners. Its fields are this header's. */
 typedef struct owl_dom {
     owlantimony_session session;
-    owli_text line;
+    owli_text line, answer;
     char (*words)[80];
-    size_t owner_count, listener_count, listener_room;
+    size_t owner_count, listeners_made, listener_count, listener_room;
     owli_listener *listeners;
     uint32_t turn;
-    int telling;
     char *value;
+    bool has_failed;
 } owl_dom;
 
 /* What a document is before it is opened. */
-#define OWL_DOM_INIT {OWLANTIMONY_SESSION_INIT, {NULL, 0, 0, false}, NULL, 0, 0, 0, NULL, UINT32_MAX, 0, NULL}
+#define OWL_DOM_INIT {OWLANTIMONY_SESSION_INIT, {NULL, 0, 0, false}, {NULL, 0, 0, false}, NULL, 0, 0, 0, 0, NULL, UINT32_MAX, NULL, false}
 
-/* Who acts: the page or a component. */
+/* Who acts: the page or a component. A document has its own, from its opening to its closing. */
 typedef struct owl_owner {
     owl_dom *dom;
     uint32_t index;
@@ -99,24 +116,30 @@ typedef struct owl_owner {
 
 #include "owlantimony_calls.h"
 
-/* Opens a document, and gives its page. The page's first node is a document, owl_root(*page). */
-static inline owl_status owl_open(owl_dom *dom, owl_owner *page)
-{
-    owlantimony_status status = owlantimony_new(&dom->session);
-    if (status != OWLANTIMONY_DONE)
-        return status == OWLANTIMONY_MEMORY ? OWL_MEMORY : OWL_CLOSED;
-    return owli_add_owner(dom, "p", page);
-}
-
-/* Frees all of a document: its owners and nodes are gone. No callback is called. */
+/* Frees all of a document, if it is open. No callback is called. It may be opened again: its owners and nodes from before are not to be used
+ * then, as they may be taken for new ones. */
 static inline void owl_close(owl_dom *dom)
 {
     owlantimony_drop(&dom->session);
     free(dom->line.bytes);
+    free(dom->answer.bytes);
     free(dom->words);
     free(dom->listeners);
     owl_dom closed = OWL_DOM_INIT;
     *dom = closed;
+}
+
+/* Opens a document, and gives its page. The page's first node is a document, owl_root(*page).
+ * OPEN: it is open already, and nothing was done. MEMORY: it stays closed. */
+static inline owl_status owl_open(owl_dom *dom, owl_owner *page)
+{
+    owlantimony_status opened = owlantimony_new(&dom->session);
+    if (opened != OWLANTIMONY_DONE)
+        return opened == OWLANTIMONY_MEMORY ? OWL_MEMORY : OWL_OPEN;
+    owl_status status = owli_add_owner(dom, "p", page);
+    if (status)
+        owl_close(dom);
+    return status;
 }
 
 /* The page's first document, or the shadow root of a component. */
@@ -126,39 +149,42 @@ static inline owl_node owl_root(owl_owner owner)
     return root;
 }
 
-/* Ends the open turn: slotchange is told, until nothing is left. */
+/* Ends the open turn: slotchange is told, until nothing is left. The end of the last turn is told so alone, and by owl_close not at all. */
 static inline owl_status owl_end_turn(owl_dom *dom)
 {
-    return owli_end_turn(dom);
+    owl_owner page = {dom, 0};
+    owl_status status = owli_state(page);
+    return status ? status : owli_end_turn(dom);
 }
 
-/* ---- making nodes: the new node is written to *made */
+/* ---- making nodes: the new node is written to *made. LIMIT: the owner has made 1,000,000. */
 
+/* INVALID_CHARACTER: a name is a letter or '_', and then letters, digits, '-' and '_', all of them ASCII. */
 static inline owl_status owl_create_element(owl_owner owner, const char *name, owl_node *made)
 {
-    owli_begin(owner, "new element");
-    owli_word(&owner.dom->line, name);
-    return owli_run_for_node(owner, made);
+    owl_status status = owli_begin(owner, "new element");
+    owli_name(&owner.dom->line, name);
+    return status ? status : owli_run_for_node(owner, made);
 }
 
 static inline owl_status owl_create_text(owl_owner owner, const char *data, owl_node *made)
 {
-    owli_begin(owner, "new text");
+    owl_status status = owli_begin(owner, "new text");
     owli_string(&owner.dom->line, data);
-    return owli_run_for_node(owner, made);
+    return status ? status : owli_run_for_node(owner, made);
 }
 
 static inline owl_status owl_create_comment(owl_owner owner, const char *data, owl_node *made)
 {
-    owli_begin(owner, "new comment");
+    owl_status status = owli_begin(owner, "new comment");
     owli_string(&owner.dom->line, data);
-    return owli_run_for_node(owner, made);
+    return status ? status : owli_run_for_node(owner, made);
 }
 
 static inline owl_status owl_create_fragment(owl_owner owner, owl_node *made)
 {
-    owli_begin(owner, "new fragment");
-    return owli_run_for_node(owner, made);
+    owl_status status = owli_begin(owner, "new fragment");
+    return status ? status : owli_run_for_node(owner, made);
 }
 
 /* ---- changing trees */
@@ -170,11 +196,11 @@ static inline owl_status owl_append(owl_owner owner, owl_node parent, owl_node n
     return owli_run_on(owner, "append", nodes, 2);
 }
 
-/* Inserts node before a child of parent. HIERARCHY or NOT_FOUND where the Standard refuses it. */
+/* Inserts node before a child of parent, or last where the child is OWL_NONE. HIERARCHY or NOT_FOUND where the Standard refuses it. */
 static inline owl_status owl_insert(owl_owner owner, owl_node parent, owl_node node, owl_node child)
 {
     const owl_node nodes[] = {parent, node, child};
-    return owli_run_on(owner, "insert", nodes, 3);
+    return owl_is_none(child) ? owli_run_on(owner, "append", nodes, 2) : owli_run_on(owner, "insert", nodes, 3);
 }
 
 /* Puts node in the place of a child of parent. HIERARCHY or NOT_FOUND where the Standard refuses it. */
@@ -200,18 +226,20 @@ static inline owl_status owl_set_text(owl_owner owner, owl_node node, const char
 
 /* ---- attributes */
 
+/* INVALID_CHARACTER: a name is as owl_create_element has it. */
 static inline owl_status owl_set_attribute(owl_owner owner, owl_node element, const char *name, const char *value)
 {
     owl_status status = owli_begin_on(owner, "set", element);
-    owli_word(&owner.dom->line, name);
+    owli_name(&owner.dom->line, name);
     owli_string(&owner.dom->line, value);
     return status ? status : owli_run(owner);
 }
 
+/* Takes an attribute away, if it is there. */
 static inline owl_status owl_remove_attribute(owl_owner owner, owl_node element, const char *name)
 {
     owl_status status = owli_begin_on(owner, "unset", element);
-    owli_word(&owner.dom->line, name);
+    owli_name(&owner.dom->line, name);
     return status ? status : owli_run(owner);
 }
 
@@ -219,10 +247,38 @@ static inline owl_status owl_remove_attribute(owl_owner owner, owl_node element,
 static inline owl_status owl_get_attribute(owl_owner owner, owl_node element, const char *name, const char **value)
 {
     owl_status status = owli_begin_on(owner, "attr", element);
-    owli_word(&owner.dom->line, name);
+    owli_name(&owner.dom->line, name);
     status = status ? status : owli_run(owner);
     if (!status)
         *value = owner.dom->value[0] == '"' ? owli_unquote(owner.dom->value) : NULL;
+    return status;
+}
+
+/* Writes whether an element has an attribute. */
+static inline owl_status owl_has_attribute(owl_owner owner, owl_node element, const char *name, bool *has)
+{
+    const char *value;
+    owl_status status = owl_get_attribute(owner, element, name, &value);
+    if (!status)
+        *has = value != NULL;
+    return status;
+}
+
+/* Takes an attribute away if it is there, and else adds it, empty. Writes whether it is there then. INVALID_CHARACTER as owl_set_attribute. */
+static inline owl_status owl_toggle_attribute(owl_owner owner, owl_node element, const char *name, bool *has)
+{
+    owli_text kept = {NULL, 0, 0, false};
+    bool had = false;
+    owl_status status = owli_state(owner);
+    if (status)
+        return status;
+    owli_put(&kept, name, strlen(name));
+    status = kept.has_failed ? owli_fail(owner.dom) : owl_has_attribute(owner, element, kept.bytes, &had);
+    if (!status)
+        status = had ? owl_remove_attribute(owner, element, kept.bytes) : owl_set_attribute(owner, element, kept.bytes, "");
+    if (!status)
+        *has = !had;
+    free(kept.bytes);
     return status;
 }
 
@@ -237,14 +293,16 @@ static inline owl_status owl_parent(owl_owner owner, owl_node node, owl_node *pa
     return status;
 }
 
-/* Writes the children to nodes, which has room for so many, and their count to *count. SHORT: the count alone is written. */
+/* Writes the children to nodes, which has room for so many and may be null where that is 0, and their count to *count.
+ * SHORT: there are more than that, the first of which are written. */
 static inline owl_status owl_children(owl_owner owner, owl_node node, owl_node *nodes, size_t room, size_t *count)
 {
     owl_status status = owli_run_on(owner, "children", &node, 1);
     return status ? status : owli_read_list(owner, owner.dom->value, nodes, room, count);
 }
 
-/* Writes the elements below a node that match a selector, in tree order, as owl_children does. SELECTOR: the text is none here. */
+/* Writes the elements below a node that match a selector, in tree order, as owl_children does. A selector has names, *, #id, .class, attributes,
+ * :first-child, :last-child, :not() of one compound, the four combinators, and commas (docs/PROTOCOL.md, 'Selectors'). SELECTOR: any other. */
 static inline owl_status owl_query(owl_owner owner, owl_node node, const char *selector, owl_node *nodes, size_t room, size_t *count)
 {
     owl_status status = owli_begin_on(owner, "query", node);
@@ -253,7 +311,7 @@ static inline owl_status owl_query(owl_owner owner, owl_node node, const char *s
     return status ? status : owli_read_list(owner, owner.dom->value, nodes, room, count);
 }
 
-/* Writes whether an element matches a selector. SELECTOR: the text is none here. */
+/* Writes whether an element matches a selector. SELECTOR: as owl_query has it. */
 static inline owl_status owl_matches(owl_owner owner, owl_node element, const char *selector, bool *does)
 {
     owl_status status = owli_begin_on(owner, "matches", element);
@@ -267,13 +325,40 @@ static inline owl_status owl_matches(owl_owner owner, owl_node element, const ch
 /* Writes the data of a Text or a Comment. WRONG_KIND: it is another node. */
 static inline owl_status owl_data(owl_owner owner, owl_node node, const char **data)
 {
-    owl_status status = owli_run_on(owner, "tree", &node, 1);
+    char *kind;
+    owl_status status = owli_read_kind(owner, node, &kind);
     if (status)
         return status;
-    char *kind = strchr(owner.dom->value, ' ') + 1;
     if (strncmp(kind, "text ", 5) && strncmp(kind, "comment ", 8))
         return OWL_WRONG_KIND;
     *data = owli_unquote(strchr(kind, ' ') + 1);
+    return OWL_OK;
+}
+
+/* Writes the DOM's nodeType: 1 an element, 3 a Text, 8 a Comment, 9 a document, 11 a fragment or a shadow root. Takes as long as owl_tree. */
+static inline owl_status owl_node_type(owl_owner owner, owl_node node, int *type)
+{
+    static const char *const kinds[] = {"element", "text", "comment", "document", "fragment", "shadow"};
+    static const int types[] = {1, 3, 8, 9, 11, 11};
+    char *kind;
+    owl_status status = owli_read_kind(owner, node, &kind);
+    for (size_t at = 0; !status && at < sizeof types / sizeof *types; at++)
+        if (strcspn(kind, " )") == strlen(kinds[at]) && !strncmp(kind, kinds[at], strlen(kinds[at])))
+            *type = types[at];
+    return status;
+}
+
+/* Writes the name of an element. WRONG_KIND: it is another node. Takes as long as owl_tree. */
+static inline owl_status owl_name(owl_owner owner, owl_node element, const char **name)
+{
+    char *kind;
+    owl_status status = owli_read_kind(owner, element, &kind);
+    if (status)
+        return status;
+    if (strncmp(kind, "element ", 8))
+        return OWL_WRONG_KIND;
+    kind[8 + strcspn(kind + 8, " )")] = 0;
+    *name = kind + 8;
     return OWL_OK;
 }
 
@@ -288,8 +373,9 @@ static inline owl_status owl_tree(owl_owner owner, owl_node node, const char **t
 
 /* ---- closed trees */
 
-/* Gives an element a closed tree, and the component that owns it. NOT_SUPPORTED: it can't be a host, or is one.
- * MEMORY, where it is this header's: the element is a host, and nobody can act in its tree. */
+/* Gives an element a closed tree, and the component that owns it. NOT_SUPPORTED: it is a host already, or its name is neither a custom element's nor
+ * article, aside, blockquote, body, div, footer, h1 to h6, header, main, nav, p, section or span. LIMIT: the owner has attached 1,000, or stands
+ * 8 deep. */
 static inline owl_status owl_attach(owl_owner owner, owl_node element, owl_owner *component)
 {
     owl_status status = owli_run_on(owner, "attach", &element, 1);
@@ -303,72 +389,7 @@ static inline owl_status owl_assigned(owl_owner owner, owl_node slot, owl_node *
     return status ? status : owli_read_list(owner, owner.dom->value, nodes, room, count);
 }
 
-/* ---- events */
-
-/* Adds a listener with OWL_CAPTURE, OWL_ONCE, OWL_PASSIVE joined, and writes its number, for owl_unlisten, to *listener if that is not
- * null. SYNTAX: a type is 1 to 64 letters, digits, '-', '_', '.' and ':'. MEMORY, where it is this header's: there is no listener. */
-static inline owl_status owl_listen(owl_owner owner, owl_node node, const char *type, owl_action action, int words, owl_callback *callback,
-                                    void *data, size_t *listener)
-{
-    static const char *const actions[] = {"log", "stop", "stop-now", "cancel"};
-    size_t at;
-    if (strlen(type) > 64)
-        return OWL_SYNTAX;
-    if (!owli_new_listener(owner.dom, &at))
-        return OWL_MEMORY;
-    owl_status status = owli_begin_on(owner, "listen", node);
-    owli_word(&owner.dom->line, type);
-    owli_label(owner.dom, at);
-    owli_word(&owner.dom->line, actions[action]);
-    owli_words(&owner.dom->line, words);
-    status = status ? status : owli_run(owner);
-    if (status)
-        return status;
-    owli_listener made = {callback, data, owner.index, node.number, true, (words & OWL_ONCE) != 0, (words & OWL_CAPTURE) != 0, ""};
-    strcpy(made.type, type);
-    owner.dom->listeners[at] = made;
-    if (listener)
-        *listener = at;
-    return OWL_OK;
-}
-
-/* Takes a listener away, by its number. One that is gone is left alone; FOREIGN: it is another owner's. */
-static inline owl_status owl_unlisten(owl_owner owner, size_t listener)
-{
-    if (listener >= owner.dom->listener_count || !owner.dom->listeners[listener].is_there)
-        return OWL_OK;
-    owli_listener there = owner.dom->listeners[listener];
-    owl_node node = {there.owner, there.number};
-    owl_status status = owli_begin_on(owner, "unlisten", node);
-    owli_word(&owner.dom->line, there.type);
-    owli_label(owner.dom, listener);
-    owli_words(&owner.dom->line, there.is_capture ? OWL_CAPTURE : 0);
-    status = status ? status : owli_run(owner);
-    if (!status)
-        owner.dom->listeners[listener].is_there = false;
-    return status;
-}
-
-/* Fires an event at a node with OWL_BUBBLES, OWL_CANCELABLE, OWL_COMPOSED joined, calls back for each listener that was called, and writes
- * to *is_kept, if that is not null, whether nobody cancelled it. TYPE: a component's related node has another root than the node.
- * MEMORY, where it is this header's: the event was fired, and not all callbacks were called. */
-static inline owl_status owl_dispatch(owl_owner owner, owl_node node, const char *type, int words, owl_node related, bool *is_kept)
-{
-    char *told;
-    owl_status status = owli_begin_on(owner, "dispatch", node);
-    owli_word(&owner.dom->line, type);
-    owli_words(&owner.dom->line, words);
-    if (!status && !owl_is_none(related)) {
-        owli_word(&owner.dom->line, "related");
-        status = owli_node(owner, related);
-    }
-    status = status ? status : owli_exchange(owner, &told);
-    if (status)
-        return status;
-    if (is_kept)
-        *is_kept = !strcmp(owner.dom->value, "true");
-    return owli_tell(owner.dom, told);
-}
+#include "owlantimony_events.h"
 
 #ifdef __cplusplus
 }

@@ -8,6 +8,7 @@
 #include "owlantimony.h"
 
 #include <stdio.h>
+#include <stdlib.h>
 #include <string.h>
 
 #ifdef __cplusplus
@@ -17,10 +18,10 @@ extern "C" {
 /* What a call answers: that it is done, a refusal by its number in docs/PROTOCOL.md, or what else came between. */
 typedef enum owl_status {
     OWL_OK = 0,
-    OWL_SYNTAX = 1,            /* a name or a type that no line can have, or a line past 65,536 bytes */
+    OWL_SYNTAX = 1,            /* a type or words that the call can't take, a text that is no UTF-8, or a line past 65,536 bytes */
     OWL_BUSY = 2,              /* the page has the turn: this header ends it, so nobody sees this */
     OWL_FOREIGN = 3,           /* a node is another owner's; no line was sent */
-    OWL_UNKNOWN = 4,           /* a node is not there */
+    OWL_UNKNOWN = 4,           /* a node is not there, or is OWL_NONE where the call does not say that it may be */
     OWL_WRONG_KIND = 5,        /* a node is not of the kind that the call asks for */
     OWL_HIERARCHY = 6,         /* HierarchyRequestError */
     OWL_NOT_FOUND = 7,         /* NotFoundError */
@@ -30,9 +31,10 @@ typedef enum owl_status {
     OWL_INDEX_SIZE = 11,       /* IndexSizeError */
     OWL_TYPE = 12,             /* TypeError */
     OWL_LIMIT = 13,            /* one owner has made as many as it may */
-    OWL_MEMORY = 14,           /* memory was refused: to the engine, then all later calls answer so; or to this header, as each call says */
-    OWL_CLOSED = 15,           /* the document is not open */
-    OWL_SHORT = 16             /* the array is too short; the count that it needs is written */
+    OWL_MEMORY = 14,           /* memory was refused: every later call but owl_close answers so, and nothing more is done */
+    OWL_CLOSED = 15,           /* the document is not open, or has no such owner */
+    OWL_SHORT = 16,            /* the array is too short: it is filled, and the count that it needs is written */
+    OWL_OPEN = 17              /* the document is open already */
 } owl_status;
 
 /* Gives what a status says, as a text that stays: the refusal's name, or one line without its end. */
@@ -41,8 +43,8 @@ static inline const char *owl_message(owl_status status)
     static const char *const names[] = {"ok",        "syntax",        "busy",              "foreign",  "unknown",    "wrong-kind",
                                         "hierarchy", "not-found",     "not-supported",     "invalid-character", "selector", "index-size",
                                         "type",      "limit",         "memory was refused", "the document is not open",
-                                        "the array is too short"};
-    return (unsigned)status <= OWL_SHORT ? names[status] : "no status";
+                                        "the array is too short", "the document is open already"};
+    return (unsigned)status <= OWL_OPEN ? names[status] : "no status";
 }
 
 /* A text that grows. Where memory is refused it stays as it is, and says so. */
@@ -71,32 +73,43 @@ static inline void owli_put(owli_text *text, const char *bytes, size_t size)
     text->bytes[text->size] = 0;
 }
 
-/* A word of a line, with the space in front of it. A text that is no word makes a line that is refused as `syntax`. */
-static inline void owli_word(owli_text *text, const char *word)
+static inline bool owli_is_word(const char *word)
 {
     bool is_word = word[0] && word[0] != '"';
     for (const char *at = word; *at; at++)
         is_word = is_word && *at > ' ' && *at <= '~';
-    owli_put(text, " ", 1);
-    owli_put(text, is_word ? word : " ", is_word ? strlen(word) : 1);
+    return is_word;
 }
 
-/* How many bytes the UTF-8 character at `at` has, and its code point; a byte that begins none stands for itself. Surrogates are taken. */
+/* A word of a line, with the space in front of it. A text that is no word makes a line that is refused as `syntax`. */
+static inline void owli_word(owli_text *text, const char *word)
+{
+    const char *put = owli_is_word(word) ? word : " ";
+    owli_put(text, " ", 1);
+    owli_put(text, put, strlen(put));
+}
+
+/* A name in a line. In place of a text that is no word stands a word that is no name: it is refused so, and nothing has it. */
+static inline void owli_name(owli_text *text, const char *name)
+{
+    owli_word(text, owli_is_word(name) ? name : "-");
+}
+
+/* How many bytes the UTF-8 character at `at` has, and its code point; 0 where none begins there. Surrogates are taken. */
 static inline size_t owli_character(const unsigned char *at, uint32_t *code)
 {
-    size_t more = at[0] >= 0xF0 ? 3 : at[0] >= 0xE0 ? 2 : at[0] >= 0xC2 ? 1 : 0;
+    static const uint32_t least[] = {0, 0x80, 0x800, 0x10000};
+    size_t more = at[0] < 0x80 ? 0 : at[0] < 0xE0 ? 1 : at[0] < 0xF0 ? 2 : 3;
     *code = more ? at[0] & (0x3Fu >> more) : at[0];
     for (size_t i = 1; i <= more; i++) {
-        if ((at[i] & 0xC0) != 0x80) {
-            *code = at[0];
-            return 1;
-        }
+        if ((at[i] & 0xC0) != 0x80)
+            return 0;
         *code = *code << 6 | (at[i] & 0x3Fu);
     }
-    return more + 1;
+    return *code >= least[more] && *code <= 0x10FFFF && (at[0] & 0xC0) != 0x80 && at[0] < 0xF8 ? more + 1 : 0;
 }
 
-/* A string of a line, with the space in front of it, of a text in UTF-8. */
+/* A string of a line, with the space in front of it, of a text in UTF-8. What is none makes a line that is refused as `syntax`. */
 static inline void owli_string(owli_text *text, const char *value)
 {
     const unsigned char *at = (const unsigned char *)value;
@@ -104,7 +117,12 @@ static inline void owli_string(owli_text *text, const char *value)
     while (*at) {
         uint32_t code;
         char unit[16];
-        at += owli_character(at, &code);
+        size_t size = owli_character(at, &code);
+        if (!size) {
+            owli_put(text, "\\!", 2);
+            break;
+        }
+        at += size;
         if (code == '"' || code == '\\')
             snprintf(unit, sizeof unit, "\\%c", (int)code);
         else if (code >= 0x20 && code < 0x7F)

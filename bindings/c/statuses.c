@@ -42,16 +42,23 @@ static void try_messages(void)
     WANT(OWLANTIMONY_VERSION_NUMBER >= 100 && strlen(OWLANTIMONY_VERSION) >= 5);
 }
 
-/* The answer as a text of the session's: after a short one, a long one and a short one again. */
+/* The answer where it stands: of no line yet, where memory is refused once, of a short line, a longer one and a short one again. */
 static void try_answers(void)
 {
     owlantimony_session session = OWLANTIMONY_SESSION_INIT;
-    const char *text;
+    const char *text, *again;
+    char copy[64];
     size_t size;
     WANT(owlantimony_new(&session) == OWLANTIMONY_DONE);
+    left = 1;
+    WANT(owlantimony_answer(&session, &text, &size) == OWLANTIMONY_MEMORY && size == 0 && !text);
+    left = -1;
     WANT(owlantimony_answer(&session, &text, &size) == OWLANTIMONY_DONE && size == 0 && !text[0]);
     WANT(owlantimony_line(&session, "p new element div", 17, &size) == OWLANTIMONY_DONE);
     WANT(owlantimony_answer(&session, &text, &size) == OWLANTIMONY_DONE && size == 8 && !strcmp(text, "p ok n1\n"));
+    WANT(owlantimony_answer(&session, &again, &size) == OWLANTIMONY_DONE && size == 8 && again == text);
+    WANT(owlantimony_text(&session, copy, sizeof copy, &size) == OWLANTIMONY_DONE && size == 8 && !memcmp(copy, "p ok n1\n", 8));
+    WANT(owlantimony_view(&session, "p", 1, copy, sizeof copy, &size) == OWLANTIMONY_DONE && size == 8);
     WANT(owlantimony_line(&session, "p tree n1", 9, &size) == OWLANTIMONY_DONE);
     WANT(owlantimony_answer(&session, &text, &size) == OWLANTIMONY_DONE && size == strlen(text));
     WANT(!strcmp(text, "p ok (n1 element div)\n"));

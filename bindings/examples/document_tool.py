@@ -9,7 +9,7 @@ Usage: document_tool.py WORD .. < PAGE       (each WORD is marked where it stand
 import sys
 from collections.abc import Iterator
 
-from owlantimony import html
+from owlantimony import html, units
 from owlantimony.dom import Document, Element, NodeFilter, Range
 
 
@@ -19,8 +19,9 @@ def mark(document: Document, word: str) -> Range:
         at = text.data.find(word)
         if at >= 0:
             made = document.createRange()
-            made.setStart(text, at)
-            made.setEnd(text, at + len(word))
+            start = units(text.data[:at])
+            made.setStart(text, start)
+            made.setEnd(text, start + units(word))
             return made
     raise SystemExit(f"document_tool: the page has no {word!r}")
 

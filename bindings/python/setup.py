@@ -1,4 +1,4 @@
-"""Puts the engine's library, which `make -C bindings` builds, beside the module in each package. All else is in pyproject.toml."""
+"""Puts the engine's library, which `bindings/check --build` builds, beside the module in each package. All else is in pyproject.toml."""
 import os
 import shutil
 
@@ -15,7 +15,7 @@ def library() -> str:
     for path in (os.path.join(HERE, "owlantimony", NAME), os.path.join(HERE, "..", "out", NAME)):
         if os.path.exists(path):
             return path
-    raise SystemExit(f"{NAME} is not built: run `make -C bindings` first")
+    raise SystemExit(f"{NAME} is not built: run `bindings/check --build` first, which takes about an hour")
 
 
 class BuildWithLibrary(build_py):

@@ -15,10 +15,12 @@
     with Session() as session:
         session.line("p new element div")       # ["p ok n1"]
 
+Offsets and lengths of the DOM count 16-bit code units: `units(text)` gives how many a string has.
+
 A session, with every document, node and component over it, is used by the thread that made it alone.
 """
 from .session import ClosedError, NoOwnerError, OutOfMemoryError, Session, WrongThreadError
-from .strings import quote, unquote
+from .strings import quote, units, unquote
 
 __version__ = "0.1.0"
-__all__ = ["ClosedError", "NoOwnerError", "OutOfMemoryError", "Session", "WrongThreadError", "quote", "unquote"]
+__all__ = ["ClosedError", "NoOwnerError", "OutOfMemoryError", "Session", "WrongThreadError", "quote", "units", "unquote"]

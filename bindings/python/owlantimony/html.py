@@ -7,8 +7,9 @@
         print(html.serialize(document))
 
 What a document of the engine can't hold is carried beside it and written back: a doctype, a namespace, a name such as `xlink:href` or
-`o:p`, and a value that no line of the engine's protocol has room for. `carried` lists all of that. An element with such a name stands in
-the document under a name that it can have. `noscript` is read as a browser with scripts reads it: what is in it is one Text.
+`o:p`, and a value that no line of the engine's protocol has room for. No call of the document reads or finds it. `carried` lists all of
+that, and `drop_carried` drops it; so does a call that sets or removes an attribute of its name. An element with such a name stands in the
+document under a name that it can have. `noscript` is read as a browser with scripts reads it: what is in it is one Text.
 """
 from __future__ import annotations
 
@@ -17,7 +18,7 @@ import weakref
 from collections.abc import Iterator, MutableMapping
 from dataclasses import dataclass, field
 from typing import Any, NamedTuple, Union
-from xml.dom import DomstringSizeErr, InvalidCharacterErr
+from xml.dom import DomstringSizeErr, HierarchyRequestErr, InvalidCharacterErr
 
 try:
     import html5lib
@@ -32,7 +33,7 @@ from . import dom
 from .dom.owner import Owner
 from .dom.treetext import Part, parts_of
 
-__all__ = ["Carried", "Doctype", "carried", "doctype_of", "parse", "parse_fragment", "serialize"]
+__all__ = ["Carried", "Doctype", "carried", "doctype_of", "drop_carried", "parse", "parse_fragment", "serialize"]
 
 _HTML = namespaces["html"]
 _NOT_IN_A_NAME = re.compile(r"[^A-Za-z0-9_-]")
@@ -75,18 +76,39 @@ class _Beside:
         """Give the same for a clone."""
         return _Beside(self.name, self.namespace, self.doctype, dict(self.attributes))
 
+    def drop(self, attribute: str) -> None:
+        """Drop the attributes that HTML writes under this name."""
+        self.attributes = {key: value for key, value in self.attributes.items() if _qualified(key) != attribute}
+
 
 def parse(text: str | bytes, document: dom.Document | None = None) -> dom.Document:
-    """Parse a page into an empty document, or into one with a session of its own, and give it."""
+    """Parse a page into an empty document, or into one with a session of its own, and give it.
+
+    Raise TypeError for what is no page or no document, and HierarchyRequestErr for a document with children."""
+    _check_text(text)
     if document is None:
         document = dom.Document()
+    elif not isinstance(document, dom.Document):
+        raise TypeError(f"a page is parsed into a Document: {document!r}")
+    elif document.hasChildNodes():
+        raise HierarchyRequestErr(f"a page is parsed into an empty document: {document!r} has children")
     html5lib.HTMLParser(tree=lambda _: _Builder(document)).parse(text, scripting=True)
     document.normalize()
     return document
 
 
+def _check_text(text: object) -> None:
+    if not isinstance(text, (str, bytes)):
+        raise TypeError(f"HTML is a str or bytes: {text!r}")
+
+
 def parse_fragment(text: str | bytes, maker: dom.Document | dom.Component, container: str = "div") -> dom.DocumentFragment:
-    """Parse a part of a page as if it stood in an element `container`, and give a fragment of this document or component."""
+    """Parse a part of a page as if it stood in an element `container`, and give a fragment of this document or component.
+
+    Raise TypeError for what is no text, or makes no nodes."""
+    _check_text(text)
+    if not isinstance(maker, (dom.Document, dom.Component)):
+        raise TypeError(f"a document or a component makes nodes: {maker!r}")
     parser = html5lib.HTMLParser(tree=lambda _: _Builder(maker.createDocumentFragment()))
     fragment: dom.DocumentFragment = parser.parseFragment(text, container=container, scripting=True)
     fragment.normalize()
@@ -96,13 +118,20 @@ def parse_fragment(text: str | bytes, maker: dom.Document | dom.Component, conta
 def serialize(node: dom.Node) -> str:
     """Give the HTML of a node and of all that is below it, with what is carried beside.
 
-    Raise ValueError for a tree that HTML can't write, as a `br` with children."""
+    Raise ValueError for a tree that HTML can't write, as a `br` with children. Not all such trees are found: a `p` in a `p` is written, and
+    read again as other nodes."""
+    _check_node(node)
     serializer = HTMLSerializer(omit_optional_tags=False, quote_attr_values="always", minimize_boolean_attributes=False)
     text: str = serializer.render(_Walker(node))
     errors = [error for error in serializer.errors if error not in _TESTED_HERE]
     if errors:
         raise ValueError(f"HTML can't write this tree: {'; '.join(errors)}")
     return text.replace("\r", "&#13;")
+
+
+def _check_node(node: object) -> None:
+    if not isinstance(node, dom.Node):
+        raise TypeError(f"no node: {node!r}")
 
 
 def doctype_of(document: dom.Document) -> Doctype | None:
@@ -114,6 +143,17 @@ def doctype_of(document: dom.Document) -> Doctype | None:
 def carried(maker: dom.Document | dom.Component) -> list[Carried]:
     """Give what is carried beside the nodes of this document's page, or of a component, in the order in which they were made."""
     return [thing for name, beside in maker._owner.beside.items() for thing in _things(maker._owner.node(name), beside)]
+
+
+def drop_carried(node: dom.Node, name: str | None = None) -> None:
+    """Drop the attribute `name` that is carried beside a node or, without a name, all that is: attributes, its name, its namespace, its
+    doctype. What is not there is passed over."""
+    _check_node(node)
+    beside = node._owner.beside.get(node._name)
+    if beside is not None and name is not None:
+        beside.drop(name)
+    elif name is None:
+        node._owner.beside.pop(node._name, None)
 
 
 def _things(node: Any, beside: _Beside) -> Iterator[Carried]:

@@ -48,7 +48,10 @@ def library_path() -> str:
 
 def _load(path: str) -> ctypes.CDLL:
     """Give the library, with the types of its functions."""
-    library = ctypes.CDLL(path)
+    try:
+        library = ctypes.CDLL(path)
+    except OSError as fault:
+        raise OSError(f"{fault}: `bindings/check --build` proves and builds the library in about an hour, or OWLANTIMONY names it") from None
     handle, count, size = ctypes.POINTER(_Handle), ctypes.c_size_t, ctypes.POINTER(ctypes.c_size_t)
     text = ctypes.c_char_p
     for name, words in {

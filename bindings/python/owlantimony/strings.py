@@ -7,7 +7,7 @@ from __future__ import annotations
 
 import re
 
-__all__ = ["length_of", "pieces_of", "quote", "slice_of", "unquote"]
+__all__ = ["pieces_of", "quote", "slice_of", "units", "unquote"]
 
 _ESCAPED_IN_A_LINE = re.compile(r"[^ !#-\[\]-~]")
 _ESCAPE = re.compile(r'\\(?:u([0-9a-fA-F]{4})|(["\\]))')
@@ -18,7 +18,9 @@ PIECE = 10_000
 
 
 def quote(text: str) -> str:
-    """Give a string as the line protocol writes it: in quotation marks, and ASCII."""
+    """Give a string as the line protocol writes it: in quotation marks, and ASCII. Raise TypeError for what is no string."""
+    if not isinstance(text, str):
+        raise TypeError(f"a string is wanted: {text!r}")
     return f'"{_ESCAPED_IN_A_LINE.sub(_escape, text)}"'
 
 
@@ -54,7 +56,7 @@ def _joined(text: str) -> str:
     return text.encode("utf-16-le", "surrogatepass").decode("utf-16-le", "surrogatepass")
 
 
-def length_of(text: str) -> int:
+def units(text: str) -> int:
     """Give how many code units a string has."""
     return len(text) if text.isascii() else len(text.encode("utf-16-le", "surrogatepass")) // 2
 

@@ -1,7 +1,7 @@
 """The same calls on `xml.dom.minidom` and on a document here: the trees, the answers and the exceptions are the same."""
 import random
 import unittest
-from xml.dom import DOMException, minidom
+from xml.dom import DOMException, NotFoundErr, minidom
 
 from owlantimony.dom import Document
 from support import shape
@@ -97,3 +97,31 @@ class AsMinidom(unittest.TestCase):
         name = dice.choice(sorted(calls))
         mini, own = pair.both(calls[name])
         self.assertEqual(own, mini, name)
+
+
+class Differences(unittest.TestCase):
+    """The rows of docs/FROM-PYTHON.md, 'A document': the Standard's answer here, and another one of minidom."""
+
+    def answers(self, call):
+        """Give what a call on a document with an element `r` and its children `a` and `b` answers in minidom, and here."""
+        told = []
+        with Document() as ours:
+            for document in (minidom.Document(), ours):
+                root = document.appendChild(document.createElement("r"))
+                a, b = (root.appendChild(document.createElement(name)) for name in "ab")
+                try:
+                    answer = call(root, a, b)
+                except Exception as fault:
+                    answer = type(fault)
+                told.append(answer if answer is not a else "a")
+        return told
+
+    def test_rows(self):
+        self.assertEqual(self.answers(lambda root, a, b: root.getAttribute("k")), ["", None])
+        self.assertEqual(self.answers(lambda root, a, b: root.removeAttribute("k")), [NotFoundErr, None])
+        self.assertEqual(self.answers(lambda root, a, b: root.insertBefore(a, a)), [NotFoundErr, "a"])
+        self.assertEqual(self.answers(lambda root, a, b: root.replaceChild(a, a)), [None, "a"])
+        self.assertEqual(self.answers(lambda root, a, b: root.setAttribute("k", 5)), [None, TypeError])
+        self.assertEqual(self.answers(lambda root, a, b: root.appendChild(None)), [AttributeError, TypeError])
+        loop = self.answers(lambda root, a, b: [root.removeChild(child).nodeName for child in root.childNodes])
+        self.assertEqual(loop, [["a"], ["a", "b"]])

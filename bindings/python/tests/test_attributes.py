@@ -31,6 +31,13 @@ class Attributes(DocumentTest):
         self.assertRaises(DomstringSizeErr, self.p.setAttribute, "title", "y" * 70_000)
         self.assertEqual(self.p.getAttribute("title"), "x")
 
+    def test_the_length_of_a_value_is_what_the_page_of_docs_says(self):
+        """docs/PROTOCOL.md, 'Lines': a line of 65,536 bytes, and six bytes for a code unit that is not ASCII."""
+        for text, count in (("y", 65_500), ('"', 32_750), ("\n", 10_900), ("\u6f22", 10_900), ("\U0001f600", 5_450)):
+            self.p.setAttribute("title", text * count)
+            self.assertRaises(DomstringSizeErr, self.p.setAttribute, "title", text * (count + count // 100))
+            self.assertEqual(self.p.getAttribute("title"), text * count)
+
     def test_toggle(self):
         """#dom-element-toggleattribute."""
         self.assertTrue(self.p.toggleAttribute("hidden"))
@@ -68,6 +75,11 @@ class Words(DocumentTest):
         super().setUp()
         self.p = self.put(("p",))
         self.words = self.p.classList
+
+    def test_as_a_string_they_are_the_attribute(self):
+        """#dom-domtokenlist-stringifier: the stringifier is the attribute's value."""
+        self.p.className = " a  b a"
+        self.assertEqual(str(self.words), " a  b a")
 
     def test_words_are_added_and_removed_in_order_and_once(self):
         """#concept-ordered-set-serializer: a change writes the words with one space between them."""

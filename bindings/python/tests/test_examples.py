@@ -3,11 +3,15 @@ import contextlib
 import io
 import itertools
 import os
+import re
 import runpy
 import sys
 import textwrap
 import unittest
 from unittest import mock
+
+from owlantimony.dom import Document, SyntaxErr
+from owlantimony.dom.errors import refusal
 
 try:
     import html5lib
@@ -31,6 +35,55 @@ def run(name, words=(), text=""):
     return status, out.getvalue(), err.getvalue()
 
 
+def rows_of(heading):
+    """The cells of the table under a heading of the page of docs, without the table's head."""
+    with open(PAGE_OF_DOCS, encoding="utf-8") as page:
+        part = page.read().split(f"## {heading}\n", 1)[1].split("\n## ", 1)[0]
+    return [[cell.strip() for cell in line.strip("|").split("|")] for line in part.splitlines() if line.startswith("|")][2:]
+
+
+def names_of(kind):
+    """The names that a class itself has for its users, without constants and what every node has of `xml.dom`."""
+    fields = getattr(kind, "__slots__", ()), getattr(kind, "_fields", ()), vars(kind)
+    own = {name for part in fields for name in part if not name.startswith("_") and not name.isupper()}
+    return own - {"nodeType", "namespaceURI", "prefix", "mode"}
+
+
+def selectors_in(cells):
+    """The selectors that stand in cells, of which a sign that joins two is none."""
+    return [code.replace("\\", "") for code in re.findall("`([^`]+)`", "|".join(cells)) if re.search(r"[\w*]", code) and code != "SyntaxErr"]
+
+
+class PageOfDocs(unittest.TestCase):
+    def test_each_class_has_the_names_of_its_row_and_no_others(self):
+        modules = [module for name, module in sys.modules.items() if name.startswith("owlantimony.dom")]
+        rows = rows_of("What is there")
+        self.assertGreater(len(rows), 15)
+        for title, cell in rows:
+            kind = next(vars(module)[title.strip("`")] for module in modules if title.strip("`") in vars(module))
+            told = set(cell.replace("`", "").split())
+            self.assertEqual([name for name in told if name not in {*dir(kind), "nodeType"}], [], title)
+            self.assertEqual(names_of(kind) - told, set(), title)
+
+    def test_selectors_are_taken_and_refused_as_their_rows_say(self):
+        (_, *taken), (_, *refused) = rows_of("Selectors")
+        with Document() as document:
+            for selector in selectors_in(taken):
+                self.assertEqual(document.querySelectorAll(selector), [], selector)
+            for selector in selectors_in(refused):
+                self.assertRaises(SyntaxErr, document.querySelector, selector)
+
+    def test_each_refusal_raises_what_its_row_says(self):
+        told = {}
+        for refusals, exception in rows_of("What is raised"):
+            for name in re.findall("`([a-z-]+)`", refusals):
+                told.setdefault(name, exception.strip("`"))
+        self.assertEqual(len(told), 13)
+        for name, exception in told.items():
+            self.assertEqual(type(refusal(name, "p .")).__name__, exception)
+        self.assertEqual(type(refusal("syntax", "p" * 65_537)).__name__, "DomstringSizeErr")
+
+
 class Examples(unittest.TestCase):
     def test_the_first_example_of_the_page_of_docs_prints_what_stands_beside_it(self):
         with open(PAGE_OF_DOCS, encoding="utf-8") as page:
@@ -51,6 +104,7 @@ class Examples(unittest.TestCase):
         nav = '<nav><h1>Good <b><mark>news</mark></b></h1><h2 :id="x">Bad <mark>ones</mark></h2></nav>'
         head = "<!DOCTYPE html><html><head><title>t</title></head>"
         self.assertEqual(out, f"{head}<body>{nav}<p>one <mark>word</mark> more</p><p>two</p></body></html>\n")
+        self.assertIn("😀 a <mark>😀b</mark>c", run("document_tool.py", ["😀b"], "<p>😀 a 😀bc")[1])
         self.assertEqual(run("document_tool.py", ["absent"], PAGE)[0], "document_tool: the page has no 'absent'")
 
     def test_the_widget_is_seen_from_both_sides(self):

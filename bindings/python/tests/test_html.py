@@ -5,7 +5,7 @@ import sys
 import tempfile
 import unittest
 
-from owlantimony.dom import Document, ForeignNode, HierarchyRequestErr
+from owlantimony.dom import Document, DomstringSizeErr, ForeignNode, HierarchyRequestErr
 from support import outline
 
 try:
@@ -102,7 +102,7 @@ def without_added_line_feeds(tokens):
 @unittest.skipIf(html is None, "html5lib is not there")
 class Reading(unittest.TestCase):
     def test_html5libs_own_builder_and_walker_take_our_documents(self):
-        """The tree builder and the walker for any implementation of `xml.dom`, as they are, on a page inside the profile."""
+        """The tree builder and the walker for any implementation of `xml.dom`, as they are, on a page that the engine can hold."""
         import owlantimony.dom
 
         builder = html5lib.getTreeBuilder("dom", implementation=owlantimony.dom)
@@ -132,6 +132,51 @@ class Reading(unittest.TestCase):
             written = html.serialize(document)
             self.assertTrue(written.startswith('<!--c--><!DOCTYPE html PUBLIC "p" "s"><html>'), written)
             self.assertIn('<p @click="go" id="x">a<o:p>b</o:p><svg xlink:href="u"></svg></p>', written)
+
+    def test_what_is_set_or_removed_is_carried_no_longer(self):
+        """As an element has at most one attribute of a name (#concept-element-attributes-set, #concept-element-attributes-remove)."""
+        long = "x" * 70_000
+        with html.parse(f'<p title="{long}" xml:lang=de v-on:x=3 onload="{long}">a</p>') as document:
+            p = document.querySelector("p")
+            p.setAttribute("title", "new")
+            left = [thing.what for thing in html.carried(document)]
+            self.assertEqual(left, ["attribute xml:lang", "attribute v-on:x", "attribute onload"])
+            p.removeAttribute("title")
+            self.assertNotIn("title", html.serialize(p))
+            p.removeAttribute("onload")
+            p.removeAttribute("v-on:x")
+            self.assertEqual(html.serialize(p), '<p xml:lang="de">a</p>')
+            self.assertEqual(html.serialize(p.cloneNode(True)), '<p xml:lang="de">a</p>')
+
+    def test_a_value_that_is_refused_drops_nothing(self):
+        long = "x" * 70_000
+        with html.parse(f'<p title="{long}">a</p>') as document:
+            p = document.querySelector("p")
+            self.assertRaises(DomstringSizeErr, p.setAttribute, "title", "y" * 70_000)
+            self.assertEqual(html.serialize(p), f'<p title="{long}">a</p>')
+
+    def test_what_is_carried_is_dropped_by_its_name_or_all_at_once(self):
+        with html.parse('<!DOCTYPE html><p @click="go" v-on:x=3>a<o:p>b</o:p><svg xlink:href="u"></svg>') as document:
+            p, svg = document.querySelectorAll("p, svg")
+            html.drop_carried(p, "v-on:x")
+            html.drop_carried(p, "absent")
+            html.drop_carried(svg, "xlink:href")
+            self.assertEqual(html.serialize(p), '<p @click="go">a<o:p>b</o:p><svg></svg></p>')
+            for thing in html.carried(document):
+                html.drop_carried(thing.node)
+            html.drop_carried(p)
+            self.assertEqual(html.carried(document), [])
+            self.assertEqual(html.serialize(document), "<html><head></head><body><p>a<o_p>b</o_p><svg></svg></p></body></html>")
+
+    def test_what_is_no_page_document_or_node_is_refused(self):
+        with html.parse("<p>x") as document:
+            for text in (None, 5, ["<p>"]):
+                self.assertRaises(TypeError, html.parse, text)
+                self.assertRaises(TypeError, html.parse_fragment, text, document)
+            self.assertRaises(TypeError, html.parse, "<p>x", document.querySelector("p"))
+            self.assertRaises(TypeError, html.parse_fragment, "<p>x", document.querySelector("p"))
+            self.assertRaises(TypeError, html.serialize, "<p>x")
+            self.assertRaises(TypeError, html.drop_carried, None)
 
     def test_clones_carry_the_same(self):
         with html.parse('<o:p :a="1">x</o:p>') as document:
@@ -168,7 +213,8 @@ class Reading(unittest.TestCase):
         with Document() as document:
             self.assertIs(html.parse("<p>x", document), document)
             self.assertEqual(outline(document), "#document(html(head(),body(p('x'))))")
-            self.assertRaises(HierarchyRequestErr, html.parse, "<p>y", document)
+            self.assertRaises(HierarchyRequestErr, html.parse, "<!--c--><p>y", document)
+            self.assertEqual(outline(document), "#document(html(head(),body(p('x'))))")
 
     def test_what_html_can_not_write_is_refused(self):
         with html.parse("<plaintext>all the rest") as document:

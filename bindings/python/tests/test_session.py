@@ -53,6 +53,10 @@ class Sessions(unittest.TestCase):
             self.assertEqual(session.line("p tree n0"), ["p ok (n0 document (n1 element div))"])
             self.assertEqual(session.finish(), [])
 
+    def test_a_library_that_is_not_there_says_how_it_is_built(self):
+        with self.assertRaisesRegex(OSError, "bindings/check --build"):
+            Session("/nowhere/libowlantimony.so")
+
     def test_a_view_has_its_owners_lines_alone(self):
         with Session() as session:
             for line in ("p new element div", "p append n0 n1", "p attach n1", "p listen n1 pick page log", "p ."):

@@ -2,7 +2,7 @@
 import unittest
 
 from owlantimony import quote, unquote
-from owlantimony.strings import length_of, pieces_of, slice_of
+from owlantimony.strings import pieces_of, slice_of, units
 
 
 class Quoting(unittest.TestCase):
@@ -36,8 +36,8 @@ class Quoting(unittest.TestCase):
 
 class Units(unittest.TestCase):
     def test_lengths_count_code_units(self):
-        self.assertEqual(length_of("a\U0001f600"), 3)
-        self.assertEqual(length_of("abc"), 3)
+        self.assertEqual(units("a\U0001f600"), 3)
+        self.assertEqual(units("abc"), 3)
 
     def test_a_pair_that_is_cut_leaves_lone_surrogates(self):
         self.assertEqual(slice_of("a\U0001f600b", 0, 2), "a\ud83d")
@@ -46,6 +46,6 @@ class Units(unittest.TestCase):
     def test_pieces_have_ten_thousand_code_units_and_follow_one_another(self):
         text = "x\U0001f600\\\"\u00e9" * 5001
         pieces = [unquote(piece) for piece in pieces_of(text)]
-        self.assertEqual([length_of(piece) for piece in pieces], [10_000, 10_000, 10_000, 6])
+        self.assertEqual([units(piece) for piece in pieces], [10_000, 10_000, 10_000, 6])
         joined = "".join(pieces).encode("utf-16-le", "surrogatepass").decode("utf-16-le")
         self.assertEqual(joined, text)

@@ -18,7 +18,8 @@
 Names and rules are those of the DOM Standard. A refusal raises the exception that `xml.dom` has for it, with the refused line of the
 engine's protocol in its message: `HierarchyRequestErr`, `NotFoundErr`, `NotSupportedErr`, `InvalidCharacterErr`, `IndexSizeErr`,
 `SyntaxErr` for a selector, `WrongDocumentErr` for a node of another owner, `DomstringSizeErr` for a value that no line has room for. The
-two that `xml.dom` has not are `LimitErr` and `InvalidNodeTypeErr`. Want of memory is a `MemoryError`.
+two that `xml.dom` has not are `LimitErr` and `InvalidNodeTypeErr`. Want of memory is a `MemoryError`. What callbacks raise is raised by
+`dispatchEvent`, `end_turn` and `close` alone, when all have been called, or handed to `document.onerror`.
 
 A closed tree is reached by its `Component` alone:
 
@@ -47,7 +48,7 @@ from .characterdata import CharacterData, Comment, Text
 from .components import Component
 from .document import Document, DocumentFragment, DOMImplementation, ShadowRoot, getDOMImplementation
 from .element import Element
-from .errors import InvalidNodeTypeErr, LimitErr
+from .errors import CallbackErrors, InvalidNodeTypeErr, LimitErr
 from .events import Event, ShownEvent
 from .node import Node
 from .observers import MutationObserver
@@ -58,6 +59,7 @@ from .traversal import NodeIterator, NodeNameFilter, TreeWalker
 
 __all__ = [
     "Attr",
+    "CallbackErrors",
     "CharacterData",
     "Comment",
     "Component",

@@ -72,6 +72,8 @@ class NamedNodeMap(MutableMapping[str, Any]):
         return Attr(name, self._element)
 
     def __setitem__(self, name: str, value: Attr | str) -> None:
+        if not isinstance(value, (Attr, str)):
+            raise TypeError(f"an attribute is a string or an Attr: {value!r}")
         self._element.setAttribute(name, value if isinstance(value, str) else value.value)
 
     def __delitem__(self, name: str) -> None:
@@ -129,6 +131,9 @@ class DOMTokenList(MutableSet[str]):
 
     def __len__(self) -> int:
         return len(self._words())
+
+    def __str__(self) -> str:
+        return self.value
 
     def __repr__(self) -> str:
         return f"<DOMTokenList {self._words()}>"

@@ -1,10 +1,11 @@
 """Texts and Comments."""
 from __future__ import annotations
 
+from operator import index
 from typing import Any
 from xml.dom import IndexSizeErr
 
-from ..strings import length_of, slice_of
+from ..strings import units, slice_of
 from .owner import NODE_CLASSES
 from .parents import ChildNode
 from .node import Node
@@ -16,10 +17,18 @@ GREATEST = 999_999_999
 
 
 def offset_or_error(offset: int) -> int:
-    """Give an offset that may stand in a line. Raise IndexSizeErr for another, which is past the length of every node."""
+    """Give an offset that may stand in a line. Raise IndexSizeErr for another, which is past the length of every node, and TypeError for
+    what is no integer."""
+    offset = int(index(offset))
     if not 0 <= offset <= GREATEST:
         raise IndexSizeErr(f"index-size: {offset}")
     return offset
+
+
+def _count_or_error(count: int) -> int:
+    """Give a count that may stand in a line, for one that is greater than the length of every node the greatest. Raise IndexSizeErr for
+    one below 0, and TypeError for what is no integer."""
+    return offset_or_error(min(index(count), GREATEST))
 
 
 class CharacterData(ChildNode):
@@ -60,14 +69,14 @@ class CharacterData(ChildNode):
     @property
     def length(self) -> int:
         """How many code units the data have."""
-        return length_of(self.data)
+        return units(self.data)
 
     def substringData(self, offset: int, count: int) -> str:
-        """Give the code units from an offset on. Raise IndexSizeErr for an offset past the length."""
+        """Give `count` code units, or those that there are, from an offset on. Raise IndexSizeErr for an offset past the length."""
         data = self.data
-        if not 0 <= offset <= length_of(data):
+        if offset_or_error(offset) > units(data):
             raise IndexSizeErr(f"index-size: {offset} in {self!r}")
-        return slice_of(data, offset, offset + count)
+        return slice_of(data, offset, offset + _count_or_error(count))
 
     def appendData(self, data: str) -> None:
         """Append to the data."""
@@ -83,13 +92,15 @@ class CharacterData(ChildNode):
 
     def replaceData(self, offset: int, count: int, data: str) -> None:
         """Put data in the place of `count` code units, or of those that there are. Raise IndexSizeErr for an offset past the length."""
-        self._owner.replace_data(self._name, offset_or_error(offset), min(offset_or_error(count), GREATEST), data)
+        self._owner.replace_data(self._name, offset_or_error(offset), _count_or_error(count), data)
 
 
 class Text(CharacterData):
     """A Text (DOM Standard, #interface-text)."""
 
     nodeType = Node.TEXT_NODE
+    assignedSlot = None
+    """None: all shadow roots are closed."""
     __slots__ = ()
 
     def splitText(self, offset: int) -> Any:

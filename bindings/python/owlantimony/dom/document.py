@@ -7,12 +7,13 @@ from typing import Any
 from xml.dom import NotSupportedErr
 
 from .attributes import Attr
+from .callbacks import callback_or_error
 from .characterdata import Comment, Text
 from .cloning import clone
 from .element import Element
 from .engine import Engine, Lines
 from .node import Node
-from .owner import NODE_CLASSES, Owner
+from .owner import NODE_CLASSES, Owner, name_or_error
 from .parents import ParentNode
 from .ranges import Range
 from .traversal import NodeIterator, NodeNameFilter, TreeWalker
@@ -72,12 +73,13 @@ class NodeFactory:
 
     def queueMicrotask(self, callback: Callable[[], Any]) -> None:
         """Call back when the turn ends, after what was queued before."""
-        self._owner.callbacks.queue(callback)
+        self._owner.callbacks.queue(callback_or_error(callback))
 
     def end_turn(self) -> None:
         """End the open turn: call microtasks, and observers that have records, until nothing is left.
 
-        It also ends where another owner acts, and where the document is closed."""
+        It also ends where another owner acts, and where the document is closed. Raise what callbacks raised in an earlier end or in this
+        one, as `Document.onerror` says."""
         self._owner.engine.end_turn()
 
 
@@ -102,17 +104,33 @@ class Document(NodeFactory, ParentNode):
         return self
 
     def __exit__(self, kind: type[BaseException] | None, fault: BaseException | None, trace: TracebackType | None) -> None:
-        if kind is None:
+        if fault is None or isinstance(fault, Exception):
             self.close()
         else:
             self._owner.engine.close()
 
     def close(self) -> None:
-        """End the open turn, with its callbacks, and free the session. Raise WrongThreadError in another thread than its own."""
+        """End the open turn, with its callbacks, and free the session. Raise then what callbacks raised, as `onerror` says.
+
+        Raise WrongThreadError in another thread than its own. The end of a `with` block does the same, also where its body raised an
+        exception; where that is none for a program, as KeyboardInterrupt, no callback is called."""
         try:
             self._owner.engine.end_turn()
         finally:
             self._owner.engine.close()
+
+    @property
+    def onerror(self) -> Callable[[Exception], Any] | None:
+        """What is called with each exception that a callback raises, the page's or a component's, at once; None at first.
+
+        Where it is None, `dispatchEvent` raises what its own callbacks raised, when all have been called: one exception as it is, more as
+        `CallbackErrors`. What is raised in the end of a turn is kept, also where another owner's call ends it: `end_turn` and `close` raise
+        it then, and no other call. A RuntimeWarning tells of it where all documents are dropped before."""
+        return self._owner.engine.onerror
+
+    @onerror.setter
+    def onerror(self, hook: Callable[[Exception], Any] | None) -> None:
+        self._owner.engine.onerror = None if hook is None else callback_or_error(hook)
 
     def _made(self, node: Any) -> Any:
         if self._owner.has_documents and node.ownerDocument != self:
@@ -147,12 +165,14 @@ class Document(NodeFactory, ParentNode):
         return node
 
     def createAttribute(self, name: str) -> Attr:
-        """Make an attribute of no element yet: `element.attributes[name] = attribute` gives the element its value."""
-        return Attr(name)
+        """Make an attribute of no element yet: `element.attributes[name] = attribute` gives the element its value.
+
+        Raise InvalidCharacterErr for what is no name here."""
+        return Attr(name_or_error(name))
 
     def createElementNS(self, namespaceURI: str | None, qualifiedName: str) -> Element:
-        """Make an element without a namespace. Raise NotSupportedErr for one with a namespace."""
-        if namespaceURI is not None:
+        """Make an element without a namespace, which is None or empty. Raise NotSupportedErr for one with a namespace."""
+        if namespaceURI:
             raise NotSupportedErr(f"not-supported: the namespace {namespaceURI}")
         return self.createElement(qualifiedName)
 
@@ -180,7 +200,7 @@ class DOMImplementation:
 
     def createDocument(self, namespaceURI: str | None, qualifiedName: str | None, doctype: Any = None) -> Document:
         """Open a session, and give its document, with an element of this name if one is given."""
-        if namespaceURI is not None or doctype is not None:
+        if namespaceURI or doctype is not None:
             raise NotSupportedErr("not-supported: a document with a namespace or a doctype")
         document = Document()
         if qualifiedName:

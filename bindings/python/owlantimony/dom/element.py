@@ -1,8 +1,9 @@
 """Elements."""
 from __future__ import annotations
 
+from collections.abc import Mapping
 from typing import TYPE_CHECKING, Any
-from xml.dom import NotSupportedErr
+from xml.dom import NotSupportedErr, SyntaxErr
 from xml.dom.minicompat import NodeList
 
 from ..strings import quote, unquote_known
@@ -56,11 +57,13 @@ class Element(ParentNode, ChildNode):
         return unquote_known(self._owner.ask(f"attr {self._name} {name}"))
 
     def setAttribute(self, name: str, value: str) -> None:
-        """Give an attribute a value; one that is there keeps its place. Raise InvalidCharacterErr for what is no name here."""
+        """Give an attribute a value; one that is there keeps its place. Raise InvalidCharacterErr for what is no name here.
+
+        An attribute with this name that `owlantimony.html` carries beside the element is dropped."""
         self._owner.set_attribute(self._name, name, value)
 
     def removeAttribute(self, name: str) -> None:
-        """Take an attribute away, if it is there."""
+        """Take an attribute away, if it is there, or is carried beside the element by `owlantimony.html`."""
         self._owner.unset_attribute(self._name, name)
 
     def hasAttribute(self, name: str) -> bool:
@@ -118,6 +121,34 @@ class Element(ParentNode, ChildNode):
         """The classes."""
         return DOMTokenList(self, "class")
 
+    # ---- putting in
+
+    def insertAdjacentElement(self, where: str, element: Element) -> Element | None:
+        """Insert an element "beforebegin", "afterbegin", "beforeend" or "afterend", and give it (DOM Standard,
+        #dom-element-insertadjacentelement). Where this element would want a parent and has none, insert nothing and give None.
+
+        Raise SyntaxErr for another word, TypeError for another node, and HierarchyRequestErr where the Standard refuses it."""
+        self._owner.name_of(element)
+        if not isinstance(element, Element):
+            raise TypeError(f"no element: {element!r}")
+        parent, child = self._adjacent(where)
+        return None if parent is None else parent.insertBefore(element, child)
+
+    def insertAdjacentText(self, where: str, data: str) -> None:
+        """Insert a Text with these data, where `insertAdjacentElement` would (DOM Standard, #dom-element-insertadjacenttext)."""
+        parent, child = self._adjacent(where)
+        if parent is not None:
+            parent.insertBefore(self._owner.make_data("text", data), child)
+
+    def _adjacent(self, where: str) -> tuple[Any, Any]:
+        """Give the parent and the child before which a word says that something is to be inserted (DOM Standard, #insert-adjacent)."""
+        place = where.lower()
+        if place in ("beforebegin", "afterend"):
+            return self.parentNode, self if place == "beforebegin" else self.nextSibling
+        if place in ("afterbegin", "beforeend"):
+            return self, self.firstChild if place == "afterbegin" else None
+        raise SyntaxErr(f"a place is beforebegin, afterbegin, beforeend or afterend: {where!r}")
+
     # ---- selectors
 
     def matches(self, selectors: str) -> bool:
@@ -133,12 +164,19 @@ class Element(ParentNode, ChildNode):
 
     # ---- closed trees
 
-    def attachShadow(self, mode: str = "closed") -> Component:
+    def attachShadow(self, mode: str | Mapping[str, Any] = "closed") -> Component:
         """Give this element a closed shadow tree, and give the component that owns it: the only object by which that tree can be reached.
 
-        Raise NotSupportedErr where an element of this name can't be a host or is one already, and for another mode than "closed"."""
+        `{"mode": "closed"}` does as well. Raise NotSupportedErr where an element of this name can't be a host or is one already, for another
+        mode than "closed", and for other options. Hosts are article, aside, blockquote, body, div, footer, h1 to h6, header, main, nav, p,
+        section, span, and custom elements: small letters, digits and at least one hyphen."""
         from .components import Component
 
+        if isinstance(mode, Mapping):
+            others = [name for name in mode if name != "mode"]
+            if others or "mode" not in mode:
+                raise NotSupportedErr(f"not-supported: the option of a shadow root is mode: {dict(mode)}")
+            mode = mode["mode"]
         if mode != "closed":
             raise NotSupportedErr(f"not-supported: a shadow root that is {mode}")
         return Component._of(self._owner.engine, self._owner.ask(f"attach {self._name}"))

@@ -1,12 +1,13 @@
 """One session with all owners over it: who has the turn, and whom the lines that are not replies are for."""
 from __future__ import annotations
 
+import warnings
 from collections.abc import Callable, Iterator
 from itertools import groupby
-from typing import TYPE_CHECKING, Protocol
+from typing import TYPE_CHECKING, Any, Protocol
 
 from ..session import Session
-from .errors import refusal
+from .errors import refusal, together
 
 if TYPE_CHECKING:
     from .owner import Owner
@@ -35,21 +36,36 @@ class Engine:
 
     An owner that speaks while another has the turn ends that turn first, with its microtasks. So a page and its components may be
     written as one program.
+
+    What a callback raises goes to `onerror`, or is kept. A dispatch raises what its own callbacks raised, when it is done, and `end_turn`
+    all that is kept; inside a callback that is only what was raised in this end. No other call raises it, so that none is kept from being
+    done.
     """
 
-    __slots__ = ("session", "owners", "_turn")
+    __slots__ = ("session", "owners", "onerror", "_turn", "_depth", "_kept")
 
     def __init__(self, session: Lines | None) -> None:
         """Take a session, or open one."""
+        self._kept: list[Exception] = []
         self.session: Lines = Session() if session is None else session
         self.owners: dict[str, Owner] = {}
+        self.onerror: Callable[[Exception], Any] | None = None
         self._turn: Owner | None = None
+        self._depth = 0
+
+    def __del__(self) -> None:
+        for fault in getattr(self, "_kept", ()):
+            warnings.warn(f"a callback's exception was never raised, as no document was closed: {fault!r}", RuntimeWarning)
 
     def ask(self, owner: Owner, command: str) -> str:
-        """Run a command of an owner, call back whom it told something, and give the value of its reply. Raise what a refusal means."""
+        """Run a command of an owner, call back whom it told something, and give the value of its reply.
+
+        Raise what a refusal means, and where it told something what callbacks raised."""
         told, value = self.exchange(owner, command)
         if told:
+            first = len(self._kept)
             self.deliver(told)
+            self._raise_kept(first)
         return value
 
     def exchange(self, owner: Owner, command: str) -> tuple[list[str], str]:
@@ -62,17 +78,24 @@ class Engine:
         answer = self.session.line(line)
         _, done, *value = answer.pop().split(" ", 2)
         if done != "ok":
-            raise refusal(value[0], line)
+            raise refusal(value[0], line, owner.told_of(command))
         self._turn = owner
         return answer, value[0] if value else ""
 
     def begin(self, owner: Owner) -> None:
         """End the open turn, with its callbacks, where it is another owner's."""
         if self._turn is not None and self._turn is not owner:
-            self.end_turn()
+            self._end()
 
     def end_turn(self) -> None:
-        """End the open turn: microtasks are run and observers notified, until nothing is left, also of what the callbacks queue."""
+        """End the open turn: microtasks are run and observers notified, until nothing is left, also of what the callbacks queue.
+
+        Raise then what callbacks raised."""
+        first = len(self._kept) if self._depth else 0
+        self._end()
+        self._raise_kept(first)
+
+    def _end(self) -> None:
         while self._turn is not None:
             word, self._turn = self._turn.word, None
             self.deliver(self.session.line(f"{word} .")[:-1])
@@ -83,15 +106,32 @@ class Engine:
         self.session.close()
 
     def deliver(self, lines: list[str]) -> None:
-        """Call back for each line, in order. All are called; the first exception that one raised is raised then."""
-        first: Exception | None = None
-        for call in list(self._calls(lines)):
+        """Call back for each line, in order. All are called, also where one raises an exception."""
+        self._depth += 1
+        try:
+            for call in list(self._calls(lines)):
+                self._call(call)
+        finally:
+            self._depth -= 1
+
+    def _call(self, call: Callable[[], Any]) -> None:
+        """Call, and hand an exception to `onerror`. Keep it where that is None, and keep what that raises itself."""
+        try:
             try:
                 call()
-            except Exception as fault:  # a callback may raise anything; the others are called all the same
-                first = first or fault
-        if first is not None:
-            raise first
+            except Exception as fault:  # a callback may raise anything
+                if self.onerror is None:
+                    raise
+                self.onerror(fault)
+        except Exception as fault:
+            self._kept.append(fault)
+
+    def _raise_kept(self, first: int) -> None:
+        """Raise what is kept, from the first on that is counted."""
+        faults = self._kept[first:]
+        del self._kept[first:]
+        if faults:
+            raise together(faults)
 
     def _calls(self, lines: list[str]) -> Iterator[Callable[[], None]]:
         """Give what is to be called for the lines: once for an event or a microtask, once for all records of an observer."""

@@ -2,7 +2,7 @@
 from __future__ import annotations
 
 import re
-from collections.abc import Callable
+from collections.abc import Mapping
 from typing import TYPE_CHECKING, Any
 from xml.dom import NotSupportedErr
 
@@ -13,9 +13,28 @@ __all__ = ["Event", "EventTarget", "ShownEvent"]
 
 _TYPE = re.compile(r"[A-Za-z0-9_.:-]{1,64}")
 _ACTIONS = ("log", "stop", "stop-now", "cancel")
+_OPTIONS = {"capture": False, "once": False, "passive": False, "action": "log"}
+
+
+def _options_of(capture: Any, options: dict[str, Any]) -> dict[str, Any]:
+    """Give all options of a listener, of which some may stand in a mapping in place of `capture`, as browsers have it."""
+    told = {**options, **(capture if isinstance(capture, Mapping) else {"capture": capture})}
+    for name in told:
+        if name not in _OPTIONS:
+            raise TypeError(f"a listener's options are {', '.join(_OPTIONS)}: {name!r}")
+    return {**_OPTIONS, **told}
+
+
+def _is_listener(callback: Any) -> bool:
+    """Give whether a callback is one, and no None, for which the Standard adds nothing. Raise TypeError for what can't be called."""
+    if callback is None or callable(callback) or callable(getattr(callback, "handleEvent", None)):
+        return callback is not None
+    raise TypeError(f"a callback is called, or has a method handleEvent: {callback!r}")
 
 
 def _type_or_error(kind: str) -> str:
+    if not isinstance(kind, str):
+        raise TypeError(f"an event's type is a string: {kind!r}")
     if not _TYPE.fullmatch(kind):
         raise ValueError(f"an event's type is 1 to 64 letters, digits, '-', '_', '.' and ':': {kind[:80]!r}")
     return kind
@@ -88,8 +107,8 @@ class EventTarget:
     def addEventListener(
         self,
         type: str,
-        callback: Callable[[ShownEvent], Any],
-        capture: bool = False,
+        callback: Any,
+        capture: bool | Mapping[str, Any] = False,
         once: bool = False,
         passive: bool = False,
         action: str = "log",
@@ -98,20 +117,34 @@ class EventTarget:
 
         What the listener does to the dispatch is said by `action`: "log" nothing, "stop" as stopPropagation, "stop-now" as
         stopImmediatePropagation, "cancel" as preventDefault. After the dispatch `callback` gets a `ShownEvent` for each time that the
-        listener was called in it. A listener with the same type, callback and capture is added once, as it was added first."""
-        if action not in _ACTIONS:
-            raise ValueError(f"an action is one of {', '.join(_ACTIONS)}: {action!r}")
-        words = action + " capture" * capture + " once" * once + " passive" * passive
-        self._owner.callbacks.listen(self._name, _type_or_error(type), callback, bool(capture), words, bool(once))
+        listener was called in it. A listener with the same type, callback and capture is added once, as it was added first.
 
-    def removeEventListener(self, type: str, callback: Callable[[ShownEvent], Any], capture: bool = False) -> None:
-        """Remove the listener with this type, callback and capture, if it is there."""
-        self._owner.callbacks.unlisten(self._name, _type_or_error(type), callback, bool(capture))
+        A callback is called, or has a method `handleEvent` that is; for None nothing is added. Options may also stand in a mapping in
+        place of `capture`, as `{"once": True}`. Raise ValueError for another action or type, and TypeError for another callback or
+        option."""
+        options = _options_of(capture, {"once": once, "passive": passive, "action": action})
+        if options["action"] not in _ACTIONS:
+            raise ValueError(f"an action is one of {', '.join(_ACTIONS)}: {options['action']!r}")
+        words = "".join(f" {name}" for name in ("capture", "once", "passive") if options[name])
+        kind = _type_or_error(type)
+        if _is_listener(callback):
+            words = f"{options['action']}{words}"
+            self._owner.callbacks.listen(self._name, kind, callback, bool(options["capture"]), words, bool(options["once"]))
+
+    def removeEventListener(self, type: str, callback: Any, capture: bool | Mapping[str, Any] = False) -> None:
+        """Remove the listener with this type, callback and capture, if it is there. A mapping may stand for `capture`, as in
+        `addEventListener`."""
+        options = _options_of(capture, {})
+        kind = _type_or_error(type)
+        if _is_listener(callback):
+            self._owner.callbacks.unlisten(self._name, kind, callback, bool(options["capture"]))
 
     def dispatchEvent(self, event: Event) -> bool:
         """Dispatch an event here, and give False exactly where a listener cancelled it. Callbacks are called before this returns.
 
-        Raise TypeError where a component's related target has another root than this node."""
+        Raise TypeError for what is no `Event`, and where a component's related target has another root than this node."""
+        if not isinstance(event, Event):
+            raise TypeError(f"an Event is dispatched, as Event('click'): {event!r}")
         words = " bubbles" * bool(event.bubbles) + " cancelable" * bool(event.cancelable) + " composed" * bool(event.composed)
         if event.relatedTarget is not None:
             words += f" related {self._owner.name_of(event.relatedTarget)}"

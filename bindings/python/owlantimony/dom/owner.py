@@ -17,18 +17,20 @@ from .treetext import attributes_of_first, kind_of_first
 if TYPE_CHECKING:
     from .node import Node
 
-__all__ = ["ForeignNode", "NODE_CLASSES", "Owner"]
+__all__ = ["ForeignNode", "NAME", "NODE_CLASSES", "Owner", "name_or_error"]
 
 NODE_CLASSES: dict[str, type[Any]] = {}
 """The class of the nodes with a node name; that of elements under "element"."""
 
-_WORD = re.compile(r"[!#-~][!-~]*")
+NAME = re.compile(r"[A-Za-z_][A-Za-z0-9_-]*")
+"""What an element or an attribute can be called here."""
+
 _ROOM = LONGEST_LINE - 200
 _LEAVES = ("#text", "#comment")
 
 
 class ForeignNode:
-    """A node of another owner, as an event or a slot shows it: it may be compared, and nothing can be asked of it or done to it."""
+    """A node of another owner, as an event or a slot shows it: it may be compared by `==`, and nothing can be asked of it or done to it."""
 
     __slots__ = ("_engine", "_shown")
 
@@ -77,7 +79,7 @@ class Owner:
         self.memory = Memory()
         self.callbacks = Callbacks(self)
         self.beside: dict[str, Any] = {}
-        """What a reader of documents carries beside nodes, by their names."""
+        """What a reader of documents carries beside nodes, by their names: each has `copy`, and `drop` for an attribute."""
         self.dropped: list[str] = []
         """Ranges that nobody holds any longer."""
         self.has_documents = False
@@ -91,6 +93,11 @@ class Owner:
     def ask(self, command: str) -> str:
         """Run a command of this owner, and give the value of its reply."""
         return self.engine.ask(self, command)
+
+    def told_of(self, command: str) -> str:
+        """Give in words which nodes a command names in front of its first string."""
+        kinds = [(name, self._kinds[name]) for name in command.split('"', 1)[0].split(" ") if name in self._kinds]
+        return f" ({', '.join(f'{name} is {kind}' for name, kind in dict.fromkeys(kinds))})" if kinds else ""
 
     # ---- names and objects
 
@@ -114,10 +121,11 @@ class Owner:
 
     def name_of(self, node: Node) -> str:
         """Give the name of an own node. Raise WrongDocumentErr for another owner's, and TypeError for what is no node."""
-        if getattr(node, "_owner", None) is self:
+        if getattr(node, "_owner", None) is self and hasattr(node, "nodeType"):
             return node._name
         if hasattr(node, "_shown"):
-            raise WrongDocumentErr(f"foreign: {node!r} is another owner's node")
+            whose = "another owner's" if node._engine is self.engine else "another session's"
+            raise WrongDocumentErr(f"foreign: {node!r} is {whose} node")
         raise TypeError(f"no node: {node!r}")
 
     def kind(self, name: str) -> str:
@@ -138,7 +146,7 @@ class Owner:
 
     def make_element(self, tag: str) -> Any:
         """Make an element without attributes."""
-        element = self.make(f"new element {word_or_error(tag)}", intern(tag))
+        element = self.make(f"new element {name_or_error(tag)}", intern(tag))
         self._attributes[element._name] = []
         return element
 
@@ -292,23 +300,32 @@ class Owner:
         return attributes
 
     def set_attribute(self, name: str, attribute: str, value: str) -> None:
-        """Give an attribute a value."""
-        self.ask(f"set {name} {word_or_error(attribute)} {quote(value)}")
+        """Give an attribute a value. What was carried under this name is dropped."""
+        self.ask(f"set {name} {name_or_error(attribute)} {quote(value)}")
+        self._drop_carried(name, attribute)
         known = self._attributes.get(name)
         if known is not None and attribute not in known:
             known.append(attribute)
 
     def unset_attribute(self, name: str, attribute: str) -> None:
-        """Take an attribute away."""
+        """Take an attribute away, and what was carried under this name."""
         if attribute in self.attributes(name):
             self.ask(f"unset {name} {attribute}")
             self.attributes(name).remove(attribute)
+        self._drop_carried(name, attribute)
+
+    def _drop_carried(self, name: str, attribute: str) -> None:
+        beside = self.beside.get(name)
+        if beside is not None:
+            beside.drop(attribute)
 
 
-def word_or_error(name: str) -> str:
-    """Give a name that may stand in a line. Raise InvalidCharacterErr for another."""
-    if not _WORD.fullmatch(name):
-        raise InvalidCharacterErr(f"invalid-character: {name[:200]!r}")
+def name_or_error(name: str) -> str:
+    """Give a name that an element or an attribute can have. Raise InvalidCharacterErr for another."""
+    if not isinstance(name, str):
+        raise TypeError(f"a name is a string: {name!r}")
+    if not NAME.fullmatch(name):
+        raise InvalidCharacterErr(f"invalid-character: a name is a letter or '_', then letters, digits, '-' and '_': {name[:200]!r}")
     return name
 
 

@@ -8,6 +8,7 @@ from xml.dom.minicompat import NodeList
 
 from ..strings import quote
 from .node import Node
+from .owner import NAME
 from .treetext import text_in, tokens
 
 if TYPE_CHECKING:
@@ -16,7 +17,6 @@ if TYPE_CHECKING:
 
 __all__ = ["ChildNode", "ParentNode"]
 
-_NAME = re.compile(r"[A-Za-z_][A-Za-z0-9_-]*")
 _SPACES = re.compile("[\t\n\f\r ]+")
 _NOT_IN_A_VALUE = re.compile("[\\\\\n\f\r]")
 
@@ -125,7 +125,7 @@ class ParentNode(Node):
 
     def getElementsByTagName(self, name: str) -> NodeList[Element]:
         """Give the elements below with this tag name, or all for "*", as they are now."""
-        return self._query(name) if name == "*" or _NAME.fullmatch(name) else NodeList()
+        return self._query(name) if name == "*" or NAME.fullmatch(name) else NodeList()
 
     def getElementsByClassName(self, names: str) -> NodeList[Element]:
         """Give the elements below that have all of these classes, as they are now."""
@@ -163,6 +163,22 @@ class ChildNode(Node):
     """An element, a Text or a Comment. Several nodes go into a fragment first, as `ParentNode` says."""
 
     __slots__ = ()
+
+    @property
+    def previousElementSibling(self) -> Element | None:
+        """The nearest sibling in front of this node that is an element, or None."""
+        return self._element_beside("previousSibling")
+
+    @property
+    def nextElementSibling(self) -> Element | None:
+        """The nearest sibling behind this node that is an element, or None."""
+        return self._element_beside("nextSibling")
+
+    def _element_beside(self, side: str) -> Any:
+        at = getattr(self, side)
+        while at is not None and at.nodeType != Node.ELEMENT_NODE:
+            at = getattr(at, side)
+        return at
 
     def remove(self) -> None:
         """Leave the parent, if there is one."""

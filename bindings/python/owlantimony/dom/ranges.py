@@ -1,8 +1,9 @@
 """Live ranges."""
 from __future__ import annotations
 
+import operator
 from typing import TYPE_CHECKING, Any
-from xml.dom import InvalidStateErr, NotSupportedErr, WrongDocumentErr
+from xml.dom import IndexSizeErr, InvalidStateErr, NotSupportedErr, WrongDocumentErr
 
 from ..strings import slice_of, unquote_known
 from .characterdata import CharacterData, offset_or_error
@@ -165,6 +166,8 @@ class Range:
         Raise WrongDocumentErr for ranges in two trees, and NotSupportedErr for another number."""
         if how not in range(4):
             raise NotSupportedErr(f"not-supported: {how}")
+        if not isinstance(sourceRange, Range):
+            raise TypeError(f"a range is compared with a range: {sourceRange!r}")
         if sourceRange._owner is not self._owner:
             raise WrongDocumentErr(f"foreign: {sourceRange!r}")
         mine = self._points()[how in (self.START_TO_END, self.END_TO_END)]
@@ -173,11 +176,11 @@ class Range:
 
     def comparePoint(self, node: Node, offset: int) -> int:
         """Give -1, 0 or 1 as a point is before, in or behind the range. Raise WrongDocumentErr or IndexSizeErr where it is none here."""
-        point = self._owner.name_of(node), offset
+        point = self._owner.name_of(node), int(operator.index(offset))
         start, end = self._points()
         before = compare_points(self._owner, point, start) < 0
-        if offset > length_of_node(node):
-            offset_or_error(-1)
+        if not 0 <= offset <= length_of_node(node):
+            raise IndexSizeErr(f"index-size: {offset} in {node!r}")
         return -1 if before else int(compare_points(self._owner, point, end) > 0)
 
     def isPointInRange(self, node: Node, offset: int) -> bool:
@@ -204,7 +207,7 @@ class Range:
     # ---- contents
 
     def toString(self) -> str:
-        """Give the data of the Texts in the range."""
+        """Give the data of the Texts in the range, as `str(range)` does."""
         return unquote_known(self._owner.ask(f"range-text {self._name}"))
 
     __str__ = toString

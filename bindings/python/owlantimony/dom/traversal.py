@@ -5,6 +5,8 @@ from typing import TYPE_CHECKING, Any
 from xml.dom import NotSupportedErr
 from xml.dom.NodeFilter import NodeFilter
 
+from .owner import name_or_error
+
 if TYPE_CHECKING:
     from .node import Node
     from .owner import Owner
@@ -33,13 +35,13 @@ class NodeNameFilter:
 
     @classmethod
     def skip(cls, name: str) -> NodeNameFilter:
-        """Pass by the elements with this name, but not what is below them (`FILTER_SKIP`)."""
-        return cls(f" skip={name}")
+        """Pass by the elements with this name, but not what is below them (`FILTER_SKIP`). Raise InvalidCharacterErr for no name."""
+        return cls(f" skip={name_or_error(name)}")
 
     @classmethod
     def reject(cls, name: str) -> NodeNameFilter:
-        """Pass by the elements with this name, for a walker with all below them (`FILTER_REJECT`)."""
-        return cls(f" reject={name}")
+        """Pass by the elements with this name, for a walker with all below them (`FILTER_REJECT`). Raise InvalidCharacterErr for no name."""
+        return cls(f" reject={name_or_error(name)}")
 
 
 class _Cursor:
@@ -49,9 +51,11 @@ class _Cursor:
     _command: str
 
     def __init__(self, owner: Owner, root: Node, whatToShow: int = NodeFilter.SHOW_ALL, filter: NodeNameFilter | None = None) -> None:
+        if filter is not None and not isinstance(filter, NodeNameFilter):
+            raise TypeError(f"a filter is NodeNameFilter.skip(..) or .reject(..), as nobody is called while the engine walks: {filter!r}")
         shown = [word for bit, word in _WORDS.items() if whatToShow & bit]
         if not shown:
-            raise NotSupportedErr(f"not-supported: nothing is shown by {whatToShow}")
+            raise NotSupportedErr(f"not-supported: no kind of node that is here is shown by {whatToShow}")
         words = "all" if len(shown) == len(_WORDS) else ",".join(shown)
         self._owner = owner
         self._name = owner.ask(f"{self._command} {owner.name_of(root)} {words}{filter.word if filter else ''}")
