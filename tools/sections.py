@@ -227,8 +227,8 @@ ABSENT = {
     "namespaces, `i` and `s` behind an attribute's value; `querySelector()`, `closest()`",
     "Events": "types of events with members of their own (`CustomEvent` and those of other standards), `isTrusted`, `timeStamp`, "
     "`returnValue`, `cancelBubble`, events made apart from their dispatch; the window, so no event goes beyond its document; activation "
-    "behaviour, touch targets; the current event of a window; callbacks: a listener prints a line and may stop or cancel; errors "
-    "that a listener throws; `signal` for a listener, and `passive` by default",
+    "behaviour, touch targets; the current event of a window; callbacks that run during a dispatch: a listener says beforehand what it "
+    "does; errors that a listener throws; `signal` for a listener, and `passive` by default",
     "Aborting": "abort controllers and abort signals, all of it",
     "Kinds of nodes": "doctypes, processing instructions, CDATA sections, attributes as nodes of their own",
     "Shadow trees": "open shadow roots, manual slot assignment, `delegatesFocus`, clonable, "

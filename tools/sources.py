@@ -96,10 +96,28 @@ def files_below(folder, ending):
     return paths
 
 
+def crate_lines():
+    """The line of each crate in crates.txt, lowest first."""
+    with open(os.path.join(ROOT, "crates.txt"), encoding="utf-8") as file:
+        lines = [line for line in file if line.strip() and not line.startswith("#")]
+    return {line.split(":")[0].split()[0]: line for line in lines}
+
+
 def crates():
     """The crates, lowest first, as crates.txt has them; the word behind a name says what is built of it."""
-    with open(os.path.join(ROOT, "crates.txt"), encoding="utf-8") as file:
-        return [line.split(":")[0].split()[0] for line in file if line.strip() and not line.startswith("#")]
+    return list(crate_lines())
+
+
+def below():
+    """For each crate those that it names, and those that these name."""
+    named = {crate: set(line.partition(":")[2].split()) for crate, line in crate_lines().items()}
+    found = {}
+    while len(found) < len(named):
+        for crate in [it for it in named if it not in found]:
+            known = named[crate] & named.keys()
+            if known <= found.keys():
+                found[crate] = known.union(*(found[it] for it in known))
+    return found
 
 
 def all_definitions():

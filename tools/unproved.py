@@ -7,11 +7,16 @@ import re
 import shutil
 import subprocess
 import tempfile
+import time
+from collections.abc import Callable, Iterable
 from dataclasses import dataclass, field
+
+import pages
 
 ROOT = os.path.normpath(os.path.join(os.path.dirname(os.path.abspath(__file__)), ".."))
 HEAD = re.compile(rb"^== (\d+)\n", re.MULTILINE)
 ENDED = re.compile(r"^case=(\d+) run=(\S+) (?:status=(\d+))?")
+EACH = 50  # after how many scripts it is told how many were run
 
 
 class Fault(Exception):
@@ -20,12 +25,15 @@ class Fault(Exception):
 
 @dataclass
 class Case:
-    """A script: its name, its bytes, the program's words, and what it has to write where that is known."""
+    """A script: its name, its bytes, the program's words, and what it has to write where that is known. If it stands with its answers,
+    also the file and the input lines with theirs."""
 
     name: str
     script: bytes
     words: list[str] = field(default_factory=list)
     wanted: bytes | None = None
+    path: str = ""
+    commands: list[pages.Command] = field(default_factory=list)
 
 
 @dataclass
@@ -78,17 +86,40 @@ def faults_in(text: str) -> dict[int, str]:
     return found
 
 
-def run(cases: list[Case]) -> list[Answer]:
-    """Runs all cases on one build, and gives their answers in order."""
+def counted(count: int, word: str) -> str:
+    """So many of a thing, as `1 script` and `2 scripts`."""
+    return f"{count} {word}" if count == 1 else f"{count} {word}s"
+
+
+def heard(lines: Iterable[str], count: int, tell: Callable[[str], None]) -> str:
+    """Reads what `rt try` says of so many cases as it comes, and tells when the program is built and how many were run."""
+    begun, said, ended = time.monotonic(), [], 0
+    for line in lines:
+        said.append(line)
+        if not ENDED.match(line):
+            continue
+        ended += 1
+        if ended == 1:
+            tell(f"the program is built, after {time.monotonic() - begun:.0f} seconds")
+        elif ended % EACH == 0 and ended < count:
+            tell(f"{ended} of {count} scripts were run")
+    return "".join(said)
+
+
+def run(cases: list[Case], tell: Callable[[str], None]) -> list[Answer]:
+    """Runs all cases on one build, tells how far it is, and gives their answers in order."""
     if not shutil.which("rt"):
         raise Fault("the Rattle kit is not here: `rt version` prints its name where it is (README, 'Run it')")
-    with tempfile.TemporaryDirectory() as folder:
+    tell(f"{counted(len(cases), 'script')}; building the program without a proof takes two minutes on two free cores")
+    with tempfile.TemporaryDirectory() as folder, tempfile.TemporaryFile() as written:
         fill(folder, cases)
         # With an argument, here standard input by name, the kit's interpreter is left out, which takes seconds for each script.
         words = ["rt", "try", "--cases", folder, "--", "-"]
-        ran = subprocess.run(words, cwd=os.path.join(ROOT, "crates", "domrun"), capture_output=True, check=False)
-    said = ran.stderr.decode(errors="replace")
-    outputs, faults = outputs_in(ran.stdout), faults_in(said)
+        place = os.path.join(ROOT, "crates", "domrun")
+        with subprocess.Popen(words, cwd=place, stdout=written, stderr=subprocess.PIPE, encoding="utf-8", errors="replace") as ran:
+            said = heard(ran.stderr or (), len(cases), tell)
+        written.seek(0)
+        outputs, faults = outputs_in(written.read()), faults_in(said)
     if not faults:
         raise Fault(f"`rt try` in crates/domrun built no program:\n{said.strip()}")
     return [Answer(case, outputs.get(number, b""), faults.get(number, "was not run")) for number, case in enumerate(cases)]
