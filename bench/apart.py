@@ -1,7 +1,9 @@
 #!/usr/bin/env python3
 """Counts what lines cost on a page that has much which they do not concern.
 
-Usage: bench/apart.py [PROGRAM] [--thing NAME..] [--all]
+Usage: bench/apart.py [PROGRAM] [--thing NAME..] [--around WORD..] [--all]
+
+With --thing the things alone are tried that are named, with --around the surroundings alone whose names hold a word.
 
 PROGRAM is the built domrun, crates/domrun/out/domrun if none is given. A small page is made, and beside it so many other things, at two
 sizes, the second four times the first: elements, ranges, observers, .. . Each kind of line then runs on the small page, and its
@@ -17,6 +19,7 @@ import tempfile
 from concurrent.futures import ThreadPoolExecutor
 
 sys.dont_write_bytecode = True
+from kinds import down, new_range, wide  # noqa: E402
 
 PROGRAM = os.path.join(os.path.dirname(os.path.abspath(__file__)), "..", "crates", "domrun", "out", "domrun")
 SIZES = (500, 2000)
@@ -135,6 +138,142 @@ LINES = {
 }
 
 
+# ---- surroundings: each gives the lines that make the page, and those that are counted
+
+AROUND = (100, 800)
+
+
+def host_behind(node):
+    """An element of this number that becomes a host without slots."""
+    return ["p new element div", f"p attach n{node}", "p ."]
+
+
+def append_at_depth(size):
+    """Two elements without children become the last one in turn at the end of a chain; elsewhere is a host."""
+    page = [*down(size - 1), "p new element b", "p new element i", *host_behind(size + 3)]
+    return page, [f"p append n{size} n{size + 1 + turn % 2}" for turn in range(TURNS)]
+
+
+def set_at_depth(size):
+    page = [*down(size - 1), *host_behind(size + 1)]
+    return page, [f'p set n{size} class "v{turn % 10}"' for turn in range(TURNS)]
+
+
+def set_under_observer(size):
+    page = [*down(size - 1), "p observer", "p observe o0 n1 attributes subtree", "p ."]
+    return page, [line for turn in range(TURNS // 100) for line in [f'p set n{size} class "v{turn}"'] * 100 + ["p ."]]
+
+
+def dispatch_at_depth(size):
+    return [*down(size - 1)], [f"p dispatch n{size} t bubbles"] * TURNS
+
+
+def walk_at_depth(size):
+    return [*down(size), "p walk-new n1 all", f"p walk-set w0 n{size}"], ["p walk w0 first", "p walk w0 parent"] * (TURNS // 2)
+
+
+def component_page(slots, children, slot_of):
+    """A host below n1 with so many slots in its tree, each of a name and below the root's one child, and so many children."""
+    page = ["p new element body", "p append n0 n1", "p new element div", "p append n1 n2"]
+    for child in range(children):
+        page += ["p new element b", f'p set n{child + 3} slot "s{slot_of(child)}"', f"p append n2 n{child + 3}"]
+    page += ["p attach n2", "p .", "c1 new element p"]
+    for slot in range(slots):
+        page += ["c1 new element slot", f'c1 set m{slot + 2} name "s{slot}"', f"c1 append m1 m{slot + 2}"]
+    return [*page, "c1 append m0 m1", "c1 ."]
+
+
+def slot_among_slots(size):
+    """Slots become the last one in turn, and each has a child of the host."""
+    page = component_page(size, size, lambda child: child)
+    return page, [line for turn in range(TURNS // 10) for line in (f"c1 append m1 m{2 + turn % size}", "c1 .")]
+
+
+def slottable_before_others(size):
+    """Two children of a host go to the front in turn; each has a slot of its own, and so have all others."""
+    page = component_page(10, size, lambda child: child if child < 2 else 2 + child % 8)
+    return page, [f"p insert n2 n{3 + turn % 2} n{4 - turn % 2}" for turn in range(TURNS)]
+
+
+def slottable_of_last_slot(size):
+    """A child of a host goes to and fro between it and another element; its slot is the last of the tree."""
+    page = component_page(size, 1, lambda _: size - 1) + ["p new element b"]
+    return page, [f"p append n{4 - turn % 2 * 2} n3" for turn in range(TURNS)]
+
+
+def slottables_of_one_slot(size):
+    """Children of a host that have one slot become the last one in turn."""
+    page = component_page(1, size, lambda _: 0)
+    return page, [f"p append n2 n{3 + turn * 7 % size}" for turn in range(TURNS)]
+
+
+def subtree_without_slots(size):
+    """In a shadow tree a chain goes to and fro between two parents."""
+    page = [*component_page(0, 0, None), *["c1 new element a"] * size]
+    page += [f"c1 append m{node} m{node + 1}" for node in range(2, size + 1)]
+    return [*page, "c1 ."], [f"c1 append m{turn % 2} m2" for turn in range(TURNS)]
+
+
+def subtree_under_ranges(size):
+    """A chain leaves and comes back while 2,000 ranges stand elsewhere."""
+    page = [*down(size), "p new element b", "p new element b", f"p append n{size + 2} n{size + 3}"]
+    for number in range(2000):
+        page += new_range(number, f"n{size + 2} 0", f"n{size + 2} 1")
+    return page, ["p remove n2", "p append n1 n2"] * (TURNS // 2)
+
+
+def subtree_under_iterators(size):
+    """A chain leaves and comes back while 2,000 iterators stand elsewhere."""
+    page = [*down(size), "p new element b", "p new element b", f"p append n{size + 2} n{size + 3}"]
+    for number in range(2000):
+        page += [f"p iter-new n{size + 2} all", f"p iter-next i{number}"]
+    return page, ["p remove n2", "p append n1 n2"] * (TURNS // 2)
+
+
+def two_lists(size):
+    """Children of two lists in turn become the last one; in each list stands a range."""
+    page = ["p new element ul", "p new element ul"]
+    for child in range(2 * size):
+        page += ["p new element li", f"p append n{1 + child % 2} n{child + 3}"]
+    page += [*new_range(0, f"n1 {size - 1}", f"n1 {size}"), *new_range(1, f"n2 {size - 1}", f"n2 {size}")]
+    return page, [f"p append n{1 + turn % 2} n{3 + turn % 2 + 2 * (turn // 2 * 7 % size)}" for turn in range(TURNS)]
+
+
+def range_among_ranges(size):
+    page = [*wide(10)]
+    for number in range(size):
+        page += new_range(number, f"n1 {number % 10}", f"n1 {number % 10 + 1}")
+    return page, ["p range-new", "p range-drop r{next}"] * (TURNS // 2)
+
+
+def range_start(size):
+    return [*wide(size), "p range-new"], ["p range-start r0 n1 0"] * TURNS
+
+
+def iterator_among_iterators(size):
+    """Each child of a list is the root of an iterator, and more come at the first child."""
+    page = [*wide(size), *[f"p iter-new n{child + 2} all" for child in range(size)]]
+    return page, ["p iter-new n2 all"] * TURNS
+
+
+def last_text_split(size):
+    """The last child is a Text, which is split and joined."""
+    page = [*wide(size - 1), 'p new text "abcd"', f"p append n1 n{size + 1}"]
+    return page, [line for turn in range(TURNS // 2) for line in (f"p split n{size + 1} 2", f"p remove n{size + 2 + turn}")]
+
+
+def long_text(size):
+    """A unit is ten code units of the Text."""
+    return [f'p new text "{"x" * 10 * size}"'], ['p replace-data n1 1 2 "xy"'] * TURNS
+
+
+SURROUNDINGS = (
+    append_at_depth, set_at_depth, set_under_observer, dispatch_at_depth, walk_at_depth, slot_among_slots, slottable_before_others,
+    slottable_of_last_slot, slottables_of_one_slot, subtree_without_slots, subtree_under_ranges, subtree_under_iterators, two_lists,
+    range_among_ranges, range_start, iterator_among_iterators, last_text_split, long_text,
+)
+
+
 def instructions_of(program, lines):
     """The instructions that the program takes for a script, and how many lines it refuses."""
     with tempfile.TemporaryDirectory() as room:
@@ -151,28 +290,66 @@ def lines_of(kind, first):
     return [line.format(next=first + turn) for turn in range(TURNS) for line in LINES[kind](turn)]
 
 
-def main():
-    parser = argparse.ArgumentParser(usage=__doc__.split("Usage: ")[1].split("\n")[0])
-    parser.add_argument("program", nargs="?", default=PROGRAM)
-    parser.add_argument("--thing", nargs="+", choices=[thing.__name__ for thing in THINGS])
-    parser.add_argument("--all", action="store_true")
-    given = parser.parse_args()
-    refused = grown = 0
+def counted_around(program, pool, kind):
+    """The instructions of a line at both sizes, and how many lines are refused."""
+    def counted(size):
+        page, lines = kind(size)
+        lines = [line.format(next=size + turn // 2) for turn, line in enumerate(lines)]
+        (alone, before), (both, refused) = pool.map(lambda script: instructions_of(program, script), (page, page + lines))
+        return (both - alone) / len(lines), refused - before
+    (small, no), (large, none) = (counted(size) for size in AROUND)
+    return small, large, no + none
+
+
+def around(program, words, print_all):
+    """Counts the lines whose own surroundings grow; gives how many kinds do, and how many lines were refused."""
+    grown = refused = 0
     with ThreadPoolExecutor(os.cpu_count()) as pool:
-        for thing in [it for it in THINGS if not given.thing or it.__name__ in given.thing]:
+        for kind in [it for it in SURROUNDINGS if not words or any(word in it.__name__ for word in words)]:
+            small, large, no = counted_around(program, pool, kind)
+            rate = (large - small) / (AROUND[1] - AROUND[0])
+            refused += no
+            grown += rate > 2
+            if rate > 2 or print_all:
+                print(f"{kind.__name__:28}{small:12,.0f} / {large:,.0f}, {rate:,.1f} a unit", flush=True)
+    return grown, refused
+
+
+def beside(program, names, print_all):
+    """Counts the lines beside things that they do not concern; gives how many kinds grow, and how many lines were refused."""
+    grown = refused = 0
+    with ThreadPoolExecutor(os.cpu_count()) as pool:
+        for thing in [it for it in THINGS if not names or it.__name__ in names]:
             pages = [PAGE + thing(size) for size in SIZES]
-            alone = list(pool.map(lambda page: instructions_of(given.program, page), pages))
+            alone = list(pool.map(lambda page: instructions_of(program, page), pages))
             scripts = {kind: [page + lines_of(kind, 1 + page.count("p observer") - 1) for page in pages] for kind in LINES}
-            counted = {kind: [pool.submit(instructions_of, given.program, script) for script in both] for kind, both in scripts.items()}
+            counted = {kind: [pool.submit(instructions_of, program, script) for script in both] for kind, both in scripts.items()}
             for kind, both in counted.items():
                 many = len(lines_of(kind, 0))
                 taken = [(count.result()[0] - start) / many for count, (start, _) in zip(both, alone)]
                 refused += sum(count.result()[1] - start for count, (_, start) in zip(both, alone))
                 grows = taken[1] > 1.1 * taken[0]
                 grown += grows
-                if grows or given.all:
+                if grows or print_all:
                     print(f"{thing.__name__:16}{kind:34}{taken[0]:8,.0f} / {taken[1]:,.0f}", flush=True)
-    print(f"kinds of lines: {len(LINES)}, things: {len(given.thing or THINGS)}, that grow: {grown}, lines refused: {refused}")
+    return grown, refused
+
+
+def main():
+    parser = argparse.ArgumentParser(usage=__doc__.split("Usage: ")[1].split("\n")[0])
+    parser.add_argument("program", nargs="?", default=PROGRAM)
+    parser.add_argument("--thing", nargs="+", choices=[thing.__name__ for thing in THINGS])
+    parser.add_argument("--around", nargs="+")
+    parser.add_argument("--all", action="store_true")
+    given = parser.parse_args()
+    grown = refused = 0
+    if given.thing or not given.around:
+        grown, refused = beside(given.program, given.thing, given.all)
+        print(f"kinds of lines: {len(LINES)}, things: {len(given.thing or THINGS)}, that grow: {grown}, lines refused: {refused}")
+    if given.around or not given.thing:
+        grown, no = around(given.program, given.around, given.all)
+        refused += no
+        print(f"surroundings that grow: {grown}, lines refused: {no}")
     return 1 if refused else 0
 
 
