@@ -35,8 +35,8 @@ class Comparison:
     def judged(self, named):
         """The verdict on each of these scripts, which are pairs of a title and the script."""
         given = [script for _, script in named]
-        outputs = [output for output, _ in engines.answers(self.engine, given)]
-        rows = zip(named, self.program.run(given), outputs)
+        written = self.program.run(given)
+        rows = zip(named, written, [output for output, _ in engines.answers(self.engine, given)])
         found = [judging.Verdict(title, script, wanted, got) for (title, script), wanted, got in rows]
         self.explain([verdict for verdict in found if verdict.names is None], lambda script, _: script)
         if self.engine.name in judging.PROBED:

@@ -9,11 +9,15 @@ import re
 import shutil
 import socket
 import subprocess
+import sys
 import tempfile
 import time
 from concurrent.futures import ThreadPoolExecutor
 
 HERE = os.path.dirname(os.path.abspath(__file__))
+sys.path.append(os.path.join(HERE, "..", "tools"))
+import unproved  # noqa: E402
+
 PROGRAM = os.path.normpath(os.path.join(HERE, "..", "crates", "domrun", "out", "domrun"))
 # Seconds after which an engine is taken to give no answer to a batch of scripts.
 PATIENCE = 600
@@ -71,8 +75,6 @@ class Program:
 class Unproved:
     """The program as `rt try` builds it, without a proof: once for each list of scripts, in about two minutes. It is not kept."""
 
-    head = re.compile(rb"^== (\d+)\n", re.MULTILINE)
-
     def __init__(self) -> None:
         find("rt")
 
@@ -80,18 +82,15 @@ class Unproved:
         """What domrun writes for each script."""
         if not scripts:
             return []
-        with tempfile.TemporaryDirectory() as room:
-            for number, script in enumerate(scripts):
-                with open(os.path.join(room, f"{number:05}"), "wb") as file:
-                    file.write(script.encode("latin-1"))
-            # With a word for the program, here the name of standard input, the kit's slow interpreter is left out.
-            words = ["rt", "try", "--cases", room, "--", "-"]
-            done = subprocess.run(words, cwd=os.path.dirname(os.path.dirname(PROGRAM)), capture_output=True, check=False)
-        parts = self.head.split(done.stdout)
-        outputs = {int(number): text.decode("latin-1") for number, text in zip(parts[1::2], parts[2::2])}
-        if done.returncode or len(outputs) != len(scripts):
-            raise SystemExit(f"rt try: status {done.returncode}, {len(outputs)} of {len(scripts)} answered: {end_of(done.stderr.decode())}")
-        return [outputs[number] for number in range(len(scripts))]
+        cases = [unproved.Case(f"{number}", script.encode("latin-1")) for number, script in enumerate(scripts, 1)]
+        try:
+            answers = unproved.run(cases, lambda text: print(f"compare: {text}", file=sys.stderr, flush=True))
+        except unproved.Fault as fault:
+            raise SystemExit(str(fault)) from None
+        for answer in answers:
+            if answer.fault:
+                raise SystemExit(f"rt try: script {answer.case.name}: {answer.fault}")
+        return [answer.output.decode("latin-1") for answer in answers]
 
 
 def page_of(given):
