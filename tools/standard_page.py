@@ -12,8 +12,8 @@ Where each algorithm of the DOM Standard stands here, what is proved of it, and 
 stand
 
 - its definitions, in `specs/` of a crate: what the algorithm does, as a value that is computed from the state before it. These are the part
-  to read beside the Standard's text. The comments of changes say which of the Standard's numbered steps stand where. The numbers were
-  written without its text at hand (November 2026), so go by the words where they differ;
+  to read beside the Standard's text. The comments of changes say which of the Standard's numbered steps stand where. The numbers
+  were not compared with the living text: where they differ, go by the words;
 - a public call whose contract leads to one of these definitions: its `ensures` clauses name it, or name what is defined by it. The prover
   has accepted the call with this contract. If the call is a law (`dom_worlds`, or a name such as `law_one_list_serves_all`), the contract
   is all of it;
