@@ -17,7 +17,7 @@ ROWS = (
      ("lines", "bytes to commands, answers to text",
       ("dom_words", "dom_reader", "dom_printer", "dom_streams", "dom_program"))),
     (("trees", "nodes in memory, attributes, the forest of all owners", ("node_arena", "dom_attributes", "dom_tree")),
-     ("laws", "proved of the definitions, without code", ("dom_worlds", "dom_isolation", "dom_families", "dom_examples"))),
+     ("laws", "proved of the definitions, without code", ("dom_worlds", "dom_isolation", "dom_examples"))),
     (("laws of trees", "lists of names, and trees in which each name stands once", ("dom_laws",)),),
     (("the meaning", "the definitions after the DOM Standard, and the text of the protocol", ("dom_base", "dom_model", "dom_text")),),
 )

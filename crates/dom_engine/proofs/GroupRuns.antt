@@ -6,11 +6,11 @@ use Rattle.dom_text.specs.Decode.{decode}
 use Rattle.dom_text.specs.Lines.{lines_of, lines_from, text_of_lines}
 use Rattle.dom_text.specs.Text.{output_line}
 use Rattle.dom_isolation.proofs.PlainLines.{decode-reads_plain_words}
-use Rattle.dom_families.specs.Texts.{text_of, GiveTheSame}
-use Rattle.dom_families.proofs.GroupTexts.{decode-reads_owners, same-group_text, same-group_text_while_turns_stand, same-family_text}
-use Rattle.dom_families.proofs.GroupTexts.{same-family_text_while_turns_stand, same-component_text, same-component_text_while_turns_stand}
-use Rattle.dom_families.proofs.GroupTexts.{same-around_text, same-around_text_while_turns_stand}
-use Rattle.dom_families.proofs.GroupTexts.{same-group_text_in_full, same-family_text_in_full, same-component_text_in_full, same-around_text_in_full}
+use Rattle.dom_isolation.specs.GroupTexts.{text_of, GiveTheSame}
+use Rattle.dom_isolation.proofs.GroupTexts.{decode-reads_owners, same-group_text, same-group_text_while_turns_stand, same-family_text}
+use Rattle.dom_isolation.proofs.GroupTexts.{same-family_text_while_turns_stand, same-component_text, same-component_text_while_turns_stand}
+use Rattle.dom_isolation.proofs.GroupTexts.{same-around_text, same-around_text_while_turns_stand}
+use Rattle.dom_isolation.proofs.GroupTexts.{same-group_text_in_full, same-family_text_in_full, same-component_text_in_full, same-around_text_in_full}
 use Rattle.dom_engine.specs.GroupLaws.{SameGroupRuns, SameGroupRunsWhileTurnsStand, SameFamilyRuns, SameFamilyRunsWhileTurnsStand}
 use Rattle.dom_engine.specs.GroupLaws.{SameComponentRuns, SameComponentRunsWhileTurnsStand, SameAroundRuns, SameAroundRunsWhileTurnsStand}
 use Rattle.dom_engine.specs.GroupLaws.{SameGroupRunsInFull, SameFamilyRunsInFull, SameComponentRunsInFull, SameAroundRunsInFull}

@@ -7,9 +7,9 @@ use Rattle.dom_model.specs.Isolation.{family_trace, turns_are_closed, group_turn
 use Rattle.dom_model.specs.Trace.{is_page, no_component_stops}
 use Rattle.dom_text.specs.Decode.{decode}
 use Rattle.dom_text.specs.Lines.{lines_of}
-use Rattle.dom_families.specs.Agreement.{AgreeWhileTurnsStand, AgreeWithClosedTurns}
-use Rattle.dom_families.specs.FullGroups.{AgreeInFull}
-use Rattle.dom_families.specs.Texts.{IsWordOf}
+use Rattle.dom_isolation.specs.Agreement.{AgreeWhileTurnsStand, AgreeWithClosedTurns}
+use Rattle.dom_isolation.specs.FullGroups.{AgreeInFull}
+use Rattle.dom_isolation.specs.GroupTexts.{IsWordOf}
 use Rattle.dom_engine.specs.Run.{run_text}
 
 -- Two inputs that agree for a group that has the page, and with each component its maker, have equal text of each member: where no line of an owner

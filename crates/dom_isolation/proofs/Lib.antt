@@ -1,20 +1,20 @@
 mod SeenRuns
 mod PageSteps
-pub mod GroupParts
-pub mod OwnVisits
-pub mod Touches
-pub mod Untouched
+mod GroupParts
+mod OwnVisits
+mod Touches
+mod Untouched
 mod PageVisits
-pub mod Dispatches
-pub mod Hiding
-pub mod PagePaths
-pub mod ComponentPaths
-pub mod PageTurns
+mod Dispatches
+mod Hiding
+mod PagePaths
+mod ComponentPaths
+mod PageTurns
 mod PageCommands
-pub mod ComponentEvents
-pub mod ComponentCommands
+mod ComponentEvents
+mod ComponentCommands
 mod Lines
-pub mod FullTraces
+mod FullTraces
 mod QuietPages
 pub mod PageRuns
 pub mod PageTexts
@@ -23,3 +23,28 @@ mod PlainRuns
 mod PlainCommands
 pub mod PlainLines
 pub mod PlainTexts
+mod Families
+mod GroupSlots
+mod GroupSignals
+mod GroupSteps
+mod GroupVisits
+mod GroupPaths
+mod GroupViews
+mod OutsideViews
+mod FamilyHosts
+mod TouchedDispatches
+mod GroupDispatches
+mod GroupTurns
+mod GroupBegins
+mod TouchedTurns
+mod GroupCommands
+mod TouchedCommands
+mod OutsideCommands
+mod GroupLines
+mod TouchedLines
+mod GroupRuns
+mod TouchedRuns
+pub mod GroupMembers
+mod GroupLaws
+mod WordedRuns
+pub mod GroupTexts

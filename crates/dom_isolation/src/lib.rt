@@ -1,6 +1,8 @@
-//! The page sees of components their outward events alone: laws over the definitions of the two machines. There is no
-//! code but functions whose contracts are the laws.
+//! The page sees of components their outward events alone, and so does a group of owners of all others (`groups`): laws over the definitions of
+//! the two machines. There is no code but functions whose contracts are the laws.
 #![tactic(auto)]
+
+pub mod groups;
 
 ghost use Rattle.std.specs.Prelude.{List, ℕ};
 ghost use Rattle.dom_model.specs.Command.{Line};

@@ -1,8 +1,0 @@
-use Rattle.dom_families.proofs.GroupMembers.{same-around_while_turns_stand, same-around}
-use Rattle.dom_families.proofs.same_around.Goals as goal
-
-pub returns-clause-standing : goal.returns-clause-standing
-returns-clause-standing c = λ read. same-around_while_turns_stand read
-
-pub returns-clause-closed : goal.returns-clause-closed
-returns-clause-closed c = λ read. same-around read

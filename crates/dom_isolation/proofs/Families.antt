@@ -1,0 +1,123 @@
+-- Groups that keep makers: the page alone, the page with a family, a component with its makers, and all who are not inside a component.
+use Rattle.std.proofs.Common.{◌≡◌, ◌≢◌, ◌≤◌, ℕ, zero, suc, Bool, true, false, not, ◌||◌, List, [], ◌∷◌, ◌++◌, flat_map, get_or, Option, Some, None}
+use Rattle.std.proofs.Common.{refl, sym, ap, ◌∙◌, arith, true≢false, append-nil}
+use Rattle.std.specs.Prelude.{nat_le, slice_set, option_to_list}
+use Rattle.std.specs.List.{list_any}
+use Rattle.std.proofs.lemmas.Bool.{and_parts, leb-true}
+use Rattle.dom_base.specs.Owners.{longer_path, no_path, made_by}
+use Rattle.dom_base.specs.declared.Owner.{Owner}
+use Rattle.dom_base.specs.declared.Owner.TheVariants.{Page, Component}
+use Rattle.dom_model.specs.Names.{owner_eq, owner_depth}
+use Rattle.dom_model.specs.World.{component_made, MayAttach}
+use Rattle.dom_model.specs.Groups.{is_in_family, family_group, top_owner, makers_from, is_inside, makers_group}
+use Rattle.dom_model.specs.Trace.{is_page}
+use Rattle.dom_model.proofs.OwnerLaws.{owner_eq-true, owner_eq-false, owner_eq-same, ne-owner_eq, component_made-no_page, maker-word, made_by-is, made_by-made}
+use Rattle.dom_worlds.proofs.Tests.{by_cases, or-second, or-later}
+use Rattle.dom_isolation.specs.Groups.{PageIsGroup, FamilyIsGroup, MakersAreGroup, OthersAreGroup}
+
+-- another number behind the first leaves the first
+first-kept : (parts : List ℕ) (depth n : ℕ) → 1 ≤ depth → get_or (slice_set parts depth n) 0 0 ≡ get_or parts 0 0
+first-kept [] zero n h = refl
+first-kept [] (suc depth) n h = refl
+first-kept (p ∷ ps) zero n h = absurd (omega (arith, h))
+first-kept (p ∷ ps) (suc depth) n h = refl
+
+-- so what a component makes is in its family
+top_owner-made : (o : Owner) (k : ℕ) → MayAttach o → o ≢ Page → top_owner (component_made o k) ≡ top_owner o
+top_owner-made Page k may off = absurd (off refl)
+top_owner-made (Component q) k may off =
+    let word = maker-word (Component q) may in
+    let deep : 1 ≤ q.depth = leb-true 1 q.depth (and_parts (nat_le 1 q.depth) _ word).0 in
+    ap (λ n. Component (longer_path no_path n)) (first-kept q.parts q.depth (suc k) deep)
+
+-- no component is the page
+made-no_page : (o : Owner) (k : ℕ) → is_page (component_made o k) ≡ false
+made-no_page o k = ne-owner_eq (component_made o k) Page (component_made-no_page o k)
+
+-- what a component makes is of a family with the page just where the component is
+pub family-made : (root o : Owner) (k : ℕ) → MayAttach o → o ≢ Page → family_group root (component_made o k) ≡ family_group root o
+family-made root o k may off =
+    ap (λ b. b || is_in_family root (component_made o k)) (made-no_page o k ∙ sym (ne-owner_eq o Page off))
+    ∙ ap (λ t. is_page o || owner_eq root t) (top_owner-made o k may off)
+
+-- the page alone
+pub page-is_group : PageIsGroup
+page-is_group = record { page = refl; made = λ o k may h. absurd (true≢false (sym h ∙ made-no_page o k)) }
+
+-- with a family
+pub family-is_group : FamilyIsGroup
+family-is_group root =
+    record {
+      page = refl;
+      made = λ o k may h. by_cases (is_page o) (λ t. ap (λ b. b || is_in_family root o) t)
+          (λ t. sym (family-made root o k may (owner_eq-false o Page t)) ∙ h);
+    }
+
+-- Makers.
+-- those of whoever made an owner, as which one of its attaches
+abbrev behind : ℕ → Option (Owner × ℕ) → List Owner
+behind depth m = flat_map (λ ((maker, k) : Owner × ℕ). makers_from depth maker) (option_to_list m)
+
+-- whether an owner is among some
+abbrev among : Owner → List Owner → Bool
+among o os = list_any (owner_eq o) os
+
+-- an owner is the first of its makers
+makers-first : (depth : ℕ) (o : Owner) (os : List Owner) → among o (makers_from depth o ++ os) ≡ true
+makers-first zero o os = ap (λ b. b || among o os) (owner_eq-same o)
+makers-first (suc depth) o os = ap (λ b. b || among o (behind depth (made_by o) ++ os)) (owner_eq-same o)
+
+-- What an owner makes.
+module _ (o : Owner) (k : ℕ) (may : MayAttach o) where
+  -- whoever is inside what an owner made is inside that owner
+  maker-among : (depth : ℕ) (c : Owner) → owner_depth c ≤ depth → among (component_made o k) (makers_from depth c) ≡ true → among o (makers_from depth c) ≡ true
+  maker-among zero c d h =
+      let same : component_made o k ≡ c = by_cases (owner_eq (component_made o k) c) (λ t. owner_eq-true (component_made o k) c t)
+      (λ t. absurd (true≢false (sym (or-later (owner_eq (component_made o k) c) false t h)))) in
+      let deep = ap owner_depth same in
+      absurd (omega (arith, d, deep))
+  maker-among (suc depth) c d h =
+      by_cases (owner_eq (component_made o k) c)
+      (λ t. or-second (owner_eq o c) (among o (behind depth (made_by c)))
+      (ap (λ m. among o (behind depth m)) (ap made_by (sym (owner_eq-true (component_made o k) c t)) ∙ made_by-made o k may) ∙ makers-first depth o []))
+      (λ t. or-second (owner_eq o c) (among o (behind depth (made_by c)))
+      (from (made_by c) refl (or-later (owner_eq (component_made o k) c) (among (component_made o k) (behind depth (made_by c))) t h) (maker-among depth)))
+    where
+      from : (m : Option (Owner × ℕ)) → made_by c ≡ m → among (component_made o k) (behind depth m) ≡ true →
+          ((p : Owner) → owner_depth p ≤ depth → among (component_made o k) (makers_from depth p) ≡ true → among o (makers_from depth p) ≡ true) →
+          among o (behind depth m) ≡ true
+      from None e a deeper = absurd (true≢false (sym a))
+      from (Some (p, j)) e a deeper =
+          let deep = ap owner_depth (made_by-is c p j e) in
+          ap (among o) (append-nil (makers_from depth p))
+          ∙ deeper p (omega (arith, d, deep)) (sym (ap (among (component_made o k)) (append-nil (makers_from depth p))) ∙ a)
+
+  -- whoever an owner is inside of, what it makes is inside of too
+  inside-made : (c : Owner) → is_inside c o ≡ true → is_inside c (component_made o k) ≡ true
+  inside-made c h =
+      or-second (owner_eq c (component_made o k)) (among c (behind (owner_depth o) (made_by (component_made o k))))
+      (ap (λ m. among c (behind (owner_depth o) m)) (made_by-made o k may) ∙ ap (among c) (append-nil (makers_from (owner_depth o) o)) ∙ h)
+
+-- a component with its makers
+pub makers-are_group : MakersAreGroup
+makers-are_group c =
+    record {
+      page = refl;
+      made = λ o k may h. or-second (is_page o) (is_inside o c)
+          (maker-among o k may (owner_depth c) c (omega arith)
+          (or-later (is_page (component_made o k)) (is_inside (component_made o k) c) (made-no_page o k) h));
+    }
+
+-- the component is of that group
+pub own-maker : (c : Owner) → makers_group c c ≡ true
+own-maker c =
+    or-second (is_page c) (is_inside c c)
+    (ap (among c) (sym (append-nil (makers_from (owner_depth c) c))) ∙ makers-first (owner_depth c) c [])
+
+-- all who are not inside a component
+pub others-are_group : OthersAreGroup
+others-are_group c off =
+    record {
+      page = ap (λ b. not (b || false)) (ne-owner_eq c Page off);
+      made = λ o k may h. by_cases (is_inside c o) (λ t. absurd (true≢false (sym h ∙ ap not (inside-made o k may c t)))) (λ t. ap not t);
+    }

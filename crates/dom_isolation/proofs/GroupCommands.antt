@@ -1,0 +1,227 @@
+-- A command of the group does the same to the group in two worlds of which the group has the same.
+use Rattle.std.proofs.Common.{◌≡◌, Bool, true, false, not, ◌&&◌, List, [], ◌∷◌, ◌++◌, length, map, filter, Option, Some, None, option_map, unwrap_or, refl}
+use Rattle.std.proofs.Common.{sym, ap, ◌∙◌}
+use Rattle.std.specs.Prelude.{option_to_list}
+use Rattle.std.specs.List.{AllByRecursion, last_or}
+use Rattle.std.specs.Option.{option_or}
+use Rattle.std.proofs.lemmas.List.Elements.{filter-append}
+use Rattle.dom_base.specs.declared.Owner.{Owner}
+use Rattle.dom_base.specs.declared.Owner.TheVariants.{Page}
+use Rattle.dom_base.specs.declared.NodeName.{NodeName}
+use Rattle.dom_base.specs.declared.Kind.TheVariants.{Shadow}
+use Rattle.dom_base.specs.declared.Refusal.{Refusal}
+use Rattle.dom_base.specs.declared.Refusal.TheVariants.{Syntax, Busy, Foreign, Unknown}
+use Rattle.dom_model.specs.Names.{Word, owner_eq, last_of}
+use Rattle.dom_model.specs.Tree.{node_in, is_document, kind_of}
+use Rattle.dom_model.specs.Command.{Command, NodeWord, EventWords}
+use Rattle.dom_model.specs.Output.{Value, says, replied, refused, nothing, a_component, a_list, a_truth}
+use Rattle.dom_model.specs.Part.{Part}
+use Rattle.dom_model.specs.Runs.{Run, run_then, answering, unless_refused}
+use Rattle.dom_model.specs.Validity.{first_refusal}
+use Rattle.dom_model.specs.CommandRefusals.{is_command_of, part_refusal}
+use Rattle.dom_model.specs.CommandNames.{named, names_foreign}
+use Rattle.dom_model.specs.Effects.{Effect, tables, changes, effect}
+use Rattle.dom_model.specs.World.{World, micro_task, part_of, with_part, is_there, kind_at, is_connected, component_made, shadow_including_ancestors}
+use Rattle.dom_model.specs.WorldSteps.{world_after}
+use Rattle.dom_model.specs.Slots.{assigned}
+use Rattle.dom_model.specs.Dispatch.{Dispatched, dispatch_in}
+use Rattle.dom_model.specs.Turns.{ending_turn, opening_turn, has_other_turn, is_page_turn}
+use Rattle.dom_model.specs.DocumentMachine.{refusal, effect_in, attaching, part_with_root, perform, accepted, run_command}
+use Rattle.dom_model.specs.Groups.{KeepsMakers, group_world, group_outputs, group_run, is_task_of}
+use Rattle.dom_model.proofs.PartLaws.{owner-part_of}
+use Rattle.dom_worlds.proofs.Owners.{owner-named}
+use Rattle.dom_worlds.proofs.TableEffects.{KeepsBase, base-effect}
+use Rattle.dom_worlds.proofs.Tests.{by_cases}
+use Rattle.dom_isolation.proofs.GroupParts.{in_node, part-in, there-in, with_part-in, with_part-out, filter-here}
+use Rattle.dom_isolation.proofs.GroupSlots.{IsGround, ground-of, assigned-in}
+use Rattle.dom_isolation.proofs.GroupSteps.{IsSameGround, steps-in}
+use Rattle.dom_isolation.proofs.GroupPaths.{In, including-in, including-inside}
+use Rattle.dom_isolation.proofs.GroupDispatches.{same-world, same-ground, IsSameView, runs-then, dispatch-in}
+use Rattle.dom_isolation.proofs.TouchedDispatches.{IsSameWorld}
+use Rattle.dom_isolation.proofs.GroupTurns.{same-part, ending-in}
+use Rattle.dom_isolation.proofs.GroupBegins.{same-page_turn, opening-in, opened-quiet}
+
+-- what holds of all holds of the last, or of another
+last-all : (P : NodeName → Type 0) (d : Option NodeName) (xs : List NodeName) (x : NodeName) → AllByRecursion P xs → P (unwrap_or d x) →
+    P (unwrap_or (last_or d xs) x)
+last-all P d [] x a h = h
+last-all P d (y ∷ ys) x a h = last-all P (Some y) ys x a.1 a.0
+
+module _ (g : Owner → Bool) (closed : KeepsMakers g) where
+  -- Refusals are the same.
+  pub refusal-in : (w v : World) → group_world g w ≡ group_world g v → (o : Owner) → g o ≡ true → (c : Command) → refusal w o c ≡ refusal v o c
+  refusal-in w v same o h c =
+      let why : Bool → Bool → Part → Option Refusal = λ open_page there p. option_or
+      (first_refusal ((not (is_command_of o c), Syntax) ∷ (open_page && not (owner_eq o Page), Busy) ∷ (names_foreign c, Foreign) ∷ (not there, Unknown) ∷ []))
+      (part_refusal p c) in
+      ap (λ b. why b (is_there w o) (part_of w o)) (same-page_turn g closed w v same)
+      ∙ ap (λ b. why (is_page_turn v.turn) b (part_of w o)) (sym (there-in g w o h) ∙ ap (λ u. is_there u o) same ∙ there-in g v o h)
+      ∙ ap (why (is_page_turn v.turn) (is_there v o)) (same-part g closed w v same o h)
+
+  -- a world with the same reply
+  answered : (o : Owner) (a : Value) (u v : World) → group_world g u ≡ group_world g v → group_run g (answering o a u) ≡ group_run g (answering o a v)
+  answered o a u v same = ap (λ x. (x, group_outputs g (says o (replied a) ∷ []))) same
+
+  -- Effects.
+  pub effect-in : {w v : World} → IsSameGround g w v → (o : Owner) → g o ≡ true → (e : Effect) → KeepsBase (part_of w o) e →
+      group_run g (effect_in w o e) ≡ group_run g (effect_in v o e)
+  effect-in {w} {v} s o h (tables p lines a) k =
+      let mine = ap g (k.0 ∙ owner-part_of w o) ∙ h in
+      let here : group_world g (with_part w p) ≡ group_world g (with_part v p) =
+      with_part-in g w p mine ∙ ap (λ u. with_part u p) s.same ∙ sym (with_part-in g v p mine) in
+      runs-then g closed (with_part w p, map (says o) lines) (with_part v p, map (says o) lines) (answering o a) (answering o a)
+      (ap (λ u. (u, group_outputs g (map (says o) lines))) here) (answered o a (with_part w p) (with_part v p) here)
+  effect-in {w} {v} s o h (changes steps a) k =
+      answered o a (world_after o w steps) (world_after o v steps) (steps-in g closed o h steps w v s)
+
+  -- An attach writes the part of the group, and the new component's, which may be of the group or outside.
+  attaching-in : (w v : World) → group_world g w ≡ group_world g v → (o : Owner) → g o ≡ true → (x : NodeName) →
+      group_run g (attaching w o x) ≡ group_run g (attaching v o x)
+  attaching-in w v same o h x =
+      let made : World → Part → Run World = λ u p. answering o (a_component (component_made o (length p.attached)))
+      (with_part (with_part u (record p { attached = p.attached ++ x ∷ [] }))
+      (part_with_root (component_made o (length p.attached)) Shadow (node_in p.trees x).document)) in
+      let p = part_of w o in
+      let c = component_made o (length p.attached) in
+      let q : Part = record p { attached = p.attached ++ x ∷ [] } in
+      let root = part_with_root c Shadow (node_in p.trees x).document in
+      let mine = ap g (owner-part_of w o) ∙ h in
+      let marked : group_world g (with_part w q) ≡ group_world g (with_part v q) =
+      with_part-in g w q mine ∙ ap (λ u. with_part u q) same ∙ sym (with_part-in g v q mine) in
+      answered o (a_component c) (with_part (with_part w q) root) (with_part (with_part v q) root)
+      (by_cases (g c)
+      (λ t. with_part-in g (with_part w q) root t ∙ ap (λ u. with_part u root) marked ∙ sym (with_part-in g (with_part v q) root t))
+      (λ t. with_part-out g (with_part w q) root t ∙ marked ∙ sym (with_part-out g (with_part v q) root t)))
+      ∙ ap (λ p. group_run g (made v p)) (same-part g closed w v same o h)
+
+  -- whether a node is connected
+  connected-group : (w : World) → IsGround w → (x : NodeName) → in_node g x ≡ true → is_connected (group_world g w) x ≡ is_connected w x
+  connected-group w i x h =
+      let last = unwrap_or (last_of (shadow_including_ancestors w x)) x in
+      ap (λ xs. is_document (kind_at (group_world g w) (unwrap_or (last_of xs) x))) (including-in g closed w i x h)
+      ∙ ap (λ (p : Part). is_document (kind_of p.trees last))
+      (part-in g w last.owner (last-all (In g closed w i) None (shadow_including_ancestors w x) x (including-inside g closed w i x h) h))
+
+  -- a target and a related node of the group
+  pub record AreOfGroup (x : NodeName) (r : Option NodeName) : Type 0 where
+    pub target : in_node g x ≡ true
+    pub related : AllByRecursion (λ y. in_node g y ≡ true) (option_to_list r)
+
+  -- a dispatch with its answer
+  dispatched-in : {w v : World} → IsSameView g w v → (o : Owner) → (x : NodeName) (r : Option NodeName) (e : EventWords) → AreOfGroup x r →
+      group_run g (run_then (dispatch_in w x r e).run (answering o (a_truth (dispatch_in w x r e).answer)))
+      ≡ group_run g (run_then (dispatch_in v x r e).run (answering o (a_truth (dispatch_in v x r e).answer)))
+  dispatched-in {w} {v} s o x r e mine =
+      let d = dispatch_in w x r e in
+      let b = dispatch_in v x r e in
+      let shown = dispatch-in g closed s x r e mine.target mine.related in
+      runs-then g closed d.run b.run (answering o (a_truth d.answer)) (answering o (a_truth b.answer))
+      (ap (λ (d : Dispatched World). d.run) shown)
+      (ap (λ (d : Dispatched World). (d.run.0, group_outputs g (says o (replied (a_truth d.answer)) ∷ []))) shown)
+
+  -- a microtask
+  micro-in : (w v : World) → group_world g w ≡ group_world g v → (o : Owner) → g o ≡ true → (label : Word) →
+      group_world g (record w { tasks = w.tasks ++ micro_task o label ∷ [] }) ≡ group_world g (record v { tasks = v.tasks ++ micro_task o label ∷ [] })
+  micro-in w v same o h label =
+      let more : (u : World) → filter (is_task_of g) (u.tasks ++ micro_task o label ∷ []) ≡ filter (is_task_of g) u.tasks ++ micro_task o label ∷ [] =
+      λ u. filter-append (is_task_of g) u.tasks (micro_task o label ∷ [])
+      ∙ ap (λ ts. filter (is_task_of g) u.tasks ++ ts) (filter-here (is_task_of g) (micro_task o label) [] h) in
+      ap (λ ts. record (group_world g w) { tasks = ts }) (more w) ∙ ap (λ (u : World). record u { tasks = u.tasks ++ micro_task o label ∷ [] }) same
+      ∙ sym (ap (λ ts. record (group_world g v) { tasks = ts }) (more v))
+
+  -- The commands without events, in two worlds of which the group has the same.
+  module _ {w v : World} (s : IsSameWorld g w v) (o : Owner) (h : g o ≡ true) where
+    -- a word of the owner names a node of the group
+    named-inside : (a : NodeWord) → in_node g (named (part_of w o) a) ≡ true
+    named-inside a = ap g (owner-named (part_of w o) a ∙ owner-part_of w o) ∙ h
+
+    -- an attach
+    pub attach-alike : (a : NodeWord) → group_run g (perform w o (Command.attach a)) ≡ group_run g (perform v o (Command.attach a))
+    attach-alike a =
+        attaching-in w v s.same o h (named (part_of w o) a) ∙ ap (λ x. group_run g (attaching v o (named x a))) (same-part g closed w v s.same o h)
+
+    -- whether a node is connected
+    pub connected-alike : (a : NodeWord) → group_run g (perform w o (Command.connected a)) ≡ group_run g (perform v o (Command.connected a))
+    connected-alike a =
+        let x = named (part_of w o) a in
+        let mine = named-inside a in
+        answered o (a_truth (is_connected w x)) w v s.same
+        ∙ ap (λ b. group_run g (answering o (a_truth b) v))
+        (sym (connected-group w (ground-of w s.first.world) x mine) ∙ ap (λ u. is_connected u x) s.same ∙ connected-group v (ground-of v s.second.world) x mine)
+        ∙ ap (λ r. group_run g (answering o (a_truth (is_connected v (named r a))) v)) (same-part g closed w v s.same o h)
+
+    -- what is assigned to a slot
+    pub assigned-alike : (a : NodeWord) → group_run g (perform w o (Command.assigned a)) ≡ group_run g (perform v o (Command.assigned a))
+    assigned-alike a =
+        let x = named (part_of w o) a in
+        let mine = named-inside a in
+        answered o (a_list (assigned w x)) w v s.same
+        ∙ ap (λ b. group_run g (answering o (a_list b) v))
+        (sym (assigned-in g closed w (ground-of w s.first.world) x mine) ∙ ap (λ u. assigned u x) s.same
+        ∙ assigned-in g closed v (ground-of v s.second.world) x mine)
+        ∙ ap (λ r. group_run g (answering o (a_list (assigned v (named r a))) v)) (same-part g closed w v s.same o h)
+
+    -- a microtask
+    pub micro-alike : (a : Word) → group_run g (perform w o (Command.micro a)) ≡ group_run g (perform v o (Command.micro a))
+    micro-alike a =
+        answered o nothing (record w { tasks = w.tasks ++ micro_task o a ∷ [] }) (record v { tasks = v.tasks ++ micro_task o a ∷ [] })
+        (micro-in w v s.same o h a)
+
+    -- any other
+    pub effect-alike : (c : Command) → group_run g (effect_in w o (effect (part_of w o) c)) ≡ group_run g (effect_in v o (effect (part_of v o) c))
+    effect-alike c =
+        effect-in (same-ground s) o h (effect (part_of w o) c) (base-effect (part_of w o) c)
+        ∙ ap (λ x. group_run g (effect_in v o (effect x c))) (same-part g closed w v s.same o h)
+
+    -- the target and the related node of a dispatch are of the group
+    pub words-inside : (a : NodeWord) (r : Option NodeWord) → AreOfGroup (named (part_of w o) a) (option_map (named (part_of w o)) r)
+    words-inside a None = record { target = named-inside a; related = tt }
+    words-inside a (Some b) = record { target = named-inside a; related = (named-inside b, tt) }
+
+  -- What an accepted command does.
+  pub perform-in : (w v : World) → IsSameView g w v → (o : Owner) → g o ≡ true → (c : Command) → group_run g (perform w o c) ≡ group_run g (perform v o c)
+  perform-in w v s o h (Command.attach a) = attach-alike (same-world s) o h a
+  perform-in w v s o h (Command.connected a) = connected-alike (same-world s) o h a
+  perform-in w v s o h (Command.assigned a) = assigned-alike (same-world s) o h a
+  perform-in w v k o h (Command.dispatch a e r) =
+      let x = part_of w o in
+      let done : Part → Run World = λ y. let d = dispatch_in v (named y a) (option_map (named y) r) e in run_then d.run (answering o (a_truth d.answer)) in
+      dispatched-in k o (named x a) (option_map (named x) r) e (words-inside (same-world k) o h a r)
+      ∙ ap (λ y. group_run g (done y)) (same-part g closed w v k.same o h)
+  perform-in w v s o h (Command.micro a) = micro-alike (same-world s) o h a
+  perform-in w v s o h Command.end_turn =
+      let first = ending-in g closed w v s in
+      runs-then g closed (ending_turn w) (ending_turn v) (answering o nothing) (answering o nothing) first
+      (answered o nothing (ending_turn w).0 (ending_turn v).0 (ap (λ (r : Run World). r.0) first))
+  perform-in w v s o h c = effect-alike (same-world s) o h c
+
+  -- Two quiet worlds that show the group the same, and an owner of the group, whose turn may be opened in both.
+  module _ {w v : World} (s : IsSameView g w v) (o : Owner) (h : g o ≡ true) (a : has_other_turn w o ≡ false) (b : has_other_turn v o ≡ false) where
+    -- with the turn that it opens
+    opened : (c : Command) → group_run g (perform (opening_turn w o) o c) ≡ group_run g (perform (opening_turn v o) o c)
+    opened c =
+        perform-in (opening_turn w o) (opening_turn v o)
+        (record {
+          first = opened-quiet w s.first o;
+          second = opened-quiet v s.second o;
+          same = opening-in g closed w v s.same o (record { mine = h; first = a; second = b });
+        }) o h c
+
+    -- `.` apart, which opens none
+    accepted-in : (c : Command) → group_run g (accepted w o c) ≡ group_run g (accepted v o c)
+    accepted-in Command.end_turn = perform-in w v s o h Command.end_turn
+    accepted-in c = opened c
+
+    -- A command, refused or accepted.
+    pub command-in : (c : Command) → group_run g (run_command o c w) ≡ group_run g (run_command o c v)
+    command-in c = from (refusal w o c) refl
+      where
+        from : (r : Option Refusal) → refusal w o c ≡ r →
+            group_run g (unless_refused o (refusal w o c) w (accepted w o c)) ≡ group_run g (unless_refused o (refusal v o c) v (accepted v o c))
+        from (Some r) e =
+            ap (λ x. group_run g (unless_refused o x w (accepted w o c))) e
+            ∙ ap (λ u. (u, group_outputs g (says o (refused r) ∷ []))) s.same
+            ∙ sym (ap (λ x. group_run g (unless_refused o x v (accepted v o c))) (sym (refusal-in w v s.same o h c) ∙ e))
+        from None e =
+            ap (λ x. group_run g (unless_refused o x w (accepted w o c))) e ∙ accepted-in c
+            ∙ sym (ap (λ x. group_run g (unless_refused o x v (accepted v o c))) (sym (refusal-in w v s.same o h c) ∙ e))

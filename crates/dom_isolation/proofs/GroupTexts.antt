@@ -1,0 +1,160 @@
+-- Texts: an owner's lines of output are those that begin with its word and a space, so two texts that agree for a group give each member the same.
+use Rattle.std.proofs.Common.{◌≡◌, ◌<◌, ◌^◌, ℕ, List, [], ◌∷◌, map, Some, refl, sym, ap, ◌∙◌, inl, inr, arith, subst}
+use Rattle.std.proofs.lemmas.Bool.{cases_eq}
+use Rattle.std.specs.List.{AllByRecursion}
+use Rattle.std.specs.Fmt.{decimal}
+use Rattle.std.specs.Prelude.{get_or}
+use Rattle.std.proofs.lemmas.Fmt.{decimal_digit}
+use Rattle.dom_base.specs.declared.Owner.{Owner}
+use Rattle.dom_base.specs.declared.Owner.TheVariants.{Page, Component}
+use Rattle.dom_model.specs.Command.{Line, no_owner, no_command, command}
+use Rattle.dom_model.specs.DocumentMachine.{outputs_of}
+use Rattle.dom_model.specs.Names.{owner_eq}
+use Rattle.dom_model.specs.Output.{Output, bad_owner, says}
+use Rattle.dom_model.specs.Groups.{is_in_family, family_group, makers_group, group_without}
+use Rattle.dom_model.specs.Trace.{is_page, is_of, owner_of_line, owner_of_output}
+use Rattle.dom_model.proofs.OwnerLaws.{owner_eq-true, owner_eq-same, owner_eq-false, ne-owner_eq}
+use Rattle.dom_text.specs.Decode.{decode}
+use Rattle.dom_text.specs.Grammar.{Says, BelongsTo}
+use Rattle.dom_text.specs.Lines.{lines_of, lines_from}
+use Rattle.dom_text.specs.Text.{output_line, is_line_of}
+use Rattle.dom_text.specs.Tokens.{IsOwner, IsPositive, ArePositive}
+use Rattle.dom_text.specs.Words.{owner_word}
+use Rattle.dom_text.proofs.DecodeLaws.{decode_says}
+use Rattle.dom_text.proofs.TextLaws.{HasWord, IsOwner-owner_word, IsNumber-decimal, lines_from-outputs}
+use Rattle.dom_isolation.specs.Words.{ReadsPlainWords}
+use Rattle.dom_worlds.proofs.Lists.{all-from, all-map, filter_same}
+use Rattle.dom_isolation.proofs.PlainTexts.{output-has_its_lines}
+use Rattle.dom_worlds.proofs.Tests.{by_cases, or-second}
+use Rattle.dom_isolation.specs.GroupTexts.{IsWordOf, ReadsOwners, DecodeReadsOwners, OwnLinesHaveTheirPrefix, SameFamilyText, SameFamilyTextWhileTurnsStand}
+use Rattle.dom_isolation.specs.GroupTexts.{SameGroupText, SameGroupTextWhileTurnsStand, SameComponentText, SameComponentTextWhileTurnsStand}
+use Rattle.dom_isolation.specs.GroupTexts.{SameAroundText, SameAroundTextWhileTurnsStand, SameGroupTextInFull, SameFamilyTextInFull}
+use Rattle.dom_isolation.specs.GroupTexts.{SameComponentTextInFull, SameAroundTextInFull}
+use Rattle.dom_isolation.proofs.Families.{family-is_group, makers-are_group, others-are_group, own-maker}
+use Rattle.dom_isolation.proofs.GroupMembers.{same-member_while_turns_stand, agree-standing, same-member_in_full}
+use Rattle.dom_isolation.proofs.WordedRuns.{IsWordedInput, worded-outputs}
+
+-- a number of one to nine digits that does not begin with 0 is not 0
+positive-above : (k : ℕ) (text : List ℕ) → IsPositive k text → 0 < k
+positive-above k [] h = absurd h
+positive-above k (d ∷ digits) h = elim (cases_eq k 0) [
+  | inl e ↦
+      let zero : (d ∷ digits) ≡ 48 ∷ [] = (IsNumber-decimal k (d ∷ digits) (inr h)).0 ∙ ap decimal e ∙ decimal_digit 0 (omega arith) in
+      let first : d ≡ 48 = ap (λ ds. get_or ds 0 0) zero in
+      absurd (omega (arith, h.0, first))
+  | inr ne ↦ omega (arith, ne)
+]
+
+-- numbers of such texts have at most nine digits
+shorts-of : (ns : List ℕ) (texts : List (List ℕ)) → ArePositive ns texts → AllByRecursion (λ n. (0 < n) × (n < 10 ^ 9)) ns
+shorts-of [] [] h = tt
+shorts-of [] (text ∷ texts) h = absurd h
+shorts-of (n ∷ ns) [] h = absurd h
+shorts-of (n ∷ ns) (text ∷ texts) h = ((positive-above n text h.0, (IsNumber-decimal n text (inr h.0)).1), shorts-of ns texts h.1)
+
+-- what is known of an owner whose word is read
+word-of : (o : Owner) (name : List ℕ) → IsOwner o name → HasWord o
+word-of Page name h = tt
+word-of (Component q) name h = (h.0, shorts-of h.0 h.1 h.2, h.3, h.4, h.5)
+
+-- the protocol's reading gives such owners
+pub decode-reads_owners : DecodeReadsOwners
+decode-reads_owners bytes o e = from (decode bytes) (decode_says bytes) e
+  where
+    belongs : BelongsTo bytes o → IsWordOf o
+    belongs b = subst (IsOwner o) (IsOwner-owner_word o b.0 b.2) b.2
+
+    from : (l : Line) → Says bytes l → owner_of_line l ≡ Some o → IsWordOf o
+    from no_owner s e = cc
+    from (no_command p) s e = let same : p ≡ o = cc in belongs (subst (BelongsTo bytes) same s.0)
+    from (command p c) s e = let same : p ≡ o = cc in subst IsWordOf same (subst (IsOwner p) (IsOwner-owner_word p s.name s.owned) s.owned)
+
+-- a line of output is an owner's, in both words
+owner_eq-turned : (a b : Owner) → owner_eq a b ≡ owner_eq b a
+owner_eq-turned a b =
+    by_cases (owner_eq a b) (λ h. h ∙ sym (ap (λ x. owner_eq b x) (owner_eq-true a b h) ∙ owner_eq-same b))
+    (λ h. h ∙ sym (ne-owner_eq b a (λ e. owner_eq-false a b h (sym e))))
+
+-- of each
+line-is_of : (o : Owner) (l : Output) → is_line_of o l ≡ is_of (owner_eq o) (owner_of_output l)
+line-is_of o bad_owner = refl
+line-is_of o (says p s) = owner_eq-turned p o
+
+module _ (read : List ℕ → Line) where
+  -- an owner's lines in the text of the output
+  pub own_lines-have_their_prefix : ReadsOwners read → ReadsPlainWords read → OwnLinesHaveTheirPrefix read
+  own_lines-have_their_prefix owners plain o t bytes =
+      let lines = lines_of bytes in
+      let outputs = outputs_of (map read lines) in
+      let worded = worded-outputs (map read lines)
+      (all-map IsWordedInput read lines (all-from (λ b. IsWordedInput (read b)) (λ b p e. word-of p (owner_word p) (owners b p e)) lines)) in
+      ap (lines_from o) (output-has_its_lines read plain lines) ∙ lines_from-outputs o outputs (word-of o (owner_word o) t) worded
+      ∙ ap (map output_line) (filter_same (is_line_of o) (λ l. is_of (owner_eq o) (owner_of_output l)) outputs
+      (all-from (λ l. is_line_of o l ≡ is_of (owner_eq o) (owner_of_output l)) (line-is_of o) outputs))
+
+  -- Two texts: a member of a group,
+  pub same-group_text_while_turns_stand : ReadsOwners read → ReadsPlainWords read → SameGroupTextWhileTurnsStand read
+  same-group_text_while_turns_stand owners plain g closed member m t first second k =
+      own_lines-have_their_prefix owners plain member t first
+      ∙ ap (map output_line) (same-member_while_turns_stand read g closed member m (lines_of first) (lines_of second) k)
+      ∙ sym (own_lines-have_their_prefix owners plain member t second)
+
+  -- with closed turns
+  pub same-group_text : ReadsOwners read → ReadsPlainWords read → SameGroupText read
+  same-group_text owners plain g closed member m t first second k =
+      same-group_text_while_turns_stand owners plain g closed member m t first second (agree-standing read g (lines_of first) (lines_of second) k)
+
+  -- of a family,
+  pub same-family_text_while_turns_stand : ReadsOwners read → ReadsPlainWords read → SameFamilyTextWhileTurnsStand read
+  same-family_text_while_turns_stand owners plain root member m t first second a b c d e =
+      same-group_text_while_turns_stand owners plain (family_group root) (family-is_group root) member
+      (or-second (is_page member) (is_in_family root member) m) t first second ((a, b, e), c, d)
+
+  -- with closed turns
+  pub same-family_text : ReadsOwners read → ReadsPlainWords read → SameFamilyText read
+  same-family_text owners plain root member off m t first second a b c d e =
+      same-group_text owners plain (family_group root) (family-is_group root) member
+      (or-second (is_page member) (is_in_family root member) m) t first second ((a, b, e), c, d)
+
+  -- a component with its makers,
+  pub same-component_text_while_turns_stand : ReadsOwners read → ReadsPlainWords read → SameComponentTextWhileTurnsStand read
+  same-component_text_while_turns_stand owners plain c t first second k =
+      same-group_text_while_turns_stand owners plain (makers_group c) (makers-are_group c) c (own-maker c) t first second k
+
+  -- with closed turns
+  pub same-component_text : ReadsOwners read → ReadsPlainWords read → SameComponentText read
+  same-component_text owners plain c t first second k =
+      same-group_text owners plain (makers_group c) (makers-are_group c) c (own-maker c) t first second k
+
+  -- and around a component
+  pub same-around_text_while_turns_stand : ReadsOwners read → ReadsPlainWords read → SameAroundTextWhileTurnsStand read
+  same-around_text_while_turns_stand owners plain c o off out t first second k =
+      same-group_text_while_turns_stand owners plain (group_without c) (others-are_group c off) o out t first second k
+
+  -- with closed turns
+  pub same-around_text : ReadsOwners read → ReadsPlainWords read → SameAroundText read
+  same-around_text owners plain c o off out t first second k =
+      same-group_text owners plain (group_without c) (others-are_group c off) o out t first second k
+
+  -- Whatever others' listeners do, and whose turns they end: a member of a group,
+  pub same-group_text_in_full : ReadsOwners read → ReadsPlainWords read → SameGroupTextInFull read
+  same-group_text_in_full owners plain g closed member m t first second k =
+      own_lines-have_their_prefix owners plain member t first
+      ∙ ap (map output_line) (same-member_in_full read g closed member m (lines_of first) (lines_of second) k)
+      ∙ sym (own_lines-have_their_prefix owners plain member t second)
+
+  -- of a family,
+  pub same-family_text_in_full : ReadsOwners read → ReadsPlainWords read → SameFamilyTextInFull read
+  same-family_text_in_full owners plain root member m t first second k =
+      same-group_text_in_full owners plain (family_group root) (family-is_group root) member
+      (or-second (is_page member) (is_in_family root member) m) t first second k
+
+  -- a component with its makers,
+  pub same-component_text_in_full : ReadsOwners read → ReadsPlainWords read → SameComponentTextInFull read
+  same-component_text_in_full owners plain c t first second k =
+      same-group_text_in_full owners plain (makers_group c) (makers-are_group c) c (own-maker c) t first second k
+
+  -- and around a component
+  pub same-around_text_in_full : ReadsOwners read → ReadsPlainWords read → SameAroundTextInFull read
+  same-around_text_in_full owners plain c o off out t first second k =
+      same-group_text_in_full owners plain (group_without c) (others-are_group c off) o out t first second k

@@ -1,0 +1,192 @@
+-- Notifications and the endings of turns as a group has them: its own tasks do the same in two worlds of which it has the same, and
+-- others' tasks do nothing.
+use Rattle.std.proofs.Common.{◌≡◌, Bool, true, false, not, List, [], ◌∷◌, filter, None, refl, sym, ap, ◌∙◌, true≢false}
+use Rattle.std.specs.List.{AllByRecursion}
+use Rattle.dom_base.specs.declared.Owner.{Owner}
+use Rattle.dom_base.specs.declared.NodeName.{NodeName}
+use Rattle.dom_model.specs.Output.{says, micro_ran}
+use Rattle.dom_model.specs.Part.{Part}
+use Rattle.dom_model.specs.Runs.{Run, run_each}
+use Rattle.dom_model.specs.World.{World, Task, micro_task, notify_task, part_of, with_part}
+use Rattle.dom_model.specs.Dispatch.{Dispatched}
+use Rattle.dom_model.specs.Turns.{slotchange, firing_slotchange, is_owned_by, without_signals, notifying, notified, notified_lines, running_task, ending_turn}
+use Rattle.dom_model.specs.Groups.{KeepsMakers, group_world, group_turn, group_outputs, group_run, is_task_of}
+use Rattle.dom_model.specs.Trace.{is_of, owner_of_output}
+use Rattle.dom_model.proofs.OwnerLaws.{owner_eq-true}
+use Rattle.dom_model.proofs.PartLaws.{owner-part_of}
+use Rattle.dom_worlds.specs.Reached.{Invariant}
+use Rattle.dom_worlds.proofs.Lists.{all-then, all-passed, filter_all, filter_none, filter-filter}
+use Rattle.dom_worlds.proofs.Tests.{by_cases}
+use Rattle.dom_worlds.proofs.TurnEndings.{told_in, quiet-told, quiet-dispatch, quiet-running, at_end, quiet-at_end}
+use Rattle.dom_isolation.proofs.PageTurns.{IsLineOf, lines-notified}
+use Rattle.dom_isolation.specs.GroupLaws.{IsCalm}
+use Rattle.dom_isolation.proofs.GroupParts.{in_node, part-in, with_part-in, with_part-out, filter-here, filter-away}
+use Rattle.dom_isolation.proofs.TouchedDispatches.{no_dispatch}
+use Rattle.dom_isolation.proofs.OutsideViews.{views-kept_in}
+use Rattle.dom_isolation.proofs.GroupDispatches.{IsSameView, runs-then, quiet-then, dispatch-in}
+
+-- a test on the items of which another holds anyway
+pub filter-sub : {X : Type 0} (p t : X → Bool) → ((x : X) → p x ≡ true → t x ≡ true) → (xs : List X) → filter p (filter t xs) ≡ filter p xs
+filter-sub p t f xs =
+    filter-filter p t xs ∙ filter_all t (filter p xs) (all-then (λ x. p x ≡ true) (λ x. t x ≡ true) f (filter p xs) (all-passed (λ x. p x ≡ true) p
+    (λ x h. h) xs))
+
+module _ (g : Owner → Bool) (closed : KeepsMakers g) where
+  -- an owner's nodes are of the group where the owner is
+  owned-in : (o : Owner) → g o ≡ true → (s : NodeName) → is_owned_by o s ≡ true → in_node g s ≡ true
+  owned-in o h s e = ap g (owner_eq-true s.owner o e) ∙ h
+
+  -- and outside where it is not
+  owned-out : (o : Owner) → g o ≡ false → (s : NodeName) → is_owned_by o s ≡ true → in_node g s ≡ false
+  owned-out o h s e = ap g (owner_eq-true s.owner o e) ∙ h
+
+  -- The part of an owner of the group in two worlds of which the group has the same.
+  pub same-part : (w v : World) → group_world g w ≡ group_world g v → (o : Owner) → g o ≡ true → part_of w o ≡ part_of v o
+  same-part w v same o h = sym (part-in g w o h) ∙ ap (λ u. part_of u o) same ∙ part-in g v o h
+
+  -- Events at the signalled slots of the group,
+  firings-in : (ss : List NodeName) (w v : World) → IsSameView g w v → AllByRecursion (λ s. in_node g s ≡ true) ss →
+      group_run g (run_each firing_slotchange w ss) ≡ group_run g (run_each firing_slotchange v ss)
+  firings-in [] w v s h = ap (λ u. (u, [])) s.same
+  firings-in (s ∷ ss) w v k h =
+      let first : group_run g (firing_slotchange w s) ≡ group_run g (firing_slotchange v s) =
+      ap (λ (d : Dispatched World). d.run) (dispatch-in g closed k s None slotchange h.0 tt) in
+      runs-then g closed (firing_slotchange w s) (firing_slotchange v s) (λ u. run_each firing_slotchange u ss) (λ u. run_each firing_slotchange u ss) first
+      (firings-in ss (firing_slotchange w s).0 (firing_slotchange v s).0
+      (record {
+        first = quiet-dispatch w s None slotchange k.first;
+        second = quiet-dispatch v s None slotchange k.second;
+        same = ap
+            (λ (r : Run World). r.0) first;
+      })
+      h.1)
+
+  -- and at others'
+  firings-out : {only_log : Bool} (ss : List NodeName) (w : World) → Invariant only_log w → AllByRecursion (λ s. in_node g s ≡ false) ss →
+      group_run g (run_each firing_slotchange w ss) ≡ (group_world g w, [])
+  firings-out [] w q h = refl
+  firings-out (s ∷ ss) w q h =
+      let first : group_run g (firing_slotchange w s) ≡ (group_world g w, []) =
+      no_dispatch g w q.world s None slotchange (views-kept_in g closed w q.world s None h.0) in
+      quiet-then g closed (firing_slotchange w s) w (λ u. run_each firing_slotchange u ss) (w, []) first
+      (firings-out ss (firing_slotchange w s).0 (quiet-dispatch w s None slotchange q) h.1 ∙ ap (λ (r : Run World). (r.0, [])) first)
+
+  -- The first part of a notification of the group.
+  told-group : (w : World) (o : Owner) → g o ≡ true → group_world g (told_in w o) ≡ told_in (group_world g w) o
+  told-group w o h =
+      with_part-in g (without_signals w o) (notified (part_of w o)) (ap g (owner-part_of w o) ∙ h)
+      ∙ ap (λ ss. with_part (record (group_world g w) { signalled = ss }) (notified (part_of w o)))
+      (filter-filter (in_node g) (λ s. not (is_owned_by o s)) w.signalled)
+      ∙ ap (λ p. with_part (without_signals (group_world g w) o) (notified p)) (sym (part-in g w o h))
+
+  -- the signalled slots of an owner
+  abbrev pub slots : Owner → World → List NodeName
+  slots o u = filter (is_owned_by o) u.signalled
+
+  -- In two worlds of which the group has the same: the first part of a notification, and the slots.
+  module _ (w v : World) (same : group_world g w ≡ group_world g v) (o : Owner) (h : g o ≡ true) where
+    -- the world and the lines
+    pub told-in : group_run g (told_in w o, notified_lines (part_of w o)) ≡ group_run g (told_in v o, notified_lines (part_of v o))
+    told-in =
+        ap (λ u. (u, group_outputs g (notified_lines (part_of w o)))) (told-group w o h ∙ ap (λ u. told_in u o) same ∙ sym (told-group v o h))
+        ∙ ap (λ a. (group_world g (told_in v o), group_outputs g (notified_lines a))) (same-part w v same o h)
+
+    -- the slots
+    pub slots-in : slots o w ≡ slots o v
+    slots-in =
+        sym (filter-sub (is_owned_by o) (in_node g) (owned-in o h) w.signalled) ∙ ap (slots o) same
+        ∙ filter-sub (is_owned_by o) (in_node g) (owned-in o h) v.signalled
+
+    -- which are of the group
+    pub slots-inside : AllByRecursion (λ s. in_node g s ≡ true) (slots o w)
+    slots-inside = all-passed (λ s. in_node g s ≡ true) (is_owned_by o) (owned-in o h) w.signalled
+
+  -- a notification of the group
+  notifying-in : (w v : World) → IsSameView g w v → (o : Owner) → g o ≡ true → group_run g (notifying w o) ≡ group_run g (notifying v o)
+  notifying-in w v k o h =
+      let first = told-in w v k.same o h in
+      runs-then g closed (told_in w o, notified_lines (part_of w o)) (told_in v o, notified_lines (part_of v o))
+      (λ u. run_each firing_slotchange u (slots o w)) (λ u. run_each firing_slotchange u (slots o v)) first
+      (firings-in (slots o w) (told_in w o) (told_in v o)
+      (record { first = quiet-told w o k.first; second = quiet-told v o k.second; same = ap (λ (r : Run World). r.0) first }) (slots-inside w v k.same o h)
+      ∙ ap (λ ss. group_run g (run_each firing_slotchange (told_in v o) ss)) (slots-in w v k.same o h))
+
+  -- another's lines are not the group's
+  lines-out : (p : Part) → g p.owner ≡ false → group_outputs g (notified_lines p) ≡ []
+  lines-out p h =
+      filter_none (λ l. is_of g (owner_of_output l)) (notified_lines p)
+      (all-then (IsLineOf p.owner) (λ l. is_of g (owner_of_output l) ≡ false) (λ l e. ap (is_of g) e ∙ h) (notified_lines p) (lines-notified p))
+
+  -- a notification of another owner
+  notifying-out : {only_log : Bool} (w : World) → Invariant only_log w → (o : Owner) → g o ≡ false → group_run g (notifying w o) ≡ (group_world g w, [])
+  notifying-out w q o h =
+      let slots = filter (is_owned_by o) w.signalled in
+      let away = ap g (owner-part_of w o) ∙ h in
+      let told : group_world g (told_in w o) ≡ group_world g w =
+      with_part-out g (without_signals w o) (notified (part_of w o)) away
+      ∙ ap (λ ss. record (group_world g w) { signalled = ss })
+      (filter-sub (in_node g) (λ s. not (is_owned_by o s)) kept w.signalled) in
+      quiet-then g closed (told_in w o, notified_lines (part_of w o)) w (λ u. run_each firing_slotchange u slots) (w, [])
+      (ap (λ u. (u, group_outputs g (notified_lines (part_of w o)))) told ∙ ap (λ ls. (group_world g w, ls)) (lines-out (part_of w o) away))
+      (firings-out slots (told_in w o) (quiet-told w o q) (all-passed (λ s. in_node g s ≡ false) (is_owned_by o) (owned-out o h) w.signalled)
+      ∙ ap (λ u. (u, [])) told)
+    where
+      kept : (s : NodeName) → in_node g s ≡ true → not (is_owned_by o s) ≡ true
+      kept s t = ap not (by_cases (is_owned_by o s) (λ e. absurd (true≢false (sym t ∙ owned-out o h s e))) (λ e. e))
+
+  -- Tasks: one of the group,
+  running-in : (w v : World) → IsSameView g w v → (t : Task) → is_task_of g t ≡ true → group_run g (running_task w t) ≡ group_run g (running_task v t)
+  running-in w v s (micro_task o label) h = ap (λ u. (u, group_outputs g (running_task v (micro_task o label)).1)) s.same
+  running-in w v s (notify_task o) h = notifying-in w v s o h
+
+  -- and one of another owner
+  pub running-out : {only_log : Bool} (w : World) → Invariant only_log w → (t : Task) → is_task_of g t ≡ false →
+      group_run g (running_task w t) ≡ (group_world g w, [])
+  running-out w q (micro_task o label) h =
+      ap (λ ls. (group_world g w, ls)) (filter-away (λ l. is_of g (owner_of_output l)) (says o (micro_ran label)) [] h)
+  running-out w q (notify_task o) h = notifying-out w q o h
+
+  -- all of them do what those of the group do
+  running-all : (ts : List Task) (w v : World) → IsSameView g w v →
+      group_run g (run_each running_task w ts) ≡ group_run g (run_each running_task v (filter (is_task_of g) ts))
+  running-all [] w v s = ap (λ u. (u, [])) s.same
+  running-all (t ∷ ts) w v s =
+      by_cases (is_task_of g t)
+      (λ h. let first = running-in w v s t h in
+      runs-then g closed (running_task w t) (running_task v t) (λ u. run_each running_task u ts) (λ u. run_each running_task u (filter (is_task_of g) ts)) first
+      (running-all ts (running_task w t).0 (running_task v t).0
+      (record { first = quiet-running w s.first t; second = quiet-running v s.second t; same = ap (λ (r : Run World). r.0) first }))
+      ∙ sym (ap (λ us. group_run g (run_each running_task v us)) (filter-here (is_task_of g) t ts h)))
+      (λ h. let first = running-out w s.first t h in
+      quiet-then g closed (running_task w t) w (λ u. run_each running_task u ts) (run_each running_task v (filter (is_task_of g) ts)) first
+      (running-all ts (running_task w t).0 v
+      (record { first = quiet-running w s.first t; second = s.second; same = ap (λ (r : Run World). r.0) first ∙ s.same }))
+      ∙ sym (ap (λ us. group_run g (run_each running_task v us)) (filter-away (is_task_of g) t ts h)))
+
+  -- of which none is of the group
+  running-none : {only_log : Bool} (ts : List Task) (w : World) → Invariant only_log w → filter (is_task_of g) ts ≡ [] →
+      group_run g (run_each running_task w ts) ≡ (group_world g w, [])
+  running-none [] w q h = refl
+  running-none (t ∷ ts) w q h =
+      by_cases (is_task_of g t) (λ e. let some : t ∷ filter (is_task_of g) ts ≡ [] = sym (filter-here (is_task_of g) t ts e) ∙ h in cc)
+      (λ e. let first = running-out w q t e in
+      quiet-then g closed (running_task w t) w (λ u. run_each running_task u ts) (w, []) first
+      (running-none ts (running_task w t).0 (quiet-running w q t) (sym (filter-away (is_task_of g) t ts e) ∙ h) ∙ ap (λ (r : Run World). (r.0, [])) first))
+
+  -- A world with neither a turn nor tasks of the group, as it is when its turn ends.
+  pub at_end-calm : (w : World) → IsCalm g w → group_turn g w.turn ≡ None → group_world g (at_end w) ≡ group_world g w
+  at_end-calm w calm h =
+      ap (λ ts. record (group_world g w) { tasks = ts; turn = None }) (sym (calm h)) ∙ ap (λ t. record (group_world g w) { turn = t }) (sym h)
+
+  -- The ending of a turn: in two worlds of which the group has the same,
+  pub ending-in : (w v : World) → IsSameView g w v → group_run g (ending_turn w) ≡ group_run g (ending_turn v)
+  ending-in w v s =
+      let same_end = ap at_end s.same in
+      running-all w.tasks (at_end w) (at_end v) (record { first = quiet-at_end w s.first; second = quiet-at_end v s.second; same = same_end })
+      ∙ ap (λ ts. group_run g (run_each running_task (at_end v) ts)) (ap (λ (u : World). u.tasks) s.same)
+      ∙ sym (running-all v.tasks (at_end v) (at_end v) (record { first = quiet-at_end v s.second; second = quiet-at_end v s.second; same = refl }))
+
+  -- Where no turn of the group is open, and so it has no tasks, the ending of a turn does nothing.
+  pub ending-out : {only_log : Bool} (w : World) → Invariant only_log w → IsCalm g w → group_turn g w.turn ≡ None →
+      group_run g (ending_turn w) ≡ (group_world g w, [])
+  ending-out w q calm h = running-none w.tasks (at_end w) (quiet-at_end w q) (calm h) ∙ ap (λ u. (u, [])) (at_end-calm w calm h)
