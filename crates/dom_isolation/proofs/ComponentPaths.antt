@@ -47,14 +47,14 @@ pub way_up-foreign : (w : World) → IsWorld w → (x : NodeName) → Foreign x 
 way_up-foreign w i x f =
     ways-foreign w i max_depth (ancestors_at w x) (all-then (IsOf x.owner) Foreign (λ y e p. f (sym e ∙ p)) (ancestors_at w x) (ancestors-owned w i x))
 
--- nor has what is left of a list without page nodes
+-- what is left of a path
 abbrev pub cut_at : World → NodeName → Option NodeName → List NodeName → List NodeName
 cut_at w target related xs = take_while (λ y. not (ends_at w target related y)) xs
 
--- a front of such a list
-cut-foreign : (w : World) (target : NodeName) (related : Option NodeName) (xs : List NodeName) → AllByRecursion Foreign xs →
-    AllByRecursion Foreign (cut_at w target related xs)
-cut-foreign w target related xs h = all-take_while Foreign (λ y. not (ends_at w target related y)) xs h
+-- a front of a list whose nodes all have a property
+pub cut-all : (P : NodeName → Type 0) (w : World) (target : NodeName) (related : Option NodeName) (xs : List NodeName) → AllByRecursion P xs →
+    AllByRecursion P (cut_at w target related xs)
+cut-all P w target related xs h = all-take_while P (λ y. not (ends_at w target related y)) xs h
 
 -- a path of which that is so
 path-foreign : (w : World) (target : NodeName) (related : Option NodeName) (composed : Bool) →
@@ -78,7 +78,7 @@ pub views-kept_in : (w : World) → IsWorld w → (target : NodeName) (related :
     filter is_page_view (views w target related false) ≡ []
 views-kept_in w i target related f =
     views-foreign w target related false (path-foreign w target related false
-    (cut-foreign w target related (way_up w target ++ []) (all-append Foreign (way_up w target) [] (way_up-foreign w i target f) tt)))
+    (cut-all Foreign w target related (way_up w target ++ []) (all-append Foreign (way_up w target) [] (way_up-foreign w i target f) tt)))
 
 -- an event whose chain of hosts has no page node
 pub views-far : (w : World) → IsWorld w → (target : NodeName) (related : Option NodeName) (composed : Bool) → AllByRecursion Foreign (host_chain w target) →
@@ -88,7 +88,7 @@ views-far w i target related composed h =
     let at = chain-first (owner_depth target.owner) w target in
     let first : Foreign target = (subst (AllByRecursion Foreign) at.1 h).0 in
     views-foreign w target related composed (path-foreign w target related composed
-    (cut-foreign w target related (whole_path w target composed)
+    (cut-all Foreign w target related (whole_path w target composed)
     (all-flat_map Foreign (way_up w) from
     (all-then Foreign (λ y. AllByRecursion Foreign (way_up w y)) (way_up-foreign w i) from
     (either_way (AllByRecursion Foreign) composed (host_chain w target) (target ∷ []) h (first, tt))))))
@@ -185,7 +185,7 @@ retarget-host w i x host b =
 -- Two nodes below a host in a world.
 module _ (w : World) (i : IsWorld w) (x y host : NodeName) (u : IsBelow w x host) (v : IsBelow w y host) where
   -- so it ends there
-  pub ends-at_host : ends_at w x (Some y) host ≡ true
+  ends-at_host : ends_at w x (Some y) host ≡ true
   ends-at_host =
       let deep = u.deeper in
       let other : name_eq host x ≡ false = other-owner host x (λ e. let same = ap owner_depth e in absurd (omega (arith, deep, same))) in
@@ -194,32 +194,33 @@ module _ (w : World) (i : IsWorld w) (x y host : NodeName) (u : IsBelow w x host
       (ap (name_eq host) (retarget-host w i x host u) ∙ name_eq-same host)
       (ap (λ z. is_in name_eq host (z ∷ [])) (retarget-host w i y host v) ∙ ap (λ b. b || false) (name_eq-same host)))
 
-  -- with a related node in the same tree no page node has a view
-  pub views-related : filter is_page_view (views w x (Some y) true) ≡ []
-  views-related =
-      views-foreign w x (Some y) true (path-foreign w x (Some y) true
-      (by_times (times_in (trees_with w host) host) absent (λ z. present (ancestors-present (trees_with w host) host z)
-      (chain-first (owner_depth host.owner) w host))))
+  -- so the nodes of the path are on the way up from the first one
+  pub related-cut : (P : NodeName → Type 0) → AllByRecursion P (way_up w x) → AllByRecursion P (cut_at w x (Some y) (whole_path w x true))
+  related-cut P way =
+      by_times (times_in (trees_with w host) host) absent (λ z. present (ancestors-present (trees_with w host) host z)
+      (chain-first (owner_depth host.owner) w host))
     where
       -- a host that is no node has no node on the path
-      absent : times_in (trees_with w host) host ≡ 0 → AllByRecursion Foreign (cut_at w x (Some y) (whole_path w x true))
+      absent : times_in (trees_with w host) host ≡ 0 → AllByRecursion P (cut_at w x (Some y) (whole_path w x true))
       absent z =
           let none_up : way_up w host ≡ [] = ap (flat_map (with_slots max_depth w)) (ancestors-absent (trees_with w host) host z) in
           let whole : whole_path w x true ≡ way_up w x ++ [] =
           ap (flat_map (way_up w)) (chain-below w x host u ∙ ap (λ xs. x ∷ xs) (hosts-alone (owner_depth host.owner) w host (absent-host w i host z)))
           ∙ ap (λ xs. way_up w x ++ (xs ++ [])) none_up in
-          subst (λ xs. AllByRecursion Foreign (cut_at w x (Some y) xs)) (sym whole)
-          (cut-foreign w x (Some y) (way_up w x ++ []) (all-append Foreign (way_up w x) [] (way_up-foreign w i x u.tree.foreign) tt))
+          subst (λ xs. AllByRecursion P (cut_at w x (Some y) xs)) (sym whole) (cut-all P w x (Some y) (way_up w x ++ []) (all-append P (way_up w x) [] way tt))
 
       -- at another one the path ends
       present : ((rest : List NodeName) × (ancestors_at w host ≡ host ∷ rest)) → ((rest : List NodeName) × (host_chain w host ≡ host ∷ rest)) →
-          AllByRecursion Foreign (cut_at w x (Some y) (whole_path w x true))
+          AllByRecursion P (cut_at w x (Some y) (whole_path w x true))
       present at chain =
           let more = slot_way max_depth w host ++ flat_map (with_slots max_depth w) at.0 in
           let outer = flat_map (way_up w) chain.0 in
           let whole : whole_path w x true ≡ way_up w x ++ host ∷ (more ++ outer) =
           ap (flat_map (way_up w)) (chain-below w x host u ∙ ap (λ xs. x ∷ xs) chain.1)
           ∙ ap (λ xs. way_up w x ++ (xs ++ outer)) (ap (flat_map (with_slots max_depth w)) at.1 ∙ slots-first max_depth w host at.0) in
-          subst (λ xs. AllByRecursion Foreign (cut_at w x (Some y) xs)) (sym whole)
-          (all-before Foreign (λ z. not (ends_at w x (Some y) z)) (way_up w x) host (more ++ outer) (ap not (ends-at_host))
-          (way_up-foreign w i x u.tree.foreign))
+          subst (λ xs. AllByRecursion P (cut_at w x (Some y) xs)) (sym whole)
+          (all-before P (λ z. not (ends_at w x (Some y) z)) (way_up w x) host (more ++ outer) (ap not ends-at_host) way)
+
+  -- with a related node in the same tree no page node has a view
+  pub views-related : filter is_page_view (views w x (Some y) true) ≡ []
+  views-related = views-foreign w x (Some y) true (path-foreign w x (Some y) true (related-cut Foreign (way_up-foreign w i x u.tree.foreign)))

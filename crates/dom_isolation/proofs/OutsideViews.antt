@@ -7,24 +7,21 @@ use Rattle.std.proofs.lemmas.Bool.{cond-true, cond-false}
 use Rattle.std.proofs.lemmas.Grind.{flat_map-append}
 use Rattle.dom_base.specs.declared.Owner.{Owner}
 use Rattle.dom_base.specs.declared.NodeName.{NodeName}
-use Rattle.dom_model.specs.Tree.{times_in}
 use Rattle.dom_model.specs.Names.{name_eq, owner_depth, max_depth, is_in}
-use Rattle.dom_model.specs.World.{World, trees_with, root_at, ancestors_at, host_above, host_chain, shadow_including_ancestors}
+use Rattle.dom_model.specs.World.{World, root_at, ancestors_at, host_above, host_chain, shadow_including_ancestors}
 use Rattle.dom_model.specs.Paths.{View, is_hidden_from, retarget, retarget_related, is_node, with_slots, way_up, whole_path, ends_at, event_path, view_at}
 use Rattle.dom_model.specs.Paths.{views}
 use Rattle.dom_model.specs.Groups.{KeepsMakers}
 use Rattle.dom_model.specs.Trace.{boundary_host}
 use Rattle.dom_worlds.specs.Worlds.{IsWorld}
-use Rattle.dom_worlds.proofs.Chains.{IsBelow, has-chain, below-host, hosts-alone, chain-below, chain-first, absent-host}
-use Rattle.dom_isolation.proofs.ComponentPaths.{cut_at, ends-at_host, no_end}
-use Rattle.dom_worlds.proofs.ShadowTrees.{IsInTree, ancestors-in_tree, slot_way, slots-behind, slots-first}
+use Rattle.dom_worlds.proofs.Chains.{IsBelow, has-chain, below-host, hosts-alone, chain-below, chain-first}
+use Rattle.dom_isolation.proofs.ComponentPaths.{cut_at, cut-all, no_end, related-cut}
+use Rattle.dom_worlds.proofs.ShadowTrees.{IsInTree, ancestors-in_tree, slots-behind}
 use Rattle.dom_isolation.proofs.ComponentEvents.{find-past}
-use Rattle.dom_worlds.proofs.Lists.{all-append, all-then, all-from, all-passed, all-flat_map, all-take_while, all-before, filter-map, filter_none, map_same}
+use Rattle.dom_worlds.proofs.Lists.{all-append, all-then, all-from, all-passed, all-flat_map, filter-map, filter_none, map_same}
 use Rattle.dom_isolation.proofs.PagePaths.{IsInSome, slot_way-in_some, uncut}
 use Rattle.dom_worlds.proofs.Tests.{by_cases, either_way}
-use Rattle.dom_laws.proofs.Counts.{by_times}
-use Rattle.dom_worlds.proofs.Trees.{all-both, ancestors-present}
-use Rattle.dom_laws.proofs.Paths.{path_none as ancestors-absent}
+use Rattle.dom_worlds.proofs.Trees.{all-both}
 use Rattle.std.proofs.lemmas.List.Elements.{filter-append}
 use Rattle.dom_isolation.proofs.GroupParts.{in_node}
 use Rattle.dom_isolation.proofs.GroupVisits.{in_view}
@@ -73,14 +70,10 @@ module _ (g : Owner → Bool) (closed : KeepsMakers g) (w : World) (i : IsWorld 
       (cut_at w x r (whole_path w x composed)) tt h in
       filter-map (in_view g) (view_at w x r path) path ∙ ap (map (view_at w x r path)) (filter_none (in_node g) path away)
 
-  -- a front of nodes outside
-  cut-away : (x : NodeName) (r : Option NodeName) (xs : List NodeName) → AllByRecursion Away xs → AllByRecursion Away (cut_at w x r xs)
-  cut-away x r xs h = all-take_while Away (λ y. not (ends_at w x r y)) xs h
-
   -- an event that is not composed
   pub views-kept_in : (x : NodeName) (r : Option NodeName) → Away x → filter (in_view g) (views w x r false) ≡ []
   views-kept_in x r h =
-      views-away x r false (cut-away x r (way_up w x ++ []) (all-append Away (way_up w x) [] (way-outside g closed w (ground g closed w i) x h) tt))
+      views-away x r false (cut-all Away w x r (way_up w x ++ []) (all-append Away (way_up w x) [] (way-outside g closed w (ground g closed w i) x h) tt))
 
   -- an event whose chain of hosts is outside
   pub views-far : (x : NodeName) (r : Option NodeName) (composed : Bool) → AllByRecursion Away (host_chain w x) → filter (in_view g) (views w x r composed) ≡ []
@@ -88,7 +81,7 @@ module _ (g : Owner → Bool) (closed : KeepsMakers g) (w : World) (i : IsWorld 
       let from : List NodeName = if composed then host_chain w x else x ∷ [] in
       let at = chain-first (owner_depth x.owner) w x in
       let first : Away x = (subst (AllByRecursion Away) at.1 h).0 in
-      views-away x r composed (cut-away x r (whole_path w x composed)
+      views-away x r composed (cut-all Away w x r (whole_path w x composed)
       (all-flat_map Away (way_up w) from
       (all-then Away (λ y. AllByRecursion Away (way_up w y)) (way-outside g closed w (ground g closed w i)) from
       (either_way (AllByRecursion Away) composed (host_chain w x) (x ∷ []) h (first, tt)))))
@@ -96,34 +89,7 @@ module _ (g : Owner → Bool) (closed : KeepsMakers g) (w : World) (i : IsWorld 
   -- a related node in the same shadow tree: the path ends before the host
   pub views-related : (x y host : NodeName) → Away x → IsBelow w x host → IsBelow w y host → filter (in_view g) (views w x (Some y) true) ≡ []
   views-related x y host far u v =
-      views-away x (Some y) true
-      (by_times (times_in (trees_with w host) host) absent (λ z. present (ancestors-present (trees_with w host) host z)
-      (chain-first (owner_depth host.owner) w host)))
-    where
-      way : AllByRecursion Away (way_up w x)
-      way = way-outside g closed w (ground g closed w i) x far
-
-      -- a host that is no node has no node on the path
-      absent : times_in (trees_with w host) host ≡ 0 → AllByRecursion Away (cut_at w x (Some y) (whole_path w x true))
-      absent z =
-          let none_up : way_up w host ≡ [] = ap (flat_map (with_slots max_depth w)) (ancestors-absent (trees_with w host) host z) in
-          let whole : whole_path w x true ≡ way_up w x ++ [] =
-          ap (flat_map (way_up w)) (chain-below w x host u ∙ ap (λ xs. x ∷ xs) (hosts-alone (owner_depth host.owner) w host (absent-host w i host z)))
-          ∙ ap (λ xs. way_up w x ++ (xs ++ [])) none_up in
-          subst (λ xs. AllByRecursion Away (cut_at w x (Some y) xs)) (sym whole)
-          (cut-away x (Some y) (way_up w x ++ []) (all-append Away (way_up w x) [] way tt))
-
-      -- at another one the path ends
-      present : ((rest : List NodeName) × (ancestors_at w host ≡ host ∷ rest)) → ((rest : List NodeName) × (host_chain w host ≡ host ∷ rest)) →
-          AllByRecursion Away (cut_at w x (Some y) (whole_path w x true))
-      present at chain =
-          let more = slot_way max_depth w host ++ flat_map (with_slots max_depth w) at.0 in
-          let outer = flat_map (way_up w) chain.0 in
-          let whole : whole_path w x true ≡ way_up w x ++ host ∷ (more ++ outer) =
-          ap (flat_map (way_up w)) (chain-below w x host u ∙ ap (λ xs. x ∷ xs) chain.1)
-          ∙ ap (λ xs. way_up w x ++ (xs ++ outer)) (ap (flat_map (with_slots max_depth w)) at.1 ∙ slots-first max_depth w host at.0) in
-          subst (λ xs. AllByRecursion Away (cut_at w x (Some y) xs)) (sym whole)
-          (all-before Away (λ z. not (ends_at w x (Some y) z)) (way_up w x) host (more ++ outer) (ap not (ends-at_host w i x y host u v)) way)
+      views-away x (Some y) true (related-cut w i x y host u v Away (way-outside g closed w (ground g closed w i) x far))
 
   -- The way out of a node to the group: hosts outside in shadow trees, and then the chain of hosts of a node of the group.
   pub record HasExit (x host : NodeName) : Type 0 where

@@ -108,24 +108,31 @@ module _ (g : Owner → Bool) where
   still-visits e (v ∷ vs) s h t =
       still-visits e vs (world_visit e s v) (stopped-visit e s v h) (there-visit e s v vs t.1) ∙ still-visit e s v h t.0
 
-  -- and nobody touches it any more.
-  untouched-stopped : (e : EventWords) (vs : List (Visit NodeName)) (s : InWorld) → s.1.stopped ≡ true → interference_from g e s vs ≡ untouched
-  untouched-stopped e [] s h = refl
-  untouched-stopped e (v ∷ vs) s h =
+  -- Nobody touches an event by a visit that leaves its flags, where nobody touches it behind.
+  pub untouched-on : (e : EventWords) (v : Visit NodeName) (vs : List (Visit NodeName)) (s : InWorld) →
+      interference_from g e (world_visit e s v) vs ≡ untouched →
+      (is_own_visit g v ≡ false → touched s.1 (world_visit e s v).1 untouched ≡ touched s.1 s.1 untouched) →
+      interference_from g e s (v ∷ vs) ≡ untouched
+  untouched-on e v vs s later same =
       let t = world_visit e s v in
-      let later = untouched-stopped e vs t (stopped-visit e s v h) in
       let own = one_more (interference_from g e t vs) in
       let other = touched s.1 t.1 (interference_from g e t vs) in
       by_cases (is_own_visit g v)
       (λ o. cond-true (is_own_visit g v) own other o ∙ ap one_more later)
-      (λ o. cond-false (is_own_visit g v) own other o ∙ ap (touched s.1 t.1) later
-      ∙ ap (λ (r : InWorld). touched s.1 r.1 untouched) (visit-stopped e s v h) ∙ same_flags s.1.stopped s.1.cancelled)
+      (λ o. cond-false (is_own_visit g v) own other o ∙ ap (touched s.1 t.1) later ∙ same o ∙ same_flags s.1.stopped s.1.cancelled)
     where
       same_flags : (a b : Bool) → record { reached = if a && not a then Some 0 else None; cancelled = (b && not b) || false } ≡ untouched
       same_flags true true = refl
       same_flags true false = refl
       same_flags false true = refl
       same_flags false false = refl
+
+  -- So nobody touches a stopped one any more.
+  untouched-stopped : (e : EventWords) (vs : List (Visit NodeName)) (s : InWorld) → s.1.stopped ≡ true → interference_from g e s vs ≡ untouched
+  untouched-stopped e [] s h = refl
+  untouched-stopped e (v ∷ vs) s h =
+      untouched-on e v vs s (untouched-stopped e vs (world_visit e s v) (stopped-visit e s v h))
+      (λ o. ap (λ (r : InWorld). touched s.1 r.1 untouched) (visit-stopped e s v h))
 
   -- What the group has of their ends, where others cancelled, or not, what comes in between.
   pub record EndAlike (c touched_now : Bool) (s t : InWorld) : Type 0 where

@@ -1,5 +1,5 @@
 -- Where the listeners of others for an event only log, nobody touches it; and what others do is small.
-use Rattle.std.proofs.Common.{◌≡◌, ◌≤◌, ℕ, suc, Bool, true, false, not, ◌&&◌, ◌||◌, List, [], ◌∷◌, ◌++◌, filter, fold, length}
+use Rattle.std.proofs.Common.{◌≡◌, ◌≤◌, ℕ, suc, Bool, true, false, not, ◌&&◌, List, [], ◌∷◌, ◌++◌, filter, fold, length}
 use Rattle.std.proofs.Common.{Option, Some, None, option_map, refl, sym, ap, ◌∙◌, true≢false, subst, arith}
 use Rattle.std.specs.Prelude.{if◌then◌else◌}
 use Rattle.std.specs.List.{AllByRecursion}
@@ -28,6 +28,7 @@ use Rattle.dom_isolation.specs.Interference.{Interference, untouched, touched, o
 use Rattle.dom_isolation.specs.FullLaws.{OthersOnlyLog, LogsEvent, InterferenceIsSmall}
 use Rattle.dom_isolation.proofs.GroupParts.{filter-here, filter-away}
 use Rattle.dom_isolation.proofs.OwnVisits.{kept-visited}
+use Rattle.dom_isolation.proofs.Touches.{untouched-on}
 
 -- Two dispatches with the same flags.
 abbrev pub HasSameFlags : Going → Going → Type 0
@@ -96,13 +97,6 @@ module _ (P : Listener NodeName → Type 0) where
   all-visited : (e : EventWords) (v : Visit NodeName) (d : Going) → AllByRecursion P d.listeners → AllByRecursion P (visited name_eq e d v).listeners
   all-visited e v d h = kept-visited (λ c. AllByRecursion P c.listeners) e v (all-call e v) d h
 
--- a record by the flags before and behind a visit that left them
-same_flags : (a b : Bool) → record { reached = if a && not a then Some 0 else None; cancelled = (b && not b) || false } ≡ untouched
-same_flags true true = refl
-same_flags true false = refl
-same_flags false true = refl
-same_flags false false = refl
-
 module _ (g : Owner → Bool) where
   -- a visit keeps others' listeners as they are, or takes some away
   logs-visit : (event : Word) (e : EventWords) (s : InWorld) (v : Visit NodeName) → OthersOnlyLog g event s.0 → OthersOnlyLog g event (world_visit e s v).0
@@ -121,16 +115,9 @@ module _ (g : Owner → Bool) where
   pub untouched-logs : (e : EventWords) (vs : List (Visit NodeName)) (s : InWorld) → OthersOnlyLog g e.event s.0 → interference_from g e s vs ≡ untouched
   untouched-logs e [] s logs = refl
   untouched-logs e (v ∷ vs) s logs =
-      let t = world_visit e s v in
       let p = part_of s.0 v.current.owner in
-      let later = untouched-logs e vs t (logs-visit e.event e s v logs) in
-      let own = one_more (interference_from g e t vs) in
-      let other = touched s.1 t.1 (interference_from g e t vs) in
-      by_cases (is_own_visit g v)
-      (λ o. cond-true (is_own_visit g v) own other o ∙ ap one_more later)
-      (λ o. cond-false (is_own_visit g v) own other o ∙ ap (touched s.1 t.1) later
-      ∙ ap (λ d. touched s.1 d untouched) (flags-visited e v (record s.1 { listeners = p.listeners }) (logs v.current.owner o) [] [])
-      ∙ same_flags s.1.stopped s.1.cancelled)
+      untouched-on g e v vs s (untouched-logs e vs (world_visit e s v) (logs-visit e.event e s v logs))
+      (λ o. ap (λ d. touched s.1 d untouched) (flags-visited e v (record s.1 { listeners = p.listeners }) (logs v.current.owner o) [] []))
 
   -- of a dispatch
   pub interference-is_on_purpose : (w : World) (x : NodeName) (related : Option NodeName) (e : EventWords) → OthersOnlyLog g e.event w →
