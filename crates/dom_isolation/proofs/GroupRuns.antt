@@ -48,21 +48,26 @@ module _ (g : Owner → Bool) (closed : KeepsMakers g) where
   outward-quiet v p None = p
   outward-quiet v p (Some e) = quiet-dispatch v e.host None (outward_words e) p
 
+  -- a line of which the group has what it has of another run
+  line-shown : {w v : World} → IsPair g closed w v → (l : Line) → line_may_stop w l ≡ false → (r : Run World) → group_run g (step w l) ≡ group_run g r →
+      IsQuiet r.0 → IsCalm g (step w l).0 → AreRuns g closed (step w l) r
+  line-shown {w} k l stops r shown right calm = record {
+    shown = shown;
+    pair = record {
+      same = ap (λ (q : Run World). q.0) shown;
+      left = step-keeps_reached true w l k.left (λ e. stops);
+      whole = step-keeps_whole true w l k.left k.whole;
+      right = right;
+      calm = calm;
+    };
+  }
+
   -- a line of the group
   line-own : (w v : World) → IsPair g closed w v → (l : Line) → line_may_stop w l ≡ false → is_of g (owner_of_line l) ≡ true →
       AreRuns g closed (step w l) (step v l)
   line-own w v k l stops h =
-      let shown = line-in g closed w v (pair-view k) k.calm l h in
-      record {
-        shown = shown;
-        pair = record {
-          same = ap (λ (r : Run World). r.0) shown;
-          left = step-keeps_reached true w l k.left (λ e. stops);
-          whole = step-keeps_whole true w l k.left k.whole;
-          right = quiet-step v l k.right (λ e. sym (may_stop-in g closed w v (pair-view k) k.calm l h) ∙ stops);
-          calm = calm-in g closed w k.calm l h;
-        };
-      }
+      line-shown k l stops (step v l) (line-in g closed w v (pair-view k) k.calm l h)
+      (quiet-step v l k.right (λ e. sym (may_stop-in g closed w v (pair-view k) k.calm l h) ∙ stops)) (calm-in g closed w k.calm l h)
 
   -- a line of another owner
   line-other : {w v : World} → IsPair g closed w v → (l : Line) → line_may_stop w l ≡ false → is_of g (owner_of_line l) ≡ false →
@@ -70,17 +75,8 @@ module _ (g : Owner → Bool) (closed : KeepsMakers g) where
   line-other {w} {v} k l stops h t =
       let e = outward_event g w l in
       let own = line-out g closed k.left k.whole k.calm l h t in
-      let shown = own ∙ outward-in g closed w v (pair-view k) e (event-host g w l) in
-      record {
-        shown = shown;
-        pair = record {
-          same = ap (λ (r : Run World). r.0) shown;
-          left = step-keeps_reached true w l k.left (λ e. stops);
-          whole = step-keeps_whole true w l k.left k.whole;
-          right = outward-quiet v k.right e;
-          calm = same-calm g closed (outward_run w e).0 (step w l).0 (sym (ap (λ (r : Run World). r.0) own)) (calm-outward g closed w k.calm e);
-        };
-      }
+      line-shown k l stops (outward_run v e) (own ∙ outward-in g closed w v (pair-view k) e (event-host g w l)) (outward-quiet v k.right e)
+      (same-calm g closed (outward_run w e).0 (step w l).0 (sym (ap (λ (r : Run World). r.0) own)) (calm-outward g closed w k.calm e))
 
   module _ {L : Type 0} (read : L → Line) where
     -- an outward event as an item of the trace
