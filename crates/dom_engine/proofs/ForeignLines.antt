@@ -1,8 +1,7 @@
 -- A line whose command names another owner's node is refused, the page's as well as a component's.
-use Rattle.std.proofs.Common.{◌≡◌, ℕ, Bool, true, false, not, ◌&&◌, List, [], ◌∷◌, ◌++◌, Some, IsTrue, refl, sym, ap, subst, ◌∙◌}
+use Rattle.std.proofs.Common.{◌≡◌, Bool, true, false, not, ◌&&◌, [], ◌∷◌, ◌++◌, Some, refl, sym, ap, subst, ◌∙◌}
 use Rattle.std.specs.Prelude.{if◌then◌else◌}
 use Rattle.std.specs.Option.{option_or}
-use Rattle.dom_base.specs.declared.Owner.{Owner}
 use Rattle.dom_base.specs.declared.Owner.TheVariants.{Page, Component}
 use Rattle.dom_base.specs.declared.Refusal.TheVariants.{Syntax, Busy, Foreign, Unknown}
 use Rattle.dom_model.specs.Command.{Command, command, assigned}
@@ -15,11 +14,10 @@ use Rattle.dom_model.specs.Turns.{ending_other_turn, is_page_turn}
 use Rattle.dom_model.specs.Validity.{first_refusal}
 use Rattle.dom_model.specs.World.{World, is_there, part_of}
 use Rattle.dom_model.proofs.StepLaws.{Component-IsNoPage}
-use Rattle.dom_text.specs.Decode.{decode}
 use Rattle.dom_text.specs.Grammar.{MayUse, Says}
 use Rattle.dom_text.proofs.DecodeLaws.{decode_says}
 use Rattle.dom_isolation.proofs.PageTexts.{foreign_line-is_refused}
-use Rattle.dom_engine.specs.Session.{ForeignLinesAreRefused, refused_as_foreign}
+use Rattle.dom_engine.specs.Session.{ForeignLinesAreRefused}
 
 -- a component's line is busy where the page's turn is open
 busy-component : (b : Bool) → (if b && true then Busy else Foreign) ≡ (if b then Busy else Foreign)
