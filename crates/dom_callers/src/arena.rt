@@ -1,6 +1,6 @@
 //! Callers of `node_arena`.
-ghost use Rattle.std.specs.Prelude.{◌≡◌, ◌<◌, ◌++◌, ◌∷◌, ◌↔◌, [], length, IsTrue, IfOk, OnOk, OnErr};
-ghost use Rattle.node_arena.specs.Nodes.{IsInclusiveAncestor};
+ghost use Rattle.std.specs.Prelude.{◌≡◌, ◌≢◌, ◌<◌, ◌++◌, ◌∷◌, ◌↔◌, [], ℕ, length, IsTrue, IfOk, OnOk, OnErr};
+ghost use Rattle.node_arena.specs.Nodes.{IsInclusiveAncestor, children_of, without};
 ghost use Rattle.dom_callers.specs.Fronts.{in_front, moved_below, grouped};
 
 use node_arena::{Arena, Key};
@@ -26,6 +26,10 @@ pub fn move_below<T>(arena: &mut Arena<T>, key: Key, parent: Key) -> bool
     requires parent_is_node { parent < length arena.old.payloads }
     ensures asked { IsTrue result ↔ ¬ IsInclusiveAncestor arena.old.children key parent }
     ensures moved { IsTrue result → arena.new ≡ record arena.old { children = moved_below arena.old.children key parent } }
+    ensures children { IsTrue result →
+        children_of arena.new.children parent ≡ without key (children_of arena.old.children parent) ++ key ∷ [] }
+    ensures others { IsTrue result → (k : ℕ) → k ≢ parent →
+        children_of arena.new.children k ≡ without key (children_of arena.old.children k) }
     ensures left { ¬ IsTrue result → arena.new ≡ arena.old }
 {
     if arena.is_inclusive_ancestor(key, parent) {
