@@ -4,7 +4,6 @@ mod Selections
 mod Hosting
 mod InHand
 mod Outlines
-mod PutFirst
 mod Rearranged
 mod Rooms
 mod Written

@@ -19,7 +19,7 @@ mod widgets;
 
 pub use arena::move_to_front;
 pub use editing::rewrite;
-pub use items::{count_items, item_at, last_comes_first};
+pub use items::{add_item, count_items, item_at, last_comes_first};
 pub use moving::move_before;
 pub use notes::{Note, write_note};
 pub use observing::watch_attributes;
@@ -29,5 +29,5 @@ pub use ranges::select_contents;
 pub use rearranging::rearrange;
 pub use selecting::has_match;
 pub use traversal::next_focus;
-pub use tree::label;
+pub use tree::{label, relabel};
 pub use widgets::{count_widget_visits, press};

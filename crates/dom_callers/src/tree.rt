@@ -1,12 +1,12 @@
-//! A caller of `dom_tree`.
-ghost use Rattle.std.specs.Prelude.{◌≡◌};
+//! Callers of `dom_tree`.
+ghost use Rattle.std.specs.Prelude.{◌≡◌, true, false, Some, is_some};
 ghost use Rattle.std.specs.Option.{option_map, option_and_then};
 ghost use Rattle.dom_model.specs.Names.{first_of};
 ghost use Rattle.dom_model.specs.Tree.{children_of};
 ghost use Rattle.dom_tree.specs.Forest.{IsNode, name_of};
 ghost use Rattle.dom_callers.specs.Labels.{text_at};
 
-use dom_base::Kind;
+use dom_base::{DomStr, Kind};
 use dom_tree::Forest;
 use node_arena::Key;
 
@@ -21,4 +21,24 @@ pub fn label(forest: &Forest, button: Key) -> Option<&[u16]>
         Kind::Text => Some(forest.text(child)),
         _ => None,
     }
+}
+
+/// Gives a button another label: the data of its first child, where that is a Text. It answers whether there was one; where not, the
+/// forest stays as it was (own rule).
+pub fn relabel(forest: &mut Forest, button: Key, text: DomStr) -> bool
+    requires { IsNode forest.old button }
+    ensures asked { result ≡ is_some (option_and_then (text_at forest.old.trees)
+        (first_of (children_of forest.old.trees (name_of forest.old button)))) }
+    ensures label { result ≡ true → option_and_then (text_at forest.new.trees)
+        (first_of (children_of forest.new.trees (name_of forest.old button))) ≡ Some text.items }
+    ensures left { result ≡ false → forest.new ≡ forest.old }
+{
+    let Some(child) = forest.first(button) else {
+        return false;
+    };
+    if !matches!(forest.kind(child), Kind::Text) {
+        return false;
+    }
+    forest.set_data(child, text);
+    true
 }

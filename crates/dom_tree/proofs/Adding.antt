@@ -183,7 +183,7 @@ module _ (ps : List Stored) (lists : List (List ℕ)) (keys more : Owner → Lis
       let rest = nodes_with-push qs (λ u k d at e. within u (suc k) d at e) in
       cc
 
-  nodes_of-push : nodes_of (ps ++ s ∷ []) ≡ nodes_of ps ++ node_with (stored_names ps) (next_name o (stored_names ps)) s.node ∷ []
+  pub nodes_of-push : nodes_of (ps ++ s ∷ []) ≡ nodes_of ps ++ node_with (stored_names ps) (next_name o (stored_names ps)) s.node ∷ []
   nodes_of-push =
       ap (λ ns. nodes_with ns (ps ++ s ∷ [])) (stored_names-push ps s)
       ∙ (map-append (λ t. node_with (stored_names ps ++ s.name ∷ []) t.name t.node) ps (s ∷ [])

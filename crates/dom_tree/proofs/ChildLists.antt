@@ -1,14 +1,20 @@
 -- The children of each node after a step, from the lists of an arena.
-use Rattle.std.proofs.Common.{◌≡◌, ◌≢◌, inl, inr, ℕ, ◌<◌, false, eqb, List, [], ◌∷◌, ◌++◌, map, length, Option, Some, None, refl, sym, ap, subst, ◌∙◌, arith}
+use Rattle.std.proofs.Common.{◌≡◌, ◌≢◌, inl, inr, ℕ, zero, suc, ◌<◌, false, eqb, List, [], ◌∷◌, ◌++◌, map, length, Option, Some, None, refl, sym}
+use Rattle.std.proofs.Common.{ap, subst, ◌∙◌, arith}
+use Rattle.std.specs.Prelude.{slice_get}
 use Rattle.std.specs.Option.{option_map}
 use Rattle.std.proofs.lemmas.Bool.{cases_Bool, eqb-true, false_from_ne_true}
 use Rattle.std.proofs.lemmas.Option.{same_Some, none-some}
 use Rattle.std.proofs.lemmas.List.{length-map, length_push, get_or-set_same, get_or-set_other}
 use Rattle.dom_base.specs.declared.Owner.{Owner}
 use Rattle.dom_base.specs.declared.NodeName.{NodeName}
-use Rattle.dom_model.specs.Tree.{children_of as children_in, parent_of as parent_in, is_inclusive_ancestor}
-use Rattle.dom_model.proofs.OwnerLaws.{name_eq-turned}
-use Rattle.dom_laws.proofs.Lists.{name_eq-from}
+use Rattle.dom_model.specs.Tree.{Trees, names_of, roots, trees_below, children_of as children_in, parent_of as parent_in, is_inclusive_ancestor}
+use Rattle.dom_model.specs.Names.{first_of}
+use Rattle.dom_model.proofs.OwnerLaws.{name_eq-same, name_eq-turned}
+use Rattle.dom_laws.proofs.Lists.{name_eq-from, In, Single}
+use Rattle.dom_laws.proofs.Counts.{Once}
+use Rattle.dom_laws.proofs.Children.{children-single}
+use Rattle.dom_laws.proofs.Shapes.{has_or_not, subtree-absent}
 use Rattle.dom_laws.specs.Siblings.{put_name, without_name}
 use Rattle.node_arena.specs.Nodes.{Nodes, IsSound, children_of, parent_of, ancestors_of, contains, without, put_before, insert_before}
 use Rattle.node_arena.proofs.Forests.{cases_Option, contains-parent, parent_within, ancestors_of-child, children_of-without, children_of-push, parent_of_is}
@@ -51,6 +57,39 @@ names-inserted : (f : ℕ → NodeName) (c : ℕ) (before : Option ℕ) (ks : Li
     map f (insert_before ks c before) ≡ put_name (option_map f before) (f c) (map f ks)
 names-inserted f c None ks tells = names-behind f c ks
 names-inserted f c (Some b) ks tells = names-before f c b ks (tells b refl)
+
+-- a name that is put before the first of a list comes first
+pub put-first : (x : NodeName) (ys : List NodeName) → put_name (first_of ys) x ys ≡ x ∷ ys
+put-first x [] = refl
+put-first x (y ∷ ys) = rw (name_eq-same y) refl
+
+-- and where none is given, last
+pub put-last : (x : NodeName) (ys : List NodeName) → put_name None x ys ≡ ys ++ x ∷ []
+put-last x [] = refl
+put-last x (y ∷ ys) = ap (λ zs. y ∷ zs) (put-last x ys)
+
+-- ---- each child stands once among the children
+
+module _ (x : NodeName) where
+  -- what stands at a place of a list is in it
+  In-place : (xs : List NodeName) (i : ℕ) → slice_get xs i ≡ Some x → In x xs
+  In-place [] i e = absurd (none-some x e)
+  In-place (y ∷ ys) zero e = inl (sym (same_Some y x e))
+  In-place (y ∷ ys) (suc i) e = inr (In-place ys i e)
+
+  single-place : (xs : List NodeName) (i j : ℕ) → Single xs → slice_get xs i ≡ Some x → slice_get xs j ≡ Some x → i ≡ j
+  single-place [] i j single e f = absurd (none-some x e)
+  single-place (y ∷ ys) zero zero single e f = refl
+  single-place (y ∷ ys) zero (suc j) single e f = absurd (single.0 (subst (λ z. In z ys) (sym (same_Some y x e)) (In-place ys j f)))
+  single-place (y ∷ ys) (suc i) zero single e f = absurd (single.0 (subst (λ z. In z ys) (sym (same_Some y x f)) (In-place ys i e)))
+  single-place (y ∷ ys) (suc i) (suc j) single e f = ap suc (single-place ys i j single.1 e f)
+
+module _ (ts : Trees) (once : Once ts) where
+  pub child_once : (p x : NodeName) (i j : ℕ) → slice_get (children_in ts p) i ≡ Some x → slice_get (children_in ts p) j ≡ Some x → i ≡ j
+  child_once p x i j = single-place x (children_in ts p) i j (elim (has_or_not ts p) [
+    | inl there ↦ children-single ts p once there
+    | inr off ↦ subst (λ (us : Trees). Single (names_of (roots (trees_below us)))) (sym (subtree-absent ts p off)) tt
+  ])
 
 -- ---- the children of a forest's node
 

@@ -25,5 +25,6 @@ mod EachNode
 mod Ordered
 mod Stays
 mod ChildLists
+mod Holds
 pub mod Standing
 pub mod Searching

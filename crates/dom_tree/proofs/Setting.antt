@@ -20,13 +20,13 @@ use Rattle.dom_tree.proofs.Changes.{IsWhole, trees_of-map}
 use Rattle.dom_tree.proofs.Kept.{seen, IsWhole-kept, name_at-same}
 
 -- a list that is set at an index, read there
-slice_get-set_same : {X : Type 0} (xs : List X) (k : ℕ) (x y : X) → slice_get xs k ≡ Some x → slice_get (set xs k y) k ≡ Some y
+pub slice_get-set_same : {X : Type 0} (xs : List X) (k : ℕ) (x y : X) → slice_get xs k ≡ Some x → slice_get (set xs k y) k ≡ Some y
 slice_get-set_same [] k x y e = absurd (none-some x e)
 slice_get-set_same (z ∷ xs) zero x y e = refl
 slice_get-set_same (z ∷ xs) (suc k) x y e = slice_get-set_same xs k x y e
 
 -- and read elsewhere
-slice_get-set_other : {X : Type 0} (xs : List X) (i k : ℕ) (y : X) → k ≢ i → slice_get (set xs i y) k ≡ slice_get xs k
+pub slice_get-set_other : {X : Type 0} (xs : List X) (i k : ℕ) (y : X) → k ≢ i → slice_get (set xs i y) k ≡ slice_get xs k
 slice_get-set_other [] i k y other = refl
 slice_get-set_other (z ∷ xs) zero zero y other = absurd (other refl)
 slice_get-set_other (z ∷ xs) zero (suc k) y other = refl

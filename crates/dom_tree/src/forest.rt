@@ -5,6 +5,7 @@ ghost use Rattle.std.specs.Option.{ForSome};
 ghost use Rattle.dom_base.specs.declared.NodeName.{NodeName as Name};
 ghost use Rattle.dom_model.specs.Names.{name_eq, is_in};
 ghost use Rattle.dom_model.specs.Tree.{none, nodes, has_node, inclusive_descendants, inclusive_ancestors, is_inclusive_ancestor, parent_of, children_of};
+ghost use Rattle.dom_model.specs.Tree.{node_in};
 ghost use Rattle.dom_tree.specs.Owners.{AreInOrder};
 ghost use Rattle.dom_model.specs.TreeChanges.{with_node};
 ghost use Rattle.dom_tree.specs.Forest.{next_name, count_of, node_from, IsNode, name_of};
@@ -79,6 +80,10 @@ impl Forest {
             inclusive_ancestors self.new.trees (name_of self.old k) ≡ inclusive_ancestors self.old.trees (name_of self.old k)) }
         ensures children { OnOk result ((k : ℕ) → IsNode self.old k →
             children_of self.new.trees (name_of self.old k) ≡ children_of self.old.trees (name_of self.old k)) }
+        ensures holds { IfOk result (λ key.
+            node_in self.new.trees (name_of self.new key) ≡ node_from self.old.names (next_name owner self.old.names) node) }
+        ensures held { OnOk result ((k : ℕ) → IsNode self.old k →
+            node_in self.new.trees (name_of self.old k) ≡ node_in self.old.trees (name_of self.old k)) }
 
         // An owner's nodes are at most 1,000,000. Nothing else but memory stops one more.
         ensures limit { (result ≡ Err (Fault.Refused Refusal.Limit)) ↔ (count_of owner self.old.names ≡ MAX_NODES) }

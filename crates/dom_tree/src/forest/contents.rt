@@ -1,5 +1,5 @@
 //! What nodes hold: their kinds, names of elements, attributes, data and node documents.
-ghost use Rattle.std.specs.Prelude.{◌≡◌, Some, None, slice_get, OnOk, OnErr};
+ghost use Rattle.std.specs.Prelude.{◌≡◌, ◌≢◌, ℕ, Some, None, slice_get, OnOk, OnErr};
 ghost use Rattle.std.specs.Option.{option_map, ForSome};
 ghost use Rattle.dom_base.specs.declared.NodeName.{NodeName as Name};
 ghost use Rattle.dom_model.specs.Tree.{kind_of, node_in, attribute_value, inclusive_ancestors, children_of};
@@ -56,6 +56,10 @@ impl Forest {
             self.old.trees }
         ensures above { (x : Name) → inclusive_ancestors self.new.trees x ≡ inclusive_ancestors self.old.trees x }
         ensures children { (x : Name) → children_of self.new.trees x ≡ children_of self.old.trees x }
+        ensures holds { node_in self.new.trees (name_of self.old key) ≡ under_document (option_map (name_of self.old) document)
+            (node_in self.old.trees (name_of self.old key)) }
+        ensures held { (k : ℕ) → IsNode self.old k → k ≢ key →
+            node_in self.new.trees (name_of self.old k) ≡ node_in self.old.trees (name_of self.old k) }
     {
         self.arena.payload_mut(key).set_document(document);
     }
@@ -67,6 +71,9 @@ impl Forest {
         ensures trees { self.new.trees ≡ change_node (with_text text.items) (name_of self.old key) self.old.trees }
         ensures above { (x : Name) → inclusive_ancestors self.new.trees x ≡ inclusive_ancestors self.old.trees x }
         ensures children { (x : Name) → children_of self.new.trees x ≡ children_of self.old.trees x }
+        ensures holds { node_in self.new.trees (name_of self.old key) ≡ with_text text.items (node_in self.old.trees (name_of self.old key)) }
+        ensures held { (k : ℕ) → IsNode self.old k → k ≢ key →
+            node_in self.new.trees (name_of self.old k) ≡ node_in self.old.trees (name_of self.old k) }
     {
         self.arena.payload_mut(key).set_text(text);
     }
@@ -106,6 +113,10 @@ impl Forest {
         ensures err { OnErr result (self.new ≡ self.old) }
         ensures above { (x : Name) → inclusive_ancestors self.new.trees x ≡ inclusive_ancestors self.old.trees x }
         ensures children { (x : Name) → children_of self.new.trees x ≡ children_of self.old.trees x }
+        ensures holds { OnOk result (node_in self.new.trees (name_of self.old key) ≡ with_attribute name.now (Some value.items)
+            (node_in self.old.trees (name_of self.old key))) }
+        ensures held { (k : ℕ) → IsNode self.old k → k ≢ key →
+            node_in self.new.trees (name_of self.old k) ≡ node_in self.old.trees (name_of self.old k) }
     {
         let alloc = self.alloc;
         let names = &mut self.attribute_names;
@@ -124,6 +135,9 @@ impl Forest {
         ensures trees { self.new.trees ≡ change_node (with_attribute name.now None) (name_of self.old key) self.old.trees }
         ensures above { (x : Name) → inclusive_ancestors self.new.trees x ≡ inclusive_ancestors self.old.trees x }
         ensures children { (x : Name) → children_of self.new.trees x ≡ children_of self.old.trees x }
+        ensures holds { node_in self.new.trees (name_of self.old key) ≡ with_attribute name.now None (node_in self.old.trees (name_of self.old key)) }
+        ensures held { (k : ℕ) → IsNode self.old k → k ≢ key →
+            node_in self.new.trees (name_of self.old k) ≡ node_in self.old.trees (name_of self.old k) }
     {
         self.arena.payload_mut(key).remove_attribute(name)
     }

@@ -1,8 +1,9 @@
 //! How nodes stand in their trees, and how a tree is put into another one or taken out.
-ghost use Rattle.std.specs.Prelude.{◌≡◌, ◌≢◌, ℕ, false, Some, None};
+ghost use Rattle.std.specs.Prelude.{◌≡◌, ◌≢◌, ℕ, ◌++◌, ◌∷◌, [], false, Some, None};
 ghost use Rattle.std.specs.Option.{option_map, ForSome};
 ghost use Rattle.dom_model.specs.Names.{first_of, last_of};
 ghost use Rattle.dom_model.specs.Tree.{parent_of, children_of, next_sibling, previous_sibling, inclusive_ancestors, is_inclusive_ancestor, root_of};
+ghost use Rattle.dom_model.specs.Tree.{node_in};
 ghost use Rattle.dom_model.specs.TreeChanges.{placed, taken_out};
 ghost use Rattle.dom_laws.specs.Siblings.{put_name, without_name};
 ghost use Rattle.dom_tree.specs.Forest.{IsNode, name_of};
@@ -81,8 +82,16 @@ impl Forest {
             inclusive_ancestors self.new.trees (name_of self.old k) ≡ inclusive_ancestors self.old.trees (name_of self.old k) }
         ensures children { children_of self.new.trees (name_of self.old parent) ≡ put_name (option_map (name_of self.old) before)
             (name_of self.old child) (children_of self.old.trees (name_of self.old parent)) }
+        ensures comes_first { option_map (name_of self.old) before ≡ first_of (children_of self.old.trees (name_of self.old parent)) →
+            children_of self.new.trees (name_of self.old parent) ≡ name_of self.old child ∷ children_of self.old.trees (name_of self.old parent) }
+        ensures comes_last { before ≡ None →
+            children_of self.new.trees (name_of self.old parent) ≡ children_of self.old.trees (name_of self.old parent) ++ name_of self.old child ∷ [] }
         ensures others { (k : ℕ) → IsNode self.old k → k ≢ parent →
             children_of self.new.trees (name_of self.old k) ≡ children_of self.old.trees (name_of self.old k) }
+        ensures parents { (k : ℕ) → IsNode self.old k → k ≢ child →
+            parent_of self.new.trees (name_of self.old k) ≡ parent_of self.old.trees (name_of self.old k) }
+        ensures held { (k : ℕ) → IsNode self.old k →
+            node_in self.new.trees (name_of self.old k) ≡ node_in self.old.trees (name_of self.old k) }
     {
         self.arena.link_before(parent, child, before);
     }
@@ -102,6 +111,10 @@ impl Forest {
             (children_of self.old.trees (name_of self.old k)) }
         ensures others { (k : ℕ) → IsNode self.old k → parent_of self.old.trees (name_of self.old key) ≢ Some (name_of self.old k) →
             children_of self.new.trees (name_of self.old k) ≡ children_of self.old.trees (name_of self.old k) }
+        ensures parents { (k : ℕ) → IsNode self.old k → k ≢ key →
+            parent_of self.new.trees (name_of self.old k) ≡ parent_of self.old.trees (name_of self.old k) }
+        ensures held { (k : ℕ) → IsNode self.old k →
+            node_in self.new.trees (name_of self.old k) ≡ node_in self.old.trees (name_of self.old k) }
     {
         self.arena.unlink(key);
     }

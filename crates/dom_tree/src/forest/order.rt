@@ -1,5 +1,5 @@
 //! The order of the nodes of a tree, and the places of nodes among their siblings.
-ghost use Rattle.std.specs.Prelude.{◌≡◌, ◌<◌, ◌≤◌, ◌^◌, ◌++◌, ◌∷◌, [], ℕ, length, true, false, Some, None};
+ghost use Rattle.std.specs.Prelude.{◌≡◌, ◌<◌, ◌≤◌, ◌^◌, ◌++◌, ◌∷◌, [], ℕ, length, slice_get, true, false, Some, None};
 ghost use Rattle.std.specs.Option.{option_map, ForSome};
 ghost use Rattle.dom_base.specs.declared.NodeName.{NodeName as Name};
 ghost use Rattle.dom_model.specs.Names.{first_of, last_of, items_after, items_before, name_eq};
@@ -106,13 +106,15 @@ impl Forest {
     }
 
     /// Holds of every forest (own rule): a walk from the first child of a node to the next sibling, as long as there is one, comes to
-    /// each child in its order, and to no other node; the last child stands behind all others; no child stands above its parent; and
-    /// there are fewer children than nodes, which are at most 2^64.
+    /// each child in its order, and to no other node; the last child stands behind all others; each child stands once among them; no child
+    /// stands above its parent; and there are fewer children than nodes, which are at most 2^64.
     pub fn law_children(&self)
         ensures begin { (p : Name) → from_sibling self.now.trees (first_of (children_of self.now.trees p)) ≡ children_of self.now.trees p }
         ensures step { (x : Name) → from_sibling self.now.trees (Some x) ≡ x ∷ from_sibling self.now.trees (next_sibling self.now.trees x) }
         ensures last { (p x : Name) → last_of (children_of self.now.trees p) ≡ Some x →
             without_name x (children_of self.now.trees p) ++ x ∷ [] ≡ children_of self.now.trees p }
+        ensures once { (p x : Name) (i j : ℕ) → slice_get (children_of self.now.trees p) i ≡ Some x →
+            slice_get (children_of self.now.trees p) j ≡ Some x → i ≡ j }
         ensures apart { (k p : ℕ) → IsNode self.now k → IsNode self.now p →
             parent_of self.now.trees (name_of self.now k) ≡ Some (name_of self.now p) →
             is_inclusive_ancestor self.now.trees (name_of self.now k) (name_of self.now p) ≡ false }

@@ -10,6 +10,7 @@ use Rattle.dom_tree.proofs.Kept.{kept_with}
 use Rattle.dom_tree.proofs.Adding.{Adds, adds_from, IsKept-keys, IsKept-add, trees_of-add}
 use Rattle.dom_tree.proofs.Stays.{IsAdded, added_root, added_childless, added_above_none, added_named, added_above}
 use Rattle.dom_tree.proofs.ChildLists.{children_added}
+use Rattle.dom_tree.proofs.Holds.{holds_new, held_beside}
 use Rattle.dom_tree.proofs.forest.Forest.add.Goals as goal
 
 pub invariant_of-self-in_err-key : goal.invariant_of-self-in_err-key
@@ -77,3 +78,10 @@ returns-clause-above c = added_above _ c.self.view_is c.self.invariant (invarian
 
 pub returns-clause-children : goal.returns-clause-children
 returns-clause-children c = children_added c.self.view_is c.self.invariant (invariant_of-self-2 c) _ c.in_ok-key.ensures.ok
+
+pub returns-clause-holds : goal.returns-clause-holds
+returns-clause-holds c =
+    holds_new c.self.view_is (adds c) (invariant_of-self-2 c) (added c) c.in_ok-key.key c.in_ok-key.ensures.key
+
+pub returns-clause-held : goal.returns-clause-held
+returns-clause-held c = held_beside c.self.view_is (adds c) (invariant_of-self-2 c) (added c)

@@ -4,7 +4,7 @@ use Rattle.node_arena.specs.Nodes.{children_of}
 use Rattle.dom_laws.proofs.Counts.{Once}
 use Rattle.dom_laws.proofs.Siblings.{from_first, from_next, last_apart}
 use Rattle.dom_tree.specs.Forest.{NamedTrees, name_at}
-use Rattle.dom_tree.proofs.ChildLists.{child_apart}
+use Rattle.dom_tree.proofs.ChildLists.{child_apart, child_once}
 use Rattle.dom_tree.proofs.Kept.{within}
 use Rattle.dom_tree.proofs.Once.{shows_once, shows_only}
 use Rattle.dom_tree.proofs.Standing.{Once-forest}
@@ -22,6 +22,9 @@ returns-clause-step c = λ x. ap (λ xs. x ∷ xs) (sym (from_next c.args.self.n
 
 pub returns-clause-last : goal.returns-clause-last
 returns-clause-last c = last_apart c.args.self.now.trees (once c)
+
+pub returns-clause-once : goal.returns-clause-once
+returns-clause-once c = child_once c.args.self.now.trees (once c)
 
 pub returns-clause-apart : goal.returns-clause-apart
 returns-clause-apart c = child_apart c.self.view_is c.self.invariant

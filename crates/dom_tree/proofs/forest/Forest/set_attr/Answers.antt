@@ -1,12 +1,13 @@
 use Rattle.std.proofs.Common.{◌≡◌, ◌∙◌, ap, set, refl, Some, Result, Ok, Err}
 use Rattle.std.specs.Prelude.{OnErr}
-use Rattle.dom_model.specs.Tree.{inclusive_ancestors, children_of}
+use Rattle.dom_model.specs.Tree.{inclusive_ancestors, children_of, node_in}
 use Rattle.dom_model.specs.TreeChanges.{with_attribute}
 use Rattle.dom_tree.specs.Contents.{Stored}
 use Rattle.dom_tree.specs.Forest.{name_at, node_with}
 use Rattle.dom_tree.proofs.Setting.{IsKept-set_same, set_names, set_done}
 use Rattle.dom_tree.proofs.Kept.{seen}
 use Rattle.dom_tree.proofs.Unchanged.{set_same}
+use Rattle.dom_tree.proofs.Holds.{holds_anew, held_elsewhere}
 use Rattle.dom_laws.proofs.Relatives.{path_changed, children_changed}
 use Rattle.dom_tree.proofs.forest.Forest.set_attr.Goals as goal
 
@@ -36,6 +37,9 @@ returns-in_err-set_attribute-clause-above c = λ x. ap (λ g. inclusive_ancestor
 pub returns-in_err-set_attribute-clause-children : goal.returns-in_err-set_attribute-clause-children
 returns-in_err-set_attribute-clause-children c = λ x. ap (λ g. children_of g.trees x) (left c)
 
+pub returns-in_err-set_attribute-clause-held : goal.returns-in_err-set_attribute-clause-held
+returns-in_err-set_attribute-clause-held c = λ k node other. let f = c.args.self.now in ap (λ g. node_in g.trees (name_at f.names k)) (left c)
+
 pub returns-in_err-set_attribute-clause-err : goal.returns-in_err-set_attribute-clause-err
 returns-in_err-set_attribute-clause-err c = on_any c.from_residual.result (left c)
   where
@@ -64,3 +68,15 @@ returns-clause-children c = λ x.
     let f = c.args.self.now in
     ap (λ ts. children_of ts x) (returns-clause-ok c)
     ∙ children_changed (with_attribute c.args.name.now (Some c.args.value.items)) (λ n. refl) (name_at f.names c.args.key) f.trees x
+
+pub returns-clause-holds : goal.returns-clause-holds
+returns-clause-holds c =
+    holds_anew c.self.view_is c.self.invariant (invariant_of-self-2 c)
+    (record { at = c.payload_mut.ensures.value; name_kept = ap (λ (s : Stored). s.name) c.in_ok-set_attribute.ensures.ok })
+    c.requires (with_attribute c.args.name.now (Some c.args.value.items))
+    (ap (λ (s : Stored). node_with c.args.self.now.names s.name s.node) c.in_ok-set_attribute.ensures.ok)
+
+pub returns-clause-held : goal.returns-clause-held
+returns-clause-held c =
+    held_elsewhere c.self.view_is c.self.invariant (invariant_of-self-2 c)
+    (record { at = c.payload_mut.ensures.value; name_kept = ap (λ (s : Stored). s.name) c.in_ok-set_attribute.ensures.ok })

@@ -4,6 +4,7 @@ use Rattle.dom_model.specs.TreeChanges.{with_text}
 use Rattle.dom_tree.specs.Contents.{Stored}
 use Rattle.dom_tree.specs.Forest.{name_at, node_with}
 use Rattle.dom_tree.proofs.Setting.{IsKept-set_same, set_names, set_done}
+use Rattle.dom_tree.proofs.Holds.{holds_anew, held_elsewhere}
 use Rattle.dom_laws.proofs.Relatives.{path_changed, children_changed}
 use Rattle.dom_tree.proofs.forest.Forest.set_data.Goals as goal
 
@@ -33,3 +34,15 @@ returns-clause-children c = λ x.
     let f = c.args.self.now in
     ap (λ ts. children_of ts x) (returns-clause-trees c)
     ∙ children_changed (with_text c.args.text.items) (λ n. refl) (name_at f.names c.args.key) f.trees x
+
+pub returns-clause-holds : goal.returns-clause-holds
+returns-clause-holds c =
+    holds_anew c.self.view_is c.self.invariant (invariant_of-self c)
+    (record { at = c.payload_mut.ensures.value; name_kept = ap (λ (s : Stored). s.name) c.set_text.ensures })
+    c.requires (with_text c.args.text.items)
+    (ap (λ (s : Stored). node_with c.args.self.now.names s.name s.node) c.set_text.ensures)
+
+pub returns-clause-held : goal.returns-clause-held
+returns-clause-held c =
+    held_elsewhere c.self.view_is c.self.invariant (invariant_of-self c)
+    (record { at = c.payload_mut.ensures.value; name_kept = ap (λ (s : Stored). s.name) c.set_text.ensures })
