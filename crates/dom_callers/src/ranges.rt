@@ -11,7 +11,7 @@ ghost use Rattle.dom_ranges.specs.Tables.{ranges_of, with_ranges, EachRange, Bot
 
 use dom_base::{Fault, Owner, Refusal};
 use dom_laws::law_names;
-use dom_ranges::{RangeTable, law_ends_stay};
+use dom_ranges::{RangeTable, law_ends_stay, law_points_in_one_node};
 use dom_tree::Forest;
 use node_arena::Key;
 
@@ -37,6 +37,7 @@ pub fn select_contents(
         AreWithin forest.now.names most ranges.old → OnOk result (AreWithin forest.now.names most ranges.new) }
 {
     law_ends_stay();
+    law_points_in_one_node();
     law_names();
     let number = ranges.make(owner, node)?;
     let length = forest.length(node);

@@ -16,5 +16,5 @@ mod setting;
 mod table;
 
 pub use laws::{law_ends_stay, law_keys_stand_for_names};
-pub use order::{climb, climb_together, is_before};
+pub use order::{climb, climb_together, is_before, law_points_in_one_node};
 pub use table::{Points, RangeTable};

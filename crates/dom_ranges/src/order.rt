@@ -1,9 +1,10 @@
 //! The order of boundary points (DOM Standard, 5.2 Boundary points).
-ghost use Rattle.std.specs.Prelude.{◌≡◌, ◌≢◌, ◌≤◌, ◌+◌, ◌⊎◌, nat_lt, true};
+ghost use Rattle.std.specs.Prelude.{◌≡◌, ◌≢◌, ◌≤◌, ◌+◌, ◌⊎◌, ℕ, nat_lt, true};
+ghost use Rattle.dom_base.specs.declared.NodeName.{NodeName as Name};
 ghost use Rattle.dom_model.specs.Names.{first_of};
 ghost use Rattle.dom_model.specs.Place.{same_root, is_before};
 ghost use Rattle.dom_model.specs.Ranges.{at};
-ghost use Rattle.dom_model.specs.Tree.{index_of, is_inclusive_ancestor};
+ghost use Rattle.dom_model.specs.Tree.{Trees, index_of, is_inclusive_ancestor};
 ghost use Rattle.dom_tree.specs.Forest.{IsNode, name_of};
 ghost use Rattle.dom_ranges.specs.Climbs.{depth_at, path_at, Reaches, AreBeside};
 
@@ -36,6 +37,13 @@ pub fn is_before(forest: &Forest, first: (Key, usize), second: (Key, usize)) -> 
         (None, None) => first_offset < second_offset,
     }
 }
+
+/// Holds of all trees: a node is in one tree with itself, and of two boundary points in one node the first is before the second exactly
+/// if its offset is less (DOM Standard, concept: boundary point, before).
+pub fn law_points_in_one_node()
+    ensures one_tree { (trees : Trees) (x : Name) → same_root trees x x ≡ true }
+    ensures before { (trees : Trees) (x : Name) (i j : ℕ) → is_before trees (at x i) (at x j) ≡ nat_lt i j }
+{}
 
 /// The nodes reached from two nodes by going up from both at once, until one of them is a root (own rule): the other one is then
 /// as deep as the one node was deeper.

@@ -11,7 +11,10 @@ returns-clause-made c = λ o.
     let size = length_of c.args.forest.now.trees (name_at c.args.forest.now.names c.args.node) in
     c.in-Ok.ensures.set o ∙ rw (c.in_ok-number.ensures.number, c.length-length.ensures)
     (all-ended c.law_names.ensures.same_owner c.args.ranges.now c.make.new.self c.args.owner c.args.node c.in_ok-number.ensures.made
-    c.law_names.ensures.same c.args.forest.now size o)
+    {f = c.args.forest.now} (record {
+      one_tree = c.law_points_in_one_node.ensures.one_tree c.args.forest.now.trees;
+      before = c.law_points_in_one_node.ensures.before c.args.forest.now.trees;
+    }) size o)
 
 -- src/ranges.rt:38:9
 pub unreachable-requires : goal.unreachable-requires
