@@ -3,11 +3,12 @@ ghost use Rattle.std.specs.Prelude.{◌≡◌, ◌↔◌, ◌⊎◌, nat_eq, tru
 ghost use Rattle.dom_model.specs.CommandRefusals.{past_limit};
 ghost use Rattle.dom_observers.specs.Owners.{tables_of, ChangesTables, KeepsTables};
 ghost use Rattle.dom_observers.specs.Tables.{with_observer, observing};
+ghost use Rattle.dom_observers.specs.There.{AreThere};
 ghost use Rattle.dom_callers.specs.Words.{attribute_words};
 ghost use Rattle.dom_tree.specs.Forest.{IsNode, name_of};
 
 use dom_base::{Fault, Owner, Refusal};
-use dom_observers::{Observers, Options};
+use dom_observers::{Observers, Options, law_observers_are_there};
 use dom_tree::Forest;
 use node_arena::Key;
 
@@ -30,8 +31,10 @@ pub fn watch_attributes(
     ensures kept { result ≡ Err (Fault.Refused Refusal.Limit) → KeepsTables observers.old observers.new }
     ensures err { OnErr result (KeepsTables observers.old observers.new ⊎
         ChangesTables owner (with_observer (tables_of observers.old owner)) observers.old observers.new) }
+    ensures there { AreThere observers.old → AreThere observers.new }
 {
     dom_laws::law_names();
+    law_observers_are_there();
     let observer = observers.make(owner)?;
     let options = Options {
         child_list: false,

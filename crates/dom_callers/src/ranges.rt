@@ -6,7 +6,7 @@ ghost use Rattle.dom_model.specs.Ranges.{at, from_to};
 ghost use Rattle.dom_model.specs.Tree.{length_of};
 ghost use Rattle.dom_tree.specs.Forest.{IsNode, name_of};
 ghost use Rattle.dom_ranges.specs.Rules.{IsAtNode};
-ghost use Rattle.dom_ranges.specs.Staying.{AreWithin};
+ghost use Rattle.dom_ranges.specs.Staying.{AreAtNodes, AreWithin};
 ghost use Rattle.dom_ranges.specs.Tables.{ranges_of, with_ranges, EachRange, BothEnds};
 
 use dom_base::{Fault, Owner, Refusal};
@@ -35,6 +35,7 @@ pub fn select_contents(
     ensures err { OnErr result ((o : Owners) → ranges_of ranges.new o ≡ ranges_of ranges.old o) }
     ensures within { (most : ℕ) → length_of forest.now.trees (name_of forest.now node) ≤ most →
         AreWithin forest.now.names most ranges.old → OnOk result (AreWithin forest.now.names most ranges.new) }
+    ensures nodes { AreAtNodes forest.now.names ranges.old → AreAtNodes forest.now.names ranges.new }
 {
     law_ends_stay();
     law_points_in_one_node();

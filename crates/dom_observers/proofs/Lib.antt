@@ -11,4 +11,5 @@ pub mod Ascending
 pub mod Naming
 pub mod Speaking
 mod Staying
+mod There
 mod Watching

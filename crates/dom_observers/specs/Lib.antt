@@ -11,3 +11,4 @@ pub mod TablesByOwner
 pub mod Owners
 pub mod Naming
 pub mod Staying
+pub mod There

@@ -7,6 +7,8 @@ ghost use Rattle.dom_observers.specs.Naming.{NoticesLaw, IsKey, AreAll};
 ghost use Rattle.dom_observers.specs.Paths.{path_keys};
 ghost use Rattle.dom_observers.specs.Staying.{NoneStay, SameStay, MoreStay, KeysStay, RecordsStay, MadeStay, ObservingStay, DisconnectedStay, EmptiedStay};
 ghost use Rattle.dom_observers.specs.Staying.{ToldStay, LeftStay, NotifiedStay};
+ghost use Rattle.dom_observers.specs.There.{NoneThere, SameThere, HasThere, MadeThere, ObservingThere, DisconnectedThere, EmptiedThere, ToldThere};
+ghost use Rattle.dom_observers.specs.There.{LeftThere, NotifiedThere};
 
 use dom_tree::Forest;
 use node_arena::Key;
@@ -52,4 +54,19 @@ pub fn law_registrations_stay()
     ensures told { ToldStay }
     ensures left { LeftStay }
     ensures notified { NotifiedStay }
+{}
+
+/// Registrations stay of observers that were made, after each call (own rule). So it is where nobody has an observer. `has` says that the
+/// observer of a registration then has its record queue.
+pub fn law_observers_are_there()
+    ensures none { NoneThere }
+    ensures same { SameThere }
+    ensures has { HasThere }
+    ensures made { MadeThere }
+    ensures observing { ObservingThere }
+    ensures disconnected { DisconnectedThere }
+    ensures emptied { EmptiedThere }
+    ensures told { ToldThere }
+    ensures left { LeftThere }
+    ensures notified { NotifiedThere }
 {}

@@ -18,7 +18,10 @@ mod table;
 mod watched;
 
 pub use change::{Change, Record};
-pub use laws::{law_keys_stand_for_names, law_path_keys_are_named, law_registrations_stay};
+pub use laws::{
+    law_keys_stand_for_names, law_observers_are_there, law_path_keys_are_named,
+    law_registrations_stay,
+};
 pub use observers::Observers;
 pub use options::Options;
 pub use path::inclusive_ancestors;

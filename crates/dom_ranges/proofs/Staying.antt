@@ -1,5 +1,5 @@
 -- The ends of a table's ranges stay at nodes, and below a bound.
-use Rattle.std.proofs.Common.{◌≡◌, inl, inr, ℕ, zero, suc, ◌+◌, ◌-◌, Bool, true, false, not, cond, List, [], ◌∷◌, ◌++◌, eqb, nat_lt}
+use Rattle.std.proofs.Common.{◌≡◌, inl, inr, ℕ, zero, suc, ◌+◌, ◌-◌, ◌≤◌, Bool, true, false, not, cond, List, [], ◌∷◌, ◌++◌, eqb, nat_lt}
 use Rattle.std.proofs.Common.{nat_le, Option, Some, None, refl, sym, subst, arith, true≢false}
 use Rattle.std.specs.Prelude.{slice_get, slice_set, ◌&&◌, ◌||◌}
 use Rattle.std.specs.Option.{option_map, option_flatten}
@@ -13,7 +13,7 @@ use Rattle.dom_model.specs.Ranges.{Range, at, from_to, boundary_eq, after_insert
 use Rattle.node_arena.proofs.Numbers.{slice_get-set}
 use Rattle.dom_ranges.specs.Rules.{is_inside}
 use Rattle.dom_ranges.specs.Settings.{have_one_root, is_key_before, start_set, end_set}
-use Rattle.dom_ranges.specs.Staying.{IsWithin, HasRanges, Brings, NoneWithin, SameWithin, MoreWithin, WithinAtNodes}
+use Rattle.dom_ranges.specs.Staying.{IsWithin, HasRanges, Brings, NoneWithin, SameWithin, MoreWithin, WithinAtNodes, SomeWithin}
 use Rattle.dom_ranges.specs.Staying.{MadeWithin, RemovedWithin, WrittenWithin, StartWithin, EndWithin, CollapsedWithin}
 use Rattle.dom_ranges.specs.Staying.{InsertWithin, RemovalWithin, ReplaceDataWithin, SplitWithin, JoinWithin}
 use Rattle.dom_ranges.specs.Tables.{RangeList, RangeLists, EachRange, BothEnds, ranges_of, range_in, collapsed_range}
@@ -104,6 +104,42 @@ more-within names more most greater t longer up within o k r e =
 
 pub within-at_nodes : WithinAtNodes
 within-at_nodes names most t within o k r e = let both = within o k r e in (both.0.0, both.1.0)
+
+-- no offset of a list of ranges is greater than all of them together
+abbrev offsets : RangeList → ℕ
+offsets [] = 0
+offsets (None ∷ rs) = offsets rs
+offsets (Some r ∷ rs) = r.start.offset + r.end.offset + offsets rs
+
+within-offsets : (rs : RangeList) (k : ℕ) (r : Range ℕ) → slice_get rs k ≡ Some (Some r) → r.start.offset + r.end.offset ≤ offsets rs
+within-offsets [] k r e = absurd (none-some _ e)
+within-offsets (None ∷ rs) zero r e = absurd (none-some _ (same_Some _ _ e))
+within-offsets (None ∷ rs) (suc k) r e = within-offsets rs k r e
+within-offsets (Some q ∷ rs) zero r e =
+    subst (λ (s : Range ℕ). s.start.offset + s.end.offset ≤ offsets (Some q ∷ rs)) (same_Some q r (same_Some _ _ e)) (omega arith)
+within-offsets (Some q ∷ rs) (suc k) r e = let rest = within-offsets rs k r e in omega (arith, rest)
+
+abbrev all-offsets : RangeLists → ℕ
+all-offsets [] = 0
+all-offsets (e ∷ t) = offsets e.1 + all-offsets t
+
+within-all : (t : RangeLists) (o : Owner) → offsets (ranges_of t o) ≤ all-offsets t
+within-all [] o = omega arith
+within-all (e ∷ t) o = by (owner_eq o e.0) (within-all t o)
+  where
+    by : (b : Bool) → offsets (ranges_of t o) ≤ all-offsets t → offsets (cond b e.1 (ranges_of t o)) ≤ offsets e.1 + all-offsets t
+    by true rest = omega arith
+    by false rest = omega (arith, rest)
+
+pub some-within : SomeWithin
+some-within names t nodes = (
+  all-offsets t,
+  λ o k r e.
+      let both = nodes o k r e in
+      let own = within-offsets (ranges_of t o) k r e in
+      let all = within-all t o in
+      ((both.0, omega (arith, own, all)), (both.1, omega (arith, own, all))),
+)
 
 -- ---- the calls on one range
 

@@ -17,6 +17,10 @@ IsWithin names most b = IsAtNode names b × (b.offset ≤ most)
 abbrev pub AreWithin : List NodeName → ℕ → RangeLists → Type 0
 AreWithin names most t = (o : Owner) → EachRange (BothEnds (IsWithin names most)) (ranges_of t o)
 
+-- both ends of each range of each owner are at nodes
+abbrev pub AreAtNodes : List NodeName → RangeLists → Type 0
+AreAtNodes names t = (o : Owner) → EachRange (BothEnds (IsAtNode names)) (ranges_of t o)
+
 -- one owner has these ranges, and each other one those of before
 abbrev pub HasRanges : Owner → RangeList → RangeLists → RangeLists → Type 0
 HasRanges owner rs was now = (o : Owner) → ranges_of now o ≡ with_ranges was owner rs o
@@ -54,6 +58,10 @@ MoreWithin = (names more : List NodeName) (most greater : ℕ) (t : RangeLists) 
 abbrev pub WithinAtNodes : Type 0
 WithinAtNodes = (names : List NodeName) (most : ℕ) (t : RangeLists) → AreWithin names most t → (o : Owner) →
     EachRange (BothEnds (IsAtNode names)) (ranges_of t o)
+
+-- ends at nodes are within some bound
+abbrev pub SomeWithin : Type 0
+SomeWithin = (names : List NodeName) (t : RangeLists) → AreAtNodes names t → (most : ℕ) × AreWithin names most t
 
 -- ---- the calls on one range
 

@@ -1,4 +1,4 @@
-use Rattle.std.proofs.Common.{◌∙◌, inl, inr, Err, ap, arith}
+use Rattle.std.proofs.Common.{◌∙◌, ◌+◌, inl, inr, Err, ap, arith}
 use Rattle.dom_model.specs.Tree.{length_of}
 use Rattle.dom_tree.specs.Forest.{name_at}
 use Rattle.dom_callers.proofs.Selections.{all-ended, range-made}
@@ -34,3 +34,12 @@ returns-clause-within c = λ most fits within.
     let short = c.length-length.ensures in
     laws.end f most c.make.new.self c.set_end.new.self c.args.owner c.in_ok-number.number c.args.node c.length-length.result c.requires.node_is_node
     (omega (arith, fits, short)) c.in-Ok.ensures.set mid
+
+pub returns-clause-nodes : goal.returns-clause-nodes
+returns-clause-nodes c = λ nodes.
+    let f = c.args.forest.now in
+    let laws = c.law_ends_stay.ensures in
+    let size = length_of f.trees (name_at f.names c.args.node) in
+    let bound = laws.bound f.names c.args.ranges.now nodes in
+    laws.at_nodes f.names (bound.0 + size) c.set_end.new.self (returns-clause-within c (bound.0 + size) (omega arith)
+    (laws.more f.names f.names bound.0 (bound.0 + size) c.args.ranges.now (omega arith) (omega arith) bound.1))

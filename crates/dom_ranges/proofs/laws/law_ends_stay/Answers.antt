@@ -1,5 +1,5 @@
-use Rattle.dom_ranges.proofs.Staying.{none-within, same-within, more-within, within-at_nodes, made-within, removed-within, written-within}
-use Rattle.dom_ranges.proofs.Staying.{start-within, end-within}
+use Rattle.dom_ranges.proofs.Staying.{none-within, same-within, more-within, within-at_nodes, some-within, made-within, removed-within}
+use Rattle.dom_ranges.proofs.Staying.{written-within, start-within, end-within}
 use Rattle.dom_ranges.proofs.Staying.{collapsed-within, insert-within, removal-within, replace_data-within, split-within, join-within}
 use Rattle.dom_ranges.proofs.laws.law_ends_stay.Goals as goal
 
@@ -14,6 +14,9 @@ returns-clause-more c = more-within
 
 pub returns-clause-at_nodes : goal.returns-clause-at_nodes
 returns-clause-at_nodes c = within-at_nodes
+
+pub returns-clause-bound : goal.returns-clause-bound
+returns-clause-bound c = some-within
 
 pub returns-clause-made : goal.returns-clause-made
 returns-clause-made c = made-within
