@@ -49,9 +49,9 @@ module _ (g : Owner → Bool) (closed : KeepsMakers g) where
   outward-quiet v p (Some e) = quiet-dispatch v e.host None (outward_words e) p
 
   -- a line of which the group has what it has of another run
-  line-shown : {w v : World} → IsPair g closed w v → (l : Line) → line_may_stop w l ≡ false → (r : Run World) → group_run g (step w l) ≡ group_run g r →
+  line-shown : {w v : World} {r : Run World} → IsPair g closed w v → (l : Line) → line_may_stop w l ≡ false → group_run g (step w l) ≡ group_run g r →
       IsQuiet r.0 → IsCalm g (step w l).0 → AreRuns g closed (step w l) r
-  line-shown {w} k l stops r shown right calm = record {
+  line-shown {w} k l stops shown right calm = record {
     shown = shown;
     pair = record {
       same = ap (λ (q : Run World). q.0) shown;
@@ -66,7 +66,7 @@ module _ (g : Owner → Bool) (closed : KeepsMakers g) where
   line-own : (w v : World) → IsPair g closed w v → (l : Line) → line_may_stop w l ≡ false → is_of g (owner_of_line l) ≡ true →
       AreRuns g closed (step w l) (step v l)
   line-own w v k l stops h =
-      line-shown k l stops (step v l) (line-in g closed w v (pair-view k) k.calm l h)
+      line-shown k l stops (line-in g closed w v (pair-view k) k.calm l h)
       (quiet-step v l k.right (λ e. sym (may_stop-in g closed w v (pair-view k) k.calm l h) ∙ stops)) (calm-in g closed w k.calm l h)
 
   -- a line of another owner
@@ -75,7 +75,7 @@ module _ (g : Owner → Bool) (closed : KeepsMakers g) where
   line-other {w} {v} k l stops h t =
       let e = outward_event g w l in
       let own = line-out g closed k.left k.whole k.calm l h t in
-      line-shown k l stops (outward_run v e) (own ∙ outward-in g closed w v (pair-view k) e (event-host g w l)) (outward-quiet v k.right e)
+      line-shown k l stops (own ∙ outward-in g closed w v (pair-view k) e (event-host g w l)) (outward-quiet v k.right e)
       (same-calm g closed (outward_run w e).0 (step w l).0 (sym (ap (λ (r : Run World). r.0) own)) (calm-outward g closed w k.calm e))
 
   module _ {L : Type 0} (read : L → Line) where
