@@ -1,5 +1,5 @@
 -- A note: a document of three elements.
-use Rattle.std.specs.Prelude.{ℕ, codes, List, [], ◌∷◌, ◌++◌, Option, Some, None}
+use Rattle.std.specs.Prelude.{ℕ, codes, [], ◌∷◌, ◌++◌, Option, Some, None}
 use Rattle.dom_base.specs.declared.Kind.{Kind}
 use Rattle.dom_base.specs.declared.Kind.TheVariants.{Document, Element}
 use Rattle.dom_base.specs.declared.NodeName.{NodeName}
