@@ -1,5 +1,5 @@
 //! A list of any length: its items are counted and found by walking siblings, one is added, and the last one comes first.
-ghost use Rattle.std.specs.Prelude.{◌≡◌, ◌≢◌, ◌++◌, ◌∷◌, [], ℕ, Some, None, length, slice_get, IfOk, OnOk};
+ghost use Rattle.std.specs.Prelude.{◌≡◌, ◌≢◌, ◌++◌, ◌∷◌, [], ℕ, Some, None, length, slice_get, IfOk, OnOk, OnErr};
 ghost use Rattle.std.specs.Option.{option_map, ForSome};
 ghost use Rattle.dom_model.specs.Names.{last_of};
 ghost use Rattle.dom_model.specs.Tree.{children_of, node_in, parent_of};
@@ -47,16 +47,21 @@ pub fn item_at(forest: &Forest, list: Key, index: usize) -> Option<Key>
     None
 }
 
-/// Makes a node that holds what is given, the last child of a node, and answers its key (own rule). It is refused as `Forest::add` is.
+/// Makes a node that holds what is given, the last child of a node, and answers its key (own rule). It is refused as `Forest::add` is,
+/// and then the forest is as it was.
 pub fn add_item(forest: &mut Forest, owner: Owner, list: Key, item: NodeData) -> Result<Key, Fault>
     requires list_is_node { IsNode forest.old list }
     requires document_is_node { ForSome item.document (IsNode forest.old) }
+    ensures names { OnOk result (forest.new.names ≡ forest.old.names ++ next_name owner forest.old.names ∷ []) }
     ensures item { IfOk result (λ k.
         node_in forest.new.trees (name_of forest.new k) ≡ node_from forest.old.names (next_name owner forest.old.names) item) }
     ensures last { IfOk result (λ k. children_of forest.new.trees (name_of forest.old list) ≡
         children_of forest.old.trees (name_of forest.old list) ++ name_of forest.new k ∷ []) }
+    ensures others { OnOk result ((k : ℕ) → IsNode forest.old k → k ≢ list →
+        children_of forest.new.trees (name_of forest.old k) ≡ children_of forest.old.trees (name_of forest.old k)) }
     ensures held { OnOk result ((k : ℕ) → IsNode forest.old k →
         node_in forest.new.trees (name_of forest.old k) ≡ node_in forest.old.trees (name_of forest.old k)) }
+    ensures err { OnErr result (forest.new ≡ forest.old) }
 {
     let key = forest.add(owner, item)?;
     forest.link_before(list, key, None);

@@ -1,8 +1,9 @@
 //! Callers of `dom_tree`.
-ghost use Rattle.std.specs.Prelude.{◌≡◌, true, false, Some, is_some};
+ghost use Rattle.std.specs.Prelude.{◌≡◌, ◌≢◌, ℕ, true, false, Some, is_some};
 ghost use Rattle.std.specs.Option.{option_map, option_and_then};
+ghost use Rattle.dom_base.specs.declared.NodeName.{NodeName as Name};
 ghost use Rattle.dom_model.specs.Names.{first_of};
-ghost use Rattle.dom_model.specs.Tree.{children_of};
+ghost use Rattle.dom_model.specs.Tree.{children_of, node_in};
 ghost use Rattle.dom_tree.specs.Forest.{IsNode, name_of};
 ghost use Rattle.dom_callers.specs.Labels.{text_at};
 
@@ -31,6 +32,11 @@ pub fn relabel(forest: &mut Forest, button: Key, text: DomStr) -> bool
         (first_of (children_of forest.old.trees (name_of forest.old button)))) }
     ensures label { result ≡ true → option_and_then (text_at forest.new.trees)
         (first_of (children_of forest.new.trees (name_of forest.old button))) ≡ Some text.items }
+    ensures names { forest.new.names ≡ forest.old.names }
+    ensures children { (x : Name) → children_of forest.new.trees x ≡ children_of forest.old.trees x }
+    ensures held { (k : ℕ) → IsNode forest.old k →
+        first_of (children_of forest.old.trees (name_of forest.old button)) ≢ Some (name_of forest.old k) →
+        node_in forest.new.trees (name_of forest.old k) ≡ node_in forest.old.trees (name_of forest.old k) }
     ensures left { result ≡ false → forest.new ≡ forest.old }
 {
     let Some(child) = forest.first(button) else {
