@@ -22,6 +22,14 @@ pub row_of_pieces : (owner space end : List ℕ) (first : List ℕ × List ℕ) 
 row_of_pieces owner space end first pieces = rw (in_a_row-is (first.0 ++ first.1) pieces)
     (sym (append-nil (owner ++ space ++ in_pieces (first ∷ pieces) ++ end)))
 
+-- the pieces of a call of a listener: those of its place are grouped together, and those of what it is shown
+module _ (phase target current related path : List ℕ × List ℕ) where
+  pub pieces_of_call : (first type : List ℕ × List ℕ) →
+      (first.0 ++ first.1 ++ type.0 ++ type.1 ++ (phase.0 ++ phase.1 ++ target.0 ++ target.1 ++ current.0 ++ current.1)
+      ++ (related.0 ++ related.1 ++ path.0 ++ path.1)) ++ []
+      ≡ in_pieces (first ∷ type ∷ phase ∷ target ∷ current ∷ related ∷ path ∷ [])
+  pieces_of_call first type = simp (append_assoc, append-nil)
+
 -- the line of a record: the pieces that stand behind its observer's number and a space are grouped together
 pub row_of_record : (owner space end : List ℕ) (number kind : List ℕ × List ℕ) (pieces : List (List ℕ × List ℕ)) →
     owner ++ space ++ in_pieces (number ∷ (space ++ kind.0, kind.1) ∷ pieces) ++ end

@@ -7,6 +7,7 @@ use Rattle.dom_text.specs.Words.{owner_word}
 use Rattle.dom_text.specs.Text.{string_text, string_or_null, node_text, node_or_null, list_text}
 use Rattle.dom_printer.specs.declared.pieces.Piece.{Piece}
 use Rattle.dom_printer.specs.declared.pieces.Piece.TheVariants as pieces
+use Rattle.dom_printer.specs.Records.{call_text}
 
 -- the text with which a piece begins
 abbrev pub text_in : Piece → List ℕ
@@ -19,6 +20,7 @@ text_in (pieces.NodeOrNull text named) = text.now
 text_in (pieces.Nodes text nodes) = text.now
 text_in (pieces.Units text units) = text.now
 text_in (pieces.UnitsOrNull text units) = text.now
+text_in (pieces.Call text call) = text.now
 
 -- what stands behind that text, as the viewer sees it
 abbrev pub rest_text : Owner → Piece → List ℕ
@@ -31,6 +33,7 @@ rest_text viewer (pieces.NodeOrNull text node) = node_or_null viewer node
 rest_text viewer (pieces.Nodes text nodes) = list_text viewer nodes.now
 rest_text viewer (pieces.Units text units) = string_text units.now
 rest_text viewer (pieces.UnitsOrNull text units) = string_or_null (option_copied units)
+rest_text viewer (pieces.Call text call) = call_text viewer call.now
 
 -- a piece as the viewer sees it
 abbrev pub piece_text : Owner → Piece → List ℕ

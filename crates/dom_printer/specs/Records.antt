@@ -27,6 +27,19 @@ event_text viewer e =
     codes "event " ++ e.label.now ++ codes " " ++ e.event.now ++ codes " phase=" ++ decimal e.phase ++ codes " target=" ++ node_text viewer e.target
     ++ codes " current=" ++ node_text viewer e.current ++ codes " related=" ++ node_or_null viewer e.related ++ codes " path=" ++ e.path.now
 
+-- where a call stands, as an owner sees it
+abbrev pub places_text : Owner → Event → List ℕ
+places_text viewer e =
+    codes " phase=" ++ decimal e.phase ++ codes " target=" ++ node_text viewer e.target ++ codes " current=" ++ node_text viewer e.current
+
+-- what the event shows there, whatever stands for the text of its path
+abbrev pub shown_text : Owner → Event → List ℕ
+shown_text viewer e = codes " related=" ++ node_or_null viewer e.related ++ codes " path=" ++ e.path.now
+
+-- the call of a listener
+abbrev pub call_text : Owner → Event → List ℕ
+call_text viewer e = e.label.now ++ codes " " ++ e.event.now ++ places_text viewer e ++ shown_text viewer e
+
 -- a change
 abbrev pub change_view : Change → model.Change NodeName
 change_view (changes.ChildList target added removed previous next) = model.child_list target added.now removed.now previous next

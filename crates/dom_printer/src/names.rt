@@ -16,6 +16,9 @@ pub(crate) fn put_number(out: &mut Vec<u8>, number: usize) -> Result<(), AllocEr
     ensures ok { OnOk result (out.new.items ≡ out.old.items ++ decimal number) }
     ensures err { OnErr result (Keeps out.old.items out.new.items) }
 {
+    if number < 10 {
+        return Ok(out.push(b'0' + number as u8)?);
+    }
     let mut buffer = Buffer::new();
     out.extend_from_slice(buffer.format(number).as_bytes())
 }
@@ -74,7 +77,7 @@ pub(crate) fn put_owner(out: &mut Vec<u8>, owner: Owner) -> Result<(), AllocErro
     ensures err { OnErr result (Keeps out.old.items out.new.items) }
 {
     match owner {
-        Owner::Page => out.extend_from_slice(b"p"),
+        Owner::Page => Ok(out.push(b'p')?),
         Owner::Component(component) => put_component(out, component),
     }
 }
@@ -86,13 +89,13 @@ pub(crate) fn put_node(out: &mut Vec<u8>, viewer: Owner, node: NodeName) -> Resu
     ensures err { OnErr result (Keeps out.old.items out.new.items) }
 {
     match node.owner {
-        Owner::Page => out.extend_from_slice(b"n")?,
+        Owner::Page => out.push(b'n')?,
         Owner::Component(component) => {
             if viewer != node.owner {
                 put_component(out, component)?;
                 out.extend_from_slice(b":")?;
             }
-            out.extend_from_slice(b"m")?;
+            out.push(b'm')?;
         }
     }
     put_number(out, node.number as usize)
@@ -150,7 +153,7 @@ fn put_others(out: &mut Vec<u8>, viewer: Owner, nodes: &[NodeName]) -> Result<()
     ensures err { OnErr result (Keeps out.old.items out.new.items) }
 {
     for node in nodes {
-        out.extend_from_slice(b",")?;
+        out.push(b',')?;
         put_node(out, viewer, *node)?;
     }
     Ok(())

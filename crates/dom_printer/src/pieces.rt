@@ -6,6 +6,7 @@ ghost use Rattle.dom_printer.specs.Pieces.{piece_text, pieces_text};
 
 use crate::buffers::cut_if_refused;
 use crate::names::{put_list, put_node, put_node_or_null, put_number, put_owner};
+use crate::records::{Event, put_call};
 use crate::strings::put_units;
 use dom_base::{NodeName, Owner};
 use std::alloc::AllocError;
@@ -22,6 +23,7 @@ pub(crate) enum Piece<'a> {
     Nodes(&'a [u8], &'a [NodeName]),
     Units(&'a [u8], &'a [u16]),
     UnitsOrNull(&'a [u8], Option<&'a [u16]>),
+    Call(&'a [u8], &'a Event<'a>),
 }
 
 /// Puts a line of the owner's: the owner's word, a space, the pieces and the line's end. Where memory is refused, the
@@ -46,9 +48,9 @@ fn put_line_parts(out: &mut Vec<u8>, owner: Owner, pieces: &[Piece<'_>]) -> Resu
     ensures err { OnErr result (Keeps out.old.items out.new.items) }
 {
     put_owner(out, owner)?;
-    out.extend_from_slice(b" ")?;
+    out.push(b' ')?;
     put_pieces(out, owner, pieces)?;
-    out.extend_from_slice(b"\n")
+    Ok(out.push(b'\n')?)
 }
 
 /// Puts one piece after the other, as far as there is memory.
@@ -81,6 +83,7 @@ fn put_piece(out: &mut Vec<u8>, viewer: Owner, piece: &Piece<'_>) -> Result<(), 
         Piece::Units(_, units) => put_units(out, units),
         Piece::UnitsOrNull(_, None) => out.extend_from_slice(b"null"),
         Piece::UnitsOrNull(_, Some(units)) => put_units(out, units),
+        Piece::Call(_, call) => put_call(out, viewer, call),
     }
 }
 
@@ -100,7 +103,8 @@ impl Piece<'_> {
             | Piece::NodeOrNull(text, _)
             | Piece::Nodes(text, _)
             | Piece::Units(text, _)
-            | Piece::UnitsOrNull(text, _) => text,
+            | Piece::UnitsOrNull(text, _)
+            | Piece::Call(text, _) => text,
         }
     }
 }

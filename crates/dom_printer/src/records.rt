@@ -3,8 +3,10 @@ ghost use Rattle.std.specs.Prelude.{◌≡◌, List, ◌++◌, ◌∷◌, [], On
 ghost use Rattle.dom_model.specs.Output.{attributes, character_data, event_seen, micro_ran, recorded, says};
 ghost use Rattle.dom_text.specs.Text.{list_text, output_text};
 ghost use Rattle.dom_printer.specs.Lines.{line_text};
-ghost use Rattle.dom_printer.specs.Records.{event_text, event_view, change_view};
+ghost use Rattle.dom_printer.specs.Keeping.{Keeps};
+ghost use Rattle.dom_printer.specs.Records.{call_text, change_view, event_text, event_view, places_text, shown_text};
 
+use crate::names::{put_node, put_number};
 use crate::pieces::{Piece, put_line};
 use dom_base::{NodeName, Owner};
 use std::alloc::AllocError;
@@ -54,16 +56,51 @@ pub fn put_event(out: &mut Vec<u8>, owner: Owner, event: &Event<'_>) -> Result<(
         ≡ out.old.items ++ output_text (says owner (event_seen (event_view path event.now)) ∷ [])) }
     ensures err { OnErr result (out.new.items ≡ out.old.items) }
 {
-    let pieces = [
-        Piece::Bytes(b"event ", event.label),
-        Piece::Bytes(b" ", event.event),
-        Piece::Number(b" phase=", event.phase as usize),
-        Piece::Node(b" target=", event.target),
-        Piece::Node(b" current=", event.current),
-        Piece::NodeOrNull(b" related=", event.related),
-        Piece::Bytes(b" path=", event.path),
-    ];
-    put_line(out, owner, &pieces)
+    put_line(out, owner, &[Piece::Call(b"event ", event)])
+}
+
+/// Puts the call of a listener, as far as there is memory.
+#[tactic(auto, using(crate::proofs::KeepLaws::keeps_at))]
+pub(crate) fn put_call(out: &mut Vec<u8>, viewer: Owner, call: &Event<'_>) -> Result<(), AllocError>
+    ensures ok { OnOk result (out.new.items ≡ out.old.items ++ call_text viewer call.now) }
+    ensures err { OnErr result (Keeps out.old.items out.new.items) }
+{
+    out.extend_from_slice(call.label)?;
+    out.push(b' ')?;
+    out.extend_from_slice(call.event)?;
+    put_places(out, viewer, call)?;
+    put_shown(out, viewer, call)
+}
+
+/// Puts where a call stands, as far as there is memory.
+#[tactic(auto, using(crate::proofs::KeepLaws::keeps_at))]
+fn put_places(out: &mut Vec<u8>, viewer: Owner, call: &Event<'_>) -> Result<(), AllocError>
+    ensures ok { OnOk result (out.new.items ≡ out.old.items ++ places_text viewer call.now) }
+    ensures err { OnErr result (Keeps out.old.items out.new.items) }
+{
+    out.extend_from_slice(b" phase=")?;
+    put_number(out, call.phase as usize)?;
+    out.extend_from_slice(b" target=")?;
+    put_node(out, viewer, call.target)?;
+    out.extend_from_slice(b" current=")?;
+    put_node(out, viewer, call.current)
+}
+
+/// Puts what an event shows to a listener, as far as there is memory.
+#[tactic(auto, using(crate::proofs::KeepLaws::keeps_at))]
+fn put_shown(out: &mut Vec<u8>, viewer: Owner, call: &Event<'_>) -> Result<(), AllocError>
+    ensures ok { OnOk result (out.new.items ≡ out.old.items ++ shown_text viewer call.now) }
+    ensures err { OnErr result (Keeps out.old.items out.new.items) }
+{
+    match call.related {
+        None => out.extend_from_slice(b" related=null path=")?,
+        Some(related) => {
+            out.extend_from_slice(b" related=")?;
+            put_node(out, viewer, related)?;
+            out.extend_from_slice(b" path=")?;
+        }
+    }
+    out.extend_from_slice(call.path)
 }
 
 /// Puts a record of the owner's observer with this number as a line with its end: `record`, the observer, and the change.
