@@ -168,9 +168,12 @@ impl Event {
         requires at { at.now.tree < length trees.now }
         ensures { result ≡ ends_before trees.now self.now.target self.now.related at.now }
     {
+        let Some(related) = &self.related else {
+            return false;
+        };
         at.node != self.target.node
             && at.node == self.target.seen_from(trees, at.tree)
-            && self.related_from(trees, at.tree) == Some(at.node)
+            && related.seen_from(trees, at.tree) == at.node
     }
 
     /// What is seen in the related node's place from the nodes of a tree.

@@ -1,5 +1,5 @@
 //! Event paths.
-ghost use Rattle.std.specs.Prelude.{◌≡◌, ℕ, ◌<◌, Some, None, length, map, option_map, slice_get, IfOk};
+ghost use Rattle.std.specs.Prelude.{◌≡◌, ℕ, ◌<◌, ◌↔◌, true, IsTrue, Some, None, length, map, option_map, slice_get, IfOk};
 ghost use Rattle.std.specs.List.{AllByRecursion};
 ghost use Rattle.std.specs.Option.{ForSome};
 ghost use Rattle.dom_model.specs.Paths.{View, views};
@@ -105,12 +105,25 @@ impl Path {
     {
         let items = self.items.as_slice();
         let viewer = items[at].tree;
-        let mut nodes = SmallVec::new(self.alloc);
+        let mut nodes = SmallVec::with_capacity(self.alloc, items.len())?;
         for item in items {
             if self.trees.hiding_host(item.tree, viewer).is_none() {
                 nodes.push(item.node)?;
             }
         }
         Ok(nodes)
+    }
+
+    /// Whether two items of the path stand in one tree. The event then shows the same nodes of its path at both (own rule).
+    pub fn share_tree(&self, at: usize, other: usize) -> bool
+        requires at { at < length self.now.items }
+        requires other { other < length self.now.items }
+        ensures trees { IsTrue result ↔
+            (option_map (λ i. i.tree) (slice_get self.now.items at) ≡ option_map (λ i. i.tree) (slice_get self.now.items other)) }
+        ensures paths { result ≡ true → option_map (λ (v : View ℕ). v.path) (slice_get self.now.views at)
+            ≡ option_map (λ (v : View ℕ). v.path) (slice_get self.now.views other) }
+    {
+        let items = self.items.as_slice();
+        items[at].tree == items[other].tree
     }
 }
