@@ -103,9 +103,9 @@ lines_shown names [] = refl
 lines_shown names (l ∷ ls) = ap (λ (os : List Output). line_shown names l ∷ os) (lines_shown names ls)
 
 -- lines of one owner that show one path show one text of it
-pub one_path : (names : List NodeName) (l m : LogLine) → OwnerImpl.ghosts.eq l.owner m.owner ≡ true → bytes_eq l.path.items m.path.items ≡ true
+pub one_path : (names : List NodeName) (l m : LogLine) → OwnerImpl.ghosts.eq l.owner m.owner ≡ true → bytes_eq l.path.value.items m.path.value.items ≡ true
     → path_shown names m ≡ path_shown names l
 one_path names l m owners keys =
     let owner : l.owner ≡ m.owner = owner_eq-true l.owner m.owner (sym (same_owner l.owner m.owner) ∙ owners) in
-    let path : l.path.items ≡ m.path.items = (bytes_eq-Decides l.path.items m.path.items).0 keys in
-    sym (ap (λ (o : Owner). list_text o (map (name_at names) l.path.items)) owner ∙ ap (λ ks. list_text m.owner (map (name_at names) ks)) path)
+    let path : l.path.value.items ≡ m.path.value.items = (bytes_eq-Decides l.path.value.items m.path.value.items).0 keys in
+    sym (ap (λ (o : Owner). list_text o (map (name_at names) l.path.value.items)) owner ∙ ap (λ ks. list_text m.owner (map (name_at names) ks)) path)

@@ -66,4 +66,4 @@ line_shown names l = event_output (line_named names (line_in l))
 
 -- the text of the path of such a line, as its owner sees it
 abbrev pub path_shown : List NodeName → LogLine → List ℕ
-path_shown names l = list_text l.owner (map (name_at names) l.path.items)
+path_shown names l = list_text l.owner (map (name_at names) l.path.value.items)

@@ -90,7 +90,7 @@ fn path_text(alloc: Global, forest: &Forest, line: &LogLine) -> Result<Vec<u8>, 
 fn has_path_of(line: &LogLine, other: &LogLine) -> bool
     ensures { result ≡ true → (names : List NodeName) → path_shown names other.now ≡ path_shown names line.now }
 {
-    line.owner == other.owner && line.path == other.path
+    line.owner == other.owner && line.path.as_slice() == other.path.as_slice()
 }
 
 /// Puts the line of the call of a listener, as its owner sees it, with the text of its path.
@@ -110,8 +110,8 @@ fn put_line(
         None => None,
     };
     let event = Event {
-        label: line.label.as_bytes(),
-        event: line.name.as_bytes(),
+        label: line.listener.label.as_bytes(),
+        event: line.listener.event.as_bytes(),
         phase: line.phase,
         target: forest.name(line.target),
         current: forest.name(line.current),

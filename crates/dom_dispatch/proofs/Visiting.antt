@@ -3,14 +3,15 @@ use Rattle.std.proofs.Common.{◌≡◌, ℕ, ◌+◌, ◌<◌, Bool, true, fals
 use Rattle.std.proofs.Common.{Option, Some, option_map, zero, suc, refl, sym, ap, ◌∙◌, arith, drop-cons}
 use Rattle.std.specs.Prelude.{◌&&◌, nat_eq, slice_get, if◌then◌else◌}
 use Rattle.std.specs.List.{AllByRecursion}
+use Rattle.std.proofs.lemmas.Bool.{cond-false}
 use Rattle.std.proofs.lemmas.List.{map-append, reverse-append}
 use Rattle.std.proofs.lemmas.List.Elements.{filter_more}
 use Rattle.std.proofs.lemmas.List.Sums.{fold-append}
 use Rattle.std.proofs.lemmas.Option.{slice_get-map, slice_get-get_or, slice_get_within, get_or_from_slice_get}
 use Rattle.dom_base.specs.declared.NodeName.{NodeName}
 use Rattle.dom_model.specs.Command.{EventWords}
-use Rattle.dom_model.specs.Dispatch.{event_output}
-use Rattle.dom_model.specs.Listeners.{Listener, Visit, hears, called, visited, begun}
+use Rattle.dom_model.specs.Dispatch.{event_output, visit_of}
+use Rattle.dom_model.specs.Listeners.{Dispatching, Listener, Visit, hears, called, visited, begun}
 use Rattle.dom_model.specs.Names.{text_eq}
 use Rattle.dom_model.specs.Output.{EventLine}
 use Rattle.dom_model.specs.Paths.{View}
@@ -68,6 +69,17 @@ module _ {D V W : Type 0} (step : D → W → D) (g : V → W) where
         a ∙ ap (λ d. step d (g v)) (b ∙ ap (λ m. fold step from (map g (reverse (drop m vs)))) next)
         ∙ sym (fold-append step from (map g rest) (g v ∷ []))
         ∙ ap (fold step from) (sym (ap (map g) (ap reverse all ∙ reverse-append (v ∷ []) (drop (suc k) vs)) ∙ map-append g rest (v ∷ [])))
+
+-- a visit that is not stopped calls those that hear it
+module _ (e : EventWords) (capturing : Bool) where
+  pub visited-calls : (d : Dispatching ℕ) (heard : List (Listener ℕ)) {v view : View ℕ} → d.stopped ≡ false →
+      heard ≡ filter (hears nat_eq e (visit_of nat_eq capturing v)) d.listeners → Some v ≡ Some view →
+      fold (called nat_eq e (visit_of nat_eq capturing v)) d heard ≡ visited nat_eq e d (visit_of nat_eq capturing view)
+  visited-calls d heard {v} {view} running is same =
+      let call = fold (called nat_eq e (visit_of nat_eq capturing v)) d in
+      let one : v ≡ view = cc in
+      ap call is ∙ sym (cond-false d.stopped d (call (filter (hears nat_eq e (visit_of nat_eq capturing v)) d.listeners)) running) ∙
+      ap (λ u. visited nat_eq e d (visit_of nat_eq capturing u)) one
 
 -- where nobody listens for its type a dispatch ends as it begins
 module _ (e : EventWords) where

@@ -1,5 +1,6 @@
 -- What a contract sees of a dispatch: the event, the visits, the lines, and how far it is.
-use Rattle.std.specs.Prelude.{◌≡◌, ℕ, not, List, filter, map, Option, option_map, string_bytes}
+use Rattle.std.specs.Prelude.{◌≡◌, ℕ, ◌<◌, not, List, filter, length, map, slice_get, Option, Some, option_map, string_bytes}
+use Rattle.std.specs.Option.{ForSome}
 use Rattle.std.specs.List.{AllByRecursion}
 use Rattle.dom_base.specs.declared.Owner.{Owner}
 use Rattle.dom_base.specs.declared.NodeName.{NodeName}
@@ -13,12 +14,13 @@ use Rattle.dom_tree.specs.Forest.{NamedTrees, name_at}
 use Rattle.dom_slots.specs.Hosts.{ShadowHost}
 use Rattle.dom_slots.specs.Shadows.{shadows}
 use Rattle.dom_path.specs.Hosted.{IsHosted}
-use Rattle.dom_path.specs.Items.{IsWorldOf, ShowsNodes, view_named}
+use Rattle.dom_path.specs.Items.{IsWorldOf, PathNow, ShowsNodes, view_named}
 use Rattle.dom_path.specs.Paths.{AreViews}
 use Rattle.dom_dispatch.specs.declared.event.EventInit.{EventInit}
 use Rattle.dom_dispatch.specs.declared.event.LogLine.{LogLine}
 use Rattle.dom_dispatch.specs.declared.event.Outcome.{Outcome}
 use Rattle.dom_dispatch.specs.declared.progress.Progress.{Progress}
+use Rattle.dom_dispatch.specs.declared.shown.Shown.{Shown}
 use Rattle.dom_dispatch.specs.declared.visit.Visit.{Visit}
 use Rattle.dom_dispatch.specs.Kept.{is_of_owner, HasListeners, dispatch_along}
 use Rattle.dom_dispatch.specs.ListenersByName.{listener_named, line_named}
@@ -29,18 +31,23 @@ event_words e = record { event = string_bytes e.name; bubbles = e.bubbles; cance
 
 -- a visit
 abbrev pub visit_in : Visit → Visited ℕ
-visit_in v = record { current = v.current; phase = v.phase; capturing = v.capturing; target = v.target; related = v.related; path = v.path.items }
+visit_in v = record { current = v.current; phase = v.phase; capturing = v.capturing; target = v.target; related = v.related; path = v.path.value.items }
+
+-- what was asked for last are the nodes that an event shows at an item of its path
+abbrev pub IsShownOf : PathNow → Shown → Type 0
+IsShownOf p s =
+    ForSome s.last (λ l. (l.at < length p.items) × (option_map (λ (v : View ℕ). v.path) (slice_get p.views l.at) ≡ Some l.nodes.value.items))
 
 -- the line of a call
 abbrev pub line_in : LogLine → EventLine ℕ
 line_in l = record {
-  label = string_bytes l.label;
-  event = string_bytes l.name;
+  label = string_bytes l.listener.value.label;
+  event = string_bytes l.listener.value.event;
   phase = l.phase;
   target = l.target;
   current = l.current;
   related = l.related;
-  path = l.path.items;
+  path = l.path.value.items;
 }
 
 -- how far a dispatch is, with these listeners

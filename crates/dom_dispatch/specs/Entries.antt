@@ -13,7 +13,7 @@ words_of i = record { event = string_bytes i.event; label = string_bytes i.label
 
 -- a listener
 abbrev pub listener_of : Entry → Listener ℕ
-listener_of e = record { node = e.node; words = words_of e.words }
+listener_of e = record { node = e.node; words = words_of e.words.value }
 
 -- the listeners, in the order of adding
 abbrev pub listeners_in : List Entry → List (Listener ℕ)

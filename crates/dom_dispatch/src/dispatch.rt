@@ -8,11 +8,12 @@ ghost use Rattle.dom_model.specs.Paths.{View};
 ghost use Rattle.dom_slots.specs.Kept.{AreSlotsOf};
 ghost use Rattle.dom_path.specs.Items.{HasNodes};
 ghost use Rattle.dom_dispatch.specs.Entries.{listener_of, listeners_in, hears_at};
-ghost use Rattle.dom_dispatch.specs.Dispatches.{event_words, visit_in, dispatching_in, IsOwnLine, KeepsOwners, IsDispatched, IsDispatchedIn};
+ghost use Rattle.dom_dispatch.specs.Dispatches.{event_words, visit_in, dispatching_in, IsOwnLine, KeepsOwners, IsDispatched, IsDispatchedIn, IsShownOf};
 ghost use Rattle.dom_dispatch.specs.ListenersByName.{IsListenerAt};
 ghost use Rattle.dom_tree.specs.Forest.{IsNode};
 
 use crate::event::{EventInit, Outcome};
+use crate::handed::Handed;
 use crate::listeners::{Entry, Listeners};
 use crate::progress::Progress;
 use crate::visit::Visit;
@@ -51,9 +52,10 @@ impl Listeners {
                 lines: Vec::new(alloc),
             });
         }
+        let mut handed = Handed::new(alloc);
         let mut so_far = Progress::new(alloc);
-        self.capture(forest, &event, &path, &mut so_far)?;
-        self.bubble(forest, &event, &path, &mut so_far)?;
+        self.capture(forest, &event, &path, &mut handed, &mut so_far)?;
+        self.bubble(forest, &event, &path, &mut handed, &mut so_far)?;
         Ok(Outcome {
             answer: !so_far.cancelled,
             lines: so_far.lines,
@@ -66,18 +68,21 @@ impl Listeners {
         forest: &Forest,
         event: &EventInit,
         path: &Path,
+        handed: &mut Handed,
         so_far: &mut Progress,
     ) -> Result<(), AllocError>
         requires nodes { AllByRecursion (HasNodes forest.now.names) path.now.items }
+        requires shown { IsShownOf path.now handed.old.shown }
         requires owners { AllByRecursion (IsOwnLine forest.now.names) so_far.old.lines.items }
         ensures visits { OnOk result (dispatching_in self.new so_far.new ≡ fold (visited nat_eq (event_words event.now))
             (dispatching_in self.old so_far.old) (map (visit_of nat_eq true) (reverse path.now.views))) }
+        ensures shown { OnOk result (IsShownOf path.now handed.new.shown) }
         ensures owners { OnOk result (AllByRecursion (IsOwnLine forest.now.names) so_far.new.lines.items) }
     {
         let mut at = path.items().len();
         while at > 0 {
             at -= 1;
-            self.visit(forest, event, path, at, true, so_far)?;
+            self.visit(forest, event, path, at, true, handed, so_far)?;
         }
         Ok(())
     }
@@ -89,19 +94,22 @@ impl Listeners {
         forest: &Forest,
         event: &EventInit,
         path: &Path,
+        handed: &mut Handed,
         so_far: &mut Progress,
     ) -> Result<(), AllocError>
         requires nodes { AllByRecursion (HasNodes forest.now.names) path.now.items }
+        requires shown { IsShownOf path.now handed.old.shown }
         requires owners { AllByRecursion (IsOwnLine forest.now.names) so_far.old.lines.items }
         ensures visits { OnOk result (dispatching_in self.new so_far.new ≡ fold (visited nat_eq (event_words event.now))
             (dispatching_in self.old so_far.old)
             (map (visit_of nat_eq false) (filter (λ v. event.now.bubbles || is_at_target nat_eq v) path.now.views))) }
+        ensures shown { OnOk result (IsShownOf path.now handed.new.shown) }
         ensures owners { OnOk result (AllByRecursion (IsOwnLine forest.now.names) so_far.new.lines.items) }
     {
         for at in 0..path.items().len() {
             let item = path.items()[at];
             if event.bubbles || item.node == item.event_target {
-                self.visit(forest, event, path, at, false, so_far)?;
+                self.visit(forest, event, path, at, false, handed, so_far)?;
             }
         }
         Ok(())
@@ -116,42 +124,53 @@ impl Listeners {
         path: &Path,
         at: usize,
         capturing: bool,
+        handed: &mut Handed,
         so_far: &mut Progress,
     ) -> Result<(), AllocError>
         requires within { at < length path.now.items }
         requires nodes { AllByRecursion (HasNodes forest.now.names) path.now.items }
+        requires shown { IsShownOf path.now handed.old.shown }
         requires owners { AllByRecursion (IsOwnLine forest.now.names) so_far.old.lines.items }
         ensures visit { OnOk result ((view : View ℕ) → slice_get path.now.views at ≡ Some view →
             dispatching_in self.new so_far.new ≡ visited nat_eq (event_words event.now) (dispatching_in self.old so_far.old)
             (visit_of nat_eq capturing view)) }
+        ensures shown { OnOk result (IsShownOf path.now handed.new.shown) }
         ensures owners { OnOk result (AllByRecursion (IsOwnLine forest.now.names) so_far.new.lines.items) }
     {
         if so_far.stopped {
             return Ok(());
         }
         let node = path.items()[at].node;
-        let heard = self.heard(node, event.name.as_str(), capturing)?;
-        if heard.is_empty() {
+        self.heard(node, event.name.as_str(), capturing, &mut handed.heard)?;
+        if handed.heard.is_empty() {
             return Ok(());
         }
-        let visit = Visit::of(forest, path, at, capturing)?;
-        self.call_all(event, &visit, heard, so_far)
+        let nodes = handed.shown.at(self.alloc, path, at)?;
+        let visit = Visit::of(forest, path, at, capturing, nodes);
+        self.call_all(event, &visit, &mut handed.heard, so_far)
     }
 
-    /// Copies of the listeners of a node that hear events of this type, while they are capturing or while they are not.
-    fn heard(&self, node: Key, event: &str, capturing: bool) -> Result<VecDeque<Entry>, AllocError>
-        ensures { IfOk result (λ heard. listeners_in heard.items ≡ filter (hears_at node event.now capturing) self.now) }
+    /// Puts copies of the listeners of a node that hear events of this type, while they are capturing or while they are not, in place of
+    /// what is there.
+    fn heard(
+        &self,
+        node: Key,
+        event: &str,
+        capturing: bool,
+        heard: &mut VecDeque<Entry>,
+    ) -> Result<(), AllocError>
+        ensures { OnOk result (listeners_in heard.new.items ≡ filter (hears_at node event.now capturing) self.now) }
     {
-        let mut heard = VecDeque::new(self.alloc);
+        heard.clear();
         let places = self.table.places.of(node);
         for place in places {
             if let Some(entry) = self.table.entry(*place) {
                 if entry.hears(node, event, capturing) {
-                    heard.push_back(entry.copied(self.alloc)?)?;
+                    heard.push_back(entry.copied()?)?;
                 }
             }
         }
-        Ok(heard)
+        Ok(())
     }
 
     /// The calls of listeners, one after another.
@@ -159,11 +178,11 @@ impl Listeners {
         &mut self,
         event: &EventInit,
         visit: &Visit,
-        mut heard: VecDeque<Entry>,
+        heard: &mut VecDeque<Entry>,
         so_far: &mut Progress,
     ) -> Result<(), AllocError>
         ensures calls { OnOk result (dispatching_in self.new so_far.new ≡ fold (called nat_eq (event_words event.now) (visit_in visit.now))
-            (dispatching_in self.old so_far.old) (listeners_in heard.items)) }
+            (dispatching_in self.old so_far.old) (listeners_in heard.old.items)) }
         ensures owners { OnOk result (KeepsOwners visit.now so_far.old so_far.new) }
     {
         while let Some(listener) = heard.pop_front() {
@@ -199,7 +218,7 @@ impl Listeners {
         }
         let action = words.action;
         let cancels = event.cancelable && !words.passive;
-        so_far.lines.push(visit.line(self.alloc, words)?)?;
+        so_far.lines.push(visit.line(words)?)?;
         so_far.act(action, cancels);
         Ok(())
     }

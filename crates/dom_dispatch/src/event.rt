@@ -1,7 +1,10 @@
 //! Events, and what a dispatch tells of them.
 
+use crate::listeners::ListenerInit;
 use dom_base::Owner;
 use node_arena::Key;
+use smallvec::SmallVec;
+use std::rc::Rc;
 
 /// An event that is to be dispatched (DOM Standard, dictionary EventInit; own rule: its type and its related node are among
 /// them).
@@ -20,17 +23,16 @@ pub struct EventInit {
 pub struct LogLine {
     /// The owner of the node whose listener it is.
     pub owner: Owner,
-    /// The listener's label.
-    pub label: String,
-    /// The event's type.
-    pub name: String,
+    /// The words of the listener, with its label and the event's type.
+    pub listener: Rc<ListenerInit>,
     /// 1 while capturing, 2 at the target, 3 while bubbling.
     pub phase: u8,
     pub target: Key,
     /// The node whose listener it is.
     pub current: Key,
     pub related: Option<Key>,
-    pub path: Vec<Key>,
+    /// The nodes of the event's path that it shows there. Lines of one dispatch may hold them in common.
+    pub path: Rc<SmallVec<Key, 16>>,
 }
 
 /// How a dispatch ended: the lines of the calls in their order, and the answer, which is false exactly where the event was

@@ -4,10 +4,12 @@
 
 mod dispatch;
 mod event;
+mod handed;
 mod laws;
 mod listeners;
 mod places;
 mod progress;
+mod shown;
 mod table;
 mod visit;
 

@@ -13,6 +13,7 @@ use node_arena::Key;
 use std::alloc::{AllocError, Global};
 use std::collections::HashSet;
 use std::marker::Model;
+use std::rc::Rc;
 
 /// The words with which a listener is added (DOM Standard, addEventListener(); own rule for the label and the action).
 #[derive(Drop)]
@@ -25,11 +26,11 @@ pub struct ListenerInit {
     pub passive: bool,
 }
 
-/// A listener, and the node at which it is.
+/// A listener, and the node at which it is. Its words are shared with those who were told of its calls.
 #[derive(Drop)]
 pub(crate) struct Entry {
     pub(crate) node: Key,
-    pub(crate) words: ListenerInit,
+    pub(crate) words: Rc<ListenerInit>,
 }
 
 impl Entry {
@@ -53,21 +54,13 @@ impl Entry {
             && self.words.capture == capturing
     }
 
-    /// A copy.
-    pub(crate) fn copied(&self, alloc: Global) -> Result<Entry, AllocError>
+    /// The same listener again.
+    pub(crate) fn copied(&self) -> Result<Entry, AllocError>
         ensures { IfOk result (λ e. listener_of e ≡ listener_of self.now) }
     {
-        let words = &self.words;
         Ok(Entry {
             node: self.node,
-            words: ListenerInit {
-                event: String::from_str(alloc, words.event.as_str())?,
-                label: String::from_str(alloc, words.label.as_str())?,
-                action: words.action,
-                capture: words.capture,
-                once: words.once,
-                passive: words.passive,
-            },
+            words: self.words.clone()?,
         })
     }
 }
@@ -117,6 +110,7 @@ impl Listeners {
             return Ok(());
         }
         note(self.alloc, &mut self.types, words.event.as_str())?;
+        let words = Rc::new(self.alloc, words)?;
         self.table.push(Entry { node, words })
     }
 

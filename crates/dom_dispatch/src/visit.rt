@@ -1,5 +1,5 @@
 //! Visits of an event.
-ghost use Rattle.std.specs.Prelude.{◌≡◌, ℕ, ◌<◌, nat_eq, length, slice_get, Some, IfOk};
+ghost use Rattle.std.specs.Prelude.{◌≡◌, ℕ, ◌<◌, nat_eq, length, option_map, slice_get, Some, IfOk};
 ghost use Rattle.std.specs.List.{AllByRecursion};
 ghost use Rattle.dom_model.specs.Dispatch.{visit_of};
 ghost use Rattle.dom_model.specs.Listeners.{line_of};
@@ -16,7 +16,8 @@ use dom_path::Path;
 use dom_tree::Forest;
 use node_arena::Key;
 use smallvec::SmallVec;
-use std::alloc::{AllocError, Global};
+use std::alloc::AllocError;
+use std::rc::Rc;
 
 /// A visit of an event at a node, with what listeners see of the event there (DOM Standard, concept: invoke).
 #[derive(Drop)]
@@ -27,23 +28,24 @@ pub(crate) struct Visit {
     pub(crate) capturing: bool,
     pub(crate) target: Key,
     pub(crate) related: Option<Key>,
-    pub(crate) path: SmallVec<Key, 16>,
+    pub(crate) path: Rc<SmallVec<Key, 16>>,
 }
 
 impl Visit {
-    /// The visit at an item of a path, while capturing or while bubbling.
+    /// The visit at an item of a path, while capturing or while bubbling, where the event shows these nodes of the path.
     pub(crate) fn of(
         forest: &Forest,
         path: &Path,
         at: usize,
         capturing: bool,
-    ) -> Result<Visit, AllocError>
+        nodes: Rc<SmallVec<Key, 16>>,
+    ) -> Visit
         requires within { at < length path.now.items }
         requires nodes { AllByRecursion (HasNodes forest.now.names) path.now.items }
-        ensures visit { IfOk result (λ v. (view : View ℕ) → slice_get path.now.views at ≡ Some view → visit_in v ≡ visit_of nat_eq capturing view) }
-        ensures owner { IfOk result (λ v. v.owner ≡ (name_of forest.now v.current).owner) }
+        requires shown { option_map (λ (v : View ℕ). v.path) (slice_get path.now.views at) ≡ Some nodes.value.items }
+        ensures visit { (view : View ℕ) → slice_get path.now.views at ≡ Some view → visit_in result ≡ visit_of nat_eq capturing view }
+        ensures owner { result.owner ≡ (name_of forest.now result.current).owner }
     {
-        let nodes = path.composed_path(at)?;
         let item = path.items()[at];
         let phase = if item.node == item.event_target {
             2
@@ -52,7 +54,7 @@ impl Visit {
         } else {
             3
         };
-        Ok(Visit {
+        Visit {
             owner: forest.name(item.node).owner,
             current: item.node,
             phase,
@@ -60,24 +62,22 @@ impl Visit {
             target: item.event_target,
             related: item.related,
             path: nodes,
-        })
+        }
     }
 
-    /// The line of the call of a listener, whose words it takes.
-    pub(crate) fn line(&self, alloc: Global, words: ListenerInit) -> Result<LogLine, AllocError>
-        ensures line { IfOk result (λ l. line_in l ≡ line_of (visit_in self.now) (words_of words)) }
+    /// The line of the call of a listener with these words.
+    pub(crate) fn line(&self, words: Rc<ListenerInit>) -> Result<LogLine, AllocError>
+        ensures line { IfOk result (λ l. line_in l ≡ line_of (visit_in self.now) (words_of words.value)) }
         ensures owner { IfOk result (λ l. l.owner ≡ self.now.owner) }
     {
-        let ListenerInit { event, label, .. } = words;
         Ok(LogLine {
             owner: self.owner,
-            label,
-            name: event,
+            listener: words,
             phase: self.phase,
             target: self.target,
             current: self.current,
             related: self.related,
-            path: Vec::from_slice(alloc, self.path.as_slice())?,
+            path: self.path.clone()?,
         })
     }
 }

@@ -6,7 +6,7 @@ use Rattle.dom_model.specs.Dispatch.{visit_of, is_at_target}
 use Rattle.dom_model.specs.Listeners.{visited}
 use Rattle.dom_model.specs.Paths.{View}
 use Rattle.dom_path.specs.PathNodes.{view_in}
-use Rattle.dom_dispatch.specs.Dispatches.{event_words, dispatching_in, IsOwnLine}
+use Rattle.dom_dispatch.specs.Dispatches.{event_words, dispatching_in, IsOwnLine, IsShownOf}
 use Rattle.dom_dispatch.proofs.Visiting.{bubbled-more, view-is}
 use Rattle.dom_dispatch.proofs.listeners.Listeners.bubble.Goals as goal
 use Rattle.dom_dispatch.proofs.listeners.Listeners.bubble.Goals.{then-event+in_ok-visit, then-event-via-then-event, then-event-via-else-event+then-eq}
@@ -40,6 +40,10 @@ loop-at-preserved c =
     record {
       visits = bubbled-more step (visit_of nat_eq false) path.views test i at (dispatching_in c.args.self.now c.args.so_far.now)
           c.loop-at.invariant.visits after;
+      shown = elim c.if-event.branch [
+        | then-event+in_ok-visit w ↦ subst (λ h. IsShownOf path h.shown) (sym w.handed-is) w.in_ok-visit.ensures.shown
+        | else-event+else-eq w ↦ subst (λ h. IsShownOf path h.shown) (sym w.handed-is) c.loop-at.invariant.shown
+      ];
       owners = elim c.if-event.branch [
         | then-event+in_ok-visit w ↦ subst (λ p. AllByRecursion (IsOwnLine c.args.forest.now.names) p.lines.items) (sym w.so_far-is)
             w.in_ok-visit.ensures.owners

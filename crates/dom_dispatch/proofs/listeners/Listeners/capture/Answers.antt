@@ -16,5 +16,6 @@ loop-at-preserved c =
       visits = captured-more (visited nat_eq (event_words c.args.event.now)) (visit_of nat_eq true) path.views next v.1
           (dispatching_in c.args.self.now c.args.so_far.now)
           c.loop-at.invariant.visits (c.in_ok-visit.ensures.visit v.0 v.1);
+      shown = c.in_ok-visit.ensures.shown;
       owners = c.in_ok-visit.ensures.owners;
     }

@@ -12,6 +12,9 @@ use Rattle.dom_dispatch.proofs.listeners.Listeners.dispatch.Goals as goal
 pub capture-requires-clause-owners : goal.capture-requires-clause-owners
 capture-requires-clause-owners c = subst (AllByRecursion (IsOwnLine c.args.forest.now.names)) (sym c.new-so_far.ensures.lines) tt
 
+pub capture-requires-clause-shown : goal.capture-requires-clause-shown
+capture-requires-clause-shown c = c.new-handed.ensures c.in_ok-path.path
+
 pub returns-clause-keys : goal.returns-clause-keys
 returns-clause-keys c =
     let e = event_words c.args.event in
