@@ -6,11 +6,12 @@ use Rattle.std.proofs.lemmas.Bool.{and_parts, and_left}
 use Rattle.dom_base.specs.declared.NodeName.{NodeName}
 use Rattle.dom_model.specs.Names.{last_of}
 use Rattle.dom_model.specs.Tree.{Trees, ancestors, parent_of}
-use Rattle.dom_model.specs.Selectors.{Complex, joined, Combinator, child, next, CompoundPart, compound_matches, complex_matches, combined_with, elements_before}
+use Rattle.dom_model.specs.Selectors.{Complex, alone, joined, Combinator, child, next, CompoundPart, compound_matches, complex_matches}
+use Rattle.dom_model.specs.Selectors.{combined_with, elements_before}
 use Rattle.dom_laws.proofs.Lists.{In, In-left, In-right, In-parts}
 use Rattle.dom_laws.proofs.Shapes.{Has, proper-parent}
 use Rattle.dom_laws.proofs.Counts.{Once}
-use Rattle.dom_selectors.specs.Search.{elements_to, MatchesAbove}
+use Rattle.dom_selectors.specs.Search.{last_compound, elements_to, MatchesAbove}
 use Rattle.dom_selectors.proofs.JoinedLaws.{or_none}
 use Rattle.dom_selectors.proofs.Earlier.{any-passes, passes-any, stands-matching, IsEarlier, earlier-in, nearest}
 
@@ -39,6 +40,11 @@ combined ts l how k x hit = ap (λ b. b && list_any (complex_matches ts l) (comb
 pub not_combined : (ts : Trees) (l : Complex) (how : Combinator) (k : List CompoundPart) (x : NodeName) → compound_matches ts k x ≡ false →
     complex_matches ts (joined l how k) x ≡ false
 not_combined ts l how k x misses = and_left (compound_matches ts k x) _ misses
+
+-- nor where the compound on the right does not
+pub not_last : (ts : Trees) (c : Complex) (x : NodeName) → compound_matches ts (last_compound c) x ≡ false → complex_matches ts c x ≡ false
+not_last ts (alone k) x misses = misses
+not_last ts (joined l how k) x misses = not_combined ts l how k x misses
 
 -- what a match says
 pub matches-parts : (ts : Trees) (l : Complex) (how : Combinator) (k : List CompoundPart) (x : NodeName) → complex_matches ts (joined l how k) x ≡ true

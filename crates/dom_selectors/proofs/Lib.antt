@@ -5,7 +5,6 @@ mod Repeats
 mod FoundCompounds
 mod Anywhere
 mod ValueLaws
-mod AttributeLaws
 mod Beside
 mod Passing
 mod JoinedLaws

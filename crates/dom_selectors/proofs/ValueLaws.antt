@@ -1,12 +1,11 @@
 -- Words of strings, and fronts of strings.
-use Rattle.std.proofs.Common.{◌≡◌, ℕ, ◌+◌, ◌-◌, ◌<◌, ◌≤◌, true, false, cond, List, [], ◌∷◌, ◌++◌, length, take, drop, one-add, refl, ap, sym, ◌∙◌}
-use Rattle.std.proofs.Common.{append_assoc, arith}
-use Rattle.std.specs.Prelude.{not, ◌&&◌, ◌||◌, nat_eq, if◌then◌else◌}
-use Rattle.std.specs.List.{prefix_len, starts_with, list_any}
-use Rattle.std.proofs.lemmas.List.{append-nil, take_all}
-use Rattle.std.proofs.lemmas.Bool.{or_left, or_from}
+use Rattle.std.proofs.Common.{◌≡◌, ℕ, ◌<◌, Bool, true, false, List, [], ◌∷◌, ◌++◌, length, drop, refl, ap, sym, ◌∙◌, arith}
+use Rattle.std.specs.Prelude.{not, ◌&&◌, ◌||◌, ◌==◌, nat_eq, Option, Some, None, if◌then◌else◌}
+use Rattle.std.specs.List.{starts_with, list_any}
+use Rattle.std.proofs.lemmas.Option.{none-some}
 use Rattle.dom_model.specs.Names.{DomString, text_eq}
 use Rattle.dom_model.specs.Selectors.{is_space, words_from}
+use Rattle.dom_selectors.specs.Words.{begins_with_word, behind_space}
 
 -- a front of two parts stands where the first does and the second behind it
 pub behind_front : (front more text : List ℕ) →
@@ -20,52 +19,103 @@ behind_front (x ∷ front) more (c ∷ text) =
       | false ↦ refl
     ]
 
--- the words behind a first one
-abbrev pub words_behind : DomString → List DomString
-words_behind [] = []
-words_behind (c ∷ cs) = words_from [] cs
+-- what is left of a word behind a front
+abbrev left_of : DomString → DomString → Option DomString
+left_of [] word = Some word
+left_of (c ∷ cs) [] = None
+left_of (c ∷ cs) (x ∷ xs) = if x == c then left_of cs xs else None
 
--- the first word goes up to white space
-pub first_word : (word cs : DomString) →
-    words_from word cs ≡ (word ++ take (prefix_len (λ c. not (is_space c)) cs) cs) ∷ words_behind (drop (prefix_len (λ c. not (is_space c)) cs) cs)
-first_word word [] = ap (λ w. w ∷ []) (sym (append-nil word))
-first_word word (c ∷ cs) =
-    elim (is_space c) as (λ b. (if b then word ∷ words_from [] cs else words_from (word ++ c ∷ []) cs) ≡
-    (word ++ take (cond (not b) (1 + prefix_len (λ c. not (is_space c)) cs) 0) (c ∷ cs)) ∷ words_behind
-    (drop (cond (not b) (1 + prefix_len (λ c. not (is_space c)) cs) 0) (c ∷ cs))) [
-      | true ↦ ap (λ w. w ∷ words_from [] cs) (sym (append-nil word))
-      | false ↦
-          let n = prefix_len (λ c. not (is_space c)) cs in
-          first_word (word ++ c ∷ []) cs
-          ∙ ap (λ w. w ∷ words_behind (drop n cs)) (append_assoc word (c ∷ []) (take n cs))
-          ∙ sym (ap (λ k. (word ++ take k (c ∷ cs)) ∷ words_behind (drop k (c ∷ cs))) (one-add n))
+-- whether what is left of a word stands in front of a string
+abbrev begins : Option DomString → DomString → Bool
+begins None cs = false
+begins (Some word) cs = begins_with_word word cs
+
+-- whether a word is among those of a string that is left
+abbrev pub among : DomString → Option DomString → Bool
+among word None = false
+among word (Some cs) = list_any (text_eq word) (words_from [] cs)
+
+-- nothing is left of a word behind itself alone
+done : (front word : DomString) → text_eq word front ≡ begins (left_of front word) []
+done [] [] = refl
+done [] (x ∷ xs) = refl
+done (c ∷ cs) [] = refl
+done (c ∷ cs) (x ∷ xs) = elim (x == c) as (λ b. (b && text_eq xs cs) ≡ begins (if b then left_of cs xs else None) []) [
+  | true ↦ done cs xs
+  | false ↦ refl
+]
+
+-- what is left behind one unit more
+abbrev left_behind : Option DomString → ℕ → Option DomString
+left_behind None c = None
+left_behind (Some []) c = None
+left_behind (Some (x ∷ xs)) c = if x == c then Some xs else None
+
+-- a front that goes on
+longer : (front word : DomString) (c : ℕ) → left_of (front ++ c ∷ []) word ≡ left_behind (left_of front word) c
+longer [] [] c = refl
+longer [] (x ∷ xs) c = refl
+longer (d ∷ ds) [] c = refl
+longer (d ∷ ds) (x ∷ xs) c = elim (x == d) as
+    (λ b. (if b then left_of (ds ++ c ∷ []) xs else None) ≡ left_behind (if b then left_of ds xs else None) c) [
+      | true ↦ longer ds xs c
+      | false ↦ refl
     ]
 
-module _ (word rest first behind : DomString) (n : ℕ) (long : n ≡ prefix_len (λ c. not (is_space c)) rest) (first_is : first ≡ take n rest)
-    (behind_is : behind ≡ drop n rest) where
-  -- the words of the rest are the first and those behind it
-  parts : words_from [] rest ≡ first ∷ words_behind behind
-  parts = first_word [] rest ∙ (ap (λ k. take k rest ∷ words_behind (drop k rest)) (sym long) ∙
-      (ap (λ w. w ∷ words_behind (drop n rest)) (sym first_is) ∙ ap (λ b. first ∷ words_behind b) (sym behind_is)))
+-- at white space a word ends
+ends : (left : Option DomString) (c : ℕ) (cs : DomString) → is_space c ≡ true → begins left [] ≡ begins left (c ∷ cs)
+ends None c cs h = refl
+ends (Some []) c cs h = sym h
+ends (Some (x ∷ xs)) c cs h = sym (ap (λ b. (not b && (x == c)) && begins_with_word xs cs) h)
 
-  -- the first is the word
-  pub word_here : text_eq word first ≡ true → list_any (text_eq word) (words_from [] rest) ≡ true
-  word_here h = ap (list_any (text_eq word)) parts ∙ or_left (text_eq word first) (list_any (text_eq word) (words_behind behind)) h
+-- at another unit it goes on
+goes_on : (left : Option DomString) (c : ℕ) (cs : DomString) → is_space c ≡ false → begins (left_behind left c) cs ≡ begins left (c ∷ cs)
+goes_on None c cs h = refl
+goes_on (Some []) c cs h = sym h
+goes_on (Some (x ∷ xs)) c cs h =
+    (elim (x == c) as (λ b. begins (if b then Some xs else None) cs ≡ (b && begins_with_word xs cs)) [ true ↦ refl | false ↦ refl ])
+    ∙ sym (ap (λ b. (not b && (x == c)) && begins_with_word xs cs) h)
 
-  -- it is another one, and none is behind it
-  pub word_ends : text_eq word first ≡ false → length behind < 1 → list_any (text_eq word) (words_from [] rest) ≡ false
-  word_ends h e = ap (list_any (text_eq word)) parts ∙ or_from (text_eq word first) (list_any (text_eq word) (words_behind behind)) h (none behind e)
-    where
-      none : (cs : DomString) → length cs < 1 → list_any (text_eq word) (words_behind cs) ≡ false
-      none [] e = refl
-      none (c ∷ cs) e = absurd (omega (arith, e))
+-- the first word of a string, or those behind it, where this is in front of the string
+abbrev IsAmong : DomString → DomString → DomString → Type 0
+IsAmong word front cs = list_any (text_eq word) (words_from front cs) ≡ (begins (left_of front word) cs || among word (behind_space cs))
 
-  -- it is another one, and others are behind it
-  pub word_behind : text_eq word first ≡ false → 1 ≤ length behind →
-      list_any (text_eq word) (words_from [] (take (length behind - 1) (drop 1 behind))) ≡ list_any (text_eq word) (words_from [] rest)
-  word_behind h e = others behind e ∙ sym (ap (list_any (text_eq word)) parts ∙ ap (λ b. b || list_any (text_eq word) (words_behind behind)) h)
-    where
-      others : (cs : DomString) → 1 ≤ length cs →
-          list_any (text_eq word) (words_from [] (take (length cs - 1) (drop 1 cs))) ≡ list_any (text_eq word) (words_behind cs)
-      others [] e = absurd (omega (arith, e))
-      others (c ∷ cs) e = ap (λ xs. list_any (text_eq word) (words_from [] xs)) (take_all (length (c ∷ cs) - 1) cs (omega arith))
+module _ (word front : DomString) (c : ℕ) (cs : DomString) where
+  -- one unit more, which is white space or not
+  at_unit : (b : Bool) → is_space c ≡ b → IsAmong word (front ++ c ∷ []) cs →
+      list_any (text_eq word) (if b then front ∷ words_from [] cs else words_from (front ++ c ∷ []) cs) ≡
+      (begins (left_of front word) (c ∷ cs) || among word (if b then Some cs else behind_space cs))
+  at_unit true h more = ap (λ b. b || list_any (text_eq word) (words_from [] cs)) (done front word ∙ ends (left_of front word) c cs h)
+  at_unit false h more = more ∙ ap (λ b. b || among word (behind_space cs))
+      (ap (λ left. begins left cs) (longer front word c) ∙ goes_on (left_of front word) c cs h)
+
+-- of any string
+among_words : (word front cs : DomString) → IsAmong word front cs
+among_words word front [] = ap (λ b. b || false) (done front word)
+among_words word front (c ∷ cs) = at_unit word front c cs (is_space c) refl (among_words word (front ++ c ∷ []) cs)
+
+module _ (word rest : DomString) where
+  -- the first word is the one
+  pub word_here : begins_with_word word rest ≡ true → list_any (text_eq word) (words_from [] rest) ≡ true
+  word_here h = among_words word [] rest ∙ ap (λ b. b || among word (behind_space rest)) h
+
+  -- it is another one: those behind it are left
+  pub word_behind : begins_with_word word rest ≡ false → (o : Option DomString) → o ≡ behind_space rest →
+      among word o ≡ list_any (text_eq word) (words_from [] rest)
+  word_behind h o e = ap (among word) e ∙ sym (among_words word [] rest ∙ ap (λ b. b || among word (behind_space rest)) h)
+
+-- less is behind white space
+pub behind-less : (cs r : DomString) → Some r ≡ behind_space cs → length r < length cs
+behind-less [] r e = absurd (none-some r (sym e))
+behind-less (c ∷ cs) r e = at_space (is_space c) (behind-less cs r) e
+  where
+    at_space : (b : Bool) → (Some r ≡ behind_space cs → length r < length cs) → Some r ≡ (if b then Some cs else behind_space cs) →
+        length r < length (c ∷ cs)
+    at_space true less f = grind (arith, f)
+    at_space false less f = omega (arith, less f)
+
+-- a word that is not at its end is not in front of nothing
+pub not_begun : (word text : DomString) → 0 < length word → length text < 1 → false ≡ begins_with_word word text
+not_begun [] text h e = absurd (omega (arith, h))
+not_begun (x ∷ xs) [] h e = refl
+not_begun (x ∷ xs) (c ∷ cs) h e = absurd (omega (arith, e))

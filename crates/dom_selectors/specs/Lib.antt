@@ -3,5 +3,6 @@ pub mod Views
 pub mod Search
 pub mod Reads
 pub mod Texts
+pub mod Words
 pub mod Grammar
 pub mod Laws

@@ -4,7 +4,13 @@ use Rattle.std.specs.Prelude.{◌≡◌, true, List, [], ◌∷◌, ◌++◌}
 use Rattle.std.specs.List.{list_any}
 use Rattle.dom_base.specs.declared.NodeName.{NodeName}
 use Rattle.dom_model.specs.Tree.{Trees, ancestors}
-use Rattle.dom_model.specs.Selectors.{Complex, alone, joined, Combinator, descendant, child, next, later, compound_matches, complex_matches, elements_before}
+use Rattle.dom_model.specs.Selectors.{CompoundPart, Complex, alone, joined, Combinator, descendant, child, next, later}
+use Rattle.dom_model.specs.Selectors.{compound_matches, complex_matches, elements_before}
+
+-- the compound on the right of a complex selector (own rule)
+abbrev pub last_compound : Complex → List CompoundPart
+last_compound (alone c) = c
+last_compound (joined left how c) = c
 
 -- the elements before a node among its siblings, and the node (own rule)
 abbrev pub elements_to : Trees → NodeName → List NodeName

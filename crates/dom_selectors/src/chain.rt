@@ -21,6 +21,7 @@ pub(crate) struct Place<'a> {
 
 /// Where the chain from a node ends: before white space, before `~` or with the first compound; none where a compound
 /// on the way does not match.
+#[inline(always)]
 pub(crate) fn chain_end<'a>(
     forest: &Forest,
     first: &[CompoundPart],

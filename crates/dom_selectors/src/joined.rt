@@ -4,9 +4,9 @@
 ghost use Rattle.std.specs.Prelude.{◌≡◌, ◌≤◌, false, length, MatchOption, IfSome};
 ghost use Rattle.std.specs.List.{list_any};
 ghost use Rattle.dom_model.specs.Tree.{ancestors};
-ghost use Rattle.dom_model.specs.Selectors.{complex_matches as spec_complex_matches};
+ghost use Rattle.dom_model.specs.Selectors.{compound_matches as spec_compound_matches, complex_matches as spec_complex_matches};
 ghost use Rattle.dom_tree.specs.Forest.{IsNode, name_of};
-ghost use Rattle.dom_selectors.specs.Search.{SegmentEnds, SegmentIsAbove};
+ghost use Rattle.dom_selectors.specs.Search.{SegmentEnds, SegmentIsAbove, last_compound};
 ghost use Rattle.dom_selectors.specs.Views.{complex_from, complex_view};
 
 use crate::chain::{Place, chain_before, chain_end};
@@ -47,6 +47,39 @@ fn segment_end<'a>(
     Some(end)
 }
 
+/// Whether a node matches the compound on the right.
+#[inline(always)]
+fn last_matches(forest: &Forest, first: &[CompoundPart], links: &[Link], key: Key) -> bool
+    requires { IsNode forest.now key }
+    ensures { result ≡ spec_compound_matches forest.now.trees (last_compound (complex_from first.now links.now)) (name_of forest.now key) }
+{
+    match links.split_last() {
+        None => compound_matches(forest, first, key),
+        Some((last, _left)) => compound_matches(forest, last.compound.as_slice(), key),
+    }
+}
+
+/// Where the segment from a node ends. Its compound on the right is tried first, since most nodes fail there.
+fn segment_from<'a>(
+    forest: &Forest,
+    first: &[CompoundPart],
+    links: &'a [Link],
+    key: Key,
+) -> Option<Place<'a>>
+    requires { IsNode forest.now key }
+    ensures ends { MatchOption result (spec_complex_matches forest.now.trees (complex_from first.now links.entry.now)
+        (name_of forest.now key) ≡ false)
+        (λ end. SegmentEnds forest.now.trees (complex_from first.now links.entry.now) (name_of forest.now key)
+        (complex_from first.now end.links.now) (name_of forest.now end.key)) }
+    ensures node { IfSome result (λ end. IsNode forest.now end.key) }
+    ensures shorter { IfSome result (λ end. length end.links.now ≤ length links.entry.now) }
+{
+    if !last_matches(forest, first, links, key) {
+        return None;
+    }
+    segment_end(forest, first, links, key)
+}
+
 /// Where the segment ends from the nearest ancestor of a node at which it holds.
 fn segment_above<'a>(
     forest: &Forest,
@@ -65,7 +98,7 @@ fn segment_above<'a>(
     forest.law_nodes_stand_once();
     let mut at = forest.parent(key);
     while let Some(above) = at {
-        if let Some(end) = segment_end(forest, first, links, above) {
+        if let Some(end) = segment_from(forest, first, links, above) {
             return Some(end);
         }
         at = forest.parent(above);
@@ -74,6 +107,7 @@ fn segment_above<'a>(
 }
 
 /// Whether a node matches a complex selector, by its segments.
+#[inline(never)]
 fn segments_match(forest: &Forest, complex: &Complex, key: Key) -> bool
     requires { IsNode forest.now key }
     ensures { result ≡ spec_complex_matches forest.now.trees (complex_view complex.now) (name_of forest.now key) }
@@ -91,16 +125,13 @@ fn segments_match(forest: &Forest, complex: &Complex, key: Key) -> bool
     true
 }
 
-/// Whether a node matches a complex selector. Its last compound is tried first, since most nodes fail there.
+/// Whether a node matches a complex selector. Its compound on the right is tried first, since most nodes fail there.
+#[inline(always)]
 pub(crate) fn complex_matches(forest: &Forest, complex: &Complex, key: Key) -> bool
     requires { IsNode forest.now key }
     ensures { result ≡ spec_complex_matches forest.now.trees (complex_view complex.now) (name_of forest.now key) }
 {
-    match complex.links.as_slice().split_last() {
-        None => compound_matches(forest, complex.first.as_slice(), key),
-        Some((last, _)) => {
-            compound_matches(forest, last.compound.as_slice(), key)
-                && segments_match(forest, complex, key)
-        }
-    }
+    let links = complex.links.as_slice();
+    last_matches(forest, complex.first.as_slice(), links, key)
+        && (links.is_empty() || segments_match(forest, complex, key))
 }

@@ -1,8 +1,7 @@
 //! Which elements match simple selectors and compounds.
 ghost use Rattle.std.specs.Prelude.{◌≡◌, ◌&&◌, map, string_bytes};
 ghost use Rattle.std.specs.List.{list_all};
-ghost use Rattle.std.specs.Option.{option_map};
-ghost use Rattle.dom_model.specs.Tree.{node_in, attribute_value};
+ghost use Rattle.dom_model.specs.Tree.{node_in};
 ghost use Rattle.dom_model.specs.Selectors.{attribute_passes as spec_attribute_passes, simple_matches as spec_simple_matches};
 ghost use Rattle.dom_model.specs.Selectors.{part_matches as spec_part_matches, compound_matches as spec_compound_matches};
 ghost use Rattle.dom_tree.specs.Forest.{IsNode, name_of};
@@ -15,25 +14,8 @@ use dom_attributes::is_same_text;
 use dom_tree::Forest;
 use node_arena::Key;
 
-/// How many attributes of a node are compared by their names, before the others are looked up.
-const FEW: usize = 8;
-
-/// The value of the attribute of this name, if a node has one. The names of the first attributes are compared in their
-/// order, which takes less time than a hash of the name.
-fn attribute<'a>(forest: &'a Forest, key: Key, name: &str) -> Option<&'a [u16]>
-    requires { IsNode forest.now key }
-    ensures { option_map (λ value. value.now) result ≡ attribute_value (node_in forest.now.trees (name_of forest.now key)) name.now }
-{
-    for index in 0..FEW {
-        let (other, value) = forest.attr_at(key, index)?;
-        if is_same_text(name, other) {
-            return Some(value);
-        }
-    }
-    forest.attr(key, name)
-}
-
 /// Whether a node has an attribute with a value as a test asks.
+#[inline(always)]
 fn attribute_passes(
     forest: &Forest,
     key: Key,
@@ -44,13 +26,14 @@ fn attribute_passes(
     requires { IsNode forest.now key }
     ensures { result ≡ spec_attribute_passes (node_in forest.now.trees (name_of forest.now key)) name.now (test_view test) value.now }
 {
-    match attribute(forest, key, name) {
+    match forest.attr(key, name) {
         Some(text) => value_passes(test, value, text),
         None => false,
     }
 }
 
 /// Whether an element matches a simple selector.
+#[inline(always)]
 fn simple_matches(forest: &Forest, simple: &Simple, key: Key) -> bool
     requires { IsNode forest.now key }
     ensures { result ≡ spec_simple_matches forest.now.trees (name_of forest.now key) (simple_view simple.now) }
@@ -62,7 +45,7 @@ fn simple_matches(forest: &Forest, simple: &Simple, key: Key) -> bool
         Simple::OfClass(class) => {
             attribute_passes(forest, key, "class", AttributeTest::HasWord, class)
         }
-        Simple::WithAttribute(name) => attribute(forest, key, name.as_str()).is_some(),
+        Simple::WithAttribute(name) => forest.attr(key, name.as_str()).is_some(),
         Simple::WithValue(name, test, value) => {
             attribute_passes(forest, key, name.as_str(), *test, value)
         }
@@ -72,6 +55,7 @@ fn simple_matches(forest: &Forest, simple: &Simple, key: Key) -> bool
 }
 
 /// Whether an element matches all of some simple selectors.
+#[inline(never)]
 fn all_simple_match(forest: &Forest, simples: &[Simple], key: Key) -> bool
     requires { IsNode forest.now key }
     ensures { result ≡ list_all (λ s. spec_simple_matches forest.now.trees (name_of forest.now key) (simple_view s)) simples.now }
@@ -80,6 +64,7 @@ fn all_simple_match(forest: &Forest, simples: &[Simple], key: Key) -> bool
 }
 
 /// Whether an element matches a part of a compound.
+#[inline(always)]
 fn part_matches(forest: &Forest, part: &CompoundPart, key: Key) -> bool
     requires { IsNode forest.now key }
     ensures { result ≡ spec_part_matches forest.now.trees (name_of forest.now key) (part_view part.now) }
@@ -90,15 +75,22 @@ fn part_matches(forest: &Forest, part: &CompoundPart, key: Key) -> bool
     }
 }
 
-/// Whether an element matches all of some parts of a compound.
+/// Whether an element matches all of some parts of a compound, the first of which is the local name if one is asked for.
+#[inline(always)]
 fn all_parts_match(forest: &Forest, parts: &[CompoundPart], key: Key) -> bool
     requires { IsNode forest.now key }
     ensures { result ≡ list_all (λ p. spec_part_matches forest.now.trees (name_of forest.now key) (part_view p)) parts.now }
 {
-    parts.iter().all(|p| part_matches(forest, p, key))
+    for part in parts {
+        if !part_matches(forest, part, key) {
+            return false;
+        }
+    }
+    true
 }
 
 /// Whether a node is an element that matches a compound.
+#[inline(always)]
 pub(crate) fn compound_matches(forest: &Forest, parts: &[CompoundPart], key: Key) -> bool
     requires { IsNode forest.now key }
     ensures { result ≡ spec_compound_matches forest.now.trees (compound_view parts.now) (name_of forest.now key) }

@@ -12,16 +12,23 @@ use node_arena::Key;
 use std::alloc::{AllocError, Global};
 
 /// Whether a node matches some of these complex selectors.
+#[inline(always)]
 fn some_complex_matches(forest: &Forest, complexes: &[Complex], key: Key) -> bool
     requires { IsNode forest.now key }
     ensures { result ≡ list_any (λ c. spec_complex_matches forest.now.trees (complex_view c) (name_of forest.now key)) complexes.now }
 {
-    complexes.iter().any(|c| complex_matches(forest, c, key))
+    for complex in complexes {
+        if complex_matches(forest, complex, key) {
+            return true;
+        }
+    }
+    false
 }
 
 impl Selector {
     /// Whether an element matches a selector, which a node of another kind never does (DOM Standard, matches()). It
     /// takes no memory.
+    #[inline(always)]
     pub fn matches(&self, forest: &Forest, key: Key) -> bool
         requires { IsNode forest.now key }
         ensures { result ≡ selector_matches forest.now.trees (selector_view self.now) (name_of forest.now key) }

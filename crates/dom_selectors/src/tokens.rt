@@ -10,11 +10,11 @@ ghost use Rattle.dom_model.specs.SelectorText.{read_name as spec_read_name, read
 
 use std::alloc::{AllocError, Global};
 
-/// Whether a unit is white space.
+/// Whether a unit is white space. Most are greater than all that is.
 pub(crate) fn is_space(unit: u16) -> bool
     ensures { result ≡ spec_is_space unit }
 {
-    matches!(unit, 9 | 10 | 12 | 13 | 32)
+    unit <= 32 && matches!(unit, 9 | 10 | 12 | 13 | 32)
 }
 
 /// Whether a name may begin with the unit: a letter or `_`.

@@ -1,22 +1,16 @@
 //! What selectors ask of attributes' values (CSS Selectors Level 4, 6 Attribute selectors).
-ghost use Rattle.std.specs.Prelude.{◌≡◌, ◌≤◌, length, not, []};
-ghost use Rattle.std.specs.List.{prefix_len, list_any};
+ghost use Rattle.std.specs.Prelude.{◌≡◌, []};
+ghost use Rattle.std.specs.List.{list_any};
+ghost use Rattle.std.specs.Option.{option_map};
 ghost use Rattle.dom_model.specs.Names.{text_eq};
-ghost use Rattle.dom_model.specs.Selectors.{is_space as spec_is_space, words_from, has_space as spec_has_space, holds_text as spec_holds_text};
+ghost use Rattle.dom_model.specs.Selectors.{words_from, has_space as spec_has_space, holds_text as spec_holds_text};
 ghost use Rattle.dom_model.specs.Selectors.{value_passes as spec_value_passes};
 ghost use Rattle.dom_selectors.specs.Views.{test_view};
+ghost use Rattle.dom_selectors.specs.Words.{begins_with_word as spec_begins_with_word, behind_space as spec_behind_space};
 
 use crate::selector::AttributeTest;
 use crate::tokens::is_space;
 use dom_attributes::is_same_string;
-
-/// How many units stand before the first white space.
-fn word_len(text: &[u16]) -> usize
-    ensures count { result ≡ prefix_len (λ c. not (spec_is_space c)) text.now }
-    ensures within { result ≤ length text.now }
-{
-    text.iter().take_while(|unit| !is_space(**unit)).count()
-}
 
 /// Whether white space is in a string.
 fn has_space(text: &[u16]) -> bool
@@ -25,19 +19,49 @@ fn has_space(text: &[u16]) -> bool
     text.iter().any(|unit| is_space(*unit))
 }
 
+/// Whether a string begins with a word, behind which is white space or nothing. They are compared in place.
+fn begins_with_word(text: &[u16], word: &[u16]) -> bool
+    ensures { result ≡ spec_begins_with_word word.now text.now }
+{
+    let mut rest = text;
+    for unit in word {
+        match rest {
+            [first, others @ ..] if *first == *unit && !is_space(*first) => rest = others,
+            _ => return false,
+        }
+    }
+    match rest {
+        [] => true,
+        [first, ..] => is_space(*first),
+    }
+}
+
+/// What is behind the first white space of a string, if there is some.
+fn behind_space(text: &[u16]) -> Option<&[u16]>
+    ensures { option_map (λ behind. behind.now) result ≡ spec_behind_space text.entry.now }
+{
+    let mut rest = text;
+    while let [first, others @ ..] = rest {
+        if is_space(*first) {
+            return Some(others);
+        }
+        rest = others;
+    }
+    None
+}
+
 /// Whether a string has this word between white space.
 fn has_word(text: &[u16], word: &[u16]) -> bool
     ensures { result ≡ list_any (text_eq word.now) (words_from [] text.now) }
 {
     let mut rest = text;
     loop {
-        let (first, behind) = rest.split_at(word_len(rest));
-        if is_same_string(word, first) {
+        if begins_with_word(rest, word) {
             return true;
         }
-        match behind {
-            [] => return false,
-            [_, others @ ..] => rest = others,
+        match behind_space(rest) {
+            Some(behind) => rest = behind,
+            None => return false,
         }
     }
 }
@@ -71,13 +95,14 @@ fn begins_with_dash(text: &[u16], value: &[u16]) -> bool
 }
 
 /// Whether an attribute's value is as a test with a value of the selector asks.
+#[inline(never)]
 pub(crate) fn value_passes(test: AttributeTest, value: &[u16], text: &[u16]) -> bool
     ensures { result ≡ spec_value_passes (test_view test) value.now text.now }
 {
     match test {
         AttributeTest::Equals => is_same_string(text, value),
         AttributeTest::HasWord => {
-            !(value.is_empty() || has_space(value)) && has_word(text, value)
+            !value.is_empty() && has_word(text, value) && !has_space(value)
         }
         AttributeTest::BeginsWithDash => begins_with_dash(text, value),
         AttributeTest::Begins => !value.is_empty() && text.starts_with(value),

@@ -37,15 +37,15 @@ loop-at-preserved c =
     record {
       node = c.parent-at-in-Some.ensures.node;
       left = above_miss f (complex_matches f.trees (complex_from c.args.first.now c.args.links.now))
-          c.parent-at-in-Some.result c.in-Some.is c.in_default-segment_end.ensures.ends step ∙ c.loop-at.invariant.left;
+          c.parent-at-in-Some.result c.in-Some.is c.in_default-segment_from.ensures.ends step ∙ c.loop-at.invariant.left;
     }
 
-pub returns-in-Some-segment_end-clause-ends : goal.returns-in-Some-segment_end-clause-ends
-returns-in-Some-segment_end-clause-ends c =
+pub returns-in-Some-segment_from-clause-ends : goal.returns-in-Some-segment_from-clause-ends
+returns-in-Some-segment_from-clause-ends c =
     let f = c.args.forest.now in
     let whole = complex_from c.args.first.now c.args.links.now in
     segment-above (name_at f.names c.args.key)
     (Once-forest f c.law_nodes_stand_once.ensures.once c.law_nodes_stand_once.ensures.only)
     (Has-forest f c.law_nodes_stand_once.ensures.once c.in-Some.above (c.loop-at.invariant.node c.in-Some.above c.in-Some.is))
     (sym (ap (λ o. list_any (complex_matches f.trees whole) (from_above f.trees (option_map (name_at f.names) o))) c.in-Some.is) ∙ c.loop-at.invariant.left)
-    c.in-Some-segment_end.ensures.ends
+    c.in-Some-segment_from.ensures.ends

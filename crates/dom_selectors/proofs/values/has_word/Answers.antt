@@ -1,22 +1,22 @@
 -- The first word, or those behind it.
-use Rattle.std.proofs.Common.{sym, ◌∙◌}
-use Rattle.dom_selectors.proofs.ValueLaws.{word_here, word_ends, word_behind}
+use Rattle.std.proofs.Common.{Some, None, sym, ◌∙◌}
+use Rattle.dom_selectors.proofs.ValueLaws.{word_here, word_behind, behind-less}
 use Rattle.dom_selectors.proofs.values.has_word.Goals as goal
 
-pub returns-then-is_same_string : goal.returns-then-is_same_string
-returns-then-is_same_string c =
-    sym (word_here c.args.word.now c.loop-behind.rest.now c.split_at.result.0.now c.split_at.result.1.now c.word_len.result
-    c.word_len.ensures.count c.split_at.ensures.front c.split_at.ensures.back (sym c.is_same_string.ensures ∙ c.if-is_same_string.true))
-    ∙ c.loop-behind.invariant
+pub returns-then-begins_with_word : goal.returns-then-begins_with_word
+returns-then-begins_with_word c =
+    sym (word_here c.args.word.now c.loop-rest.rest.now (sym c.begins_with_word.ensures ∙ c.if-begins_with_word.true)) ∙ c.loop-rest.invariant
 
-pub returns-in-empty : goal.returns-in-empty
-returns-in-empty c =
-    sym (word_ends c.args.word.now c.loop-behind.rest.now c.split_at.result.0.now c.split_at.result.1.now c.word_len.result
-    c.word_len.ensures.count c.split_at.ensures.front c.split_at.ensures.back (sym c.is_same_string.ensures ∙ c.if-is_same_string.false) c.in-empty.len_below)
-    ∙ c.loop-behind.invariant
+pub loop-rest-smaller : goal.loop-rest-smaller
+loop-rest-smaller c = behind-less c.loop-rest.rest.now c.in-Some.behind.now c.in-Some.ensures
 
-pub loop-behind-preserved : goal.loop-behind-preserved
-loop-behind-preserved c =
-    word_behind c.args.word.now c.loop-behind.rest.now c.split_at.result.0.now c.split_at.result.1.now c.word_len.result c.word_len.ensures.count
-    c.split_at.ensures.front c.split_at.ensures.back (sym c.is_same_string.ensures ∙ c.if-is_same_string.false) c.in-len1-up.len_at_least
-    ∙ c.loop-behind.invariant
+pub loop-rest-preserved : goal.loop-rest-preserved
+loop-rest-preserved c =
+    word_behind c.args.word.now c.loop-rest.rest.now (sym c.begins_with_word.ensures ∙ c.if-begins_with_word.false)
+    (Some c.in-Some.behind.now) c.in-Some.ensures
+    ∙ c.loop-rest.invariant
+
+pub returns-in-None : goal.returns-in-None
+returns-in-None c =
+    word_behind c.args.word.now c.loop-rest.rest.now (sym c.begins_with_word.ensures ∙ c.if-begins_with_word.false) None c.in-None.ensures
+    ∙ c.loop-rest.invariant

@@ -5,8 +5,8 @@ use Rattle.dom_model.specs.Names.{text_eq}
 use Rattle.dom_model.specs.Selectors.{words_from}
 use Rattle.dom_selectors.proofs.values.has_word.Given as goal
 
-abbrev pub invariant-loop-behind : goal.invariant-loop-behind
-invariant-loop-behind l = list_any (text_eq l.word) (words_from [] l.rest) ≡ list_any (text_eq l.word) (words_from [] l.text)
+abbrev pub invariant-loop-rest : goal.invariant-loop-rest
+invariant-loop-rest l = list_any (text_eq l.word) (words_from [] l.rest) ≡ list_any (text_eq l.word) (words_from [] l.text)
 
-abbrev pub decreases-loop-behind : goal.decreases-loop-behind
-decreases-loop-behind l = length l.rest
+abbrev pub decreases-loop-rest : goal.decreases-loop-rest
+decreases-loop-rest l = length l.rest

@@ -1,0 +1,12 @@
+-- The parts that are left match where all do.
+use Rattle.std.proofs.Common.{◌≡◌, drop}
+use Rattle.std.specs.List.{list_all}
+use Rattle.dom_model.specs.Selectors.{part_matches}
+use Rattle.dom_tree.specs.Forest.{name_at}
+use Rattle.dom_selectors.specs.Views.{part_view}
+use Rattle.dom_selectors.proofs.matching.all_parts_match.Given as goal
+
+abbrev pub invariant-loop-part : goal.invariant-loop-part
+invariant-loop-part l =
+    list_all (λ p. part_matches l.forest.trees (name_at l.forest.names l.key) (part_view p)) (drop l.part-index l.parts) ≡ list_all
+    (λ p. part_matches l.forest.trees (name_at l.forest.names l.key) (part_view p)) l.parts

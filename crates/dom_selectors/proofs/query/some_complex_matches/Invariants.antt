@@ -1,0 +1,12 @@
+-- Some that is left matches where some of all does.
+use Rattle.std.proofs.Common.{◌≡◌, drop}
+use Rattle.std.specs.List.{list_any}
+use Rattle.dom_model.specs.Selectors.{complex_matches}
+use Rattle.dom_tree.specs.Forest.{name_at}
+use Rattle.dom_selectors.specs.Views.{complex_view}
+use Rattle.dom_selectors.proofs.query.some_complex_matches.Given as goal
+
+abbrev pub invariant-loop-complex : goal.invariant-loop-complex
+invariant-loop-complex l =
+    list_any (λ c. complex_matches l.forest.trees (complex_view c) (name_at l.forest.names l.key)) (drop l.complex-index l.complexes) ≡ list_any
+    (λ c. complex_matches l.forest.trees (complex_view c) (name_at l.forest.names l.key)) l.complexes

@@ -1,0 +1,10 @@
+-- What is behind white space in the units that are left is so in all.
+use Rattle.std.proofs.Common.{◌≡◌, length}
+use Rattle.dom_selectors.specs.Words.{behind_space}
+use Rattle.dom_selectors.proofs.values.behind_space.Given as goal
+
+abbrev pub invariant-loop-rest : goal.invariant-loop-rest
+invariant-loop-rest l = behind_space l.rest ≡ behind_space l.text
+
+abbrev pub decreases-loop-rest : goal.decreases-loop-rest
+decreases-loop-rest l = length l.rest

@@ -1,0 +1,16 @@
+-- A word that is looked for in a string, whose words white space parts.
+use Rattle.std.specs.Prelude.{Bool, true, false, not, ◌&&◌, ◌==◌, [], ◌∷◌, Option, Some, None, if◌then◌else◌}
+use Rattle.dom_model.specs.Names.{DomString}
+use Rattle.dom_model.specs.Selectors.{is_space}
+
+-- whether a string begins with a word, behind which is white space or nothing (own rule)
+abbrev pub begins_with_word : DomString → DomString → Bool
+begins_with_word [] [] = true
+begins_with_word [] (c ∷ cs) = is_space c
+begins_with_word (x ∷ xs) [] = false
+begins_with_word (x ∷ xs) (c ∷ cs) = (not (is_space c) && (x == c)) && begins_with_word xs cs
+
+-- what is behind the first white space of a string, if there is some (own rule)
+abbrev pub behind_space : DomString → Option DomString
+behind_space [] = None
+behind_space (c ∷ cs) = if is_space c then Some cs else behind_space cs
