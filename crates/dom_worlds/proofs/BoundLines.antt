@@ -23,7 +23,7 @@ use Rattle.dom_model.specs.RangeOps.{range_text_of}
 use Rattle.dom_model.specs.Ranges.{Range, at, from_to, with_start, with_end}
 use Rattle.dom_model.specs.Steps.{Step, after}
 use Rattle.dom_model.specs.Traversal.{Iterator, Walker, iterator_next_node, iterator_previous_node, walker_move}
-use Rattle.dom_model.specs.Tree.{Trees, Node, node_in, kind_of, has_data, is_text, child_nodes, is_inclusive_ancestor, length_of, parent_of}
+use Rattle.dom_model.specs.Tree.{Trees, Node, kind_of, has_data, is_text, child_nodes, length_of}
 use Rattle.dom_model.specs.Validity.{first_refusal, has_parent, may_be_parent, placing_tests, insertion_refusal, replacement_refusal}
 use Rattle.dom_model.proofs.KindLaws.{parent-open}
 use Rattle.dom_worlds.specs.Worlds.{IsPart}

@@ -1,7 +1,7 @@
 -- Steps keep the ends of ranges within their nodes, up to a given room that nodes are about to get.
 use Rattle.std.proofs.Common.{suc, ◌≡◌, ◌≤◌, ℕ, ◌+◌, ◌-◌, Bool, true, false, not, ◌&&◌, ◌||◌, List, ◌++◌, map, length, take, drop, Option, Some, None}
 use Rattle.std.proofs.Common.{option_map, refl, sym, ap, ◌∙◌, arith, true≢false, subst, length-append, length-take, length-drop}
-use Rattle.std.specs.Prelude.{if◌then◌else◌, ⊤, slice_set, nat_eq, nat_lt, nat_le, min}
+use Rattle.std.specs.Prelude.{if◌then◌else◌, ⊤, nat_lt, nat_le, min}
 use Rattle.std.specs.List.{AllByRecursion}
 use Rattle.std.specs.Option.{option_map_or}
 use Rattle.std.proofs.lemmas.Bool.{cond-true, cond-false, and_parts, or_parts, not-false, ltb-false, leb-true, leb-false}

@@ -14,9 +14,7 @@ use Rattle.dom_worlds.proofs.KindLines.{all-found}
 use Rattle.dom_worlds.proofs.NodeKinds.{name-node_in}
 use Rattle.dom_worlds.proofs.ShadowRoots.{found-absent, found-there}
 use Rattle.dom_worlds.proofs.Tests.{by_cases}
-use Rattle.dom_worlds.proofs.TreeChangeLaws.{put_where, where-here, where-later, put_before-where, put_root-where, HasRoot, root-first, without-here}
-use Rattle.dom_worlds.proofs.TreeChangeLaws.{without-elsewhere, subtree-here, subtree-elsewhere, put_below-here, put_below-elsewhere}
-use Rattle.dom_worlds.proofs.TreeChangeLaws.{put_below-absent, nodes-with_node, nodes-taken_out, nodes-placed, nodes-listed}
+use Rattle.dom_worlds.proofs.TreeChangeLaws.{nodes-with_node, nodes-taken_out, nodes-placed, nodes-listed}
 use Rattle.dom_laws.proofs.Counts.{Once, times-here}
 use Rattle.dom_worlds.proofs.ChildCounts.{kids, kids-absent, length-children}
 

@@ -13,7 +13,6 @@ use Rattle.dom_model.specs.Extract.{Pieces, nothing, whole, cut, clone, clone_pa
 use Rattle.dom_worlds.specs.Worlds.{IsPart}
 use Rattle.dom_worlds.proofs.Bounds.{nowhere, HasRoom, room-make}
 use Rattle.dom_worlds.proofs.ChildPairs.{childs-parent}
-use Rattle.dom_worlds.proofs.InsideAncestors.{parent-there}
 use Rattle.dom_worlds.proofs.NodesRead.{node-new}
 use Rattle.dom_worlds.proofs.Lists.{all-then}
 use Rattle.dom_worlds.proofs.PartSteps.{next-absent}

@@ -6,8 +6,8 @@ use Rattle.std.specs.Option.{option_map_or}
 use Rattle.std.proofs.lemmas.Bool.{cond-true, cond-false, not-true}
 use Rattle.dom_base.specs.declared.NodeName.{NodeName}
 use Rattle.dom_model.specs.Names.{name_eq, is_in, last_of, items_before}
-use Rattle.dom_model.specs.Tree.{Trees, Node, node_in, kind_of, has_data, subtree, trees_below, children_of, parent_of, index_of, length_of, times_in}
-use Rattle.dom_model.specs.Tree.{inclusive_ancestors, is_inclusive_ancestor, root_of, names_of, nodes}
+use Rattle.dom_model.specs.Tree.{Trees, subtree, trees_below, children_of, parent_of, index_of, length_of, times_in}
+use Rattle.dom_model.specs.Tree.{inclusive_ancestors, is_inclusive_ancestor, root_of}
 use Rattle.dom_model.specs.Part.{Part}
 use Rattle.dom_model.specs.Place.{Boundary, same_root}
 use Rattle.dom_model.specs.Ranges.{Range, at}

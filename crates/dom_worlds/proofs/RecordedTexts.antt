@@ -16,8 +16,7 @@ use Rattle.dom_model.specs.TextChanges.{replacing_data, new_text_node, replacing
 use Rattle.dom_model.specs.TextChanges.{normalizing_text, normalizing, replacing_children, setting_text}
 use Rattle.dom_worlds.specs.Worlds.{IsPart}
 use Rattle.dom_worlds.proofs.Lists.{all-dropped, all-then, all-filter}
-use Rattle.dom_worlds.proofs.PlanPlaces.{Changed, Leads, MayGo, may-still, still, leads-then, leads-eased, leads-nothing, leads-one, leads-each, inserting-each}
-use Rattle.dom_worlds.proofs.PlanPlaces.{leads-inserting}
+use Rattle.dom_worlds.proofs.PlanPlaces.{Changed, MayGo, may-still, still, leads-then, leads-eased, leads-one, leads-each, inserting-each}
 use Rattle.dom_worlds.proofs.PlanTexts.{IsReplaced, replaced-by, leads-removals, leads-replacing_data, leads-tail, leads-joins, normalizing-each, may-follow}
 use Rattle.dom_worlds.proofs.PlanTexts.{new-there, texts-beside, descend-there}
 use Rattle.dom_worlds.proofs.Recorded.{TellsIn, tells-append, tells-plan, tells-each, recorded, still-all, children-there, next-there}

@@ -8,7 +8,7 @@ use Rattle.std.proofs.lemmas.Bool.{cond-true, cond-false}
 use Rattle.dom_base.specs.declared.NodeName.{NodeName}
 use Rattle.dom_base.specs.declared.Kind.{Kind}
 use Rattle.dom_base.specs.declared.Kind.TheVariants.{Document, Fragment, Shadow, Element, Text, Comment}
-use Rattle.dom_model.specs.Names.{DomString, name_eq, is_in, is_empty, items_after, first_of}
+use Rattle.dom_model.specs.Names.{DomString, name_eq, is_empty, items_after, first_of}
 use Rattle.dom_model.specs.Tree.{Trees, none, tree, Node, node_in, kind_of, is_text, is_document, is_fragment, has_data, subtree, trees_below}
 use Rattle.dom_model.specs.Tree.{times_in, children_of, parent_of, siblings, next_sibling, index_of, length_of, descendants, inclusive_descendants}
 use Rattle.dom_model.specs.Tree.{inclusive_ancestors, on_top, names_of, roots}
@@ -21,10 +21,10 @@ use Rattle.dom_model.specs.TextChanges.{replacing_data, new_text_node, replacing
 use Rattle.dom_model.specs.TextChanges.{normalizing_text, normalizing, replacing_children, setting_text}
 use Rattle.dom_model.proofs.OwnerLaws.{name_eq-same, name_eq-turned}
 use Rattle.dom_worlds.specs.Worlds.{times_among, IsPart}
-use Rattle.dom_worlds.proofs.Bounds.{IsRoomy, nowhere, HasRoom, room-make, room-record, room-split, room-join, length-replaced, length-like}
+use Rattle.dom_worlds.proofs.Bounds.{IsRoomy, nowhere, HasRoom, room-make, room-record, room-split, room-join, length-replaced}
 use Rattle.dom_worlds.proofs.ChildCounts.{kids, index-below}
 use Rattle.dom_worlds.proofs.NodesRead.{node-with_node, node-new, node-map_nodes, length-data, length-kids}
-use Rattle.dom_worlds.proofs.Lists.{all-dropped, all-then, all-from, all-filter, all-take_while, all-passed}
+use Rattle.dom_worlds.proofs.Lists.{all-dropped, all-then, all-take_while}
 use Rattle.dom_worlds.proofs.NodeKinds.{name-node_in}
 use Rattle.dom_worlds.proofs.PartSteps.{some-keeps, next-absent}
 use Rattle.dom_worlds.proofs.PlanBounds.{room-then, room-plan, room-removing, room-removals, room-inserting, room-replacing_data, IsOpen, open-still}
