@@ -48,3 +48,4 @@ pub mod GroupMembers
 mod GroupLaws
 mod WordedRuns
 pub mod GroupTexts
+mod StatedLaws

@@ -1,6 +1,6 @@
 //! The page sees of components their outward events alone, and so does a group of owners of all others (`groups`): laws over the definitions of
 //! the two machines. There is no code but functions whose contracts are the laws.
-#![tactic(auto)]
+#![tactic(auto, using(crate::proofs::StatedLaws::laws))]
 
 pub mod groups;
 

@@ -1,8 +1,5 @@
 use Rattle.dom_isolation.proofs.GroupMembers.{same-around_while_turns_stand, same-around}
 use Rattle.dom_isolation.proofs.groups.same_around.Goals as goal
 
-pub returns-clause-standing : goal.returns-clause-standing
-returns-clause-standing c = λ read. same-around_while_turns_stand read
-
-pub returns-clause-closed : goal.returns-clause-closed
-returns-clause-closed c = λ read. same-around read
+pub returns : goal.returns
+returns c = record { standing = λ read. same-around_while_turns_stand read; closed = λ read. same-around read }

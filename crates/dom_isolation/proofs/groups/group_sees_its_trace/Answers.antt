@@ -1,5 +1,0 @@
-use Rattle.dom_isolation.proofs.GroupRuns.{group-sees_its_trace}
-use Rattle.dom_isolation.proofs.groups.group_sees_its_trace.Goals as goal
-
-pub returns : goal.returns
-returns c = λ read. group-sees_its_trace read
