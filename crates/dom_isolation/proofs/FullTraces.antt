@@ -63,12 +63,12 @@ module _ (kept : Owner → Bool) (page : kept Page ≡ true) where
       slots (told_in w o) (quiet-told w o q)) tt
 
   -- of the ending of a turn,
-  ending-nothing : (w : World) → IsQuiet w → TellNothing (ending_records kept w)
+  pub ending-nothing : (w : World) → IsQuiet w → TellNothing (ending_records kept w)
   ending-nothing w q =
       each-nothing running_task (task_records kept) (λ u t k. (quiet-running u k t, task-nothing u t k)) w.tasks (at_end w) (quiet-at_end w q)
 
   -- of the one before a line,
-  before-nothing : (w : World) → IsQuiet w → (l : Line) → TellNothing (before_records kept w l)
+  pub before-nothing : (w : World) → IsQuiet w → (l : Line) → TellNothing (before_records kept w l)
   before-nothing w q l = either_way TellNothing (ends_other_turn w l) (ending_records kept w) [] (ending-nothing w q) tt
 
   -- of an accepted command,

@@ -14,7 +14,7 @@ use Rattle.dom_model.specs.Runs.{Run, quiet, run_each}
 use Rattle.dom_model.specs.World.{World, Task, micro_task, notify_task, part_of, with_part, some_if}
 use Rattle.dom_model.specs.Dispatch.{dispatch_in, visits_of}
 use Rattle.dom_model.specs.Turns.{slotchange, firing_slotchange, is_owned_by, without_signals, notified, running_task, ending_turn, is_page_turn}
-use Rattle.dom_model.specs.Turns.{is_other_component, has_other_turn, ending_other_turn, ending_any_turn, opening_turn}
+use Rattle.dom_model.specs.Turns.{is_other_component, has_other_turn, ending_other_turn, opening_turn}
 use Rattle.dom_model.specs.Groups.{KeepsMakers, group_world, group_turn, group_run, is_task_of}
 use Rattle.dom_model.specs.Trace.{is_of}
 use Rattle.dom_model.proofs.OwnerLaws.{owner_eq-true, ne-owner_eq}
@@ -25,8 +25,7 @@ use Rattle.dom_worlds.proofs.Tests.{by_cases}
 use Rattle.dom_worlds.proofs.Visits.{rest-visits}
 use Rattle.dom_isolation.specs.GroupLaws.{IsCalm}
 use Rattle.dom_isolation.proofs.GroupSlots.{outside-no_page}
-use Rattle.dom_isolation.proofs.GroupTurns.{ending-in, ending-out}
-use Rattle.dom_isolation.proofs.GroupDispatches.{IsSameView}
+use Rattle.dom_isolation.proofs.GroupTurns.{ending-out}
 
 -- A dispatch queues no task, and so no task does.
 pub tasks-dispatch : (w : World) (x : NodeName) (r : Option NodeName) (e : EventWords) → (dispatch_in w x r e).run.0.tasks ≡ w.tasks
@@ -112,43 +111,6 @@ module _ (g : Owner → Bool) (closed : KeepsMakers g) where
       by_cases (has_other_turn w o)
       (λ e. ap (group_run g) (cond-true (has_other_turn w o) (ending_turn w) (quiet w) e) ∙ ending-out g closed w q calm (turn-none w.turn h))
       (λ e. ap (group_run g) (cond-false (has_other_turn w o) (ending_turn w) (quiet w) e))
-
-  -- at the end
-  ending_any-out : {only_log : Bool} (w : World) → Invariant only_log w → IsCalm g w → is_of g w.turn ≡ false →
-      group_run g (ending_any_turn w) ≡ (group_world g w, [])
-  ending_any-out w q calm h =
-      by_cases (is_some w.turn)
-      (λ e. ap (group_run g) (cond-true (is_some w.turn) (ending_turn w) (quiet w) e) ∙ ending-out g closed w q calm (turn-none w.turn h))
-      (λ e. ap (group_run g) (cond-false (is_some w.turn) (ending_turn w) (quiet w) e))
-
-  -- no turn of the group in the other world either
-  same-none : (w v : World) → group_world g w ≡ group_world g v → is_of g w.turn ≡ false → is_of g v.turn ≡ false
-  same-none w v same h = turn-is_of v.turn ∙ ap is_some (sym (ap (λ (u : World). u.turn) same)) ∙ sym (turn-is_of w.turn) ∙ h
-
-  -- Before a line, in two such worlds.
-  pub ending_other-in : (w v : World) → IsSameView g w v → IsCalm g w → (o : Owner) → group_run g (ending_other_turn w o) ≡ group_run g (ending_other_turn v o)
-  ending_other-in w v s calm o =
-      by_cases (is_of g w.turn)
-      (λ h. let other : has_other_turn w o ≡ has_other_turn v o = ap (λ t. option_map_or (is_other_component o) t false) (same-turn w v s.same h) in
-      by_cases (has_other_turn w o)
-      (λ e. ap (group_run g) (cond-true (has_other_turn w o) (ending_turn w) (quiet w) e) ∙ ending-in g closed w v s
-      ∙ sym (ap (group_run g) (cond-true (has_other_turn v o) (ending_turn v) (quiet v) (sym other ∙ e))))
-      (λ e. ap (group_run g) (cond-false (has_other_turn w o) (ending_turn w) (quiet w) e) ∙ ap (λ u. (u, [])) s.same
-      ∙ sym (ap (group_run g) (cond-false (has_other_turn v o) (ending_turn v) (quiet v) (sym other ∙ e)))))
-      (λ h. ending_other-out w s.first calm h o ∙ ap (λ u. (u, [])) s.same
-      ∙ sym (ending_other-out v s.second (same-calm w v s.same calm) (same-none w v s.same h) o))
-
-  -- At the end of input.
-  pub ending_any-in : (w v : World) → IsSameView g w v → IsCalm g w → group_run g (ending_any_turn w) ≡ group_run g (ending_any_turn v)
-  ending_any-in w v s calm =
-      by_cases (is_of g w.turn)
-      (λ h. let both : is_some w.turn ≡ is_some v.turn = ap is_some (same-turn w v s.same h) in
-      by_cases (is_some w.turn)
-      (λ e. ap (group_run g) (cond-true (is_some w.turn) (ending_turn w) (quiet w) e) ∙ ending-in g closed w v s
-      ∙ sym (ap (group_run g) (cond-true (is_some v.turn) (ending_turn v) (quiet v) (sym both ∙ e))))
-      (λ e. ap (group_run g) (cond-false (is_some w.turn) (ending_turn w) (quiet w) e) ∙ ap (λ u. (u, [])) s.same
-      ∙ sym (ap (group_run g) (cond-false (is_some v.turn) (ending_turn v) (quiet v) (sym both ∙ e)))))
-      (λ h. ending_any-out w s.first calm h ∙ ap (λ u. (u, [])) s.same ∙ sym (ending_any-out v s.second (same-calm w v s.same calm) (same-none w v s.same h)))
 
   -- after the ending the group has tasks in a turn of its own alone
   pub calm-ended : (w : World) → IsCalm g w → (o : Owner) → IsCalm g (ending_other_turn w o).0

@@ -1,5 +1,5 @@
 -- A command of the group does the same to the group in two worlds of which the group has the same.
-use Rattle.std.proofs.Common.{◌≡◌, Bool, true, false, not, ◌&&◌, List, [], ◌∷◌, ◌++◌, length, map, filter, Option, Some, None, option_map, unwrap_or, refl}
+use Rattle.std.proofs.Common.{◌≡◌, Bool, true, not, ◌&&◌, List, [], ◌∷◌, ◌++◌, length, map, filter, Option, Some, None, option_map, unwrap_or}
 use Rattle.std.proofs.Common.{sym, ap, ◌∙◌}
 use Rattle.std.specs.Prelude.{option_to_list}
 use Rattle.std.specs.List.{AllByRecursion, last_or}
@@ -13,10 +13,10 @@ use Rattle.dom_base.specs.declared.Refusal.{Refusal}
 use Rattle.dom_base.specs.declared.Refusal.TheVariants.{Syntax, Busy, Foreign, Unknown}
 use Rattle.dom_model.specs.Names.{Word, owner_eq, last_of}
 use Rattle.dom_model.specs.Tree.{node_in, is_document, kind_of}
-use Rattle.dom_model.specs.Command.{Command, NodeWord, EventWords}
-use Rattle.dom_model.specs.Output.{Value, says, replied, refused, nothing, a_component, a_list, a_truth}
+use Rattle.dom_model.specs.Command.{Command, NodeWord}
+use Rattle.dom_model.specs.Output.{Value, says, replied, nothing, a_component, a_list, a_truth}
 use Rattle.dom_model.specs.Part.{Part}
-use Rattle.dom_model.specs.Runs.{Run, run_then, answering, unless_refused}
+use Rattle.dom_model.specs.Runs.{Run, answering}
 use Rattle.dom_model.specs.Validity.{first_refusal}
 use Rattle.dom_model.specs.CommandRefusals.{is_command_of, part_refusal}
 use Rattle.dom_model.specs.CommandNames.{named, names_foreign}
@@ -24,9 +24,8 @@ use Rattle.dom_model.specs.Effects.{Effect, tables, changes, effect}
 use Rattle.dom_model.specs.World.{World, micro_task, part_of, with_part, is_there, kind_at, is_connected, component_made, shadow_including_ancestors}
 use Rattle.dom_model.specs.WorldSteps.{world_after}
 use Rattle.dom_model.specs.Slots.{assigned}
-use Rattle.dom_model.specs.Dispatch.{Dispatched, dispatch_in}
-use Rattle.dom_model.specs.Turns.{ending_turn, opening_turn, has_other_turn, is_page_turn}
-use Rattle.dom_model.specs.DocumentMachine.{refusal, effect_in, attaching, part_with_root, perform, accepted, run_command}
+use Rattle.dom_model.specs.Turns.{is_page_turn}
+use Rattle.dom_model.specs.DocumentMachine.{refusal, effect_in, attaching, part_with_root, perform}
 use Rattle.dom_model.specs.Groups.{KeepsMakers, group_world, group_outputs, group_run, is_task_of}
 use Rattle.dom_model.proofs.PartLaws.{owner-part_of}
 use Rattle.dom_worlds.proofs.Owners.{owner-named}
@@ -36,10 +35,10 @@ use Rattle.dom_isolation.proofs.GroupParts.{in_node, part-in, there-in, with_par
 use Rattle.dom_isolation.proofs.GroupSlots.{IsGround, ground-of, assigned-in}
 use Rattle.dom_isolation.proofs.GroupSteps.{IsSameGround, steps-in}
 use Rattle.dom_isolation.proofs.GroupPaths.{In, including-in, including-inside}
-use Rattle.dom_isolation.proofs.GroupDispatches.{same-world, same-ground, IsSameView, runs-then, dispatch-in}
+use Rattle.dom_isolation.proofs.GroupDispatches.{same-ground, runs-then}
 use Rattle.dom_isolation.proofs.TouchedDispatches.{IsSameWorld}
-use Rattle.dom_isolation.proofs.GroupTurns.{same-part, ending-in}
-use Rattle.dom_isolation.proofs.GroupBegins.{same-page_turn, opening-in, opened-quiet}
+use Rattle.dom_isolation.proofs.GroupTurns.{same-part}
+use Rattle.dom_isolation.proofs.GroupBegins.{same-page_turn}
 
 -- what holds of all holds of the last, or of another
 last-all : (P : NodeName → Type 0) (d : Option NodeName) (xs : List NodeName) (x : NodeName) → AllByRecursion P xs → P (unwrap_or d x) →
@@ -107,18 +106,6 @@ module _ (g : Owner → Bool) (closed : KeepsMakers g) where
     pub target : in_node g x ≡ true
     pub related : AllByRecursion (λ y. in_node g y ≡ true) (option_to_list r)
 
-  -- a dispatch with its answer
-  dispatched-in : {w v : World} → IsSameView g w v → (o : Owner) → (x : NodeName) (r : Option NodeName) (e : EventWords) → AreOfGroup x r →
-      group_run g (run_then (dispatch_in w x r e).run (answering o (a_truth (dispatch_in w x r e).answer)))
-      ≡ group_run g (run_then (dispatch_in v x r e).run (answering o (a_truth (dispatch_in v x r e).answer)))
-  dispatched-in {w} {v} s o x r e mine =
-      let d = dispatch_in w x r e in
-      let b = dispatch_in v x r e in
-      let shown = dispatch-in g closed s x r e mine.target mine.related in
-      runs-then g closed d.run b.run (answering o (a_truth d.answer)) (answering o (a_truth b.answer))
-      (ap (λ (d : Dispatched World). d.run) shown)
-      (ap (λ (d : Dispatched World). (d.run.0, group_outputs g (says o (replied (a_truth d.answer)) ∷ []))) shown)
-
   -- a microtask
   micro-in : (w v : World) → group_world g w ≡ group_world g v → (o : Owner) → g o ≡ true → (label : Word) →
       group_world g (record w { tasks = w.tasks ++ micro_task o label ∷ [] }) ≡ group_world g (record v { tasks = v.tasks ++ micro_task o label ∷ [] })
@@ -177,51 +164,3 @@ module _ (g : Owner → Bool) (closed : KeepsMakers g) where
     pub words-inside : (a : NodeWord) (r : Option NodeWord) → AreOfGroup (named (part_of w o) a) (option_map (named (part_of w o)) r)
     words-inside a None = record { target = named-inside a; related = tt }
     words-inside a (Some b) = record { target = named-inside a; related = (named-inside b, tt) }
-
-  -- What an accepted command does.
-  pub perform-in : (w v : World) → IsSameView g w v → (o : Owner) → g o ≡ true → (c : Command) → group_run g (perform w o c) ≡ group_run g (perform v o c)
-  perform-in w v s o h (Command.attach a) = attach-alike (same-world s) o h a
-  perform-in w v s o h (Command.connected a) = connected-alike (same-world s) o h a
-  perform-in w v s o h (Command.assigned a) = assigned-alike (same-world s) o h a
-  perform-in w v k o h (Command.dispatch a e r) =
-      let x = part_of w o in
-      let done : Part → Run World = λ y. let d = dispatch_in v (named y a) (option_map (named y) r) e in run_then d.run (answering o (a_truth d.answer)) in
-      dispatched-in k o (named x a) (option_map (named x) r) e (words-inside (same-world k) o h a r)
-      ∙ ap (λ y. group_run g (done y)) (same-part g closed w v k.same o h)
-  perform-in w v s o h (Command.micro a) = micro-alike (same-world s) o h a
-  perform-in w v s o h Command.end_turn =
-      let first = ending-in g closed w v s in
-      runs-then g closed (ending_turn w) (ending_turn v) (answering o nothing) (answering o nothing) first
-      (answered o nothing (ending_turn w).0 (ending_turn v).0 (ap (λ (r : Run World). r.0) first))
-  perform-in w v s o h c = effect-alike (same-world s) o h c
-
-  -- Two quiet worlds that show the group the same, and an owner of the group, whose turn may be opened in both.
-  module _ {w v : World} (s : IsSameView g w v) (o : Owner) (h : g o ≡ true) (a : has_other_turn w o ≡ false) (b : has_other_turn v o ≡ false) where
-    -- with the turn that it opens
-    opened : (c : Command) → group_run g (perform (opening_turn w o) o c) ≡ group_run g (perform (opening_turn v o) o c)
-    opened c =
-        perform-in (opening_turn w o) (opening_turn v o)
-        (record {
-          first = opened-quiet w s.first o;
-          second = opened-quiet v s.second o;
-          same = opening-in g closed w v s.same o (record { mine = h; first = a; second = b });
-        }) o h c
-
-    -- `.` apart, which opens none
-    accepted-in : (c : Command) → group_run g (accepted w o c) ≡ group_run g (accepted v o c)
-    accepted-in Command.end_turn = perform-in w v s o h Command.end_turn
-    accepted-in c = opened c
-
-    -- A command, refused or accepted.
-    pub command-in : (c : Command) → group_run g (run_command o c w) ≡ group_run g (run_command o c v)
-    command-in c = from (refusal w o c) refl
-      where
-        from : (r : Option Refusal) → refusal w o c ≡ r →
-            group_run g (unless_refused o (refusal w o c) w (accepted w o c)) ≡ group_run g (unless_refused o (refusal v o c) v (accepted v o c))
-        from (Some r) e =
-            ap (λ x. group_run g (unless_refused o x w (accepted w o c))) e
-            ∙ ap (λ u. (u, group_outputs g (says o (refused r) ∷ []))) s.same
-            ∙ sym (ap (λ x. group_run g (unless_refused o x v (accepted v o c))) (sym (refusal-in w v s.same o h c) ∙ e))
-        from None e =
-            ap (λ x. group_run g (unless_refused o x w (accepted w o c))) e ∙ accepted-in c
-            ∙ sym (ap (λ x. group_run g (unless_refused o x v (accepted v o c))) (sym (refusal-in w v s.same o h c) ∙ e))

@@ -16,16 +16,15 @@ use Rattle.dom_model.specs.World.{World, host_above}
 use Rattle.dom_model.specs.Dispatch.{Dispatched, dispatch_in}
 use Rattle.dom_model.specs.Groups.{KeepsMakers, group_world, group_outputs, group_run, outward_words, outward_in}
 use Rattle.dom_model.specs.Trace.{OutwardEvent, is_of, owner_of_output, boundary_host, outward_of}
-use Rattle.dom_worlds.specs.Reached.{IsQuiet}
 use Rattle.dom_worlds.specs.Worlds.{IsWorld}
 use Rattle.dom_isolation.specs.Interference.{untouched, interference_at}
 use Rattle.dom_isolation.specs.SilentRuns.{dispatch_under, outward_under}
-use Rattle.dom_isolation.proofs.TouchedDispatches.{IsSameWorld, any_world, no_dispatch, touched-by}
+use Rattle.dom_isolation.proofs.TouchedDispatches.{IsSameWorld, no_dispatch, touched-by}
 use Rattle.dom_worlds.proofs.Chains.{below-host, hosts-alone}
 use Rattle.dom_isolation.proofs.ComponentEvents.{outward_at, HasSameRoot, above-sibling, no_outward-kept, outward-composed}
 use Rattle.dom_worlds.proofs.Tests.{by_cases}
 use Rattle.dom_isolation.proofs.GroupParts.{in_node}
-use Rattle.dom_isolation.proofs.GroupVisits.{in_view, group_dispatched, shown_by, dispatch-shown}
+use Rattle.dom_isolation.proofs.GroupVisits.{in_view}
 use Rattle.dom_isolation.proofs.GroupViews.{views-in}
 use Rattle.dom_isolation.proofs.OutsideViews.{has-exit, exit-away, views-exit, views-kept_in, views-far, views-related}
 use Rattle.dom_isolation.proofs.GroupSteps.{IsSameGround}
@@ -38,16 +37,6 @@ outward_run w o = run_each outward_in w (option_to_list o)
 -- one item alone
 pub run_each-one : {S A : Type 0} (f : S → A → Run S) (s : S) (x : A) → run_each f s (x ∷ []) ≡ f s x
 run_each-one f s x = ap (λ ls. ((f s x).0, ls)) (append-nil (f s x).1)
-
--- Two worlds that are reached, of which a group sees the same.
-pub record IsSameView (g : Owner → Bool) (w v : World) : Type 0 where
-  pub first : IsQuiet w
-  pub second : IsQuiet v
-  pub same : group_world g w ≡ group_world g v
-
--- whatever their listeners do
-pub same-world : {g : Owner → Bool} {w v : World} → IsSameView g w v → IsSameWorld g w v
-same-world a = record { first = any_world a.first.world; second = any_world a.second.world; same = a.same }
 
 -- steps may be made in them
 pub same-ground : {g : Owner → Bool} {w v : World} → IsSameWorld g w v → IsSameGround g w v
@@ -71,24 +60,6 @@ module _ (g : Owner → Bool) (closed : KeepsMakers g) where
       let test : Output → Bool = λ l. is_of g (owner_of_output l) in
       ap (λ ls. (group_world g (f r.0).0, ls)) (filter-append test r.1 (f r.0).1)
       ∙ ap (λ (q : Run World). (group_world g (f r.0).0, q.1 ++ group_outputs g (f r.0).1)) a ∙ b
-
-  -- A dispatch at a node of the group.
-  pub dispatch-in : {w v : World} → IsSameView g w v → (x : NodeName) (r : Option NodeName) (e : EventWords) → in_node g x ≡ true →
-      AllByRecursion (λ y. in_node g y ≡ true) (option_to_list r) → group_dispatched g (dispatch_in w x r e) ≡ group_dispatched g (dispatch_in v x r e)
-  dispatch-in {w} {v} s x r e h k =
-      let seen = views-in g closed w s.first.world x r h k e.composed ∙ ap (λ u. views u x r e.composed) s.same ∙ sym
-      (views-in g closed v s.second.world x r h k e.composed) in
-      dispatch-shown g closed w x r e (s.first.logs refl) ∙ ap (λ u. shown_by g closed u e (filter (in_view g) (views w x r e.composed))) s.same
-      ∙ ap (shown_by g closed (group_world g v) e) seen ∙ sym (dispatch-shown g closed v x r e (s.second.logs refl))
-
-  -- an outward event, in two such worlds
-  pub outward-in : (w v : World) → IsSameView g w v → (o : Option OutwardEvent) → ((e : OutwardEvent) → o ≡ Some e → in_node g e.host ≡ true) →
-      group_run g (outward_run w o) ≡ group_run g (outward_run v o)
-  outward-in w v s None inside = ap (λ u. (u, [])) s.same
-  outward-in w v s (Some e) inside =
-      ap (group_run g) (run_each-one outward_in w e)
-      ∙ ap (λ (d : Dispatched World). d.run) (dispatch-in s e.host None (outward_words e) (inside e refl) tt)
-      ∙ ap (group_run g) (sym (run_each-one outward_in v e))
 
   -- no view at a node of the group
   abbrev NoView : World → NodeName → Option NodeName → Bool → Type 0
@@ -143,19 +114,6 @@ module _ (g : Owner → Bool) (closed : KeepsMakers g) where
       sent : e.composed ≡ true → (r : Option NodeName) → HasSameRoot w x r → StaysAway w x r e ⊎ GoesOut w x r e
       sent c None s = alone c (boundary_host g w x) refl
       sent c (Some y) s = inl (record { none = refl; unseen = near y c s (host_above w x) refl })
-
-  -- A dispatch at another node.
-  pub dispatch-out : {w : World} → IsQuiet w → (x : NodeName) (r : Option NodeName) (e : EventWords) → in_node g x ≡ false → HasSameRoot w x r →
-      group_run g (dispatch_in w x r e).run ≡ group_run g (outward_run w (outward_at g w x e r))
-  dispatch-out {w} q x r e h same = elim (comes_to q.world x r e h same) [
-    | inl k ↦ no_dispatch g w q.world x r e k.unseen ∙ sym (ap (λ o. group_run g (outward_run w o)) k.none)
-    | inr k ↦ ap (λ (d : Dispatched World). d.run)
-        (dispatch-shown g closed w x r e (q.logs refl) ∙ ap (shown_by g closed (group_world g w) e) k.shown
-        ∙ sym (dispatch-shown g closed w k.host None e (q.logs refl)))
-        ∙ ap (λ e. group_run g (dispatch_in w k.host None e).run) k.words
-        ∙ sym (ap (group_run g) (run_each-one outward_in w (outward_of e k.host)))
-        ∙ sym (ap (λ o. group_run g (outward_run w o)) k.event)
-  ]
 
   -- What outward events do in the silent run that is told how far others let them come.
   abbrev pub outward_told : Option ℕ → World → Option OutwardEvent → Run World

@@ -5,15 +5,11 @@ use Rattle.dom_model.specs.Dispatch.{Dispatched}
 use Rattle.dom_model.specs.World.{World}
 use Rattle.dom_isolation.specs.GroupLaws.{AssignedAgree, SignalsAgree, StepAgrees, ViewsAgree, OutwardViewsAgree, DispatchAgrees, OtherDispatchAgrees}
 use Rattle.dom_isolation.specs.GroupLaws.{EndingAgrees, LineAgrees, OtherLineAgrees, FinishAgrees}
-use Rattle.dom_isolation.proofs.GroupBegins.{ending_any-in}
-use Rattle.dom_isolation.proofs.GroupDispatches.{dispatch-in}
-use Rattle.dom_isolation.proofs.GroupLines.{line-in, line-out}
 use Rattle.dom_isolation.proofs.GroupSignals.{signals-group}
 use Rattle.dom_isolation.proofs.GroupSlots.{ground-of, assigned-in}
 use Rattle.dom_isolation.proofs.GroupSteps.{step-in}
-use Rattle.dom_isolation.proofs.GroupTurns.{ending-in}
 use Rattle.dom_isolation.proofs.GroupViews.{views-in}
-use Rattle.dom_isolation.proofs.OutsideCommands.{dispatched-out}
+use Rattle.dom_isolation.proofs.QuietGroups.{dispatch-in, dispatched-out, ending-in, ending_any-in, line-in, line-out}
 use Rattle.dom_isolation.proofs.OutsideViews.{has-exit, views-exit}
 
 -- slots
@@ -47,7 +43,7 @@ dispatch-agrees g closed w v q p same x related e h k =
 -- of a component outside
 pub other_dispatch-agrees : OtherDispatchAgrees
 other_dispatch-agrees g closed w Page h q x e related r = absurd (true≢false (sym closed.page ∙ h))
-other_dispatch-agrees g closed w (Component k) h q x e related r = dispatched-out g closed k (record { quiet = q; outside = h }) x e related r
+other_dispatch-agrees g closed w (Component k) h q x e related r = dispatched-out g closed k q h x e related r
 
 -- the ending of a turn
 pub ending-agrees : EndingAgrees

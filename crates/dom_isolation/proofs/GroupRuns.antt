@@ -21,9 +21,10 @@ use Rattle.dom_worlds.proofs.TableLines.{first-is_whole, step-keeps_whole}
 use Rattle.dom_worlds.proofs.Tests.{by_cases}
 use Rattle.dom_worlds.proofs.TurnEndings.{quiet-dispatch}
 use Rattle.dom_isolation.specs.GroupLaws.{IsCalm}
-use Rattle.dom_isolation.proofs.GroupDispatches.{IsSameView, run_each-one, outward_run, runs-then, outward-in}
-use Rattle.dom_isolation.proofs.GroupBegins.{same-calm, ending_any-in}
-use Rattle.dom_isolation.proofs.GroupLines.{line-in, line-out, may_stop-in, calm-in, calm-outward, event-host}
+use Rattle.dom_isolation.proofs.GroupDispatches.{run_each-one, outward_run, runs-then}
+use Rattle.dom_isolation.proofs.GroupBegins.{same-calm}
+use Rattle.dom_isolation.proofs.GroupLines.{calm-in, calm-outward, event-host}
+use Rattle.dom_isolation.proofs.QuietGroups.{IsSameView, outward-in, ending_any-in, line-in, line-out, may_stop-in}
 
 -- The world of a script, and the one of its trace where all others are silent: of both the group has the same.
 pub record IsPair (g : Owner → Bool) (closed : KeepsMakers g) (w v : World) : Type 0 where

@@ -8,7 +8,6 @@ use Rattle.dom_model.specs.Output.{says, micro_ran}
 use Rattle.dom_model.specs.Part.{Part}
 use Rattle.dom_model.specs.Runs.{Run, run_each}
 use Rattle.dom_model.specs.World.{World, Task, micro_task, notify_task, part_of, with_part}
-use Rattle.dom_model.specs.Dispatch.{Dispatched}
 use Rattle.dom_model.specs.Turns.{slotchange, firing_slotchange, is_owned_by, without_signals, notifying, notified, notified_lines, running_task, ending_turn}
 use Rattle.dom_model.specs.Groups.{KeepsMakers, group_world, group_turn, group_outputs, group_run, is_task_of}
 use Rattle.dom_model.specs.Trace.{is_of, owner_of_output}
@@ -23,7 +22,7 @@ use Rattle.dom_isolation.specs.GroupLaws.{IsCalm}
 use Rattle.dom_isolation.proofs.GroupParts.{in_node, part-in, with_part-in, with_part-out, filter-here, filter-away}
 use Rattle.dom_isolation.proofs.TouchedDispatches.{no_dispatch}
 use Rattle.dom_isolation.proofs.OutsideViews.{views-kept_in}
-use Rattle.dom_isolation.proofs.GroupDispatches.{IsSameView, runs-then, quiet-then, dispatch-in}
+use Rattle.dom_isolation.proofs.GroupDispatches.{quiet-then}
 
 -- a test on the items of which another holds anyway
 pub filter-sub : {X : Type 0} (p t : X → Bool) → ((x : X) → p x ≡ true → t x ≡ true) → (xs : List X) → filter p (filter t xs) ≡ filter p xs
@@ -43,23 +42,6 @@ module _ (g : Owner → Bool) (closed : KeepsMakers g) where
   -- The part of an owner of the group in two worlds of which the group has the same.
   pub same-part : (w v : World) → group_world g w ≡ group_world g v → (o : Owner) → g o ≡ true → part_of w o ≡ part_of v o
   same-part w v same o h = sym (part-in g w o h) ∙ ap (λ u. part_of u o) same ∙ part-in g v o h
-
-  -- Events at the signalled slots of the group,
-  firings-in : (ss : List NodeName) (w v : World) → IsSameView g w v → AllByRecursion (λ s. in_node g s ≡ true) ss →
-      group_run g (run_each firing_slotchange w ss) ≡ group_run g (run_each firing_slotchange v ss)
-  firings-in [] w v s h = ap (λ u. (u, [])) s.same
-  firings-in (s ∷ ss) w v k h =
-      let first : group_run g (firing_slotchange w s) ≡ group_run g (firing_slotchange v s) =
-      ap (λ (d : Dispatched World). d.run) (dispatch-in g closed k s None slotchange h.0 tt) in
-      runs-then g closed (firing_slotchange w s) (firing_slotchange v s) (λ u. run_each firing_slotchange u ss) (λ u. run_each firing_slotchange u ss) first
-      (firings-in ss (firing_slotchange w s).0 (firing_slotchange v s).0
-      (record {
-        first = quiet-dispatch w s None slotchange k.first;
-        second = quiet-dispatch v s None slotchange k.second;
-        same = ap
-            (λ (r : Run World). r.0) first;
-      })
-      h.1)
 
   -- and at others'
   firings-out : {only_log : Bool} (ss : List NodeName) (w : World) → Invariant only_log w → AllByRecursion (λ s. in_node g s ≡ false) ss →
@@ -101,16 +83,6 @@ module _ (g : Owner → Bool) (closed : KeepsMakers g) where
     pub slots-inside : AllByRecursion (λ s. in_node g s ≡ true) (slots o w)
     slots-inside = all-passed (λ s. in_node g s ≡ true) (is_owned_by o) (owned-in o h) w.signalled
 
-  -- a notification of the group
-  notifying-in : (w v : World) → IsSameView g w v → (o : Owner) → g o ≡ true → group_run g (notifying w o) ≡ group_run g (notifying v o)
-  notifying-in w v k o h =
-      let first = told-in w v k.same o h in
-      runs-then g closed (told_in w o, notified_lines (part_of w o)) (told_in v o, notified_lines (part_of v o))
-      (λ u. run_each firing_slotchange u (slots o w)) (λ u. run_each firing_slotchange u (slots o v)) first
-      (firings-in (slots o w) (told_in w o) (told_in v o)
-      (record { first = quiet-told w o k.first; second = quiet-told v o k.second; same = ap (λ (r : Run World). r.0) first }) (slots-inside w v k.same o h)
-      ∙ ap (λ ss. group_run g (run_each firing_slotchange (told_in v o) ss)) (slots-in w v k.same o h))
-
   -- another's lines are not the group's
   lines-out : (p : Part) → g p.owner ≡ false → group_outputs g (notified_lines p) ≡ []
   lines-out p h =
@@ -134,34 +106,12 @@ module _ (g : Owner → Bool) (closed : KeepsMakers g) where
       kept : (s : NodeName) → in_node g s ≡ true → not (is_owned_by o s) ≡ true
       kept s t = ap not (by_cases (is_owned_by o s) (λ e. absurd (true≢false (sym t ∙ owned-out o h s e))) (λ e. e))
 
-  -- Tasks: one of the group,
-  running-in : (w v : World) → IsSameView g w v → (t : Task) → is_task_of g t ≡ true → group_run g (running_task w t) ≡ group_run g (running_task v t)
-  running-in w v s (micro_task o label) h = ap (λ u. (u, group_outputs g (running_task v (micro_task o label)).1)) s.same
-  running-in w v s (notify_task o) h = notifying-in w v s o h
-
   -- and one of another owner
   pub running-out : {only_log : Bool} (w : World) → Invariant only_log w → (t : Task) → is_task_of g t ≡ false →
       group_run g (running_task w t) ≡ (group_world g w, [])
   running-out w q (micro_task o label) h =
       ap (λ ls. (group_world g w, ls)) (filter-away (λ l. is_of g (owner_of_output l)) (says o (micro_ran label)) [] h)
   running-out w q (notify_task o) h = notifying-out w q o h
-
-  -- all of them do what those of the group do
-  running-all : (ts : List Task) (w v : World) → IsSameView g w v →
-      group_run g (run_each running_task w ts) ≡ group_run g (run_each running_task v (filter (is_task_of g) ts))
-  running-all [] w v s = ap (λ u. (u, [])) s.same
-  running-all (t ∷ ts) w v s =
-      by_cases (is_task_of g t)
-      (λ h. let first = running-in w v s t h in
-      runs-then g closed (running_task w t) (running_task v t) (λ u. run_each running_task u ts) (λ u. run_each running_task u (filter (is_task_of g) ts)) first
-      (running-all ts (running_task w t).0 (running_task v t).0
-      (record { first = quiet-running w s.first t; second = quiet-running v s.second t; same = ap (λ (r : Run World). r.0) first }))
-      ∙ sym (ap (λ us. group_run g (run_each running_task v us)) (filter-here (is_task_of g) t ts h)))
-      (λ h. let first = running-out w s.first t h in
-      quiet-then g closed (running_task w t) w (λ u. run_each running_task u ts) (run_each running_task v (filter (is_task_of g) ts)) first
-      (running-all ts (running_task w t).0 v
-      (record { first = quiet-running w s.first t; second = s.second; same = ap (λ (r : Run World). r.0) first ∙ s.same }))
-      ∙ sym (ap (λ us. group_run g (run_each running_task v us)) (filter-away (is_task_of g) t ts h)))
 
   -- of which none is of the group
   running-none : {only_log : Bool} (ts : List Task) (w : World) → Invariant only_log w → filter (is_task_of g) ts ≡ [] →
@@ -177,14 +127,6 @@ module _ (g : Owner → Bool) (closed : KeepsMakers g) where
   pub at_end-calm : (w : World) → IsCalm g w → group_turn g w.turn ≡ None → group_world g (at_end w) ≡ group_world g w
   at_end-calm w calm h =
       ap (λ ts. record (group_world g w) { tasks = ts; turn = None }) (sym (calm h)) ∙ ap (λ t. record (group_world g w) { turn = t }) (sym h)
-
-  -- The ending of a turn: in two worlds of which the group has the same,
-  pub ending-in : (w v : World) → IsSameView g w v → group_run g (ending_turn w) ≡ group_run g (ending_turn v)
-  ending-in w v s =
-      let same_end = ap at_end s.same in
-      running-all w.tasks (at_end w) (at_end v) (record { first = quiet-at_end w s.first; second = quiet-at_end v s.second; same = same_end })
-      ∙ ap (λ ts. group_run g (run_each running_task (at_end v) ts)) (ap (λ (u : World). u.tasks) s.same)
-      ∙ sym (running-all v.tasks (at_end v) (at_end v) (record { first = quiet-at_end v s.second; second = quiet-at_end v s.second; same = refl }))
 
   -- Where no turn of the group is open, and so it has no tasks, the ending of a turn does nothing.
   pub ending-out : {only_log : Bool} (w : World) → Invariant only_log w → IsCalm g w → group_turn g w.turn ≡ None →

@@ -42,6 +42,7 @@ mod TouchedCommands
 mod OutsideCommands
 mod GroupLines
 mod TouchedLines
+mod QuietGroups
 mod GroupRuns
 mod TouchedRuns
 pub mod GroupMembers

@@ -28,7 +28,7 @@ use Rattle.dom_model.specs.Groups.{KeepsMakers, group_world, group_outputs, grou
 use Rattle.dom_model.specs.Trace.{OutwardEvent, is_of, owner_of_output, outward_of, outward_dispatch, outward_command, boundary_host}
 use Rattle.dom_model.proofs.OwnerLaws.{owner_eq-true}
 use Rattle.dom_model.proofs.PartLaws.{owner-part_of}
-use Rattle.dom_worlds.specs.Reached.{Invariant, IsQuiet}
+use Rattle.dom_worlds.specs.Reached.{Invariant}
 use Rattle.dom_isolation.specs.Interference.{first_record, interference_at, accepted_records, command_records}
 use Rattle.dom_worlds.proofs.Acceptance.{accepted-facts, attach-may}
 use Rattle.dom_isolation.proofs.ComponentCommands.{opened-event, related-same_root, outward-same}
@@ -42,8 +42,8 @@ use Rattle.dom_isolation.specs.GroupLaws.{IsCalm}
 use Rattle.dom_isolation.proofs.GroupParts.{in_node, with_part-out, filter-away}
 use Rattle.dom_isolation.proofs.GroupSlots.{IsGround, ground-of, made-outside}
 use Rattle.dom_isolation.proofs.GroupSteps.{steps-out}
-use Rattle.dom_isolation.proofs.GroupDispatches.{outward_run, outward_told, quiet-then, outward-in, dispatch-out, touched-out}
-use Rattle.dom_isolation.proofs.TouchedDispatches.{IsSameWorld, any_world}
+use Rattle.dom_isolation.proofs.GroupDispatches.{outward_told, quiet-then, touched-out}
+use Rattle.dom_isolation.proofs.TouchedDispatches.{IsSameWorld}
 use Rattle.dom_isolation.proofs.OutsideViews.{found-passes}
 use Rattle.dom_isolation.proofs.GroupTurns.{ending-out}
 use Rattle.dom_isolation.proofs.GroupBegins.{turn-none, same-turn, same-calm, opening-out, opened-quiet}
@@ -118,15 +118,6 @@ module _ (g : Owner → Bool) (closed : KeepsMakers g) where
       answered-out o h (a_component c) w (with_part (with_part w q) root)
       (with_part-out g (with_part w q) root t ∙ with_part-out g w q (ap g (owner-part_of w o) ∙ h))
 
-  -- the group's answer to a command
-  abbrev pub Shows : World → Run World → Option OutwardEvent → Type 0
-  Shows w r e = group_run g r ≡ group_run g (outward_run w e)
-
-  -- a component outside, in a quiet world
-  pub record StandsOutside (w : World) (k : ComponentName) : Type 0 where
-    pub quiet : IsQuiet w
-    pub outside : g (Component k) ≡ false
-
   -- a reply that is not the group's, after a run
   quiet_reply : (o : Owner) → g o ≡ false → (u s : Run World) (v : Value) → group_run g u ≡ group_run g s →
       group_run g (run_then u (answering o v)) ≡ group_run g s
@@ -136,19 +127,6 @@ module _ (g : Owner → Bool) (closed : KeepsMakers g) where
       (filter-append test u.1 (says o (replied v) ∷ []) ∙ ap (λ ls. group_outputs g u.1 ++ ls) (filter-away test (says o (replied v)) [] h)
       ∙ append-nil (group_outputs g u.1))
       ∙ same
-
-  -- A dispatch.
-  pub dispatched-out : {w : World} (k : ComponentName) → StandsOutside w k → (x : NodeWord) (e : EventWords) (r : Option NodeWord) →
-      part_refusal (part_of w (Component k)) (Command.dispatch x e r) ≡ None →
-      Shows w (perform w (Component k) (Command.dispatch x e r)) (outward_dispatch g w (Component k) (Command.dispatch x e r))
-  dispatched-out {w} k stands x e r a =
-      let o = Component k in
-      let p = part_of w o in
-      let d = dispatch_in w (named p x) (option_map (named p) r) e in
-      let shown = dispatch-out g closed stands.quiet (named p x) (option_map (named p) r) e
-      (ap g (owner-named p x ∙ owner-part_of w o) ∙ stands.outside) (related-same_root w k x e r a) in
-      quiet_reply o stands.outside d.run (outward_run w (outward_at g w (named p x) e (option_map (named p) r))) (a_truth d.answer) shown
-      ∙ ap (λ v. group_run g (outward_run w v)) (outward-same g w stands.outside x e r)
 
   -- The commands without events, which show the group nothing.
   module _ {w : World} {k : ComponentName} {c : Command} (out : PassesOutside g w k c) where
@@ -187,17 +165,6 @@ module _ (g : Owner → Bool) (closed : KeepsMakers g) where
         effect-out (ground-of w out.invariant.world) (Component k) out.outside (effect (part_of w (Component k)) c) (base-effect (part_of w (Component k)) c)
         out.fits
 
-  -- Any accepted command, where components' listeners only log.
-  perform-out : (w : World) (k : ComponentName) (c : Command) → IsQuiet w → PassesOutside g w k c →
-      Shows w (perform w (Component k) c) (outward_dispatch g w (Component k) c)
-  perform-out w k (Command.attach a) q out = attach-silent out a out.passes
-  perform-out w k (Command.connected a) q out = reply-silent out _
-  perform-out w k (Command.assigned a) q out = reply-silent out _
-  perform-out w k (Command.dispatch a b c) q out = dispatched-out k (record { quiet = q; outside = out.outside }) a b c out.passes
-  perform-out w k (Command.micro a) q out = micro-silent out a
-  perform-out w k Command.end_turn q out = end_turn-silent out
-  perform-out w k c q out = effect-silent out
-
   -- The turn that is open before a line of a component outside, where it is not the page's, is not the group's.
   turn-out : (w : World) (k : ComponentName) → g (Component k) ≡ false → has_other_turn w (Component k) ≡ false → is_page_turn w.turn ≡ false →
       is_of g w.turn ≡ false
@@ -227,24 +194,6 @@ module _ (g : Owner → Bool) (closed : KeepsMakers g) where
         fits = subst (λ x. Holds x (effect x c)) (sym (part_of-opening w o o)) out.fits;
       }
 
-  -- with the turn that it opens
-  opened : (w : World) (k : ComponentName) (c : Command) → IsQuiet w → PassesOutside g w k c →
-      Shows w (perform (opening_turn w (Component k)) (Component k) c) (outward_dispatch g w (Component k) c)
-  opened w k c q out =
-      let o = Component k in
-      let u = opening_turn w o in
-      let p = opened-quiet w q o in
-      perform-out u k c p (passes-opened out)
-      ∙ outward-in g closed u w (record { first = p; second = q; same = opening-out g closed w o out.outside }) (outward_dispatch g u o c)
-      (event-inside g u o c)
-      ∙ ap (λ e. group_run g (outward_run w e)) (opened-event g w o c)
-
-  -- `.` apart, which opens none
-  accepted-out : (w : World) (k : ComponentName) (c : Command) → IsQuiet w → PassesOutside g w k c →
-      Shows w (accepted w (Component k) c) (outward_dispatch g w (Component k) c)
-  accepted-out w k Command.end_turn q out = perform-out w k Command.end_turn q out
-  accepted-out w k c q out = opened w k c q out
-
   -- What an accepted command passes.
   module _ {w : World} {k : ComponentName} (q : Invariant false w) (h : g (Component k) ≡ false) (calm : IsCalm g w) where
     -- where no other component's turn is open
@@ -260,24 +209,6 @@ module _ (g : Owner → Bool) (closed : KeepsMakers g) where
           passes = known.part;
           fits = f;
         }
-
-  -- A command, refused or accepted. What it does fits where it is accepted.
-  pub command-out : {w : World} (k : ComponentName) → StandsOutside w k → IsCalm g w → has_other_turn w (Component k) ≡ false →
-      (c : Command) → (refusal w (Component k) c ≡ None → Holds (part_of w (Component k)) (effect (part_of w (Component k)) c)) →
-      Shows w (run_command (Component k) c w) (outward_command g w (Component k) c)
-  command-out {w} k stands calm a c f = from (refusal w (Component k) c) refl
-    where
-      from : (r : Option Refusal) → refusal w (Component k) c ≡ r →
-          Shows w (unless_refused (Component k) (refusal w (Component k) c) w (accepted w (Component k) c))
-          (if is_none (refusal w (Component k) c) then outward_dispatch g w (Component k) c else None)
-      from (Some r) e =
-          ap (λ o. group_run g (unless_refused (Component k) o w (accepted w (Component k) c))) e
-          ∙ ap (λ ls. (group_world g w, ls)) (filter-away (λ l. is_of g (owner_of_output l)) (says (Component k) (refused r)) [] stands.outside)
-          ∙ sym (ap (λ o. group_run g (outward_run w (if is_none o then outward_dispatch g w (Component k) c else None))) e)
-      from None e =
-          ap (λ o. group_run g (unless_refused (Component k) o w (accepted w (Component k) c))) e
-          ∙ accepted-out w k c stands.quiet (accepted-passes (any_world stands.quiet.world) stands.outside calm a c e (f e))
-          ∙ sym (ap (λ o. group_run g (outward_run w (if is_none o then outward_dispatch g w (Component k) c else None))) e)
 
   -- Whatever others' listeners do: how far they let the event of a command come, if it has one.
   abbrev reached_in : World → Owner → Command → Option ℕ
@@ -295,7 +226,7 @@ module _ (g : Owner → Bool) (closed : KeepsMakers g) where
   -- Two worlds of which the group has the same, and a component outside.
   module _ {w v : World} (s : IsSameWorld g w v) (k : ComponentName) where
     -- a dispatch
-    touched_dispatch-out : g (Component k) ≡ false → (x : NodeWord) (e : EventWords) (r : Option NodeWord) →
+    pub touched_dispatch-out : g (Component k) ≡ false → (x : NodeWord) (e : EventWords) (r : Option NodeWord) →
         part_refusal (part_of w (Component k)) (Command.dispatch x e r) ≡ None →
         ShowsTold v (perform w (Component k) (Command.dispatch x e r)) (reached_in w (Component k) (Command.dispatch x e r))
         (outward_dispatch g w (Component k) (Command.dispatch x e r))
