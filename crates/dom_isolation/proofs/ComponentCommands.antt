@@ -37,7 +37,8 @@ use Rattle.dom_worlds.proofs.Tests.{by_cases, and-true_false}
 use Rattle.dom_isolation.proofs.SeenRuns.{run_then-square, same_page_of, outputs_for_page-other}
 use Rattle.dom_isolation.proofs.PageSteps.{page_of-world_after-other}
 use Rattle.dom_worlds.proofs.Acceptance.{next-test, part-accepted, accepted-facts}
-use Rattle.dom_isolation.proofs.ComponentEvents.{outward_run, outward_at, run_then-quiet_end, HasSameRoot, dispatch-component}
+use Rattle.dom_isolation.proofs.ComponentEvents.{outward_run, run_then-quiet_end, dispatch-component}
+use Rattle.dom_isolation.proofs.GroupDispatches.{outward_at, HasSameRoot}
 use Rattle.dom_isolation.proofs.PageTurns.{quiet_then}
 use Rattle.dom_isolation.proofs.PageTurns.{ending-component, opening-component}
 use Rattle.dom_worlds.proofs.LineBegins.{part_of-opening, quiet-opening}

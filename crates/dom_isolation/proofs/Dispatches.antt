@@ -1,9 +1,7 @@
 -- One dispatch: what the page sees of it is what its first visits at page nodes do, as many as others let it come to. Where the visits at page
 -- nodes are those of the page machine, the dispatch is the page machine's; where there are none, the page sees nothing.
-use Rattle.std.proofs.Common.{◌≡◌, ℕ, zero, suc, Bool, true, false, not, ◌||◌, List, [], ◌∷◌, ◌++◌, take, filter, map, fold, reverse}
-use Rattle.std.proofs.Common.{Option, Some, None, option_map, refl, sym, ap, ◌∙◌, subst}
-use Rattle.std.specs.List.{AllByRecursion}
-use Rattle.std.proofs.lemmas.List.Elements.{filter-append}
+use Rattle.std.proofs.Common.{◌≡◌, Bool, true, not, ◌||◌, List, [], ◌∷◌, ◌++◌, filter, map, fold}
+use Rattle.std.proofs.Common.{Option, option_map, refl, sym, ap, ◌∙◌, subst}
 use Rattle.dom_base.specs.declared.Owner.{Owner}
 use Rattle.dom_base.specs.declared.Owner.TheVariants.{Page, Component}
 use Rattle.dom_base.specs.declared.NodeName.{NodeName}
@@ -13,41 +11,25 @@ use Rattle.dom_model.specs.CommandNames.{named}
 use Rattle.dom_model.specs.Output.{EventLine}
 use Rattle.dom_model.specs.Listeners.{Listener, Visit, visited, begun}
 use Rattle.dom_model.specs.Part.{Part}
-use Rattle.dom_model.specs.Runs.{quiet}
 use Rattle.dom_model.specs.World.{World, part_of}
-use Rattle.dom_model.specs.Paths.{View, views, plain_views}
-use Rattle.dom_model.specs.Dispatch.{Dispatched, dispatched, dispatch_in, world_visit, event_output, visits_of, visit_of, is_at_target}
+use Rattle.dom_model.specs.Paths.{views, plain_views}
+use Rattle.dom_model.specs.Dispatch.{Dispatched, dispatched, dispatch_in, world_visit, event_output, visits_of}
 use Rattle.dom_model.specs.Trace.{is_page, outputs_for}
 use Rattle.dom_model.specs.PageMachine.{PageState, page_of, is_page_task}
 use Rattle.dom_model.specs.Turns.{is_page_turn}
 use Rattle.dom_model.proofs.OwnerLaws.{owner_eq-true}
 use Rattle.dom_isolation.specs.Interference.{Interference, untouched, interference_at}
 use Rattle.dom_isolation.specs.TouchedMachines.{first_visits, dispatched_under, page_dispatch_under}
-use Rattle.dom_isolation.specs.Laws.{page_dispatched, page_run, is_page_visit, is_page_line}
+use Rattle.dom_isolation.specs.Laws.{page_dispatched, is_page_visit, is_page_line}
 use Rattle.dom_worlds.specs.Worlds.{IsThere}
-use Rattle.dom_worlds.proofs.Lists.{filter-map, filter-reverse, filter-filter, all-from, all-passed}
+use Rattle.dom_worlds.proofs.Lists.{all-from, all-passed}
 use Rattle.dom_worlds.proofs.Tests.{by_cases}
 use Rattle.dom_worlds.proofs.Visits.{Going, InWorld, part_of-visits, rest-visits, with_listeners}
 use Rattle.dom_isolation.proofs.GroupParts.{part-in}
 use Rattle.dom_isolation.specs.FullLaws.{OwnIsThere}
-use Rattle.dom_isolation.proofs.Touches.{alike-start, visits-touched}
+use Rattle.dom_isolation.proofs.Touches.{all-first, alike-start, visits-touched}
+use Rattle.dom_isolation.proofs.GroupVisits.{in_view, group_visits}
 use Rattle.dom_isolation.proofs.PageVisits.{page_going-own}
-
--- The visits at page nodes are those of the views at page nodes.
-abbrev pub is_page_view : View NodeName → Bool
-is_page_view v = is_page v.node.owner
-
--- visits at page nodes, of the views at page nodes
-pub page_visits_of : (bubbles : Bool) (vs : List (View NodeName)) →
-    filter is_page_visit (visits_of name_eq bubbles vs) ≡ visits_of name_eq bubbles (filter is_page_view vs)
-page_visits_of bubbles vs =
-    let going_up = filter (λ v. bubbles || is_at_target name_eq v) in
-    filter-append is_page_visit (map (visit_of name_eq true) (reverse vs)) (map (visit_of name_eq false) (going_up vs))
-    ∙ ap (λ xs. xs ++ filter is_page_visit (map (visit_of name_eq false) (going_up vs)))
-    (filter-map is_page_visit (visit_of name_eq true) (reverse vs) ∙ ap (map (visit_of name_eq true)) (filter-reverse is_page_view vs))
-    ∙ ap (λ xs. map (visit_of name_eq true) (reverse (filter is_page_view vs)) ++ xs)
-    (filter-map is_page_visit (visit_of name_eq false) (going_up vs) ∙
-    ap (map (visit_of name_eq false)) (filter-filter is_page_view (λ v. bubbles || is_at_target name_eq v) vs))
 
 -- the lines
 page_eq-sym : (o : Owner) → owner_eq Page o ≡ owner_eq o Page
@@ -60,22 +42,6 @@ outputs_for-event_lines [] = refl
 outputs_for-event_lines (l ∷ ls) =
     by_cases (owner_eq l.current.owner Page) (λ h. rw (page_eq-sym l.current.owner, h) (ap (λ os. event_output l ∷ os) (outputs_for-event_lines ls)))
     (λ h. rw (page_eq-sym l.current.owner, h) (outputs_for-event_lines ls))
-
--- Of the first visits holds what holds of all, and of none there are none.
-pub all-first : {X : Type 0} (P : X → Type 0) (reached : Option ℕ) (xs : List X) → AllByRecursion P xs → AllByRecursion P (first_visits reached xs)
-all-first P None xs h = h
-all-first {X = X} P (Some k) xs h = some k xs h
-  where
-    some : (k : ℕ) (xs : List X) → AllByRecursion P xs → AllByRecursion P (take k xs)
-    some zero xs h = tt
-    some (suc k) [] h = tt
-    some (suc k) (x ∷ xs) h = (h.0, some k xs h.1)
-
--- of none
-pub first-none : {X : Type 0} (reached : Option ℕ) → first_visits {A = X} reached [] ≡ []
-first-none None = refl
-first-none (Some zero) = refl
-first-none (Some (suc k)) = refl
 
 -- how a dispatch ends, as the page sees it: its listeners, its lines and the answer
 abbrev pub page_end : Bool → PageState → Going → Dispatched PageState
@@ -95,7 +61,7 @@ module _ (w : World) (target : NodeName) (related : Option NodeName) (e : EventW
   pub dispatch-touched :
       page_dispatched (dispatch_in w target related e)
       ≡ page_end done.cancelled (page_of w) (fold (visited name_eq e) (begun (part_of w Page).listeners)
-      (first_visits done.reached (visits_of name_eq e.bubbles (filter is_page_view (views w target related e.composed)))))
+      (first_visits done.reached (visits_of name_eq e.bubbles (filter (in_view is_page) (views w target related e.composed)))))
   dispatch-touched =
       let start : InWorld = (w, begun []) in
       let end = fold (world_visit e) start all_visits in
@@ -135,26 +101,16 @@ module _ (w : World) (target : NodeName) (related : Option NodeName) (e : EventW
       (all-first (λ v. is_page_visit v ≡ true) done.reached (filter is_page_visit all_visits)
       (all-passed (λ v. is_page_visit v ≡ true) is_page_visit (λ v h. h) all_visits)))
       ∙ ap (λ vs. page_end done.cancelled (page_of w) (fold (visited name_eq e) (begun (part_of w Page).listeners) (first_visits done.reached vs)))
-      (page_visits_of e.bubbles (views w target related e.composed))
+      (group_visits is_page e.bubbles (views w target related e.composed))
 
   -- the page machine's dispatch, where the views at page nodes are its own
   pub dispatch-page : (x : NodeName) (near : Option NodeName) →
-      filter is_page_view (views w target related e.composed) ≡ plain_views (part_of w Page).trees x near →
+      filter (in_view is_page) (views w target related e.composed) ≡ plain_views (part_of w Page).trees x near →
       page_dispatched (dispatch_in w target related e) ≡ page_dispatch_under done (page_of w) x near e
   dispatch-page x near h =
       dispatch-touched
       ∙ ap (λ vs. page_end done.cancelled (page_of w) (fold (visited name_eq e) (begun (part_of w Page).listeners)
       (first_visits done.reached (visits_of name_eq e.bubbles vs)))) h
-
-  -- nothing, where no view is at a page node
-  pub dispatch-nothing :
-      filter is_page_view (views w target related e.composed) ≡ [] → page_run (dispatch_in w target related e).run ≡ quiet (page_of w)
-  dispatch-nothing h =
-      ap (λ (d : Dispatched PageState). d.run)
-      (dispatch-touched
-      ∙ ap (λ vs. page_end done.cancelled (page_of w) (fold (visited name_eq e) (begun (part_of w Page).listeners)
-      (first_visits done.reached (visits_of name_eq e.bubbles vs)))) h
-      ∙ ap (λ vs. page_end done.cancelled (page_of w) (fold (visited name_eq e) (begun (part_of w Page).listeners) vs)) (first-none done.reached))
 
 -- What others do to the event of a command in the turn that is open, if it has one.
 abbrev pub done_to : World → Owner → Command → Interference

@@ -2,17 +2,18 @@
 -- outward event at its host.
 use Rattle.std.proofs.Common.{◌≡◌, ℕ, Bool, true, false, [], ◌∷◌, ◌++◌, filter, Option, Some, None, option_map, refl, sym, ap, ◌∙◌, subst, append-nil}
 use Rattle.std.proofs.Common.{◌⊎◌, inl, inr}
-use Rattle.std.specs.Prelude.{option_to_list}
+use Rattle.std.specs.Prelude.{option_to_list, if◌then◌else◌}
+use Rattle.std.specs.Option.{option_and_then}
 use Rattle.std.specs.List.{AllByRecursion}
 use Rattle.std.proofs.lemmas.List.Elements.{filter-append}
 use Rattle.dom_base.specs.declared.Owner.{Owner}
 use Rattle.dom_base.specs.declared.NodeName.{NodeName}
-use Rattle.dom_model.specs.Names.{owner_depth}
+use Rattle.dom_model.specs.Names.{name_eq, owner_depth}
 use Rattle.dom_model.specs.Command.{EventWords}
 use Rattle.dom_model.specs.Output.{Output}
 use Rattle.dom_model.specs.Paths.{views}
 use Rattle.dom_model.specs.Runs.{Run, run_then, run_each}
-use Rattle.dom_model.specs.World.{World, host_above}
+use Rattle.dom_model.specs.World.{World, root_at, host_of, host_above, some_if, shadow_root_of}
 use Rattle.dom_model.specs.Dispatch.{Dispatched, dispatch_in}
 use Rattle.dom_model.specs.Groups.{KeepsMakers, group_world, group_outputs, group_run, outward_words, outward_in}
 use Rattle.dom_model.specs.Trace.{OutwardEvent, is_of, owner_of_output, boundary_host, outward_of}
@@ -21,7 +22,6 @@ use Rattle.dom_isolation.specs.Interference.{untouched, interference_at}
 use Rattle.dom_isolation.specs.SilentRuns.{dispatch_under, outward_under}
 use Rattle.dom_isolation.proofs.TouchedDispatches.{IsSameWorld, no_dispatch, touched-by}
 use Rattle.dom_worlds.proofs.Chains.{below-host, hosts-alone}
-use Rattle.dom_isolation.proofs.ComponentEvents.{outward_at, HasSameRoot, above-sibling, no_outward-kept, outward-composed}
 use Rattle.dom_worlds.proofs.Tests.{by_cases}
 use Rattle.dom_isolation.proofs.GroupParts.{in_node}
 use Rattle.dom_isolation.proofs.GroupVisits.{in_view}
@@ -29,6 +29,35 @@ use Rattle.dom_isolation.proofs.GroupViews.{views-in}
 use Rattle.dom_isolation.proofs.OutsideViews.{has-exit, exit-away, views-exit, views-kept_in, views-far, views-related}
 use Rattle.dom_isolation.proofs.GroupSteps.{IsSameGround}
 use Rattle.dom_isolation.proofs.GroupSlots.{ground-of}
+
+-- the host of a root, where that is the owner's shadow root
+abbrev pub above_as : World → NodeName → Owner → Option NodeName
+above_as w r o = option_and_then (some_if (name_eq r (shadow_root_of o))) (host_of w o)
+
+-- nodes with one root have one host above
+pub above-sibling : {host : NodeName} (w : World) (x y : NodeName) → host_above w x ≡ Some host → y.owner ≡ x.owner → root_at w y ≡ root_at w x →
+    host_above w y ≡ Some host
+above-sibling w x y h e r = ap (above_as w (root_at w y)) e ∙ ap (λ z. above_as w z x.owner) r ∙ h
+
+-- The outward event of a dispatch of an owner outside a group, in the words of its parts: the target, and whether there is a related node.
+abbrev pub outward_at : (Owner → Bool) → World → NodeName → EventWords → Option NodeName → Option OutwardEvent
+outward_at group w x e None = if e.composed then option_map (outward_of e) (boundary_host group w x) else None
+outward_at group w x e (Some y) = None
+
+-- an event that is not composed stays inside
+pub no_outward-kept : (group : Owner → Bool) (w : World) (x : NodeName) (e : EventWords) (r : Option NodeName) → e.composed ≡ false →
+    outward_at group w x e r ≡ None
+no_outward-kept group w x e None c = ap (λ b. if b then option_map (outward_of e) (boundary_host group w x) else None) c
+no_outward-kept group w x e (Some y) c = refl
+
+-- a composed one is seen at the boundary host
+pub outward-composed : (group : Owner → Bool) (w : World) (x : NodeName) (e : EventWords) → e.composed ≡ true →
+    outward_at group w x e None ≡ option_map (outward_of e) (boundary_host group w x)
+outward-composed group w x e c = ap (λ b. if b then option_map (outward_of e) (boundary_host group w x) else None) c
+
+-- where a related node is given, it has the target's root
+abbrev pub HasSameRoot : World → NodeName → Option NodeName → Type 0
+HasSameRoot w x related = AllByRecursion (λ y. (y.owner ≡ x.owner) × (root_at w y ≡ root_at w x)) (option_to_list related)
 
 -- an outward event, if there is one
 abbrev pub outward_run : World → Option OutwardEvent → Run World

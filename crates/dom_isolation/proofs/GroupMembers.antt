@@ -5,34 +5,22 @@ use Rattle.std.specs.Option.{option_map_or}
 use Rattle.std.proofs.lemmas.Bool.{and_parts, not-true}
 use Rattle.dom_base.specs.declared.Owner.{Owner}
 use Rattle.dom_base.specs.declared.Owner.TheVariants.{Page, Component}
-use Rattle.dom_model.specs.Names.{owner_eq}
 use Rattle.dom_model.specs.Command.{Line}
-use Rattle.dom_model.specs.Output.{Output}
 use Rattle.dom_model.specs.World.{World}
 use Rattle.dom_model.specs.Turns.{is_other_component}
 use Rattle.dom_model.specs.DocumentMachine.{first_world, step}
-use Rattle.dom_model.specs.Groups.{is_in_family, family_group, makers_group, group_without, group_outputs, ends_other_turn, ends_group_turn}
-use Rattle.dom_model.specs.Trace.{is_page, is_of, owner_of_line, owner_of_output, outputs_for}
+use Rattle.dom_model.specs.Groups.{is_in_family, family_group, makers_group, group_without, ends_other_turn, ends_group_turn}
+use Rattle.dom_model.specs.Trace.{is_page, is_of, owner_of_line, outputs_for}
 use Rattle.dom_model.specs.Isolation.{output_of, turns_are_closed_from, group_turns_stand_from, SamePage}
 use Rattle.dom_model.specs.Isolation.{SameFamily, SameFamilyWhileTurnsStand, SameComponent, SameComponentWhileTurnsStand, SameAround, SameAroundWhileTurnsStand}
-use Rattle.dom_model.proofs.OwnerLaws.{owner_eq-true}
 use Rattle.dom_worlds.proofs.Tests.{or-second}
 use Rattle.dom_isolation.specs.FullGroups.{SameMemberInFull, SameFamilyInFull, SameComponentInFull, SameAroundInFull}
 use Rattle.dom_isolation.specs.Agreement.{AgreeWhileTurnsStand, AgreeWithClosedTurns, SameMember, SameMemberWhileTurnsStand}
 use Rattle.dom_isolation.proofs.Families.{page-is_group, family-is_group, makers-are_group, others-are_group, own-maker}
 use Rattle.dom_isolation.proofs.GroupRuns.{same-group}
 use Rattle.dom_isolation.proofs.TouchedRuns.{same-group_in_full}
-use Rattle.dom_isolation.proofs.GroupTurns.{filter-sub}
+use Rattle.dom_isolation.proofs.GroupParts.{member-outputs}
 use Rattle.dom_isolation.proofs.GroupViews.{and-no}
-
--- a member's lines are among those of its group
-member-outputs : (g : Owner → Bool) (o : Owner) → g o ≡ true → (ls : List Output) → outputs_for o (group_outputs g ls) ≡ outputs_for o ls
-member-outputs g o h ls =
-    filter-sub (λ l. is_of (owner_eq o) (owner_of_output l)) (λ l. is_of g (owner_of_output l)) (λ l e. from (owner_of_output l) e) ls
-  where
-    from : (m : Option Owner) → is_of (owner_eq o) m ≡ true → is_of g m ≡ true
-    from None e = e
-    from (Some a) e = ap g (sym (owner_eq-true o a e)) ∙ h
 
 module _ {L : Type 0} (read : L → Line) where
   -- a member

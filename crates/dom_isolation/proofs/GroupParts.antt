@@ -7,9 +7,11 @@ use Rattle.dom_base.specs.declared.NodeName.{NodeName}
 use Rattle.dom_model.specs.Names.{owner_eq}
 use Rattle.dom_model.specs.Part.{Part, empty_part}
 use Rattle.dom_model.specs.World.{World, Task, find_part, put_part, part_of, with_part, is_there}
-use Rattle.dom_model.specs.Groups.{group_world, group_turn, is_task_of}
+use Rattle.dom_model.specs.Groups.{group_world, group_turn, group_outputs, is_task_of}
+use Rattle.dom_model.specs.Output.{Output}
+use Rattle.dom_model.specs.Trace.{is_of, owner_of_output, outputs_for}
 use Rattle.dom_model.proofs.OwnerLaws.{owner_eq-true}
-use Rattle.dom_worlds.proofs.Lists.{all-passed, filter_all}
+use Rattle.dom_worlds.proofs.Lists.{all-passed, all-then, filter_all, filter-filter}
 use Rattle.dom_worlds.proofs.Tests.{by_cases}
 
 -- a world by its fields
@@ -21,6 +23,21 @@ pub same_world : (u v : World) → u.parts ≡ v.parts → u.signalled ≡ v.sig
 same_world u v a b c d =
     ap (λ x. world_with x u.signalled u.tasks u.turn) a ∙ ap (λ x. world_with v.parts x u.tasks u.turn) b
     ∙ ap (λ x. world_with v.parts v.signalled x u.turn) c ∙ ap (world_with v.parts v.signalled v.tasks) d
+
+-- a test on the items of which another holds anyway
+pub filter-sub : {X : Type 0} (p t : X → Bool) → ((x : X) → p x ≡ true → t x ≡ true) → (xs : List X) → filter p (filter t xs) ≡ filter p xs
+filter-sub p t f xs =
+    filter-filter p t xs ∙ filter_all t (filter p xs) (all-then (λ x. p x ≡ true) (λ x. t x ≡ true) f (filter p xs) (all-passed (λ x. p x ≡ true) p
+    (λ x h. h) xs))
+
+-- a member's lines are among those of its group
+pub member-outputs : (g : Owner → Bool) (o : Owner) → g o ≡ true → (ls : List Output) → outputs_for o (group_outputs g ls) ≡ outputs_for o ls
+member-outputs g o h ls =
+    filter-sub (λ l. is_of (owner_eq o) (owner_of_output l)) (λ l. is_of g (owner_of_output l)) (λ l e. from (owner_of_output l) e) ls
+  where
+    from : (m : Option Owner) → is_of (owner_eq o) m ≡ true → is_of g m ≡ true
+    from None e = e
+    from (Some a) e = ap g (sym (owner_eq-true o a e)) ∙ h
 
 module _ {X : Type 0} where
   -- an item that passes, and one that does not

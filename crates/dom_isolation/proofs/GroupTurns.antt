@@ -1,34 +1,44 @@
 -- Notifications and the endings of turns as a group has them: its own tasks do the same in two worlds of which it has the same, and
 -- others' tasks do nothing.
-use Rattle.std.proofs.Common.{◌≡◌, Bool, true, false, not, List, [], ◌∷◌, filter, None, refl, sym, ap, ◌∙◌, true≢false}
+use Rattle.std.proofs.Common.{◌≡◌, ℕ, map, flat_map, Some, Bool, true, false, not, List, [], ◌∷◌, filter, None, refl, sym, ap, ◌∙◌, true≢false}
 use Rattle.std.specs.List.{AllByRecursion}
 use Rattle.dom_base.specs.declared.Owner.{Owner}
 use Rattle.dom_base.specs.declared.NodeName.{NodeName}
-use Rattle.dom_model.specs.Output.{says, micro_ran}
-use Rattle.dom_model.specs.Part.{Part}
+use Rattle.dom_model.specs.Output.{Output, Change, says, recorded, micro_ran}
+use Rattle.dom_model.specs.Part.{Part, queue_of}
 use Rattle.dom_model.specs.Runs.{Run, run_each}
 use Rattle.dom_model.specs.World.{World, Task, micro_task, notify_task, part_of, with_part}
-use Rattle.dom_model.specs.Turns.{slotchange, firing_slotchange, is_owned_by, without_signals, notifying, notified, notified_lines, running_task, ending_turn}
+use Rattle.dom_model.specs.Turns.{records_of, slotchange, firing_slotchange, is_owned_by, without_signals, notifying, notified, notified_lines, running_task, ending_turn}
 use Rattle.dom_model.specs.Groups.{KeepsMakers, group_world, group_turn, group_outputs, group_run, is_task_of}
 use Rattle.dom_model.specs.Trace.{is_of, owner_of_output}
 use Rattle.dom_model.proofs.OwnerLaws.{owner_eq-true}
 use Rattle.dom_model.proofs.PartLaws.{owner-part_of}
 use Rattle.dom_worlds.specs.Reached.{Invariant}
-use Rattle.dom_worlds.proofs.Lists.{all-then, all-passed, filter_all, filter_none, filter-filter}
+use Rattle.dom_worlds.proofs.Lists.{all-append, all-then, all-passed, filter_none, filter-filter}
 use Rattle.dom_worlds.proofs.Tests.{by_cases}
 use Rattle.dom_worlds.proofs.TurnEndings.{told_in, quiet-told, quiet-dispatch, quiet-running, at_end, quiet-at_end}
-use Rattle.dom_isolation.proofs.PageTurns.{IsLineOf, lines-notified}
 use Rattle.dom_isolation.specs.GroupLaws.{IsCalm}
-use Rattle.dom_isolation.proofs.GroupParts.{in_node, part-in, with_part-in, with_part-out, filter-here, filter-away}
+use Rattle.dom_isolation.proofs.GroupParts.{filter-sub, in_node, part-in, with_part-in, with_part-out, filter-here, filter-away}
 use Rattle.dom_isolation.proofs.TouchedDispatches.{no_dispatch}
 use Rattle.dom_isolation.proofs.OutsideViews.{views-kept_in}
 use Rattle.dom_isolation.proofs.GroupDispatches.{quiet-then}
 
--- a test on the items of which another holds anyway
-pub filter-sub : {X : Type 0} (p t : X → Bool) → ((x : X) → p x ≡ true → t x ≡ true) → (xs : List X) → filter p (filter t xs) ≡ filter p xs
-filter-sub p t f xs =
-    filter-filter p t xs ∙ filter_all t (filter p xs) (all-then (λ x. p x ≡ true) (λ x. t x ≡ true) f (filter p xs) (all-passed (λ x. p x ≡ true) p
-    (λ x h. h) xs))
+-- The lines of a notification are its owner's.
+abbrev pub IsLineOf : Owner → Output → Type 0
+IsLineOf o l = owner_of_output l ≡ Some o
+
+-- lines of records
+all-said : (o : Owner) (k : ℕ) (cs : List (Change NodeName)) → AllByRecursion (IsLineOf o) (map (λ c. says o (recorded k c)) cs)
+all-said o k [] = tt
+all-said o k (c ∷ cs) = (refl, all-said o k cs)
+
+-- all lines of a notification
+pub lines-notified : (p : Part) → AllByRecursion (IsLineOf p.owner) (notified_lines p)
+lines-notified p = each p.pending
+  where
+    each : (ks : List ℕ) → AllByRecursion (IsLineOf p.owner) (flat_map (records_of p) ks)
+    each [] = tt
+    each (k ∷ ks) = all-append (IsLineOf p.owner) (records_of p k) (flat_map (records_of p) ks) (all-said p.owner k (queue_of p.record_queues k)) (each ks)
 
 module _ (g : Owner → Bool) (closed : KeepsMakers g) where
   -- an owner's nodes are of the group where the owner is
@@ -90,7 +100,7 @@ module _ (g : Owner → Bool) (closed : KeepsMakers g) where
       (all-then (IsLineOf p.owner) (λ l. is_of g (owner_of_output l) ≡ false) (λ l e. ap (is_of g) e ∙ h) (notified_lines p) (lines-notified p))
 
   -- a notification of another owner
-  notifying-out : {only_log : Bool} (w : World) → Invariant only_log w → (o : Owner) → g o ≡ false → group_run g (notifying w o) ≡ (group_world g w, [])
+  pub notifying-out : {only_log : Bool} (w : World) → Invariant only_log w → (o : Owner) → g o ≡ false → group_run g (notifying w o) ≡ (group_world g w, [])
   notifying-out w q o h =
       let slots = filter (is_owned_by o) w.signalled in
       let away = ap g (owner-part_of w o) ∙ h in

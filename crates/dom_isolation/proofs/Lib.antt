@@ -8,7 +8,7 @@ mod PageVisits
 mod Dispatches
 mod Hiding
 mod PagePaths
-mod ComponentPaths
+mod CutPaths
 mod PageTurns
 mod PageCommands
 mod ComponentEvents

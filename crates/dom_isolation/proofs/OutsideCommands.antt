@@ -32,7 +32,7 @@ use Rattle.dom_worlds.specs.Reached.{Invariant}
 use Rattle.dom_isolation.specs.Interference.{first_record, interference_at, accepted_records, command_records}
 use Rattle.dom_worlds.proofs.Acceptance.{accepted-facts, attach-may}
 use Rattle.dom_isolation.proofs.ComponentCommands.{opened-event, related-same_root, outward-same}
-use Rattle.dom_isolation.proofs.ComponentEvents.{outward_at}
+use Rattle.dom_isolation.proofs.GroupDispatches.{outward_at}
 use Rattle.dom_worlds.proofs.LineBegins.{part_of-opening}
 use Rattle.dom_worlds.proofs.Owners.{owner-named}
 use Rattle.dom_worlds.proofs.TableCommands.{Holds}

@@ -15,9 +15,8 @@ use Rattle.dom_model.specs.Groups.{KeepsMakers}
 use Rattle.dom_model.specs.Trace.{boundary_host}
 use Rattle.dom_worlds.specs.Worlds.{IsWorld}
 use Rattle.dom_worlds.proofs.Chains.{IsBelow, has-chain, below-host, hosts-alone, chain-below, chain-first}
-use Rattle.dom_isolation.proofs.ComponentPaths.{cut_at, cut-all, no_end, related-cut}
+use Rattle.dom_isolation.proofs.CutPaths.{cut_at, cut-all, no_end, related-cut}
 use Rattle.dom_worlds.proofs.ShadowTrees.{IsInTree, ancestors-in_tree, slots-behind}
-use Rattle.dom_isolation.proofs.ComponentEvents.{find-past}
 use Rattle.dom_worlds.proofs.Lists.{all-append, all-then, all-from, all-passed, all-flat_map, filter-map, filter_none, map_same}
 use Rattle.dom_isolation.proofs.PagePaths.{IsInSome, slot_way-in_some, uncut}
 use Rattle.dom_worlds.proofs.Tests.{by_cases, either_way}
@@ -27,6 +26,11 @@ use Rattle.dom_isolation.proofs.GroupParts.{in_node}
 use Rattle.dom_isolation.proofs.GroupVisits.{in_view}
 use Rattle.dom_isolation.proofs.GroupPaths.{hidden-outside, way-outside}
 use Rattle.dom_isolation.proofs.GroupViews.{ground, Inside, Outside, veiled-hidden}
+
+-- what is found behind nodes that do not pass
+pub find-past : (test : NodeName → Bool) (xs ys : List NodeName) → AllByRecursion (λ x. test x ≡ false) xs → find test (xs ++ ys) ≡ find test ys
+find-past test [] ys h = refl
+find-past test (x ∷ xs) ys h = cond-false (test x) (Some x) (find test (xs ++ ys)) h.0 ∙ find-past test xs ys h.1
 
 -- what is found passes
 pub found-passes : (test : NodeName → Bool) (xs : List NodeName) (y : NodeName) → find test xs ≡ Some y → test y ≡ true

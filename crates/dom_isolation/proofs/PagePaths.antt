@@ -19,7 +19,7 @@ use Rattle.dom_worlds.specs.Worlds.{IsWorld, IsOf, IsForeignTo}
 use Rattle.dom_worlds.proofs.Lists.{all-append, all-from, all-then, all-flat_map, filter-map, filter_none, filter_same, map_same, take_while_all}
 use Rattle.dom_worlds.proofs.ShadowTrees.{IsInTree, slot-in_tree, ancestors-in_tree, ancestors-owned, slot_way, slots-behind, slots-first}
 use Rattle.dom_isolation.proofs.Hiding.{host_chain-page, page-not_hidden, in_tree-hidden, retarget-page, retarget_related-page}
-use Rattle.dom_isolation.proofs.Dispatches.{is_page_view}
+use Rattle.dom_isolation.proofs.GroupVisits.{in_view}
 
 -- whether a node is the page's
 abbrev pub is_page_node : NodeName → Bool
@@ -149,7 +149,7 @@ view_at-page {near} {related} w target path x seen =
 -- the views at its page nodes are the page machine's
 pub views-page : {w : World} → IsWorld w → (target : NodeName) (related : Option NodeName) (composed : Bool) → target.owner ≡ Page →
     AllByRecursion (IsOf Page) (option_to_list related) →
-    filter is_page_view (views w target related composed) ≡ plain_views (part_of w Page).trees target related
+    filter (in_view is_page) (views w target related composed) ≡ plain_views (part_of w Page).trees target related
 views-page {w} i target related composed h g =
     let way = way_up w target in
     let up = ancestors_at w target in
@@ -163,8 +163,8 @@ views-page {w} i target related composed h g =
       path_seen = filter_same (λ y. not (is_hidden_from w x y)) is_page_node way
           (all-then (IsSeen w) (λ y. not (is_hidden_from w x y) ≡ is_page_node y) (λ y s. s x e) way (way-seen w i max_depth up owned)) ∙ pages;
     }) in
-    ap (λ path. filter is_page_view (map (view_at w target related path) path)) path_is
-    ∙ filter-map is_page_view (view_at w target related way) way ∙ ap (map (view_at w target related way)) pages
+    ap (λ path. filter (in_view is_page) (map (view_at w target related path) path)) path_is
+    ∙ filter-map (in_view is_page) (view_at w target related way) way ∙ ap (map (view_at w target related way)) pages
     ∙ map_same (view_at w target related way) (plain_view target related up) up
     (all-then (IsOf Page) (λ x. view_at w target related way x ≡ plain_view target related up x) at up owned)
     ∙ ap (λ o. plain_views (part_of w o).trees target related) h

@@ -1,70 +1,37 @@
 -- Notifications and the endings of turns: the tasks of components show the page nothing, and those of the page do what they do alone.
 -- So the ending of another component's turn before a line is unseen.
 use Rattle.std.proofs.Common.{◌≡◌, Bool, true, false, List, [], ◌∷◌, filter, Option, Some, None, refl, sym, ap, ◌∙◌, true≢false, ◌≢◌}
-use Rattle.std.proofs.Common.{ℕ, map, flat_map, append-nil}
+use Rattle.std.proofs.Common.{append-nil}
 use Rattle.std.specs.Prelude.{is_some, if◌then◌else◌}
 use Rattle.std.specs.Option.{option_map_or}
 use Rattle.std.proofs.lemmas.Bool.{cond-true, cond-false}
 use Rattle.dom_base.specs.declared.Owner.{Owner}
 use Rattle.dom_base.specs.declared.Owner.TheVariants.{Page, Component}
-use Rattle.dom_base.specs.declared.NodeName.{NodeName}
 use Rattle.dom_model.specs.Names.{ComponentName, owner_eq}
 use Rattle.dom_model.specs.Runs.{Run, quiet, run_each, run_then}
 use Rattle.dom_model.specs.World.{World, Task, micro_task, notify_task, part_of}
-use Rattle.dom_model.specs.Turns.{slotchange, firing_slotchange, is_owned_by, without_signals, notified, running_task, ending_turn, is_other_component}
-use Rattle.dom_model.specs.Turns.{has_other_turn, ending_other_turn, ending_any_turn, opening_turn, is_page_turn, records_of, notified_lines, notifying}
+use Rattle.dom_model.specs.Turns.{firing_slotchange, is_owned_by, without_signals, notified, running_task, ending_turn, is_other_component}
+use Rattle.dom_model.specs.Turns.{has_other_turn, ending_other_turn, ending_any_turn, opening_turn, is_page_turn, notified_lines, notifying}
 use Rattle.dom_model.specs.PageMachine.{page_of, page_task, page_turn_end, page_finish, is_page_task, PageState}
 use Rattle.dom_isolation.specs.Laws.{page_run}
 use Rattle.dom_worlds.specs.Reached.{Invariant}
 use Rattle.dom_worlds.proofs.Tests.{by_cases}
-use Rattle.std.specs.List.{AllByRecursion}
-use Rattle.dom_model.specs.Output.{Output, Change, says, recorded}
-use Rattle.dom_model.specs.Part.{Part, queue_of}
-use Rattle.dom_model.specs.Trace.{outputs_for, owner_of_output, is_of}
-use Rattle.dom_model.proofs.OwnerLaws.{owner_eq-true, ne-owner_eq}
-use Rattle.dom_model.proofs.PartLaws.{part_of-with_part, part_of-with_part-other, owner-part_of}
+use Rattle.dom_model.specs.Part.{Part}
+use Rattle.dom_model.specs.Trace.{is_page, outputs_for, owner_of_output, is_of}
+use Rattle.dom_model.proofs.OwnerLaws.{ne-owner_eq}
+use Rattle.dom_model.proofs.PartLaws.{part_of-with_part, owner-part_of}
 use Rattle.dom_model.proofs.StepLaws.{Component-IsNoPage}
 use Rattle.dom_worlds.specs.Worlds.{IsWorld, IsForeignTo}
-use Rattle.dom_worlds.proofs.Lists.{all-then, all-passed, filter_all, filter_none, all-append}
-use Rattle.dom_isolation.proofs.SeenRuns.{run_then-square, run_then-quiet, same_page_of}
-use Rattle.dom_isolation.proofs.Dispatches.{dispatch-nothing}
-use Rattle.dom_isolation.proofs.ComponentPaths.{views-kept_in}
-use Rattle.dom_worlds.proofs.TurnEndings.{quiet-dispatch, told_in, quiet-told, quiet-running, at_end, quiet-at_end}
-
--- The events at the slots of components.
-firing-quiet : {only_log : Bool} (w : World) → Invariant only_log w → (s : NodeName) → IsForeignTo Page s →
-    page_run (firing_slotchange w s) ≡ quiet (page_of w)
-firing-quiet w q s f = dispatch-nothing w s None slotchange q.world.page (views-kept_in w q.world s None f)
+use Rattle.dom_worlds.proofs.Lists.{all-then, filter_all, filter_none}
+use Rattle.dom_isolation.proofs.SeenRuns.{run_then-square, run_then-quiet, page_run-unseen}
+use Rattle.dom_isolation.proofs.Families.{page-is_group}
+use Rattle.dom_isolation.proofs.GroupTurns.{IsLineOf, lines-notified, notifying-out}
+use Rattle.dom_worlds.proofs.TurnEndings.{told_in, quiet-running, at_end, quiet-at_end}
 
 -- a run and then another that both show nothing
 pub quiet_then : (r : Run World) (s : PageState) (f : World → Run World) → page_run r ≡ quiet s → page_run (f r.0) ≡ quiet (page_of r.0) →
     page_run (run_then r f) ≡ quiet s
 quiet_then r s f a b = run_then-quiet r f b ∙ ap (λ (x : Run PageState). run_then x quiet) a
-
--- all of them show nothing
-firings-quiet : {only_log : Bool} (ss : List NodeName) (w : World) → Invariant only_log w → AllByRecursion (IsForeignTo Page) ss →
-    page_run (run_each firing_slotchange w ss) ≡ quiet (page_of w)
-firings-quiet [] w q h = refl
-firings-quiet (s ∷ ss) w q h =
-    quiet_then (firing_slotchange w s) (page_of w) (λ v. run_each firing_slotchange v ss) (firing-quiet w q s h.0)
-    (firings-quiet ss (firing_slotchange w s).0 (quiet-dispatch w s None slotchange q) h.1)
-
--- The lines of a notification are its owner's.
-abbrev pub IsLineOf : Owner → Output → Type 0
-IsLineOf o l = owner_of_output l ≡ Some o
-
--- lines of records
-all-said : (o : Owner) (k : ℕ) (cs : List (Change NodeName)) → AllByRecursion (IsLineOf o) (map (λ c. says o (recorded k c)) cs)
-all-said o k [] = tt
-all-said o k (c ∷ cs) = (refl, all-said o k cs)
-
--- all lines of a notification
-pub lines-notified : (p : Part) → AllByRecursion (IsLineOf p.owner) (notified_lines p)
-lines-notified p = each p.pending
-  where
-    each : (ks : List ℕ) → AllByRecursion (IsLineOf p.owner) (flat_map (records_of p) ks)
-    each [] = tt
-    each (k ∷ ks) = all-append (IsLineOf p.owner) (records_of p k) (flat_map (records_of p) ks) (all-said p.owner k (queue_of p.record_queues k)) (each ks)
 
 -- the page sees those of the page
 page-notified_lines : (p : Part) → p.owner ≡ Page → outputs_for Page (notified_lines p) ≡ notified_lines p
@@ -73,32 +40,9 @@ page-notified_lines p h =
     (all-then (IsLineOf p.owner) (λ l. is_of (owner_eq Page) (owner_of_output l) ≡ true) (λ l e. ap (is_of (owner_eq Page)) (e ∙ ap Some h))
     (notified_lines p) (lines-notified p))
 
--- another owner is not the page
-page_ne : (o : Owner) → o ≢ Page → owner_eq Page o ≡ false
-page_ne Page f = absurd (f refl)
-page_ne (Component k) f = refl
-
--- and none of another owner
-other-notified_lines : (p : Part) → p.owner ≢ Page → outputs_for Page (notified_lines p) ≡ []
-other-notified_lines p h =
-    filter_none (λ l. is_of (owner_eq Page) (owner_of_output l)) (notified_lines p)
-    (all-then (IsLineOf p.owner) (λ l. is_of (owner_eq Page) (owner_of_output l) ≡ false)
-    (λ l e. ap (is_of (owner_eq Page)) e ∙ page_ne p.owner h) (notified_lines p) (lines-notified p))
-
--- slots of a component are no page nodes
-slots-owned : (o : Owner) → o ≢ Page → (ss : List NodeName) → AllByRecursion (IsForeignTo Page) (filter (is_owned_by o) ss)
-slots-owned o f ss = all-passed (IsForeignTo Page) (is_owned_by o) (λ s h e. f (sym (owner_eq-true s.owner o h) ∙ e)) ss
-
 -- a component's notification shows nothing
 pub notifying-other : {only_log : Bool} (w : World) (o : Owner) → o ≢ Page → Invariant only_log w → page_run (notifying w o) ≡ quiet (page_of w)
-notifying-other w o f q =
-    let first : page_run (told_in w o, notified_lines (part_of w o)) ≡ quiet (page_of w) =
-    ap (λ s. (s, outputs_for Page (notified_lines (part_of w o))))
-    (same_page_of (told_in w o) w (part_of-with_part-other (without_signals w o) (notified (part_of w o)) Page
-    (λ e. f (sym (owner-part_of w o) ∙ e))) refl refl)
-    ∙ ap (λ ls. (page_of w, ls)) (other-notified_lines (part_of w o) (λ e. f (sym (owner-part_of w o) ∙ e))) in
-    quiet_then (told_in w o, notified_lines (part_of w o)) (page_of w) (λ v. run_each firing_slotchange v (filter (is_owned_by o) w.signalled)) first
-    (firings-quiet (filter (is_owned_by o) w.signalled) (told_in w o) (quiet-told w o q) (slots-owned o f w.signalled))
+notifying-other w o f q = page_run-unseen (notifying w o) w (notifying-out is_page page-is_group w q o (ne-owner_eq o Page f))
 
 -- the page has no signalled slots
 pub no_page_slots : (w : World) → IsWorld w → filter (is_owned_by Page) w.signalled ≡ []

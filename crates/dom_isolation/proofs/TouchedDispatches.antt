@@ -29,10 +29,9 @@ use Rattle.dom_worlds.proofs.Visits.{InWorld, part_of-visits, rest-visits, with_
 use Rattle.dom_isolation.specs.FullLaws.{OwnIsThere}
 use Rattle.dom_isolation.specs.Interference.{Interference, is_own_visit, interference_at}
 use Rattle.dom_isolation.specs.TouchedMachines.{first_visits}
-use Rattle.dom_isolation.proofs.Dispatches.{all-first, first-none}
 use Rattle.dom_isolation.proofs.GroupParts.{in_node}
 use Rattle.dom_isolation.proofs.OwnVisits.{in_line, group_going, visit-in}
-use Rattle.dom_isolation.proofs.Touches.{alike-start, visits-touched}
+use Rattle.dom_isolation.proofs.Touches.{all-first, first-none, alike-start, visits-touched}
 use Rattle.dom_isolation.specs.SilentRuns.{dispatch_under}
 use Rattle.dom_isolation.proofs.GroupVisits.{in_view, group_visits, outputs-event_lines, group_dispatched}
 use Rattle.dom_isolation.proofs.GroupViews.{views-in}

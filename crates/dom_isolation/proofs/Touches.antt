@@ -1,6 +1,6 @@
 -- What a group has of all visits of an event is what the first visits at its own nodes do: as many as others let it come to.
-use Rattle.std.proofs.Common.{◌≡◌, ℕ, suc, Bool, true, false, not, ◌&&◌, ◌||◌, List, [], ◌∷◌, filter, fold, Option, Some, None, option_map, unwrap_or, refl}
-use Rattle.std.proofs.Common.{sym, ap, ◌∙◌, true≢false, subst}
+use Rattle.std.proofs.Common.{◌≡◌, ℕ, zero, suc, Bool, true, false, not, ◌&&◌, ◌||◌, List, [], ◌∷◌, filter, fold, Option, Some, None, option_map, unwrap_or, refl}
+use Rattle.std.proofs.Common.{take, sym, ap, ◌∙◌, true≢false, subst}
 use Rattle.std.specs.Prelude.{is_some, if◌then◌else◌}
 use Rattle.std.specs.List.{AllByRecursion}
 use Rattle.std.proofs.lemmas.Bool.{cond-true, cond-false, and_parts}
@@ -76,6 +76,22 @@ now-cancelled false false false false e h = refl
 first-one_more : {A : Type 0} (k : Option ℕ) (x : A) (xs : List A) → first_visits (option_map suc k) (x ∷ xs) ≡ x ∷ first_visits k xs
 first-one_more None x xs = refl
 first-one_more (Some k) x xs = refl
+
+-- Of the first visits holds what holds of all, and of none there are none.
+pub all-first : {X : Type 0} (P : X → Type 0) (reached : Option ℕ) (xs : List X) → AllByRecursion P xs → AllByRecursion P (first_visits reached xs)
+all-first P None xs h = h
+all-first {X = X} P (Some k) xs h = some k xs h
+  where
+    some : (k : ℕ) (xs : List X) → AllByRecursion P xs → AllByRecursion P (take k xs)
+    some zero xs h = tt
+    some (suc k) [] h = tt
+    some (suc k) (x ∷ xs) h = (h.0, some k xs h.1)
+
+-- of none
+pub first-none : {X : Type 0} (reached : Option ℕ) → first_visits {A = X} reached [] ≡ []
+first-none None = refl
+first-none (Some zero) = refl
+first-none (Some (suc k)) = refl
 
 module _ (g : Owner → Bool) where
   -- who is there is there behind a visit

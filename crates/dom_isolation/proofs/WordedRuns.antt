@@ -40,7 +40,7 @@ use Rattle.dom_text.proofs.TextLaws.{HasWord, HasOwner}
 use Rattle.dom_worlds.proofs.Lists.{all-append, all-from, all-then, all-map}
 use Rattle.dom_worlds.proofs.TableEffects.{KeepsBase, base-effect}
 use Rattle.dom_worlds.proofs.Tests.{either_way}
-use Rattle.dom_isolation.proofs.PageTurns.{IsLineOf, lines-notified}
+use Rattle.dom_isolation.proofs.GroupTurns.{IsLineOf, lines-notified}
 use Rattle.dom_worlds.proofs.WorldParts.{HoldsIn, IsKeptIn, holds-with_part, holds-world_after}
 
 -- a part that says nothing of its own: no listeners, registrations and pending observers
