@@ -10,7 +10,7 @@ use Rattle.dom_base.specs.declared.NodeName.{NodeName}
 use Rattle.dom_model.specs.Names.{name_eq, owner_eq, is_in, is_empty, append_once, distinct, list_eq, max_depth}
 use Rattle.dom_model.specs.Tree.{node_in, parent_of}
 use Rattle.dom_model.specs.Part.{Part}
-use Rattle.dom_model.specs.Steps.{Step, make, make_room, place, take_out, set_document, set_attribute, replace_data, split_at, join_at, set_range}
+use Rattle.dom_model.specs.Steps.{Step, place, take_out, set_document, set_attribute}
 use Rattle.dom_model.specs.Steps.{queue_record, part_step, is_taken}
 use Rattle.dom_model.specs.World.{World, Task, micro_task, notify_task, part_of, with_part, is_notify_of, queued_notify, with_notify}
 use Rattle.dom_model.specs.World.{components_below, shadow_root_of, is_in_shadow_tree}
@@ -248,14 +248,7 @@ module _ (g : Owner → Bool) (closed : KeepsMakers g) where
       notify : (b : Bool) (u : World) → group_world g (with_notify_if b o u) ≡ with_notify_if b o (group_world g u)
       notify true u = with_notify-in g o h u
       notify false u = refl
-  step-in o h w i (make n) = whole o w (make n) (stepped-in g o h w (make n))
-  step-in o h w i (make_room parent index count) = whole o w (make_room parent index count) (stepped-in g o h w (make_room parent index count))
-  step-in o h w i (replace_data x offset count new) = whole o w (replace_data x offset count new) (stepped-in g o h w (replace_data x offset count new))
-  step-in o h w i (split_at x offset new parent index) =
-      whole o w (split_at x offset new parent index) (stepped-in g o h w (split_at x offset new parent index))
-  step-in o h w i (join_at first size next parent index) =
-      whole o w (join_at first size next parent index) (stepped-in g o h w (join_at first size next parent index))
-  step-in o h w i (set_range k r) = whole o w (set_range k r) (stepped-in g o h w (set_range k r))
+  step-in o h w i s = whole o w s (stepped-in g o h w s)
 
   -- so many steps do the same in two worlds of which the group has the same
   pub steps-in : (o : Owner) → g o ≡ true → (steps : List Step) (w v : World) → IsSameGround g w v →
@@ -321,12 +314,7 @@ module _ (g : Owner → Bool) (closed : KeepsMakers g) where
         notify : (b : Bool) (u : World) → group_world g (with_notify_if b o u) ≡ group_world g u
         notify true u = with_notify-out g o h u
         notify false u = refl
-    step-out w i (make n) f = stepped-out g o h w (make n)
-    step-out w i (make_room parent index count) f = stepped-out g o h w (make_room parent index count)
-    step-out w i (replace_data x offset count new) f = stepped-out g o h w (replace_data x offset count new)
-    step-out w i (split_at x offset new parent index) f = stepped-out g o h w (split_at x offset new parent index)
-    step-out w i (join_at first size next parent index) f = stepped-out g o h w (join_at first size next parent index)
-    step-out w i (set_range k r) f = stepped-out g o h w (set_range k r)
+    step-out w i s f = stepped-out g o h w s
 
     -- nor are many
     pub steps-out : (steps : List Step) (w : World) → IsGround w → MadeIn (part_of w o) steps →

@@ -19,6 +19,7 @@ mod QuietPages
 pub mod PageRuns
 pub mod PageTexts
 mod PlainWords
+mod SaidRuns
 mod PlainRuns
 mod PlainCommands
 pub mod PlainLines

@@ -1,40 +1,31 @@
--- Words without line feeds: every line and every script keeps them and says no others.
-use Rattle.std.proofs.Common.{ℕ, true, false, length, List, [], ◌∷◌, ◌++◌, map, not, Option, Some, None, option_map}
-use Rattle.std.specs.Prelude.{⊤, slice_get, is_some}
+-- Words without line feeds: every command keeps them and says no others, and so does every script.
+use Rattle.std.proofs.Common.{ℕ, true, false, List, [], ◌∷◌, ◌++◌, not, Option, Some, None}
+use Rattle.std.specs.Prelude.{⊤, slice_get}
 use Rattle.std.specs.List.{AllByRecursion, list_any}
 use Rattle.std.specs.Option.{option_map_or}
 use Rattle.dom_base.specs.declared.Owner.{Owner}
 use Rattle.dom_base.specs.declared.Owner.TheVariants.{Page, Component}
 use Rattle.dom_base.specs.declared.NodeName.{NodeName}
-use Rattle.dom_base.specs.declared.Kind.TheVariants.{Shadow}
-use Rattle.dom_base.specs.declared.Refusal.{Refusal}
-use Rattle.dom_base.specs.declared.Refusal.TheVariants.{Syntax}
 use Rattle.dom_model.specs.Names.{name_eq}
-use Rattle.dom_model.specs.Tree.{node_in}
-use Rattle.dom_model.specs.Command.{Command, Line, no_owner, no_command, command, ListenerWords}
+use Rattle.dom_model.specs.Command.{Command, ListenerWords}
 use Rattle.dom_model.specs.CommandNames.{named}
-use Rattle.dom_model.specs.DocumentMachine.{first_world, part_with_root, refusal, effect_in, attaching, perform, accepted, run_command, step}
-use Rattle.dom_model.specs.DocumentMachine.{run_lines, finish, outputs_of}
-use Rattle.dom_model.specs.Dispatch.{dispatch_in}
+use Rattle.dom_model.specs.DocumentMachine.{first_world}
 use Rattle.dom_model.specs.Effects.{Effect, tables, changes, effect, answers, moves_iterator, sets_walker, node_or_null, string_or_null}
 use Rattle.dom_model.specs.Listeners.{Listener, is_listener, listened}
-use Rattle.dom_model.specs.Output.{Said, Value, nothing, a_node, a_string, boundaries, reference, says, recorded}
+use Rattle.dom_model.specs.Output.{Value, a_tree, nothing, a_node, a_string, boundaries, reference, says, recorded}
 use Rattle.dom_model.specs.Part.{Part, range_at, queue_of}
 use Rattle.dom_model.specs.RangeOps.{range_text_of}
 use Rattle.dom_model.specs.Ranges.{Range}
-use Rattle.dom_model.specs.Runs.{answering, refusing, unless_refused}
 use Rattle.dom_model.specs.Traversal.{Iterator, Walker, iterator_next_node, iterator_previous_node, walker_move}
-use Rattle.dom_model.specs.Turns.{ending_turn, ending_other_turn, opening_turn}
-use Rattle.dom_model.specs.World.{World, micro_task, part_of, with_part, component_made}
+use Rattle.dom_model.specs.World.{part_of}
 use Rattle.dom_isolation.specs.Words.{HasNoFeed, HasPlainWords, IsPlainLine}
 use Rattle.dom_worlds.proofs.Lists.{all-append, all-filter, all-map}
 use Rattle.dom_worlds.proofs.Tests.{either_way}
 use Rattle.dom_worlds.proofs.TreeChangeLaws.{nodes-subtree}
 use Rattle.dom_worlds.proofs.PlanCommands.{Makes, MayDo, made-effect}
 use Rattle.dom_isolation.proofs.PlainWords.{IsPlainNode, IsPlainListener, IsPlainQueue, IsPlainPart, IsPlainStep, plain-queue, plain-queue_set, plain-rules}
-use Rattle.dom_worlds.proofs.WorldParts.{holds-with_part, holds-world_after}
-use Rattle.dom_isolation.proofs.PlainRuns.{IsPlainTask, IsPlainWorld, IsPlainValue, IsPlainSaid, IsPlainOutput, IsPlainRun, plain-run_then}
-use Rattle.dom_isolation.proofs.PlainRuns.{plain-run_each, plain-steps, plain-dispatch, plain-ending_turn, plain-ending_other, plain-ending_any}
+use Rattle.dom_isolation.proofs.PlainRuns.{IsPlainTask, IsPlainValue, IsPlainSaid, IsPlainOutput, plain-steps, plain-visited, plain-notified}
+use Rattle.dom_isolation.proofs.SaidRuns.{KeepsSaying, SaysEffect, HasNoTree}
 
 -- What an effect leaves in tables and says.
 abbrev IsPlainEffect : Effect → Type 0
@@ -144,84 +135,37 @@ plain-may_do p (Command.unset_attribute a b) h = ((λ old. h), h)
 plain-may_do p (Command.insert_node a b) h = λ range e. tt
 plain-may_do p c h = tt
 
--- lines before the reply
-plain-says : (o : Owner) (ss : List Said) → AllByRecursion IsPlainSaid ss → AllByRecursion IsPlainOutput (map (says o) ss)
-plain-says o ss h = all-map IsPlainOutput (says o) ss h
-
--- An accepted command.
-plain-effect_in : (w : World) (o : Owner) (c : Command) → IsPlainWorld w → HasPlainWords c → IsPlainRun (effect_in w o (effect (part_of w o) c))
-plain-effect_in w o c h g = from (effect (part_of w o) c) (plain-effect (part_of w o) (h.parts o) c g)
-    (made-effect plain-rules (part_of w o) (h.parts o) c (plain-may_do (part_of w o) c g))
+-- an effect of a command
+plain-effect_of : (o : Owner) (c : Command) (p : Part) → IsPlainPart p → HasPlainWords c → SaysEffect IsPlainPart IsPlainStep IsPlainOutput o (effect p c)
+plain-effect_of o c p i h = from (effect p c) (plain-effect p i c h) (made-effect plain-rules p i c (plain-may_do p c h))
   where
-    from : (e : Effect) → IsPlainEffect e → Makes IsPlainStep e → IsPlainRun (effect_in w o e)
-    from (tables p lines v) k m = plain-run_then (with_part w p, map (says o) lines) (answering o v)
-        (holds-with_part plain-steps w p h k.0, plain-says o lines k.1) (λ u i. (i, (k.2, tt)))
-    from (changes steps v) k m = (holds-world_after plain-steps o steps w h m, (k, tt))
+    from : (e : Effect) → IsPlainEffect e → Makes IsPlainStep e → SaysEffect IsPlainPart IsPlainStep IsPlainOutput o e
+    from (tables q lines v) k m = (k.0, all-map IsPlainOutput (says o) lines k.1, k.2)
+    from (changes steps v) k m = (m, k)
 
--- attaching
-plain-attaching : (w : World) (o : Owner) (x : NodeName) → IsPlainWorld w → IsPlainRun (attaching w o x)
-plain-attaching w o x h =
-    let p = part_of w o in
-    let marked = with_part w (record p { attached = p.attached ++ x ∷ [] }) in
-    let c = component_made o (length p.attached) in (
-      holds-with_part plain-steps marked (part_with_root c Shadow (node_in p.trees x).document)
-          (holds-with_part plain-steps w (record p { attached = p.attached ++ x ∷ [] }) h (h.parts o)) (((tt, tt), tt, tt), tt, tt),
-      (tt, tt),
-    )
+-- a reply other than a tree
+plain-replied : (v : Value) → HasNoTree v → IsPlainValue v
+plain-replied (a_tree ts) h = absurd h
+plain-replied v h = tt
 
--- every command
-plain-perform : (w : World) (o : Owner) (c : Command) → IsPlainWorld w → HasPlainWords c → IsPlainRun (perform w o c)
-plain-perform w o (Command.attach x) h g = plain-attaching w o (named (part_of w o) x) h
-plain-perform w o (Command.connected x) h g = (h, (tt, tt))
-plain-perform w o (Command.assigned x) h g = (h, (tt, tt))
-plain-perform w o (Command.dispatch x e related) h g =
-    let p = part_of w o in
-    plain-run_then (dispatch_in w (named p x) (option_map (named p) related) e).run (answering o _)
-    (plain-dispatch w (named p x) (option_map (named p) related) e h) (λ u i. (i, (tt, tt)))
-plain-perform w o (Command.micro label) h g =
-    (record { parts = h.parts; tasks = all-append IsPlainTask w.tasks (micro_task o label ∷ []) h.tasks (g, tt) }, (tt, tt))
-plain-perform w o Command.end_turn h g = plain-run_then (ending_turn w) (answering o nothing) (plain-ending_turn w h) (λ u i. (i, (tt, tt)))
-plain-perform w o c h g = plain-effect_in w o c h g
-
--- the turn that it opens
-plain-opening : (w : World) (o : Owner) → IsPlainWorld w → IsPlainWorld (opening_turn w o)
-plain-opening w o h = either_way IsPlainWorld (is_some w.turn) w (record w { turn = Some o }) h (record { parts = h.parts; tasks = h.tasks })
-
--- with that turn
-plain-accepted : (w : World) (o : Owner) (c : Command) → IsPlainWorld w → HasPlainWords c → IsPlainRun (accepted w o c)
-plain-accepted w o Command.end_turn h g = plain-perform w o Command.end_turn h g
-plain-accepted w o c h g = plain-perform (opening_turn w o) o c (plain-opening w o h) g
-
--- refused or accepted
-plain-run_command : (o : Owner) (c : Command) (w : World) → IsPlainWorld w → HasPlainWords c → IsPlainRun (run_command o c w)
-plain-run_command o c w h g = from (refusal w o c)
+-- what is asked of runs
+pub plain-saying : KeepsSaying IsPlainPart IsPlainStep IsPlainTask IsPlainOutput IsPlainLine
+plain-saying = record {
+  steps = plain-steps;
+  visit = λ e v p d o i g. let k = plain-visited e v (record d { listeners = p.listeners }) (i.1, g) in ((i.0, k.0, i.2), k.1);
+  notified = plain-notified;
+  ran = λ o label h. h;
+  nobody = tt;
+  wordless = λ o h. tt;
+  refused = λ o c r h. tt;
+  replied = λ o c v h g. plain-replied v h;
+  micro = λ o label h. h;
+  attached = λ p x i. i;
+  root = λ o d. (((tt, tt), tt, tt), tt, tt);
+  effect = λ o c p e i h. plain-effect_of o c p i h;
+  first = first;
+}
   where
-    from : (r : Option Refusal) → IsPlainRun (unless_refused o r w (accepted w o c))
-    from (Some r) = (h, (tt, tt))
-    from None = plain-accepted w o c h g
-
--- A line, and scripts.
-plain-step : (w : World) (l : Line) → IsPlainWorld w → IsPlainLine l → IsPlainRun (step w l)
-plain-step w no_owner h g = (h, (tt, tt))
-plain-step w (no_command o) h g = plain-run_then (ending_other_turn w o) (refusing o Syntax) (plain-ending_other w o h) (λ u i. (i, (tt, tt)))
-plain-step w (command o c) h g = plain-run_then (ending_other_turn w o) (run_command o c) (plain-ending_other w o h) (λ u i. plain-run_command o c u i g)
-
--- the first world
-plain-first : IsPlainWorld first_world
-plain-first = record { parts = parts; tasks = tt }
-  where
-    parts : (o : Owner) → IsPlainPart (part_of first_world o)
-    parts Page = (((tt, tt), tt, tt), tt, tt)
-    parts (Component k) = (tt, tt, tt)
-
--- the lines of a script, run from the first world
-plain-run : (ls : List Line) → AllByRecursion IsPlainLine ls → IsPlainRun (run_lines first_world ls)
-plain-run ls h = plain-run_each IsPlainLine step plain-step ls plain-first h
-
--- what they say
-pub plain-outputs_so_far : (ls : List Line) → AllByRecursion IsPlainLine ls → AllByRecursion IsPlainOutput (run_lines first_world ls).1
-plain-outputs_so_far ls h = (plain-run ls h).1
-
--- all lines of output of a script
-pub plain-outputs : (ls : List Line) → AllByRecursion IsPlainLine ls → AllByRecursion IsPlainOutput (outputs_of ls)
-plain-outputs ls h = (plain-run_then (run_lines first_world ls) finish (plain-run ls h) plain-ending_any).1
+    first : (o : Owner) → IsPlainPart (part_of first_world o)
+    first Page = (((tt, tt), tt, tt), tt, tt)
+    first (Component k) = (tt, tt, tt)

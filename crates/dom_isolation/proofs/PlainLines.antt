@@ -17,15 +17,15 @@ use Rattle.dom_base.specs.declared.Refusal.{Refusal}
 use Rattle.dom_base.specs.declared.Refusal.TheVariants.{Syntax}
 use Rattle.dom_model.specs.Command.{Command, Line, no_owner, no_command, command}
 use Rattle.dom_model.specs.Names.{ComponentName, DomString, owner_eq}
-use Rattle.dom_model.specs.Output.{Change, child_list, attributes, character_data, EventLine, Boundary, Value, nothing, null, a_node, a_list}
-use Rattle.dom_model.specs.Output.{a_component, a_range, an_iterator, a_walker, an_observer, a_string, a_truth, a_count, a_tree, boundaries}
-use Rattle.dom_model.specs.Output.{reference, Said, replied, refused, event_seen, recorded, micro_ran, Output, bad_owner, says}
+use Rattle.dom_model.specs.Output.{Change, child_list, attributes, character_data, EventLine, Boundary, Value}
+use Rattle.dom_model.specs.Output.{a_tree}
+use Rattle.dom_model.specs.Output.{Said, replied, refused, event_seen, recorded, micro_ran, Output, bad_owner, says}
 use Rattle.dom_model.specs.Tree.{Trees, none, tree, Node, Attribute}
 use Rattle.dom_text.specs.Decode.{decode}
 use Rattle.dom_text.specs.Grammar.{Says, Spells, parts}
 use Rattle.dom_text.specs.Lines.{line_feed, lines_of}
 use Rattle.dom_text.specs.Text.{hex_digits, unit_text, string_text, string_or_null, node_text_of, node_text, node_or_null, next_node_text, nodes_text}
-use Rattle.dom_text.specs.Text.{list_text, numbered_text, attribute_text, own_parts, opening_text, trees_text, boundary_text, truth_text, side_text}
+use Rattle.dom_text.specs.Text.{list_text, attribute_text, own_parts, opening_text, trees_text, boundary_text, truth_text, side_text}
 use Rattle.dom_text.specs.Text.{value_text, event_text, change_text, said_text, output_line, output_text}
 use Rattle.dom_text.specs.Tokens.{IsWord, IsWordByte, IsLabel, is_label_byte}
 use Rattle.dom_text.specs.Words.{next_number_text, numbers_text, component_word, owner_word, kind_word}
@@ -55,14 +55,6 @@ plain-key : (name : List ℕ) → list_all (λ b. not (eqb b line_feed)) name �
 plain-key [] h = tt
 plain-key (b ∷ bs) h = let both = and_parts (not (eqb b line_feed)) (list_all (λ b. not (eqb b line_feed)) bs) h in
     (not-true (eqb b line_feed) both.0, plain-key bs both.1)
-
--- one text and then another
-and_then : (a b : List ℕ) → HasNoFeed a → HasNoFeed b → HasNoFeed (a ++ b)
-and_then a b h g = all-append IsNoFeed a b h g
-
--- a text behind a word that is written out
-behind_key : (name b : List ℕ) → list_all (λ b. not (eqb b line_feed)) name ≡ true → HasNoFeed b → HasNoFeed (name ++ b)
-behind_key name b h g = and_then name b (plain-key name h) g
 
 -- Numbers.
 plain-glyph : (upper : Bool) (d : ℕ) → IsNoFeed (digit_glyph upper d)
@@ -96,16 +88,13 @@ plain-unit u =
     by_cases quoted (λ e. subst HasNoFeed (sym (cond-true quoted (92 ∷ u ∷ []) other e)) (refl, (passes (λ v. eqb v 34 || eqb v 92) refl u e, tt)))
     (λ e. subst HasNoFeed (sym (cond-false quoted (92 ∷ u ∷ []) other e))
     (by_cases plain (λ f. subst HasNoFeed (sym (cond-true plain (u ∷ []) escaped f)) (passes (is_in_range 0x20 0x7E) refl u f, tt))
-    (λ f. subst HasNoFeed (sym (cond-false plain (u ∷ []) escaped f))
-    (refl, (refl, (plain-digit (u / 4096), (plain-digit (u / 256 % 16), (plain-digit (u / 16 % 16), (plain-digit (u % 16), tt)))))))))
+    (λ f. subst HasNoFeed (sym (cond-false plain (u ∷ []) escaped f)) (search plain-digit))))
 
 -- a string
 plain-string : (units : DomString) → HasNoFeed (string_text units)
-plain-string units = (
-  refl,
-  and_then (flat_map unit_text units) (34 ∷ [])
-      (all-flat_map IsNoFeed unit_text units (all-from (λ u. HasNoFeed (unit_text u)) plain-unit units)) (refl, tt),
-)
+plain-string units =
+    let inner = all-flat_map IsNoFeed unit_text units (all-from (λ u. HasNoFeed (unit_text u)) plain-unit units) in
+    (refl, all-append IsNoFeed (flat_map unit_text units) (34 ∷ []) inner (refl, tt))
 
 -- or `null`
 plain-string_or_null : (o : Option DomString) → HasNoFeed (string_or_null o)
@@ -113,31 +102,26 @@ plain-string_or_null None = plain-key (codes "null") refl
 plain-string_or_null (Some units) = plain-string units
 
 -- Names.
-plain-numbered : (letter : List ℕ) (n : ℕ) → list_all (λ b. not (eqb b line_feed)) letter ≡ true → HasNoFeed (letter ++ decimal n)
-plain-numbered letter n h = behind_key letter (decimal n) h (plain-decimal n)
-
--- a component's word
 plain-component : (q : ComponentName) → HasNoFeed (component_word q)
-plain-component q = behind_key (codes "c") (numbers_text (take q.depth q.parts)) refl (plain-numbers (take q.depth q.parts))
+plain-component q = (refl, plain-numbers (take q.depth q.parts))
   where
     plain-numbers : (ns : List ℕ) → HasNoFeed (numbers_text ns)
     plain-numbers [] = tt
     plain-numbers (n ∷ ns) =
-        and_then (decimal n) (flat_map next_number_text ns) (plain-decimal n)
-        (all-flat_map IsNoFeed next_number_text ns (all-from (λ m. HasNoFeed (next_number_text m)) (λ m. plain-numbered (codes ".") m refl) ns))
+        all-append IsNoFeed (decimal n) (flat_map next_number_text ns) (plain-decimal n)
+        (all-flat_map IsNoFeed next_number_text ns (all-from (λ m. HasNoFeed (next_number_text m)) (λ m. (refl, plain-decimal m)) ns))
 
 -- an owner's word
 plain-owner : (o : Owner) → HasNoFeed (owner_word o)
-plain-owner Page = plain-key (codes "p") refl
+plain-owner Page = (refl, tt)
 plain-owner (Component k) = plain-component k
 
 -- a node, by its owner and number
 plain-node_of : (viewer o : Owner) (j : ℕ) → HasNoFeed (node_text_of viewer o j)
-plain-node_of viewer Page j = plain-numbered (codes "n") j refl
+plain-node_of viewer Page j = (refl, plain-decimal j)
 plain-node_of viewer (Component k) j =
-    let front = and_then (component_word k) (codes ":m") (plain-component k) (plain-key (codes ":m") refl) in
     either_way HasNoFeed (owner_eq viewer (Component k)) (codes "m" ++ decimal j) (component_word k ++ codes ":m" ++ decimal j)
-    (plain-numbered (codes "m") j refl) (and_then (component_word k ++ codes ":m") (decimal j) front (plain-decimal j))
+    (refl, plain-decimal j) (search (all-append, plain-component, plain-decimal))
 
 -- a node
 plain-node : (viewer : Owner) (x : NodeName) → HasNoFeed (node_text viewer x)
@@ -152,61 +136,42 @@ plain-node_or_null viewer (Some x) = plain-node viewer x
 plain-nodes : (viewer : Owner) (xs : List NodeName) → HasNoFeed (nodes_text viewer xs)
 plain-nodes viewer [] = tt
 plain-nodes viewer (x ∷ xs) =
-    and_then (node_text viewer x) (flat_map (next_node_text viewer) xs) (plain-node viewer x)
-    (all-flat_map IsNoFeed (next_node_text viewer) xs
-    (all-from (λ y. HasNoFeed (next_node_text viewer y)) (λ y. behind_key (codes ",") (node_text viewer y) refl (plain-node viewer y)) xs))
+    all-append IsNoFeed (node_text viewer x) (flat_map (next_node_text viewer) xs) (plain-node viewer x)
+    (all-flat_map IsNoFeed (next_node_text viewer) xs (all-from (λ y. HasNoFeed (next_node_text viewer y)) (λ y. (refl, plain-node viewer y)) xs))
 
 -- nodes in brackets
 plain-list : (viewer : Owner) (xs : List NodeName) → HasNoFeed (list_text viewer xs)
-plain-list viewer xs = and_then (codes "[" ++ nodes_text viewer xs) (codes "]")
-    (behind_key (codes "[") (nodes_text viewer xs) refl (plain-nodes viewer xs)) (plain-key (codes "]") refl)
+plain-list viewer xs = search (all-append, plain-nodes)
 
 -- Trees.
 plain-attribute : (a : Attribute) → IsPlainAttribute a → HasNoFeed (attribute_text a)
-plain-attribute a h = and_then (codes " " ++ a.name ++ codes "=") (string_text a.value)
-    (and_then (codes " " ++ a.name) (codes "=") (behind_key (codes " ") a.name refl h) (plain-key (codes "=") refl)) (plain-string a.value)
+plain-attribute a h = search (all-append, plain-string, h)
 
 -- what stands behind the kind of a node
 plain-own_parts : (k : Kind) (n : Node) → IsPlainNode n → HasNoFeed (own_parts k n)
 plain-own_parts kinds.Element n h =
-    and_then (codes " " ++ n.element) (flat_map attribute_text n.attributes) (behind_key (codes " ") n.element refl h.0)
-    (all-flat_map IsNoFeed attribute_text n.attributes (all-then IsPlainAttribute (λ a. HasNoFeed (attribute_text a)) plain-attribute n.attributes h.1))
-plain-own_parts kinds.Text n h = behind_key (codes " ") (string_text n.text) refl (plain-string n.text)
-plain-own_parts kinds.Comment n h = behind_key (codes " ") (string_text n.text) refl (plain-string n.text)
-plain-own_parts k n h = tt
+    let attributes =
+    all-flat_map IsNoFeed attribute_text n.attributes (all-then IsPlainAttribute (λ a. HasNoFeed (attribute_text a)) plain-attribute n.attributes h.1) in
+    search (all-append, h.0, attributes)
+plain-own_parts k n h = search plain-string
 
 -- the word of a kind
-plain-kind : (k : Kind) → list_all (λ b. not (eqb b line_feed)) (kind_word k) ≡ true
-plain-kind kinds.Element = refl
-plain-kind k = refl
+plain-kind : (k : Kind) → HasNoFeed (kind_word k)
+plain-kind kinds.Element = plain-key (kind_word kinds.Element) refl
+plain-kind k = plain-key (kind_word k) refl
 
 -- a tree up to its children
 plain-opening : (viewer : Owner) (n : Node) → IsPlainNode n → HasNoFeed (opening_text viewer n)
-plain-opening viewer n h =
-    let name = codes "(" ++ node_text viewer n.name in
-    and_then (name ++ codes " " ++ kind_word n.kind) (own_parts n.kind n)
-    (and_then (name ++ codes " ") (kind_word n.kind)
-    (and_then name (codes " ") (behind_key (codes "(") (node_text viewer n.name) refl (plain-node viewer n.name))
-    (plain-key (codes " ") refl)) (plain-key (kind_word n.kind) (plain-kind n.kind)))
-    (plain-own_parts n.kind n h)
+plain-opening viewer n h = search (all-append, plain-node, plain-kind n.kind, plain-own_parts n.kind n h)
 
 -- trees
 plain-trees : (viewer : Owner) (ts : Trees) → AllNodes IsPlainNode ts → HasNoFeed (trees_text viewer ts)
 plain-trees viewer none h = tt
-plain-trees viewer (tree n c r) h =
-    let opening = codes " " ++ opening_text viewer n in
-    and_then (opening ++ trees_text viewer c ++ codes ")") (trees_text viewer r)
-    (and_then (opening ++ trees_text viewer c) (codes ")")
-    (and_then opening (trees_text viewer c) (behind_key (codes " ") (opening_text viewer n) refl (plain-opening viewer n h.0))
-    (plain-trees viewer c h.1)) (plain-key (codes ")") refl))
-    (plain-trees viewer r h.2)
+plain-trees viewer (tree n c r) h = search (all-append, plain-opening viewer n h.0, plain-trees viewer c h.1, plain-trees viewer r h.2)
 
 -- Replies.
 plain-boundary : (viewer : Owner) (b : Boundary NodeName) → HasNoFeed (boundary_text viewer b)
-plain-boundary viewer b =
-    and_then (codes " " ++ node_text viewer b.node ++ codes " ") (decimal b.offset)
-    (and_then (codes " " ++ node_text viewer b.node) (codes " ")
-    (behind_key (codes " ") (node_text viewer b.node) refl (plain-node viewer b.node)) (plain-key (codes " ") refl)) (plain-decimal b.offset)
+plain-boundary viewer b = search (all-append, plain-node, plain-decimal)
 
 -- a truth value
 plain-truth : (b : Bool) → HasNoFeed (truth_text b)
@@ -220,89 +185,37 @@ plain-side false = plain-key (codes "after") refl
 
 -- what stands behind `ok`
 plain-value : (viewer : Owner) (v : Value) → IsPlainValue v → HasNoFeed (value_text viewer v)
-plain-value viewer nothing h = tt
-plain-value viewer null h = plain-key (codes " null") refl
-plain-value viewer (a_node x) h = behind_key (codes " ") (node_text viewer x) refl (plain-node viewer x)
-plain-value viewer (a_list xs) h = behind_key (codes " ") (list_text viewer xs) refl (plain-list viewer xs)
-plain-value viewer (a_component o) h = behind_key (codes " ") (owner_word o) refl (plain-owner o)
-plain-value viewer (a_range k) h = behind_key (codes " ") (numbered_text (codes "r") k) refl (plain-numbered (codes "r") k refl)
-plain-value viewer (an_iterator k) h = behind_key (codes " ") (numbered_text (codes "i") k) refl (plain-numbered (codes "i") k refl)
-plain-value viewer (a_walker k) h = behind_key (codes " ") (numbered_text (codes "w") k) refl (plain-numbered (codes "w") k refl)
-plain-value viewer (an_observer k) h = behind_key (codes " ") (numbered_text (codes "o") k) refl (plain-numbered (codes "o") k refl)
-plain-value viewer (a_string units) h = behind_key (codes " ") (string_text units) refl (plain-string units)
-plain-value viewer (a_truth b) h = behind_key (codes " ") (truth_text b) refl (plain-truth b)
-plain-value viewer (a_count n) h = plain-numbered (codes " ") n refl
 plain-value viewer (a_tree ts) h = plain-trees viewer ts h
-plain-value viewer (boundaries start end) h =
-    and_then (boundary_text viewer start) (boundary_text viewer end) (plain-boundary viewer start) (plain-boundary viewer end)
-plain-value viewer (reference x before) h =
-    and_then (codes " " ++ node_text viewer x ++ codes " ") (side_text before)
-    (and_then (codes " " ++ node_text viewer x) (codes " ") (behind_key (codes " ") (node_text viewer x) refl (plain-node viewer x))
-    (plain-key (codes " ") refl)) (plain-side before)
+plain-value viewer v h =
+    search (all-append, plain-node, plain-list, plain-owner, plain-decimal, plain-string, plain-truth, plain-boundary, plain-side)
 
 -- Events and records.
--- a text, a word that is written out, and a text
-joined : (a name b : List ℕ) → HasNoFeed a → list_all (λ b. not (eqb b line_feed)) name ≡ true → HasNoFeed b → HasNoFeed (a ++ name ++ b)
-joined a name b h e g = and_then (a ++ name) b (and_then a name h (plain-key name e)) g
-
--- a call of a listener
 plain-event : (viewer : Owner) (l : EventLine NodeName) → IsPlainEvent l → HasNoFeed (event_text viewer l)
-plain-event viewer l h =
-    let label = codes "event " ++ l.label in
-    let event = label ++ codes " " ++ l.event in
-    let phase = event ++ codes " phase=" ++ decimal l.phase in
-    let target = phase ++ codes " target=" ++ node_text viewer l.target in
-    let current = target ++ codes " current=" ++ node_text viewer l.current in
-    let related = current ++ codes " related=" ++ node_or_null viewer l.related in
-    joined related (codes " path=") (list_text viewer l.path)
-    (joined current (codes " related=") (node_or_null viewer l.related)
-    (joined target (codes " current=") (node_text viewer l.current)
-    (joined phase (codes " target=") (node_text viewer l.target)
-    (joined event (codes " phase=") (decimal l.phase)
-    (joined label (codes " ") l.event (behind_key (codes "event ") l.label refl h.1) refl h.0) refl (plain-decimal l.phase)) refl
-    (plain-node viewer l.target)) refl (plain-node viewer l.current))
-    refl (plain-node_or_null viewer l.related)) refl (plain-list viewer l.path)
+plain-event viewer l h = search (all-append, plain-decimal, plain-node, plain-node_or_null, plain-list, h.0, h.1) depth 30
 
 -- a change
 plain-change : (viewer : Owner) (c : Change NodeName) → IsPlainChange c → HasNoFeed (change_text viewer c)
-plain-change viewer (child_list x added removed previous next) h =
-    let target = codes "childList " ++ node_text viewer x in
-    let first = target ++ codes " added=" ++ list_text viewer added in
-    let second = first ++ codes " removed=" ++ list_text viewer removed in
-    let third = second ++ codes " prev=" ++ node_or_null viewer previous in
-    joined third (codes " next=") (node_or_null viewer next)
-    (joined second (codes " prev=") (node_or_null viewer previous)
-    (joined first (codes " removed=") (list_text viewer removed)
-    (joined target (codes " added=") (list_text viewer added) (behind_key (codes "childList ") (node_text viewer x) refl (plain-node viewer x))
-    refl (plain-list viewer added)) refl (plain-list viewer removed))
-    refl (plain-node_or_null viewer previous)) refl (plain-node_or_null viewer next)
-plain-change viewer (attributes x a old) h =
-    let target = codes "attributes " ++ node_text viewer x in
-    joined (target ++ codes " name=" ++ a) (codes " old=") (string_or_null old)
-    (joined target (codes " name=") a (behind_key (codes "attributes ") (node_text viewer x) refl (plain-node viewer x)) refl h) refl (plain-string_or_null old)
-plain-change viewer (character_data x old) h =
-    joined (codes "characterData " ++ node_text viewer x) (codes " old=") (string_or_null old)
-    (behind_key (codes "characterData ") (node_text viewer x) refl (plain-node viewer x)) refl (plain-string_or_null old)
+plain-change viewer (attributes x a old) h = search (all-append, plain-node, plain-string_or_null, h) depth 30
+plain-change viewer (character_data x old) h = search (all-append, plain-node, plain-string_or_null) depth 30
+plain-change viewer (child_list x added removed previous next) h = search (all-append, plain-node, plain-node_or_null, plain-list) depth 30 fits 4000
 
 -- Lines.
-plain-refusal : (r : Refusal) → list_all (λ b. not (eqb b line_feed)) (refusal_word r) ≡ true
-plain-refusal Syntax = refl
-plain-refusal r = refl
+plain-refusal : (r : Refusal) → HasNoFeed (refusal_word r)
+plain-refusal Syntax = plain-key (refusal_word Syntax) refl
+plain-refusal r = plain-key (refusal_word r) refl
 
 -- what stands behind the owner's word
 plain-said : (viewer : Owner) (s : Said) → IsPlainSaid s → HasNoFeed (said_text viewer s)
-plain-said viewer (replied v) h = behind_key (codes "ok") (value_text viewer v) refl (plain-value viewer v h)
-plain-said viewer (refused r) h = behind_key (codes "! ") (refusal_word r) refl (plain-key (refusal_word r) (plain-refusal r))
+plain-said viewer (replied v) h = search (plain-value viewer v h)
+plain-said viewer (refused r) h = search plain-refusal
 plain-said viewer (event_seen l) h = plain-event viewer l h
-plain-said viewer (recorded k c) h =
-    joined (codes "record " ++ numbered_text (codes "o") k) (codes " ") (change_text viewer c)
-    (behind_key (codes "record ") (numbered_text (codes "o") k) refl (plain-numbered (codes "o") k refl)) refl (plain-change viewer c h)
-plain-said viewer (micro_ran label) h = behind_key (codes "micro ") label refl h
+plain-said viewer (recorded k c) h = search (all-append, plain-decimal, plain-change viewer c h) depth 20
+plain-said viewer (micro_ran label) h = search h
 
 -- a line of output
 plain-output : (o : Output) → IsPlainOutput o → HasNoFeed (output_line o)
 plain-output bad_owner h = plain-key (codes "! owner") refl
-plain-output (says o s) h = joined (owner_word o) (codes " ") (said_text o s) (plain-owner o) refl (plain-said o s h)
+plain-output (says o s) h = search (all-append, plain-owner, plain-said o s h)
 
 -- the text of such lines is cut into them again
 pub lines_of-output : (os : List Output) → AllByRecursion IsPlainOutput os → lines_of (output_text os) ≡ map output_line os

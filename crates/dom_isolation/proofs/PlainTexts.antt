@@ -8,7 +8,8 @@ use Rattle.dom_isolation.specs.Words.{IsPlainLine, ReadsPlainWords, OutputHasIts
 use Rattle.dom_worlds.proofs.Lists.{all-from, all-map}
 use Rattle.dom_isolation.specs.FullIsolation.{PickedLinesAgreeInFull, PickedLinesAgreeSoFarInFull}
 use Rattle.dom_isolation.proofs.PageTexts.{page_lines-agree_in_full, page_lines-agree_so_far_in_full, page_lines-agree, page_lines-agree_so_far}
-use Rattle.dom_isolation.proofs.PlainCommands.{plain-outputs, plain-outputs_so_far}
+use Rattle.dom_isolation.proofs.PlainCommands.{plain-saying}
+use Rattle.dom_isolation.proofs.SaidRuns.{says-outputs, says-so_far}
 use Rattle.dom_isolation.proofs.PlainLines.{lines_of-output}
 
 module _ (read : List ℕ → Line) where
@@ -18,11 +19,11 @@ module _ (read : List ℕ → Line) where
 
   -- the lines of the text are those that were written
   pub output-has_its_lines : ReadsPlainWords read → OutputHasItsLines read
-  output-has_its_lines h lines = lines_of-output (outputs_of (map read lines)) (plain-outputs (map read lines) (plain-lines h lines))
+  output-has_its_lines h lines = lines_of-output (outputs_of (map read lines)) (says-outputs plain-saying (map read lines) (plain-lines h lines))
 
   -- of the lines so far
   pub output-has_its_lines_so_far : ReadsPlainWords read → OutputHasItsLinesSoFar read
-  output-has_its_lines_so_far h lines = lines_of-output (run_lines first_world (map read lines)).1 (plain-outputs_so_far (map read lines) (plain-lines h lines))
+  output-has_its_lines_so_far h lines = lines_of-output (run_lines first_world (map read lines)).1 (says-so_far plain-saying (map read lines) (plain-lines h lines))
 
   -- so those of the page are picked by their prefix, with interference
   pub picked_lines-agree_in_full : ReadsPlainWords read → PickedLinesAgreeInFull read

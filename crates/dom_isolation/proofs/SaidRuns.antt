@@ -1,0 +1,193 @@
+-- What holds of all parts and tasks of a world and of all that is said: runs keep it where visits, notifications and the effects of commands do.
+use Rattle.std.proofs.Common.{◌≡◌, length, List, [], ◌∷◌, ◌++◌, filter, fold, map, Option, None, Some, option_map}
+use Rattle.std.specs.Prelude.{⊤, is_some}
+use Rattle.std.specs.List.{AllByRecursion}
+use Rattle.dom_base.specs.declared.Owner.{Owner}
+use Rattle.dom_base.specs.declared.NodeName.{NodeName}
+use Rattle.dom_base.specs.declared.Kind.TheVariants.{Shadow}
+use Rattle.dom_base.specs.declared.Refusal.{Refusal}
+use Rattle.dom_base.specs.declared.Refusal.TheVariants.{Syntax}
+use Rattle.dom_model.specs.Names.{Word, name_eq}
+use Rattle.dom_model.specs.Tree.{node_in}
+use Rattle.dom_model.specs.Command.{Command, Line, no_owner, no_command, command, EventWords}
+use Rattle.dom_model.specs.CommandNames.{named}
+use Rattle.dom_model.specs.Dispatch.{world_visit, visits_of, dispatch_in, event_output}
+use Rattle.dom_model.specs.DocumentMachine.{first_world, part_with_root, refusal, effect_in, perform, accepted, run_command, step, run_lines}
+use Rattle.dom_model.specs.DocumentMachine.{finish, outputs_of}
+use Rattle.dom_model.specs.Effects.{Effect, tables, changes, effect}
+use Rattle.dom_model.specs.Listeners.{Visit, Dispatching, visited, begun}
+use Rattle.dom_model.specs.Output.{Output, bad_owner, says, replied, refused, micro_ran, Value, a_tree, EventLine}
+use Rattle.dom_model.specs.Part.{Part}
+use Rattle.dom_model.specs.Paths.{views}
+use Rattle.dom_model.specs.Runs.{Run, quiet, run_then, run_each, answering, refusing, unless_refused}
+use Rattle.dom_model.specs.Steps.{Step}
+use Rattle.dom_model.specs.Turns.{notified, notified_lines, slotchange, firing_slotchange, is_owned_by, without_signals, running_task}
+use Rattle.dom_model.specs.Turns.{ending_turn, has_other_turn, ending_other_turn, ending_any_turn, opening_turn}
+use Rattle.dom_model.specs.World.{World, Task, micro_task, notify_task, part_of, with_part, component_made}
+use Rattle.dom_model.proofs.PartLaws.{owner-part_of}
+use Rattle.dom_worlds.proofs.Lists.{all-append, all-from, all-map}
+use Rattle.dom_worlds.proofs.Tests.{either_way}
+use Rattle.dom_worlds.proofs.WorldParts.{HoldsIn, IsKeptIn, holds-with_part, holds-world_after}
+
+-- a run to such a world, which says such lines
+abbrev pub SaysIn : (Part → Type 0) → (Task → Type 0) → (Output → Type 0) → Run World → Type 0
+SaysIn Inv IsTask IsSaid r = HoldsIn Inv IsTask r.0 × AllByRecursion IsSaid r.1
+
+-- the line of a call of a listener
+abbrev pub IsSaidEvent : (Output → Type 0) → EventLine NodeName → Type 0
+IsSaidEvent IsSaid l = IsSaid (event_output l)
+
+-- a reply other than a tree
+abbrev pub HasNoTree : Value → Type 0
+HasNoTree (a_tree ts) = ⊥
+HasNoTree v = ⊤
+
+-- an effect that leaves such a part, or makes such steps, and says such lines
+abbrev pub SaysEffect : (Part → Type 0) → (Step → Type 0) → (Output → Type 0) → Owner → Effect → Type 0
+SaysEffect Inv May IsSaid o (tables p lines v) = Inv p × AllByRecursion IsSaid (map (says o) lines) × IsSaid (says o (replied v))
+SaysEffect Inv May IsSaid o (changes steps v) = AllByRecursion May steps × IsSaid (says o (replied v))
+
+-- What is asked, of parts, steps, tasks, what is said, and lines of input.
+pub record KeepsSaying (Inv : Part → Type 0) (May : Step → Type 0) (IsTask : Task → Type 0) (IsSaid : Output → Type 0) (MayRun : Line → Type 0) : Type 0 where
+  pub steps : IsKeptIn Inv May IsTask
+  pub visit : (e : EventWords) (v : Visit NodeName) (p : Part) (d : Dispatching NodeName) → p.owner ≡ v.current.owner → Inv p →
+      AllByRecursion (IsSaidEvent IsSaid) d.lines → let heard = visited name_eq e (record d { listeners = p.listeners }) v in
+      Inv (record p { listeners = heard.listeners }) × AllByRecursion (IsSaidEvent IsSaid) heard.lines
+  pub notified : (p : Part) → Inv p → Inv (notified p) × AllByRecursion IsSaid (notified_lines p)
+  pub ran : (o : Owner) (label : Word) → IsTask (micro_task o label) → IsSaid (says o (micro_ran label))
+  pub nobody : IsSaid bad_owner
+  pub wordless : (o : Owner) → MayRun (no_command o) → IsSaid (says o (refused Syntax))
+  pub refused : (o : Owner) (c : Command) (r : Refusal) → MayRun (command o c) → IsSaid (says o (refused r))
+  pub replied : (o : Owner) (c : Command) (v : Value) → HasNoTree v → MayRun (command o c) → IsSaid (says o (replied v))
+  pub micro : (o : Owner) (label : Word) → MayRun (command o (Command.micro label)) → IsTask (micro_task o label)
+  pub attached : (p : Part) (x : NodeName) → Inv p → Inv (record p { attached = p.attached ++ x ∷ [] })
+  pub root : (o : Owner) (d : Option NodeName) → Inv (part_with_root o Shadow d)
+  pub effect : (o : Owner) (c : Command) (p : Part) → p.owner ≡ o → Inv p → MayRun (command o c) → SaysEffect Inv May IsSaid o (effect p c)
+  pub first : (o : Owner) → Inv (part_of first_world o)
+
+module _ {Inv : Part → Type 0} {May : Step → Type 0} {IsTask : Task → Type 0} {IsSaid : Output → Type 0} {MayRun : Line → Type 0}
+    (k : KeepsSaying Inv May IsTask IsSaid MayRun) where
+  -- such a world, and such a run
+  abbrev In : World → Type 0
+  In w = HoldsIn Inv IsTask w
+
+  -- such a run
+  abbrev Says : Run World → Type 0
+  Says r = SaysIn Inv IsTask IsSaid r
+
+  -- one run and then another
+  says-then : (r : Run World) (f : World → Run World) → Says r → ((w : World) → In w → Says (f w)) → Says (run_then r f)
+  says-then r f h g = let more = g r.0 h.0 in (more.0, all-append IsSaid r.1 (f r.0).1 h.1 more.1)
+
+  -- a run for each item
+  says-each : {A : Type 0} (P : A → Type 0) (f : World → A → Run World) → ((w : World) (x : A) → In w → P x → Says (f w x)) → (xs : List A) (w : World) →
+      In w → AllByRecursion P xs → Says (run_each f w xs)
+  says-each P f g [] w h all = (h, tt)
+  says-each P f g (x ∷ xs) w h all = says-then (f w x) (λ v. run_each f v xs) (g w x h all.0) (λ v i. says-each P f g xs v i all.1)
+
+  -- Visits,
+  says-visits : (e : EventWords) (vs : List (Visit NodeName)) (w : World) (d : Dispatching NodeName) → In w → AllByRecursion (IsSaidEvent IsSaid) d.lines →
+      In (fold (world_visit e) (w, d) vs).0 × AllByRecursion (IsSaidEvent IsSaid) (fold (world_visit e) (w, d) vs).1.lines
+  says-visits e [] w d h g = (h, g)
+  says-visits e (v ∷ vs) w d h g =
+      let o = v.current.owner in
+      let p = part_of w o in
+      let heard = visited name_eq e (record d { listeners = p.listeners }) v in
+      let one = k.visit e v p d (owner-part_of w o) (h.parts o) g in
+      says-visits e vs (with_part w (record p { listeners = heard.listeners })) heard
+      (holds-with_part k.steps w (record p { listeners = heard.listeners }) h one.0) one.1
+
+  -- a dispatch,
+  says-dispatch : (w : World) (x : NodeName) (r : Option NodeName) (e : EventWords) → In w → Says (dispatch_in w x r e).run
+  says-dispatch w x r e h =
+      let vs = visits_of name_eq e.bubbles (views w x r e.composed) in
+      let end = says-visits e vs w (begun []) h tt in
+      (end.0, all-map IsSaid event_output (fold (world_visit e) (w, begun []) vs).1.lines end.1)
+
+  -- a task,
+  says-running : (w : World) (t : Task) → In w → IsTask t → Says (running_task w t)
+  says-running w (micro_task o label) h g = (h, (k.ran o label g, tt))
+  says-running w (notify_task o) h g =
+      let p = part_of w o in
+      let slots = filter (is_owned_by o) w.signalled in
+      let told = k.notified p (h.parts o) in
+      says-then (with_part (without_signals w o) (notified p), notified_lines p) (λ v. run_each firing_slotchange v slots)
+      (holds-with_part k.steps (without_signals w o) (notified p) (record { parts = h.parts; tasks = h.tasks }) told.0, told.1)
+      (λ v i. says-each (λ s. ⊤) firing_slotchange (λ u s j t. says-dispatch u s None slotchange j) slots v i (all-from (λ s. ⊤) (λ s. tt) slots))
+
+  -- the ending of a turn,
+  says-ending : (w : World) → In w → Says (ending_turn w)
+  says-ending w h = says-each IsTask running_task says-running w.tasks (record w { tasks = []; turn = None }) (record { parts = h.parts; tasks = tt }) h.tasks
+
+  -- of another component's turn,
+  says-ending_other : (w : World) (o : Owner) → In w → Says (ending_other_turn w o)
+  says-ending_other w o h = either_way Says (has_other_turn w o) (ending_turn w) (quiet w) (says-ending w h) (h, tt)
+
+  -- and at the end of input.
+  says-ending_any : (w : World) → In w → Says (ending_any_turn w)
+  says-ending_any w h = either_way Says (is_some w.turn) (ending_turn w) (quiet w) (says-ending w h) (h, tt)
+
+  -- An effect,
+  says-effect : (w : World) (o : Owner) (e : Effect) → In w → SaysEffect Inv May IsSaid o e → Says (effect_in w o e)
+  says-effect w o (tables p lines v) h g =
+      says-then (with_part w p, map (says o) lines) (answering o v) (holds-with_part k.steps w p h g.0, g.1) (λ u i. (i, (g.2, tt)))
+  says-effect w o (changes steps v) h g = (holds-world_after k.steps o steps w h g.0, (g.1, tt))
+
+  -- a command,
+  says-perform : (w : World) (o : Owner) (c : Command) → In w → MayRun (command o c) → Says (perform w o c)
+  says-perform w o (Command.attach x) h g =
+      let p = part_of w o in
+      let q : Part = record p { attached = p.attached ++ named p x ∷ [] } in
+      let root = part_with_root (component_made o (length p.attached)) Shadow (node_in p.trees (named p x)).document in (
+        holds-with_part k.steps (with_part w q) root (holds-with_part k.steps w q h (k.attached p (named p x) (h.parts o)))
+            (k.root (component_made o (length p.attached)) (node_in p.trees (named p x)).document),
+        (k.replied o (Command.attach x) _ tt g, tt),
+      )
+  says-perform w o (Command.connected x) h g = (h, (k.replied o (Command.connected x) _ tt g, tt))
+  says-perform w o (Command.assigned x) h g = (h, (k.replied o (Command.assigned x) _ tt g, tt))
+  says-perform w o (Command.dispatch x e r) h g =
+      let p = part_of w o in
+      says-then (dispatch_in w (named p x) (option_map (named p) r) e).run (answering o _) (says-dispatch w (named p x) (option_map (named p) r) e h)
+      (λ u i. (i, (k.replied o (Command.dispatch x e r) _ tt g, tt)))
+  says-perform w o (Command.micro label) h g = (
+    record { parts = h.parts; tasks = all-append IsTask w.tasks (micro_task o label ∷ []) h.tasks (k.micro o label g, tt) },
+    (k.replied o (Command.micro label) _ tt g, tt),
+  )
+  says-perform w o Command.end_turn h g =
+      says-then (ending_turn w) (answering o _) (says-ending w h) (λ u i. (i, (k.replied o Command.end_turn _ tt g, tt)))
+  says-perform w o c h g =
+      says-effect w o (effect (part_of w o) c) h (k.effect o c (part_of w o) (owner-part_of w o) (h.parts o) g)
+
+  -- with the turn that it opens,
+  says-accepted : (w : World) (o : Owner) (c : Command) → In w → MayRun (command o c) → Says (accepted w o c)
+  says-accepted w o Command.end_turn h g = says-perform w o Command.end_turn h g
+  says-accepted w o c h g =
+      says-perform (opening_turn w o) o c
+      (either_way In (is_some w.turn) w (record w { turn = Some o }) h (record { parts = h.parts; tasks = h.tasks })) g
+
+  -- refused or accepted,
+  says-run_command : (o : Owner) (c : Command) (w : World) → In w → MayRun (command o c) → Says (run_command o c w)
+  says-run_command o c w h g = from (refusal w o c)
+    where
+      from : (r : Option Refusal) → Says (unless_refused o r w (accepted w o c))
+      from (Some r) = (h, (k.refused o c r g, tt))
+      from None = says-accepted w o c h g
+
+  -- a line,
+  says-line : (w : World) (l : Line) → In w → MayRun l → Says (step w l)
+  says-line w no_owner h g = (h, (k.nobody, tt))
+  says-line w (no_command o) h g =
+      says-then (ending_other_turn w o) (refusing o Syntax) (says-ending_other w o h) (λ u i. (i, (k.wordless o g, tt)))
+  says-line w (command o c) h g = says-then (ending_other_turn w o) (run_command o c) (says-ending_other w o h) (λ u i. says-run_command o c u i g)
+
+  -- and the lines of a script.
+  says-lines : (ls : List Line) → AllByRecursion MayRun ls → Says (run_lines first_world ls)
+  says-lines ls h = says-each MayRun step says-line ls first_world (record { parts = k.first; tasks = tt }) h
+
+  -- what they say
+  pub says-so_far : (ls : List Line) → AllByRecursion MayRun ls → AllByRecursion IsSaid (run_lines first_world ls).1
+  says-so_far ls h = (says-lines ls h).1
+
+  -- with the end of input
+  pub says-outputs : (ls : List Line) → AllByRecursion MayRun ls → AllByRecursion IsSaid (outputs_of ls)
+  says-outputs ls h = (says-then (run_lines first_world ls) finish (says-lines ls h) says-ending_any).1
