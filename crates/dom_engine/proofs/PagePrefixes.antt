@@ -21,7 +21,7 @@ use Rattle.dom_isolation.specs.Interference.{full_trace_of}
 use Rattle.dom_isolation.specs.TouchedMachines.{run_page_under}
 use Rattle.dom_isolation.proofs.PageRuns.{page_output-goes_on_in_full, page_output-goes_on, first_lines-stop_nothing, told-nothing}
 use Rattle.dom_isolation.proofs.PlainLines.{decode-reads_plain_words}
-use Rattle.dom_isolation.proofs.PlainTexts.{picked_lines-agree_so_far_in_full}
+use Rattle.dom_isolation.proofs.PageTexts.{picked_lines-agree_so_far_in_full}
 use Rattle.dom_streams.specs.declared.fault.RunFault.{RunFault}
 use Rattle.dom_streams.specs.declared.fault.RunFault.TheVariants.{Read, Write, Memory, InputLimit}
 use Rattle.dom_streams.specs.Writing.{Taken, Takes}

@@ -8,7 +8,7 @@ use Rattle.dom_text.specs.Text.{output_line, output_text}
 use Rattle.dom_text.proofs.LineLaws.{lines_of-cut}
 use Rattle.dom_isolation.specs.TouchedMachines.{page_outputs_under}
 use Rattle.dom_isolation.proofs.PageRuns.{told-nothing}
-use Rattle.dom_isolation.proofs.PlainTexts.{picked_lines-agree_in_full}
+use Rattle.dom_isolation.proofs.PageTexts.{picked_lines-agree_in_full}
 use Rattle.dom_isolation.proofs.PlainLines.{decode-reads_plain_words}
 use Rattle.dom_text.specs.Decode.{decode}
 use Rattle.dom_engine.specs.Run.{answers_to_end}

@@ -1,6 +1,6 @@
--- A command of a component, as the page sees it: nothing, or an outward event.
-use Rattle.std.proofs.Common.{◌≡◌, ℕ, Bool, true, false, not, ◌&&◌, ◌||◌, List, [], ◌∷◌, ◌++◌, zero, suc, length, find, flat_map, filter, map}
-use Rattle.std.proofs.Common.{Option, Some, None, option_map, refl, sym, ap, ◌∙◌, true≢false, subst, append-nil}
+-- A dispatch and a command of a component, as the page sees it: nothing, or an outward event at its host.
+use Rattle.std.proofs.Common.{◌≡◌, ℕ, Bool, true, false, not, ◌&&◌, ◌||◌, List, [], ◌∷◌, ◌++◌, zero, suc, length, find, flat_map, filter, map, Option, Some}
+use Rattle.std.proofs.Common.{None, option_map, refl, sym, ap, ◌∙◌, true≢false, subst, append-nil, inl, inr}
 use Rattle.std.specs.Prelude.{is_some, is_none, if◌then◌else◌, option_to_list}
 use Rattle.std.proofs.lemmas.List.Elements.{filter-append}
 use Rattle.std.proofs.lemmas.Bool.{cond-true, cond-false}
@@ -15,35 +15,80 @@ use Rattle.dom_model.specs.Tree.{node_in, root_of}
 use Rattle.dom_model.specs.Command.{Command, NodeWord, EventWords}
 use Rattle.dom_model.specs.Output.{says, nothing, a_truth}
 use Rattle.dom_model.specs.Part.{Part}
-use Rattle.dom_model.specs.Runs.{Run, quiet, run_then, answering, unless_refused}
+use Rattle.dom_model.specs.Runs.{Run, quiet, run_then, answering, unless_refused, run_each}
 use Rattle.dom_model.specs.CommandRefusals.{part_refusal, related_refusal, has_other_root}
 use Rattle.dom_model.specs.CommandNames.{named}
 use Rattle.dom_model.specs.Effects.{Effect, tables, changes, effect}
 use Rattle.dom_model.specs.World.{World, hosts_from, host_above, micro_task, part_of, with_part, component_made}
-use Rattle.dom_model.specs.Dispatch.{dispatch_in}
+use Rattle.dom_model.specs.Dispatch.{dispatch_in, Dispatched, visits_of}
 use Rattle.dom_model.specs.Turns.{ending_turn, opening_turn, is_page_turn}
 use Rattle.dom_model.specs.DocumentMachine.{refusal, effect_in, attaching, part_with_root, perform, accepted, run_command}
-use Rattle.dom_model.specs.Trace.{outputs_for, is_page, boundary_host, outward_of, outward_dispatch, outward_command}
+use Rattle.dom_model.specs.Trace.{outputs_for, is_page, boundary_host, outward_of, outward_dispatch, outward_command, OutwardEvent}
 use Rattle.dom_model.specs.PageMachine.{PageState, page_of, is_page_task}
-use Rattle.dom_model.proofs.OwnerLaws.{component_made-no_page, name_eq-true}
+use Rattle.dom_model.proofs.OwnerLaws.{component_made-no_page, name_eq-true, owner_eq-true, ne-owner_eq}
 use Rattle.dom_model.proofs.PartLaws.{part_of-with_part-other, owner-part_of}
 use Rattle.dom_model.proofs.StepLaws.{Component-IsNoPage}
-use Rattle.dom_isolation.specs.Laws.{page_run}
+use Rattle.dom_isolation.specs.Laws.{page_run, PageVisitsAgree, OutwardVisitsAgree}
 use Rattle.dom_worlds.specs.Reached.{Invariant}
-use Rattle.dom_worlds.specs.Worlds.{IsWorld}
-use Rattle.dom_isolation.specs.Interference.{Interference, first_record, interference_at, accepted_records, command_records}
-use Rattle.dom_isolation.proofs.Dispatches.{done_to}
+use Rattle.dom_worlds.specs.Worlds.{IsWorld, IsForeignTo}
+use Rattle.dom_isolation.specs.Interference.{Interference, first_record, interference_at, accepted_records, command_records, untouched}
+use Rattle.dom_isolation.proofs.Dispatches.{done_to, dispatch-page}
 use Rattle.dom_worlds.proofs.Tests.{by_cases, and-true_false}
-use Rattle.dom_isolation.proofs.SeenRuns.{run_then-square, same_page_of, outputs_for_page-other}
-use Rattle.dom_isolation.proofs.PageSteps.{page_of-world_after-other}
+use Rattle.dom_isolation.proofs.PageSteps.{run_then-square, same_page_of, outputs_for_page-other, page_of-world_after-other, page_run-unseen}
 use Rattle.dom_worlds.proofs.Acceptance.{next-test, part-accepted, accepted-facts}
-use Rattle.dom_isolation.proofs.ComponentEvents.{outward_run, run_then-quiet_end, dispatch-component}
-use Rattle.dom_isolation.proofs.GroupDispatches.{outward_at, HasSameRoot}
-use Rattle.dom_isolation.proofs.PageTurns.{quiet_then}
-use Rattle.dom_isolation.proofs.PageTurns.{ending-component, opening-component}
+use Rattle.dom_isolation.proofs.GroupDispatches.{outward_at, HasSameRoot, comes_to}
+use Rattle.dom_isolation.proofs.PageCommands.{quiet_then, ending-component, opening-component}
 use Rattle.dom_worlds.proofs.LineBegins.{part_of-opening, quiet-opening}
 use Rattle.dom_worlds.proofs.TableEffects.{KeepsBase, base-effect}
 use Rattle.dom_worlds.proofs.Owners.{owner-named}
+use Rattle.dom_isolation.proofs.PagePaths.{views-page}
+use Rattle.dom_model.specs.Paths.{views}
+use Rattle.dom_isolation.specs.TouchedMachines.{page_dispatch_under, page_outward_under}
+use Rattle.dom_isolation.proofs.Families.{page-is_group}
+use Rattle.dom_isolation.proofs.OwnVisits.{group_visits}
+use Rattle.dom_isolation.proofs.OutsideViews.{has-exit, views-exit}
+use Rattle.dom_isolation.proofs.GroupDispatches.{no_dispatch}
+
+-- The page's answer to a dispatch of a component, as far as others let the event come.
+abbrev pub outward_run : Option ℕ → PageState → Option OutwardEvent → Run PageState
+outward_run reached s o = run_each (page_outward_under reached) s (option_to_list o)
+
+-- nothing more after a run
+pub run_then-quiet_end : (r : Run PageState) → run_then r quiet ≡ r
+run_then-quiet_end r = ap (λ ls. (r.0, ls)) (append-nil r.1)
+
+-- what the page sees of a dispatch is its outward event
+abbrev pub IsOutward : World → NodeName → Option NodeName → EventWords → Type 0
+IsOutward w x r e =
+    page_run (dispatch_in w x r e).run ≡ outward_run (interference_at is_page w x r e).reached (page_of w) (outward_at is_page w x e r)
+
+-- a dispatch of a component, as the page sees it
+pub dispatch-component : {w : World} → IsWorld w → (x : NodeName) (related : Option NodeName) (e : EventWords) → IsForeignTo Page x → HasSameRoot w x related →
+    IsOutward w x related e
+dispatch-component {w} i x related e f same =
+    let reached = (interference_at is_page w x related e).reached in
+    elim (comes_to is_page page-is_group i x related e (ne-owner_eq x.owner Page f) same) [
+      | inl k ↦ page_run-unseen (dispatch_in w x related e).run w (no_dispatch is_page w i x related e k.unseen)
+          ∙ sym (ap (outward_run reached (page_of w)) k.none)
+      | inr k ↦ ap (λ (d : Dispatched PageState). d.run)
+          (dispatch-page w x related e i.page k.host None (k.shown ∙ views-page i k.host None e.composed (owner_eq-true k.host.owner Page k.inside) tt))
+          ∙ ap (λ e. (page_dispatch_under (record untouched { reached = reached }) (page_of w) k.host None e).run) k.words
+          ∙ sym (run_then-quiet_end (page_outward_under reached (page_of w) (outward_of e k.host)))
+          ∙ sym (ap (outward_run reached (page_of w)) k.event)
+    ]
+
+-- The visits at page nodes.
+pub page_visits-agree : PageVisitsAgree
+page_visits-agree w q x related bubbles composed h g =
+    group_visits is_page bubbles (views w x related composed) ∙ ap (visits_of name_eq bubbles) (views-page q.world x related composed h g)
+
+-- of an event that goes out
+pub outward_visits-agree : OutwardVisitsAgree
+outward_visits-agree w q x host bubbles f e =
+    let k = has-exit is_page page-is_group w q.world x host e in
+    group_visits is_page bubbles (views w x None true)
+    ∙ ap (visits_of name_eq bubbles)
+    (views-exit is_page page-is_group w q.world x host k ∙ views-page q.world host None true (owner_eq-true host.owner Page k.inside) tt)
 
 -- Effects in a component's part show nothing.
 effect-other : (w : World) (k : ComponentName) (e : Effect) → KeepsBase (part_of w (Component k)) e → page_run (effect_in w (Component k) e) ≡ quiet (page_of w)

@@ -1,6 +1,7 @@
--- A command of the group does the same to the group in two worlds of which the group has the same.
-use Rattle.std.proofs.Common.{◌≡◌, Bool, true, not, ◌&&◌, List, [], ◌∷◌, ◌++◌, length, map, filter, Option, Some, None, option_map, unwrap_or}
-use Rattle.std.proofs.Common.{sym, ap, ◌∙◌}
+-- A command of the group does the same to the group in two worlds of which the group has the same. After each line the group has tasks in a turn of its own
+-- alone.
+use Rattle.std.proofs.Common.{◌≡◌, Bool, true, not, ◌&&◌, List, [], ◌∷◌, ◌++◌, length, map, filter, Option, Some, None, option_map, unwrap_or, sym, ap, ◌∙◌}
+use Rattle.std.proofs.Common.{false, ◌||◌, refl, true≢false}
 use Rattle.std.specs.Prelude.{option_to_list}
 use Rattle.std.specs.List.{AllByRecursion, last_or}
 use Rattle.std.specs.Option.{option_or}
@@ -13,10 +14,10 @@ use Rattle.dom_base.specs.declared.Refusal.{Refusal}
 use Rattle.dom_base.specs.declared.Refusal.TheVariants.{Syntax, Busy, Foreign, Unknown}
 use Rattle.dom_model.specs.Names.{Word, owner_eq, last_of}
 use Rattle.dom_model.specs.Tree.{node_in, is_document, kind_of}
-use Rattle.dom_model.specs.Command.{Command, NodeWord}
+use Rattle.dom_model.specs.Command.{Command, NodeWord, Line, no_owner, no_command, command}
 use Rattle.dom_model.specs.Output.{Value, says, replied, nothing, a_component, a_list, a_truth}
 use Rattle.dom_model.specs.Part.{Part}
-use Rattle.dom_model.specs.Runs.{Run, answering}
+use Rattle.dom_model.specs.Runs.{Run, answering, unless_refused}
 use Rattle.dom_model.specs.Validity.{first_refusal}
 use Rattle.dom_model.specs.CommandRefusals.{is_command_of, part_refusal}
 use Rattle.dom_model.specs.CommandNames.{named, names_foreign}
@@ -24,9 +25,9 @@ use Rattle.dom_model.specs.Effects.{Effect, tables, changes, effect}
 use Rattle.dom_model.specs.World.{World, micro_task, part_of, with_part, is_there, kind_at, is_connected, component_made, shadow_including_ancestors}
 use Rattle.dom_model.specs.WorldSteps.{world_after}
 use Rattle.dom_model.specs.Slots.{assigned}
-use Rattle.dom_model.specs.Turns.{is_page_turn}
-use Rattle.dom_model.specs.DocumentMachine.{refusal, effect_in, attaching, part_with_root, perform}
-use Rattle.dom_model.specs.Groups.{KeepsMakers, group_world, group_outputs, group_run, is_task_of}
+use Rattle.dom_model.specs.Turns.{is_page_turn, has_other_turn, ending_other_turn, opening_turn}
+use Rattle.dom_model.specs.DocumentMachine.{refusal, effect_in, attaching, part_with_root, perform, accepted, step}
+use Rattle.dom_model.specs.Groups.{KeepsMakers, group_world, group_outputs, group_run, is_task_of, group_turn, outward_words}
 use Rattle.dom_model.proofs.PartLaws.{owner-part_of}
 use Rattle.dom_worlds.proofs.Owners.{owner-named}
 use Rattle.dom_worlds.proofs.TableEffects.{KeepsBase, base-effect}
@@ -35,10 +36,19 @@ use Rattle.dom_isolation.proofs.GroupParts.{in_node, part-in, there-in, with_par
 use Rattle.dom_isolation.proofs.GroupSlots.{IsGround, ground-of, assigned-in}
 use Rattle.dom_isolation.proofs.GroupSteps.{IsSameGround, steps-in}
 use Rattle.dom_isolation.proofs.GroupPaths.{In, including-in, including-inside}
-use Rattle.dom_isolation.proofs.GroupDispatches.{same-ground, runs-then}
-use Rattle.dom_isolation.proofs.TouchedDispatches.{IsSameWorld}
-use Rattle.dom_isolation.proofs.GroupTurns.{same-part}
-use Rattle.dom_isolation.proofs.GroupBegins.{same-page_turn}
+use Rattle.dom_isolation.proofs.GroupDispatches.{same-ground, runs-then, outward_run}
+use Rattle.dom_isolation.proofs.GroupDispatches.{IsSameWorld}
+use Rattle.dom_isolation.proofs.GroupTurns.{same-part, same-page_turn, tasks-dispatch, tasks-ending_turn, no_other-ended, calm-ended, opening-own, turn-kept}
+use Rattle.dom_model.specs.Trace.{OutwardEvent, is_of, owner_of_line, outward_event}
+use Rattle.dom_model.proofs.TurnLaws.{turn-dispatch_in}
+use Rattle.dom_worlds.specs.Reached.{IsReached}
+use Rattle.dom_worlds.specs.Tables.{IsWhole}
+use Rattle.dom_worlds.proofs.Acceptance.{accepted-facts}
+use Rattle.dom_worlds.proofs.TableCommands.{Holds}
+use Rattle.dom_worlds.proofs.TableRegisters.{holds-effect}
+use Rattle.dom_worlds.proofs.WorldSteps.{turn-world_after}
+use Rattle.dom_isolation.specs.GroupLaws.{IsCalm}
+use Rattle.dom_isolation.proofs.OutsideCommands.{command_event-inside}
 
 -- what holds of all holds of the last, or of another
 last-all : (P : NodeName → Type 0) (d : Option NodeName) (xs : List NodeName) (x : NodeName) → AllByRecursion P xs → P (unwrap_or d x) →
@@ -164,3 +174,65 @@ module _ (g : Owner → Bool) (closed : KeepsMakers g) where
     pub words-inside : (a : NodeWord) (r : Option NodeWord) → AreOfGroup (named (part_of w o) a) (option_map (named (part_of w o)) r)
     words-inside a None = record { target = named-inside a; related = tt }
     words-inside a (Some b) = record { target = named-inside a; related = (named-inside b, tt) }
+
+-- an effect leaves the turn
+turn-effect : (w : World) (o : Owner) (e : Effect) → (effect_in w o e).0.turn ≡ w.turn
+turn-effect w o (tables p lines a) = refl
+turn-effect w o (changes steps a) = turn-world_after o steps w
+
+-- what a command of a component does fits where it is accepted
+pub fits : {only_log : Bool} (w : World) → IsReached only_log w → IsWhole w → (o : Owner) (c : Command) → refusal w o c ≡ None →
+    Holds (part_of w o) (effect (part_of w o) c)
+fits w r k o c e =
+    let known = accepted-facts w o c e in
+    holds-effect (part_of w o) (r.world.parts o) (k.tables o) (k.first o known.there) c known.part
+
+module _ (g : Owner → Bool) (closed : KeepsMakers g) where
+  -- Where the group has tasks, a turn of its own is open: outward events keep that,
+  pub calm-outward : (w : World) → IsCalm g w → (o : Option OutwardEvent) → IsCalm g (outward_run w o).0
+  calm-outward w calm None = calm
+  calm-outward w calm (Some e) =
+      λ h. ap (filter (is_task_of g)) (tasks-dispatch w e.host None (outward_words e))
+      ∙ calm (sym (ap (group_turn g) (turn-dispatch_in w e.host None (outward_words e))) ∙ h)
+
+  -- and so does each command of the group. In a turn of the group,
+  open-calm : (w u : World) → is_of g w.turn ≡ true → u.turn ≡ w.turn → IsCalm g u
+  open-calm w u t e h =
+      let kept = turn-kept g closed w.turn t in
+      let none : w.turn ≡ None = sym kept ∙ sym (ap (group_turn g) e) ∙ h in
+      absurd (true≢false (sym t ∙ ap (is_of g) none))
+
+  -- what a command does
+  perform-calm : (w : World) (o : Owner) → is_of g w.turn ≡ true → (c : Command) → IsCalm g (perform w o c).0
+  perform-calm w o t (Command.attach a) = open-calm w (perform w o (Command.attach a)).0 t refl
+  perform-calm w o t (Command.connected a) = open-calm w (perform w o (Command.connected a)).0 t refl
+  perform-calm w o t (Command.assigned a) = open-calm w (perform w o (Command.assigned a)).0 t refl
+  perform-calm w o t (Command.dispatch a e r) =
+      open-calm w (perform w o (Command.dispatch a e r)).0 t (turn-dispatch_in w (named (part_of w o) a) (option_map (named (part_of w o)) r) e)
+  perform-calm w o t (Command.micro a) = open-calm w (perform w o (Command.micro a)).0 t refl
+  perform-calm w o t Command.end_turn = λ h. ap (filter (is_task_of g)) (tasks-ending_turn w)
+  perform-calm w o t c = open-calm w (perform w o c).0 t (turn-effect w o (effect (part_of w o) c))
+
+  -- an accepted one
+  accepted-calm : (w : World) (o : Owner) → g o ≡ true → has_other_turn w o ≡ false → (c : Command) → IsCalm g (accepted w o c).0
+  accepted-calm w o h a Command.end_turn = λ t. ap (filter (is_task_of g)) (tasks-ending_turn w)
+  accepted-calm w o h a c = perform-calm (opening_turn w o) o (opening-own g closed w o h a) c
+
+  -- a line
+  pub calm-in : (w : World) → IsCalm g w → (l : Line) → is_of g (owner_of_line l) ≡ true → IsCalm g (step w l).0
+  calm-in w calm no_owner h = calm
+  calm-in w calm (no_command o) h = calm-ended g closed w calm o
+  calm-in w calm (command o c) h = from (refusal u o c)
+    where
+      u : World
+      u = (ending_other_turn w o).0
+
+      from : (r : Option Refusal) → IsCalm g (unless_refused o r u (accepted u o c)).0
+      from (Some r) = calm-ended g closed w calm o
+      from None = accepted-calm u o h (no_other-ended w o) c
+
+-- the host of a line's outward event is of the group
+pub event-host : (g : Owner → Bool) (w : World) (l : Line) (e : OutwardEvent) → outward_event g w l ≡ Some e → in_node g e.host ≡ true
+event-host g w no_owner e h = cc
+event-host g w (no_command o) e h = cc
+event-host g w (command o c) e h = command_event-inside g (ending_other_turn w o).0 o c e h

@@ -22,8 +22,8 @@ use Rattle.dom_worlds.proofs.Tests.{by_cases}
 use Rattle.dom_worlds.proofs.TurnEndings.{quiet-dispatch}
 use Rattle.dom_isolation.specs.GroupLaws.{IsCalm}
 use Rattle.dom_isolation.proofs.GroupDispatches.{run_each-one, outward_run, runs-then}
-use Rattle.dom_isolation.proofs.GroupBegins.{same-calm}
-use Rattle.dom_isolation.proofs.GroupLines.{calm-in, calm-outward, event-host}
+use Rattle.dom_isolation.proofs.GroupTurns.{same-calm}
+use Rattle.dom_isolation.proofs.GroupCommands.{calm-in, calm-outward, event-host}
 use Rattle.dom_isolation.proofs.QuietGroups.{IsSameView, outward-in, ending_any-in, line-in, line-out, may_stop-in}
 
 -- The world of a script, and the one of its trace where all others are silent: of both the group has the same.

@@ -18,7 +18,7 @@ use Rattle.dom_worlds.proofs.ShadowTrees.{slot_way, slots-behind}
 use Rattle.dom_worlds.proofs.Tests.{by_cases, either_way}
 use Rattle.dom_isolation.proofs.GroupParts.{in_node}
 use Rattle.dom_isolation.proofs.GroupSlots.{IsGround, ground-of}
-use Rattle.dom_isolation.proofs.GroupVisits.{in_view}
+use Rattle.dom_isolation.proofs.OwnVisits.{in_view}
 use Rattle.dom_isolation.proofs.GroupPaths.{AreIn, begins, begins-inside, ancestors-inside, hidden-in, hidden-outside, retarget-inside, retarget-in}
 use Rattle.dom_isolation.proofs.GroupPaths.{related-in, whole-in, take_while-filter, filter-within}
 

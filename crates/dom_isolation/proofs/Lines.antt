@@ -1,31 +1,36 @@
--- One line, as the page sees it: a line of the page is the page machine's, another's is its outward event, each as far as others let it come.
-use Rattle.std.proofs.Common.{◌≡◌, ℕ, Bool, true, false, List, [], ◌∷◌, ◌++◌, map, Option, Some, None, refl, sym, ap, ◌∙◌, true≢false}
+-- One line, as the page sees it: a line of the page is the page machine's, another's is its outward event, each as far as others let it come; where no
+-- component listener stops or cancels they do nothing to an event.
+use Rattle.std.proofs.Common.{◌≡◌, ℕ, Bool, true, false, List, [], ◌∷◌, ◌++◌, map, Option, Some, None, refl, sym, ap, ◌∙◌, true≢false, option_map}
 use Rattle.std.specs.Prelude.{option_to_list, if◌then◌else◌}
 use Rattle.std.proofs.lemmas.Bool.{cond-true, cond-false}
 use Rattle.dom_base.specs.declared.Owner.TheVariants.{Page, Component}
 use Rattle.dom_base.specs.declared.Refusal.TheVariants.{Syntax}
-use Rattle.dom_model.specs.Command.{Line, no_owner, no_command, command}
-use Rattle.dom_model.specs.Runs.{Run, quiet, run_then, refusing}
+use Rattle.dom_model.specs.Command.{Line, no_owner, no_command, command, Command}
+use Rattle.dom_model.specs.Runs.{Run, quiet, run_then, refusing, run_each}
 use Rattle.dom_model.specs.World.{World, Task, micro_task, notify_task, part_of, with_part}
 use Rattle.dom_model.specs.Turns.{firing_slotchange, without_signals, notified, ending_other_turn, running_task}
 use Rattle.dom_model.specs.DocumentMachine.{step, run_command}
-use Rattle.dom_model.specs.Trace.{is_page, is_of, owner_of_line, outward_event, OutwardEvent}
+use Rattle.dom_model.specs.Trace.{is_page, is_of, owner_of_line, outward_event, OutwardEvent, outward_dispatch}
 use Rattle.dom_model.specs.Groups.{ends_other_turn, ends_group_turn}
-use Rattle.dom_model.specs.PageMachine.{PageState, page_of}
-use Rattle.dom_isolation.specs.Interference.{Interference, FullItem, line_with, outward_with, turn_ended, records_each, first_record, slot_record, task_records}
-use Rattle.dom_isolation.specs.Interference.{ending_records, before_records, own_records, others_items, full_items}
-use Rattle.dom_isolation.specs.TouchedMachines.{page_line_under, page_command_under, run_page_under}
-use Rattle.dom_isolation.specs.Laws.{page_run}
-use Rattle.dom_worlds.specs.Reached.{Invariant}
-use Rattle.dom_isolation.specs.FullLaws.{EndingsAreNotTold}
+use Rattle.dom_model.specs.PageMachine.{PageState, page_of, page_outward}
+use Rattle.dom_isolation.specs.Interference.{Interference, FullItem, line_with, outward_with, turn_ended, records_each, first_record, slot_record}
+use Rattle.dom_isolation.specs.Interference.{task_records, ending_records, before_records, own_records, others_items, full_items, untouched}
+use Rattle.dom_isolation.specs.TouchedMachines.{page_line_under, page_command_under, run_page_under, page_dispatch_under}
+use Rattle.dom_isolation.specs.Laws.{page_run, PageDispatchAgrees, ComponentDispatchAgrees, PageLineAgrees, OtherLineAgrees}
+use Rattle.dom_worlds.specs.Reached.{Invariant, IsQuiet}
+use Rattle.dom_isolation.specs.FullLaws.{EndingsAreNotTold, PageDispatchAgreesInFull, PageLineAgreesInFull, OtherLineAgreesInFull}
 use Rattle.dom_worlds.proofs.Tests.{by_cases}
 use Rattle.dom_worlds.proofs.TurnEndings.{at_end, quiet-running, quiet-at_end}
-use Rattle.dom_isolation.proofs.SeenRuns.{run_then-square}
-use Rattle.dom_isolation.proofs.PageTurns.{ending_other-quiet, no_page_slots}
+use Rattle.dom_isolation.proofs.PageSteps.{run_then-square}
+use Rattle.dom_isolation.proofs.PageCommands.{ending_other-quiet, no_page_slots}
 use Rattle.dom_worlds.proofs.LineBegins.{quiet-ending_other, page_time}
 use Rattle.dom_isolation.proofs.PageCommands.{command-page}
-use Rattle.dom_isolation.proofs.ComponentEvents.{outward_run, run_then-quiet_end}
-use Rattle.dom_isolation.proofs.ComponentCommands.{command-component}
+use Rattle.dom_isolation.proofs.ComponentCommands.{outward_run, run_then-quiet_end}
+use Rattle.dom_isolation.proofs.ComponentCommands.{command-component, dispatched-component}
+use Rattle.dom_model.specs.CommandNames.{named}
+use Rattle.dom_isolation.proofs.Dispatches.{dispatch-page}
+use Rattle.dom_isolation.proofs.FullTraces.{first-nothing, nothing-at, own-nothing, line-plain}
+use Rattle.dom_isolation.proofs.PagePaths.{views-page}
 
 -- after a run that shows nothing comes what is shown
 quiet_first : (r : Run World) (s : PageState) (f : World → Run World) (g : PageState → Run PageState) → page_run r ≡ quiet s →
@@ -123,3 +128,54 @@ module _ {L : Type 0} (read : L → Line) where
       ∙ sym (ended-nothing (ends_group_turn is_page w (read l)) before (page_of w)
       (map (λ e. outward_with e (first_record own).reached) (option_to_list (outward_event is_page w (read l)))))
       ∙ sym (ap (run_page_under read (page_of w)) (cond-false kept mine others h)))
+
+-- One dispatch of the page, with interference and without.
+pub page_dispatch-agrees_in_full : PageDispatchAgreesInFull
+page_dispatch-agrees_in_full w i x related e h g = dispatch-page w x related e i.page x related (views-page i x related e.composed h g)
+
+-- without
+pub page_dispatch-agrees : PageDispatchAgrees
+page_dispatch-agrees w q x related e h g =
+    page_dispatch-agrees_in_full w q.world x related e h g
+    ∙ ap (λ i. page_dispatch_under i (page_of w) x related e) (nothing-at is_page refl w q x related e)
+
+-- an outward event that others let come to all visits
+outward-plain : (s : PageState) (o : Option OutwardEvent) → outward_run None s o ≡ run_each page_outward s (option_to_list o)
+outward-plain s None = refl
+outward-plain s (Some e) = refl
+
+-- One of a component.
+pub component_dispatch-agrees : ComponentDispatchAgrees
+component_dispatch-agrees w Page off q x e related h = absurd (off refl)
+component_dispatch-agrees w (Component k) off q x e related h =
+    let c = Command.dispatch x e related in
+    let p = part_of w (Component k) in
+    let event = outward_dispatch is_page w (Component k) c in
+    dispatched-component k q.world x e related h
+    ∙ ap (λ (i : Interference). outward_run i.reached (page_of w) event)
+    (nothing-at is_page refl w q (named p x) (option_map (named p) related) e)
+    ∙ outward-plain (page_of w) event
+
+-- what is told of a line
+told-nothing : (w : World) → IsQuiet w → (l : Line) → first_record (own_records is_page w l) ≡ untouched
+told-nothing w q l = first-nothing (own_records is_page w l) (own-nothing is_page refl w q l)
+
+-- One line of the page, with interference and without.
+pub page_line-agrees_in_full : PageLineAgreesInFull
+page_line-agrees_in_full w i l h = line-page {only_log = false} w (record { world = i; logs = λ y. absurd (true≢false (sym y)) }) l h
+
+-- without
+pub page_line-agrees : PageLineAgrees
+page_line-agrees w q l h =
+    page_line-agrees_in_full w q.world l h ∙ ap (λ i. page_line_under i (page_of w) l) (told-nothing w q l) ∙ line-plain (page_of w) l
+
+-- one of another owner, or of none
+pub other_line-agrees_in_full : OtherLineAgreesInFull
+other_line-agrees_in_full w i l h = line-other {only_log = false} w (record { world = i; logs = λ y. absurd (true≢false (sym y)) }) l h
+
+-- without
+pub other_line-agrees : OtherLineAgrees
+other_line-agrees w q l h =
+    let event = outward_event is_page w l in
+    other_line-agrees_in_full w q.world l h
+    ∙ ap (λ (i : Interference). outward_run i.reached (page_of w) event) (told-nothing w q l) ∙ outward-plain (page_of w) event

@@ -43,10 +43,10 @@ use Rattle.dom_isolation.proofs.GroupParts.{in_node, with_part-out, filter-away}
 use Rattle.dom_isolation.proofs.GroupSlots.{IsGround, ground-of, made-outside}
 use Rattle.dom_isolation.proofs.GroupSteps.{steps-out}
 use Rattle.dom_isolation.proofs.GroupDispatches.{outward_told, quiet-then, touched-out}
-use Rattle.dom_isolation.proofs.TouchedDispatches.{IsSameWorld}
+use Rattle.dom_isolation.proofs.GroupDispatches.{IsSameWorld}
 use Rattle.dom_isolation.proofs.OutsideViews.{found-passes}
 use Rattle.dom_isolation.proofs.GroupTurns.{ending-out}
-use Rattle.dom_isolation.proofs.GroupBegins.{turn-none, same-turn, same-calm, opening-out, opened-quiet}
+use Rattle.dom_isolation.proofs.GroupTurns.{turn-none, same-turn, same-calm, opening-out, opened-quiet}
 
 -- the host of an outward event is of the group
 pub event-inside : (g : Owner → Bool) (w : World) (o : Owner) (c : Command) (e : OutwardEvent) → outward_dispatch g w o c ≡ Some e → in_node g e.host ≡ true

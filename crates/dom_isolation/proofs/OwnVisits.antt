@@ -1,6 +1,7 @@
 -- Visits as a group has them: one at a node of the group does what it does where no others are, and one at another node does nothing to the
--- group but to the flags of the event.
-use Rattle.std.proofs.Common.{◌≡◌, Bool, true, false, ◌||◌, List, [], ◌∷◌, ◌++◌, filter, fold, refl, sym, ap, ◌∙◌, append-nil, true≢false, subst}
+-- group but to the flags of the event. The visits at its nodes are those of the views there.
+use Rattle.std.proofs.Common.{◌≡◌, Bool, true, false, ◌||◌, List, [], ◌∷◌, ◌++◌, filter, fold, refl, sym, ap, ◌∙◌, append-nil, true≢false, subst, map}
+use Rattle.std.proofs.Common.{reverse}
 use Rattle.std.proofs.lemmas.Bool.{cond-true, cond-false}
 use Rattle.std.proofs.lemmas.List.Elements.{filter-append}
 use Rattle.dom_base.specs.declared.Owner.{Owner}
@@ -12,14 +13,17 @@ use Rattle.dom_model.specs.Command.{EventWords}
 use Rattle.dom_model.specs.Output.{EventLine}
 use Rattle.dom_model.specs.Listeners.{Listener, Visit, visited, called, hears, kept_after, after_action, may_cancel, line_of}
 use Rattle.dom_model.specs.Part.{Part}
-use Rattle.dom_model.specs.World.{part_of, with_part}
-use Rattle.dom_model.specs.Dispatch.{world_visit}
-use Rattle.dom_model.specs.Groups.{group_world}
+use Rattle.dom_model.specs.World.{part_of, with_part, World}
+use Rattle.dom_model.specs.Dispatch.{world_visit, Dispatched, visits_of, visit_of, is_at_target, event_output}
+use Rattle.dom_model.specs.Groups.{group_world, group_outputs, group_run}
 use Rattle.dom_model.proofs.PartLaws.{owner-part_of}
 use Rattle.dom_worlds.proofs.Tests.{by_cases}
 use Rattle.dom_worlds.proofs.Visits.{Going, InWorld, with_listeners, call, call-of, no_call, sifted-after_action}
 use Rattle.dom_isolation.specs.Interference.{is_own_visit}
 use Rattle.dom_isolation.proofs.GroupParts.{part-in, with_part-in, with_part-out, group-twice, filter-here, filter-away, filter-twice}
+use Rattle.dom_model.specs.Paths.{View}
+use Rattle.dom_model.specs.Trace.{is_of, owner_of_output}
+use Rattle.dom_worlds.proofs.Lists.{filter-filter, filter-map, filter-reverse}
 
 -- A visit leaves as it is what is told by the calls alone: what each call keeps all calls keep, and so the visit.
 module _ (P : Going → Type 0) (e : EventWords) (v : Visit NodeName) (keeps : (d : Going) (l : Listener NodeName) → P d → P (call e v d l)) where
@@ -242,3 +246,28 @@ module _ (g : Owner → Bool) where
       ap (λ w. (w, record (seen heard) { listeners = [] })) (with_part-out g s.0 (with_listeners p heard.listeners)
       (ap g (owner-part_of s.0 v.current.owner) ∙ f))
       ∙ ap (λ ls. (group_world g s.0, record heard { listeners = []; lines = ls })) (lines-outside e v f start)
+
+module _ (g : Owner → Bool) where
+  -- whether a view is at a node of the group
+  abbrev pub in_view : View NodeName → Bool
+  in_view v = g v.node.owner
+
+  -- The visits at nodes of the group are those of the views there.
+  pub group_visits : (bubbles : Bool) (vs : List (View NodeName)) →
+      filter (is_own_visit g) (visits_of name_eq bubbles vs) ≡ visits_of name_eq bubbles (filter in_view vs)
+  group_visits bubbles vs =
+      let going_up = filter (λ v. bubbles || is_at_target name_eq v) in
+      filter-append (is_own_visit g) (map (visit_of name_eq true) (reverse vs)) (map (visit_of name_eq false) (going_up vs))
+      ∙ ap (λ xs. xs ++ filter (is_own_visit g) (map (visit_of name_eq false) (going_up vs)))
+      (filter-map (is_own_visit g) (visit_of name_eq true) (reverse vs) ∙ ap (map (visit_of name_eq true)) (filter-reverse in_view vs))
+      ∙ ap (λ xs. map (visit_of name_eq true) (reverse (filter in_view vs)) ++ xs)
+      (filter-map (is_own_visit g) (visit_of name_eq false) (going_up vs)
+      ∙ ap (map (visit_of name_eq false)) (filter-filter in_view (λ v. bubbles || is_at_target name_eq v) vs))
+
+  -- the group's lines of a dispatch
+  pub outputs-event_lines : (ls : List (EventLine NodeName)) → group_outputs g (map event_output ls) ≡ map event_output (filter (in_line g) ls)
+  outputs-event_lines ls = filter-map (λ l. is_of g (owner_of_output l)) event_output ls
+
+  -- what the group has of how a dispatch ends
+  abbrev pub group_dispatched : Dispatched World → Dispatched World
+  group_dispatched d = record { run = group_run g d.run; answer = d.answer }

@@ -1,6 +1,7 @@
--- The path of an event of a page node: its inclusive ancestors, and between them nodes of shadow trees, which are hidden.
-use Rattle.std.proofs.Common.{◌≡◌, ℕ, zero, suc, Bool, true, false, not, ◌&&◌, List, [], ◌∷◌, ◌++◌, filter, flat_map, take_while, Option, Some, None, map, refl}
-use Rattle.std.proofs.Common.{sym, ap, ◌∙◌, subst, append-nil}
+-- The path of an event of a page node: its inclusive ancestors, and between them nodes of shadow trees, which are hidden: of the nodes of a world as
+-- the machine reaches it just those of shadow trees are hidden from a page node.
+use Rattle.std.proofs.Common.{◌≡◌, ℕ, zero, suc, Bool, true, false, not, ◌&&◌, List, [], ◌∷◌, ◌++◌, filter, flat_map, take_while, Option, Some, None, map}
+use Rattle.std.proofs.Common.{refl, sym, ap, ◌∙◌, subst, append-nil, find, unwrap_or}
 use Rattle.std.specs.Prelude.{if◌then◌else◌, option_to_list}
 use Rattle.std.specs.List.{AllByRecursion}
 use Rattle.std.proofs.lemmas.List.Elements.{filter-append}
@@ -8,8 +9,8 @@ use Rattle.std.proofs.lemmas.Bool.{cond-true, cond-false}
 use Rattle.dom_base.specs.declared.Owner.{Owner}
 use Rattle.dom_base.specs.declared.Owner.TheVariants.{Page}
 use Rattle.dom_base.specs.declared.NodeName.{NodeName}
-use Rattle.dom_model.specs.Names.{name_eq, max_depth}
-use Rattle.dom_model.specs.World.{World, part_of, ancestors_at, host_chain}
+use Rattle.dom_model.specs.Names.{name_eq, max_depth, owner_depth, is_in}
+use Rattle.dom_model.specs.World.{World, part_of, ancestors_at, host_chain, root_at, hosts_from, shadow_including_ancestors}
 use Rattle.dom_model.specs.Slots.{slot_of}
 use Rattle.dom_model.specs.Paths.{is_hidden_from, retarget, retarget_related, is_node, with_slots, way_up, whole_path, ends_at, event_path, view_at, views}
 use Rattle.dom_model.specs.Paths.{plain_view, plain_views}
@@ -17,9 +18,41 @@ use Rattle.dom_model.specs.Trace.{is_page}
 use Rattle.dom_model.proofs.OwnerLaws.{ne-owner_eq}
 use Rattle.dom_worlds.specs.Worlds.{IsWorld, IsOf, IsForeignTo}
 use Rattle.dom_worlds.proofs.Lists.{all-append, all-from, all-then, all-flat_map, filter-map, filter_none, filter_same, map_same, take_while_all}
-use Rattle.dom_worlds.proofs.ShadowTrees.{IsInTree, slot-in_tree, ancestors-in_tree, ancestors-owned, slot_way, slots-behind, slots-first}
-use Rattle.dom_isolation.proofs.Hiding.{host_chain-page, page-not_hidden, in_tree-hidden, retarget-page, retarget_related-page}
-use Rattle.dom_isolation.proofs.GroupVisits.{in_view}
+use Rattle.dom_worlds.proofs.ShadowTrees.{IsInTree, slot-in_tree, ancestors-in_tree, ancestors-owned, slot_way, slots-behind, slots-first, in_tree, not_in}
+use Rattle.dom_isolation.proofs.OwnVisits.{in_view}
+use Rattle.dom_worlds.proofs.ComponentSignals.{page_in_no_tree}
+
+-- Page nodes.
+pub host_chain-page : (w : World) (x : NodeName) → x.owner ≡ Page → host_chain w x ≡ x ∷ []
+host_chain-page w x h = ap (λ o. hosts_from (owner_depth o) w x) h
+
+-- its shadow-including ancestors are its ancestors
+pub shadow_including-page : (w : World) (x : NodeName) → x.owner ≡ Page → shadow_including_ancestors w x ≡ ancestors_at w x
+shadow_including-page w x h = ap (flat_map (ancestors_at w)) (host_chain-page w x h) ∙ append-nil (ancestors_at w x)
+
+-- from a page node no page node is hidden, and a node of a shadow tree is
+pub page-not_hidden : (w : World) (x y : NodeName) → y.owner ≡ Page → is_hidden_from w x y ≡ false
+page-not_hidden w x y h = ap (λ b. b && not (is_in name_eq (root_at w y) (shadow_including_ancestors w x))) (page_in_no_tree w y h)
+
+-- a node of a shadow tree is hidden from a page node
+pub in_tree-hidden : {w : World} → IsWorld w → {c : Owner} (x : NodeName) {y : NodeName} → x.owner ≡ Page → IsInTree w c y → is_hidden_from w x y ≡ true
+in_tree-hidden {w} i {c} x {y} h t =
+    ap (λ b. b && not (is_in name_eq (root_at w y) (shadow_including_ancestors w x))) (in_tree w c y t)
+    ∙ ap (λ xs. not (is_in name_eq (root_at w y) xs)) (shadow_including-page w x h)
+    ∙ ap not (not_in (root_at w y) (ancestors_at w x) Page (λ e. t.foreign (sym (ap (λ (r : NodeName). r.owner) t.root) ∙ e))
+    (subst (λ o. AllByRecursion (IsOf o) (ancestors_at w x)) h (ancestors-owned w i x)))
+
+-- Retargeting a page node gives the node.
+pub retarget-page : (w : World) (a b : NodeName) → a.owner ≡ Page → retarget w a b ≡ a
+retarget-page w a b h =
+    ap (λ xs. unwrap_or (find (λ x. not (is_hidden_from w b x)) xs) a) (host_chain-page w a h)
+    ∙ ap (λ t. unwrap_or (if not t then Some a else None) a) (page-not_hidden w b a h)
+
+-- and so a related node
+pub retarget_related-page : (w : World) (related : Option NodeName) (b : NodeName) → AllByRecursion (IsOf Page) (option_to_list related) →
+    retarget_related w related b ≡ related
+retarget_related-page w None b h = refl
+retarget_related-page w (Some a) b h = ap Some (retarget-page w a b h.0)
 
 -- whether a node is the page's
 abbrev pub is_page_node : NodeName → Bool

@@ -17,8 +17,8 @@ use Rattle.dom_isolation.specs.Interference.{plain_items, full_items, full_trace
 use Rattle.dom_isolation.specs.Laws.{page_run, PageRunAgrees, TraceGoesOn, PageOutputGoesOn, FirstLinesStopNothing}
 use Rattle.dom_isolation.specs.TouchedMachines.{step_page_under, run_page_under, page_outputs_under}
 use Rattle.dom_worlds.specs.Reached.{Invariant}
-use Rattle.dom_isolation.proofs.SeenRuns.{run_then-square}
-use Rattle.dom_isolation.proofs.PageTurns.{ending_any-page}
+use Rattle.dom_isolation.proofs.PageSteps.{run_then-square}
+use Rattle.dom_isolation.proofs.PageCommands.{ending_any-page}
 use Rattle.dom_isolation.proofs.Lines.{line-items}
 use Rattle.dom_isolation.proofs.FullTraces.{trace-untouched, full_trace-is_trace, run-plain}
 use Rattle.dom_worlds.proofs.FirstWorld.{quiet-first}

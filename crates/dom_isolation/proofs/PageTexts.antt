@@ -1,4 +1,4 @@
--- Texts: the page's lines of input and of output are those that begin with `p `.
+-- Texts: the page's lines of input and of output are those that begin with `p `, and the text of the output of a script has the lines that were written.
 use Rattle.std.proofs.Common.{◌≡◌, ◌≢◌, ℕ, true, List, [], ◌∷◌, ◌++◌, map, flat_map, Option, Some, None, refl, sym, ap, ◌∙◌, true≢false}
 use Rattle.std.specs.Prelude.{option_to_list}
 use Rattle.std.proofs.lemmas.Bool.{cond-true, cond-false, false_from_ne_true}
@@ -16,16 +16,22 @@ use Rattle.dom_text.specs.Lines.{lines_of, owner_prefix, begins_with, page_lines
 use Rattle.dom_text.specs.Decode.{decode}
 use Rattle.dom_text.specs.Text.{output_line}
 use Rattle.dom_text.proofs.TextLaws.{IsSaidBy, begins-says, says-begins}
-use Rattle.dom_isolation.specs.Texts.{ReadsPrefix, lines_in, OutputHasPageLines, PageViewIsItsOutput, TraceHasPageLines, PageLinesAgree}
-use Rattle.dom_isolation.specs.Texts.{PageLinesAgreeSoFar, PageTextAgrees, SamePageText, ForeignLineIsRefused}
+use Rattle.dom_isolation.specs.Texts.{ReadsPrefix, lines_in, OutputHasPageLines, PageViewIsItsOutput, TraceHasPageLines, PageLinesAgree, PageLinesAgreeSoFar}
+use Rattle.dom_isolation.specs.Texts.{PageTextAgrees, SamePageText, ForeignLineIsRefused}
 use Rattle.dom_isolation.specs.Interference.{FullItem, line_with, outward_with, turn_ended, plain_items, full_trace_of}
 use Rattle.dom_isolation.specs.TouchedMachines.{page_outputs_under}
 use Rattle.dom_isolation.specs.FullIsolation.{full_lines_in, FullTraceHasPageLines, PageLinesAgreeInFull, PageLinesAgreeSoFarInFull, PageTextAgreesInFull}
-use Rattle.dom_isolation.specs.FullIsolation.{SamePageTextInFull}
+use Rattle.dom_isolation.specs.FullIsolation.{SamePageTextInFull, PickedLinesAgreeInFull, PickedLinesAgreeSoFarInFull}
 use Rattle.dom_worlds.proofs.Tests.{by_cases}
 use Rattle.dom_isolation.proofs.FullTraces.{full_trace-is_trace}
 use Rattle.dom_isolation.proofs.PageRuns.{page_run-agrees_in_full, page-sees_its_full_trace, page_run-agrees, page-sees_its_trace}
 use Rattle.dom_model.proofs.TurnLaws.{foreign_is_refused}
+use Rattle.std.specs.List.{AllByRecursion}
+use Rattle.dom_isolation.specs.Words.{IsPlainLine, ReadsPlainWords, OutputHasItsLines, OutputHasItsLinesSoFar, PickedLinesAgree, PickedLinesAgreeSoFar}
+use Rattle.dom_worlds.proofs.Lists.{all-from, all-map}
+use Rattle.dom_isolation.proofs.PlainCommands.{plain-saying}
+use Rattle.dom_isolation.proofs.SaidRuns.{says-outputs, says-so_far}
+use Rattle.dom_isolation.proofs.PlainLines.{lines_of-output}
 
 -- a line is the page's just where it says something of the page
 page-said : (l : Line) → is_of is_page (owner_of_line l) ≡ true → IsSaidBy Page l
@@ -161,3 +167,34 @@ component-may_use (Component q) c off = refl
 pub foreign_line-is_refused : ForeignLineIsRefused
 foreign_line-is_refused w bytes o c off e h =
     ap (step w) e ∙ foreign_is_refused w o c off (component-may_use o c off) h
+
+module _ (read : List ℕ → Line) where
+  -- what lines of bytes say has such words
+  plain-lines : ReadsPlainWords read → (lines : List (List ℕ)) → AllByRecursion IsPlainLine (map read lines)
+  plain-lines h lines = all-map IsPlainLine read lines (all-from (λ bytes. IsPlainLine (read bytes)) h lines)
+
+  -- the lines of the text are those that were written
+  pub output-has_its_lines : ReadsPlainWords read → OutputHasItsLines read
+  output-has_its_lines h lines = lines_of-output (outputs_of (map read lines)) (says-outputs plain-saying (map read lines) (plain-lines h lines))
+
+  -- of the lines so far
+  pub output-has_its_lines_so_far : ReadsPlainWords read → OutputHasItsLinesSoFar read
+  output-has_its_lines_so_far h lines =
+      lines_of-output (run_lines first_world (map read lines)).1 (says-so_far plain-saying (map read lines) (plain-lines h lines))
+
+  -- so those of the page are picked by their prefix, with interference
+  pub picked_lines-agree_in_full : ReadsPlainWords read → PickedLinesAgreeInFull read
+  picked_lines-agree_in_full h bytes =
+      ap page_lines (output-has_its_lines h (lines_of bytes)) ∙ page_lines-agree_in_full read (lines_of bytes)
+
+  -- of the lines so far
+  pub picked_lines-agree_so_far_in_full : ReadsPlainWords read → PickedLinesAgreeSoFarInFull read
+  picked_lines-agree_so_far_in_full h lines = ap page_lines (output-has_its_lines_so_far h lines) ∙ page_lines-agree_so_far_in_full read lines
+
+  -- and where no component listener stops or cancels
+  pub picked_lines-agree : ReadsPlainWords read → PickedLinesAgree read
+  picked_lines-agree h bytes g = ap page_lines (output-has_its_lines h (lines_of bytes)) ∙ page_lines-agree read (lines_of bytes) g
+
+  -- of the lines so far
+  pub picked_lines-agree_so_far : ReadsPlainWords read → PickedLinesAgreeSoFar read
+  picked_lines-agree_so_far h lines g = ap page_lines (output-has_its_lines_so_far h lines) ∙ page_lines-agree_so_far read lines g

@@ -36,7 +36,7 @@ use Rattle.dom_worlds.specs.Worlds.{AllNodes}
 use Rattle.dom_worlds.proofs.Lists.{all-append, all-flat_map, all-map, all-from, all-then}
 use Rattle.dom_worlds.proofs.Tests.{by_cases, either_way}
 use Rattle.dom_isolation.proofs.PlainWords.{IsPlainAttribute, IsPlainNode, IsPlainChange}
-use Rattle.dom_isolation.proofs.PlainRuns.{IsPlainEvent, IsPlainValue, IsPlainSaid, IsPlainOutput}
+use Rattle.dom_isolation.proofs.PlainCommands.{IsPlainEvent, IsPlainValue, IsPlainSaid, IsPlainOutput}
 
 -- a byte that is no line feed
 abbrev IsNoFeed : ℕ → Type 0

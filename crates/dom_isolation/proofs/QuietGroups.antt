@@ -1,11 +1,11 @@
 -- Where no component listener stops or cancels, others do nothing to an event. So the laws of a group without interference follow from those with it: two
--- worlds of which the group has the same do what one silent run does, whose records tell nothing.
+-- worlds of which the group has the same do what one silent run does, whose records tell nothing. And the laws on pieces, from their lemmas.
 use Rattle.std.proofs.Common.{◌≡◌, ◌+◌, Bool, true, false, not, ◌&&◌, ◌||◌, List, [], ◌∷◌, ◌++◌, length, Option, Some, None, option_map, refl, sym, ap, ◌∙◌}
 use Rattle.std.proofs.Common.{true≢false, arith, length-append}
 use Rattle.std.specs.List.{AllByRecursion}
 use Rattle.std.specs.Prelude.{option_to_list, is_none, is_some, replicate, if◌then◌else◌}
 use Rattle.dom_base.specs.declared.Owner.{Owner}
-use Rattle.dom_base.specs.declared.Owner.TheVariants.{Component}
+use Rattle.dom_base.specs.declared.Owner.TheVariants.{Component, Page}
 use Rattle.dom_base.specs.declared.NodeName.{NodeName}
 use Rattle.dom_model.specs.Names.{ComponentName}
 use Rattle.dom_model.specs.Command.{Command, EventWords, NodeWord, Line, no_owner, no_command, command}
@@ -24,20 +24,26 @@ use Rattle.dom_worlds.proofs.Lists.{all-append}
 use Rattle.dom_worlds.proofs.Reached.{sound}
 use Rattle.dom_worlds.proofs.Tests.{either_way}
 use Rattle.dom_isolation.specs.FullGroups.{last_records}
-use Rattle.dom_isolation.specs.GroupLaws.{IsCalm}
+use Rattle.dom_isolation.specs.GroupLaws.{IsCalm, AssignedAgree, SignalsAgree, StepAgrees, ViewsAgree, OutwardViewsAgree, DispatchAgrees, OtherDispatchAgrees}
+use Rattle.dom_isolation.specs.GroupLaws.{EndingAgrees, LineAgrees, OtherLineAgrees, FinishAgrees}
 use Rattle.dom_isolation.specs.Interference.{Interference, untouched, first_record, ending_records, before_records, own_records}
 use Rattle.dom_isolation.specs.SilentRuns.{Told, told_run, dispatch_under, outward_under, ending_under, ending_other_under, ending_any_under, step_under}
 use Rattle.dom_isolation.proofs.FullTraces.{TellNothing, first-nothing, nothing-at, ending-nothing, before-nothing, own-nothing}
-use Rattle.dom_isolation.proofs.GroupBegins.{same-calm}
+use Rattle.dom_isolation.proofs.GroupTurns.{same-calm}
 use Rattle.dom_isolation.proofs.GroupCommands.{refusal-in}
 use Rattle.dom_isolation.proofs.GroupDispatches.{outward_run, outward_told, run_each-one}
-use Rattle.dom_isolation.proofs.GroupLines.{event-host}
+use Rattle.dom_isolation.proofs.GroupCommands.{event-host}
 use Rattle.dom_isolation.proofs.GroupParts.{in_node}
-use Rattle.dom_isolation.proofs.GroupVisits.{group_dispatched}
+use Rattle.dom_isolation.proofs.OwnVisits.{group_dispatched}
 use Rattle.dom_isolation.proofs.OutsideCommands.{event-inside, touched_dispatch-out}
-use Rattle.dom_isolation.proofs.TouchedDispatches.{IsSameWorld, any_world, touched-in}
+use Rattle.dom_isolation.proofs.GroupDispatches.{IsSameWorld, any_world, touched-in}
 use Rattle.dom_isolation.proofs.TouchedLines.{ended_told, line-follows, others-alike}
 use Rattle.dom_isolation.proofs.TouchedTurns.{Follows, ending-follows, ending_other-follows, ending_any-follows}
+use Rattle.dom_isolation.proofs.GroupSignals.{signals-group}
+use Rattle.dom_isolation.proofs.GroupSlots.{ground-of, assigned-in}
+use Rattle.dom_isolation.proofs.GroupSteps.{step-in}
+use Rattle.dom_isolation.proofs.GroupViews.{views-in}
+use Rattle.dom_isolation.proofs.OutsideViews.{has-exit, views-exit}
 
 -- records that tell nothing are known by how many they are
 nothing-repeated : (records : List Interference) → TellNothing records → records ≡ replicate (length records) untouched
@@ -72,11 +78,12 @@ may_stop-same w v o c e = refl
 
 module _ (g : Owner → Bool) (closed : KeepsMakers g) where
   -- Two runs are alike that follow one silent run, of whose records none tells anything.
-  both-follow : {r s : Run World} (v : World) (f : Told → Run Told) (is js : List Interference) → TellNothing is → TellNothing js →
-      ((rest : List Interference) → Follows g closed r (f (v, is ++ rest)) rest) → ((rest : List Interference) → Follows g closed s (f (v, js ++ rest)) rest) →
-      group_run g r ≡ group_run g s
-  both-follow v f is js h k a b =
-      (a js).shown ∙ ap (λ records. group_run g (told_run (f (v, records)))) (nothing-turned is js h k) ∙ sym (b is).shown
+  module _ {r s : Run World} (v : World) (f : Told → Run Told) where
+    -- whatever the records
+    both-follow : (is js : List Interference) → TellNothing is → TellNothing js → ((rest : List Interference) → Follows g closed r (f (v, is ++ rest)) rest) →
+        ((rest : List Interference) → Follows g closed s (f (v, js ++ rest)) rest) → group_run g r ≡ group_run g s
+    both-follow is js h k a b =
+        (a js).shown ∙ ap (λ records. group_run g (told_run (f (v, records)))) (nothing-turned is js h k) ∙ sym (b is).shown
 
   -- An event of a node of the group,
   pub dispatch-in : {w v : World} → IsSameView g w v → (x : NodeName) (r : Option NodeName) (e : EventWords) → in_node g x ≡ true →
@@ -107,21 +114,24 @@ module _ (g : Owner → Bool) (closed : KeepsMakers g) where
       ∙ ap (group_run g) (sym (run_each-one outward_in w e))
 
   -- and one of a component outside.
-  pub dispatched-out : {w : World} (k : ComponentName) → IsQuiet w → g (Component k) ≡ false → (x : NodeWord) (e : EventWords) (r : Option NodeWord) →
-      let c = Command.dispatch x e r in
-      part_refusal (part_of w (Component k)) c ≡ None →
-      group_run g (perform w (Component k) c) ≡ group_run g (outward_run w (outward_dispatch g w (Component k) c))
-  dispatched-out {w} k q h x e r a =
-      let p = part_of w (Component k) in
-      let event = outward_dispatch g w (Component k) (Command.dispatch x e r) in
-      touched_dispatch-out g closed (itself q) k h x e r a
-      ∙ told-nothing w q (nothing-at g closed.page w q (named p x) (option_map (named p) r) e) event (event-inside g w (Component k) (Command.dispatch x e r))
+  module _ {w : World} (k : ComponentName) (q : IsQuiet w) (h : g (Component k) ≡ false) where
+    -- which passes
+    pub dispatched-out : (x : NodeWord) (e : EventWords) (r : Option NodeWord) →
+        let c = Command.dispatch x e r in
+        part_refusal (part_of w (Component k)) c ≡ None →
+        group_run g (perform w (Component k) c) ≡ group_run g (outward_run w (outward_dispatch g w (Component k) c))
+    dispatched-out x e r a =
+        let p = part_of w (Component k) in
+        let c = Command.dispatch x e r in
+        touched_dispatch-out g closed (itself q) k h x e r a
+        ∙ told-nothing w q (nothing-at g closed.page w q (named p x) (option_map (named p) r) e) (outward_dispatch g w (Component k) c)
+        (event-inside g w (Component k) c)
 
   -- The ending of a turn,
   pub ending-in : (w v : World) → IsSameView g w v → group_run g (ending_turn w) ≡ group_run g (ending_turn v)
   ending-in w v s =
-      both-follow v (ending_under g) _ _ (ending-nothing g closed.page w s.first) (ending-nothing g closed.page v s.second) (ending-follows g closed (same-world s))
-      (ending-follows g closed (itself s.second))
+      both-follow v (ending_under g) _ _ (ending-nothing g closed.page w s.first) (ending-nothing g closed.page v s.second)
+      (ending-follows g closed (same-world s)) (ending-follows g closed (itself s.second))
 
   -- before a line,
   ending_other-in : (w v : World) → IsSameView g w v → IsCalm g w → (o : Owner) → group_run g (ending_other_turn w o) ≡ group_run g (ending_other_turn v o)
@@ -169,3 +179,52 @@ module _ (g : Owner → Bool) (closed : KeepsMakers g) where
       (others-alike g closed (itself q) any k calm l h).0
       ∙ ap (λ b. group_run g (run_then (ended_told g closed b w (before_records g w l)) send)) t
       ∙ told-nothing w q (first-nothing own (own-nothing g closed.page w q l)) (outward_event g w l) (event-host g w l)
+
+-- slots
+pub assigned-agree : AssignedAgree
+assigned-agree g closed w i s h = assigned-in g closed w (ground-of w i) s h
+
+-- signals
+pub signals-agree : SignalsAgree
+signals-agree g closed was now i j x around is_move = signals-group g closed (ground-of was i) (ground-of now j) x around is_move
+
+-- steps
+pub step-agrees : StepAgrees
+step-agrees g closed o h w i s = step-in g closed o h w (ground-of w i) s
+
+-- views
+pub views-agree : ViewsAgree
+views-agree g closed w i x related composed h k = views-in g closed w i x related h k composed
+
+-- views of an event that goes out
+pub outward_views-agree : OutwardViewsAgree
+outward_views-agree g closed w i x host h e =
+    let k = has-exit g closed w i x host e in
+    views-exit g closed w i x host k ∙ views-in g closed w i host None k.inside tt true
+
+-- a dispatch
+pub dispatch-agrees : DispatchAgrees
+dispatch-agrees g closed w v q p same x related e h k =
+    let shown = dispatch-in g closed (record { first = q; second = p; same = same }) x related e h k in
+    (ap (λ (d : Dispatched World). d.run) shown, ap (λ (d : Dispatched World). d.answer) shown)
+
+-- of a component outside
+pub other_dispatch-agrees : OtherDispatchAgrees
+other_dispatch-agrees g closed w Page h q x e related r = absurd (true≢false (sym closed.page ∙ h))
+other_dispatch-agrees g closed w (Component k) h q x e related r = dispatched-out g closed k q h x e related r
+
+-- the ending of a turn
+pub ending-agrees : EndingAgrees
+ending-agrees g closed w v q p same = ending-in g closed w v (record { first = q; second = p; same = same })
+
+-- lines
+pub line-agrees : LineAgrees
+line-agrees g closed w v q p same calm l h = line-in g closed w v (record { first = q; second = p; same = same }) calm l h
+
+-- of others
+pub other_line-agrees : OtherLineAgrees
+other_line-agrees g closed w r k calm l h t = line-out g closed r k calm l h t
+
+-- the end of input
+pub finish-agrees : FinishAgrees
+finish-agrees g closed w v q p same calm = ending_any-in g closed w v (record { first = q; second = p; same = same }) calm

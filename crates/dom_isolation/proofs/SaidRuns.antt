@@ -80,10 +80,10 @@ module _ {Inv : Part → Type 0} {May : Step → Type 0} {IsTask : Task → Type
   says-then r f h g = let more = g r.0 h.0 in (more.0, all-append IsSaid r.1 (f r.0).1 h.1 more.1)
 
   -- a run for each item
-  says-each : {A : Type 0} (P : A → Type 0) (f : World → A → Run World) → ((w : World) (x : A) → In w → P x → Says (f w x)) → (xs : List A) (w : World) →
+  says-each : {A : Type 0} (P : A → Type 0) (f : World → A → Run World) → ((w : World) (x : A) → In w → P x → Says (f w x)) → (xs : List A) {w : World} →
       In w → AllByRecursion P xs → Says (run_each f w xs)
-  says-each P f g [] w h all = (h, tt)
-  says-each P f g (x ∷ xs) w h all = says-then (f w x) (λ v. run_each f v xs) (g w x h all.0) (λ v i. says-each P f g xs v i all.1)
+  says-each P f g [] h all = (h, tt)
+  says-each P f g (x ∷ xs) {w} h all = says-then (f w x) (λ v. run_each f v xs) (g w x h all.0) (λ v i. says-each P f g xs i all.1)
 
   -- Visits,
   says-visits : (e : EventWords) (vs : List (Visit NodeName)) (w : World) (d : Dispatching NodeName) → In w → AllByRecursion (IsSaidEvent IsSaid) d.lines →
@@ -113,11 +113,11 @@ module _ {Inv : Part → Type 0} {May : Step → Type 0} {IsTask : Task → Type
       let told = k.notified p (h.parts o) in
       says-then (with_part (without_signals w o) (notified p), notified_lines p) (λ v. run_each firing_slotchange v slots)
       (holds-with_part k.steps (without_signals w o) (notified p) (record { parts = h.parts; tasks = h.tasks }) told.0, told.1)
-      (λ v i. says-each (λ s. ⊤) firing_slotchange (λ u s j t. says-dispatch u s None slotchange j) slots v i (all-from (λ s. ⊤) (λ s. tt) slots))
+      (λ v i. says-each (λ s. ⊤) firing_slotchange (λ u s j t. says-dispatch u s None slotchange j) slots i (all-from (λ s. ⊤) (λ s. tt) slots))
 
   -- the ending of a turn,
   says-ending : (w : World) → In w → Says (ending_turn w)
-  says-ending w h = says-each IsTask running_task says-running w.tasks (record w { tasks = []; turn = None }) (record { parts = h.parts; tasks = tt }) h.tasks
+  says-ending w h = says-each IsTask running_task says-running w.tasks (record { parts = h.parts; tasks = tt }) h.tasks
 
   -- of another component's turn,
   says-ending_other : (w : World) (o : Owner) → In w → Says (ending_other_turn w o)
@@ -182,7 +182,7 @@ module _ {Inv : Part → Type 0} {May : Step → Type 0} {IsTask : Task → Type
 
   -- and the lines of a script.
   says-lines : (ls : List Line) → AllByRecursion MayRun ls → Says (run_lines first_world ls)
-  says-lines ls h = says-each MayRun step says-line ls first_world (record { parts = k.first; tasks = tt }) h
+  says-lines ls h = says-each MayRun step says-line ls (record { parts = k.first; tasks = tt }) h
 
   -- what they say
   pub says-so_far : (ls : List Line) → AllByRecursion MayRun ls → AllByRecursion IsSaid (run_lines first_world ls).1

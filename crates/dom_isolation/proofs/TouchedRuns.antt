@@ -24,9 +24,9 @@ use Rattle.dom_isolation.specs.FullGroups.{records_at_end, GroupSeesItsFullTrace
 use Rattle.dom_isolation.specs.GroupLaws.{IsCalm}
 use Rattle.dom_isolation.specs.SilentRuns.{told_run, ending_any_under, step_under, silent_step_under, silent_output_under}
 use Rattle.dom_isolation.proofs.GroupDispatches.{run_each-one, outward_told, runs-then}
-use Rattle.dom_isolation.proofs.GroupLines.{calm-in}
-use Rattle.dom_isolation.proofs.GroupBegins.{same-calm}
-use Rattle.dom_isolation.proofs.TouchedDispatches.{IsSameWorld, any_world}
+use Rattle.dom_isolation.proofs.GroupCommands.{calm-in}
+use Rattle.dom_isolation.proofs.GroupTurns.{same-calm}
+use Rattle.dom_isolation.proofs.GroupDispatches.{IsSameWorld, any_world}
 use Rattle.dom_isolation.proofs.TouchedLines.{line-follows, others-alike, others_told, ended_told}
 use Rattle.dom_isolation.proofs.TouchedTurns.{ending_any-follows}
 

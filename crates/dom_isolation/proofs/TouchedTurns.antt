@@ -31,10 +31,10 @@ use Rattle.dom_isolation.specs.FullGroups.{last_records}
 use Rattle.dom_isolation.specs.GroupLaws.{IsCalm}
 use Rattle.dom_isolation.specs.SilentRuns.{Told, told_run, untold, dispatch_under, firing_under, notifying_under, running_under, ending_under}
 use Rattle.dom_isolation.specs.SilentRuns.{ending_other_under, ending_any_under}
-use Rattle.dom_isolation.proofs.GroupBegins.{turn-none, same-turn, same-calm}
+use Rattle.dom_isolation.proofs.GroupTurns.{turn-none, same-turn, same-calm}
 use Rattle.dom_isolation.proofs.GroupDispatches.{runs-then, quiet-then}
 use Rattle.dom_isolation.proofs.GroupTurns.{slots, told-in, slots-in, slots-inside, running-out, at_end-calm, ending-out}
-use Rattle.dom_isolation.proofs.TouchedDispatches.{IsSameWorld, any_world, touched-in, world-dispatch_under}
+use Rattle.dom_isolation.proofs.GroupDispatches.{IsSameWorld, any_world, touched-in, world-dispatch_under}
 
 module _ (g : Owner → Bool) (closed : KeepsMakers g) where
   -- A run, as the group has it, is one of the silent run, which leaves these records.

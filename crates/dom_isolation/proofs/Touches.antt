@@ -1,6 +1,6 @@
 -- What a group has of all visits of an event is what the first visits at its own nodes do: as many as others let it come to.
-use Rattle.std.proofs.Common.{◌≡◌, ℕ, zero, suc, Bool, true, false, not, ◌&&◌, ◌||◌, List, [], ◌∷◌, filter, fold, Option, Some, None, option_map, unwrap_or, refl}
-use Rattle.std.proofs.Common.{take, sym, ap, ◌∙◌, true≢false, subst}
+use Rattle.std.proofs.Common.{◌≡◌, ℕ, zero, suc, Bool, true, false, not, ◌&&◌, ◌||◌, List, [], ◌∷◌, filter, fold, Option, Some, None, option_map, unwrap_or}
+use Rattle.std.proofs.Common.{refl, take, sym, ap, ◌∙◌, true≢false, subst}
 use Rattle.std.specs.Prelude.{is_some, if◌then◌else◌}
 use Rattle.std.specs.List.{AllByRecursion}
 use Rattle.std.proofs.lemmas.Bool.{cond-true, cond-false, and_parts}

@@ -83,36 +83,38 @@ worded-steps = record { step = worded-step; document = λ x d. tt; notify = λ o
 abbrev pub IsWordedInput : Line → Type 0
 IsWordedInput l = (o : Owner) → owner_of_line l ≡ Some o → HasWord o
 
--- a visit
-worded-visit : (e : EventWords) (v : Visit NodeName) (p : Part) (d : Dispatching NodeName) → p.owner ≡ v.current.owner → IsWorded p →
-    AllByRecursion (IsSaidEvent HasOwner) d.lines → let heard = visited name_eq e (record d { listeners = p.listeners }) v in
-    IsWorded (record p { listeners = heard.listeners }) × AllByRecursion (IsSaidEvent HasOwner) heard.lines
-unfolding call
-worded-visit e v p d o (inl t) g =
-    let start : Dispatching NodeName = record d { listeners = p.listeners } in
-    (inl t, kept-visited (λ c. AllByRecursion (IsSaidEvent HasOwner) c.lines) e v (called (subst HasWord o t)) start g)
-  where
-    acted : (a : Action) (m : Bool) (c : Dispatching NodeName) → (after_action a m c).lines ≡ c.lines
-    acted Log m c = refl
-    acted Stop m c = refl
-    acted StopNow m c = refl
-    acted Cancel m c = refl
+-- A visit.
+module _ (e : EventWords) (v : Visit NodeName) where
+  -- in a part of the owner of its node
+  worded-visit : (p : Part) (d : Dispatching NodeName) → p.owner ≡ v.current.owner → IsWorded p →
+      AllByRecursion (IsSaidEvent HasOwner) d.lines → let heard = visited name_eq e (record d { listeners = p.listeners }) v in
+      IsWorded (record p { listeners = heard.listeners }) × AllByRecursion (IsSaidEvent HasOwner) heard.lines
+  unfolding call
+  worded-visit p d o (inl t) g =
+      let start : Dispatching NodeName = record d { listeners = p.listeners } in
+      (inl t, kept-visited (λ c. AllByRecursion (IsSaidEvent HasOwner) c.lines) e v (called (subst HasWord o t)) start g)
+    where
+      acted : (a : Action) (m : Bool) (c : Dispatching NodeName) → (after_action a m c).lines ≡ c.lines
+      acted Log m c = refl
+      acted Stop m c = refl
+      acted StopNow m c = refl
+      acted Cancel m c = refl
 
-    called : HasWord v.current.owner → (c : Dispatching NodeName) (l : Listener NodeName) → AllByRecursion (IsSaidEvent HasOwner) c.lines →
-        AllByRecursion (IsSaidEvent HasOwner) (call e v c l).lines
-    called t c l h =
-        subst (AllByRecursion (IsSaidEvent HasOwner)) (sym (acted l.words.action (may_cancel e l.words)
-        (record c { listeners = kept_after name_eq l c.listeners; lines = c.lines ++ line_of v l.words ∷ [] })))
-        (all-append (IsSaidEvent HasOwner) c.lines (line_of v l.words ∷ []) h (t, tt))
-worded-visit e v p d o (inr s) g =
-    let Q : List (Listener NodeName) → Type 0 = λ ls. let heard = visited name_eq e (record d { listeners = ls }) v in
-    (heard.listeners ≡ []) × AllByRecursion (IsSaidEvent HasOwner) heard.lines in
-    let none : Dispatching NodeName = record d { listeners = [] } in
-    let both : Q p.listeners = subst Q (sym s.0) (
-      either_way (λ (x : Dispatching NodeName). x.listeners ≡ []) d.stopped none none refl refl,
-      either_way (λ (x : Dispatching NodeName). AllByRecursion (IsSaidEvent HasOwner) x.lines) d.stopped none none g g,
-    ) in
-    (inr (both.0, s.1, s.2), both.1)
+      called : HasWord v.current.owner → (c : Dispatching NodeName) (l : Listener NodeName) → AllByRecursion (IsSaidEvent HasOwner) c.lines →
+          AllByRecursion (IsSaidEvent HasOwner) (call e v c l).lines
+      called t c l h =
+          subst (AllByRecursion (IsSaidEvent HasOwner)) (sym (acted l.words.action (may_cancel e l.words)
+          (record c { listeners = kept_after name_eq l c.listeners; lines = c.lines ++ line_of v l.words ∷ [] })))
+          (all-append (IsSaidEvent HasOwner) c.lines (line_of v l.words ∷ []) h (t, tt))
+  worded-visit p d o (inr s) g =
+      let Q : List (Listener NodeName) → Type 0 = λ ls. let heard = visited name_eq e (record d { listeners = ls }) v in
+      (heard.listeners ≡ []) × AllByRecursion (IsSaidEvent HasOwner) heard.lines in
+      let none : Dispatching NodeName = record d { listeners = [] } in
+      let both : Q p.listeners = subst Q (sym s.0) (
+        either_way (λ (x : Dispatching NodeName). x.listeners ≡ []) d.stopped none none refl refl,
+        either_way (λ (x : Dispatching NodeName). AllByRecursion (IsSaidEvent HasOwner) x.lines) d.stopped none none g g,
+      ) in
+      (inr (both.0, s.1, s.2), both.1)
 
 -- a notification
 worded-notified : (p : Part) → IsWorded p → IsWorded (notified p) × AllByRecursion HasOwner (notified_lines p)

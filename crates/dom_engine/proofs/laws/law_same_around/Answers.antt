@@ -1,4 +1,4 @@
-use Rattle.dom_isolation.proofs.GroupMembers.{same-around, same-around_while_turns_stand, same-around_in_full}
+use Rattle.dom_isolation.proofs.GroupTexts.{same-around, same-around_while_turns_stand, same-around_in_full}
 use Rattle.dom_engine.proofs.GroupRuns.{around_runs-same, around_runs-same_while_turns_stand, around_runs-same_in_full}
 use Rattle.dom_engine.proofs.laws.law_same_around.Goals as goal
 

@@ -1,4 +1,4 @@
-use Rattle.dom_isolation.proofs.GroupMembers.{same-component, same-component_while_turns_stand, same-component_in_full}
+use Rattle.dom_isolation.proofs.GroupTexts.{same-component, same-component_while_turns_stand, same-component_in_full}
 use Rattle.dom_engine.proofs.GroupRuns.{component_runs-same, component_runs-same_while_turns_stand, component_runs-same_in_full}
 use Rattle.dom_engine.proofs.laws.law_same_component.Goals as goal
 

@@ -1,4 +1,4 @@
-use Rattle.dom_isolation.proofs.GroupMembers.{same-family, same-family_while_turns_stand, same-family_in_full}
+use Rattle.dom_isolation.proofs.GroupTexts.{same-family, same-family_while_turns_stand, same-family_in_full}
 use Rattle.dom_engine.proofs.GroupRuns.{family_runs-same, family_runs-same_while_turns_stand, family_runs-same_in_full}
 use Rattle.dom_engine.proofs.laws.law_same_family.Goals as goal
 

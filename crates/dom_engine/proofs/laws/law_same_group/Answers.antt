@@ -1,4 +1,4 @@
-use Rattle.dom_isolation.proofs.GroupMembers.{same-member, same-member_while_turns_stand, same-member_in_full}
+use Rattle.dom_isolation.proofs.GroupTexts.{same-member, same-member_while_turns_stand, same-member_in_full}
 use Rattle.dom_engine.proofs.GroupRuns.{group_runs-same, group_runs-same_while_turns_stand, group_runs-same_in_full}
 use Rattle.dom_engine.proofs.laws.law_same_group.Goals as goal
 

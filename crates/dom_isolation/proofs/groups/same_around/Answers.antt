@@ -1,4 +1,4 @@
-use Rattle.dom_isolation.proofs.GroupMembers.{same-around_while_turns_stand, same-around}
+use Rattle.dom_isolation.proofs.GroupTexts.{same-around_while_turns_stand, same-around}
 use Rattle.dom_isolation.proofs.groups.same_around.Goals as goal
 
 pub returns : goal.returns

@@ -1,4 +1,4 @@
-use Rattle.dom_isolation.proofs.GroupMembers.{same-family_while_turns_stand, same-family}
+use Rattle.dom_isolation.proofs.GroupTexts.{same-family_while_turns_stand, same-family}
 use Rattle.dom_isolation.proofs.groups.same_family.Goals as goal
 
 pub returns : goal.returns

@@ -1,5 +1,5 @@
 use Rattle.dom_isolation.proofs.GroupRuns.{same-group}
-use Rattle.dom_isolation.proofs.GroupMembers.{same-member_while_turns_stand, same-member, same-page}
+use Rattle.dom_isolation.proofs.GroupTexts.{same-member_while_turns_stand, same-member, same-page}
 use Rattle.dom_isolation.proofs.groups.same_group.Goals as goal
 
 pub returns : goal.returns

@@ -1,5 +1,5 @@
 use Rattle.dom_isolation.proofs.TouchedRuns.{same-group_in_full}
-use Rattle.dom_isolation.proofs.GroupMembers.{same-member_in_full, same-family_in_full, same-component_in_full, same-around_in_full}
+use Rattle.dom_isolation.proofs.GroupTexts.{same-member_in_full, same-family_in_full, same-component_in_full, same-around_in_full}
 use Rattle.dom_isolation.proofs.groups.same_group_in_full.Goals as goal
 
 pub returns : goal.returns
