@@ -16,7 +16,7 @@ use Rattle.dom_text.specs.Words.{kind_word, new_kinds, keyword_word}
 use Rattle.dom_text.specs.Grammar.{LinePart, key, word, string, node, parts, MayUse, Spells}
 use Rattle.dom_text.specs.Readers.{◌>>=◌, next_as, named}
 use Rattle.dom_text.specs.Decode.{new_of, new_at, node_at, one, command_behind, keyword_of, command_at}
-use Rattle.dom_text.proofs.PartLaws.{next_word_reads, next_as_reads, Spells-ends, ended, one_part}
+use Rattle.dom_text.proofs.PartLaws.{LineReader, next_word_reads, next_as_reads, Spells-ends, ended, one_part}
 use Rattle.dom_text.proofs.StringLaws.{next_string_reads}
 use Rattle.dom_text.proofs.CommandParts.{keyword_says}
 use Rattle.dom_text.proofs.CommandForms.{IsBehind, read_behind, new_kind, kind_reads, new_behind}
@@ -92,6 +92,14 @@ at k o behind said s =
     let read : next_as keyword_of said ≡ Some (k, s.1) = rw (s.4) ((next_as_reads keyword_says).complete s.0 s.1 k s.2 (Spells-ends behind s.1 s.3)) in
     ap (λ (x : Option (Keyword × List ℕ)). x >>= λ first. command_behind first.0 o first.1) read
 
+-- a keyword behind which a reader reads
+module _ (o : Owner) where
+  -- a line with the keyword and the values' parts is read to its end
+  completed : (k : Keyword) (reader : LineReader Command) (x : reader.Values) (said : List ℕ) →
+      ((bytes : List ℕ) → command_behind k o bytes ≡ reader.reads bytes) → Spells (key (keyword_word k) ∷ reader.parts x) said →
+      command_at o said ≡ Some (reader.makes x)
+  completed k reader x said is s = at k o (reader.parts x) said s ∙ is s.1 ∙ reader.complete s.1 x s.3
+
 -- a line with the kind in front is read on behind it
 pub at_kind : (k : Kind) (behind : List LinePart) (bytes : List ℕ) (s : Spells (key (kind_word k) ∷ behind) bytes) →
     named kind_word new_kinds (kind_word k) ≡ Some k → new_at bytes ≡ new_of k s.1
@@ -112,62 +120,47 @@ node_complete : {k : Keyword} {makes : NodeWord → Command} {name : List ℕ} (
 node_complete {k} {makes} {name} o n said takes s =
     let spelled : Spells (key (keyword_word k) ∷ node o n ∷ []) said =
     subst (λ w. Spells (key w ∷ node o n ∷ []) said) (keyword_says.sound name k takes.found) s in
-    at k o (node o n ∷ []) said spelled ∙ takes.behind spelled.1 ∙ (a_node o makes).complete spelled.1 (n, tt) spelled.3
+    completed o k (a_node o makes) (n, tt) said takes.behind spelled
 
 pub command_complete : (o : Owner) (c : Command) (said : List ℕ) → MayUse c o → Spells (parts o c) said → command_at o said ≡ Some c
 unfolding keyword_of
-command_complete o new_document said u s = at keyword.Document o [] said s ∙ (ended new_document).complete s.1 tt s.3
-command_complete o (append a b) said u s = at keyword.Append o (others o (append a b)) said s ∙ (two_nodes o append).complete s.1 (a, (b, tt)) s.3
-command_complete o (insert a b d) said u s =
-    at keyword.Insert o (others o (insert a b d)) said s ∙ (three_nodes o insert).complete s.1 (a, (b, (d, tt))) s.3
-command_complete o (replace a b d) said u s =
-    at keyword.Replace o (others o (replace a b d)) said s ∙ (three_nodes o replace).complete s.1 (a, (b, (d, tt))) s.3
-command_complete o (adopt a b) said u s = at keyword.Adopt o (others o (adopt a b)) said s ∙ (two_nodes o adopt).complete s.1 (a, (b, tt)) s.3
-command_complete o (set_attribute a b d) said u s =
-    at keyword.Set o (others o (set_attribute a b d)) said s ∙ (node_word_string o set_attribute).complete s.1 (a, (b, (d, tt))) s.3
-command_complete o (unset_attribute a b) said u s =
-    at keyword.Unset o (others o (unset_attribute a b)) said s ∙ (node_and_word o unset_attribute).complete s.1 (a, (b, tt)) s.3
-command_complete o (set_data a b) said u s =
-    at keyword.Data o (others o (set_data a b)) said s ∙ (node_and_string o set_data).complete s.1 (a, (b, tt)) s.3
+command_complete o new_document said u s = completed o keyword.Document (ended new_document) tt said (λ bytes. refl) s
+command_complete o (append a b) said u s = completed o keyword.Append (two_nodes o append) (a, (b, tt)) said (λ bytes. refl) s
+command_complete o (insert a b d) said u s = completed o keyword.Insert (three_nodes o insert) (a, (b, (d, tt))) said (λ bytes. refl) s
+command_complete o (replace a b d) said u s = completed o keyword.Replace (three_nodes o replace) (a, (b, (d, tt))) said (λ bytes. refl) s
+command_complete o (adopt a b) said u s = completed o keyword.Adopt (two_nodes o adopt) (a, (b, tt)) said (λ bytes. refl) s
+command_complete o (set_attribute a b d) said u s = completed o keyword.Set (node_word_string o set_attribute) (a, (b, (d, tt))) said (λ bytes. refl) s
+command_complete o (unset_attribute a b) said u s = completed o keyword.Unset (node_and_word o unset_attribute) (a, (b, tt)) said (λ bytes. refl) s
+command_complete o (set_data a b) said u s = completed o keyword.Data (node_and_string o set_data) (a, (b, tt)) said (λ bytes. refl) s
 command_complete o (replace_data a b d e) said u s =
     at keyword.ReplaceData o (others o (replace_data a b d e)) said s ∙ (node_numbers_string o replace_data).complete s.1 (a, (b, (d, (e, tt)))) s.3
-command_complete o (split a b) said u s = at keyword.Split o (others o (split a b)) said s ∙ (node_and_number o split).complete s.1 (a, (b, tt)) s.3
-command_complete o (set_text a b) said u s =
-    at keyword.Text o (others o (set_text a b)) said s ∙ (node_and_string o set_text).complete s.1 (a, (b, tt)) s.3
-command_complete o (attribute a b) said u s =
-    at keyword.Attr o (others o (attribute a b)) said s ∙ (node_and_word o attribute).complete s.1 (a, (b, tt)) s.3
-command_complete o (contains a b) said u s =
-    at keyword.Contains o (others o (contains a b)) said s ∙ (two_nodes o contains).complete s.1 (a, (b, tt)) s.3
-command_complete o range_new said u s = at keyword.RangeNew o [] said s ∙ (ended range_new).complete s.1 tt s.3
-command_complete o (range_start a b d) said u s =
-    at keyword.RangeStart o (others o (range_start a b d)) said s ∙ (range_and_place o range_start).complete s.1 (a, (b, (d, tt))) s.3
-command_complete o (range_end a b d) said u s =
-    at keyword.RangeEnd o (others o (range_end a b d)) said s ∙ (range_and_place o range_end).complete s.1 (a, (b, (d, tt))) s.3
-command_complete o (range_collapse a b) said u s =
-    at keyword.RangeCollapse o (others o (range_collapse a b)) said s ∙ (range_and_end range_collapse).complete s.1 (a, (b, tt)) s.3
-command_complete o (range_drop a) said u s = at keyword.RangeDrop o (others o (range_drop a)) said s ∙ (a_range range_drop).complete s.1 (a, tt) s.3
-command_complete o (range_get a) said u s = at keyword.RangeGet o (others o (range_get a)) said s ∙ (a_range range_get).complete s.1 (a, tt) s.3
-command_complete o (range_text a) said u s = at keyword.RangeText o (others o (range_text a)) said s ∙ (a_range range_text).complete s.1 (a, tt) s.3
-command_complete o (extract a) said u s = at keyword.Extract o (others o (extract a)) said s ∙ (a_range extract).complete s.1 (a, tt) s.3
-command_complete o (delete a) said u s = at keyword.Delete o (others o (delete a)) said s ∙ (a_range delete).complete s.1 (a, tt) s.3
-command_complete o (insert_node a b) said u s =
-    at keyword.InsertNode o (others o (insert_node a b)) said s ∙ (range_and_node o insert_node).complete s.1 (a, (b, tt)) s.3
-command_complete o (iterator_next a) said u s = at keyword.IterNext o (others o (iterator_next a)) said s ∙ (an_iterator iterator_next).complete s.1 (a, tt) s.3
-command_complete o (iterator_previous a) said u s =
-    at keyword.IterPrev o (others o (iterator_previous a)) said s ∙ (an_iterator iterator_previous).complete s.1 (a, tt) s.3
-command_complete o (iterator_at a) said u s = at keyword.IterAt o (others o (iterator_at a)) said s ∙ (an_iterator iterator_at).complete s.1 (a, tt) s.3
-command_complete o (walk a b) said u s = at keyword.Walk o (others o (walk a b)) said s ∙ (walker_and_move walk).complete s.1 (a, (b, tt)) s.3
-command_complete o (walker_at a) said u s = at keyword.WalkAt o (others o (walker_at a)) said s ∙ (a_walker walker_at).complete s.1 (a, tt) s.3
-command_complete o (walker_set a b) said u s =
-    at keyword.WalkSet o (others o (walker_set a b)) said s ∙ (walker_and_node o walker_set).complete s.1 (a, (b, tt)) s.3
-command_complete o (query a b) said u s = at keyword.Query o (others o (query a b)) said s ∙ (node_and_string o query).complete s.1 (a, (b, tt)) s.3
-command_complete o (matches a b) said u s =
-    at keyword.Matches o (others o (matches a b)) said s ∙ (node_and_string o matches).complete s.1 (a, (b, tt)) s.3
-command_complete o observer said u s = at keyword.Observer o [] said s ∙ (ended observer).complete s.1 tt s.3
-command_complete o (disconnect a) said u s = at keyword.Disconnect o (others o (disconnect a)) said s ∙ (an_observer disconnect).complete s.1 (a, tt) s.3
-command_complete o (take a) said u s = at keyword.Take o (others o (take a)) said s ∙ (an_observer take).complete s.1 (a, tt) s.3
-command_complete o (micro a) said u s = at keyword.Micro o (others o (micro a)) said s ∙ (a_label micro).complete s.1 (a, tt) s.3
-command_complete o end_turn said u s = at keyword.End o [] said s ∙ (ended end_turn).complete s.1 tt s.3
+command_complete o (split a b) said u s = completed o keyword.Split (node_and_number o split) (a, (b, tt)) said (λ bytes. refl) s
+command_complete o (set_text a b) said u s = completed o keyword.Text (node_and_string o set_text) (a, (b, tt)) said (λ bytes. refl) s
+command_complete o (attribute a b) said u s = completed o keyword.Attr (node_and_word o attribute) (a, (b, tt)) said (λ bytes. refl) s
+command_complete o (contains a b) said u s = completed o keyword.Contains (two_nodes o contains) (a, (b, tt)) said (λ bytes. refl) s
+command_complete o range_new said u s = completed o keyword.RangeNew (ended range_new) tt said (λ bytes. refl) s
+command_complete o (range_start a b d) said u s = completed o keyword.RangeStart (range_and_place o range_start) (a, (b, (d, tt))) said (λ bytes. refl) s
+command_complete o (range_end a b d) said u s = completed o keyword.RangeEnd (range_and_place o range_end) (a, (b, (d, tt))) said (λ bytes. refl) s
+command_complete o (range_collapse a b) said u s = completed o keyword.RangeCollapse (range_and_end range_collapse) (a, (b, tt)) said (λ bytes. refl) s
+command_complete o (range_drop a) said u s = completed o keyword.RangeDrop (a_range range_drop) (a, tt) said (λ bytes. refl) s
+command_complete o (range_get a) said u s = completed o keyword.RangeGet (a_range range_get) (a, tt) said (λ bytes. refl) s
+command_complete o (range_text a) said u s = completed o keyword.RangeText (a_range range_text) (a, tt) said (λ bytes. refl) s
+command_complete o (extract a) said u s = completed o keyword.Extract (a_range extract) (a, tt) said (λ bytes. refl) s
+command_complete o (delete a) said u s = completed o keyword.Delete (a_range delete) (a, tt) said (λ bytes. refl) s
+command_complete o (insert_node a b) said u s = completed o keyword.InsertNode (range_and_node o insert_node) (a, (b, tt)) said (λ bytes. refl) s
+command_complete o (iterator_next a) said u s = completed o keyword.IterNext (an_iterator iterator_next) (a, tt) said (λ bytes. refl) s
+command_complete o (iterator_previous a) said u s = completed o keyword.IterPrev (an_iterator iterator_previous) (a, tt) said (λ bytes. refl) s
+command_complete o (iterator_at a) said u s = completed o keyword.IterAt (an_iterator iterator_at) (a, tt) said (λ bytes. refl) s
+command_complete o (walk a b) said u s = completed o keyword.Walk (walker_and_move walk) (a, (b, tt)) said (λ bytes. refl) s
+command_complete o (walker_at a) said u s = completed o keyword.WalkAt (a_walker walker_at) (a, tt) said (λ bytes. refl) s
+command_complete o (walker_set a b) said u s = completed o keyword.WalkSet (walker_and_node o walker_set) (a, (b, tt)) said (λ bytes. refl) s
+command_complete o (query a b) said u s = completed o keyword.Query (node_and_string o query) (a, (b, tt)) said (λ bytes. refl) s
+command_complete o (matches a b) said u s = completed o keyword.Matches (node_and_string o matches) (a, (b, tt)) said (λ bytes. refl) s
+command_complete o observer said u s = completed o keyword.Observer (ended observer) tt said (λ bytes. refl) s
+command_complete o (disconnect a) said u s = completed o keyword.Disconnect (an_observer disconnect) (a, tt) said (λ bytes. refl) s
+command_complete o (take a) said u s = completed o keyword.Take (an_observer take) (a, tt) said (λ bytes. refl) s
+command_complete o (micro a) said u s = completed o keyword.Micro (a_label micro) (a, tt) said (λ bytes. refl) s
+command_complete o end_turn said u s = completed o keyword.End (ended end_turn) tt said (λ bytes. refl) s
 command_complete o (new_element w) said u s =
     at keyword.New o (others o (new_element w)) said s ∙ at_kind kinds.Element (word w ∷ []) s.1 s.3 refl ∙
     (one_part next_word_reads new_element).complete s.3.1 (w, tt) s.3.3

@@ -63,8 +63,7 @@ dispatch_end_sound o n event bytes c e =
       composed.0,
       r,
       some_is k,
-      flag_sound (codes "bubbles") bytes (flag cancelable.0 (codes "cancelable") (flag composed.0 (codes "composed") (related_parts o r)))
-          (flag_sound (codes "cancelable") bubbles.1 (flag composed.0 (codes "composed") (related_parts o r))
+      flag_sound (codes "bubbles") bytes _ (flag_sound (codes "cancelable") bubbles.1 _
           (flag_sound (codes "composed") cancelable.1 (related_parts o r) (related_sound o composed.1 r h))),
     )
 
@@ -128,85 +127,52 @@ observe_end_sound k n bytes c e =
       filter = f;
     } in
     bind_then (last_as attribute_filter_of character_data_old_value.1) (λ f. Some (observe k n (words f))) c e λ f h same.
-    let s0_behind = flag attributes.0 (codes "attributes")
-    (flag character_data.0 (codes "characterData")
-    (flag subtree.0 (codes "subtree")
-    (flag attribute_old_value.0 (codes "attributeOldValue")
-    (flag character_data_old_value.0 (codes "characterDataOldValue") (perhaps IsAttributeFilter f))))) in
-    let s1_behind = flag character_data.0 (codes "characterData")
-    (flag subtree.0 (codes "subtree")
-    (flag attribute_old_value.0 (codes "attributeOldValue")
-    (flag character_data_old_value.0 (codes "characterDataOldValue") (perhaps IsAttributeFilter f)))) in
-    let s2_behind = flag subtree.0 (codes "subtree")
-    (flag attribute_old_value.0 (codes "attributeOldValue")
-    (flag character_data_old_value.0 (codes "characterDataOldValue") (perhaps IsAttributeFilter f))) in
-    let s3_behind = flag attribute_old_value.0 (codes "attributeOldValue")
-    (flag character_data_old_value.0 (codes "characterDataOldValue") (perhaps IsAttributeFilter f)) in
-    let s4_behind = flag character_data_old_value.0 (codes "characterDataOldValue") (perhaps IsAttributeFilter f) in
-    let s5_behind = perhaps IsAttributeFilter f in
-    let s6 = last_sound attribute_filter_of attribute_filter_reads character_data_old_value.1 f h in
-    let s5 = flag_sound (codes "characterDataOldValue") attribute_old_value.1 s5_behind s6 in
-    let s4 = flag_sound (codes "attributeOldValue") subtree.1 s4_behind s5 in
-    let s3 = flag_sound (codes "subtree") character_data.1 s3_behind s4 in
-    let s2 = flag_sound (codes "characterData") attributes.1 s2_behind s3 in
-    let s1 = flag_sound (codes "attributes") child_list.1 s1_behind s2 in
-    let s0 = flag_sound (codes "childList") bytes s0_behind s1 in
-    (words f, some_is same, s0)
+    let behind = last_sound attribute_filter_of attribute_filter_reads character_data_old_value.1 f h in
+    let read =
+    flag_sound (codes "childList") bytes _ (flag_sound (codes "attributes") child_list.1 _ (flag_sound (codes "characterData") attributes.1 _
+    (flag_sound (codes "subtree") character_data.1 _ (flag_sound (codes "attributeOldValue") subtree.1 _
+    (flag_sound (codes "characterDataOldValue") attribute_old_value.1 (perhaps IsAttributeFilter f) behind))))) in
+    (words f, some_is same, read)
 
 pub observe_end_complete : (k : ℕ) (n : NodeWord) (w : ObserveWords) (bytes : List ℕ) → Spells (observe_parts w) bytes →
     observe_end k n bytes ≡ Some (observe k n w)
 observe_end_complete k n w bytes s =
-    let behind0 = flag w.attributes (codes "attributes")
-    (flag w.character_data (codes "characterData")
-    (flag w.subtree (codes "subtree")
-    (flag w.attribute_old_value (codes "attributeOldValue")
-    (flag w.character_data_old_value (codes "characterDataOldValue") (perhaps IsAttributeFilter w.filter))))) in
-    let behind1 = flag w.character_data (codes "characterData")
-    (flag w.subtree (codes "subtree")
-    (flag w.attribute_old_value (codes "attributeOldValue")
-    (flag w.character_data_old_value (codes "characterDataOldValue") (perhaps IsAttributeFilter w.filter)))) in
-    let behind2 = flag w.subtree (codes "subtree")
-    (flag w.attribute_old_value (codes "attributeOldValue")
-    (flag w.character_data_old_value (codes "characterDataOldValue") (perhaps IsAttributeFilter w.filter))) in
-    let behind3 = flag w.attribute_old_value (codes "attributeOldValue")
-    (flag w.character_data_old_value (codes "characterDataOldValue") (perhaps IsAttributeFilter w.filter)) in
-    let behind4 = flag w.character_data_old_value (codes "characterDataOldValue") (perhaps IsAttributeFilter w.filter) in
     let behind5 = perhaps IsAttributeFilter w.filter in
+    let behind4 = flag w.character_data_old_value (codes "characterDataOldValue") behind5 in
+    let behind3 = flag w.attribute_old_value (codes "attributeOldValue") behind4 in
+    let behind2 = flag w.subtree (codes "subtree") behind3 in
+    let behind1 = flag w.character_data (codes "characterData") behind2 in
+    let behind0 = flag w.attributes (codes "attributes") behind1 in
     let is0 = word_by_test (codes "childList") refl refl in
     let is1 = word_by_test (codes "attributes") refl refl in
     let is2 = word_by_test (codes "characterData") refl refl in
     let is3 = word_by_test (codes "subtree") refl refl in
     let is4 = word_by_test (codes "attributeOldValue") refl refl in
     let is5 = word_by_test (codes "characterDataOldValue") refl refl in
+    let a1 : (n : List ℕ) → bytes_eq (codes "attributes") n ≡ false → Avoids n behind1 → Avoids n behind0 =
+    λ n d a. avoids_flag w.attributes (codes "attributes") is1 d a in
+    let a2 : (n : List ℕ) → bytes_eq (codes "characterData") n ≡ false → Avoids n behind2 → Avoids n behind1 =
+    λ n d a. avoids_flag w.character_data (codes "characterData") is2 d a in
+    let a3 : (n : List ℕ) → bytes_eq (codes "subtree") n ≡ false → Avoids n behind3 → Avoids n behind2 =
+    λ n d a. avoids_flag w.subtree (codes "subtree") is3 d a in
+    let a4 : (n : List ℕ) → bytes_eq (codes "attributeOldValue") n ≡ false → Avoids n behind4 → Avoids n behind3 =
+    λ n d a. avoids_flag w.attribute_old_value (codes "attributeOldValue") is4 d a in
+    let a5 : (n : List ℕ) → bytes_eq (codes "characterDataOldValue") n ≡ false → Avoids n behind5 → Avoids n behind4 =
+    λ n d a. avoids_flag w.character_data_old_value (codes "characterDataOldValue") is5 d a in
     let f0 = flag_complete w.child_list behind0 bytes is0
-    (λ q. avoids_flag w.attributes (codes "attributes") is1 refl
-    (avoids_flag w.character_data (codes "characterData") is2 refl
-    (avoids_flag w.subtree (codes "subtree") is3 refl
-    (avoids_flag w.attribute_old_value (codes "attributeOldValue") is4 refl
-    (avoids_flag w.character_data_old_value (codes "characterDataOldValue") is5 refl
-    (avoids_attribute_filter (codes "childList") w.filter (λ e. omega arith))))))) s in
+    (λ q. a1 _ refl (a2 _ refl (a3 _ refl (a4 _ refl (a5 _ refl (avoids_attribute_filter (codes "childList") w.filter (λ e. omega arith))))))) s in
     let f1 = flag_complete w.attributes behind1 f0.0 is1
-    (λ q. avoids_flag w.character_data (codes "characterData") is2 refl
-    (avoids_flag w.subtree (codes "subtree") is3 refl
-    (avoids_flag w.attribute_old_value (codes "attributeOldValue") is4 refl
-    (avoids_flag w.character_data_old_value (codes "characterDataOldValue") is5 refl
-    (avoids_attribute_filter (codes "attributes") w.filter (λ e. omega arith)))))) f0.2 in
+    (λ q. a2 _ refl (a3 _ refl (a4 _ refl (a5 _ refl (avoids_attribute_filter (codes "attributes") w.filter (λ e. omega arith)))))) f0.2 in
     let f2 = flag_complete w.character_data behind2 f1.0 is2
-    (λ q. avoids_flag w.subtree (codes "subtree") is3 refl
-    (avoids_flag w.attribute_old_value (codes "attributeOldValue") is4 refl
-    (avoids_flag w.character_data_old_value (codes "characterDataOldValue") is5 refl
-    (avoids_attribute_filter (codes "characterData") w.filter (λ e. omega arith))))) f1.2 in
+    (λ q. a3 _ refl (a4 _ refl (a5 _ refl (avoids_attribute_filter (codes "characterData") w.filter (λ e. omega arith))))) f1.2 in
     let f3 = flag_complete w.subtree behind3 f2.0 is3
-    (λ q. avoids_flag w.attribute_old_value (codes "attributeOldValue") is4 refl
-    (avoids_flag w.character_data_old_value (codes "characterDataOldValue") is5 refl
-    (avoids_attribute_filter (codes "subtree") w.filter (λ e. omega arith)))) f2.2 in
+    (λ q. a4 _ refl (a5 _ refl (avoids_attribute_filter (codes "subtree") w.filter (λ e. omega arith)))) f2.2 in
     let f4 = flag_complete w.attribute_old_value behind4 f3.0 is4
-    (λ q. avoids_flag w.character_data_old_value (codes "characterDataOldValue") is5 refl
-    (avoids_attribute_filter (codes "attributeOldValue") w.filter (λ e. omega arith))) f3.2 in
+    (λ q. a5 _ refl (avoids_attribute_filter (codes "attributeOldValue") w.filter (λ e. omega arith))) f3.2 in
     let f5 = flag_complete w.character_data_old_value behind5 f4.0 is5
     (λ q. avoids_attribute_filter (codes "characterDataOldValue") w.filter (λ e. omega arith)) f4.2 in
-    let last = last_complete attribute_filter_of attribute_filter_reads f5.0 w.filter f5.2 in
-    rw (f0.1, f1.1, f2.1, f3.1, f4.1, f5.1, last) refl
+    let end = last_complete attribute_filter_of attribute_filter_reads f5.0 w.filter f5.2 in
+    rw (f0.1, f1.1, f2.1, f3.1, f4.1, f5.1, end) refl
 
 pub observe_sound : (o : Owner) (bytes : List ℕ) (c : Command) → observe_at o bytes ≡ Some c → IsBehind keyword.Observe o bytes c
 observe_sound o bytes c e =

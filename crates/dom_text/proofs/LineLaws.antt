@@ -8,12 +8,6 @@ pub lines_of-line : (line rest : List ℕ) → IsOneLine line → lines_of (line
 lines_of-line [] rest h = refl
 lines_of-line (b ∷ line) rest h = rw (h.0, lines_of-line line rest h.1) refl
 
--- bytes without a line feed are one line, or none where there are no bytes
-pub lines_of-rest : (rest : List ℕ) → IsOneLine rest → lines_of rest ≡ last_line rest
-lines_of-rest [] h = refl
-lines_of-rest (b ∷ []) h = rw (h.0) refl
-lines_of-rest (b ∷ c ∷ rest) h = rw (h.0, lines_of-rest (c ∷ rest) h.1) refl
-
 step : (t : Bool) (b : ℕ) (finished : List (List ℕ)) (rest : List ℕ) →
     with_byte t b (finished ++ last_line rest) ≡ (byte_before t b (record { finished = finished; rest = rest })).finished ++
     last_line (byte_before t b (record { finished = finished; rest = rest })).rest

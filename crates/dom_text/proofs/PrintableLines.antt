@@ -7,21 +7,21 @@ use Rattle.std.specs.Char.{is_ascii_hexdigit}
 use Rattle.std.proofs.lemmas.Bool.Decides.{nat_tests}
 use Rattle.dom_base.specs.declared.Owner.{Owner}
 use Rattle.dom_base.specs.declared.Move.{Move}
-use Rattle.dom_base.specs.declared.Action.{Action}
 use Rattle.dom_model.specs.Names.{Word}
 use Rattle.dom_model.specs.Command.{NodeWord, Filter, ListenerWords, EventWords, ObserveWords, Command, new_element}
 use Rattle.dom_model.specs.Command.{iterator_new, walker_new}
 use Rattle.dom_model.specs.Command.{listen, unlisten, dispatch}
 use Rattle.dom_model.specs.Command.{observe}
 use Rattle.dom_text.specs.Words.{end_word, move_word, action_word}
-use Rattle.dom_text.specs.Tokens.{IsWord, IsItem, itself, quote, backslash, by_digits, AreItems, IsNameFilter, IsAttributeFilter}
-use Rattle.dom_text.specs.Grammar.{LinePart, key, word, label, string, number, node, range, iterator, walker, observed, flag, perhaps, filter_parts}
+use Rattle.dom_text.specs.Tokens.{IsWord, IsNumbered, IsItem, itself, quote, backslash, by_digits, AreItems}
+use Rattle.dom_text.specs.Grammar.{LinePart, key, word, label, string, flag, perhaps, filter_parts}
 use Rattle.dom_text.specs.Grammar.{listener_parts, related_parts, event_parts, observe_parts, parts, Spells, IsLine}
 use Rattle.dom_text.proofs.WordLaws.{in_range_is, each_from, list_all_each}
 use Rattle.dom_text.proofs.NumberLaws.{each-append, number_says, numbered_says}
 use Rattle.dom_text.proofs.NodeLaws.{node_says, owner_is_word}
 use Rattle.dom_text.proofs.NameLaws.{label_says, show_says, name_filter_says, attribute_filter_says}
 use Rattle.dom_text.proofs.CommandParts.{end_is_word, move_is_word, action_is_word}
+use Rattle.dom_text.proofs.PartLaws.{SaysPart}
 
 -- the bytes are those of text
 abbrev pub IsPrintable : List ℕ → Type 0
@@ -46,35 +46,18 @@ printable_key name h text e = rw e (each_from (λ b p. in_range_is 0x20 0x7E b p
 printable_word : (name : Word) → PrintablePart (word name)
 printable_word name text h = rw (h.0) (word_printable name h.1)
 
-printable_label : (name : Word) → PrintablePart (label name)
-printable_label name text h = word_printable text (label_says.is_word text name h)
+-- a part that words say
+printable_said : {A : Type 0} {read : List ℕ → Option A} {part : A → LinePart} → SaysPart read part → (x : A) → PrintablePart (part x)
+printable_said s x text h = word_printable text (s.is_word text x h)
 
-printable_number : (n : ℕ) → PrintablePart (number n)
-printable_number n text h = word_printable text (number_says.is_word text n h)
+-- a word of a table
+printable_named : (name : List ℕ) → IsWord name → PrintablePart (key name)
+printable_named name w text e = rw e (word_printable name w)
 
-printable_node : (o : Owner) (n : NodeWord) → PrintablePart (node o n)
-printable_node o n text h = word_printable text ((node_says o).is_word text n h)
-
-printable_range : (n : ℕ) → PrintablePart (range n)
-printable_range n text h = word_printable text ((numbered_says 114 (omega arith, omega arith)).is_word text n h)
-
-printable_iterator : (n : ℕ) → PrintablePart (iterator n)
-printable_iterator n text h = word_printable text ((numbered_says 105 (omega arith, omega arith)).is_word text n h)
-
-printable_walker : (n : ℕ) → PrintablePart (walker n)
-printable_walker n text h = word_printable text ((numbered_says 119 (omega arith, omega arith)).is_word text n h)
-
-printable_observed : (n : ℕ) → PrintablePart (observed n)
-printable_observed n text h = word_printable text ((numbered_says 111 (omega arith, omega arith)).is_word text n h)
-
-printable_end : (b : Bool) → PrintablePart (key (end_word b))
-printable_end b text e = rw e (word_printable (end_word b) (end_is_word b))
-
-printable_move : (m : Move) → PrintablePart (key (move_word m))
-printable_move m text e = rw e (word_printable (move_word m) (move_is_word m))
-
-printable_action : (a : Action) → PrintablePart (key (action_word a))
-printable_action a text e = rw e (word_printable (action_word a) (action_is_word a))
+-- a part that may be left out
+printable_perhaps : {A : Type 0} {part : A → LinePart} → ((x : A) → PrintablePart (part x)) → (o : Option A) → PrintableParts (perhaps part o)
+printable_perhaps each None = tt
+printable_perhaps each (Some x) = (each x, tt)
 
 hex_printable : (b : ℕ) → is_ascii_hexdigit b ≡ true → IsInRange 0x20 0x7E b
 hex_printable b h = grind (arith, nat_tests)
@@ -101,19 +84,15 @@ printable_flag true name others h rest = (printable_key name h, rest)
 printable_flag false name others h rest = rest
 
 printable_filter : (f : Filter) → PrintableParts (filter_parts f)
-printable_filter f = (λ text h. word_printable text (show_says.is_word text f.shown h), named f.named)
-  where
-    named : (o : Option _) → PrintableParts (perhaps IsNameFilter o)
-    named None = tt
-    named (Some g) = (λ text h. word_printable text (name_filter_says.is_word text g h), tt)
+printable_filter f = (printable_said show_says f.shown, printable_perhaps (printable_said name_filter_says) f.named)
 
 printable_listener : (l : ListenerWords) → PrintableParts (listener_parts l)
 printable_listener l = (
-  printable_label l.event,
+  printable_said label_says l.event,
   (
-    printable_label l.label,
+    printable_said label_says l.label,
     (
-      printable_action l.action,
+      printable_named (action_word l.action) (action_is_word l.action),
       printable_flag l.capture (codes "capture") _ refl (printable_flag l.once (codes "once") _ refl (printable_flag l.passive (codes "passive") [] refl tt)),
     ),
   ),
@@ -121,50 +100,55 @@ printable_listener l = (
 
 printable_related : (o : Owner) (r : Option NodeWord) → PrintableParts (related_parts o r)
 printable_related o None = tt
-printable_related o (Some n) = (printable_key (codes "related") refl, (printable_node o n, tt))
+printable_related o (Some n) = (printable_key (codes "related") refl, (printable_said (node_says o) n, tt))
 
 printable_event : (o : Owner) (e : EventWords) (r : Option NodeWord) → PrintableParts (event_parts o e r)
 printable_event o e r = (
-  printable_label e.event,
+  printable_said label_says e.event,
   printable_flag e.bubbles (codes "bubbles") _ refl (printable_flag e.cancelable (codes "cancelable") _ refl
       (printable_flag e.composed (codes "composed") _ refl (printable_related o r))),
 )
-
-printable_names : (o : Option (List Word)) → PrintableParts (perhaps IsAttributeFilter o)
-printable_names None = tt
-printable_names (Some names) = (λ text h. word_printable text (attribute_filter_says.is_word text names h), tt)
 
 printable_observe : (w : ObserveWords) → PrintableParts (observe_parts w)
 printable_observe w = printable_flag w.child_list (codes "childList") _ refl
     (printable_flag w.attributes (codes "attributes") _ refl (printable_flag w.character_data (codes "characterData") _ refl
     (printable_flag w.subtree (codes "subtree") _ refl (printable_flag w.attribute_old_value (codes "attributeOldValue") _ refl
-    (printable_flag w.character_data_old_value (codes "characterDataOldValue") _ refl (printable_names w.filter))))))
+    (printable_flag w.character_data_old_value (codes "characterDataOldValue") _ refl (printable_perhaps (printable_said attribute_filter_says) w.filter))))))
 
 printable_parts : (o : Owner) (c : Command) → PrintableParts (parts o c)
 printable_parts o (new_element name) = (printable_key (codes "new") refl, (printable_key (codes "element") refl, (printable_word name, tt)))
-printable_parts o (iterator_new n filter) = (printable_key (codes "iter-new") refl, (printable_node o n, printable_filter filter))
-printable_parts o (walker_new n filter) = (printable_key (codes "walk-new") refl, (printable_node o n, printable_filter filter))
-printable_parts o (listen n l) = (printable_key (codes "listen") refl, (printable_node o n, printable_listener l))
+printable_parts o (iterator_new n filter) = (printable_key (codes "iter-new") refl, (printable_said (node_says o) n, printable_filter filter))
+printable_parts o (walker_new n filter) = (printable_key (codes "walk-new") refl, (printable_said (node_says o) n, printable_filter filter))
+printable_parts o (listen n l) = (printable_key (codes "listen") refl, (printable_said (node_says o) n, printable_listener l))
 printable_parts o (unlisten n event l capture) = (
   printable_key (codes "unlisten") refl,
-  (printable_node o n, (printable_label event, (printable_label l, printable_flag capture (codes "capture") [] refl tt))),
+  (
+    printable_said (node_says o) n,
+    (printable_said label_says event, (printable_said label_says l, printable_flag capture (codes "capture") [] refl tt)),
+  ),
 )
-printable_parts o (dispatch n e related) = (printable_key (codes "dispatch") refl, (printable_node o n, printable_event o e related))
-printable_parts o (observe b n w) = (printable_key (codes "observe") refl, (printable_observed b, (printable_node o n, printable_observe w)))
-printable_parts o c = search (
-  printable_key,
-  printable_word,
-  printable_label,
-  printable_string,
-  printable_number,
-  printable_node,
-  printable_range,
-  printable_iterator,
-  printable_walker,
-  printable_observed,
-  printable_end,
-  printable_move,
+printable_parts o (dispatch n e related) = (printable_key (codes "dispatch") refl, (printable_said (node_says o) n, printable_event o e related))
+printable_parts o (observe b n w) = (
+  printable_key (codes "observe") refl,
+  (printable_said (numbered_says 111 (omega arith, omega arith)) b, (printable_said (node_says o) n, printable_observe w)),
 )
+printable_parts o c =
+    let with_letter : (letter : ℕ) → IsInRange 35 126 letter → (n : ℕ) → PrintablePart (IsNumbered (letter ∷ []) n) =
+    λ letter l. printable_said (numbered_says letter l) in
+    search (
+      printable_key,
+      printable_word,
+      printable_string,
+      printable_said label_says,
+      printable_said number_says,
+      printable_said (node_says o),
+      with_letter 114 (omega arith, omega arith),
+      with_letter 105 (omega arith, omega arith),
+      with_letter 119 (omega arith, omega arith),
+      with_letter 111 (omega arith, omega arith),
+      λ (b : Bool). printable_named (end_word b) (end_is_word b),
+      λ (m : Move). printable_named (move_word m) (move_is_word m),
+    )
 
 spelled_printable : (those : List LinePart) (text : List ℕ) → PrintableParts those → Spells those text → IsPrintable text
 spelled_printable [] text h s = rw s tt
