@@ -20,9 +20,9 @@ use Rattle.dom_text.specs.Decode.{node_at, label_at, new_of, new_at, assigned_at
 use Rattle.dom_text.specs.Decode.{listen_at, unlisten_end, unlisten_at}
 use Rattle.dom_text.proofs.WordLaws.{bind_then, some_is, at_end_some}
 use Rattle.dom_text.proofs.PartLaws.{ReadsPart, next_word_reads, next_as_reads, Spells-ends, LineReader, part_then, one_part}
-use Rattle.dom_text.proofs.StringLaws.{next_string_reads}
+use Rattle.dom_text.proofs.PartLaws.{next_string_reads}
 use Rattle.dom_text.proofs.NameLaws.{word_by_test, named_sound, show_says, name_filter_says, attribute_filter_says}
-use Rattle.dom_text.proofs.FlagLaws.{avoids_nothing, avoids_flag, flag_sound, flag_complete, last_sound, last_complete}
+use Rattle.dom_text.proofs.CommandParts.{avoids_nothing, avoids_flag, flag_sound, flag_complete, last_sound, last_complete}
 use Rattle.dom_text.proofs.CommandParts.{node_reads, number_reads, range_reads, iterator_reads, walker_reads, observer_reads, label_reads, action_reads}
 use Rattle.dom_text.proofs.CommandParts.{move_reads, end_reads}
 

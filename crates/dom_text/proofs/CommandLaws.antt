@@ -17,7 +17,7 @@ use Rattle.dom_text.specs.Grammar.{LinePart, key, word, string, node, parts, May
 use Rattle.dom_text.specs.Readers.{◌>>=◌, next_as, named}
 use Rattle.dom_text.specs.Decode.{new_of, new_at, node_at, one, command_behind, keyword_of, command_at}
 use Rattle.dom_text.proofs.PartLaws.{LineReader, next_word_reads, next_as_reads, Spells-ends, ended, one_part}
-use Rattle.dom_text.proofs.StringLaws.{next_string_reads}
+use Rattle.dom_text.proofs.PartLaws.{next_string_reads}
 use Rattle.dom_text.proofs.CommandParts.{keyword_says}
 use Rattle.dom_text.proofs.CommandForms.{IsBehind, read_behind, new_kind, kind_reads, new_behind}
 use Rattle.dom_text.proofs.CommandForms.{a_node, two_nodes, three_nodes, node_and_word, node_and_string, node_word_string, node_and_number}

@@ -1,6 +1,6 @@
--- The readers of the parts of commands: what they read is the part, and each part is read.
-use Rattle.std.proofs.Common.{◌≡◌, Bool, true, false, [], ◌∷◌, Some, refl, arith}
-use Rattle.std.specs.Prelude.{codes}
+-- The readers of the parts of commands: what they read is the part, and each part is read. Words may be left out.
+use Rattle.std.proofs.Common.{◌≡◌, Bool, true, false, [], ◌∷◌, Some, refl, arith, ◌≢◌, ℕ, cond, List, Option, None, sym, ap, subst, ◌∙◌}
+use Rattle.std.specs.Prelude.{codes, bytes_eq}
 use Rattle.dom_base.specs.declared.Owner.{Owner}
 use Rattle.dom_base.specs.declared.Move.{Move}
 use Rattle.dom_base.specs.declared.Move.TheVariants as moves
@@ -10,14 +10,96 @@ use Rattle.dom_text.specs.declared.Keyword.{Keyword}
 use Rattle.dom_text.specs.declared.Keyword.TheVariants as keyword
 use Rattle.dom_text.specs.Words.{action_word, actions_listed, move_word, moves_listed, end_word, keyword_word, keywords}
 use Rattle.dom_text.specs.Tokens.{IsWord}
-use Rattle.dom_text.specs.Grammar.{key, label, number, node, range, iterator, walker, observed}
-use Rattle.dom_text.specs.Readers.{named}
-use Rattle.dom_text.specs.Decode.{node_at, range_number_at, iterator_number_at, walker_number_at, observer_number_at, number_at, label_at}
-use Rattle.dom_text.specs.Decode.{to_start_at, action_at, move_at, keyword_of}
-use Rattle.dom_text.proofs.PartLaws.{SaysPart, ReadsPart, next_as_reads}
-use Rattle.dom_text.proofs.NumberLaws.{number_says, numbered_says}
+use Rattle.dom_text.specs.Grammar.{key, label, number, node, range, iterator, walker, observed, LinePart, flag, perhaps, Spells}
+use Rattle.dom_text.specs.Readers.{named, next_word, next_as, flag_found, flag_at, last_as}
+use Rattle.dom_text.specs.Decode.{node_at, range_number_at, iterator_number_at, walker_number_at, observer_number_at, number_at, label_at, to_start_at}
+use Rattle.dom_text.specs.Decode.{action_at, move_at, keyword_of}
+use Rattle.dom_text.proofs.PartLaws.{SaysPart, ReadsPart, next_as_reads, next_word_reads, Spells-ends, one_part}
+use Rattle.dom_text.proofs.NumberLaws.{number_says, numbered_says, bytes_eq-true, eq-bytes_eq}
 use Rattle.dom_text.proofs.NodeLaws.{node_says}
 use Rattle.dom_text.proofs.NameLaws.{word_by_test, named_says, label_says}
+use Rattle.std.proofs.lemmas.Bool.{false_from_ne_true}
+use Rattle.std.specs.Cmp.Lexicographic.{other_text}
+use Rattle.dom_model.specs.Names.{Word}
+use Rattle.dom_text.proofs.WordLaws.{some_is}
+
+-- ---- what is found
+
+flag_found_sound : (name bytes : List ℕ) (o : Option (Word × List ℕ)) → next_word bytes ≡ o → (others : List LinePart) →
+    Spells others (flag_found name bytes o).1 → Spells (flag (flag_found name bytes o).0 name others) bytes
+flag_found_sound name bytes None e others s = s
+flag_found_sound name bytes (Some found) e others s = go (bytes_eq found.0 name) refl s
+  where
+    go : (t : Bool) → bytes_eq found.0 name ≡ t → Spells others (cond {A = Bool × List ℕ} t (true, found.1) (false, bytes)).1 →
+        Spells (flag (cond {A = Bool × List ℕ} t (true, found.1) (false, bytes)).0 name others) bytes
+    go true h k =
+        let read = next_word_reads.sound bytes found.0 found.1 e in
+        (read.0, found.1, read.1.0 ∙ bytes_eq-true found.0 name h, k, read.2)
+    go false h k = k
+
+-- where the others are spelled behind the word, so are the word, if it was found, and the others
+pub flag_sound : (name bytes : List ℕ) (others : List LinePart) → Spells others (flag_at name bytes).1 → Spells (flag (flag_at name bytes).0 name others) bytes
+flag_sound name bytes others s = flag_found_sound name bytes (next_word bytes) refl others s
+
+-- ---- what is there is found
+
+-- no line of these parts has this word first
+pub record Avoids (name : List ℕ) (parts : List LinePart) : Type 0 where
+  pub avoids : (bytes rest : List ℕ) → Spells parts bytes → next_word bytes ≡ Some (name, rest) → ⊥
+
+pub avoids_nothing : (name : List ℕ) → Avoids name []
+avoids_nothing name = record {
+  avoids = λ bytes rest s e. absurd
+      (let no' : next_word [] ≡ Some (name, rest) = subst (λ (x : List ℕ). next_word x ≡ Some (name, rest)) s e in cc);
+}
+
+-- parts of which the first is another word
+pub avoids_word : (name : List ℕ) (part : LinePart) (others : List LinePart) → ((text : List ℕ) → part text → IsWord text × (text ≢ name)) →
+    Avoids name (part ∷ others)
+avoids_word name part others differs = record {
+  avoids = λ bytes rest s e.
+      let d = differs s.0 s.2 in
+      let read : next_word bytes ≡ Some (s.0, s.1) = rw (s.4) (next_word_reads.complete s.0 s.1 s.0 (refl, d.0) (Spells-ends others s.1 s.3)) in
+      d.1 (ap (λ (x : Word × List ℕ). x.0) (some_is (sym read ∙ e)));
+}
+
+-- the first part is this other word
+pub avoids_key : (name other : List ℕ) (others : List LinePart) → IsWord other → bytes_eq other name ≡ false → Avoids name (key other ∷ others)
+avoids_key name other others w differs = avoids_word name (key other) others (λ text e. rw e (w, other_text other name (sym differs)))
+
+pub avoids_flag : {name : List ℕ} {others : List LinePart} (b : Bool) (other : List ℕ) → IsWord other → bytes_eq other name ≡ false → Avoids name others →
+    Avoids name (flag b other others)
+avoids_flag {name} {others} true other w differs a = avoids_key name other others w differs
+avoids_flag false other w differs a = a
+
+pub flag_complete : {name : List ℕ} (b : Bool) (others : List LinePart) (bytes : List ℕ) → IsWord name → (b ≡ false → Avoids name others) →
+    Spells (flag b name others) bytes →
+    (rest : List ℕ) × (flag_at name bytes ≡ (b, rest)) × Spells others rest
+flag_complete {name} true others bytes w a s =
+    let read : next_word bytes ≡ Some (name, s.1) = rw (s.4) (next_word_reads.complete s.0 s.1 name (s.2, w) (Spells-ends others s.1 s.3)) in
+    (s.1, rw (read, eq-bytes_eq name) refl, s.3)
+flag_complete {name} false others bytes w a s = (bytes, go (next_word bytes) refl, s)
+  where
+    go : (o : Option (Word × List ℕ)) → next_word bytes ≡ o → flag_found name bytes o ≡ (false, bytes)
+    go None e = refl
+    go (Some found) e = rw (false_from_ne_true (bytes_eq found.0 name)
+        (λ h. (a refl).avoids bytes found.1 s (e ∙ ap (λ (x : List ℕ). Some (x, found.1)) (bytes_eq-true found.0 name h)))) refl
+
+-- ---- the last word
+
+pub last_sound : {A : Type 0} (says : List ℕ → Option A) {P : A → LinePart} → ReadsPart (next_as says) P → (bytes : List ℕ) (o : Option A) →
+    last_as says bytes ≡ Some o → Spells (perhaps P o) bytes
+last_sound {A} says {P} reads [] o e = subst (λ (x : Option A). Spells (perhaps P x) []) (some_is e) refl
+last_sound {A} says {P} reads (b ∷ bytes) o e =
+    let s = (one_part reads Some).sound (b ∷ bytes) o e in
+    subst (λ (x : Option A). Spells (perhaps P x) (b ∷ bytes)) s.1 s.2
+
+pub last_complete : {A : Type 0} (says : List ℕ → Option A) {P : A → LinePart} → ReadsPart (next_as says) P → (bytes : List ℕ) (o : Option A) →
+    Spells (perhaps P o) bytes → last_as says bytes ≡ Some o
+last_complete says reads [] None s = refl
+last_complete says reads (b ∷ bytes) None s = absurd cc
+last_complete says reads [] (Some x) s = absurd (let e = s.4 in cc)
+last_complete says reads (b ∷ bytes) (Some x) s = (one_part reads Some).complete (b ∷ bytes) (x, tt) s
 
 -- ---- the readers of the parts
 

@@ -12,7 +12,7 @@ use Rattle.dom_text.specs.Decode.{node_at, observer_number_at, label_at, related
 use Rattle.dom_text.proofs.WordLaws.{bind_then, some_is, at_end_some}
 use Rattle.dom_text.proofs.PartLaws.{Spells-ends, one_part}
 use Rattle.dom_text.proofs.NameLaws.{word_by_test, attribute_filter_says}
-use Rattle.dom_text.proofs.FlagLaws.{Avoids, avoids_nothing, avoids_word, avoids_key, avoids_flag, flag_sound, flag_complete, last_sound, last_complete}
+use Rattle.dom_text.proofs.CommandParts.{Avoids, avoids_nothing, avoids_word, avoids_key, avoids_flag, flag_sound, flag_complete, last_sound, last_complete}
 use Rattle.dom_text.proofs.CommandParts.{node_reads, observer_reads, label_reads}
 use Rattle.dom_text.proofs.CommandForms.{IsBehind, attribute_filter_reads}
 
