@@ -6,7 +6,8 @@ use Rattle.dom_base.specs.declared.Owner.{Owner}
 use Rattle.dom_base.specs.declared.Owner.TheVariants.{Page, Component}
 use Rattle.dom_base.specs.Owners.{longer_path, no_path, made_by}
 use Rattle.dom_model.specs.Names.{owner_eq, owner_depth}
-use Rattle.dom_model.specs.Command.{Line, EventWords}
+use Rattle.dom_model.specs.Command.{Line}
+use Rattle.dom_model.specs.CommandWords.{EventWords}
 use Rattle.dom_model.specs.Output.{Output}
 use Rattle.dom_model.specs.Runs.{Run}
 use Rattle.dom_model.specs.World.{World, Task, micro_task, notify_task, component_made, MayAttach, some_if}
