@@ -90,7 +90,7 @@ class Pages(unittest.TestCase):
 
 class Protocol(unittest.TestCase):
     def test_each_command_has_its_place_in_the_first_table_and_a_row(self) -> None:
-        words = re.findall(r'^keyword_word keyword\.\w+ = codes "([^"]+)"', text_of("crates/dom_text/specs/Words.antt"), re.MULTILINE)
+        words = re.findall(r'^keyword_word Keyword\.\w+ = codes "([^"]+)"', text_of("crates/dom_text/specs/Commands.antt"), re.MULTILINE)
         first, others = text_of("docs/PROTOCOL.md").split("## Lines")
         self.assertGreater(len(words), 50)
         for part in (first, others):

@@ -11,15 +11,14 @@ use Rattle.dom_base.specs.declared.Refusal.TheVariants.{Busy, Foreign, Unknown, 
 use Rattle.dom_base.specs.declared.Owner.{Owner}
 use Rattle.dom_model.specs.Names.{owner_eq}
 use Rattle.dom_model.specs.Changes.{Plan}
-use Rattle.dom_model.specs.Effects.{effect, changes, answers}
+use Rattle.dom_model.specs.Effects.{changes, answers}
 use Rattle.dom_model.specs.Output.{Output, says, replied, Said, Value}
 use Rattle.dom_model.specs.Part.{Part, empty_part}
 use Rattle.dom_model.specs.Validity.{first_refusal}
 use Rattle.dom_model.specs.Runs.{Run}
 use Rattle.dom_model.specs.Turns.{opening_turn}
 use Rattle.dom_model.specs.World.{World, part_of, find_part, put_part, with_part, is_there}
-use Rattle.dom_model.specs.Command.{Command}
-use Rattle.dom_model.specs.CommandRefusals.{own_refusal}
+use Rattle.dom_model.specs.Command.{Command, effect, own_refusal}
 use Rattle.dom_model.specs.DocumentMachine.{effect_in, refusal, accepted, is_busy}
 use Rattle.dom_model.proofs.OwnerLaws.{owner_eq-same, owner_eq-true}
 use Rattle.dom_text.specs.Text.{output_text}

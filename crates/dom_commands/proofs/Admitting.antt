@@ -8,9 +8,9 @@ use Rattle.dom_base.specs.declared.Owner.{Owner}
 use Rattle.dom_base.specs.declared.Owner.TheVariants.{Page, Component}
 use Rattle.dom_base.specs.declared.Refusal.{Refusal}
 use Rattle.dom_base.specs.declared.Refusal.TheVariants.{Syntax, Busy, Foreign, Unknown}
-use Rattle.dom_model.specs.Command.{Command, EventWords}
-use Rattle.dom_model.specs.CommandNames.{named, names_foreign}
-use Rattle.dom_model.specs.CommandRefusals.{is_command_of, own_refusal, part_refusal, related_refusal}
+use Rattle.dom_model.specs.Command.{Command, EventWords, names_foreign, is_command_of, own_refusal, part_refusal}
+use Rattle.dom_model.specs.CommandNames.{named}
+use Rattle.dom_model.specs.CommandRefusals.{related_refusal}
 use Rattle.dom_model.specs.DocumentMachine.{is_busy, refusal}
 use Rattle.dom_model.specs.Part.{Part}
 use Rattle.dom_model.specs.Validity.{first_refusal}

@@ -8,11 +8,10 @@ use Rattle.dom_base.specs.declared.Fault.{Fault}
 use Rattle.dom_base.specs.declared.Fault.TheVariants.{Refused, Memory}
 use Rattle.dom_base.specs.declared.NodeName.{NodeName}
 use Rattle.dom_base.specs.declared.Owner.{Owner}
-use Rattle.dom_model.specs.Command.{Command, NodeWord, own, foreign, ListenerWords}
+use Rattle.dom_model.specs.Command.{Command, NodeWord, own, foreign, ListenerWords, own_refusal, effect}
 use Rattle.dom_model.specs.CommandNames.{named}
-use Rattle.dom_model.specs.CommandRefusals.{own_refusal}
 use Rattle.dom_model.specs.DocumentMachine.{refusal, accepted, effect_in}
-use Rattle.dom_model.specs.Effects.{effect, keeps}
+use Rattle.dom_model.specs.Effects.{keeps}
 use Rattle.dom_model.specs.Listeners.{Listener, listened, unlistened}
 use Rattle.dom_model.specs.Names.{Word, name_eq, node_of}
 use Rattle.dom_model.specs.Output.{says, replied, nothing}

@@ -10,11 +10,11 @@ use Rattle.dom_base.specs.declared.Owner.{Owner}
 use Rattle.dom_base.specs.declared.Owner.TheVariants.{Page, Component}
 use Rattle.dom_base.specs.declared.Refusal.{Refusal}
 use Rattle.dom_base.specs.declared.Refusal.TheVariants.{Syntax, Busy, Foreign, Unknown, WrongKind}
-use Rattle.dom_model.specs.Command.{Command, NodeWord}
-use Rattle.dom_model.specs.CommandNames.{named, names_foreign, nodes_exist, thing_exists, nodes_fit}
-use Rattle.dom_model.specs.CommandRefusals.{is_command_of, part_refusal, of_range, related_refusal}
+use Rattle.dom_model.specs.Command.{Command, NodeWord, names_foreign, nodes_exist, thing_exists, nodes_fit, is_command_of, part_refusal, effect}
+use Rattle.dom_model.specs.CommandNames.{named}
+use Rattle.dom_model.specs.CommandRefusals.{of_range, related_refusal}
 use Rattle.dom_model.specs.DocumentMachine.{is_busy, refusal, effect_in, perform, accepted, part_with_root}
-use Rattle.dom_model.specs.Effects.{Effect, tables, changes, effect, answers, plan_of_range, of_iterator, of_walker, moves_iterator, sets_walker, node_or_null}
+use Rattle.dom_model.specs.Effects.{Effect, tables, changes, answers, plan_of_range, of_iterator, of_walker, moves_iterator, sets_walker, node_or_null}
 use Rattle.dom_model.specs.Changes.{Plan}
 use Rattle.dom_model.specs.Extract.{extracting}
 use Rattle.dom_model.specs.Listeners.{Listener}

@@ -8,9 +8,8 @@ use Rattle.dom_base.specs.declared.Fault.TheVariants.{Refused, Memory}
 use Rattle.dom_base.specs.declared.NodeName.{NodeName}
 use Rattle.dom_base.specs.declared.Owner.{Owner}
 use Rattle.dom_base.specs.declared.Owner.TheVariants.{Page}
-use Rattle.dom_model.specs.Command.{Command, NodeWord}
+use Rattle.dom_model.specs.Command.{Command, NodeWord, own_refusal}
 use Rattle.dom_model.specs.CommandNames.{named}
-use Rattle.dom_model.specs.CommandRefusals.{own_refusal}
 use Rattle.dom_model.specs.Effects.{answers}
 use Rattle.dom_model.specs.Extract.{clone_count, made_by_extracting, pieces_of}
 use Rattle.dom_model.specs.Names.{DomString, node_of}

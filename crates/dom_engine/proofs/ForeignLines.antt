@@ -4,9 +4,7 @@ use Rattle.std.specs.Prelude.{if◌then◌else◌}
 use Rattle.std.specs.Option.{option_or}
 use Rattle.dom_base.specs.declared.Owner.TheVariants.{Page, Component}
 use Rattle.dom_base.specs.declared.Refusal.TheVariants.{Syntax, Busy, Foreign, Unknown}
-use Rattle.dom_model.specs.Command.{Command, command, assigned}
-use Rattle.dom_model.specs.CommandNames.{names_foreign}
-use Rattle.dom_model.specs.CommandRefusals.{is_command_of, part_refusal}
+use Rattle.dom_model.specs.Command.{Command, command, assigned, names_foreign, is_command_of, part_refusal}
 use Rattle.dom_model.specs.DocumentMachine.{accepted, is_busy, refusal, step}
 use Rattle.dom_model.specs.Output.{says, refused}
 use Rattle.dom_model.specs.Runs.{run_then, unless_refused}

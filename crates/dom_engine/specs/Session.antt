@@ -2,8 +2,7 @@
 use Rattle.std.specs.Prelude.{◌≡◌, ℕ, Bool, if◌then◌else◌, IsTrue, List, [], ◌∷◌, ◌++◌}
 use Rattle.dom_base.specs.declared.Owner.{Owner}
 use Rattle.dom_base.specs.declared.Refusal.TheVariants.{Busy, Foreign}
-use Rattle.dom_model.specs.Command.{Command, command}
-use Rattle.dom_model.specs.CommandNames.{names_foreign}
+use Rattle.dom_model.specs.Command.{Command, command, names_foreign}
 use Rattle.dom_model.specs.DocumentMachine.{is_busy, step}
 use Rattle.dom_model.specs.Output.{says, refused}
 use Rattle.dom_model.specs.Runs.{Run}

@@ -12,13 +12,13 @@ use Rattle.dom_base.specs.declared.Refusal.{Refusal}
 use Rattle.dom_base.specs.declared.Refusal.TheVariants.{TypeFault}
 use Rattle.dom_model.specs.Names.{ComponentName, name_eq, owner_depth}
 use Rattle.dom_model.specs.Tree.{node_in, root_of}
-use Rattle.dom_model.specs.Command.{Command, NodeWord, EventWords}
+use Rattle.dom_model.specs.Command.{Command, NodeWord, EventWords, part_refusal, effect}
 use Rattle.dom_model.specs.Output.{says, nothing, a_truth}
 use Rattle.dom_model.specs.Part.{Part}
 use Rattle.dom_model.specs.Runs.{Run, quiet, run_then, answering, unless_refused, run_each}
-use Rattle.dom_model.specs.CommandRefusals.{part_refusal, related_refusal, has_other_root}
+use Rattle.dom_model.specs.CommandRefusals.{related_refusal, has_other_root}
 use Rattle.dom_model.specs.CommandNames.{named}
-use Rattle.dom_model.specs.Effects.{Effect, tables, changes, effect}
+use Rattle.dom_model.specs.Effects.{Effect, tables, changes}
 use Rattle.dom_model.specs.World.{World, hosts_from, host_above, micro_task, part_of, with_part, component_made}
 use Rattle.dom_model.specs.Dispatch.{dispatch_in, Dispatched, visits_of}
 use Rattle.dom_model.specs.Turns.{ending_turn, opening_turn, is_page_turn}

@@ -14,14 +14,13 @@ use Rattle.dom_base.specs.declared.Refusal.{Refusal}
 use Rattle.dom_base.specs.declared.Refusal.TheVariants.{Syntax, Busy, Foreign, Unknown}
 use Rattle.dom_model.specs.Names.{Word, owner_eq, last_of}
 use Rattle.dom_model.specs.Tree.{node_in, is_document, kind_of}
-use Rattle.dom_model.specs.Command.{Command, NodeWord, Line, no_owner, no_command, command}
+use Rattle.dom_model.specs.Command.{Command, NodeWord, Line, no_owner, no_command, command, is_command_of, part_refusal, names_foreign, effect}
 use Rattle.dom_model.specs.Output.{Value, says, replied, nothing, a_component, a_list, a_truth}
 use Rattle.dom_model.specs.Part.{Part}
 use Rattle.dom_model.specs.Runs.{Run, answering, unless_refused}
 use Rattle.dom_model.specs.Validity.{first_refusal}
-use Rattle.dom_model.specs.CommandRefusals.{is_command_of, part_refusal}
-use Rattle.dom_model.specs.CommandNames.{named, names_foreign}
-use Rattle.dom_model.specs.Effects.{Effect, tables, changes, effect}
+use Rattle.dom_model.specs.CommandNames.{named}
+use Rattle.dom_model.specs.Effects.{Effect, tables, changes}
 use Rattle.dom_model.specs.World.{World, micro_task, part_of, with_part, is_there, kind_at, is_connected, component_made, shadow_including_ancestors}
 use Rattle.dom_model.specs.WorldSteps.{world_after}
 use Rattle.dom_model.specs.Slots.{assigned}

@@ -12,14 +12,13 @@ use Rattle.dom_base.specs.declared.Refusal.{Refusal}
 use Rattle.dom_base.specs.declared.Refusal.TheVariants.{Syntax, Busy, Foreign, Unknown}
 use Rattle.dom_model.specs.Names.{last_of, ComponentName, owner_eq}
 use Rattle.dom_model.specs.Tree.{node_in, is_document, root_of, kind_of}
-use Rattle.dom_model.specs.Command.{Command, NodeWord, EventWords}
+use Rattle.dom_model.specs.Command.{Command, NodeWord, EventWords, is_command_of, part_refusal, names_foreign, effect}
 use Rattle.dom_model.specs.Output.{says, nothing, a_component, a_truth}
 use Rattle.dom_model.specs.Part.{Part}
 use Rattle.dom_model.specs.Runs.{run_then, answering, unless_refused, Run, quiet, run_each}
 use Rattle.dom_model.specs.Validity.{first_refusal}
-use Rattle.dom_model.specs.CommandRefusals.{is_command_of, part_refusal}
-use Rattle.dom_model.specs.CommandNames.{named, names_foreign}
-use Rattle.dom_model.specs.Effects.{Effect, tables, changes, effect}
+use Rattle.dom_model.specs.CommandNames.{named}
+use Rattle.dom_model.specs.Effects.{Effect, tables, changes}
 use Rattle.dom_model.specs.World.{World, micro_task, part_of, with_part, is_there, kind_at, ancestors_at, is_connected, component_made, Task, notify_task}
 use Rattle.dom_model.specs.Dispatch.{Dispatched, dispatch_in}
 use Rattle.dom_model.specs.Turns.{ending_turn, opening_turn, is_page_turn, firing_slotchange, is_owned_by, without_signals, notified, running_task}

@@ -4,8 +4,7 @@ use Rattle.std.specs.Prelude.{option_to_list}
 use Rattle.std.proofs.lemmas.Bool.{cond-true, cond-false, false_from_ne_true}
 use Rattle.dom_base.specs.declared.Owner.{Owner}
 use Rattle.dom_base.specs.declared.Owner.TheVariants.{Page, Component}
-use Rattle.dom_model.specs.Command.{Command, Line, no_owner, no_command, command}
-use Rattle.dom_model.specs.CommandRefusals.{is_command_of}
+use Rattle.dom_model.specs.Command.{Command, Line, no_owner, no_command, command, is_command_of}
 use Rattle.dom_model.specs.DocumentMachine.{step, first_world, run_lines, outputs_of}
 use Rattle.dom_model.specs.Output.{Output, bad_owner, says}
 use Rattle.dom_model.specs.Runs.{Run}

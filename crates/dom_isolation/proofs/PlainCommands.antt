@@ -7,10 +7,10 @@ use Rattle.dom_base.specs.declared.Owner.{Owner}
 use Rattle.dom_base.specs.declared.Owner.TheVariants.{Page, Component}
 use Rattle.dom_base.specs.declared.NodeName.{NodeName}
 use Rattle.dom_model.specs.Names.{name_eq}
-use Rattle.dom_model.specs.Command.{Command, ListenerWords, EventWords}
+use Rattle.dom_model.specs.Command.{Command, ListenerWords, EventWords, effect}
 use Rattle.dom_model.specs.CommandNames.{named}
 use Rattle.dom_model.specs.DocumentMachine.{first_world}
-use Rattle.dom_model.specs.Effects.{Effect, tables, changes, effect, answers, moves_iterator, sets_walker, node_or_null, string_or_null}
+use Rattle.dom_model.specs.Effects.{Effect, tables, changes, answers, moves_iterator, sets_walker, node_or_null, string_or_null}
 use Rattle.dom_model.specs.Listeners.{Listener, is_listener, listened, Visit, Dispatching, visited, called, hears, unlistened, kept_after, after_action}
 use Rattle.dom_model.specs.Listeners.{may_cancel, line_of}
 use Rattle.dom_model.specs.Output.{Value, a_tree, nothing, a_node, a_string, boundaries, reference, says, recorded, Output, bad_owner, Said, replied, refused}

@@ -22,7 +22,8 @@ use Rattle.dom_model.specs.Output.{a_tree}
 use Rattle.dom_model.specs.Output.{Said, replied, refused, event_seen, recorded, micro_ran, Output, bad_owner, says}
 use Rattle.dom_model.specs.Tree.{Trees, none, tree, Node, Attribute}
 use Rattle.dom_text.specs.Decode.{decode}
-use Rattle.dom_text.specs.Grammar.{Says, Spells, parts}
+use Rattle.dom_text.specs.Grammar.{Says, Spells}
+use Rattle.dom_text.specs.Commands.{parts}
 use Rattle.dom_text.specs.Lines.{line_feed, lines_of}
 use Rattle.dom_text.specs.Text.{hex_digits, unit_text, string_text, string_or_null, node_text_of, node_text, node_or_null, next_node_text, nodes_text}
 use Rattle.dom_text.specs.Text.{list_text, attribute_text, own_parts, opening_text, trees_text, boundary_text, truth_text, side_text}

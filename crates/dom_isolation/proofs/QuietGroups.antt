@@ -8,9 +8,8 @@ use Rattle.dom_base.specs.declared.Owner.{Owner}
 use Rattle.dom_base.specs.declared.Owner.TheVariants.{Component, Page}
 use Rattle.dom_base.specs.declared.NodeName.{NodeName}
 use Rattle.dom_model.specs.Names.{ComponentName}
-use Rattle.dom_model.specs.Command.{Command, EventWords, NodeWord, Line, no_owner, no_command, command}
+use Rattle.dom_model.specs.Command.{Command, EventWords, NodeWord, Line, no_owner, no_command, command, part_refusal}
 use Rattle.dom_model.specs.CommandNames.{named}
-use Rattle.dom_model.specs.CommandRefusals.{part_refusal}
 use Rattle.dom_model.specs.Dispatch.{Dispatched, dispatch_in}
 use Rattle.dom_model.specs.DocumentMachine.{refusal, perform, step}
 use Rattle.dom_model.specs.Groups.{KeepsMakers, group_world, group_run, outward_in, outward_words, ends_group_turn}

@@ -9,12 +9,12 @@ use Rattle.dom_base.specs.declared.Refusal.{Refusal}
 use Rattle.dom_base.specs.declared.Refusal.TheVariants.{Syntax}
 use Rattle.dom_model.specs.Names.{Word, name_eq}
 use Rattle.dom_model.specs.Tree.{node_in}
-use Rattle.dom_model.specs.Command.{Command, Line, no_owner, no_command, command, EventWords}
+use Rattle.dom_model.specs.Command.{Command, Line, no_owner, no_command, command, EventWords, effect}
 use Rattle.dom_model.specs.CommandNames.{named}
 use Rattle.dom_model.specs.Dispatch.{world_visit, visits_of, dispatch_in, event_output}
 use Rattle.dom_model.specs.DocumentMachine.{first_world, part_with_root, refusal, effect_in, perform, accepted, run_command, step, run_lines}
 use Rattle.dom_model.specs.DocumentMachine.{finish, outputs_of}
-use Rattle.dom_model.specs.Effects.{Effect, tables, changes, effect}
+use Rattle.dom_model.specs.Effects.{Effect, tables, changes}
 use Rattle.dom_model.specs.Listeners.{Visit, Dispatching, visited, begun}
 use Rattle.dom_model.specs.Output.{Output, bad_owner, says, replied, refused, micro_ran, Value, a_tree, EventLine}
 use Rattle.dom_model.specs.Part.{Part}

@@ -12,10 +12,10 @@ use Rattle.dom_base.specs.declared.Action.{Action}
 use Rattle.dom_base.specs.declared.Action.TheVariants.{Log, Stop, StopNow, Cancel}
 use Rattle.dom_model.specs.Names.{name_eq, append_once}
 use Rattle.dom_model.specs.Tree.{parent_of, inclusive_ancestors}
-use Rattle.dom_model.specs.Command.{Command, Line, EventWords}
+use Rattle.dom_model.specs.Command.{Command, Line, EventWords, effect}
 use Rattle.dom_model.specs.DocumentMachine.{first_world, step}
 use Rattle.dom_model.specs.DocumentMachine.{outputs_of}
-use Rattle.dom_model.specs.Effects.{Effect, tables, changes, effect}
+use Rattle.dom_model.specs.Effects.{Effect, tables, changes}
 use Rattle.dom_model.specs.Listeners.{Listener, Visit, Dispatching, visited, called, kept_after, after_action, may_cancel, line_of}
 use Rattle.dom_model.specs.Observers.{interested, target_of, transients_for, without_transients}
 use Rattle.dom_model.specs.Output.{Output, bad_owner, says}

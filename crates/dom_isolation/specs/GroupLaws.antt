@@ -4,8 +4,7 @@ use Rattle.std.specs.Prelude.{◌≡◌, Bool, true, false, IsTrue, [], filter, 
 use Rattle.std.specs.List.{AllByRecursion}
 use Rattle.dom_base.specs.declared.Owner.{Owner}
 use Rattle.dom_base.specs.declared.NodeName.{NodeName}
-use Rattle.dom_model.specs.Command.{Command, Line, EventWords, NodeWord}
-use Rattle.dom_model.specs.CommandRefusals.{part_refusal}
+use Rattle.dom_model.specs.Command.{Command, Line, EventWords, NodeWord, part_refusal}
 use Rattle.dom_model.specs.Dispatch.{dispatch_in}
 use Rattle.dom_model.specs.DocumentMachine.{step, perform, finish}
 use Rattle.dom_model.specs.Groups.{KeepsMakers, group_world, group_turn, group_run, is_task_of, outward_in, ends_group_turn}

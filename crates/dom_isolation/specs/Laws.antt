@@ -5,13 +5,12 @@ use Rattle.std.specs.List.{AllByRecursion}
 use Rattle.dom_base.specs.declared.Owner.{Owner}
 use Rattle.dom_base.specs.declared.Owner.TheVariants.{Page}
 use Rattle.dom_base.specs.declared.NodeName.{NodeName}
-use Rattle.dom_model.specs.Command.{Command, Line, EventWords, NodeWord}
+use Rattle.dom_model.specs.Command.{Command, Line, EventWords, NodeWord, part_refusal}
 use Rattle.dom_model.specs.Output.{Output, EventLine}
 use Rattle.dom_model.specs.Listeners.{Visit, Dispatching, visited}
 use Rattle.dom_model.specs.Names.{name_eq}
 use Rattle.dom_model.specs.Paths.{views, plain_views}
 use Rattle.dom_model.specs.Runs.{Run, quiet, run_then, run_each}
-use Rattle.dom_model.specs.CommandRefusals.{part_refusal}
 use Rattle.dom_model.specs.World.{World, part_of}
 use Rattle.dom_model.specs.Dispatch.{Dispatched, dispatch_in, world_visit, visits_of}
 use Rattle.dom_model.specs.Turns.{notifying, ending_turn, ending_other_turn}

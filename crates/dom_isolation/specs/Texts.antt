@@ -3,8 +3,7 @@ use Rattle.std.specs.Prelude.{◌≡◌, ◌≢◌, ℕ, IsTrue, List, [], ◌�
 use Rattle.dom_base.specs.declared.Owner.{Owner}
 use Rattle.dom_base.specs.declared.Owner.TheVariants.{Page}
 use Rattle.dom_base.specs.declared.Refusal.TheVariants.{Busy, Foreign}
-use Rattle.dom_model.specs.Command.{Command, Line, command}
-use Rattle.dom_model.specs.CommandNames.{names_foreign}
+use Rattle.dom_model.specs.Command.{Command, Line, command, names_foreign}
 use Rattle.dom_model.specs.DocumentMachine.{first_world, step, run_lines, outputs_of}
 use Rattle.dom_model.specs.Output.{Output, says, refused}
 use Rattle.dom_model.specs.PageMachine.{first_page, run_page, page_outputs_of}

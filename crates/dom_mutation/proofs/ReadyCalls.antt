@@ -9,10 +9,9 @@ use Rattle.dom_base.specs.declared.Owner.{Owner}
 use Rattle.dom_base.specs.declared.Refusal.{Refusal}
 use Rattle.dom_base.specs.declared.Refusal.TheVariants.{IndexSize}
 use Rattle.dom_model.specs.Changes.{Plan, doing}
-use Rattle.dom_model.specs.Command.{Command, own}
+use Rattle.dom_model.specs.Command.{Command, own, effect}
 use Rattle.dom_model.specs.CommandNames.{named}
 use Rattle.dom_model.specs.CommandRefusals.{past_end}
-use Rattle.dom_model.specs.Effects.{effect}
 use Rattle.dom_model.specs.Names.{node_of}
 use Rattle.dom_model.specs.Output.{Value, Said}
 use Rattle.dom_model.specs.Part.{Part, first_node}

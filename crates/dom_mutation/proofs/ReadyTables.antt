@@ -8,10 +8,10 @@ use Rattle.std.proofs.lemmas.Bool.{and_parts, ltb-false}
 use Rattle.dom_base.specs.declared.Move.{Move}
 use Rattle.dom_base.specs.declared.NodeName.{NodeName}
 use Rattle.dom_base.specs.declared.Owner.{Owner}
-use Rattle.dom_model.specs.Command.{Command, NodeWord, Filter, ObserveWords}
+use Rattle.dom_model.specs.Command.{Command, NodeWord, Filter, ObserveWords, effect}
 use Rattle.dom_model.specs.CommandNames.{named}
 use Rattle.dom_model.specs.CommandRefusals.{past_end}
-use Rattle.dom_model.specs.Effects.{Effect, tables, changes, effect, answers, moves_iterator, sets_walker, node_or_null, with_range, collapsed_to}
+use Rattle.dom_model.specs.Effects.{Effect, tables, changes, answers, moves_iterator, sets_walker, node_or_null, with_range, collapsed_to}
 use Rattle.dom_model.specs.Extract.{both_at}
 use Rattle.dom_model.specs.Output.{Value, Said, nothing}
 use Rattle.dom_model.specs.Part.{Part, first_node, range_at}

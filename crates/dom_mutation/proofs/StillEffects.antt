@@ -3,9 +3,9 @@ use Rattle.std.proofs.Common.{◌≡◌, ℕ, Bool, true, false, [], ◌∷◌, 
 use Rattle.std.specs.Prelude.{slice_get, option_map, ⊤}
 use Rattle.std.specs.Option.{option_map_or}
 use Rattle.dom_base.specs.declared.NodeName.{NodeName}
-use Rattle.dom_model.specs.Command.{Command}
+use Rattle.dom_model.specs.Command.{Command, effect}
 use Rattle.dom_model.specs.CommandNames.{named}
-use Rattle.dom_model.specs.Effects.{Effect, tables, changes, effect, answers, moves_iterator, sets_walker, node_or_null, with_range, collapsed_to}
+use Rattle.dom_model.specs.Effects.{Effect, tables, changes, answers, moves_iterator, sets_walker, node_or_null, with_range, collapsed_to}
 use Rattle.dom_model.specs.Extract.{both_at}
 use Rattle.dom_model.specs.Output.{Value, nothing, a_node, a_string, boundaries, reference}
 use Rattle.dom_model.specs.Part.{Part, first_node, range_at}

@@ -6,9 +6,8 @@ use Rattle.dom_base.specs.declared.Fault.TheVariants.{Refused}
 use Rattle.dom_base.specs.declared.NodeName.{NodeName}
 use Rattle.dom_base.specs.declared.Owner.{Owner}
 use Rattle.dom_base.specs.declared.Refusal.{Refusal}
-use Rattle.dom_model.specs.Command.{Command, NodeWord}
+use Rattle.dom_model.specs.Command.{Command, NodeWord, own_refusal}
 use Rattle.dom_model.specs.CommandNames.{named}
-use Rattle.dom_model.specs.CommandRefusals.{own_refusal}
 use Rattle.dom_model.specs.DocumentMachine.{accepted, attaching}
 use Rattle.dom_model.specs.Output.{says, replied, a_component}
 use Rattle.dom_model.specs.Part.{Part}

@@ -8,9 +8,9 @@ use Rattle.dom_base.specs.declared.Refusal.TheVariants.{Hierarchy, NotSupported}
 use Rattle.dom_base.specs.declared.Owner.{Owner}
 use Rattle.dom_base.specs.declared.NodeName.{NodeName}
 use Rattle.dom_model.specs.Tree.{kind_of, is_shadow, is_document}
-use Rattle.dom_model.specs.Command.{Command, NodeWord}
+use Rattle.dom_model.specs.Command.{Command, NodeWord, own_refusal}
 use Rattle.dom_model.specs.CommandNames.{named}
-use Rattle.dom_model.specs.CommandRefusals.{own_refusal, past_end, past_limit, made_by_text}
+use Rattle.dom_model.specs.CommandRefusals.{past_end, past_limit, made_by_text}
 use Rattle.dom_model.specs.Validity.{first_refusal, insertion_refusal, replacement_refusal}
 use Rattle.dom_model.specs.Changes.{Plan, pre_inserting, replacing, adopting}
 use Rattle.dom_model.specs.Names.{DomString, node_of, Word}

@@ -11,12 +11,12 @@ use Rattle.dom_base.specs.declared.Owner.{Owner}
 use Rattle.dom_base.specs.declared.Move.{Move}
 use Rattle.dom_model.specs.Names.{owner_eq, node_of}
 use Rattle.dom_model.specs.Tree.{Trees}
-use Rattle.dom_model.specs.Command.{Command, Filter, own}
+use Rattle.dom_model.specs.Command.{Command, Filter, own, effect}
 use Rattle.dom_model.specs.Output.{Value, nothing, a_node, an_iterator, a_walker, reference}
 use Rattle.dom_model.specs.Traversal.{Iterator, Walker, iterator_next_node, iterator_previous_node, moved_to, walker_move}
 use Rattle.dom_model.specs.Part.{Part}
 use Rattle.dom_model.specs.World.{part_of, with_part, is_there}
-use Rattle.dom_model.specs.Effects.{Effect, effect, keeps, answers, node_or_null, moves_iterator, sets_walker, new_iterator, new_walker}
+use Rattle.dom_model.specs.Effects.{Effect, keeps, answers, node_or_null, moves_iterator, sets_walker, new_iterator, new_walker}
 use Rattle.dom_model.proofs.OwnerLaws.{owner_eq-true}
 use Rattle.dom_tree.specs.Forest.{name_at, count_of}
 use Rattle.dom_tree.specs.Owners.{trees_of_owner}

@@ -7,11 +7,11 @@ use Rattle.dom_base.specs.declared.NodeName.{NodeName}
 use Rattle.dom_base.specs.declared.Owner.{Owner}
 use Rattle.dom_model.specs.Names.{owner_eq}
 use Rattle.dom_model.specs.Tree.{Trees}
-use Rattle.dom_model.specs.Command.{Command}
+use Rattle.dom_model.specs.Command.{Command, effect}
 use Rattle.dom_model.specs.Output.{Value, Said}
 use Rattle.dom_model.specs.Part.{Part}
 use Rattle.dom_model.specs.World.{part_of, with_part, is_there}
-use Rattle.dom_model.specs.Effects.{Effect, effect}
+use Rattle.dom_model.specs.Effects.{Effect}
 use Rattle.dom_model.proofs.OwnerLaws.{owner_eq-same, owner_eq-true, ne-owner_eq}
 use Rattle.dom_tree.specs.Forest.{name_at, count_of}
 use Rattle.dom_tree.specs.Owners.{trees_of_owner}

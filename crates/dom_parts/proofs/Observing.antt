@@ -13,12 +13,12 @@ use Rattle.dom_base.specs.declared.Fault.{Fault}
 use Rattle.dom_base.specs.declared.Fault.TheVariants.{Refused, Memory}
 use Rattle.dom_base.specs.declared.Refusal.TheVariants.{TypeFault, Unknown}
 use Rattle.dom_model.specs.Names.{owner_eq, name_eq, node_of}
-use Rattle.dom_model.specs.Command.{Command, ObserveWords, own}
+use Rattle.dom_model.specs.Command.{Command, ObserveWords, own, effect}
 use Rattle.dom_model.specs.Output.{Value, Said, Change, nothing, an_observer, a_count, recorded}
 use Rattle.dom_model.specs.Part.{Part, queue_of}
 use Rattle.dom_model.specs.Turns.{notified}
 use Rattle.dom_model.specs.World.{part_of, with_part, is_there}
-use Rattle.dom_model.specs.Effects.{Effect, effect}
+use Rattle.dom_model.specs.Effects.{Effect}
 use Rattle.dom_tree.specs.Forest.{NamedTrees, name_at}
 use Rattle.dom_tree.specs.Apart.{TellApart}
 use Rattle.dom_observers.specs.Tables.{TablesOf, no_tables as no_observers, with_observer, observing, disconnected, emptied, notices as keyed_notices}

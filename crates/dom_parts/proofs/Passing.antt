@@ -10,12 +10,12 @@ use Rattle.dom_base.specs.declared.Refusal.TheVariants.{Limit}
 use Rattle.dom_base.specs.declared.NodeName.{NodeName}
 use Rattle.dom_base.specs.declared.Owner.{Owner}
 use Rattle.dom_base.specs.declared.Move.{Move}
-use Rattle.dom_model.specs.Command.{Command, Filter, own}
+use Rattle.dom_model.specs.Command.{Command, Filter, own, effect}
 use Rattle.dom_model.specs.Traversal.{Iterator, Walker, walker_move}
 use Rattle.dom_model.specs.Output.{Value, an_iterator, a_walker}
 use Rattle.dom_model.specs.CommandRefusals.{past_limit}
 use Rattle.dom_model.specs.World.{part_of, is_there}
-use Rattle.dom_model.specs.Effects.{Effect, effect}
+use Rattle.dom_model.specs.Effects.{Effect}
 use Rattle.dom_tree.specs.Forest.{NamedTrees, name_at}
 use Rattle.dom_traversal.specs.Iterators.{KeyedIterator, IsIteratorOf, iterator_view, iterator_at}
 use Rattle.dom_traversal.specs.Walkers.{KeyedWalker, IsWalkerOf, walker_view, walker_at}

@@ -8,9 +8,9 @@ use Rattle.std.proofs.lemmas.List.{length-map, length-set, length_push}
 use Rattle.std.proofs.lemmas.Option.{slice_get-map}
 use Rattle.dom_base.specs.declared.NodeName.{NodeName}
 use Rattle.dom_base.specs.declared.Owner.{Owner}
-use Rattle.dom_model.specs.Command.{Command, NodeWord}
+use Rattle.dom_model.specs.Command.{Command, NodeWord, effect}
 use Rattle.dom_model.specs.CommandRefusals.{past_limit}
-use Rattle.dom_model.specs.Effects.{Effect, effect, changes_range, collapsed_to}
+use Rattle.dom_model.specs.Effects.{Effect, changes_range, collapsed_to}
 use Rattle.dom_model.specs.Extract.{both_at}
 use Rattle.dom_model.specs.Names.{owner_eq, node_of}
 use Rattle.dom_model.specs.Output.{Value, nothing, a_range, boundaries}

@@ -10,9 +10,9 @@ use Rattle.dom_base.specs.declared.Refusal.{Refusal}
 use Rattle.dom_base.specs.declared.Refusal.TheVariants.{Limit, Unknown, IndexSize}
 use Rattle.dom_base.specs.declared.NodeName.{NodeName}
 use Rattle.dom_base.specs.declared.Owner.{Owner}
-use Rattle.dom_model.specs.Command.{Command, NodeWord}
+use Rattle.dom_model.specs.Command.{Command, NodeWord, effect}
 use Rattle.dom_model.specs.CommandRefusals.{past_limit, past_end}
-use Rattle.dom_model.specs.Effects.{Effect, effect}
+use Rattle.dom_model.specs.Effects.{Effect}
 use Rattle.dom_model.specs.Names.{node_of, owner_eq}
 use Rattle.dom_model.proofs.OwnerLaws.{owner_eq-true}
 use Rattle.dom_model.specs.Output.{Value, nothing, a_range, boundaries}

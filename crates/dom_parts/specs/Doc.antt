@@ -18,8 +18,8 @@ use Rattle.dom_model.specs.Tree.{is_inclusive_ancestor}
 use Rattle.dom_model.specs.Part.{Part, next_name, queue_of}
 use Rattle.dom_model.specs.Steps.{Step, queue_record}
 use Rattle.dom_model.specs.World.{World, Task, micro_task, notify_task, part_of, with_part, is_there}
-use Rattle.dom_model.specs.Command.{Command}
-use Rattle.dom_model.specs.Effects.{Effect, effect}
+use Rattle.dom_model.specs.Command.{Command, effect}
+use Rattle.dom_model.specs.Effects.{Effect}
 use Rattle.dom_model.specs.WorldSteps.{world_step, world_after}
 use Rattle.dom_model.specs.Changes.{Plan, Observing, suppressed, ◌and_then◌, in_turn, doing, steps_of, telling, making_room, placing}
 use Rattle.dom_model.specs.Changes.{removing, inserting}

@@ -4,8 +4,8 @@ use Rattle.std.specs.Prelude.{IfOk, IsTrue}
 use Rattle.std.specs.Option.{ForSome}
 use Rattle.dom_worlds.specs.Bounds.{IsWithin, HasBounds}
 use Rattle.dom_worlds.specs.Tables.{HasEnds}
-use Rattle.dom_model.specs.Command.{Command}
-use Rattle.dom_model.specs.Effects.{Effect, effect}
+use Rattle.dom_model.specs.Command.{Command, effect}
+use Rattle.dom_model.specs.Effects.{Effect}
 use Rattle.dom_model.specs.Output.{boundaries}
 use Rattle.dom_model.specs.Part.{range_at}
 use Rattle.std.specs.List.{AllByRecursion}

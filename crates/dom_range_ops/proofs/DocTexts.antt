@@ -9,8 +9,8 @@ use Rattle.dom_base.specs.declared.Owner.{Owner}
 use Rattle.dom_worlds.specs.Bounds.{IsWithin, EndsWithin, HasBounds}
 use Rattle.dom_worlds.specs.Tables.{HasEnds}
 use Rattle.dom_worlds.proofs.TextBounds.{text-data}
-use Rattle.dom_model.specs.Command.{Command}
-use Rattle.dom_model.specs.Effects.{Effect, effect}
+use Rattle.dom_model.specs.Command.{Command, effect}
+use Rattle.dom_model.specs.Effects.{Effect}
 use Rattle.dom_model.specs.Output.{nothing, boundaries}
 use Rattle.dom_model.specs.Part.{Part, range_at}
 use Rattle.dom_model.specs.Place.{Boundary, same_root}

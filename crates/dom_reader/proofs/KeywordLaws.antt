@@ -2,8 +2,7 @@
 use Rattle.std.proofs.Common.{◌≡◌, ℕ, Bool, true, false, List, [], ◌∷◌, Some, None, Bor, cond, refl, sym, ap, ◌∙◌, eq-eqb, ◌<◌, length, get_or, arith}
 use Rattle.std.specs.Prelude.{find, filter, bytes_eq, map, option_map}
 use Rattle.std.proofs.lemmas.Iterator.Adapters.{option_map_id}
-use Rattle.dom_text.specs.declared.Keyword.{Keyword}
-use Rattle.dom_text.specs.Words.{keyword_word, keywords}
+use Rattle.dom_text.specs.Commands.{Keyword, keyword_word, keywords}
 use Rattle.dom_text.specs.Readers.{named}
 use Rattle.dom_text.specs.Decode.{keyword_of}
 use Rattle.dom_text.proofs.NumberLaws.{bytes_eq-true}

@@ -6,7 +6,7 @@ use Rattle.dom_model.specs.Names.{Word, is_name}
 use Rattle.dom_base.specs.declared.Owner.{Owner}
 use Rattle.dom_model.specs.Command.{NodeWord, Filter}
 use Rattle.dom_text.specs.Readers.{◌>>=◌, only_if, behind, at_end, next_word, next_as, last_as, show_of, name_filter_of}
-use Rattle.dom_text.specs.Decode.{node_at}
+use Rattle.dom_text.specs.Forms.{node_at}
 
 -- the parts between these bytes of the text that is left, if any is
 abbrev pub parts_view : ℕ → Option (Bor (List ℕ)) → List (List ℕ)

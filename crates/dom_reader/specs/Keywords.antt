@@ -1,8 +1,7 @@
 -- The words with which commands begin: by what the commands are about, and by their first byte.
 use Rattle.std.specs.Prelude.{ℕ, Bool, false, ◌==◌, List, [], ◌∷◌, filter}
-use Rattle.dom_text.specs.declared.Keyword.{Keyword}
-use Rattle.dom_text.specs.declared.Keyword.TheVariants as keyword
-use Rattle.dom_text.specs.Words.{keyword_word, keywords}
+use Rattle.dom_text.specs.Commands.{Keyword, keyword_word, keywords}
+use Rattle.dom_text.specs.Commands as keyword
 use Rattle.dom_reader.specs.declared.keywords.Keyword.{Keyword as Grouped}
 use Rattle.dom_reader.specs.declared.keywords.Keyword.TheVariants as grouped
 use Rattle.dom_reader.specs.declared.keywords.MakingWord.{MakingWord}

@@ -6,7 +6,8 @@ mod nodes;
 
 ghost use Rattle.std.specs.Prelude.{◌≡◌};
 ghost use Rattle.dom_text.specs.Readers.{at_end};
-ghost use Rattle.dom_text.specs.Decode.{command_behind as spec_command_behind, command_at as spec_command_at};
+ghost use Rattle.dom_text.specs.Decode.{command_at as spec_command_at};
+ghost use Rattle.dom_text.specs.Commands.{command_behind as spec_command_behind};
 ghost use Rattle.dom_words.specs.Gives.{Gives};
 ghost use Rattle.dom_reader.specs.Keywords.{keyword_view};
 ghost use Rattle.dom_reader.specs.Views.{command_view};

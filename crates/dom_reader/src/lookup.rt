@@ -1,7 +1,7 @@
 //! The words with which commands begin, sought among those with the same first byte.
 
 ghost use Rattle.std.specs.Prelude.{◌≡◌, bytes_eq, find, map, option_map};
-ghost use Rattle.dom_text.specs.Words.{keyword_word};
+ghost use Rattle.dom_text.specs.Commands.{keyword_word};
 ghost use Rattle.dom_text.specs.Decode.{keyword_of as spec_keyword_of};
 ghost use Rattle.dom_reader.specs.Keywords.{keyword_view, keywords_with, spelled};
 

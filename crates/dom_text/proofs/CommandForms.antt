@@ -8,16 +8,15 @@ use Rattle.dom_base.specs.declared.Kind.TheVariants as kinds
 use Rattle.dom_base.specs.declared.Action.{Action}
 use Rattle.dom_base.specs.declared.Move.{Move}
 use Rattle.dom_model.specs.Names.{Word, DomString}
-use Rattle.dom_model.specs.Command.{NodeWord, Filter, ListenerWords, Command, new_element, new_text, new_comment, new_fragment, assigned}
-use Rattle.dom_model.specs.Command.{listen, unlisten}
-use Rattle.dom_text.specs.declared.Keyword.{Keyword}
-use Rattle.dom_text.specs.declared.Keyword.TheVariants as keyword
-use Rattle.dom_text.specs.Words.{kind_word, new_kinds, keyword_word}
+use Rattle.dom_model.specs.Command.{NodeWord, Filter, ListenerWords, Command, new_element, new_text, new_comment, new_fragment, assigned, listen, unlisten}
+use Rattle.dom_text.specs.Commands.{Keyword, keyword_word, parts}
+use Rattle.dom_text.specs.Commands as keyword
+use Rattle.dom_text.specs.Words.{kind_word, new_kinds}
 use Rattle.dom_text.specs.Tokens.{IsWord, IsShow, IsNameFilter, IsAttributeFilter}
-use Rattle.dom_text.specs.Grammar.{LinePart, key, label, node, flag, perhaps, filter_parts, listener_parts, parts, MayUse, Spells}
+use Rattle.dom_text.specs.Grammar.{MayUse, Spells}
+use Rattle.dom_text.specs.LineParts.{LinePart, key, label, node, flag, perhaps, filter_parts, listener_parts}
 use Rattle.dom_text.specs.Readers.{◌>>=◌, next_as, named, show_of, name_filter_of, attribute_filter_of, flag_at, last_as}
-use Rattle.dom_text.specs.Decode.{node_at, label_at, new_of, new_at, assigned_at, action_at, cursor_at, listen_end}
-use Rattle.dom_text.specs.Decode.{listen_at, unlisten_end, unlisten_at}
+use Rattle.dom_text.specs.Forms.{node_at, label_at, new_of, new_at, assigned_at, action_at, cursor_at, listen_end, listen_at, unlisten_end, unlisten_at}
 use Rattle.dom_text.proofs.WordLaws.{bind_then, some_is, at_end_some}
 use Rattle.dom_text.proofs.PartLaws.{ReadsPart, next_word_reads, next_as_reads, Spells-ends, LineReader, part_then, one_part}
 use Rattle.dom_text.proofs.PartLaws.{next_string_reads}

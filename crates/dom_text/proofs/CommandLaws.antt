@@ -10,12 +10,14 @@ use Rattle.dom_model.specs.Command.{contains, assigned, range_new, range_start}
 use Rattle.dom_model.specs.Command.{range_end, range_collapse, range_drop, range_get, range_text, extract, delete, insert_node, iterator_new}
 use Rattle.dom_model.specs.Command.{walker_new, iterator_next, iterator_previous, iterator_at, walk, walker_at, walker_set, query, matches, listen}
 use Rattle.dom_model.specs.Command.{unlisten, dispatch, observer, observe, disconnect, take, micro, end_turn}
-use Rattle.dom_text.specs.declared.Keyword.{Keyword}
-use Rattle.dom_text.specs.declared.Keyword.TheVariants as keyword
-use Rattle.dom_text.specs.Words.{kind_word, new_kinds, keyword_word}
-use Rattle.dom_text.specs.Grammar.{LinePart, key, word, string, node, parts, MayUse, Spells}
+use Rattle.dom_text.specs.Commands.{Keyword, keyword_word, parts, command_behind}
+use Rattle.dom_text.specs.Commands as keyword
+use Rattle.dom_text.specs.Words.{kind_word, new_kinds}
+use Rattle.dom_text.specs.Grammar.{MayUse, Spells}
+use Rattle.dom_text.specs.LineParts.{LinePart, key, word, string, node}
 use Rattle.dom_text.specs.Readers.{◌>>=◌, next_as, named}
-use Rattle.dom_text.specs.Decode.{new_of, new_at, node_at, one, command_behind, keyword_of, command_at}
+use Rattle.dom_text.specs.Decode.{keyword_of, command_at}
+use Rattle.dom_text.specs.Forms.{new_of, new_at, node_at, one}
 use Rattle.dom_text.proofs.PartLaws.{LineReader, next_word_reads, next_as_reads, Spells-ends, ended, one_part}
 use Rattle.dom_text.proofs.PartLaws.{next_string_reads}
 use Rattle.dom_text.proofs.CommandParts.{keyword_says}

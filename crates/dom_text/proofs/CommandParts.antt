@@ -6,14 +6,16 @@ use Rattle.dom_base.specs.declared.Move.{Move}
 use Rattle.dom_base.specs.declared.Move.TheVariants as moves
 use Rattle.dom_base.specs.declared.Action.{Action}
 use Rattle.dom_base.specs.declared.Action.TheVariants as actions
-use Rattle.dom_text.specs.declared.Keyword.{Keyword}
-use Rattle.dom_text.specs.declared.Keyword.TheVariants as keyword
-use Rattle.dom_text.specs.Words.{action_word, actions_listed, move_word, moves_listed, end_word, keyword_word, keywords}
+use Rattle.dom_text.specs.Commands.{Keyword, keyword_word, keywords}
+use Rattle.dom_text.specs.Commands as keyword
+use Rattle.dom_text.specs.Words.{action_word, actions_listed, move_word, moves_listed, end_word}
 use Rattle.dom_text.specs.Tokens.{IsWord}
-use Rattle.dom_text.specs.Grammar.{key, label, number, node, range, iterator, walker, observed, LinePart, flag, perhaps, Spells}
+use Rattle.dom_text.specs.Grammar.{Spells}
+use Rattle.dom_text.specs.LineParts.{key, label, number, node, range, iterator, walker, observed, LinePart, flag, perhaps}
 use Rattle.dom_text.specs.Readers.{named, next_word, next_as, flag_found, flag_at, last_as}
-use Rattle.dom_text.specs.Decode.{node_at, range_number_at, iterator_number_at, walker_number_at, observer_number_at, number_at, label_at, to_start_at}
-use Rattle.dom_text.specs.Decode.{action_at, move_at, keyword_of}
+use Rattle.dom_text.specs.Forms.{node_at, range_number_at, iterator_number_at, walker_number_at, observer_number_at, number_at, label_at, to_start_at}
+use Rattle.dom_text.specs.Forms.{action_at, move_at}
+use Rattle.dom_text.specs.Decode.{keyword_of}
 use Rattle.dom_text.proofs.PartLaws.{SaysPart, ReadsPart, next_as_reads, next_word_reads, Spells-ends, one_part}
 use Rattle.dom_text.proofs.NumberLaws.{number_says, numbered_says, bytes_eq-true, eq-bytes_eq}
 use Rattle.dom_text.proofs.NodeLaws.{node_says}

@@ -4,11 +4,12 @@ use Rattle.std.specs.Prelude.{codes, bytes_eq}
 use Rattle.dom_base.specs.declared.Owner.{Owner}
 use Rattle.dom_model.specs.Names.{Word}
 use Rattle.dom_model.specs.Command.{NodeWord, EventWords, ObserveWords, Command, dispatch, observe}
-use Rattle.dom_text.specs.declared.Keyword.TheVariants as keyword
+use Rattle.dom_text.specs.Commands as keyword
 use Rattle.dom_text.specs.Tokens.{IsAttributeFilter}
-use Rattle.dom_text.specs.Grammar.{LinePart, node, observed, flag, perhaps, event_parts, related_parts, observe_parts, Spells}
+use Rattle.dom_text.specs.Grammar.{Spells}
+use Rattle.dom_text.specs.LineParts.{LinePart, node, observed, flag, perhaps, event_parts, related_parts, observe_parts}
 use Rattle.dom_text.specs.Readers.{◌>>=◌, attribute_filter_of, flag_at, last_as}
-use Rattle.dom_text.specs.Decode.{node_at, observer_number_at, label_at, related_at, dispatch_end, dispatch_at, observe_end, observe_at}
+use Rattle.dom_text.specs.Forms.{node_at, observer_number_at, label_at, related_at, dispatch_end, dispatch_at, observe_end, observe_at}
 use Rattle.dom_text.proofs.WordLaws.{bind_then, some_is, at_end_some}
 use Rattle.dom_text.proofs.PartLaws.{Spells-ends, one_part}
 use Rattle.dom_text.proofs.NameLaws.{word_by_test, attribute_filter_says}

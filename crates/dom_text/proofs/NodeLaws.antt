@@ -10,7 +10,7 @@ use Rattle.dom_base.specs.declared.Owner.TheVariants.{Page, Component}
 use Rattle.dom_model.specs.Names.{ComponentName}
 use Rattle.dom_model.specs.Command.{NodeWord, own, foreign}
 use Rattle.dom_text.specs.Tokens.{IsWordByte, IsWord, IsNumber, IsNumbered, IsComponent, IsFullName, IsNode, IsOwner, IsPositive, ArePositive, path_from}
-use Rattle.dom_text.specs.Grammar.{node}
+use Rattle.dom_text.specs.LineParts.{node}
 use Rattle.dom_text.specs.Readers.{◌>>=◌, at_end, number_of, behind, component_of, owner_of, page_node, inner_node, is_no_colon, full_name_of, node_word_of}
 use Rattle.dom_text.specs.Readers.{only_if, positive_of, between_dots, path_onto}
 use Rattle.dom_text.proofs.WordLaws.{bind_then, some_is, at_end_some, run, behind_run, run_sound, run_complete, chosen, only_if_some, each_from, Passes}

@@ -14,8 +14,9 @@ use Rattle.dom_model.specs.Command.{listen, unlisten, dispatch}
 use Rattle.dom_model.specs.Command.{observe}
 use Rattle.dom_text.specs.Words.{end_word, move_word, action_word}
 use Rattle.dom_text.specs.Tokens.{IsWord, IsNumbered, IsItem, itself, quote, backslash, by_digits, AreItems}
-use Rattle.dom_text.specs.Grammar.{LinePart, key, word, label, string, flag, perhaps, filter_parts}
-use Rattle.dom_text.specs.Grammar.{listener_parts, related_parts, event_parts, observe_parts, parts, Spells, IsLine}
+use Rattle.dom_text.specs.LineParts.{LinePart, key, word, label, string, flag, perhaps, filter_parts, listener_parts, related_parts, event_parts, observe_parts}
+use Rattle.dom_text.specs.Grammar.{Spells, IsLine}
+use Rattle.dom_text.specs.Commands.{parts}
 use Rattle.dom_text.proofs.WordLaws.{in_range_is, each_from, list_all_each}
 use Rattle.dom_text.proofs.NumberLaws.{each-append, number_says, numbered_says}
 use Rattle.dom_text.proofs.NodeLaws.{node_says, owner_is_word}

@@ -2,8 +2,11 @@
 pub mod Words
 pub mod Lines
 pub mod Tokens
-pub mod Grammar
 pub mod Readers
+pub mod LineParts
+pub mod Forms
+pub mod Commands
+pub mod Grammar
 pub mod Decode
 pub mod Text
 pub mod Laws

@@ -4,7 +4,7 @@ ghost use Rattle.std.specs.Prelude.{◌≡◌, ◌&&◌, nat_lt, nat_le, length,
 ghost use Rattle.std.specs.List.{list_all};
 ghost use Rattle.dom_model.specs.Names.{begins_name as spec_begins_name, continues_name as spec_continues_name, is_name as spec_is_name};
 ghost use Rattle.dom_text.specs.Tokens.{is_label_byte as spec_is_label_byte};
-ghost use Rattle.dom_text.specs.Decode.{label_at};
+ghost use Rattle.dom_text.specs.Forms.{label_at};
 ghost use Rattle.dom_words.specs.Gives.{Takes};
 
 use crate::not_read::NotRead;

@@ -5,9 +5,8 @@ ghost use Rattle.std.specs.List.{list_all, prefix_len};
 ghost use Rattle.std.specs.Char.{is_ascii_digit, is_ascii_graphic};
 ghost use Rattle.std.specs.Int.{is_in_range};
 ghost use Rattle.std.specs.Str.Parse.{digits_value_after};
-ghost use Rattle.dom_text.specs.Readers.{only_if, number_of as spec_number_of, positive_of as spec_positive_of};
-ghost use Rattle.dom_text.specs.Readers.{numbered as spec_numbered, next_as};
-ghost use Rattle.dom_text.specs.Decode.{number_at};
+ghost use Rattle.dom_text.specs.Readers.{only_if, number_of as spec_number_of, positive_of as spec_positive_of, numbered as spec_numbered, next_as};
+ghost use Rattle.dom_text.specs.Forms.{number_at};
 ghost use Rattle.dom_words.specs.declared.not_read.NotRead.TheVariants.{Syntax};
 ghost use Rattle.dom_words.specs.Gives.{Takes};
 

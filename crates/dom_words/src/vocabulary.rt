@@ -3,7 +3,7 @@
 ghost use Rattle.std.specs.Prelude.{◌≡◌, IfErr, true, false, ◌∷◌, []};
 ghost use Rattle.dom_text.specs.Readers.{named, next_as};
 ghost use Rattle.dom_text.specs.Words.{kind_word, new_kinds, action_word, actions_listed, move_word, moves_listed, end_word};
-ghost use Rattle.dom_text.specs.Decode.{action_at, move_at, to_start_at};
+ghost use Rattle.dom_text.specs.Forms.{action_at, move_at, to_start_at};
 ghost use Rattle.dom_words.specs.declared.not_read.NotRead.TheVariants.{Syntax};
 ghost use Rattle.dom_words.specs.Gives.{Takes};
 

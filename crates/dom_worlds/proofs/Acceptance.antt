@@ -8,11 +8,11 @@ use Rattle.dom_base.specs.declared.TheConstants.{MAX_COMPONENTS}
 use Rattle.dom_base.specs.Owners.{may_attach}
 use Rattle.dom_base.specs.declared.Refusal.{Refusal}
 use Rattle.dom_base.specs.declared.Refusal.TheVariants.{Syntax, Busy, Foreign, Unknown, WrongKind, NotSupported, Limit}
-use Rattle.dom_model.specs.Command.{Command, NodeWord}
+use Rattle.dom_model.specs.Command.{Command, NodeWord, names_foreign, nodes_exist, thing_exists, nodes_fit, is_command_of, part_refusal, own_refusal}
 use Rattle.dom_model.specs.Names.{name_eq, is_in}
 use Rattle.dom_model.specs.Tree.{node_in}
-use Rattle.dom_model.specs.CommandNames.{named, names_foreign, nodes_exist, thing_exists, nodes_fit}
-use Rattle.dom_model.specs.CommandRefusals.{is_command_of, part_refusal, own_refusal, may_be_host}
+use Rattle.dom_model.specs.CommandNames.{named}
+use Rattle.dom_model.specs.CommandRefusals.{may_be_host}
 use Rattle.dom_model.specs.DocumentMachine.{refusal, is_busy}
 use Rattle.dom_model.specs.Part.{Part}
 use Rattle.dom_model.specs.Validity.{first_refusal}

@@ -9,10 +9,10 @@ use Rattle.dom_base.specs.declared.Kind.TheVariants.{Document, Fragment, Element
 use Rattle.dom_base.specs.declared.NodeName.{NodeName}
 use Rattle.dom_base.specs.declared.Refusal.TheVariants.{Hierarchy, IndexSize}
 use Rattle.dom_model.specs.Changes.{observed}
-use Rattle.dom_model.specs.Command.{Command}
+use Rattle.dom_model.specs.Command.{Command, part_refusal, effect}
 use Rattle.dom_model.specs.CommandNames.{named}
-use Rattle.dom_model.specs.CommandRefusals.{part_refusal, past_end, of_range}
-use Rattle.dom_model.specs.Effects.{Effect, tables, changes, effect, answers, moves_iterator, sets_walker, node_or_null, with_range, collapsed_to}
+use Rattle.dom_model.specs.CommandRefusals.{past_end, of_range}
+use Rattle.dom_model.specs.Effects.{Effect, tables, changes, answers, moves_iterator, sets_walker, node_or_null, with_range, collapsed_to}
 use Rattle.dom_model.specs.Effects.{new_node, new_document_of}
 use Rattle.dom_model.specs.Extract.{both_at}
 use Rattle.dom_model.specs.Names.{name_eq}

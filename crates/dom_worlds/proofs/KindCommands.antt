@@ -9,10 +9,9 @@ use Rattle.dom_base.specs.declared.Kind.{Kind}
 use Rattle.dom_base.specs.declared.Kind.TheVariants.{Document, Shadow, Element, Text, Comment}
 use Rattle.dom_model.specs.Names.{ComponentName, name_eq}
 use Rattle.dom_model.specs.Tree.{node_in, children_of, is_element, is_text, is_document}
-use Rattle.dom_model.specs.Command.{Command}
-use Rattle.dom_model.specs.CommandRefusals.{own_refusal}
+use Rattle.dom_model.specs.Command.{Command, own_refusal, effect}
 use Rattle.dom_model.specs.DocumentMachine.{effect_in}
-use Rattle.dom_model.specs.Effects.{Effect, tables, changes, effect}
+use Rattle.dom_model.specs.Effects.{Effect, tables, changes}
 use Rattle.dom_model.specs.Extract.{pieces_of}
 use Rattle.dom_model.specs.Part.{Part}
 use Rattle.dom_model.specs.Steps.{Step}

@@ -16,11 +16,10 @@ use Rattle.dom_base.specs.declared.TheConstants.{MAX_COMPONENTS}
 use Rattle.dom_base.specs.Owners.{may_attach}
 use Rattle.dom_model.specs.Names.{name_eq, is_in}
 use Rattle.dom_model.specs.Tree.{Trees, none, tree, Node, nodes, names_of, node_in, kind_of, has_node, no_node, is_element, times_in}
-use Rattle.dom_model.specs.Command.{Command, Line, no_owner, no_command, command, NodeWord}
-use Rattle.dom_model.specs.CommandNames.{named, nodes_exist}
-use Rattle.dom_model.specs.CommandRefusals.{part_refusal, may_be_host}
+use Rattle.dom_model.specs.Command.{Command, Line, no_owner, no_command, command, NodeWord, nodes_exist, part_refusal, effect}
+use Rattle.dom_model.specs.CommandNames.{named}
+use Rattle.dom_model.specs.CommandRefusals.{may_be_host}
 use Rattle.dom_model.specs.DocumentMachine.{first_world, part_with_root, refusal, attaching, perform, accepted, run_command, step}
-use Rattle.dom_model.specs.Effects.{effect}
 use Rattle.dom_model.specs.Part.{Part}
 use Rattle.dom_model.specs.Runs.{Run, quiet, unless_refused}
 use Rattle.dom_model.specs.Turns.{ending_turn, has_other_turn, ending_other_turn, opening_turn}

@@ -12,11 +12,10 @@ use Rattle.dom_base.specs.declared.Kind.TheVariants.{Shadow}
 use Rattle.dom_base.specs.declared.Refusal.{Refusal}
 use Rattle.dom_model.specs.Names.{owner_eq, first_of}
 use Rattle.dom_model.specs.Tree.{node_in}
-use Rattle.dom_model.specs.Command.{Command, Line, no_owner, no_command, command, NodeWord}
+use Rattle.dom_model.specs.Command.{Command, Line, no_owner, no_command, command, NodeWord, part_refusal, effect}
 use Rattle.dom_model.specs.CommandNames.{named}
-use Rattle.dom_model.specs.CommandRefusals.{part_refusal}
 use Rattle.dom_model.specs.DocumentMachine.{first_world, part_with_root, refusal, effect_in, attaching, perform, accepted, run_command, step}
-use Rattle.dom_model.specs.Effects.{Effect, tables, changes, effect}
+use Rattle.dom_model.specs.Effects.{Effect, tables, changes}
 use Rattle.dom_model.specs.Part.{Part}
 use Rattle.dom_model.specs.Runs.{unless_refused}
 use Rattle.dom_model.specs.Turns.{ending_other_turn, opening_turn}

@@ -5,10 +5,10 @@ use Rattle.std.specs.List.{AllByRecursion}
 use Rattle.std.specs.Option.{option_map_or}
 use Rattle.dom_base.specs.declared.NodeName.{NodeName}
 use Rattle.dom_model.specs.Changes.{observed, reference_for}
-use Rattle.dom_model.specs.Command.{Command}
+use Rattle.dom_model.specs.Command.{Command, part_refusal, effect}
 use Rattle.dom_model.specs.CommandNames.{named}
-use Rattle.dom_model.specs.CommandRefusals.{part_refusal, of_range}
-use Rattle.dom_model.specs.Effects.{Effect, tables, changes, effect, answers, moves_iterator, sets_walker, node_or_null}
+use Rattle.dom_model.specs.CommandRefusals.{of_range}
+use Rattle.dom_model.specs.Effects.{Effect, tables, changes, answers, moves_iterator, sets_walker, node_or_null}
 use Rattle.dom_model.specs.Extract.{extracting}
 use Rattle.dom_model.specs.Output.{Value, nothing, a_node, a_string, boundaries, reference}
 use Rattle.dom_model.specs.Part.{Part, range_at}

@@ -12,15 +12,15 @@ use Rattle.dom_base.specs.declared.Refusal.TheVariants.{Hierarchy, NotFound}
 use Rattle.dom_model.specs.Names.{name_eq}
 use Rattle.dom_model.specs.Tree.{Trees, none, tree, Node, nodes, names_of, roots, no_node, kind_of, has_data, is_inclusive_ancestor, child_nodes}
 use Rattle.dom_model.specs.Tree.{times_in, subtree, trees_below}
-use Rattle.dom_model.specs.Command.{Command, NodeWord}
+use Rattle.dom_model.specs.Command.{Command, NodeWord, own_refusal, effect}
 use Rattle.dom_model.specs.Part.{Part, range_at}
 use Rattle.dom_model.specs.Ranges.{Range}
 use Rattle.dom_model.specs.Validity.{first_refusal, has_parent, may_be_parent, may_be_inserted, placing_tests, insertion_refusal, replacement_refusal}
 use Rattle.dom_model.specs.CommandNames.{named}
-use Rattle.dom_model.specs.CommandRefusals.{own_refusal, limit_on, made_by_insert_node}
+use Rattle.dom_model.specs.CommandRefusals.{limit_on, made_by_insert_node}
 use Rattle.dom_model.specs.RangeOps.{cannot_take_node, insert_node_refusal, insertion_parent, start_reference}
 use Rattle.dom_model.specs.Extract.{pieces_of, common_ancestor}
-use Rattle.dom_model.specs.Effects.{Effect, effect}
+use Rattle.dom_model.specs.Effects.{Effect}
 use Rattle.dom_model.proofs.OwnerLaws.{name_eq-true}
 use Rattle.std.proofs.lemmas.List.Folds.{find-append}
 use Rattle.dom_worlds.specs.Worlds.{IsShadowAt}

@@ -11,12 +11,11 @@ use Rattle.dom_base.specs.declared.Action.{Action}
 use Rattle.dom_base.specs.declared.Action.TheVariants.{Log, Stop, StopNow, Cancel}
 use Rattle.dom_base.specs.declared.Refusal.{Refusal}
 use Rattle.dom_model.specs.Names.{owner_eq, Word}
-use Rattle.dom_model.specs.Command.{Command, Line, no_owner, no_command, command, NodeWord}
+use Rattle.dom_model.specs.Command.{Command, Line, no_owner, no_command, command, NodeWord, part_refusal, effect}
 use Rattle.dom_model.specs.Part.{Part}
 use Rattle.dom_model.specs.Runs.{unless_refused}
 use Rattle.dom_model.specs.CommandNames.{named}
-use Rattle.dom_model.specs.CommandRefusals.{part_refusal}
-use Rattle.dom_model.specs.Effects.{Effect, tables, changes, effect}
+use Rattle.dom_model.specs.Effects.{Effect, tables, changes}
 use Rattle.dom_model.specs.World.{World, micro_task, part_of, with_part, host_of, shadow_root_of}
 use Rattle.dom_model.specs.Turns.{ending_other_turn, opening_turn, is_page_turn}
 use Rattle.dom_model.specs.DocumentMachine.{refusal, effect_in, perform, accepted, run_command, step}

@@ -3,7 +3,7 @@ use Rattle.std.proofs.Common.{◌≡◌, ℕ, Bool, true, false, not, List, [], 
 use Rattle.std.specs.Prelude.{⊤, slice_get, if◌then◌else◌}
 use Rattle.std.specs.Option.{option_map_or}
 use Rattle.dom_base.specs.declared.NodeName.{NodeName}
-use Rattle.dom_model.specs.Command.{Command, ListenerWords}
+use Rattle.dom_model.specs.Command.{Command, ListenerWords, effect}
 use Rattle.dom_base.specs.declared.Action.TheVariants.{Log}
 use Rattle.dom_model.specs.Listeners.{Listener, listened, is_listener}
 use Rattle.dom_model.specs.Names.{name_eq}
@@ -17,7 +17,7 @@ use Rattle.dom_model.specs.Ranges.{Range}
 use Rattle.dom_model.specs.RangeOps.{range_text_of}
 use Rattle.dom_model.specs.Traversal.{Iterator, Walker, iterator_next_node, iterator_previous_node, walker_move}
 use Rattle.dom_model.specs.CommandNames.{named}
-use Rattle.dom_model.specs.Effects.{Effect, tables, changes, effect, answers, moves_iterator, sets_walker, node_or_null}
+use Rattle.dom_model.specs.Effects.{Effect, tables, changes, answers, moves_iterator, sets_walker, node_or_null}
 
 -- the owner, the trees, the count and the hosts stay
 abbrev pub KeepsBase : Part → Effect → Type 0

@@ -10,12 +10,11 @@ use Rattle.dom_base.specs.declared.NodeName.{NodeName}
 use Rattle.dom_base.specs.declared.Owner.{Owner}
 use Rattle.dom_base.specs.declared.Owner.TheVariants.{Page, Component}
 use Rattle.dom_base.specs.declared.Refusal.{Refusal}
-use Rattle.dom_model.specs.Command.{Command, Line, no_owner, no_command, command, NodeWord, EventWords}
+use Rattle.dom_model.specs.Command.{Command, Line, no_owner, no_command, command, NodeWord, EventWords, part_refusal, effect}
 use Rattle.dom_model.specs.CommandNames.{named}
-use Rattle.dom_model.specs.CommandRefusals.{part_refusal}
 use Rattle.dom_model.specs.Dispatch.{dispatch_in, world_visit, visits_of}
 use Rattle.dom_model.specs.DocumentMachine.{first_world, part_with_root, refusal, effect_in, attaching, perform, accepted, run_command, step, run_lines, finish}
-use Rattle.dom_model.specs.Effects.{Effect, tables, changes, effect}
+use Rattle.dom_model.specs.Effects.{Effect, tables, changes}
 use Rattle.dom_model.specs.Listeners.{Listener, Visit, Dispatching, begun, after_action, may_cancel, line_of, is_listener, kept_after, called, hears, visited}
 use Rattle.dom_model.specs.Names.{name_eq, node_of, is_in}
 use Rattle.dom_model.specs.Observers.{Registration, is_transient}

@@ -8,10 +8,10 @@ use Rattle.std.proofs.lemmas.Bool.{and_parts}
 use Rattle.std.proofs.lemmas.List.{length-set}
 use Rattle.dom_base.specs.declared.NodeName.{NodeName}
 use Rattle.dom_model.specs.Changes.{observed}
-use Rattle.dom_model.specs.Command.{Command, NodeWord, ObserveWords, ListenerWords}
+use Rattle.dom_model.specs.Command.{Command, NodeWord, ObserveWords, ListenerWords, part_refusal, own_refusal, effect}
 use Rattle.dom_model.specs.CommandNames.{named, has_range}
-use Rattle.dom_model.specs.CommandRefusals.{part_refusal, own_refusal, of_range, limit_on, made_by_insert_node}
-use Rattle.dom_model.specs.Effects.{effect, answers, moves_iterator, sets_walker, node_or_null, collapsed_to}
+use Rattle.dom_model.specs.CommandRefusals.{of_range, limit_on, made_by_insert_node}
+use Rattle.dom_model.specs.Effects.{answers, moves_iterator, sets_walker, node_or_null, collapsed_to}
 use Rattle.dom_model.specs.Effects.{new_iterator, new_walker}
 use Rattle.dom_model.specs.Extract.{both_at}
 use Rattle.dom_model.specs.Listeners.{Listener, listened, is_listener}

@@ -2,7 +2,8 @@
 
 ghost use Rattle.std.specs.Prelude.{◌≡◌};
 ghost use Rattle.dom_model.specs.Command as model;
-ghost use Rattle.dom_text.specs.Decode.{cursor_at, command_behind};
+ghost use Rattle.dom_text.specs.Forms.{cursor_at};
+ghost use Rattle.dom_text.specs.Commands.{command_behind};
 ghost use Rattle.dom_words.specs.Gives.{Gives};
 ghost use Rattle.dom_reader.specs.Filters.{filtered as spec_filtered};
 ghost use Rattle.dom_reader.specs.Keywords.{range_keyword, cursor_keyword};

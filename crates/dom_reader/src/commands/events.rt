@@ -1,7 +1,8 @@
 //! Commands of listeners, events, observers, microtasks and turns.
 
 ghost use Rattle.std.specs.Prelude.{◌≡◌};
-ghost use Rattle.dom_text.specs.Decode.{listen_at, unlisten_at, dispatch_at, observe_at, command_behind};
+ghost use Rattle.dom_text.specs.Forms.{listen_at, unlisten_at, dispatch_at, observe_at};
+ghost use Rattle.dom_text.specs.Commands.{command_behind};
 ghost use Rattle.dom_words.specs.Gives.{Gives};
 ghost use Rattle.dom_reader.specs.Keywords.{event_keyword, observer_keyword};
 ghost use Rattle.dom_reader.specs.Views.{command_view};
