@@ -7,7 +7,8 @@ use Rattle.dom_text.specs.Readers.{named}
 use Rattle.dom_text.specs.Decode.{keyword_of}
 use Rattle.dom_text.proofs.NumberLaws.{bytes_eq-true}
 use Rattle.dom_reader.specs.declared.keywords.Keyword.{Keyword as Grouped}
-use Rattle.dom_reader.specs.Keywords.{begins, keyword_view, keywords_with, spelled}
+use Rattle.dom_reader.specs.Keywords.{begins, keywords_with, spelled}
+use Rattle.dom_reader.specs.Views.{keyword_view}
 
 -- what a test finds is found among all that pass another test, which it implies
 find-filter : {X : Type 0} (p q : X → Bool) (xs : List X) → ((x : X) → p x ≡ true → q x ≡ true) → find p (filter q xs) ≡ find p xs

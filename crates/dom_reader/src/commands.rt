@@ -9,12 +9,10 @@ ghost use Rattle.dom_text.specs.Readers.{at_end};
 ghost use Rattle.dom_text.specs.Decode.{command_at as spec_command_at};
 ghost use Rattle.dom_text.specs.Commands.{command_behind as spec_command_behind};
 ghost use Rattle.dom_words.specs.Gives.{Gives};
-ghost use Rattle.dom_reader.specs.Keywords.{keyword_view};
-ghost use Rattle.dom_reader.specs.Views.{command_view};
+ghost use Rattle.dom_reader.specs.Views.{keyword_view, command_view};
 
-use crate::keywords::Keyword;
+use crate::keywords::{Keyword, keyword_of};
 use crate::line::Command;
-use crate::lookup::keyword_of;
 use cursors::{cursor_command, range_command};
 use dom_base::Owner;
 use dom_words::{NotRead, WordReader};

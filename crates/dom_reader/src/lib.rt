@@ -7,7 +7,6 @@ mod filters;
 mod keywords;
 mod laws;
 mod line;
-mod lookup;
 mod nodes;
 mod separated;
 mod splitter;

@@ -3,9 +3,8 @@
 ghost use Rattle.std.specs.Prelude.{◌≡◌, nat_lt, option_map, length, ◌≤◌};
 ghost use Rattle.std.specs.List.{prefix_len};
 ghost use Rattle.dom_base.specs.Owners.{no_path, longer_path};
-ghost use Rattle.dom_text.specs.Readers.{only_if, between_dots, path_onto};
-ghost use Rattle.dom_text.specs.Readers.{component_of as spec_component_of, owner_of as spec_owner_of, behind as spec_behind, is_no_colon};
-ghost use Rattle.dom_text.specs.Readers.{page_node as spec_page_node, inner_node as spec_inner_node, full_name_of as spec_full_name_of};
+ghost use Rattle.dom_text.specs.Readers.{only_if, between_dots, path_onto, component_of as spec_component_of, owner_of as spec_owner_of, behind as spec_behind};
+ghost use Rattle.dom_text.specs.Readers.{is_no_colon, page_node as spec_page_node, inner_node as spec_inner_node, full_name_of as spec_full_name_of};
 ghost use Rattle.dom_text.specs.Readers.{node_word_of as spec_spelled_of};
 ghost use Rattle.dom_text.specs.Decode.{before_space, owner_at as spec_owner_at};
 ghost use Rattle.dom_text.specs.Forms.{node_at};

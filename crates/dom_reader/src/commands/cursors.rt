@@ -6,8 +6,7 @@ ghost use Rattle.dom_text.specs.Forms.{cursor_at};
 ghost use Rattle.dom_text.specs.Commands.{command_behind};
 ghost use Rattle.dom_words.specs.Gives.{Gives};
 ghost use Rattle.dom_reader.specs.Filters.{filtered as spec_filtered};
-ghost use Rattle.dom_reader.specs.Keywords.{range_keyword, cursor_keyword};
-ghost use Rattle.dom_reader.specs.Views.{word_view, filter_view, command_view};
+ghost use Rattle.dom_reader.specs.Views.{range_keyword, cursor_keyword, word_view, filter_view, command_view};
 
 use super::ended;
 use crate::filters::{last_name_filter, show_of};

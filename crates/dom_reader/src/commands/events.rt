@@ -4,8 +4,7 @@ ghost use Rattle.std.specs.Prelude.{◌≡◌};
 ghost use Rattle.dom_text.specs.Forms.{listen_at, unlisten_at, dispatch_at, observe_at};
 ghost use Rattle.dom_text.specs.Commands.{command_behind};
 ghost use Rattle.dom_words.specs.Gives.{Gives};
-ghost use Rattle.dom_reader.specs.Keywords.{event_keyword, observer_keyword};
-ghost use Rattle.dom_reader.specs.Views.{command_view};
+ghost use Rattle.dom_reader.specs.Views.{event_keyword, observer_keyword, command_view};
 
 use super::ended;
 use crate::filters::last_attribute_filter;

@@ -1,22 +1,29 @@
 //! Commands that make, place, change and ask about nodes.
 
 ghost use Rattle.std.specs.Prelude.{◌≡◌};
-ghost use Rattle.dom_model.specs.Command.{Command as Said, NodeWord as Word};
 ghost use Rattle.dom_model.specs.Command as model;
 ghost use Rattle.dom_text.specs.Readers.{next_word, next_string};
 ghost use Rattle.dom_text.specs.Forms.{one, two, three, four, node_at, number_at, new_at, assigned_at};
 ghost use Rattle.dom_text.specs.Commands.{command_behind};
 ghost use Rattle.dom_words.specs.Gives.{Gives};
-ghost use Rattle.dom_reader.specs.Keywords.{making_keyword, tree_keyword, content_keyword, question_keyword};
-ghost use Rattle.dom_reader.specs.Views.{word_view, command_view};
+ghost use Rattle.dom_reader.specs.Views.{making_keyword, tree_keyword, content_keyword, question_keyword, word_view, command_view};
 
 use super::ended;
 use crate::keywords::{ContentWord, MakingWord, QuestionWord, TreeWord};
-use crate::line::{Command, NodeWord};
+use crate::line::Command;
 use crate::nodes::next_node;
 use dom_base::{Kind, Owner};
 use dom_words::{NotRead, WordReader};
 use std::alloc::Global;
+
+/// A command of nodes, which are read one after the other to the end of the line.
+macro_rules! of_nodes {
+    ($command:ident($($node:ident),+), $owner:expr, $words:expr) => {{
+        $(let $node = next_node($owner, $words)?;)+
+        $words.end()?;
+        Ok(Command::$command($($node),+))
+    }};
+}
 
 /// What is made, and its word or string.
 fn new_command(alloc: Global, words: &mut WordReader) -> Result<Command, NotRead>
@@ -37,41 +44,6 @@ fn new_element(alloc: Global, words: &mut WordReader) -> Result<Command, NotRead
 {
     let name = words.text(alloc)?;
     ended(Command::NewElement(name), words)
-}
-
-/// A node, at the end of its line.
-fn one_node(owner: Owner, words: &mut WordReader) -> Result<NodeWord, NotRead>
-    ensures { (makes : Word → Said) → Gives (λ n. makes (word_view n)) result (one (node_at owner) makes words.old) }
-{
-    let node = next_node(owner, words)?;
-    words.end()?;
-    Ok(node)
-}
-
-/// Two nodes, at the end of their line.
-fn two_nodes(owner: Owner, words: &mut WordReader) -> Result<(NodeWord, NodeWord), NotRead>
-    ensures { (makes : Word → Word → Said) →
-        Gives (λ x. makes (word_view x.0) (word_view x.1)) result (two (node_at owner) (node_at owner) makes words.old) }
-{
-    let first = next_node(owner, words)?;
-    let second = next_node(owner, words)?;
-    words.end()?;
-    Ok((first, second))
-}
-
-/// Three nodes, at the end of their line.
-fn three_nodes(
-    owner: Owner,
-    words: &mut WordReader,
-) -> Result<(NodeWord, NodeWord, NodeWord), NotRead>
-    ensures { (makes : Word → Word → Word → Said) →
-        Gives (λ x. makes (word_view x.0) (word_view x.1) (word_view x.2)) result (three (node_at owner) (node_at owner) (node_at owner) makes words.old) }
-{
-    let first = next_node(owner, words)?;
-    let second = next_node(owner, words)?;
-    let third = next_node(owner, words)?;
-    words.end()?;
-    Ok((first, second, third))
 }
 
 /// The words of `assigned`, which is a component's.
@@ -96,7 +68,7 @@ pub fn making_command(
     match word {
         MakingWord::New => new_command(alloc, words),
         MakingWord::Document => ended(Command::NewDocument, words),
-        MakingWord::Attach => Ok(Command::Attach(one_node(owner, words)?)),
+        MakingWord::Attach => of_nodes!(Attach(node), owner, words),
     }
 }
 
@@ -109,24 +81,12 @@ pub fn tree_command(
     ensures { Gives command_view result (command_behind (tree_keyword word) owner words.old) }
 {
     match word {
-        TreeWord::Append => {
-            let (parent, node) = two_nodes(owner, words)?;
-            Ok(Command::Append(parent, node))
-        }
-        TreeWord::Insert => {
-            let (parent, node, child) = three_nodes(owner, words)?;
-            Ok(Command::Insert(parent, node, child))
-        }
-        TreeWord::Replace => {
-            let (parent, node, child) = three_nodes(owner, words)?;
-            Ok(Command::Replace(parent, node, child))
-        }
-        TreeWord::Remove => Ok(Command::Remove(one_node(owner, words)?)),
-        TreeWord::Adopt => {
-            let (document, node) = two_nodes(owner, words)?;
-            Ok(Command::Adopt(document, node))
-        }
-        TreeWord::Normalize => Ok(Command::Normalize(one_node(owner, words)?)),
+        TreeWord::Append => of_nodes!(Append(parent, node), owner, words),
+        TreeWord::Insert => of_nodes!(Insert(parent, node, child), owner, words),
+        TreeWord::Replace => of_nodes!(Replace(parent, node, child), owner, words),
+        TreeWord::Remove => of_nodes!(Remove(node), owner, words),
+        TreeWord::Adopt => of_nodes!(Adopt(document, node), owner, words),
+        TreeWord::Normalize => of_nodes!(Normalize(node), owner, words),
     }
 }
 
@@ -219,18 +179,15 @@ pub fn question_command(
     ensures { Gives command_view result (command_behind (question_keyword word) owner words.old) }
 {
     match word {
-        QuestionWord::Tree => Ok(Command::Tree(one_node(owner, words)?)),
+        QuestionWord::Tree => of_nodes!(Tree(node), owner, words),
         QuestionWord::Attr => attribute(alloc, owner, words),
-        QuestionWord::Parent => Ok(Command::Parent(one_node(owner, words)?)),
-        QuestionWord::Docof => Ok(Command::DocumentOf(one_node(owner, words)?)),
-        QuestionWord::Children => Ok(Command::Children(one_node(owner, words)?)),
-        QuestionWord::Contains => {
-            let (above, node) = two_nodes(owner, words)?;
-            Ok(Command::Contains(above, node))
-        }
-        QuestionWord::Connected => Ok(Command::Connected(one_node(owner, words)?)),
-        QuestionWord::ShadowRoot => Ok(Command::ShadowRoot(one_node(owner, words)?)),
-        QuestionWord::SlotOf => Ok(Command::SlotOf(one_node(owner, words)?)),
+        QuestionWord::Parent => of_nodes!(Parent(node), owner, words),
+        QuestionWord::Docof => of_nodes!(DocumentOf(node), owner, words),
+        QuestionWord::Children => of_nodes!(Children(node), owner, words),
+        QuestionWord::Contains => of_nodes!(Contains(above, node), owner, words),
+        QuestionWord::Connected => of_nodes!(Connected(node), owner, words),
+        QuestionWord::ShadowRoot => of_nodes!(ShadowRoot(node), owner, words),
+        QuestionWord::SlotOf => of_nodes!(SlotOf(node), owner, words),
         QuestionWord::Assigned => assigned(owner, words),
         QuestionWord::Query => query(alloc, owner, words),
         QuestionWord::Matches => matches(alloc, owner, words),

@@ -1,8 +1,8 @@
 -- The word is sought among those with its first byte.
 use Rattle.std.proofs.Common.{sym, ap, ◌∙◌, option_map, arith}
-use Rattle.dom_reader.specs.Keywords.{keyword_view}
+use Rattle.dom_reader.specs.Views.{keyword_view}
 use Rattle.dom_reader.proofs.KeywordLaws.{in_table, none_empty}
-use Rattle.dom_reader.proofs.lookup.keyword_of.Goals as goal
+use Rattle.dom_reader.proofs.keywords.keyword_of.Goals as goal
 
 pub returns-in-empty : goal.returns-in-empty
 returns-in-empty c = sym (none_empty c.args.word.now (omega arith))
