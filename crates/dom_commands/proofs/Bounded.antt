@@ -15,8 +15,8 @@ use Rattle.dom_model.specs.World.{World, part_of, with_part}
 use Rattle.dom_model.proofs.PartLaws.{owner-part_of}
 use Rattle.dom_worlds.specs.Bounds.{HasBounds, IsBounded}
 use Rattle.dom_worlds.specs.Tables.{IsNodeIn}
-use Rattle.dom_worlds.proofs.TableWorlds.{each-part}
-use Rattle.dom_worlds.proofs.Tests.{either_way}
+use Rattle.dom_worlds.proofs.WorldLemmas.{each-part}
+use Rattle.dom_worlds.proofs.ListLemmas.{either_way}
 use Rattle.dom_commands.specs.WithListeners.{hearing, heard}
 use Rattle.dom_commands.specs.RangeWorlds.{HasFirstNodes}
 use Rattle.dom_commands.proofs.ListenerWorlds.{FitsIn, there-heard, part-heard}

@@ -16,9 +16,8 @@ use Rattle.dom_model.specs.World.{World, Task, part_of, with_part, is_there}
 use Rattle.dom_model.specs.Dispatch.{dispatch_in}
 use Rattle.dom_worlds.specs.Bounds.{IsBounded}
 use Rattle.dom_worlds.specs.Worlds.{IsThere, task_owner}
-use Rattle.dom_worlds.proofs.Lists.{all-then}
-use Rattle.dom_worlds.proofs.OwnerDispatches.{stays-running}
-use Rattle.dom_worlds.proofs.TaskWorlds.{Stands, at_end-stands, told-stands, dispatch-stands}
+use Rattle.dom_worlds.proofs.ListLemmas.{all-then}
+use Rattle.dom_worlds.proofs.TurnLemmas.{stays-running, Stands, at_end-stands, told-stands, dispatch-stands}
 use Rattle.dom_text.specs.Text.{output_text}
 use Rattle.dom_tree.specs.Forest.{name_at}
 use Rattle.dom_mutation.specs.Doc.{DocState}

@@ -14,10 +14,9 @@ use Rattle.dom_model.proofs.OwnerLaws.{owner_eq-true, owner_eq-false}
 use Rattle.dom_model.proofs.PartLaws.{owner-part_of, part_of-with_part, part_of-with_part-other}
 use Rattle.dom_worlds.specs.Reached.{IsReached}
 use Rattle.dom_worlds.specs.Worlds.{owners_in}
-use Rattle.dom_worlds.proofs.OwnerDispatches.{people-dispatch}
-use Rattle.dom_worlds.proofs.Owners.{AreOnce, owners-put, once-in}
-use Rattle.dom_worlds.proofs.Tests.{by_cases}
-use Rattle.dom_worlds.proofs.Visits.{rest-visits}
+use Rattle.dom_worlds.proofs.OwnerLemmas.{people-dispatch, AreOnce, owners-put, once-in}
+use Rattle.dom_worlds.proofs.ListLemmas.{by_cases}
+use Rattle.dom_worlds.proofs.TurnLemmas.{rest-visits}
 use Rattle.dom_commands.specs.WithListeners.{heard}
 use Rattle.dom_commands.proofs.ListenerWorlds.{FitsIn, part-heard, there-heard, owners-heard}
 use Rattle.dom_commands.proofs.SameWorlds.{worlds-same}

@@ -19,8 +19,7 @@ use Rattle.dom_model.specs.Paths.{View}
 use Rattle.dom_model.proofs.OwnerLaws.{owner_eq-true}
 use Rattle.dom_model.proofs.OwnerTests.{same_owner}
 use Rattle.dom_text.specs.Text.{list_text}
-use Rattle.dom_worlds.proofs.Lists.{all-append, all-filter, all-map, all-reverse, all-then}
-use Rattle.dom_worlds.proofs.Tests.{either_way}
+use Rattle.dom_worlds.proofs.ListLemmas.{all-append, all-filter, all-map, all-reverse, all-then, either_way}
 use Rattle.dom_tree.specs.Forest.{name_at}
 use Rattle.dom_path.specs.Items.{ShowsNodes}
 use Rattle.dom_dispatch.specs.declared.event.LogLine.{LogLine}

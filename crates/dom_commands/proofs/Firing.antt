@@ -10,7 +10,7 @@ use Rattle.dom_model.specs.Listeners.{Listener, begun}
 use Rattle.dom_model.specs.World.{World, shadow_root_of}
 use Rattle.dom_worlds.specs.Reached.{IsReached}
 use Rattle.dom_worlds.specs.Tables.{IsWhole}
-use Rattle.dom_worlds.proofs.SameInvariant.{host_of-same}
+use Rattle.dom_worlds.proofs.OwnerLemmas.{host_of-same}
 use Rattle.dom_tree.specs.Forest.{NamedTrees, name_at}
 use Rattle.dom_slots.specs.Hosts.{ShadowHost}
 use Rattle.dom_slots.specs.Shadows.{ShadowTrees, shadows, IsShownBy}

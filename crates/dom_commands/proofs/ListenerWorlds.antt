@@ -16,8 +16,8 @@ use Rattle.dom_model.specs.World.{World, find_part, put_part, part_of, with_part
 use Rattle.dom_model.specs.World.{some_if, host_above, hosts_from, ancestors_at, kind_at, is_connected, components_below}
 use Rattle.dom_model.specs.WorldSteps.{world_step, world_after, stepped, with_signals, with_removal_signals, with_notify_if, with_shadow_document}
 use Rattle.dom_worlds.specs.Worlds.{owners_in}
-use Rattle.dom_worlds.proofs.SameInvariant.{there-with_part}
-use Rattle.dom_worlds.proofs.Tests.{by_cases}
+use Rattle.dom_worlds.proofs.OwnerLemmas.{there-with_part}
+use Rattle.dom_worlds.proofs.ListLemmas.{by_cases}
 use Rattle.dom_commands.specs.WithListeners.{hearing, heard}
 
 -- ---- readings, by the trees and the hosts of all owners

@@ -21,8 +21,7 @@ use Rattle.dom_model.specs.Names.{Word, owner_eq, name_eq, text_eq, node_of}
 use Rattle.dom_model.specs.World.{World, is_there}
 use Rattle.dom_model.proofs.OwnerLaws.{owner_eq-true, owner_eq-same, ne-owner_eq, name_eq-true}
 use Rattle.dom_model.proofs.PartLaws.{owner-part_of}
-use Rattle.dom_worlds.proofs.Lists.{all-filter, all-append, filter-filter}
-use Rattle.dom_worlds.proofs.Tests.{by_cases, either_way}
+use Rattle.dom_worlds.proofs.ListLemmas.{all-filter, all-append, filter-filter, by_cases, either_way}
 use Rattle.dom_tree.specs.Forest.{name_at}
 use Rattle.dom_tree.specs.Apart.{TellApart}
 use Rattle.dom_dispatch.specs.Kept.{is_of_owner, HasListeners}

@@ -20,12 +20,10 @@ use Rattle.dom_model.proofs.OwnerLaws.{component_made-no_page}
 use Rattle.dom_worlds.specs.Bounds.{IsBounded}
 use Rattle.dom_worlds.specs.Reached.{IsReached}
 use Rattle.dom_worlds.specs.Tables.{IsWhole}
-use Rattle.dom_worlds.proofs.Acceptance.{accepted-facts, attach-may}
-use Rattle.dom_worlds.proofs.BoundWorlds.{first-is_bounded, step-keeps_bounds}
-use Rattle.dom_worlds.proofs.Makers.{host_of-made}
-use Rattle.dom_worlds.proofs.Reached.{first-is_reached, step-keeps_reached}
-use Rattle.dom_worlds.proofs.ReachedFacts.{attached-are_there}
-use Rattle.dom_worlds.proofs.TableLines.{first-is_whole, step-keeps_whole}
+use Rattle.dom_worlds.proofs.CommandLemmas.{accepted-facts, attach-may}
+use Rattle.dom_worlds.proofs.WorldLemmas.{first-is_bounded, step-keeps_bounds, first-is_reached, step-keeps_reached, attached-are_there, first-is_whole}
+use Rattle.dom_worlds.proofs.WorldLemmas.{step-keeps_whole}
+use Rattle.dom_worlds.proofs.OwnerLemmas.{host_of-made}
 use Rattle.dom_mutation.specs.Doc.{DocState}
 use Rattle.dom_dispatch.specs.ListenersByName.{IsListenerAt}
 use Rattle.dom_admission.specs.Handled.{IsHandled}

@@ -12,10 +12,10 @@ use Rattle.dom_model.proofs.PartLaws.{owner-part_of}
 use Rattle.dom_model.proofs.StepLaws.{Component-IsNoPage}
 use Rattle.dom_worlds.specs.Reached.{IsReached}
 use Rattle.dom_worlds.specs.Worlds.{MayBeShadow}
-use Rattle.dom_worlds.proofs.FollowPaths.{shadow-kind}
-use Rattle.dom_worlds.proofs.InsideAncestors.{child-there}
-use Rattle.dom_worlds.proofs.Owners.{node-there, there-hosted}
-use Rattle.dom_worlds.proofs.ReachedFacts.{no_other_shadow_roots, shadow_roots-are_roots}
+use Rattle.dom_worlds.proofs.ShadowTreeLemmas.{shadow-kind}
+use Rattle.dom_worlds.proofs.TreeLemmas.{child-there}
+use Rattle.dom_worlds.proofs.OwnerLemmas.{node-there, there-hosted}
+use Rattle.dom_worlds.proofs.WorldLemmas.{no_other_shadow_roots, shadow_roots-are_roots}
 use Rattle.dom_worlds.specs.Tables.{EndsIn}
 use Rattle.dom_range_ops.specs.Extractions.{ShadowRootsHaveNoParent}
 use Rattle.dom_commands.specs.WithListeners.{heard}

@@ -8,8 +8,8 @@ use Rattle.dom_model.specs.Part.{Part, empty_part}
 use Rattle.dom_model.specs.World.{World, find_part, part_of}
 use Rattle.dom_model.proofs.OwnerLaws.{owner_eq-same, owner_eq-true}
 use Rattle.dom_worlds.specs.Worlds.{owners_in}
-use Rattle.dom_worlds.proofs.Owners.{has_owner, there-listed, AreOnce}
-use Rattle.dom_worlds.proofs.Tests.{by_cases}
+use Rattle.dom_worlds.proofs.OwnerLemmas.{has_owner, there-listed, AreOnce}
+use Rattle.dom_worlds.proofs.ListLemmas.{by_cases}
 
 -- ---- parts
 

@@ -13,7 +13,7 @@ use Rattle.dom_model.specs.Paths.{views}
 use Rattle.dom_model.specs.World.{World, part_of, with_part}
 use Rattle.dom_model.proofs.OwnerLaws.{owner_eq-true, owner_eq-same, ne-owner_eq}
 use Rattle.dom_model.proofs.PartLaws.{part_of-with_part, part_of-with_part-other, owner-part_of}
-use Rattle.dom_worlds.proofs.Tests.{by_cases}
+use Rattle.dom_worlds.proofs.ListLemmas.{by_cases}
 use Rattle.dom_dispatch.specs.Kept.{is_of_owner, DispatchedAmong, DispatchedAlong, dispatch_along, dispatch_among}
 use Rattle.dom_dispatch.specs.ListenersByName.{listener_named, dispatching_named}
 use Rattle.dom_dispatch.proofs.Entered.{and-first}

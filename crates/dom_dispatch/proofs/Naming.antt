@@ -15,8 +15,7 @@ use Rattle.dom_model.specs.Listeners.{Listener, Visit, Dispatching, after_action
 use Rattle.dom_model.specs.Listeners.{called, hears, visited, begun}
 use Rattle.dom_model.specs.Paths.{View}
 use Rattle.dom_model.specs.Dispatch.{is_at_target, visit_of, visits_of}
-use Rattle.dom_worlds.proofs.Tests.{by_cases}
-use Rattle.dom_worlds.proofs.Lists.{all-reverse}
+use Rattle.dom_worlds.proofs.ListLemmas.{by_cases, all-reverse}
 use Rattle.dom_slots.proofs.Hosted.{key-test}
 use Rattle.dom_tree.specs.Forest.{name_at}
 use Rattle.dom_tree.specs.Apart.{TellApart}

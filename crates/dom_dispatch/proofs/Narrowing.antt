@@ -8,8 +8,7 @@ use Rattle.dom_base.specs.declared.Action.TheVariants.{Log, Stop, StopNow, Cance
 use Rattle.dom_model.specs.Command.{EventWords}
 use Rattle.dom_model.specs.Listeners.{Listener, Visit, Dispatching, after_action, may_cancel, line_of, is_listener, unlistened, kept_after, called}
 use Rattle.dom_model.specs.Listeners.{hears, visited}
-use Rattle.dom_worlds.proofs.Tests.{by_cases}
-use Rattle.dom_worlds.proofs.Lists.{filter-filter}
+use Rattle.dom_worlds.proofs.ListLemmas.{by_cases, filter-filter}
 
 module _ {X : Type 0} where
   -- a test that all pass which pass another one

@@ -3,7 +3,7 @@ use Rattle.std.proofs.Common.{◌≡◌, ℕ, false, List, [], Option, Some, Non
 use Rattle.std.specs.Prelude.{nat_eq, is_some, if◌then◌else◌}
 use Rattle.std.specs.Option.{option_map_or}
 use Rattle.std.proofs.lemmas.Bool.{cond-true, cond-false, eqb-true}
-use Rattle.dom_worlds.proofs.Tests.{by_cases}
+use Rattle.dom_worlds.proofs.ListLemmas.{by_cases}
 
 module _ {V : Type 0} (f : V → List ℕ) (n k : ℕ) (was : ℕ → Option V) (now : Option V) (w : V) (is : now ≡ (if nat_eq n k then Some w else was k)) where
   -- an empty list is what a node without a list has

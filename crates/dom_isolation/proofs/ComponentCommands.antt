@@ -33,14 +33,13 @@ use Rattle.dom_worlds.specs.Reached.{Invariant}
 use Rattle.dom_worlds.specs.Worlds.{IsWorld, IsForeignTo}
 use Rattle.dom_isolation.specs.Interference.{Interference, first_record, interference_at, accepted_records, command_records, untouched}
 use Rattle.dom_isolation.proofs.Dispatches.{done_to, dispatch-page}
-use Rattle.dom_worlds.proofs.Tests.{by_cases, and-true_false}
+use Rattle.dom_worlds.proofs.ListLemmas.{by_cases, and-true_false}
+use Rattle.dom_worlds.proofs.CommandLemmas.{next-test, part-accepted, accepted-facts, KeepsBase, base-effect}
+use Rattle.dom_worlds.proofs.TurnLemmas.{part_of-opening, quiet-opening}
+use Rattle.dom_worlds.proofs.OwnerLemmas.{owner-named}
 use Rattle.dom_isolation.proofs.PageSteps.{run_then-square, same_page_of, outputs_for_page-other, page_of-world_after-other, page_run-unseen}
-use Rattle.dom_worlds.proofs.Acceptance.{next-test, part-accepted, accepted-facts}
 use Rattle.dom_isolation.proofs.GroupDispatches.{outward_at, HasSameRoot, comes_to}
 use Rattle.dom_isolation.proofs.PageCommands.{quiet_then, ending-component, opening-component}
-use Rattle.dom_worlds.proofs.LineBegins.{part_of-opening, quiet-opening}
-use Rattle.dom_worlds.proofs.TableEffects.{KeepsBase, base-effect}
-use Rattle.dom_worlds.proofs.Owners.{owner-named}
 use Rattle.dom_isolation.proofs.PagePaths.{views-page}
 use Rattle.dom_model.specs.Paths.{views}
 use Rattle.dom_isolation.specs.TouchedMachines.{page_dispatch_under, page_outward_under}

@@ -21,9 +21,8 @@ use Rattle.dom_isolation.specs.Interference.{Interference, untouched, interferen
 use Rattle.dom_isolation.specs.TouchedMachines.{first_visits, dispatched_under, page_dispatch_under}
 use Rattle.dom_isolation.specs.Laws.{page_dispatched, is_page_visit, is_page_line, page_going, VisitIsUnseen, FoldSkipsComponents}
 use Rattle.dom_worlds.specs.Worlds.{IsThere, IsForeignTo, OnlyLogs, ComponentsOnlyLog}
-use Rattle.dom_worlds.proofs.Lists.{all-from, all-passed, all-then}
-use Rattle.dom_worlds.proofs.Tests.{by_cases}
-use Rattle.dom_worlds.proofs.Visits.{Going, InWorld, part_of-visits, rest-visits, with_listeners, logs-visit}
+use Rattle.dom_worlds.proofs.ListLemmas.{all-from, all-passed, all-then, by_cases}
+use Rattle.dom_worlds.proofs.TurnLemmas.{Going, InWorld, part_of-visits, rest-visits, with_listeners, logs-visit}
 use Rattle.dom_isolation.proofs.GroupParts.{part-in}
 use Rattle.dom_isolation.specs.FullLaws.{OwnIsThere, LogsEvent}
 use Rattle.dom_isolation.proofs.Touches.{all-first, alike-start, visits-touched}

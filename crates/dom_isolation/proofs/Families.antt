@@ -14,12 +14,12 @@ use Rattle.dom_model.specs.Groups.{is_in_family, family_group, top_owner, makers
 use Rattle.dom_model.specs.Trace.{is_page, boundary_host}
 use Rattle.dom_model.proofs.OwnerLaws.{owner_eq-true, owner_eq-false, owner_eq-same, ne-owner_eq, component_made-no_page, maker-word, made_by-is}
 use Rattle.dom_model.proofs.OwnerLaws.{made_by-made}
-use Rattle.dom_worlds.proofs.Tests.{by_cases, or-second, or-later}
+use Rattle.dom_worlds.proofs.ListLemmas.{by_cases, or-second, or-later}
+use Rattle.dom_worlds.proofs.ShadowTreeLemmas.{IsBelow, above-host, below-host}
+use Rattle.dom_worlds.proofs.OwnerLemmas.{hosted, hosted-owned, hosted-maker}
 use Rattle.dom_isolation.specs.Groups.{PageIsGroup, FamilyIsGroup, MakersAreGroup, OthersAreGroup, PageHostIsPage, FamilyHostIsPage}
 use Rattle.dom_base.specs.declared.NodeName.{NodeName}
 use Rattle.dom_worlds.specs.Worlds.{IsWorld}
-use Rattle.dom_worlds.proofs.Chains.{IsBelow, above-host, below-host}
-use Rattle.dom_worlds.proofs.Makers.{hosted, hosted-owned, hosted-maker}
 use Rattle.dom_isolation.proofs.OutsideViews.{found-passes, boundary-here, boundary-above, boundary-alone}
 
 -- another number behind the first leaves the first

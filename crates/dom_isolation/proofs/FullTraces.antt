@@ -19,11 +19,10 @@ use Rattle.dom_model.specs.Trace.{line, outward, OutwardEvent, is_of, owner_of_l
 use Rattle.dom_model.specs.Groups.{ends_other_turn, ends_group_turn}
 use Rattle.dom_model.specs.PageMachine.{PageState, page_line, run_page}
 use Rattle.dom_worlds.specs.Reached.{IsQuiet}
-use Rattle.dom_worlds.proofs.Lists.{all-append, all-filter, all-then}
-use Rattle.dom_worlds.proofs.LineBegins.{quiet-ending_other, quiet-opening}
-use Rattle.dom_worlds.proofs.StepKeeps.{quiet-step}
-use Rattle.dom_worlds.proofs.Tests.{by_cases, either_way}
-use Rattle.dom_worlds.proofs.TurnEndings.{quiet-dispatch, told_in, quiet-told, quiet-running, at_end, quiet-at_end}
+use Rattle.dom_worlds.proofs.ListLemmas.{all-append, all-filter, all-then, by_cases, either_way}
+use Rattle.dom_worlds.proofs.TurnLemmas.{quiet-ending_other, quiet-opening, quiet-dispatch, told_in, quiet-told, quiet-running, at_end, quiet-at_end, Going}
+use Rattle.dom_worlds.proofs.TurnLemmas.{InWorld, with_listeners, call, call-of, no_call}
+use Rattle.dom_worlds.proofs.WorldLemmas.{quiet-step}
 use Rattle.dom_isolation.specs.FullLaws.{IsUntouched, FullTraceIsTrace, NothingTouches, OthersOnlyLog, LogsEvent, InterferenceIsSmall}
 use Rattle.dom_isolation.specs.Interference.{Interference, untouched, FullItem, line_with, outward_with, turn_ended, plain_items, records_each, first_record}
 use Rattle.dom_isolation.specs.Interference.{interference_at, slot_record, task_records, ending_records, accepted_records, before_records, own_records}
@@ -41,7 +40,6 @@ use Rattle.dom_model.specs.Dispatch.{world_visit, visits_of}
 use Rattle.dom_model.proofs.OwnerLaws.{owner_eq-true, owner_eq-false}
 use Rattle.dom_model.proofs.PartLaws.{part_of-with_part, part_of-with_part-other, owner-part_of}
 use Rattle.dom_worlds.specs.Worlds.{OnlyLogs, ComponentsOnlyLog}
-use Rattle.dom_worlds.proofs.Visits.{Going, InWorld, with_listeners, call, call-of, no_call}
 use Rattle.dom_isolation.proofs.GroupParts.{filter-here, filter-away}
 use Rattle.dom_isolation.proofs.OwnVisits.{kept-visited}
 use Rattle.dom_isolation.proofs.Touches.{untouched-on}

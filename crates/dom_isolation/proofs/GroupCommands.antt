@@ -28,9 +28,10 @@ use Rattle.dom_model.specs.Turns.{is_page_turn, has_other_turn, ending_other_tur
 use Rattle.dom_model.specs.DocumentMachine.{refusal, effect_in, attaching, part_with_root, perform, accepted, step}
 use Rattle.dom_model.specs.Groups.{KeepsMakers, group_world, group_outputs, group_run, is_task_of, group_turn, outward_words}
 use Rattle.dom_model.proofs.PartLaws.{owner-part_of}
-use Rattle.dom_worlds.proofs.Owners.{owner-named}
-use Rattle.dom_worlds.proofs.TableEffects.{KeepsBase, base-effect}
-use Rattle.dom_worlds.proofs.Tests.{by_cases}
+use Rattle.dom_worlds.proofs.OwnerLemmas.{owner-named}
+use Rattle.dom_worlds.proofs.CommandLemmas.{KeepsBase, base-effect, accepted-facts, Holds, holds-effect}
+use Rattle.dom_worlds.proofs.ListLemmas.{by_cases}
+use Rattle.dom_worlds.proofs.WorldLemmas.{turn-world_after}
 use Rattle.dom_isolation.proofs.GroupParts.{in_node, part-in, there-in, with_part-in, with_part-out, filter-here}
 use Rattle.dom_isolation.proofs.GroupSlots.{IsGround, ground-of, assigned-in}
 use Rattle.dom_isolation.proofs.GroupSteps.{IsSameGround, steps-in}
@@ -42,10 +43,6 @@ use Rattle.dom_model.specs.Trace.{OutwardEvent, is_of, owner_of_line, outward_ev
 use Rattle.dom_model.proofs.TurnLaws.{turn-dispatch_in}
 use Rattle.dom_worlds.specs.Reached.{IsReached}
 use Rattle.dom_worlds.specs.Tables.{IsWhole}
-use Rattle.dom_worlds.proofs.Acceptance.{accepted-facts}
-use Rattle.dom_worlds.proofs.TableCommands.{Holds}
-use Rattle.dom_worlds.proofs.TableRegisters.{holds-effect}
-use Rattle.dom_worlds.proofs.WorldSteps.{turn-world_after}
 use Rattle.dom_isolation.specs.GroupLaws.{IsCalm}
 use Rattle.dom_isolation.proofs.OutsideCommands.{command_event-inside}
 

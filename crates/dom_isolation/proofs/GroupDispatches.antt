@@ -20,8 +20,10 @@ use Rattle.dom_model.specs.Trace.{OutwardEvent, is_of, owner_of_output, boundary
 use Rattle.dom_worlds.specs.Worlds.{IsWorld, IsForeignTo}
 use Rattle.dom_isolation.specs.Interference.{untouched, interference_at, Interference, is_own_visit}
 use Rattle.dom_isolation.specs.SilentRuns.{dispatch_under, outward_under}
-use Rattle.dom_worlds.proofs.Chains.{below-host, hosts-alone}
-use Rattle.dom_worlds.proofs.Tests.{by_cases}
+use Rattle.dom_worlds.proofs.ShadowTreeLemmas.{below-host, hosts-alone}
+use Rattle.dom_worlds.proofs.ListLemmas.{by_cases, all-then, all-passed}
+use Rattle.dom_worlds.proofs.OwnerLemmas.{people-dispatch, AreAlike, world-alike}
+use Rattle.dom_worlds.proofs.TurnLemmas.{there-visits, InWorld, part_of-visits, rest-visits, with_listeners}
 use Rattle.dom_isolation.proofs.GroupParts.{in_node}
 use Rattle.dom_isolation.proofs.OwnVisits.{in_view, in_line, group_going, visit-in, group_visits, outputs-event_lines, group_dispatched}
 use Rattle.dom_isolation.proofs.GroupViews.{views-in}
@@ -35,11 +37,6 @@ use Rattle.dom_model.specs.PageMachine.{is_page_task}
 use Rattle.dom_model.specs.Turns.{is_page_turn}
 use Rattle.dom_model.proofs.PartLaws.{find-put, owner-part_of}
 use Rattle.dom_worlds.specs.Reached.{Invariant}
-use Rattle.dom_worlds.proofs.Lists.{all-then, all-passed}
-use Rattle.dom_worlds.proofs.OwnerDispatches.{people-dispatch}
-use Rattle.dom_worlds.proofs.SameInvariant.{AreAlike, world-alike}
-use Rattle.dom_worlds.proofs.TurnEndings.{there-visits}
-use Rattle.dom_worlds.proofs.Visits.{InWorld, part_of-visits, rest-visits, with_listeners}
 use Rattle.dom_isolation.specs.FullLaws.{OwnIsThere}
 use Rattle.dom_isolation.specs.TouchedMachines.{first_visits}
 use Rattle.dom_isolation.proofs.Touches.{all-first, first-none, alike-start, visits-touched}

@@ -11,8 +11,7 @@ use Rattle.dom_model.specs.Groups.{group_world, group_turn, group_outputs, is_ta
 use Rattle.dom_model.specs.Output.{Output}
 use Rattle.dom_model.specs.Trace.{is_of, owner_of_output, outputs_for}
 use Rattle.dom_model.proofs.OwnerLaws.{owner_eq-true}
-use Rattle.dom_worlds.proofs.Lists.{all-passed, all-then, filter_all, filter-filter}
-use Rattle.dom_worlds.proofs.Tests.{by_cases}
+use Rattle.dom_worlds.proofs.ListLemmas.{all-passed, all-then, filter_all, filter-filter, by_cases}
 
 -- a world by its fields
 abbrev world_with : List Part → List NodeName → List Task → Option Owner → World

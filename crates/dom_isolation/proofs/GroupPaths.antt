@@ -18,10 +18,8 @@ use Rattle.dom_model.specs.Paths.{is_hidden_from, retarget, retarget_related, wi
 use Rattle.dom_model.specs.Groups.{KeepsMakers, group_world}
 use Rattle.dom_model.proofs.OwnerLaws.{name_eq-true}
 use Rattle.dom_worlds.specs.Worlds.{IsOf}
-use Rattle.dom_worlds.proofs.Chains.{above-host}
-use Rattle.dom_worlds.proofs.ShadowTrees.{IsInTree, in_tree}
-use Rattle.dom_worlds.proofs.Lists.{all-append, all-then, all-flat_map, filter_none, take_while-yes, take_while-no}
-use Rattle.dom_worlds.proofs.Tests.{by_cases, either_way}
+use Rattle.dom_worlds.proofs.ShadowTreeLemmas.{above-host, IsInTree, in_tree}
+use Rattle.dom_worlds.proofs.ListLemmas.{all-append, all-then, all-flat_map, filter_none, take_while-yes, take_while-no, by_cases, either_way}
 use Rattle.dom_isolation.proofs.GroupParts.{in_node, part-in, filter-here, filter-away}
 use Rattle.dom_isolation.proofs.GroupSlots.{IsGround, ancestors-of, slot-outside, slot-group, host-inside, host_above-in}
 

@@ -13,13 +13,10 @@ use Rattle.dom_model.specs.Trace.{items_of, trace_from, no_component_stops, no_c
 use Rattle.dom_model.specs.Isolation.{output_of, group_turns_stand, group_turns_stand_from, silent_output, GroupSeesItsTrace, SameGroup}
 use Rattle.dom_worlds.specs.Reached.{IsQuiet, IsReached}
 use Rattle.dom_worlds.specs.Tables.{IsWhole}
-use Rattle.dom_worlds.proofs.FirstWorld.{quiet-first}
+use Rattle.dom_worlds.proofs.WorldLemmas.{quiet-first, sound, first-is_reached, step-keeps_reached, quiet-step, first-is_whole, step-keeps_whole}
+use Rattle.dom_worlds.proofs.ListLemmas.{by_cases}
+use Rattle.dom_worlds.proofs.TurnLemmas.{quiet-dispatch}
 use Rattle.dom_isolation.proofs.PageRuns.{run_each-append}
-use Rattle.dom_worlds.proofs.Reached.{sound, first-is_reached, step-keeps_reached}
-use Rattle.dom_worlds.proofs.StepKeeps.{quiet-step}
-use Rattle.dom_worlds.proofs.TableLines.{first-is_whole, step-keeps_whole}
-use Rattle.dom_worlds.proofs.Tests.{by_cases}
-use Rattle.dom_worlds.proofs.TurnEndings.{quiet-dispatch}
 use Rattle.dom_isolation.specs.GroupLaws.{IsCalm}
 use Rattle.dom_isolation.proofs.GroupDispatches.{run_each-one, outward_run, runs-then}
 use Rattle.dom_isolation.proofs.GroupTurns.{same-calm}

@@ -18,12 +18,10 @@ use Rattle.dom_model.specs.Groups.{KeepsMakers, group_world}
 use Rattle.dom_model.proofs.OwnerLaws.{made_by-is, name_eq-true}
 use Rattle.dom_worlds.specs.Worlds.{IsPart, IsWorld, IsOf, HasMakers}
 use Rattle.dom_model.proofs.PartLaws.{owner-part_of}
-use Rattle.dom_worlds.proofs.ShadowTrees.{slot_in-there}
-use Rattle.dom_worlds.proofs.Lists.{all-then, all-from, all-dropped, filter_same, get-all, get-below}
-use Rattle.dom_worlds.proofs.Chains.{above-host}
-use Rattle.dom_worlds.proofs.Makers.{component-made, component-maker, hosted, hosted-maker}
-use Rattle.dom_worlds.proofs.Tests.{by_cases}
-use Rattle.dom_worlds.proofs.Trees.{ancestors-there, nodes-there}
+use Rattle.dom_worlds.proofs.ShadowTreeLemmas.{slot_in-there, above-host}
+use Rattle.dom_worlds.proofs.ListLemmas.{all-then, all-from, all-dropped, filter_same, get-all, get-below, by_cases}
+use Rattle.dom_worlds.proofs.OwnerLemmas.{component-made, component-maker, hosted, hosted-maker}
+use Rattle.dom_worlds.proofs.TreeLemmas.{ancestors-there, nodes-there}
 use Rattle.dom_laws.proofs.Counts.{times_subtree as times-subtree}
 use Rattle.dom_isolation.proofs.GroupParts.{in_node, part-in, part-out, filter-here, filter-away}
 

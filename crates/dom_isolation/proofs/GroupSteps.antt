@@ -21,13 +21,9 @@ use Rattle.dom_model.proofs.OwnerLaws.{owner_eq-true, name_eq-same}
 use Rattle.dom_model.proofs.PartLaws.{owner-part_of}
 use Rattle.dom_model.proofs.StepLaws.{owner-part_step}
 use Rattle.dom_worlds.specs.Worlds.{IsOf}
-use Rattle.dom_worlds.proofs.Lists.{filter_none, all-from}
-use Rattle.dom_worlds.proofs.PartSteps.{rest-step}
-use Rattle.dom_worlds.proofs.TableSteps.{Fits, MadeIn}
-use Rattle.dom_worlds.proofs.TableWorlds.{Ground, ground-stepped, ground-world_step, part-own_step}
-use Rattle.dom_worlds.proofs.Tests.{by_cases}
-use Rattle.dom_worlds.proofs.WorldParts.{IsKeptIn, holds-world_after}
-use Rattle.dom_worlds.proofs.WorldSteps.{attached-with_part}
+use Rattle.dom_worlds.proofs.ListLemmas.{filter_none, all-from, by_cases}
+use Rattle.dom_worlds.proofs.PlanLemmas.{rest-step, Fits, MadeIn}
+use Rattle.dom_worlds.proofs.WorldLemmas.{Ground, ground-stepped, ground-world_step, part-own_step, IsKeptIn, holds-world_after, attached-with_part}
 use Rattle.dom_isolation.proofs.GroupParts.{in_node, part-in, part-out, with_part-in, with_part-out, group-twice, filter-here, filter-away}
 use Rattle.dom_isolation.proofs.GroupSlots.{IsGround, owned-by, parent-in, is_in-kept}
 use Rattle.dom_isolation.proofs.GroupSignals.{signals-group, below-outside, below-group}

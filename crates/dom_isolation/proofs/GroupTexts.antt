@@ -25,9 +25,8 @@ use Rattle.dom_text.specs.Words.{owner_word}
 use Rattle.dom_text.proofs.DecodeLaws.{decode_says}
 use Rattle.dom_text.proofs.TextLaws.{HasWord, IsOwner-owner_word, IsNumber-decimal, lines_from-outputs}
 use Rattle.dom_isolation.specs.Words.{ReadsPlainWords}
-use Rattle.dom_worlds.proofs.Lists.{all-from, all-map, filter_same}
+use Rattle.dom_worlds.proofs.ListLemmas.{all-from, all-map, filter_same, by_cases, or-second}
 use Rattle.dom_isolation.proofs.PageTexts.{output-has_its_lines}
-use Rattle.dom_worlds.proofs.Tests.{by_cases, or-second}
 use Rattle.dom_isolation.specs.GroupTexts.{IsWordOf, ReadsOwners, DecodeReadsOwners, OwnLinesHaveTheirPrefix, SameFamilyText, SameFamilyTextWhileTurnsStand}
 use Rattle.dom_isolation.specs.GroupTexts.{SameGroupText, SameGroupTextWhileTurnsStand, SameComponentText, SameComponentTextWhileTurnsStand, SameAroundText}
 use Rattle.dom_isolation.specs.GroupTexts.{SameAroundTextWhileTurnsStand, SameGroupTextInFull, SameFamilyTextInFull, SameComponentTextInFull}

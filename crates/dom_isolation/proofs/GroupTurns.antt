@@ -14,9 +14,8 @@ use Rattle.dom_model.specs.Trace.{is_of, owner_of_output}
 use Rattle.dom_model.proofs.OwnerLaws.{owner_eq-true, ne-owner_eq}
 use Rattle.dom_model.proofs.PartLaws.{owner-part_of}
 use Rattle.dom_worlds.specs.Reached.{Invariant}
-use Rattle.dom_worlds.proofs.Lists.{all-append, all-then, all-passed, filter_none, filter-filter}
-use Rattle.dom_worlds.proofs.Tests.{by_cases}
-use Rattle.dom_worlds.proofs.TurnEndings.{told_in, quiet-told, quiet-dispatch, quiet-running, at_end, quiet-at_end}
+use Rattle.dom_worlds.proofs.ListLemmas.{all-append, all-then, all-passed, filter_none, filter-filter, by_cases}
+use Rattle.dom_worlds.proofs.TurnLemmas.{told_in, quiet-told, quiet-dispatch, quiet-running, at_end, quiet-at_end, quiet-opening, rest-visits}
 use Rattle.dom_isolation.specs.GroupLaws.{IsCalm}
 use Rattle.dom_isolation.proofs.GroupParts.{filter-sub, in_node, part-in, with_part-in, with_part-out, filter-here, filter-away}
 use Rattle.dom_isolation.proofs.GroupDispatches.{no_dispatch}
@@ -32,8 +31,6 @@ use Rattle.dom_model.specs.Listeners.{begun}
 use Rattle.dom_model.specs.Paths.{views}
 use Rattle.dom_model.specs.Dispatch.{dispatch_in, visits_of}
 use Rattle.dom_model.proofs.TurnLaws.{turn-ending_turn}
-use Rattle.dom_worlds.proofs.LineBegins.{quiet-opening}
-use Rattle.dom_worlds.proofs.Visits.{rest-visits}
 use Rattle.dom_isolation.proofs.GroupSlots.{outside-no_page}
 
 -- The lines of a notification are its owner's.

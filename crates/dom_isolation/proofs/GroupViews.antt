@@ -12,10 +12,9 @@ use Rattle.dom_model.specs.Paths.{View}
 use Rattle.dom_model.specs.Groups.{KeepsMakers, group_world}
 use Rattle.dom_model.proofs.OwnerLaws.{name_eq-true}
 use Rattle.dom_worlds.specs.Worlds.{IsWorld}
-use Rattle.dom_worlds.proofs.Lists.{all-then, all-passed, all-flat_map, all-take_while, filter-map, map_same}
+use Rattle.dom_worlds.proofs.ListLemmas.{all-then, all-passed, all-flat_map, all-take_while, filter-map, map_same, by_cases, either_way}
+use Rattle.dom_worlds.proofs.ShadowTreeLemmas.{slot_way, slots-behind}
 use Rattle.dom_isolation.proofs.PagePaths.{IsInSome, slot_way-in_some}
-use Rattle.dom_worlds.proofs.ShadowTrees.{slot_way, slots-behind}
-use Rattle.dom_worlds.proofs.Tests.{by_cases, either_way}
 use Rattle.dom_isolation.proofs.GroupParts.{in_node}
 use Rattle.dom_isolation.proofs.GroupSlots.{IsGround, ground-of}
 use Rattle.dom_isolation.proofs.OwnVisits.{in_view}

@@ -19,11 +19,10 @@ use Rattle.dom_isolation.specs.TouchedMachines.{page_line_under, page_command_un
 use Rattle.dom_isolation.specs.Laws.{page_run, PageDispatchAgrees, ComponentDispatchAgrees, PageLineAgrees, OtherLineAgrees}
 use Rattle.dom_worlds.specs.Reached.{Invariant, IsQuiet}
 use Rattle.dom_isolation.specs.FullLaws.{EndingsAreNotTold, PageDispatchAgreesInFull, PageLineAgreesInFull, OtherLineAgreesInFull}
-use Rattle.dom_worlds.proofs.Tests.{by_cases}
-use Rattle.dom_worlds.proofs.TurnEndings.{at_end, quiet-running, quiet-at_end}
+use Rattle.dom_worlds.proofs.ListLemmas.{by_cases}
+use Rattle.dom_worlds.proofs.TurnLemmas.{at_end, quiet-running, quiet-at_end, quiet-ending_other, page_time}
 use Rattle.dom_isolation.proofs.PageSteps.{run_then-square}
 use Rattle.dom_isolation.proofs.PageCommands.{ending_other-quiet, no_page_slots}
-use Rattle.dom_worlds.proofs.LineBegins.{quiet-ending_other, page_time}
 use Rattle.dom_isolation.proofs.PageCommands.{command-page}
 use Rattle.dom_isolation.proofs.ComponentCommands.{outward_run, run_then-quiet_end}
 use Rattle.dom_isolation.proofs.ComponentCommands.{command-component, dispatched-component}

@@ -29,14 +29,12 @@ use Rattle.dom_model.proofs.OwnerLaws.{owner_eq-true}
 use Rattle.dom_model.proofs.PartLaws.{owner-part_of}
 use Rattle.dom_worlds.specs.Reached.{Invariant}
 use Rattle.dom_isolation.specs.Interference.{first_record, interference_at, accepted_records, command_records}
-use Rattle.dom_worlds.proofs.Acceptance.{accepted-facts, attach-may}
+use Rattle.dom_worlds.proofs.CommandLemmas.{accepted-facts, attach-may, Holds, KeepsBase, base-effect}
+use Rattle.dom_worlds.proofs.TurnLemmas.{part_of-opening}
+use Rattle.dom_worlds.proofs.OwnerLemmas.{owner-named}
+use Rattle.dom_worlds.proofs.ListLemmas.{by_cases, and-true_false}
 use Rattle.dom_isolation.proofs.ComponentCommands.{opened-event, related-same_root, outward-same}
 use Rattle.dom_isolation.proofs.GroupDispatches.{outward_at}
-use Rattle.dom_worlds.proofs.LineBegins.{part_of-opening}
-use Rattle.dom_worlds.proofs.Owners.{owner-named}
-use Rattle.dom_worlds.proofs.TableCommands.{Holds}
-use Rattle.dom_worlds.proofs.TableEffects.{KeepsBase, base-effect}
-use Rattle.dom_worlds.proofs.Tests.{by_cases, and-true_false}
 use Rattle.dom_isolation.specs.GroupLaws.{IsCalm}
 use Rattle.dom_isolation.proofs.GroupParts.{in_node, with_part-out, filter-away}
 use Rattle.dom_isolation.proofs.GroupSlots.{IsGround, ground-of, made-outside}

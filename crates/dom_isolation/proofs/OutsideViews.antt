@@ -15,13 +15,12 @@ use Rattle.dom_model.specs.Paths.{views}
 use Rattle.dom_model.specs.Groups.{KeepsMakers}
 use Rattle.dom_model.specs.Trace.{boundary_host}
 use Rattle.dom_worlds.specs.Worlds.{IsWorld}
-use Rattle.dom_worlds.proofs.Chains.{IsBelow, has-chain, below-host, hosts-alone, chain-below, chain-first, absent-host, other-owner, hidden-itself}
-use Rattle.dom_worlds.proofs.Chains.{hidden-deeper}
-use Rattle.dom_worlds.proofs.ShadowTrees.{IsInTree, ancestors-in_tree, slots-behind, slot_way, slots-first}
-use Rattle.dom_worlds.proofs.Lists.{all-append, all-then, all-from, all-passed, all-flat_map, filter-map, filter_none, map_same, all-take_while, all-before}
+use Rattle.dom_worlds.proofs.ShadowTreeLemmas.{IsBelow, has-chain, below-host, hosts-alone, chain-below, chain-first, absent-host, other-owner, hidden-itself}
+use Rattle.dom_worlds.proofs.ShadowTreeLemmas.{hidden-deeper, IsInTree, ancestors-in_tree, slots-behind, slot_way, slots-first}
+use Rattle.dom_worlds.proofs.ListLemmas.{all-append, all-then, all-from, all-passed, all-flat_map, filter-map, filter_none, map_same, all-take_while}
+use Rattle.dom_worlds.proofs.ListLemmas.{all-before, by_cases, either_way}
+use Rattle.dom_worlds.proofs.TreeLemmas.{all-both, ancestors-present}
 use Rattle.dom_isolation.proofs.PagePaths.{IsInSome, slot_way-in_some, uncut}
-use Rattle.dom_worlds.proofs.Tests.{by_cases, either_way}
-use Rattle.dom_worlds.proofs.Trees.{all-both, ancestors-present}
 use Rattle.std.proofs.lemmas.List.Elements.{filter-append}
 use Rattle.dom_isolation.proofs.GroupParts.{in_node}
 use Rattle.dom_isolation.proofs.OwnVisits.{in_view}

@@ -17,13 +17,12 @@ use Rattle.dom_model.specs.World.{part_of, with_part, World}
 use Rattle.dom_model.specs.Dispatch.{world_visit, Dispatched, visits_of, visit_of, is_at_target, event_output}
 use Rattle.dom_model.specs.Groups.{group_world, group_outputs, group_run}
 use Rattle.dom_model.proofs.PartLaws.{owner-part_of}
-use Rattle.dom_worlds.proofs.Tests.{by_cases}
-use Rattle.dom_worlds.proofs.Visits.{Going, InWorld, with_listeners, call, call-of, no_call, sifted-after_action}
+use Rattle.dom_worlds.proofs.ListLemmas.{by_cases, filter-filter, filter-map, filter-reverse}
+use Rattle.dom_worlds.proofs.TurnLemmas.{Going, InWorld, with_listeners, call, call-of, no_call, sifted-after_action}
 use Rattle.dom_isolation.specs.Interference.{is_own_visit}
 use Rattle.dom_isolation.proofs.GroupParts.{part-in, with_part-in, with_part-out, group-twice, filter-here, filter-away, filter-twice}
 use Rattle.dom_model.specs.Paths.{View}
 use Rattle.dom_model.specs.Trace.{is_of, owner_of_output}
-use Rattle.dom_worlds.proofs.Lists.{filter-filter, filter-map, filter-reverse}
 
 -- A visit leaves as it is what is told by the calls alone: what each call keeps all calls keep, and so the visit.
 module _ (P : Going → Type 0) (e : EventWords) (v : Visit NodeName) (keeps : (d : Going) (l : Listener NodeName) → P d → P (call e v d l)) where

@@ -34,20 +34,18 @@ use Rattle.dom_isolation.specs.Laws.{page_run}
 use Rattle.dom_worlds.specs.Reached.{Invariant}
 use Rattle.dom_worlds.specs.Worlds.{IsWorld, IsOf, IsForeignTo}
 use Rattle.dom_isolation.proofs.PageSteps.{run_then-square, outputs_for_page-says, page_of-world_after, run_then-quiet, page_run-unseen}
-use Rattle.dom_worlds.proofs.ShadowTrees.{ancestors-owned}
+use Rattle.dom_worlds.proofs.ShadowTreeLemmas.{ancestors-owned}
+use Rattle.dom_worlds.proofs.TurnLemmas.{IsPageTime, opening-page, quiet-opening, told_in, quiet-running, at_end, quiet-at_end}
+use Rattle.dom_worlds.proofs.CommandLemmas.{KeepsBase, base-effect}
+use Rattle.dom_worlds.proofs.OwnerLemmas.{owner-named}
+use Rattle.dom_worlds.proofs.ListLemmas.{by_cases, all-then, filter_all, filter_none}
 use Rattle.dom_isolation.proofs.PagePaths.{shadow_including-page, views-page}
 use Rattle.dom_isolation.proofs.Dispatches.{done_to, dispatch-page}
-use Rattle.dom_worlds.proofs.LineBegins.{IsPageTime, opening-page, quiet-opening}
-use Rattle.dom_worlds.proofs.TableEffects.{KeepsBase, base-effect}
-use Rattle.dom_worlds.proofs.Owners.{owner-named}
 use Rattle.std.proofs.lemmas.Bool.{cond-true, cond-false}
 use Rattle.dom_base.specs.declared.Owner.{Owner}
-use Rattle.dom_worlds.proofs.Tests.{by_cases}
 use Rattle.dom_model.proofs.StepLaws.{Component-IsNoPage}
-use Rattle.dom_worlds.proofs.Lists.{all-then, filter_all, filter_none}
 use Rattle.dom_isolation.proofs.Families.{page-is_group}
 use Rattle.dom_isolation.proofs.GroupTurns.{IsLineOf, lines-notified, notifying-out}
-use Rattle.dom_worlds.proofs.TurnEndings.{told_in, quiet-running, at_end, quiet-at_end}
 
 -- a run and then another that both show nothing
 pub quiet_then : (r : Run World) (s : PageState) (f : World → Run World) → page_run r ≡ quiet s → page_run (f r.0) ≡ quiet (page_of r.0) →

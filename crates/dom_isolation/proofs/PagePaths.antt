@@ -17,10 +17,10 @@ use Rattle.dom_model.specs.Paths.{plain_view, plain_views}
 use Rattle.dom_model.specs.Trace.{is_page}
 use Rattle.dom_model.proofs.OwnerLaws.{ne-owner_eq}
 use Rattle.dom_worlds.specs.Worlds.{IsWorld, IsOf, IsForeignTo}
-use Rattle.dom_worlds.proofs.Lists.{all-append, all-from, all-then, all-flat_map, filter-map, filter_none, filter_same, map_same, take_while_all}
-use Rattle.dom_worlds.proofs.ShadowTrees.{IsInTree, slot-in_tree, ancestors-in_tree, ancestors-owned, slot_way, slots-behind, slots-first, in_tree, not_in}
+use Rattle.dom_worlds.proofs.ListLemmas.{all-append, all-from, all-then, all-flat_map, filter-map, filter_none, filter_same, map_same, take_while_all}
+use Rattle.dom_worlds.proofs.ShadowTreeLemmas.{IsInTree, slot-in_tree, ancestors-in_tree, ancestors-owned, slot_way, slots-behind, slots-first, in_tree, not_in}
+use Rattle.dom_worlds.proofs.TurnLemmas.{page_in_no_tree}
 use Rattle.dom_isolation.proofs.OwnVisits.{in_view}
-use Rattle.dom_worlds.proofs.ComponentSignals.{page_in_no_tree}
 
 -- Page nodes.
 pub host_chain-page : (w : World) (x : NodeName) → x.owner ≡ Page → host_chain w x ≡ x ∷ []

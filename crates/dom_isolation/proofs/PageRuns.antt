@@ -21,8 +21,7 @@ use Rattle.dom_isolation.proofs.PageSteps.{run_then-square}
 use Rattle.dom_isolation.proofs.PageCommands.{ending_any-page}
 use Rattle.dom_isolation.proofs.Lines.{line-items}
 use Rattle.dom_isolation.proofs.FullTraces.{trace-untouched, full_trace-is_trace, run-plain}
-use Rattle.dom_worlds.proofs.FirstWorld.{quiet-first}
-use Rattle.dom_worlds.proofs.StepKeeps.{quiet-step}
+use Rattle.dom_worlds.proofs.WorldLemmas.{quiet-first, quiet-step}
 
 -- runs of lists in two parts
 run_then-assoc : {S : Type 0} (r : Run S) (f g : S → Run S) → run_then (run_then r f) g ≡ run_then r (λ s. run_then (f s) g)

@@ -14,8 +14,8 @@ use Rattle.dom_model.specs.WorldSteps.{world_step, world_after, stepped, with_si
 use Rattle.dom_model.specs.PageMachine.{page_of, is_page_task, page_step, page_notify_if, page_stepped, PageState}
 use Rattle.dom_model.proofs.StepLaws.{part_of-stepped, part_of-stepped-other, AllComponents, below-components}
 use Rattle.dom_worlds.specs.Worlds.{IsForeignTo}
-use Rattle.dom_worlds.proofs.Tests.{by_cases}
-use Rattle.dom_worlds.proofs.ComponentSignals.{page_tasks-queued_other, signals-foreign}
+use Rattle.dom_worlds.proofs.ListLemmas.{by_cases}
+use Rattle.dom_worlds.proofs.TurnLemmas.{page_tasks-queued_other, signals-foreign}
 use Rattle.dom_model.specs.Output.{Output, Said, says}
 use Rattle.dom_model.specs.Runs.{Run, quiet, run_then}
 use Rattle.dom_model.specs.Turns.{is_page_turn}

@@ -21,13 +21,12 @@ use Rattle.dom_isolation.specs.Interference.{FullItem, line_with, outward_with, 
 use Rattle.dom_isolation.specs.TouchedMachines.{page_outputs_under}
 use Rattle.dom_isolation.specs.FullIsolation.{full_lines_in, FullTraceHasPageLines, PageLinesAgreeInFull, PageLinesAgreeSoFarInFull, PageTextAgreesInFull}
 use Rattle.dom_isolation.specs.FullIsolation.{SamePageTextInFull, PickedLinesAgreeInFull, PickedLinesAgreeSoFarInFull}
-use Rattle.dom_worlds.proofs.Tests.{by_cases}
+use Rattle.dom_worlds.proofs.ListLemmas.{by_cases, all-from, all-map}
 use Rattle.dom_isolation.proofs.FullTraces.{full_trace-is_trace}
 use Rattle.dom_isolation.proofs.PageRuns.{page_run-agrees_in_full, page-sees_its_full_trace, page_run-agrees, page-sees_its_trace}
 use Rattle.dom_model.proofs.TurnLaws.{foreign_is_refused}
 use Rattle.std.specs.List.{AllByRecursion}
 use Rattle.dom_isolation.specs.Words.{IsPlainLine, ReadsPlainWords, OutputHasItsLines, OutputHasItsLinesSoFar, PickedLinesAgree, PickedLinesAgreeSoFar}
-use Rattle.dom_worlds.proofs.Lists.{all-from, all-map}
 use Rattle.dom_isolation.proofs.PlainCommands.{plain-saying}
 use Rattle.dom_isolation.proofs.SaidRuns.{says-outputs, says-so_far}
 use Rattle.dom_isolation.proofs.PlainLines.{lines_of-output}

@@ -21,10 +21,10 @@ use Rattle.dom_model.specs.Ranges.{Range}
 use Rattle.dom_model.specs.Traversal.{Iterator, Walker, iterator_next_node, iterator_previous_node, walker_move}
 use Rattle.dom_model.specs.World.{part_of, Task, micro_task, notify_task}
 use Rattle.dom_isolation.specs.Words.{HasNoFeed, HasPlainWords, IsPlainLine}
-use Rattle.dom_worlds.proofs.Lists.{all-append, all-filter, all-map, all-flat_map, all-from}
-use Rattle.dom_worlds.proofs.Tests.{either_way}
-use Rattle.dom_worlds.proofs.TreeChangeLaws.{nodes-subtree}
-use Rattle.dom_worlds.proofs.PlanCommands.{Makes, MayDo, made-effect}
+use Rattle.dom_worlds.proofs.ListLemmas.{all-append, all-filter, all-map, all-flat_map, all-from, either_way}
+use Rattle.dom_worlds.proofs.TreeLemmas.{nodes-subtree}
+use Rattle.dom_worlds.proofs.CommandLemmas.{Makes, MayDo, made-effect}
+use Rattle.dom_worlds.proofs.WorldLemmas.{IsKeptIn}
 use Rattle.dom_isolation.proofs.PlainWords.{IsPlainNode, IsPlainListener, IsPlainQueue, IsPlainPart, IsPlainStep, plain-queue, plain-queue_set, plain-rules}
 use Rattle.dom_isolation.proofs.PlainWords.{IsPlainChange, plain-part_step}
 use Rattle.dom_isolation.proofs.SaidRuns.{KeepsSaying, SaysEffect, HasNoTree}
@@ -32,7 +32,6 @@ use Rattle.dom_base.specs.declared.Action.{Action}
 use Rattle.dom_base.specs.declared.Action.TheVariants.{Log, Stop, StopNow, Cancel}
 use Rattle.dom_model.specs.Turns.{records_of, notified, notified_lines}
 use Rattle.dom_worlds.specs.Worlds.{AllNodes}
-use Rattle.dom_worlds.proofs.WorldParts.{IsKeptIn}
 
 -- A task, a world and what is said, with such words.
 abbrev pub IsPlainTask : Task → Type 0

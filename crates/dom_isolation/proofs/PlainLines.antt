@@ -34,8 +34,7 @@ use Rattle.dom_text.proofs.DecodeLaws.{decode_says}
 use Rattle.dom_text.proofs.LineLaws.{lines_of-text_of_lines}
 use Rattle.dom_isolation.specs.Words.{HasNoFeed, HasPlainWords, IsPlainLine, ReadsPlainWords}
 use Rattle.dom_worlds.specs.Worlds.{AllNodes}
-use Rattle.dom_worlds.proofs.Lists.{all-append, all-flat_map, all-map, all-from, all-then}
-use Rattle.dom_worlds.proofs.Tests.{by_cases, either_way}
+use Rattle.dom_worlds.proofs.ListLemmas.{all-append, all-flat_map, all-map, all-from, all-then, by_cases, either_way}
 use Rattle.dom_isolation.proofs.PlainWords.{IsPlainAttribute, IsPlainNode, IsPlainChange}
 use Rattle.dom_isolation.proofs.PlainCommands.{IsPlainEvent, IsPlainValue, IsPlainSaid, IsPlainOutput}
 

@@ -16,11 +16,9 @@ use Rattle.dom_model.specs.Steps.{Step, make, place, take_out, set_document, set
 use Rattle.dom_model.specs.Steps.{interested_in}
 use Rattle.dom_worlds.specs.Worlds.{AllNodes}
 use Rattle.dom_isolation.specs.Words.{HasNoFeed}
-use Rattle.dom_worlds.proofs.Lists.{all-append, all-from, all-set}
-use Rattle.dom_worlds.proofs.Tests.{either_way}
-use Rattle.dom_worlds.proofs.TreeChangeLaws.{nodes-with_node, nodes-taken_out, nodes-placed, nodes-map_nodes, nodes-listed}
-use Rattle.dom_worlds.proofs.Plans.{IsKept}
-use Rattle.dom_worlds.proofs.FitPieces.{any-whole}
+use Rattle.dom_worlds.proofs.ListLemmas.{all-append, all-from, all-set, either_way}
+use Rattle.dom_worlds.proofs.TreeLemmas.{nodes-with_node, nodes-taken_out, nodes-placed, nodes-map_nodes, nodes-listed}
+use Rattle.dom_worlds.proofs.PlanLemmas.{IsKept, any-whole}
 
 -- A node, a listener and a change with such words.
 abbrev pub IsPlainAttribute : Attribute → Type 0

@@ -19,9 +19,8 @@ use Rattle.dom_model.specs.Turns.{ending_turn, ending_any_turn, ending_other_tur
 use Rattle.dom_model.specs.World.{World, part_of}
 use Rattle.dom_worlds.specs.Reached.{IsQuiet, IsReached}
 use Rattle.dom_worlds.specs.Tables.{IsWhole}
-use Rattle.dom_worlds.proofs.Lists.{all-append}
-use Rattle.dom_worlds.proofs.Reached.{sound}
-use Rattle.dom_worlds.proofs.Tests.{either_way}
+use Rattle.dom_worlds.proofs.ListLemmas.{all-append, either_way}
+use Rattle.dom_worlds.proofs.WorldLemmas.{sound}
 use Rattle.dom_isolation.specs.FullGroups.{last_records}
 use Rattle.dom_isolation.specs.GroupLaws.{IsCalm, AssignedAgree, SignalsAgree, StepAgrees, ViewsAgree, OutwardViewsAgree, DispatchAgrees, OtherDispatchAgrees}
 use Rattle.dom_isolation.specs.GroupLaws.{EndingAgrees, LineAgrees, OtherLineAgrees, FinishAgrees}

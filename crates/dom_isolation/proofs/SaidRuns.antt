@@ -25,9 +25,8 @@ use Rattle.dom_model.specs.Turns.{notified, notified_lines, slotchange, firing_s
 use Rattle.dom_model.specs.Turns.{ending_turn, has_other_turn, ending_other_turn, ending_any_turn, opening_turn}
 use Rattle.dom_model.specs.World.{World, Task, micro_task, notify_task, part_of, with_part, component_made}
 use Rattle.dom_model.proofs.PartLaws.{owner-part_of}
-use Rattle.dom_worlds.proofs.Lists.{all-append, all-from, all-map}
-use Rattle.dom_worlds.proofs.Tests.{either_way}
-use Rattle.dom_worlds.proofs.WorldParts.{HoldsIn, IsKeptIn, holds-with_part, holds-world_after}
+use Rattle.dom_worlds.proofs.ListLemmas.{all-append, all-from, all-map, either_way}
+use Rattle.dom_worlds.proofs.WorldLemmas.{HoldsIn, IsKeptIn, holds-with_part, holds-world_after}
 
 -- a run to such a world, which says such lines
 abbrev pub SaysIn : (Part → Type 0) → (Task → Type 0) → (Output → Type 0) → Run World → Type 0

@@ -18,10 +18,9 @@ use Rattle.dom_model.specs.Groups.{KeepsMakers, group_world, group_turn, group_o
 use Rattle.dom_model.specs.Trace.{OutwardEvent, is_of, owner_of_line, owner_of_output, outward_event}
 use Rattle.dom_worlds.specs.Reached.{Invariant, IsReached}
 use Rattle.dom_worlds.specs.Tables.{IsWhole}
-use Rattle.dom_worlds.proofs.LineBegins.{quiet-ending_other}
-use Rattle.dom_worlds.proofs.Reached.{ending-keeps_reached}
-use Rattle.dom_worlds.proofs.TableLines.{ending-keeps_whole}
-use Rattle.dom_worlds.proofs.Tests.{by_cases}
+use Rattle.dom_worlds.proofs.TurnLemmas.{quiet-ending_other, quiet-dispatch}
+use Rattle.dom_worlds.proofs.WorldLemmas.{ending-keeps_reached, ending-keeps_whole, quiet-step}
+use Rattle.dom_worlds.proofs.ListLemmas.{by_cases}
 use Rattle.dom_isolation.specs.Interference.{Interference, untouched, first_record, ending_records, before_records, own_records, interference_at}
 use Rattle.dom_isolation.specs.Interference.{accepted_records, command_records}
 use Rattle.dom_isolation.proofs.GroupParts.{filter-away}
@@ -41,8 +40,6 @@ use Rattle.dom_base.specs.declared.Refusal.{Refusal}
 use Rattle.dom_model.specs.CommandNames.{named}
 use Rattle.dom_model.specs.Part.{Part}
 use Rattle.dom_model.specs.Dispatch.{Dispatched, dispatch_in}
-use Rattle.dom_worlds.proofs.StepKeeps.{quiet-step}
-use Rattle.dom_worlds.proofs.TurnEndings.{quiet-dispatch}
 use Rattle.dom_isolation.proofs.GroupCommands.{AreOfGroup, refusal-in, attach-alike, connected-alike, assigned-alike, micro-alike, effect-alike, words-inside}
 use Rattle.dom_isolation.proofs.GroupTurns.{same-part}
 

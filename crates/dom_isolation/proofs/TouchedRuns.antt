@@ -13,10 +13,8 @@ use Rattle.dom_model.specs.Isolation.{output_of}
 use Rattle.dom_model.specs.Trace.{OutwardEvent, is_of, owner_of_line, outward_event}
 use Rattle.dom_worlds.specs.Reached.{Invariant, IsReached}
 use Rattle.dom_worlds.specs.Tables.{IsWhole}
-use Rattle.dom_worlds.proofs.FirstWorld.{quiet-first}
-use Rattle.dom_worlds.proofs.Reached.{first-is_reached, step-keeps_reached}
-use Rattle.dom_worlds.proofs.TableLines.{first-is_whole, step-keeps_whole}
-use Rattle.dom_worlds.proofs.Tests.{by_cases}
+use Rattle.dom_worlds.proofs.WorldLemmas.{quiet-first, first-is_reached, step-keeps_reached, first-is_whole, step-keeps_whole}
+use Rattle.dom_worlds.proofs.ListLemmas.{by_cases}
 use Rattle.dom_isolation.specs.Interference.{Interference, FullItem, line_with, outward_with, turn_ended, first_record, before_records, own_records}
 use Rattle.dom_isolation.specs.Interference.{others_items, full_items, full_trace_from}
 use Rattle.dom_isolation.proofs.PageRuns.{run_each-append}

@@ -21,9 +21,8 @@ use Rattle.dom_model.specs.Turns.{is_owned_by, is_other_component, ending_any_tu
 use Rattle.dom_model.specs.Groups.{KeepsMakers, group_world, group_turn, group_outputs, group_run, is_task_of}
 use Rattle.dom_model.specs.Trace.{is_of}
 use Rattle.dom_worlds.specs.Reached.{Invariant}
-use Rattle.dom_worlds.proofs.Tests.{by_cases}
-use Rattle.dom_worlds.proofs.TurnEndings.{told_in, quiet-told, quiet-dispatch, quiet-running, at_end, quiet-at_end, quiet-ending_turn}
-use Rattle.dom_worlds.proofs.Visits.{rest-visits}
+use Rattle.dom_worlds.proofs.ListLemmas.{by_cases}
+use Rattle.dom_worlds.proofs.TurnLemmas.{told_in, quiet-told, quiet-dispatch, quiet-running, at_end, quiet-at_end, quiet-ending_turn, rest-visits}
 use Rattle.dom_isolation.specs.Interference.{Interference, first_record, is_own_visit, interference_at, records_each, slot_record, task_records, ending_records}
 use Rattle.dom_isolation.specs.TouchedMachines.{first_visits}
 use Rattle.dom_isolation.proofs.GroupParts.{in_node, filter-here, filter-away}

@@ -16,10 +16,9 @@ use Rattle.dom_model.specs.Groups.{group_world}
 use Rattle.dom_model.proofs.OwnerLaws.{owner_eq-same}
 use Rattle.dom_model.proofs.PartLaws.{owner-part_of}
 use Rattle.dom_worlds.specs.Worlds.{IsThere}
-use Rattle.dom_worlds.proofs.Lists.{all-then}
-use Rattle.dom_worlds.proofs.SameInvariant.{there-with_part}
-use Rattle.dom_worlds.proofs.Tests.{by_cases, and-true_false}
-use Rattle.dom_worlds.proofs.Visits.{Going, InWorld, with_listeners}
+use Rattle.dom_worlds.proofs.ListLemmas.{all-then, by_cases, and-true_false}
+use Rattle.dom_worlds.proofs.OwnerLemmas.{there-with_part}
+use Rattle.dom_worlds.proofs.TurnLemmas.{Going, InWorld, with_listeners}
 use Rattle.dom_isolation.specs.Interference.{Interference, untouched, touched, one_more, is_own_visit, interference_from}
 use Rattle.dom_isolation.specs.FullLaws.{OwnIsThere, InterferenceIsEnough}
 use Rattle.dom_isolation.specs.TouchedMachines.{first_visits}

@@ -29,13 +29,12 @@ use Rattle.dom_model.specs.Trace.{owner_of_line}
 use Rattle.dom_model.proofs.StepLaws.{owner-part_step}
 use Rattle.dom_model.proofs.ObserverLaws.{none_interested, none_transient}
 use Rattle.dom_text.proofs.TextLaws.{HasWord, HasOwner}
-use Rattle.dom_worlds.proofs.Lists.{all-append, all-from, all-then, all-map}
-use Rattle.dom_worlds.proofs.TableEffects.{KeepsBase, base-effect}
-use Rattle.dom_worlds.proofs.Tests.{either_way}
+use Rattle.dom_worlds.proofs.ListLemmas.{all-append, all-from, all-then, all-map, either_way}
+use Rattle.dom_worlds.proofs.CommandLemmas.{KeepsBase, base-effect}
+use Rattle.dom_worlds.proofs.WorldLemmas.{IsKeptIn}
+use Rattle.dom_worlds.proofs.TurnLemmas.{call}
 use Rattle.dom_isolation.proofs.GroupTurns.{IsLineOf, lines-notified}
-use Rattle.dom_worlds.proofs.WorldParts.{IsKeptIn}
 use Rattle.dom_isolation.proofs.OwnVisits.{kept-visited}
-use Rattle.dom_worlds.proofs.Visits.{call}
 use Rattle.dom_isolation.proofs.SaidRuns.{KeepsSaying, SaysEffect, IsSaidEvent, says-outputs}
 
 -- a part that says nothing of its own: no listeners, registrations and pending observers

@@ -17,7 +17,7 @@ use Rattle.dom_model.specs.Tree.{Node, has_data, kind_of, children_of, parent_of
 use Rattle.dom_model.specs.World.{World, part_of}
 use Rattle.dom_worlds.specs.Bounds.{HasBounds}
 use Rattle.dom_worlds.specs.Worlds.{IsPart}
-use Rattle.dom_worlds.proofs.KeptOffsets.{make-keeps, queue_record-keeps, removal-keeps, data-keeps}
+use Rattle.dom_worlds.proofs.RangeLemmas.{make-keeps, queue_record-keeps, removal-keeps, data-keeps}
 use Rattle.dom_tree.specs.Forest.{name_at}
 use Rattle.dom_parts.specs.Doc.{DocState, owner_in, made, planned}
 use Rattle.dom_parts.specs.Hosting.{PlansOwn, IsAlone}

@@ -13,8 +13,8 @@ use Rattle.dom_model.specs.Tree.{Trees, none, tree, Node, node_in, kind_of, name
 use Rattle.dom_model.specs.Tree.{length_of}
 use Rattle.dom_model.specs.TreeChanges.{map_nodes, change_node, with_data_replaced}
 use Rattle.dom_worlds.specs.Worlds.{IsPart}
-use Rattle.dom_worlds.proofs.KindLines.{has_node-times}
-use Rattle.dom_worlds.proofs.TextBounds.{text-data, joining-fits}
+use Rattle.dom_worlds.proofs.CommandLemmas.{has_node-times}
+use Rattle.dom_worlds.proofs.RangeLemmas.{text-data, joining-fits}
 use Rattle.dom_laws.proofs.Relatives.{subtree_mapped, path_mapped}
 use Rattle.dom_mutation.proofs.NormalizedEach.{IsTextOf}
 

@@ -11,7 +11,7 @@ use Rattle.dom_model.specs.Tree.{node_in, has_node, is_text, kind_of, parent_of,
 use Rattle.dom_model.specs.World.{part_of}
 use Rattle.dom_worlds.specs.Bounds.{HasBounds}
 use Rattle.dom_worlds.specs.Worlds.{IsPart}
-use Rattle.dom_worlds.proofs.TextBounds.{text-data}
+use Rattle.dom_worlds.proofs.RangeLemmas.{text-data}
 use Rattle.dom_tree.specs.Forest.{name_at}
 use Rattle.dom_parts.specs.Doc.{DocState, JoinsFit, name_in, owner_in, trees_in, planned}
 use Rattle.dom_parts.specs.Hosting.{IsAlone}

@@ -15,8 +15,8 @@ use Rattle.dom_worlds.specs.Worlds.{IsPart}
 use Rattle.dom_tree.specs.Forest.{name_at}
 use Rattle.dom_parts.specs.Doc.{DocState, IsOwnNode, name_in, owner_in, trees_in, planned}
 use Rattle.dom_parts.specs.Hosting.{IsAlone}
-use Rattle.dom_worlds.proofs.KindLines.{has_node-times}
-use Rattle.dom_worlds.proofs.PlanTexts.{leads-normalizing_text}
+use Rattle.dom_worlds.proofs.CommandLemmas.{has_node-times}
+use Rattle.dom_worlds.proofs.PlanLemmas.{leads-normalizing_text}
 use Rattle.dom_parts.proofs.BoundedPlans.{normalized_text-keeps, normalized_text-leaves}
 use Rattle.dom_laws.proofs.Lists.{all_drop}
 use Rattle.dom_parts.proofs.Made.{alone_made, plan_alone, planned_turn}

@@ -23,7 +23,7 @@ use Rattle.dom_model.proofs.PartLaws.{owner-part_of}
 use Rattle.dom_model.proofs.StepLaws.{owner-part_step, part_of-stepped}
 use Rattle.dom_worlds.specs.Tables.{IsNodeIn}
 use Rattle.dom_worlds.specs.Worlds.{IsPart}
-use Rattle.dom_worlds.proofs.TableSteps.{Fits, MadeIn}
+use Rattle.dom_worlds.proofs.PlanLemmas.{Fits, MadeIn}
 use Rattle.dom_parts.specs.Doc.{DocState, Makes, MakesSaying, made, planned, stepped, name_in, owner_in, trees_in}
 use Rattle.dom_parts.specs.Hosting.{IsAlone, SetsOwnDocuments}
 use Rattle.dom_mutation.specs.Ready.{IsReadyPart, AreReady, IsReady, MayStand}

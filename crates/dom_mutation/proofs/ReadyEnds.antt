@@ -16,8 +16,7 @@ use Rattle.dom_model.proofs.ObserverLaws.{none_interested, none_transient}
 use Rattle.dom_worlds.specs.Bounds.{HasBounds}
 use Rattle.dom_worlds.specs.Tables.{EndsIn, HasTables}
 use Rattle.dom_worlds.specs.Worlds.{IsPart}
-use Rattle.dom_worlds.proofs.TableRecords.{tables-after}
-use Rattle.dom_worlds.proofs.TableSteps.{Fits, MadeIn}
+use Rattle.dom_worlds.proofs.PlanLemmas.{tables-after, Fits, MadeIn}
 
 -- the part with its trees and live ranges alone
 abbrev pub bare : Part → Part

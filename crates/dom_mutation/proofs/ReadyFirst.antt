@@ -11,7 +11,7 @@ use Rattle.dom_model.specs.Part.{Part}
 use Rattle.dom_model.specs.Tree.{Trees, none, tree, Node, node_in, names_of, roots, trees_below, children_of, parent_of}
 use Rattle.dom_model.specs.World.{World, part_of, with_part, component_made}
 use Rattle.dom_model.proofs.PartLaws.{owner-part_of}
-use Rattle.dom_worlds.proofs.Tests.{either_way}
+use Rattle.dom_worlds.proofs.ListLemmas.{either_way}
 use Rattle.dom_mutation.specs.Ready.{IsReadyPart, AreReady}
 use Rattle.dom_mutation.proofs.ReadyTables.{ready-same}
 use Rattle.dom_mutation.proofs.ReadyWorlds.{ready-written}

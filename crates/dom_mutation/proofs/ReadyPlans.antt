@@ -24,26 +24,18 @@ use Rattle.dom_model.proofs.KindLaws.{parent-open}
 use Rattle.dom_worlds.specs.Bounds.{HasBounds, IsWithin}
 use Rattle.dom_worlds.specs.Tables.{EndsIn, HasEnds}
 use Rattle.dom_worlds.specs.Worlds.{IsPart}
-use Rattle.dom_worlds.proofs.Acceptance.{next-test}
-use Rattle.dom_worlds.proofs.BoundLines.{under-at}
-use Rattle.dom_worlds.proofs.Bounds.{RangeUnder, reach, nowhere}
-use Rattle.dom_worlds.proofs.KeptOffsets.{room-of, make-keeps, set_document-keeps, set_range-keeps, removal-keeps, adoption-keeps, insertion-keeps}
-use Rattle.dom_worlds.proofs.KeptOffsets.{replacement-keeps, attribute-keeps, attribute_removal-keeps, data-keeps, split-keeps}
-use Rattle.dom_worlds.proofs.KeptOffsets.{normalization-keeps, text_content-keeps, deletion-keeps, extraction-keeps, range_insertion-keeps}
-use Rattle.dom_worlds.proofs.InsideAncestors.{inside-no_ancestor, times-has_node}
-use Rattle.dom_worlds.proofs.KindLines.{has_node-times}
-use Rattle.dom_worlds.proofs.Plans.{Keeps, keeps-removing, keeps-adopting, keeps-inserting, keeps-replacing, keeps-setting_attribute}
-use Rattle.dom_worlds.proofs.Plans.{keeps-unsetting_attribute, keeps-replacing_data, keeps-splitting, keeps-normalizing, keeps-setting_text}
-use Rattle.dom_worlds.proofs.Plans.{keeps-extracting, keeps-deleting, keeps-inserting_into_range}
-use Rattle.dom_worlds.proofs.PlanContents.{leads-deleting, leads-extracting, leads-inserting_into_range}
-use Rattle.dom_worlds.proofs.PlanPlaces.{MayGo, leads-removing, leads-adopting, leads-inserting}
-use Rattle.dom_worlds.proofs.PlanRoots.{ends-at}
-use Rattle.dom_worlds.proofs.PlanTexts.{leads-replacing, leads-setting_attribute, leads-unsetting_attribute, leads-replacing_data, leads-splitting}
-use Rattle.dom_worlds.proofs.PlanTexts.{leads-normalizing, leads-setting_text}
-use Rattle.dom_worlds.proofs.Roots.{roots-equal}
-use Rattle.dom_worlds.proofs.ShadowRoots.{not_taken}
-use Rattle.dom_worlds.proofs.TableRegisters.{parent-of_range}
-use Rattle.dom_worlds.proofs.TableSteps.{MadeIn}
+use Rattle.dom_worlds.proofs.CommandLemmas.{next-test, has_node-times, parent-of_range}
+use Rattle.dom_worlds.proofs.RangeLemmas.{under-at, RangeUnder, reach, nowhere, room-of, make-keeps, set_document-keeps, set_range-keeps, removal-keeps}
+use Rattle.dom_worlds.proofs.RangeLemmas.{adoption-keeps, insertion-keeps, replacement-keeps, attribute-keeps, attribute_removal-keeps, data-keeps, split-keeps}
+use Rattle.dom_worlds.proofs.RangeLemmas.{normalization-keeps, text_content-keeps, deletion-keeps, extraction-keeps, range_insertion-keeps}
+use Rattle.dom_worlds.proofs.TreeLemmas.{inside-no_ancestor, times-has_node, roots-equal}
+use Rattle.dom_worlds.proofs.PlanLemmas.{Keeps, keeps-removing, keeps-adopting, keeps-inserting, keeps-replacing, keeps-setting_attribute}
+use Rattle.dom_worlds.proofs.PlanLemmas.{keeps-unsetting_attribute, keeps-replacing_data, keeps-splitting, keeps-normalizing, keeps-setting_text}
+use Rattle.dom_worlds.proofs.PlanLemmas.{keeps-extracting, keeps-deleting, keeps-inserting_into_range, leads-deleting, leads-extracting}
+use Rattle.dom_worlds.proofs.PlanLemmas.{leads-inserting_into_range, MayGo, leads-removing, leads-adopting, leads-inserting, ends-at, leads-replacing}
+use Rattle.dom_worlds.proofs.PlanLemmas.{leads-setting_attribute, leads-unsetting_attribute, leads-replacing_data, leads-splitting, leads-normalizing}
+use Rattle.dom_worlds.proofs.PlanLemmas.{leads-setting_text, MadeIn}
+use Rattle.dom_worlds.proofs.ShadowTreeLemmas.{not_taken}
 use Rattle.dom_mutation.specs.Ready.{IsReadyPart}
 use Rattle.dom_mutation.proofs.ReadyEnds.{bare, bare-part, bare-bounds, bounds-bare, bare-tables, bare-after, made-bare, ends-after}
 use Rattle.dom_mutation.proofs.ReadyRoots.{LoneRoots, lone-rules, lone-before, lone-after}

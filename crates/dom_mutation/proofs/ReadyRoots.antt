@@ -16,18 +16,14 @@ use Rattle.dom_model.specs.Tree.{trees_below, inclusive_descendants}
 use Rattle.dom_model.specs.TreeChanges.{map_nodes, with_name, with_document, with_data_replaced, with_attribute}
 use Rattle.dom_model.proofs.OwnerLaws.{name_eq-same, name_eq-true}
 use Rattle.dom_worlds.specs.Worlds.{IsPart, AllNodes, IsShadowAt}
-use Rattle.dom_worlds.proofs.FitPieces.{common_below, whole-pieces}
-use Rattle.dom_worlds.proofs.FollowPaths.{shadow-kind}
-use Rattle.dom_worlds.proofs.InsideAncestors.{roots-there, no_parent-root}
-use Rattle.dom_worlds.proofs.Lists.{all-then}
-use Rattle.dom_worlds.proofs.NodeKinds.{node-read, name-node_in, fragment-no_shadow}
-use Rattle.dom_worlds.proofs.NodesRead.{read-all}
-use Rattle.dom_worlds.proofs.PartSteps.{KeepsNames, some-keeps, attribute-keeps, part-step, Allowed, IsOwn, own-step, next-other}
-use Rattle.dom_worlds.proofs.Plans.{IsKept, kept-after}
-use Rattle.dom_worlds.proofs.ReachedFacts.{root-alone}
-use Rattle.dom_worlds.proofs.ShadowRoots.{kind-root, found-absent}
-use Rattle.dom_worlds.proofs.Tests.{by_cases}
-use Rattle.dom_worlds.proofs.TreeChangeLaws.{nodes-then, nodes-named, nodes-with_node, nodes-placed, nodes-taken_out, nodes-map_nodes, root-below_none}
+use Rattle.dom_worlds.proofs.PlanLemmas.{common_below, whole-pieces, KeepsNames, some-keeps, attribute-keeps, part-step, Allowed, IsOwn, own-step, next-other}
+use Rattle.dom_worlds.proofs.PlanLemmas.{IsKept, kept-after}
+use Rattle.dom_worlds.proofs.ShadowTreeLemmas.{shadow-kind, kind-root, found-absent}
+use Rattle.dom_worlds.proofs.TreeLemmas.{roots-there, no_parent-root, read-all, nodes-then, nodes-named, nodes-with_node, nodes-placed, nodes-taken_out}
+use Rattle.dom_worlds.proofs.TreeLemmas.{nodes-map_nodes, root-below_none}
+use Rattle.dom_worlds.proofs.ListLemmas.{all-then, by_cases}
+use Rattle.dom_worlds.proofs.CommandLemmas.{node-read, name-node_in, fragment-no_shadow}
+use Rattle.dom_worlds.proofs.WorldLemmas.{root-alone}
 use Rattle.dom_laws.proofs.Counts.{by_times}
 
 -- no shadow root has a parent

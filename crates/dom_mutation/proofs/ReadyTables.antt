@@ -24,13 +24,10 @@ use Rattle.dom_model.specs.World.{World, part_of}
 use Rattle.dom_model.proofs.PartLaws.{owner-part_of}
 use Rattle.dom_worlds.specs.Bounds.{IsWithin, EndsWithin}
 use Rattle.dom_worlds.specs.Tables.{IsNodeIn, HasEnds, EndsIn}
-use Rattle.dom_worlds.proofs.BoundLines.{under-at}
-use Rattle.dom_worlds.proofs.Bounds.{RangeUnder, reach, nowhere}
-use Rattle.dom_worlds.proofs.KeptOffsets.{room-of}
-use Rattle.dom_worlds.proofs.Lists.{all-append, all-set}
-use Rattle.dom_worlds.proofs.PlanRoots.{ends-at}
-use Rattle.dom_worlds.proofs.Roots.{roots-equal, roots-same}
-use Rattle.dom_worlds.proofs.Tests.{which_way}
+use Rattle.dom_worlds.proofs.RangeLemmas.{under-at, RangeUnder, reach, nowhere, room-of}
+use Rattle.dom_worlds.proofs.ListLemmas.{all-append, all-set, which_way}
+use Rattle.dom_worlds.proofs.PlanLemmas.{ends-at}
+use Rattle.dom_worlds.proofs.TreeLemmas.{roots-equal, roots-same}
 use Rattle.dom_worlds.specs.Worlds.{IsPart}
 use Rattle.dom_mutation.specs.Ready.{IsReadyPart, AreReady}
 use Rattle.dom_mutation.proofs.ReadyEnds.{bare, bare-tables}

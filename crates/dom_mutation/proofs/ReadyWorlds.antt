@@ -15,10 +15,9 @@ use Rattle.dom_model.proofs.OwnerLaws.{owner_eq-true, owner_eq-false}
 use Rattle.dom_model.proofs.PartLaws.{owner-part_of}
 use Rattle.dom_model.proofs.StepLaws.{owner-part_step, part_of-stepped-other}
 use Rattle.dom_worlds.specs.Worlds.{IsPart}
-use Rattle.dom_worlds.proofs.PartSteps.{part-step}
-use Rattle.dom_worlds.proofs.TableSteps.{MadeIn}
-use Rattle.dom_worlds.proofs.TableWorlds.{each-part}
-use Rattle.dom_worlds.proofs.Tests.{by_cases}
+use Rattle.dom_worlds.proofs.PlanLemmas.{part-step, MadeIn}
+use Rattle.dom_worlds.proofs.WorldLemmas.{each-part}
+use Rattle.dom_worlds.proofs.ListLemmas.{by_cases}
 use Rattle.dom_mutation.specs.Ready.{IsReadyPart, AreReady}
 use Rattle.dom_mutation.proofs.ReadyPlans.{KeepReady, ready-after, ready-document}
 

@@ -7,10 +7,10 @@ use Rattle.dom_base.specs.declared.NodeName.{NodeName}
 use Rattle.dom_base.specs.declared.Owner.{Owner}
 use Rattle.dom_base.specs.declared.Owner.TheVariants.{Page}
 use Rattle.dom_worlds.specs.Worlds.{AllNodes}
-use Rattle.dom_worlds.proofs.KindLines.{absent-any}
-use Rattle.dom_worlds.proofs.PartSteps.{next-absent}
-use Rattle.dom_worlds.proofs.TableWorlds.{each-part}
-use Rattle.dom_worlds.proofs.TreeChangeLaws.{nodes-with_node}
+use Rattle.dom_worlds.proofs.CommandLemmas.{absent-any}
+use Rattle.dom_worlds.proofs.PlanLemmas.{next-absent}
+use Rattle.dom_worlds.proofs.WorldLemmas.{each-part}
+use Rattle.dom_worlds.proofs.TreeLemmas.{nodes-with_node}
 use Rattle.dom_model.specs.Changes.{Plan}
 use Rattle.dom_model.specs.Command.{Command}
 use Rattle.dom_model.specs.DocumentMachine.{attaching}

@@ -9,13 +9,11 @@ use Rattle.std.proofs.lemmas.Option.{slice_get-map}
 use Rattle.dom_base.specs.declared.Kind.{Kind}
 use Rattle.dom_base.specs.declared.NodeName.{NodeName}
 use Rattle.dom_worlds.specs.Worlds.{AllNodes, IsPart}
-use Rattle.dom_worlds.proofs.KindLines.{has_node-times}
-use Rattle.dom_worlds.proofs.NodeKinds.{count-grows}
-use Rattle.dom_worlds.proofs.NodesRead.{read-all}
-use Rattle.dom_worlds.proofs.PartSteps.{KeepsNames, some-keeps, attribute-keeps}
-use Rattle.dom_worlds.proofs.ShadowRoots.{found-there}
-use Rattle.dom_worlds.proofs.Tests.{by_cases}
-use Rattle.dom_worlds.proofs.TreeChangeLaws.{nodes-with_node, nodes-taken_out, nodes-placed, nodes-map_nodes, nodes-listed, nodes-then}
+use Rattle.dom_worlds.proofs.CommandLemmas.{has_node-times, count-grows}
+use Rattle.dom_worlds.proofs.TreeLemmas.{read-all, nodes-with_node, nodes-taken_out, nodes-placed, nodes-map_nodes, nodes-listed, nodes-then}
+use Rattle.dom_worlds.proofs.PlanLemmas.{KeepsNames, some-keeps, attribute-keeps}
+use Rattle.dom_worlds.proofs.ShadowTreeLemmas.{found-there}
+use Rattle.dom_worlds.proofs.ListLemmas.{by_cases}
 use Rattle.dom_model.specs.Names.{name_eq, is_in}
 use Rattle.dom_model.specs.Part.{Part, next_name, queue_of}
 use Rattle.dom_model.specs.Place.{Boundary}

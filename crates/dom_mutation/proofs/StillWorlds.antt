@@ -4,7 +4,7 @@ use Rattle.std.specs.Prelude.{is_some}
 use Rattle.dom_base.specs.declared.Kind.TheVariants.{Shadow}
 use Rattle.dom_base.specs.declared.NodeName.{NodeName}
 use Rattle.dom_base.specs.declared.Owner.{Owner}
-use Rattle.dom_worlds.proofs.TableWorlds.{each-part}
+use Rattle.dom_worlds.proofs.WorldLemmas.{each-part}
 use Rattle.dom_model.specs.Names.{max_depth}
 use Rattle.dom_model.specs.DocumentMachine.{attaching, part_with_root}
 use Rattle.dom_model.specs.Part.{Part, empty_part}

@@ -13,15 +13,10 @@ use Rattle.dom_model.specs.TextChanges.{replacing_data, normalizing_text, texts_
 use Rattle.dom_model.specs.Tree.{Trees, node_in, has_node, has_data, is_text, kind_of, children_of, parent_of, index_of, length_of}
 use Rattle.dom_worlds.specs.Bounds.{HasBounds}
 use Rattle.dom_worlds.specs.Worlds.{IsPart}
-use Rattle.dom_worlds.proofs.Bounds.{nowhere}
-use Rattle.dom_worlds.proofs.InsideAncestors.{times-has_node}
-use Rattle.dom_worlds.proofs.ChildCounts.{index-below, length-children}
-use Rattle.dom_worlds.proofs.KeptOffsets.{room-of, bounds-of, queue_record-keeps}
-use Rattle.dom_worlds.proofs.KindLines.{has_node-times}
-use Rattle.dom_worlds.proofs.PlanBounds.{room-removals}
-use Rattle.dom_worlds.proofs.PlanPlaces.{after-append, still}
-use Rattle.dom_worlds.proofs.PlanTexts.{leads-removals, leads-normalizing_text}
-use Rattle.dom_worlds.proofs.TextBounds.{text-data, total, joining-fits, room-normalizing_text}
+use Rattle.dom_worlds.proofs.RangeLemmas.{nowhere, room-of, bounds-of, queue_record-keeps, room-removals, text-data, total, joining-fits, room-normalizing_text}
+use Rattle.dom_worlds.proofs.TreeLemmas.{times-has_node, index-below, length-children}
+use Rattle.dom_worlds.proofs.CommandLemmas.{has_node-times}
+use Rattle.dom_worlds.proofs.PlanLemmas.{after-append, still, leads-removals, leads-normalizing_text}
 use Rattle.dom_parts.specs.Doc.{JoinsFit}
 use Rattle.dom_parts.proofs.OwnParts.{children_few}
 

@@ -15,7 +15,7 @@ use Rattle.dom_worlds.specs.Worlds.{IsPart}
 use Rattle.dom_tree.specs.Forest.{name_at}
 use Rattle.dom_parts.specs.Doc.{DocState, JoinsFit, IsOwnNode, name_in, owner_in, trees_in, stepped, planned}
 use Rattle.dom_parts.specs.Hosting.{IsAlone}
-use Rattle.dom_worlds.proofs.KeptOffsets.{join_at-keeps}
+use Rattle.dom_worlds.proofs.RangeLemmas.{join_at-keeps}
 use Rattle.dom_laws.proofs.Lists.{all_drop}
 use Rattle.dom_parts.proofs.Made.{alone_after}
 

@@ -10,8 +10,7 @@ use Rattle.dom_model.specs.Part.{Part}
 use Rattle.dom_model.specs.Tree.{Trees, none, tree, Node, nodes, has_node, children_of, times_in}
 use Rattle.dom_model.proofs.OwnerLaws.{name_eq-same, name_eq-true}
 use Rattle.dom_worlds.specs.Worlds.{IsPart}
-use Rattle.dom_worlds.proofs.InsideAncestors.{times-has_node}
-use Rattle.dom_worlds.proofs.ChildCounts.{kids, kids-absent, rooted, length-children}
+use Rattle.dom_worlds.proofs.TreeLemmas.{times-has_node, kids, kids-absent, rooted, length-children}
 use Rattle.dom_tree.specs.Forest.{name_at, count_of}
 use Rattle.dom_tree.specs.Owners.{AreOf, AreOwned, trees_of_owner}
 use Rattle.dom_tree.proofs.Owned.{own_trees}

@@ -16,7 +16,7 @@ use Rattle.dom_model.specs.World.{World, part_of}
 use Rattle.dom_model.specs.WorldSteps.{world_step, world_after}
 use Rattle.dom_model.proofs.PartLaws.{owner-part_of}
 use Rattle.dom_model.proofs.StepLaws.{part_of-own_step}
-use Rattle.dom_worlds.proofs.TableWorlds.{Ground, ground-world_step, part-own_step}
+use Rattle.dom_worlds.proofs.WorldLemmas.{Ground, ground-world_step, part-own_step}
 use Rattle.dom_tree.specs.Owners.{AreOf}
 use Rattle.dom_parts.specs.Doc.{made}
 use Rattle.dom_parts.specs.Hosting.{SetsOwnDocuments}

@@ -18,8 +18,8 @@ use Rattle.dom_model.specs.Changes.{steps_of}
 use Rattle.dom_model.specs.TextChanges.{joins}
 use Rattle.dom_worlds.specs.Bounds.{HasBounds}
 use Rattle.dom_worlds.specs.Worlds.{IsPart}
-use Rattle.dom_worlds.proofs.Bounds.{length-replaced}
-use Rattle.dom_worlds.proofs.ChildCounts.{index-below, length-children}
+use Rattle.dom_worlds.proofs.RangeLemmas.{length-replaced}
+use Rattle.dom_worlds.proofs.TreeLemmas.{index-below, length-children}
 use Rattle.dom_ranges.specs.Tables.{RangeLists, ends_by, ranges_of, range_in}
 use Rattle.dom_ranges.proofs.Vacant.{ends-none}
 use Rattle.dom_tree.proofs.Standing.{StandOnce, StandAlone}

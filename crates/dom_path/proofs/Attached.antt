@@ -7,7 +7,7 @@ use Rattle.dom_base.specs.declared.NodeName.{NodeName}
 use Rattle.dom_model.specs.Names.{name_eq, owner_depth}
 use Rattle.dom_model.specs.Tree.{parent_of, root_of}
 use Rattle.dom_model.proofs.OwnerLaws.{name_eq-same, name_eq-true}
-use Rattle.dom_worlds.proofs.Tests.{by_cases}
+use Rattle.dom_worlds.proofs.ListLemmas.{by_cases}
 use Rattle.dom_tree.specs.Forest.{NamedTrees, name_at}
 use Rattle.dom_tree.proofs.Owned.{stays_own}
 use Rattle.dom_slots.specs.Hosts.{ShadowHost, host_named, root_named}

@@ -9,7 +9,7 @@ use Rattle.dom_base.specs.declared.NodeName.{NodeName}
 use Rattle.dom_model.specs.Names.{name_eq, first_of}
 use Rattle.dom_model.specs.Slots.{slot_in}
 use Rattle.dom_model.specs.Tree.{is_shadow, inclusive_ancestors, node_in, parent_of, root_of, subtree}
-use Rattle.dom_worlds.proofs.Tests.{by_cases}
+use Rattle.dom_worlds.proofs.ListLemmas.{by_cases}
 use Rattle.dom_tree.specs.Forest.{NamedTrees, name_at}
 use Rattle.dom_laws.proofs.Shapes.{Has, Has-subtree, above-parent, above-present}
 use Rattle.dom_laws.proofs.Counts.{Once}

@@ -11,8 +11,8 @@ use Rattle.dom_model.specs.Slots.{is_assigned_to}
 use Rattle.dom_model.specs.Tree.{has_node}
 use Rattle.dom_model.specs.World.{World}
 use Rattle.dom_model.proofs.OwnerLaws.{name_eq-same}
-use Rattle.dom_worlds.proofs.FollowEvents.{path-follows_parents}
-use Rattle.dom_worlds.proofs.Tests.{by_cases}
+use Rattle.dom_worlds.proofs.ShadowTreeLemmas.{path-follows_parents}
+use Rattle.dom_worlds.proofs.ListLemmas.{by_cases}
 use Rattle.dom_tree.specs.Forest.{NamedTrees}
 use Rattle.dom_slots.specs.Hosts.{ShadowHost}
 use Rattle.dom_slots.specs.Shadows.{ShadowTrees, shadows, is_assigned_at}

@@ -15,10 +15,9 @@ use Rattle.dom_model.specs.World.{World, part_of, component_at, shadow_root_of, 
 use Rattle.dom_model.specs.World.{parent_at, root_at}
 use Rattle.dom_model.proofs.OwnerLaws.{depth-maker, name_eq-true}
 use Rattle.dom_worlds.specs.Tables.{IsNodeAt}
-use Rattle.dom_worlds.proofs.Chains.{above-host, below-host, hosts-alone, chain-below, hidden-by_chain}
-use Rattle.dom_worlds.proofs.FollowPaths.{shadow-name}
-use Rattle.dom_worlds.proofs.Makers.{hosted, hosted-maker, hosted-owned, hosted-is, component-host}
-use Rattle.dom_worlds.proofs.ReachedFacts.{shadow_roots-are_roots}
+use Rattle.dom_worlds.proofs.ShadowTreeLemmas.{above-host, below-host, hosts-alone, chain-below, hidden-by_chain, shadow-name}
+use Rattle.dom_worlds.proofs.OwnerLemmas.{hosted, hosted-maker, hosted-owned, hosted-is, component-host}
+use Rattle.dom_worlds.proofs.WorldLemmas.{shadow_roots-are_roots}
 use Rattle.dom_tree.specs.Forest.{NamedTrees}
 use Rattle.dom_tree.proofs.Owned.{read_own, stays_own}
 use Rattle.dom_laws.proofs.Lists.{name_eq-from}

@@ -9,7 +9,7 @@ use Rattle.std.proofs.lemmas.Option.{none-some, same_Some}
 use Rattle.std.proofs.lemmas.List.Elements.{filter-append}
 use Rattle.std.proofs.lemmas.List.{append-nil, reverse-append, map-append}
 use Rattle.dom_base.specs.declared.NodeName.{NodeName}
-use Rattle.dom_worlds.proofs.Lists.{all-append, all-reverse}
+use Rattle.dom_worlds.proofs.ListLemmas.{all-append, all-reverse}
 use Rattle.dom_model.specs.Names.{name_eq, first_of, items_after}
 use Rattle.dom_model.specs.Place.{is_before}
 use Rattle.dom_model.specs.Ranges.{Range}

@@ -6,7 +6,7 @@ use Rattle.std.specs.Option.{option_flatten, option_map_or}
 use Rattle.std.proofs.lemmas.Bool.{cases_Bool, cond-true, cond-false}
 use Rattle.dom_base.specs.declared.NodeName.{NodeName}
 use Rattle.dom_base.specs.declared.Owner.{Owner}
-use Rattle.dom_worlds.proofs.Lists.{all-append}
+use Rattle.dom_worlds.proofs.ListLemmas.{all-append}
 use Rattle.dom_model.specs.Changes.{Plan, ◌and_then◌, in_turn, doing, steps_of, removing, removing_from, observed}
 use Rattle.dom_model.specs.Effects.{plan_of_range}
 use Rattle.dom_model.specs.Extract.{is_in_one_data, cut_start, cut_end, new_place, both_at}

@@ -8,7 +8,7 @@ use Rattle.dom_base.specs.declared.NodeName.{NodeName}
 use Rattle.dom_base.specs.declared.Owner.{Owner}
 use Rattle.dom_worlds.specs.Bounds.{IsWithin, EndsWithin, HasBounds}
 use Rattle.dom_worlds.specs.Tables.{HasEnds}
-use Rattle.dom_worlds.proofs.TextBounds.{text-data}
+use Rattle.dom_worlds.proofs.RangeLemmas.{text-data}
 use Rattle.dom_model.specs.Command.{Command, effect}
 use Rattle.dom_model.specs.Effects.{Effect}
 use Rattle.dom_model.specs.Output.{nothing, boundaries}

@@ -2,8 +2,8 @@
 use Rattle.std.proofs.Common.{◌≡◌, ℕ, true, false, Option, sym, ap, subst, ◌∙◌}
 use Rattle.dom_base.specs.declared.NodeName.{NodeName}
 use Rattle.dom_base.specs.declared.Owner.{Owner}
-use Rattle.dom_worlds.proofs.KindLines.{has_node-times}
-use Rattle.dom_worlds.proofs.PlanPlaces.{Changed}
+use Rattle.dom_worlds.proofs.CommandLemmas.{has_node-times}
+use Rattle.dom_worlds.proofs.PlanLemmas.{Changed}
 use Rattle.dom_model.specs.Changes.{Plan}
 use Rattle.dom_model.specs.Part.{Part}
 use Rattle.dom_model.specs.Steps.{after}

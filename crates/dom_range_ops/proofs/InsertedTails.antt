@@ -9,14 +9,10 @@ use Rattle.dom_base.specs.declared.Owner.{Owner}
 use Rattle.dom_base.specs.declared.Owner.TheVariants.{Page}
 use Rattle.dom_worlds.specs.Bounds.{HasBounds}
 use Rattle.dom_worlds.specs.Worlds.{IsPart}
-use Rattle.dom_worlds.proofs.Descents.{ancestor-inside}
-use Rattle.dom_worlds.proofs.InsideAncestors.{inside-no_ancestor}
-use Rattle.dom_worlds.proofs.KindLines.{has_node-times}
-use Rattle.dom_worlds.proofs.KeptOffsets.{split-keeps}
-use Rattle.dom_worlds.proofs.PlanChildren.{child-parent}
-use Rattle.dom_worlds.proofs.PlanPlaces.{Changed}
-use Rattle.dom_worlds.proofs.PlanTexts.{leads-splitting}
-use Rattle.dom_worlds.proofs.RangeInsertions.{tail-child}
+use Rattle.dom_worlds.proofs.TreeLemmas.{ancestor-inside, inside-no_ancestor, child-parent}
+use Rattle.dom_worlds.proofs.CommandLemmas.{has_node-times}
+use Rattle.dom_worlds.proofs.RangeLemmas.{split-keeps, tail-child}
+use Rattle.dom_worlds.proofs.PlanLemmas.{Changed, leads-splitting}
 use Rattle.dom_model.specs.Changes.{Plan, ◌and_then◌}
 use Rattle.dom_model.specs.Names.{node_of}
 use Rattle.dom_model.specs.Part.{Part, next_name}

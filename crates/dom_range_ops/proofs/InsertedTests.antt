@@ -5,8 +5,8 @@ use Rattle.std.proofs.lemmas.Bool.{cond-true, cond-false}
 use Rattle.dom_base.specs.declared.NodeName.{NodeName}
 use Rattle.dom_base.specs.declared.Owner.{Owner}
 use Rattle.dom_base.specs.declared.Refusal.TheVariants.{Hierarchy, NotFound}
-use Rattle.dom_worlds.proofs.Acceptance.{next-test}
-use Rattle.dom_worlds.proofs.ShadowRoots.{not_taken}
+use Rattle.dom_worlds.proofs.CommandLemmas.{next-test}
+use Rattle.dom_worlds.proofs.ShadowTreeLemmas.{not_taken}
 use Rattle.dom_model.specs.Changes.{◌and_then◌}
 use Rattle.dom_model.specs.CommandRefusals.{limit_on, made_by_insert_node}
 use Rattle.dom_model.specs.Names.{name_eq}

@@ -4,8 +4,8 @@ use Rattle.std.specs.Prelude.{⊤, if◌then◌else◌}
 use Rattle.std.specs.List.{AllByRecursion}
 use Rattle.std.specs.Option.{option_map_or}
 use Rattle.dom_base.specs.declared.NodeName.{NodeName}
-use Rattle.dom_worlds.proofs.Lists.{all-append}
-use Rattle.dom_worlds.proofs.PartSteps.{count-step}
+use Rattle.dom_worlds.proofs.ListLemmas.{all-append}
+use Rattle.dom_worlds.proofs.PlanLemmas.{count-step}
 use Rattle.dom_model.specs.Changes.{Plan, ◌and_then◌, in_turn, doing, steps_of, Observing, observed, suppressed, telling, removing, removing_from}
 use Rattle.dom_model.specs.Changes.{has_document, changing_document, adopting, document_below, placed_nodes, emptying, making_room, placing}
 use Rattle.dom_model.specs.Changes.{sibling_before, inserting_nodes, inserting}

@@ -6,10 +6,10 @@ use Rattle.dom_base.specs.declared.NodeName.{NodeName}
 use Rattle.dom_base.specs.declared.Owner.{Owner}
 use Rattle.dom_base.specs.declared.Owner.TheVariants.{Page}
 use Rattle.dom_worlds.specs.Worlds.{IsPart}
-use Rattle.dom_worlds.proofs.Descents.{ancestor-inside}
-use Rattle.dom_worlds.proofs.KindLines.{has_node-times}
-use Rattle.dom_worlds.proofs.PlanTexts.{new-may}
-use Rattle.dom_worlds.proofs.Tests.{by_cases}
+use Rattle.dom_worlds.proofs.TreeLemmas.{ancestor-inside}
+use Rattle.dom_worlds.proofs.CommandLemmas.{has_node-times}
+use Rattle.dom_worlds.proofs.PlanLemmas.{new-may}
+use Rattle.dom_worlds.proofs.ListLemmas.{by_cases}
 use Rattle.dom_model.proofs.PartLaws.{owner-part_of}
 use Rattle.dom_model.specs.Changes.{Plan, ◌and_then◌, doing, observed, inserting}
 use Rattle.dom_model.specs.Extract.{making_below}

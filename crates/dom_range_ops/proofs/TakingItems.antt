@@ -3,7 +3,7 @@ use Rattle.std.proofs.Common.{◌≡◌, [], ◌∷◌, ◌++◌, List, refl, sy
 use Rattle.std.specs.Prelude.{◌-◌, None}
 use Rattle.std.proofs.lemmas.List.{append-nil}
 use Rattle.dom_base.specs.declared.NodeName.{NodeName}
-use Rattle.dom_worlds.proofs.PlanPlaces.{after-append}
+use Rattle.dom_worlds.proofs.PlanLemmas.{after-append}
 use Rattle.dom_model.specs.Changes.{Plan, ◌and_then◌, doing, observed, inserting}
 use Rattle.dom_model.specs.Extract.{Pieces, nothing, whole, cut, clone, clone_part, making_below, taking, pieces_of, new_fragment_node, own_document}
 use Rattle.dom_model.specs.Extract.{both_at, new_place, extracting}

@@ -6,7 +6,7 @@ use Rattle.std.proofs.lemmas.List.{append-nil}
 use Rattle.dom_base.specs.declared.NodeName.{NodeName}
 use Rattle.dom_base.specs.declared.Owner.{Owner}
 use Rattle.dom_worlds.specs.Worlds.{IsPart}
-use Rattle.dom_worlds.proofs.KindLines.{has_node-times}
+use Rattle.dom_worlds.proofs.CommandLemmas.{has_node-times}
 use Rattle.dom_model.proofs.PartLaws.{owner-part_of}
 use Rattle.dom_model.specs.Changes.{observed}
 use Rattle.dom_model.specs.Extract.{clone_part, making_below}

@@ -6,18 +6,12 @@ use Rattle.dom_base.specs.declared.Kind.TheVariants.{Document, Fragment, Shadow,
 use Rattle.dom_base.specs.declared.NodeName.{NodeName}
 use Rattle.dom_worlds.specs.Bounds.{HasBounds}
 use Rattle.dom_worlds.specs.Worlds.{IsPart}
-use Rattle.dom_worlds.proofs.Descents.{ancestor-inside}
-use Rattle.dom_worlds.proofs.InsideAncestors.{inside-no_ancestor, times-has_node}
-use Rattle.dom_worlds.proofs.KeptOffsets.{insertion-keeps, make-keeps, data-keeps}
-use Rattle.dom_worlds.proofs.KindLines.{has_node-times}
-use Rattle.dom_worlds.proofs.Lists.{all-then}
-use Rattle.dom_worlds.proofs.NodesRead.{node-new}
-use Rattle.dom_worlds.proofs.PartSteps.{next-absent}
-use Rattle.dom_worlds.proofs.PlanContents.{OldIn, old-may, old-still, leads-making_below}
-use Rattle.dom_worlds.proofs.PlanPlaces.{Changed, MayGo, Leads, still, after-append, leads-then, leads-eased, leads-nothing, leads-one, leads-inserting}
-use Rattle.dom_worlds.proofs.PlanTexts.{new-there, new-may, leads-replacing_data}
-use Rattle.dom_worlds.proofs.TableSteps.{HasNode}
-use Rattle.dom_worlds.proofs.Tests.{by_cases}
+use Rattle.dom_worlds.proofs.TreeLemmas.{ancestor-inside, inside-no_ancestor, times-has_node, node-new}
+use Rattle.dom_worlds.proofs.RangeLemmas.{insertion-keeps, make-keeps, data-keeps}
+use Rattle.dom_worlds.proofs.CommandLemmas.{has_node-times}
+use Rattle.dom_worlds.proofs.ListLemmas.{all-then, by_cases}
+use Rattle.dom_worlds.proofs.PlanLemmas.{next-absent, OldIn, old-may, old-still, leads-making_below, Changed, MayGo, Leads, still, after-append, leads-then}
+use Rattle.dom_worlds.proofs.PlanLemmas.{leads-eased, leads-nothing, leads-one, leads-inserting, new-there, new-may, leads-replacing_data, HasNode}
 use Rattle.dom_model.specs.Changes.{observed, inserting}
 use Rattle.dom_model.specs.Extract.{clone_part, making_below}
 use Rattle.dom_model.specs.Part.{Part, next_name}

@@ -9,8 +9,8 @@ use Rattle.dom_base.specs.declared.Owner.{Owner}
 use Rattle.dom_base.specs.declared.Owner.TheVariants.{Page}
 use Rattle.dom_worlds.specs.Bounds.{HasBounds}
 use Rattle.dom_worlds.specs.Worlds.{IsPart}
-use Rattle.dom_worlds.proofs.KindLines.{has_node-times}
-use Rattle.dom_worlds.proofs.Lists.{all-append, all-then}
+use Rattle.dom_worlds.proofs.CommandLemmas.{has_node-times}
+use Rattle.dom_worlds.proofs.ListLemmas.{all-append, all-then}
 use Rattle.dom_model.proofs.PartLaws.{owner-part_of}
 use Rattle.dom_model.specs.Names.{node_of}
 use Rattle.dom_model.specs.Part.{Part, next_name}

@@ -6,21 +6,12 @@ use Rattle.dom_base.specs.declared.NodeName.{NodeName}
 use Rattle.dom_worlds.specs.Bounds.{HasBounds}
 use Rattle.dom_worlds.specs.Tables.{HasEnds}
 use Rattle.dom_worlds.specs.Worlds.{IsPart}
-use Rattle.dom_worlds.proofs.FitPieces.{IsClonable, common_below, fit-apart, fit-pieces, whole-pieces}
-use Rattle.dom_worlds.proofs.InsideAncestors.{no_parent-root, times-has_node}
-use Rattle.dom_worlds.proofs.KeptOffsets.{make-keeps}
-use Rattle.dom_worlds.proofs.KindLines.{has_node-times}
-use Rattle.dom_worlds.proofs.Lists.{all-append, all-then}
-use Rattle.dom_worlds.proofs.NodesRead.{node-new}
-use Rattle.dom_worlds.proofs.PartSteps.{next-absent}
-use Rattle.dom_worlds.proofs.PlanContents.{OldIn, old-there}
-use Rattle.dom_worlds.proofs.PlanPlaces.{Changed, still, leads-one}
-use Rattle.dom_worlds.proofs.PlanTexts.{new-there}
-use Rattle.dom_worlds.proofs.Plans.{AreFit, AllWhole}
-use Rattle.dom_worlds.proofs.ExtractionPlans.{common-read}
-use Rattle.dom_worlds.proofs.TableSteps.{HasNode}
-use Rattle.dom_worlds.proofs.Tests.{by_cases}
-use Rattle.dom_worlds.proofs.TreeChangeLaws.{nodes-named, nodes-then, root-below_none, times-below}
+use Rattle.dom_worlds.proofs.PlanLemmas.{IsClonable, common_below, fit-apart, fit-pieces, whole-pieces, next-absent, OldIn, old-there, Changed, still}
+use Rattle.dom_worlds.proofs.PlanLemmas.{leads-one, new-there, AreFit, AllWhole, HasNode}
+use Rattle.dom_worlds.proofs.TreeLemmas.{no_parent-root, times-has_node, node-new, nodes-named, nodes-then, root-below_none, times-below}
+use Rattle.dom_worlds.proofs.RangeLemmas.{make-keeps, common-read}
+use Rattle.dom_worlds.proofs.CommandLemmas.{has_node-times}
+use Rattle.dom_worlds.proofs.ListLemmas.{all-append, all-then, by_cases}
 use Rattle.dom_laws.proofs.Counts.{times_subtree}
 use Rattle.dom_model.specs.Extract.{Pieces, nothing, whole, cut, clone, tree_holding, pieces_of, common_ancestor, is_in_one_data}
 use Rattle.dom_model.specs.Names.{name_eq}

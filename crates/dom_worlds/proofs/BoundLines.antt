@@ -1,9 +1,8 @@
 -- Commands and lines keep the ends of ranges within their nodes.
-use Rattle.std.proofs.Common.{zero, suc, ◌≡◌, ℕ, ◌+◌, Bool, true, false, not, ◌&&◌, List, [], ◌∷◌, filter, drop, Option, Some, None, option_map, refl}
-use Rattle.std.proofs.Common.{sym, arith, subst}
+use Rattle.std.proofs.Common.{◌≡◌, ℕ, ◌+◌, Bool, true, false, not, ◌&&◌, List, [], ◌∷◌, filter, drop, Option, Some, None, option_map, refl, sym, arith, subst}
 use Rattle.std.specs.Prelude.{⊤, slice_get}
 use Rattle.std.specs.List.{AllByRecursion}
-use Rattle.std.specs.Option.{option_map_or, option_flatten}
+use Rattle.std.specs.Option.{option_map_or}
 use Rattle.std.proofs.lemmas.Bool.{and_parts, not-false, ltb-false}
 use Rattle.dom_base.specs.declared.Kind.TheVariants.{Document, Fragment, Element, Text, Comment}
 use Rattle.dom_base.specs.declared.NodeName.{NodeName}
@@ -12,8 +11,8 @@ use Rattle.dom_model.specs.Changes.{observed}
 use Rattle.dom_model.specs.Command.{Command, part_refusal, effect}
 use Rattle.dom_model.specs.CommandNames.{named}
 use Rattle.dom_model.specs.CommandRefusals.{past_end, of_range}
-use Rattle.dom_model.specs.Effects.{Effect, tables, changes, answers, moves_iterator, sets_walker, node_or_null, with_range, collapsed_to}
-use Rattle.dom_model.specs.Effects.{new_node, new_document_of}
+use Rattle.dom_model.specs.Effects.{Effect, tables, changes, answers, moves_iterator, sets_walker, node_or_null, with_range, collapsed_to, new_node}
+use Rattle.dom_model.specs.Effects.{new_document_of}
 use Rattle.dom_model.specs.Extract.{both_at}
 use Rattle.dom_model.specs.Names.{name_eq}
 use Rattle.dom_model.specs.Output.{Value, nothing, a_node, a_string, boundaries, reference}
@@ -27,13 +26,12 @@ use Rattle.dom_model.specs.Tree.{Trees, Node, kind_of, has_data, is_text, child_
 use Rattle.dom_model.specs.Validity.{first_refusal, has_parent, may_be_parent, placing_tests, insertion_refusal, replacement_refusal}
 use Rattle.dom_model.proofs.KindLaws.{parent-open}
 use Rattle.dom_worlds.specs.Worlds.{IsPart}
-use Rattle.dom_worlds.proofs.Acceptance.{next-test, part-accepted}
+use Rattle.dom_worlds.proofs.Effects.{next-test, part-accepted}
 use Rattle.dom_worlds.proofs.Bounds.{Under, RangeUnder, reach, nowhere, HasRoom, room-make}
-use Rattle.dom_worlds.proofs.Lists.{all-append, all-set}
-use Rattle.dom_worlds.proofs.PlanBounds.{room-removing, room-adopting, room-inserting, room-replacing, room-setting_attribute}
-use Rattle.dom_worlds.proofs.PlanBounds.{room-unsetting_attribute, room-replacing_data}
+use Rattle.dom_worlds.proofs.Lists.{all-append, all-set, either_way, at-each, by_some_is}
+use Rattle.dom_worlds.proofs.RangeBounds.{room-removing, room-adopting, room-inserting, room-replacing, room-setting_attribute, room-unsetting_attribute}
+use Rattle.dom_worlds.proofs.RangeBounds.{room-replacing_data}
 use Rattle.dom_worlds.proofs.TableCommands.{named-may, insertion-apart, replacement-apart, exists-first, exists-second}
-use Rattle.dom_worlds.proofs.Tests.{either_way}
 use Rattle.dom_worlds.proofs.TextBounds.{text-data, room-splitting, room-normalizing, room-setting_text}
 
 -- what an effect leaves
@@ -68,14 +66,7 @@ room-range p k r h u = record { bounds = all-set (RangeUnder (reach nowhere p)) 
 
 -- a range that is looked up
 pub under-at : (p : Part) (k : ℕ) → HasRoom nowhere p → RangeUnder (reach nowhere p) (range_at p k)
-under-at p k h = each p.ranges k h.bounds
-  where
-    each : (rs : List (Option (Range NodeName))) (k : ℕ) → AllByRecursion (RangeUnder (reach nowhere p)) rs →
-        RangeUnder (reach nowhere p) (option_flatten (slice_get rs k))
-    each [] k g = tt
-    each (None ∷ rs) zero g = tt
-    each (Some r ∷ rs) zero g = g.0
-    each (r ∷ rs) (suc k) g = each rs k g.1
+under-at p k h = at-each (RangeUnder (reach nowhere p)) tt p.ranges k h.bounds
 
 -- with other ends
 under-mapped : (c : NodeName → ℕ) (f : Range NodeName → Range NodeName) →
@@ -128,11 +119,10 @@ room-walker p k w (Some x) v h = room-same p _ refl refl h
 -- a plan for a range
 pub range-room : (p : Part) (k : ℕ) (f : Range NodeName → List Step) → HasRoom nowhere p →
     ((range : Range NodeName) → range_at p k ≡ Some range → HasRoom nowhere (after p (f range))) → HasRoom nowhere (after p (of_range p k [] f))
-range-room p k f h g = from (range_at p k) refl
-  where
-    from : (o : Option (Range NodeName)) → range_at p k ≡ o → HasRoom nowhere (after p (of_range p k [] f))
-    from None e = subst (λ o. HasRoom nowhere (after p (option_map_or f o []))) (sym e) h
-    from (Some range) e = subst (λ o. HasRoom nowhere (after p (option_map_or f o []))) (sym e) (g range e)
+range-room p k f h g =
+    by_some_is (λ (o : Option (Range NodeName)). HasRoom nowhere (after p (of_range p k [] f))) (range_at p k)
+    (λ e. subst (λ o. HasRoom nowhere (after p (option_map_or f o []))) (sym e) h)
+    (λ range e. subst (λ o. HasRoom nowhere (after p (option_map_or f o []))) (sym e) (g range e))
 
 -- What is shown elsewhere of the commands that take or fill the contents of a range.
 abbrev pub ForRanges : Part → Command → Type 0

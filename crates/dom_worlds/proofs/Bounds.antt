@@ -14,19 +14,18 @@ use Rattle.dom_model.specs.Place.{Boundary}
 use Rattle.dom_model.specs.Ranges.{Range, at, map_ends, boundary_eq, after_insert, after_removal, after_replace_data, after_split, after_join}
 use Rattle.dom_model.specs.Output.{Change}
 use Rattle.dom_model.specs.Part.{Part, next_name}
-use Rattle.dom_model.specs.Steps.{make, make_room, place, take_out, set_document, set_attribute, replace_data, split_at, join_at, set_range}
-use Rattle.dom_model.specs.Steps.{queue_record, part_step, leave}
+use Rattle.dom_model.specs.Steps.{make, make_room, place, take_out, set_document, set_attribute, replace_data, split_at, join_at, set_range, queue_record}
+use Rattle.dom_model.specs.Steps.{part_step, leave}
 use Rattle.dom_model.proofs.OwnerLaws.{name_eq-true, name_eq-turned}
 use Rattle.dom_worlds.specs.Worlds.{IsPart}
 use Rattle.dom_worlds.proofs.Insides.{CanPlace, unique-taken_out}
 use Rattle.dom_worlds.proofs.ChildCounts.{kids, kids-absent, one_at, kids-taken_out, kids-placed, kids-with_node, kids-map_nodes, index-below}
-use Rattle.dom_worlds.proofs.NodesRead.{node-taken_out, node-placed, node-with_node, node-map_nodes, length-data, length-kids, length-absent}
-use Rattle.dom_worlds.proofs.Lists.{all-then, all-map, all-set}
-use Rattle.dom_worlds.proofs.PartSteps.{KeepsNames, some-keeps, attribute-keeps, part-step}
+use Rattle.dom_worlds.proofs.Roots.{node-taken_out, node-placed, node-with_node, node-map_nodes, length-data, length-kids, length-absent}
+use Rattle.dom_worlds.proofs.Lists.{all-then, all-map, all-set, by_cases, either_way, which_way, by_some_is}
+use Rattle.dom_worlds.proofs.PartSteps.{KeepsNames, some-keeps, attribute-keeps, part-step, attribute_put, document_put}
 use Rattle.dom_worlds.proofs.PlanTexts.{next-not}
 use Rattle.dom_worlds.proofs.ShadowRoots.{found-absent}
 use Rattle.dom_worlds.proofs.TableSteps.{HasNode}
-use Rattle.dom_worlds.proofs.Tests.{by_cases, either_way, which_way}
 use Rattle.dom_laws.proofs.Counts.{Once, by_times}
 use Rattle.dom_worlds.proofs.TreeChangeLaws.{HasRoot}
 
@@ -192,7 +191,7 @@ some-text test f h n = either_way (λ (m : Node). m.text ≡ n.text) (test n) (f
 pub room-document : (e : NodeName → ℕ) (p : Part) (x d : NodeName) → IsPart p → HasRoom e p → HasRoom e (part_step p (set_document x d))
 room-document e p x d i h =
     let test = λ (n : Node). is_in name_eq n.name (inclusive_descendants p.trees x) in
-    room-mapped (λ n. if is_in name_eq n.name (inclusive_descendants p.trees x) then with_document d n else n)
+    room-mapped (document_put p.trees x d)
     (some-keeps test (with_document d) (λ n. (refl, refl))) (some-text test (with_document d) (λ n. refl)) i h
 
 -- attributes are no text
@@ -205,7 +204,7 @@ pub room-attribute : {e : NodeName → ℕ} {p : Part} (x : NodeName) (a : Word)
     HasRoom e (part_step p (set_attribute x a v))
 room-attribute {e} {p} x a v i h =
     let test = λ (n : Node). name_eq n.name x in
-    room-mapped (λ n. if name_eq n.name x then with_attribute a v n else n) (some-keeps test (with_attribute a v) (attribute-keeps a v))
+    room-mapped (attribute_put x a v) (some-keeps test (with_attribute a v) (attribute-keeps a v))
     (some-text test (with_attribute a v) (attribute-text a v)) i h
 
 -- a record
@@ -275,11 +274,8 @@ room-left {e} {p} {parent} x g i h =
 
 -- of a node with a parent
 pub room-take : (e : NodeName → ℕ) (p : Part) (x : NodeName) → IsPart p → HasRoom e p → HasRoom e (part_step p (take_out x))
-room-take e p x i h = from (parent_of p.trees x) refl
-  where
-    from : (o : Option NodeName) → parent_of p.trees x ≡ o → HasRoom e (option_map_or (leave p x) o p)
-    from None g = h
-    from (Some parent) g = room-left x g i h
+room-take e p x i h =
+    by_some_is (λ (o : Option NodeName). HasRoom e (option_map_or (leave p x) o p)) (parent_of p.trees x) (λ g. h) (λ parent g. room-left x g i h)
 
 -- Data.
 pub length-replaced : (offset count : ℕ) (new old : DomString) →
@@ -305,7 +301,7 @@ room-replace {e} {p} x offset most new k w =
     let v : Once us = λ y. let o = w.part.unique y in let s = Rattle.dom_worlds.proofs.TreeChangeLaws.times-map_nodes f named ts y in omega arith in
     let same = λ (y : NodeName) (g : HasNode p y). node-map_nodes f named ts y g in
     let there = data-there ts x k in
-    let name = Rattle.dom_worlds.proofs.NodeKinds.name-node_in ts x in
+    let name = Rattle.dom_worlds.proofs.PartSteps.name-node_in ts x in
     let now : node_in us x ≡ with_data_replaced offset count new (node_in ts x) =
     same x there ∙ cond-true (name_eq (node_in ts x).name x) (with_data_replaced offset count new (node_in ts x)) (node_in ts x)
     (ap (λ z. name_eq z x) name ∙ Rattle.dom_model.proofs.OwnerLaws.name_eq-same x) in
@@ -317,7 +313,7 @@ room-replace {e} {p} x offset most new k w =
     λ y g. by_times (times_in ts y) (λ a. let l = length-absent ts y w.part.unique a in omega arith)
     (λ t. let other : node_in us y ≡ node_in ts y =
     same y t ∙ cond-false (name_eq (node_in ts y).name x) (with_data_replaced offset count new (node_in ts y)) (node_in ts y)
-    (ap (λ z. name_eq z x) (Rattle.dom_worlds.proofs.NodeKinds.name-node_in ts y) ∙ name_eq-turned y x ∙ g) in
+    (ap (λ z. name_eq z x) (Rattle.dom_worlds.proofs.PartSteps.name-node_in ts y) ∙ name_eq-turned y x ∙ g) in
     let l = length-like ts us y w.part.unique v
     (record { kind = ap (λ (n : Node). n.kind) other; text = ap (λ (n : Node). n.text) other; count = kids-map_nodes f named ts y }) in omega arith) in
     let d : NodeName → ℕ = λ y. length_of us y + e y in

@@ -1,27 +1,27 @@
--- The chain of hosts of a node: each node but the last is in a shadow tree and one deeper than the next, the host of its root; the
--- last one is in no shadow tree. So what is hidden goes by the roots of the chain.
-use Rattle.std.proofs.Common.{◌≡◌, ◌≢◌, ℕ, zero, suc, ◌≤◌, ◌<◌, Bool, true, false, not, ◌&&◌, ◌||◌, List, [], ◌∷◌, ◌++◌, map, flat_map, Option, Some}
-use Rattle.std.proofs.Common.{None, unwrap_or, refl, sym, ap, ◌∙◌, arith, true≢false, subst, append-nil}
-use Rattle.std.specs.Prelude.{IsTrue, is_some, option_to_list}
+-- The chain of hosts around a node: it ends, and what is hidden from a node goes by it.
+use Rattle.std.proofs.Common.{◌≡◌, ◌≢◌, ℕ, zero, suc, ◌≤◌, ◌<◌, Bool, true, false, not, ◌&&◌, ◌||◌, List, [], ◌∷◌, ◌++◌, map, flat_map, Option, Some, None}
+use Rattle.std.proofs.Common.{unwrap_or, refl, sym, ap, ◌∙◌, arith, true≢false, subst, append-nil, find}
+use Rattle.std.specs.Prelude.{IsTrue, is_some, option_to_list, if◌then◌else◌}
 use Rattle.std.specs.List.{AllByRecursion, last_or}
-use Rattle.std.specs.Option.{option_and_then}
+use Rattle.std.specs.Option.{option_and_then, option_map_or}
 use Rattle.dom_base.specs.declared.Owner.{Owner}
 use Rattle.dom_base.specs.declared.NodeName.{NodeName}
 use Rattle.dom_model.specs.Names.{name_eq, owner_eq, owner_depth, is_in}
 use Rattle.dom_model.specs.Tree.{names_of, roots, root_of, times_in}
-use Rattle.dom_model.specs.World.{World, part_of, trees_with, root_at, ancestors_at, host_of, host_above, host_chain, hosts_from, some_if}
-use Rattle.dom_model.specs.World.{shadow_root_of, shadow_including_ancestors, is_in_shadow_tree}
-use Rattle.dom_model.specs.Paths.{is_hidden_from}
+use Rattle.dom_model.specs.World.{World, part_of, trees_with, root_at, ancestors_at, host_of, host_above, host_chain, hosts_from, some_if, shadow_root_of}
+use Rattle.dom_model.specs.World.{shadow_including_ancestors, is_in_shadow_tree}
+use Rattle.dom_model.specs.Paths.{is_hidden_from, retarget}
 use Rattle.dom_model.proofs.OwnerLaws.{owner_eq-true, owner_eq-same, ne-owner_eq, name_eq-same, made_by-is, depth-made, name_eq-true}
 use Rattle.dom_worlds.specs.Worlds.{IsWorld, IsOf}
 use Rattle.dom_worlds.proofs.ShadowTrees.{IsInTree, in_tree, ancestors-owned, not_in}
-use Rattle.dom_worlds.proofs.Lists.{all-then}
-use Rattle.dom_worlds.proofs.Makers.{hosted, hosted-owned, hosted-no_page}
+use Rattle.dom_worlds.proofs.Lists.{all-then, by_cases, by_some_is}
+use Rattle.dom_worlds.proofs.Owners.{hosted, hosted-owned, hosted-no_page}
 use Rattle.dom_worlds.proofs.ReachedFacts.{root-alone}
-use Rattle.dom_worlds.proofs.Tests.{by_cases}
 use Rattle.dom_worlds.proofs.Trees.{ancestors-root, root-there, ancestors-present, all-in, last_from, last-is, last-in}
 use Rattle.dom_laws.proofs.Counts.{by_times}
 use Rattle.dom_laws.proofs.Paths.{path_none}
+use Rattle.std.proofs.lemmas.Bool.{cond-true, cond-false}
+use Rattle.dom_worlds.specs.Sights.{is_within, HiddenByRoots, RetargetedByRoots}
 
 -- the last of an owner's nodes is the owner's
 last-owned : (x : NodeName) (d : Option NodeName) (xs : List NodeName) → (unwrap_or d x).owner ≡ x.owner → AllByRecursion (IsOf x.owner) xs →
@@ -73,11 +73,6 @@ below-host w i x host h =
 pub hosts-alone : (depth : ℕ) (w : World) (x : NodeName) → host_above w x ≡ None → hosts_from depth w x ≡ x ∷ []
 hosts-alone zero w x h = refl
 hosts-alone (suc depth) w x h = ap (λ o. x ∷ flat_map (hosts_from depth w) (option_to_list o)) h
-
--- where there is none
-pub no_host : (o : Option NodeName) → is_some o ≡ false → o ≡ None
-no_host None h = refl
-no_host (Some x) h = absurd (true≢false h)
 
 -- and one below a host comes before the host's chain
 pub chain-below : (w : World) (x host : NodeName) → IsBelow w x host → host_chain w x ≡ x ∷ host_chain w host
@@ -131,16 +126,13 @@ chain-shallow w i x = let k = has-chain w i x in subst (AllByRecursion (λ y. ow
 
 -- a name without a node has no host above it
 pub absent-host : (w : World) → IsWorld w → (x : NodeName) → times_in (trees_with w x) x ≡ 0 → host_above w x ≡ None
-absent-host w i x z = from (host_above w x) refl
-  where
-    from : (o : Option NodeName) → host_above w x ≡ o → host_above w x ≡ None
-    from None e = e
-    from (Some host) e =
-        let at = above-host w x host e in
-        let root : root_at w x ≡ x = ap (λ p. unwrap_or (last_or None p) x) (path_none (trees_with w x) x z) in
-        let there = root-there (trees_with w x) (shadow_root_of x.owner) (i.shadow_roots x.owner (ap is_some at.0)).alone in
-        let same : times_in (trees_with w x) (shadow_root_of x.owner) ≡ 0 = ap (times_in (trees_with w x)) (sym at.1 ∙ root) ∙ z in
-        absurd (omega (arith, there, same))
+absent-host w i x z =
+    by_some_is (λ (o : Option NodeName). host_above w x ≡ None) (host_above w x) (λ e. e)
+    (λ host e. let at = above-host w x host e in
+    let root : root_at w x ≡ x = ap (λ p. unwrap_or (last_or None p) x) (path_none (trees_with w x) x z) in
+    let there = root-there (trees_with w x) (shadow_root_of x.owner) (i.shadow_roots x.owner (ap is_some at.0)).alone in
+    let same : times_in (trees_with w x) (shadow_root_of x.owner) ≡ 0 = ap (times_in (trees_with w x)) (sym at.1 ∙ root) ∙ z in
+    absurd (omega (arith, there, same)))
 
 -- What is hidden. First, names of two owners differ,
 pub other-owner : (x y : NodeName) → x.owner ≢ y.owner → name_eq x y ≡ false
@@ -237,3 +229,54 @@ hidden-deeper w i x y t h =
         other-owner (root_at w y) (root_at w z)
         (λ e. let same = ap owner_depth (sym (root-owned w i y) ∙ e ∙ root-owned w i z) in let shallow = g.0 in absurd (omega (arith, h, same, shallow))) in
         ap (λ b. b || is_in name_eq (root_at w y) (map (root_at w) xs)) other ∙ absent xs g.1
+
+-- a node is hidden from another one where it is in a shadow tree, in which neither that one is nor any host further out
+pub hidden-by_roots : HiddenByRoots
+hidden-by_roots b w r x y = hidden-by_chain w r.world x y
+
+-- whether a node can be seen from another one
+abbrev is_seen : World → NodeName → NodeName → Bool
+is_seen w x z = not (is_hidden_from w x z)
+
+-- the last one of a chain can be seen from everywhere, so some one can
+some-seen : (w : World) → IsWorld w → (x a : NodeName) → is_some (find (is_seen w x) (host_chain w a)) ≡ true
+some-seen w i x a =
+    let k = has-chain w i a in
+    let last : is_seen w x k.last ≡ true =
+    ap not (hidden-by_chain w i x k.last ∙ ap (λ (o : Option NodeName). is_some o && not (is_within w x k.last)) k.out) in
+    ap (λ ys. is_some (find (is_seen w x) ys)) k.chain ∙ found k.inner k.last last
+  where
+    found : (ys : List NodeName) (z : NodeName) → is_seen w x z ≡ true → is_some (find (is_seen w x) (ys ++ z ∷ [])) ≡ true
+    found [] z h = ap is_some (cond-true (is_seen w x z) (Some z) None h)
+    found (y ∷ ys) z h =
+        by_cases (is_seen w x y) (λ t. ap is_some (cond-true (is_seen w x y) (Some y) (find (is_seen w x) (ys ++ z ∷ [])) t))
+        (λ t. ap is_some (cond-false (is_seen w x y) (Some y) (find (is_seen w x) (ys ++ z ∷ [])) t) ∙ found ys z h)
+
+-- which is the same, whatever there would be in place of it
+same-default : (o : Option NodeName) (a z : NodeName) → is_some o ≡ true → unwrap_or o a ≡ unwrap_or o z
+same-default None a z h = cc
+same-default (Some y) a z h = refl
+
+-- retargeting, by the roots
+pub retarget-by_roots : RetargetedByRoots
+retarget-by_roots b w r a x = by_host (host_above w a) refl
+  where
+    first : (rest : List NodeName) → is_hidden_from w x a ≡ false → host_chain w a ≡ a ∷ rest → retarget w a x ≡ a
+    first rest e chain =
+        ap (λ ys. unwrap_or (find (is_seen w x) ys) a) chain ∙
+        ap (λ o. unwrap_or o a) (cond-true (is_seen w x a) (Some a) (find (is_seen w x) rest) (ap not e))
+
+    by_host : (o : Option NodeName) → host_above w a ≡ o →
+        retarget w a x ≡ option_map_or (λ host. if is_within w x a then a else retarget w host x) o a
+    by_host None e = first [] (hidden-by_roots b w r x a ∙ ap (λ (o : Option NodeName). is_some o && not (is_within w x a)) e)
+        (hosts-alone (owner_depth a.owner) w a e)
+    by_host (Some host) e =
+        let chain = chain-below w a host (below-host w r.world a host e) in
+        let hidden : is_hidden_from w x a ≡ not (is_within w x a) =
+        hidden-by_roots b w r x a ∙ ap (λ (o : Option NodeName). is_some o && not (is_within w x a)) e in
+        by_cases (is_within w x a)
+        (λ t. first (host_chain w host) (hidden ∙ ap not t) chain ∙ sym (cond-true (is_within w x a) a (retarget w host x) t))
+        (λ t. ap (λ ys. unwrap_or (find (is_seen w x) ys) a) chain
+        ∙ ap (λ o. unwrap_or o a) (cond-false (is_seen w x a) (Some a) (find (is_seen w x) (host_chain w host)) (ap not (hidden ∙ ap not t)))
+        ∙ same-default (find (is_seen w x) (host_chain w host)) a host (some-seen w r.world x host)
+        ∙ sym (cond-false (is_within w x a) a (retarget w host x) t))

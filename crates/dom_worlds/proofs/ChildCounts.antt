@@ -1,6 +1,6 @@
 -- How many children nodes have, and what the elementary changes do to that and to the nodes themselves.
-use Rattle.std.proofs.Common.{◌≡◌, ℕ, ◌+◌, ◌≤◌, ◌<◌, Bool, true, false, List, [], ◌∷◌, ◌++◌, length, Option, Some, None, refl, sym, ap, ◌∙◌, arith}
-use Rattle.std.proofs.Common.{true≢false, subst, drop}
+use Rattle.std.proofs.Common.{◌≡◌, ℕ, ◌+◌, ◌≤◌, ◌<◌, Bool, true, false, List, [], ◌∷◌, ◌++◌, length, Option, Some, None, refl, sym, ap, ◌∙◌, arith, true≢false}
+use Rattle.std.proofs.Common.{subst, drop}
 use Rattle.std.specs.Prelude.{if◌then◌else◌}
 use Rattle.std.specs.Option.{option_map_or}
 use Rattle.std.proofs.lemmas.Bool.{cond-true, cond-false}
@@ -12,10 +12,9 @@ use Rattle.dom_model.specs.TreeChanges.{followed_by, without, put_before, put_be
 use Rattle.dom_model.proofs.OwnerLaws.{name_eq-same, name_eq-turned, name_eq-true}
 use Rattle.dom_worlds.proofs.Insides.{CanPlace, times-inside, times-parted, without-absent, or_else-none}
 use Rattle.dom_worlds.proofs.InsideAncestors.{parent-there, no_parent-root}
-use Rattle.dom_worlds.proofs.Tests.{by_cases, or-later}
-use Rattle.dom_worlds.proofs.TreeChangeLaws.{put_where, where-here, where-later, put_before-where, put_root-where, HasRoot, without-here}
-use Rattle.dom_worlds.proofs.TreeChangeLaws.{without-elsewhere, subtree-here, subtree-elsewhere, put_below-here, put_below-elsewhere}
-use Rattle.dom_worlds.proofs.TreeChangeLaws.{put_below-absent}
+use Rattle.dom_worlds.proofs.Lists.{by_cases, or-later}
+use Rattle.dom_worlds.proofs.TreeChangeLaws.{put_where, where-here, where-later, put_before-where, put_root-where, HasRoot, without-here, without-elsewhere}
+use Rattle.dom_worlds.proofs.TreeChangeLaws.{subtree-here, subtree-elsewhere, put_below-here, put_below-elsewhere, put_below-absent}
 use Rattle.dom_laws.proofs.Counts.{once_parts, Once, by_times, times-here, times-elsewhere, times-more}
 use Rattle.dom_laws.proofs.Paths.{subtree_gone, path_none}
 use Rattle.dom_worlds.proofs.Trees.{root-there, ancestors-present}

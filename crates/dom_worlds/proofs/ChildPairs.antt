@@ -1,12 +1,12 @@
 -- Which node is a child of which, counted, through the elementary changes.
-use Rattle.std.proofs.Common.{◌≡◌, ℕ, ◌+◌, ◌≤◌, Bool, true, false, List, [], ◌∷◌, ◌++◌, length, Option, Some, refl, sym, ap, ◌∙◌, arith, true≢false}
-use Rattle.std.proofs.Common.{subst, drop}
+use Rattle.std.proofs.Common.{◌≡◌, ℕ, ◌+◌, ◌≤◌, Bool, true, false, List, [], ◌∷◌, ◌++◌, length, Option, Some, refl, sym, ap, ◌∙◌, arith, true≢false, subst}
+use Rattle.std.proofs.Common.{drop}
 use Rattle.std.specs.Prelude.{if◌then◌else◌}
 use Rattle.std.specs.List.{AllByRecursion}
 use Rattle.std.proofs.lemmas.Bool.{cond-true, cond-false}
 use Rattle.dom_base.specs.declared.NodeName.{NodeName}
-use Rattle.dom_model.specs.Tree.{times_in, Trees, none, tree, Node, names_of, roots, subtree, or_else, trees_below, children_of, parent_of}
-use Rattle.dom_model.specs.Tree.{inclusive_ancestors, on_top}
+use Rattle.dom_model.specs.Tree.{times_in, Trees, none, tree, Node, names_of, roots, subtree, or_else, trees_below, children_of, parent_of, inclusive_ancestors}
+use Rattle.dom_model.specs.Tree.{on_top}
 use Rattle.dom_model.specs.Names.{name_eq, is_in, first_of}
 use Rattle.dom_model.specs.TreeChanges.{followed_by, without, put_before, put_below, put_root, taken_out, placed, with_node, map_nodes}
 use Rattle.dom_model.proofs.OwnerLaws.{name_eq-same, name_eq-turned, name_eq-true}
@@ -14,8 +14,7 @@ use Rattle.dom_worlds.specs.Worlds.{times_among}
 use Rattle.dom_worlds.proofs.Insides.{CanPlace, times-inside, times-parted, without-absent, or_else-none}
 use Rattle.dom_worlds.proofs.ChildCounts.{rooted, kids}
 use Rattle.dom_worlds.proofs.ReachedFacts.{root-alone}
-use Rattle.dom_worlds.proofs.Lists.{all-then}
-use Rattle.dom_worlds.proofs.Tests.{by_cases, or-later}
+use Rattle.dom_worlds.proofs.Lists.{all-then, by_cases, or-later}
 use Rattle.dom_worlds.proofs.TreeChangeLaws.{put_where, where-here, where-later, put_before-where, put_root-where, HasRoot, root-first, root-second}
 use Rattle.dom_worlds.proofs.TreeChangeLaws.{without-here, without-elsewhere, subtree-here, subtree-elsewhere, put_below-here, put_below-elsewhere}
 use Rattle.dom_worlds.proofs.TreeChangeLaws.{put_below-absent}

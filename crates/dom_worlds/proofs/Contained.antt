@@ -1,7 +1,7 @@
 -- What the start of a range does not come before: its start node with the first children, or a node above it with those up to
 -- the one that holds the start.
-use Rattle.std.proofs.Common.{zero, suc, ◌≡◌, ◌≤◌, ◌<◌, ℕ, ◌+◌, ◌*◌, Bool, true, false, ◌&&◌, ◌||◌, eqb, List, [], ◌∷◌, ◌++◌, map, take, Some, None}
-use Rattle.std.proofs.Common.{option_map, unwrap_or, refl, sym, ap, ◌∙◌, arith, true≢false, subst}
+use Rattle.std.proofs.Common.{zero, suc, ◌≡◌, ◌≤◌, ◌<◌, ℕ, ◌+◌, ◌*◌, Bool, true, false, ◌&&◌, ◌||◌, eqb, List, [], ◌∷◌, ◌++◌, map, take, Some, None, option_map}
+use Rattle.std.proofs.Common.{unwrap_or, refl, sym, ap, ◌∙◌, arith, true≢false, subst}
 use Rattle.std.specs.Prelude.{nat_lt, ◌==◌}
 use Rattle.std.specs.List.{AllByRecursion}
 use Rattle.std.specs.Option.{option_or}
@@ -17,10 +17,9 @@ use Rattle.dom_worlds.proofs.Descents.{ancestor-inside}
 use Rattle.dom_worlds.proofs.Insides.{or_else-none}
 use Rattle.dom_worlds.proofs.InsideAncestors.{child-there, parent-there}
 use Rattle.dom_worlds.proofs.ChildCounts.{root-below}
-use Rattle.dom_worlds.proofs.Lists.{all-then}
+use Rattle.dom_worlds.proofs.Lists.{all-then, by_cases, or-later}
 use Rattle.dom_worlds.proofs.Roots.{self-above, parent-above}
 use Rattle.dom_worlds.proofs.TableRecords.{inside-alone, above-above}
-use Rattle.dom_worlds.proofs.Tests.{by_cases, or-later}
 use Rattle.dom_worlds.proofs.TreeChangeLaws.{HasRoot, subtree-here, subtree-elsewhere, times-below}
 use Rattle.dom_laws.proofs.Counts.{Once, by_times, times-here, times-elsewhere, times-more, times_subtree}
 use Rattle.dom_laws.proofs.Paths.{subtree_gone}

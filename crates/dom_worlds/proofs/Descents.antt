@@ -10,13 +10,12 @@ use Rattle.dom_model.specs.Tree.{Trees, none, tree, Node, nodes, names_of, roots
 use Rattle.dom_model.specs.Tree.{inclusive_descendants, is_inclusive_ancestor, on_top}
 use Rattle.dom_model.specs.TreeChanges.{without, put_before, put_below, placed, with_node}
 use Rattle.dom_model.proofs.OwnerLaws.{name_eq-same, name_eq-turned, name_eq-true}
-use Rattle.dom_worlds.proofs.Lists.{all-then, all-append}
-use Rattle.dom_worlds.proofs.Tests.{by_cases, or-later}
+use Rattle.dom_worlds.proofs.Lists.{all-then, all-append, by_cases, or-later}
 use Rattle.dom_laws.proofs.Counts.{Once, by_times, times-here, times-elsewhere, times-more, times-parts, times_subtree}
 use Rattle.dom_laws.proofs.Paths.{subtree_gone, path_none}
 use Rattle.dom_worlds.proofs.Trees.{root-there, nodes-there, ancestors-present}
-use Rattle.dom_worlds.proofs.TreeChangeLaws.{HasRoot, without-here, without-elsewhere, subtree-here, subtree-elsewhere, put_below-here}
-use Rattle.dom_worlds.proofs.TreeChangeLaws.{put_below-elsewhere, put_below-absent, times-put_before}
+use Rattle.dom_worlds.proofs.TreeChangeLaws.{HasRoot, without-here, without-elsewhere, subtree-here, subtree-elsewhere, put_below-here, put_below-elsewhere}
+use Rattle.dom_worlds.proofs.TreeChangeLaws.{put_below-absent, times-put_before}
 use Rattle.dom_worlds.proofs.Insides.{CanPlace, inside, inside-here, inside-elsewhere, inside-times, inside-absent, times-inside, inside-put_root}
 use Rattle.dom_worlds.proofs.Insides.{inside-put_before, without-absent, or_else-none, times-put_below_all, times-parted}
 use Rattle.dom_worlds.proofs.InsideAncestors.{inside-no_ancestor}

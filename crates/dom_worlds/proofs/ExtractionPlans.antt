@@ -1,6 +1,5 @@
 -- Extractions of a range whose ends are in one tree keep all ends of ranges within their nodes.
-use Rattle.std.proofs.Common.{◌≡◌, ◌≤◌, ℕ, ◌-◌, true, false, not, ◌&&◌, List, [], ◌∷◌, ◌++◌, length, None, refl, sym, ap, ◌∙◌, arith}
-use Rattle.std.proofs.Common.{true≢false, subst}
+use Rattle.std.proofs.Common.{◌≡◌, ◌≤◌, ℕ, ◌-◌, true, false, not, ◌&&◌, List, [], ◌∷◌, ◌++◌, length, None, refl, sym, ap, ◌∙◌, arith, true≢false, subst}
 use Rattle.std.specs.Prelude.{if◌then◌else◌}
 use Rattle.std.proofs.lemmas.Bool.{cond-true, and_parts, not-true}
 use Rattle.dom_base.specs.declared.NodeName.{NodeName}
@@ -21,28 +20,24 @@ use Rattle.dom_worlds.proofs.Bounds.{nowhere, HasRoom, room-make}
 use Rattle.dom_worlds.proofs.Bounds as bounds
 use Rattle.dom_worlds.proofs.Contained.{IsSpared}
 use Rattle.dom_worlds.proofs.Descents.{inside-ancestor, inside-below}
-use Rattle.dom_worlds.proofs.FitPieces.{IsClonable, common_below, fit-apart, fit-pieces}
+use Rattle.dom_worlds.proofs.ShadowRoots.{IsClonable, common_below, fit-apart, fit-pieces}
 use Rattle.dom_worlds.proofs.Insides.{inside, inside-here, inside-without}
 use Rattle.dom_worlds.proofs.ChildCounts.{kids}
 use Rattle.dom_worlds.proofs.Plans.{AreFit}
-use Rattle.dom_worlds.proofs.Roots.{above-parent}
+use Rattle.dom_worlds.proofs.Roots.{above-parent, length-data, node-with_node, node-new, read-all}
 use Rattle.dom_worlds.proofs.TableRecords.{above-above}
-use Rattle.dom_worlds.proofs.NodesRead.{length-data, node-with_node, node-new, read-all}
-use Rattle.dom_worlds.proofs.Lists.{all-then}
+use Rattle.dom_worlds.proofs.Lists.{all-then, by_cases, either_way, which_way}
 use Rattle.dom_worlds.proofs.PartSteps.{next-absent}
-use Rattle.dom_worlds.proofs.PlanBounds.{room-then, IsOpen}
+use Rattle.dom_worlds.proofs.RangeBounds.{room-then, IsOpen, AreChildren, Misses, IsData, IsOpenIn, fits-still, room-taking}
 use Rattle.dom_worlds.proofs.PlacedBounds.{texts-inserting}
 use Rattle.dom_worlds.proofs.PlanPlaces.{Changed, MayGo, still, after-append, leads-one, leads-inserting}
 use Rattle.dom_worlds.proofs.PlanTexts.{new-there, next-not, new-may}
 use Rattle.dom_worlds.proofs.PlanContents.{CanTake, OldIn, old-there, whole-then, leads-making_below, pieces-there, leads-taking}
 use Rattle.dom_worlds.proofs.PlanChildren.{IsChild, IsNot, child-make, child-parent}
-use Rattle.dom_worlds.proofs.RangeBounds.{AreChildren, Misses, IsData, IsOpenIn, fits-still, room-taking}
-use Rattle.dom_worlds.proofs.RangeEnds.{room-at, above-kids, room-place_new}
+use Rattle.dom_worlds.proofs.RangePlans.{room-at, above-kids, room-place_new, IsProper, zero_one, data-left, early-not, room-last}
 use Rattle.dom_worlds.proofs.TableSteps.{HasNode}
-use Rattle.dom_worlds.proofs.Tests.{by_cases, either_way, which_way}
 use Rattle.dom_worlds.proofs.TreeChangeLaws.{nodes-subtree, nodes-then, nodes-named}
 use Rattle.dom_laws.proofs.Counts.{Once}
-use Rattle.dom_worlds.proofs.RangePlans.{IsProper, zero_one, data-left, early-not, room-last}
 
 -- Extraction. Each node of the trees is there, and is the one that is read under its name.
 all-read : (ts : Trees) → Once ts → AllNodes (λ n. (1 ≤ times_in ts n.name) × (n ≡ node_in ts n.name)) ts

@@ -1,6 +1,6 @@
--- The path of an event goes from each node to its event parent.
-use Rattle.std.proofs.Common.{zero, suc, ◌≡◌, ◌≤◌, ◌<◌, ◌+◌, ℕ, Bool, true, false, not, ◌||◌, List, [], ◌∷◌, ◌++◌, drop, flat_map, unwrap_or, Option}
-use Rattle.std.proofs.Common.{Some, None, refl, sym, ap, ◌∙◌, arith, true≢false, subst, append-nil}
+-- The whole path of a node is its orbit under the event parent.
+use Rattle.std.proofs.Common.{zero, suc, ◌≡◌, ◌≤◌, ◌<◌, ◌+◌, ℕ, Bool, true, false, not, ◌||◌, List, [], ◌∷◌, ◌++◌, drop, flat_map, unwrap_or, Option, Some}
+use Rattle.std.proofs.Common.{None, refl, sym, ap, ◌∙◌, arith, true≢false, subst, append-nil}
 use Rattle.std.specs.Prelude.{if◌then◌else◌, IsTrue, is_some, option_to_list}
 use Rattle.std.specs.List.{AllByRecursion}
 use Rattle.std.specs.Option.{option_or, option_and_then}
@@ -11,26 +11,27 @@ use Rattle.dom_base.specs.declared.NodeName.{NodeName}
 use Rattle.dom_base.specs.declared.Owner.{Owner}
 use Rattle.dom_base.specs.declared.Owner.TheVariants.{Page, Component}
 use Rattle.dom_model.specs.Names.{name_eq, first_of, last_of, owner_depth, max_depth}
-use Rattle.dom_model.specs.Paths.{with_slots, way_up, event_parent}
+use Rattle.dom_model.specs.Paths.{with_slots, way_up, event_parent, FollowsParents}
 use Rattle.dom_model.specs.Slots.{slot_in, slot_of}
 use Rattle.dom_model.specs.Tree.{Trees, is_shadow, inclusive_ancestors, parent_of, root_of, times_in}
 use Rattle.dom_model.specs.World.{World, part_of, trees_with, node_at, kind_at, root_at, parent_at, ancestors_at, component_at, host_of, host_above}
-use Rattle.dom_model.specs.World.{shadow_root_of, shadow_tree, some_if, MayAttach}
+use Rattle.dom_model.specs.World.{shadow_root_of, shadow_tree, some_if, MayAttach, host_chain}
 use Rattle.dom_model.proofs.OwnerLaws.{name_eq-same, depth-maker}
 use Rattle.dom_model.proofs.StepLaws.{Component-IsNoPage}
 use Rattle.dom_worlds.specs.Reached.{IsReached}
 use Rattle.dom_worlds.specs.Worlds.{MayBeShadow, IsOf, IsWorld}
-use Rattle.dom_worlds.proofs.Chains.{IsBelow, above-host, root-owned}
+use Rattle.dom_worlds.proofs.Chains.{IsBelow, above-host, root-owned, below-host, hosts-alone, chain-below, other-owner}
 use Rattle.dom_worlds.proofs.ShadowTrees.{owned-in, ancestors-owned, IsInTree, slot-in_tree, slot_in-there, slot_way, slots-first}
 use Rattle.dom_worlds.proofs.InsideAncestors.{parent-there, child-there, no_parent-root}
-use Rattle.dom_worlds.proofs.Lists.{all-then}
-use Rattle.dom_worlds.proofs.Makers.{component-host, component-maker, component-deeper, hosted-is}
-use Rattle.dom_worlds.proofs.Owners.{node-there, there-hosted}
+use Rattle.dom_worlds.proofs.Lists.{all-then, by_cases, either_way, get-all, by_some_is}
+use Rattle.dom_worlds.proofs.Owners.{component-host, component-maker, component-deeper, hosted-is, node-there, there-hosted, hosted, hosted-owned}
 use Rattle.dom_worlds.proofs.ReachedFacts.{root-alone, no_other_shadow_roots, shadow_roots-are_roots}
 use Rattle.dom_worlds.proofs.Roots.{ancestors-step}
-use Rattle.dom_worlds.proofs.Tests.{by_cases, either_way}
 use Rattle.dom_laws.proofs.Counts.{Once, times_subtree}
 use Rattle.dom_worlds.proofs.Trees.{ancestors-present, ancestors-root, ancestors-there, all-both}
+use Rattle.dom_worlds.specs.Follows.{PathFollowsParents}
+use Rattle.dom_worlds.specs.Tables.{IsNodeIn, IsWhole}
+use Rattle.dom_worlds.proofs.KindLines.{has_node-times}
 
 -- A node and those that come after it: each is followed by what is above it, and the last by the end.
 abbrev pub Runs : (NodeName → Option NodeName) → NodeName → List NodeName → Option NodeName → Type 0
@@ -110,11 +111,9 @@ slot-facts w i x s h = from (parent_at w x) refl
 
 -- nor has one of an owner that is as deep as there can be
 slot-deepest : (w : World) → IsWorld w → (x : NodeName) → max_depth ≤ owner_depth x.owner → slot_of w x ≡ None
-slot-deepest w i x h = from (slot_of w x) refl
-  where
-    from : (o : Option NodeName) → slot_of w x ≡ o → slot_of w x ≡ None
-    from None e = e
-    from (Some s) e = let room = depth-maker x.owner (slot-facts w i x s e).maker in absurd (omega (arith, h, room))
+slot-deepest w i x h =
+    by_some_is (λ (o : Option NodeName). slot_of w x ≡ None) (slot_of w x) (λ e. e)
+    (λ s e. let room = depth-maker x.owner (slot-facts w i x s e).maker in absurd (omega (arith, h, room)))
 
 -- Kinds.
 pub shadow-kind : (k : Kind) → is_shadow k ≡ true → k ≡ Shadow
@@ -298,3 +297,65 @@ module _ {only_log : Bool} (w : World) (r : IsReached only_log w) (composed : Bo
           ap (option_and_then (some_if (name_eq (root_at w x) (shadow_root_of x.owner)))) e ∙ ap (λ b. some_if b h) its in
           let both : None ≡ Some h = sym loose ∙ above in
           cc
+
+-- As the definition says it.
+follows-run : (w : World) (composed : Bool) (first x : NodeName) (xs : List NodeName) → Runs (event_parent w composed first) x xs None →
+    FollowsParents w composed first (x ∷ xs)
+follows-run w composed first x [] h = h
+follows-run w composed first x (y ∷ xs) h = (h.0, follows-run w composed first y xs h.1)
+
+-- a path that begins at the target and goes on so
+follows-path : {x : NodeName} {path xs : List NodeName} (w : World) (composed : Bool) → path ≡ x ∷ xs → Runs (event_parent w composed x) x xs None →
+    (first_of path ≡ Some x) × FollowsParents w composed x path
+follows-path {x} {xs} w composed e h = (ap first_of e, subst (FollowsParents w composed x) (sym e) (follows-run w composed x x xs h))
+
+-- a host is a node of its owner
+host-there : (w : World) → IsWorld w → IsWhole w → (o : Owner) (host : NodeName) → host_of w o ≡ Some host → 1 ≤ times_in (trees_with w host) host
+host-there w i h o host e =
+    let k = hosted w o host e in
+    let ts = (part_of w k.maker).trees in
+    subst (λ a. 1 ≤ times_in (part_of w a).trees host) (sym (hosted-owned w i o host k))
+    (has_node-times ts host (get-all (IsNodeIn ts) (part_of w k.maker).attached k.number host (h.tables k.maker).hosts k.found))
+
+module _ {only_log : Bool} (w : World) (r : IsReached only_log w) where
+  -- A composed event: the way up from each node of the chain leads to the next one.
+  climbs : IsWhole w → (first : NodeName) (depth : ℕ) {x : NodeName} → owner_depth x.owner ≤ depth → 1 ≤ times_in (trees_with w x) x → {o : Option NodeName} →
+      host_above w x ≡ o → (rest : List NodeName) × (flat_map (way_up w) (host_chain w x) ≡ x ∷ rest) × Runs (event_parent w true first) x rest None
+  climbs h first depth {x} d t {o = None} e =
+      let way = node-way w r true first 0 (λ c g. refl) x (omega arith) t None (root-loose w r true first x e) in
+      (way.0, ap (flat_map (way_up w)) (hosts-alone (owner_depth x.owner) w x e) ∙ append-nil (way_up w x) ∙ way.1, way.2)
+  climbs h first zero {x} d t {o = Some host} e = let deep = (below-host w r.world x host e).deeper in absurd (omega (arith, d, deep))
+  climbs h first (suc depth) {x} d t {o = Some host} e =
+      let b = below-host w r.world x host e in
+      let deep = b.deeper in
+      let way = node-way w r true first 0 (λ c g. refl) x (omega arith) t (Some host) (λ p. root-out w r true first x host b refl) in
+      let there = host-there w r.world h x.owner host (above-host w x host e).0 in
+      let on = climbs h first depth (omega (arith, d, deep)) there refl in (
+        way.0 ++ host ∷ on.0,
+        ap (flat_map (way_up w)) (chain-below w x host b) ∙ ap (λ xs. xs ++ flat_map (way_up w) (host_chain w host)) way.1 ∙ ap (λ ys. (x ∷ way.0) ++ ys) on.1,
+        runs-join (event_parent w true first) x way.0 (record { node = host; others = on.0; end = None; runs = on.2 }) way.2,
+      )
+
+  -- An event that is not composed: deeper shadow roots let it out, and that of its target's tree does not.
+  deeper-opens : (x : NodeName) (c : Owner) → owner_depth x.owner < owner_depth c → not (name_eq (shadow_root_of c) (root_at w x)) ≡ true
+  deeper-opens x c g =
+      ap not (other-owner (shadow_root_of c) (root_at w x) (λ e. let same = ap owner_depth (e ∙ root-owned w r.world x) in absurd (omega (arith, g, same))))
+
+  -- so it goes up one way
+  stays : (x : NodeName) → 1 ≤ times_in (trees_with w x) x → (o : Option NodeName) → host_above w x ≡ o →
+      (rest : List NodeName) × (way_up w x ≡ x ∷ rest) × Runs (event_parent w false x) x rest None
+  stays x t None e = node-way w r false x (owner_depth x.owner) (deeper-opens x) x (omega arith) t None (root-loose w r false x x e)
+  stays x t (Some host) e =
+      let b = below-host w r.world x host e in
+      let root = shadow_root_of x.owner in
+      let shut : not (name_eq root (root_at w x)) ≡ false = ap (λ y. not (name_eq root y)) b.tree.root ∙ ap not (name_eq-same root) in
+      node-way w r false x (owner_depth x.owner) (deeper-opens x) x (omega arith) t None (λ p. root-shut w r false x x host b shut)
+
+-- the law
+pub path-follows_parents : PathFollowsParents
+path-follows_parents b w r h x true t =
+    let way = climbs w r h x (owner_depth x.owner) (omega arith) (has_node-times (trees_with w x) x t) refl in
+    follows-path w true way.1 way.2
+path-follows_parents b w r h x false t =
+    let way = stays w r x (has_node-times (trees_with w x) x t) (host_above w x) refl in
+    follows-path w false (append-nil (way_up w x) ∙ way.1) way.2

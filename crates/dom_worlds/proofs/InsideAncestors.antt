@@ -8,8 +8,7 @@ use Rattle.dom_model.specs.Names.{name_eq, is_in, first_of}
 use Rattle.dom_model.specs.Tree.{Trees, none, tree, Node, nodes, names_of, roots, has_node, subtree, or_else, trees_below, children_of, times_in}
 use Rattle.dom_model.specs.Tree.{inclusive_ancestors, is_inclusive_ancestor, on_top, parent_of}
 use Rattle.dom_model.proofs.OwnerLaws.{name_eq-same, name_eq-turned, name_eq-true}
-use Rattle.dom_worlds.proofs.Lists.{all-then}
-use Rattle.dom_worlds.proofs.Tests.{by_cases, or-first, or-second, or-later}
+use Rattle.dom_worlds.proofs.Lists.{all-then, by_cases, or-first, or-second, or-later}
 use Rattle.dom_laws.proofs.Counts.{Once, by_times, times-here, times-elsewhere, times-more, times-parts, times_subtree}
 use Rattle.dom_laws.proofs.Paths.{subtree_gone, path_none}
 use Rattle.dom_worlds.proofs.Trees.{ancestors-present, ancestors-there}

@@ -12,24 +12,21 @@ use Rattle.dom_model.specs.RangeOps.{deleting, insertion_parent, start_reference
 use Rattle.dom_model.specs.Ranges.{Range}
 use Rattle.dom_model.specs.Extract.{extracting}
 use Rattle.dom_model.specs.Validity.{insertion_refusal}
-use Rattle.dom_model.specs.Steps.{make, set_document, join_at, set_range}
-use Rattle.dom_model.specs.Steps.{queue_record, part_step, after}
-use Rattle.dom_model.specs.Changes.{Observing, removing, adopting, inserting, replacing, setting_attribute}
-use Rattle.dom_model.specs.Changes.{unsetting_attribute}
+use Rattle.dom_model.specs.Steps.{make, set_document, join_at, set_range, queue_record, part_step, after}
+use Rattle.dom_model.specs.Changes.{Observing, removing, adopting, inserting, replacing, setting_attribute, unsetting_attribute}
 use Rattle.dom_model.specs.TextChanges.{replacing_data, splitting, normalizing, setting_text}
 use Rattle.dom_worlds.specs.Bounds.{EndsWithin, IsWithin, HasBounds}
 use Rattle.dom_worlds.specs.Tables.{HasEnds, HasTables}
 use Rattle.dom_worlds.specs.Worlds.{IsPart}
 use Rattle.dom_worlds.proofs.BoundLines.{insertion-open}
-use Rattle.dom_worlds.proofs.Bounds.{RangeUnder, reach, nowhere, HasRoom, room-make}
-use Rattle.dom_worlds.proofs.Bounds.{room-document, room-record, room-join, room-set}
+use Rattle.dom_worlds.proofs.Bounds.{RangeUnder, reach, nowhere, HasRoom, room-make, room-document, room-record, room-join, room-set}
 use Rattle.dom_worlds.proofs.InsideAncestors.{inside-no_ancestor, times-has_node}
 use Rattle.dom_worlds.proofs.KindLines.{has_node-times}
 use Rattle.dom_worlds.proofs.ChildCounts.{length-children}
 use Rattle.dom_worlds.proofs.Lists.{all-then}
 use Rattle.dom_worlds.proofs.PartSteps.{part-step}
-use Rattle.dom_worlds.proofs.PlanBounds.{room-removing, room-adopting, room-inserting, room-replacing, room-setting_attribute}
-use Rattle.dom_worlds.proofs.PlanBounds.{room-unsetting_attribute, room-replacing_data}
+use Rattle.dom_worlds.proofs.RangeBounds.{room-removing, room-adopting, room-inserting, room-replacing, room-setting_attribute, room-unsetting_attribute}
+use Rattle.dom_worlds.proofs.RangeBounds.{room-replacing_data}
 use Rattle.dom_worlds.proofs.PlanContents.{range-ends, leads-deleting, leads-extracting, leads-inserting_into_range}
 use Rattle.dom_worlds.proofs.PlanPlaces.{MayGo, leads-removing, leads-adopting, leads-inserting}
 use Rattle.dom_worlds.proofs.PlanTexts.{leads-replacing, leads-setting_attribute, leads-unsetting_attribute, leads-replacing_data, leads-splitting}

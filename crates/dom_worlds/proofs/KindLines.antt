@@ -1,47 +1,213 @@
--- Attaching, accepted commands and whole lines keep the kinds of nodes.
-use Rattle.std.proofs.Common.{◌≡◌, ◌≢◌, ◌+◌, ◌≤◌, true, false, not, ◌||◌, List, [], ◌∷◌, ◌++◌, length, find, unwrap_or, Option, Some, None}
-use Rattle.std.proofs.Common.{option_map, refl, sym, ap, ◌∙◌, arith, true≢false, subst}
-use Rattle.std.specs.Prelude.{nat_lt, is_some}
+-- Every line keeps the kinds of nodes: no command makes a shadow root, and `attach` makes hosts of elements alone.
+use Rattle.std.proofs.Common.{◌≡◌, ◌≢◌, Bool, true, false, None, sym, ap, ◌∙◌, true≢false, subst, ◌+◌, ◌≤◌, not, ◌||◌, List, [], ◌∷◌, ◌++◌, length, find}
+use Rattle.std.proofs.Common.{unwrap_or, Option, Some, refl, arith}
+use Rattle.std.specs.Prelude.{⊤, nat_lt}
+use Rattle.dom_base.specs.declared.Owner.{Owner}
+use Rattle.dom_base.specs.declared.Owner.TheVariants.{Page, Component}
+use Rattle.dom_base.specs.declared.NodeName.{NodeName}
+use Rattle.dom_base.specs.declared.Kind.{Kind}
+use Rattle.dom_base.specs.declared.Kind.TheVariants.{Document, Shadow, Element, Text, Comment}
+use Rattle.dom_model.specs.Names.{ComponentName, name_eq, is_in}
+use Rattle.dom_model.specs.Tree.{node_in, children_of, is_element, is_text, is_document, Trees, none, tree, Node, nodes, names_of, kind_of, has_node, no_node}
+use Rattle.dom_model.specs.Tree.{times_in}
+use Rattle.dom_model.specs.Command.{Command, NodeWord, own_refusal, part_refusal, effect, nodes_exist}
+use Rattle.dom_model.specs.CommandRefusals.{may_be_host}
+use Rattle.dom_model.specs.DocumentMachine.{effect_in, first_world, part_with_root, attaching}
+use Rattle.dom_model.specs.Effects.{Effect, tables, changes}
+use Rattle.dom_model.specs.Extract.{pieces_of}
+use Rattle.dom_model.specs.Part.{Part}
+use Rattle.dom_model.specs.Steps.{Step}
+use Rattle.dom_model.specs.World.{World, part_of, shadow_root_of, with_part, component_made, micro_task}
+use Rattle.dom_model.proofs.OwnerLaws.{name_eq-same, component_made-no_page, name_eq-turned, name_eq-true}
+use Rattle.dom_model.proofs.PartLaws.{owner-part_of}
+use Rattle.dom_model.proofs.StepLaws.{owner-part_step, Component-IsNoPage}
+use Rattle.dom_worlds.specs.Reached.{Invariant}
+use Rattle.dom_worlds.specs.Worlds.{MayBeShadow, HasKinds, AllNodes, IsElementAt, IsHost, times_among}
+use Rattle.dom_worlds.proofs.Turns.{AreAlike, alike-dispatch, alike-told, told_in, at_end}
+use Rattle.dom_worlds.proofs.Effects.{KeepsBase, Makes, MayDo, made-effect, base-effect, next-test, part-accepted}
+use Rattle.dom_worlds.proofs.Lists.{all-then, all-from, all-append, by_cases}
+use Rattle.dom_worlds.proofs.PartSteps.{MakesNoShadow, kinds-step, kinds-alike, fragment-no_shadow, read-no_shadow, Allowed, IsOwn, own-step, next-other}
+use Rattle.dom_worlds.proofs.OwnerSteps.{IsPresent, IsPeopled}
+use Rattle.dom_worlds.proofs.Owners.{there-hosted}
+use Rattle.dom_worlds.proofs.Plans.{IsKept}
+use Rattle.dom_worlds.proofs.ShadowRoots.{any-whole, IsOther, shadow-rules, may-do, found-absent, found-there}
+use Rattle.dom_worlds.proofs.WorldSteps.{HoldsIn, IsKeptIn, holds-with_part, holds-world_after, own-part}
 use Rattle.std.specs.List.{AllByRecursion}
 use Rattle.std.specs.Option.{option_or}
 use Rattle.std.proofs.lemmas.Bool.{cond-true, cond-false, and_parts, or_parts}
 use Rattle.std.proofs.lemmas.List.Folds.{find-append}
-use Rattle.dom_base.specs.declared.Owner.{Owner}
-use Rattle.dom_base.specs.declared.Owner.TheVariants.{Page, Component}
-use Rattle.dom_base.specs.declared.NodeName.{NodeName}
-use Rattle.dom_base.specs.declared.Kind.TheVariants.{Shadow, Element}
-use Rattle.dom_base.specs.declared.Refusal.{Refusal}
 use Rattle.dom_base.specs.declared.Refusal.TheVariants.{NotSupported, Limit}
 use Rattle.dom_base.specs.declared.TheConstants.{MAX_COMPONENTS}
 use Rattle.dom_base.specs.Owners.{may_attach}
-use Rattle.dom_model.specs.Names.{name_eq, is_in}
-use Rattle.dom_model.specs.Tree.{Trees, none, tree, Node, nodes, names_of, node_in, kind_of, has_node, no_node, is_element, times_in}
-use Rattle.dom_model.specs.Command.{Command, Line, no_owner, no_command, command, NodeWord, nodes_exist, part_refusal, effect}
 use Rattle.dom_model.specs.CommandNames.{named}
-use Rattle.dom_model.specs.CommandRefusals.{may_be_host}
-use Rattle.dom_model.specs.DocumentMachine.{first_world, part_with_root, refusal, attaching, perform, accepted, run_command, step}
-use Rattle.dom_model.specs.Part.{Part}
-use Rattle.dom_model.specs.Runs.{Run, quiet, unless_refused}
-use Rattle.dom_model.specs.Turns.{ending_turn, has_other_turn, ending_other_turn, opening_turn}
-use Rattle.dom_model.specs.World.{World, part_of, with_part, component_made, shadow_root_of}
-use Rattle.dom_model.proofs.OwnerLaws.{component_made-no_page, name_eq-turned, name_eq-true}
 use Rattle.dom_model.proofs.KindLaws.{is_element-is}
-use Rattle.dom_worlds.specs.Reached.{Invariant}
-use Rattle.dom_worlds.specs.Worlds.{AllNodes, IsElementAt, IsHost, MayBeShadow, times_among, HasKinds}
-use Rattle.dom_worlds.proofs.TableEffects.{base-effect}
-use Rattle.dom_worlds.proofs.LineBegins.{quiet-opening, quiet-ending_other, part_of-opening}
-use Rattle.dom_worlds.proofs.Lists.{all-append, all-then}
-use Rattle.dom_worlds.proofs.Tests.{by_cases, either_way}
 use Rattle.dom_worlds.proofs.TreeChangeLaws.{nodes-listed, nodes-then}
-use Rattle.dom_worlds.proofs.OwnerSteps.{IsPresent, IsPeopled}
-use Rattle.dom_worlds.proofs.OwnerDispatches.{peopled-ending_other}
-use Rattle.dom_worlds.proofs.OwnerCommands.{present-opening}
-use Rattle.dom_worlds.proofs.ShadowRoots.{found-absent, found-there}
-use Rattle.dom_worlds.proofs.Acceptance.{next-test, part-accepted, accepted-facts}
 use Rattle.dom_laws.proofs.Counts.{Once, by_times, times-here, times-elsewhere, times-more}
-use Rattle.dom_worlds.proofs.TurnEndings.{alike-dispatch, alike-ending_turn}
-use Rattle.dom_worlds.proofs.WorldParts.{holds-with_part}
-use Rattle.dom_worlds.proofs.KindCommands.{document-no_shadow, AllKinds, kind-steps, all-kinds, kinds-same, no_shadow-steps, kinds-effect}
+use Rattle.dom_worlds.proofs.Invariants.{Keeps}
+use Rattle.dom_worlds.proofs.StepKeeps.{OkFor}
+use Rattle.dom_model.specs.Dispatch.{dispatch_in}
+
+-- What is made is of another kind.
+element-no_shadow : Element ≢ Shadow
+element-no_shadow e = true≢false (ap is_element e)
+
+-- a Text is none
+text-no_shadow : Text ≢ Shadow
+text-no_shadow e = true≢false (ap is_text e)
+
+-- a Comment is none
+comment-no_shadow : Comment ≢ Shadow
+comment-no_shadow e = true≢false (ap is_comment e)
+  where
+    is_comment : Kind → Bool
+    is_comment Comment = true
+    is_comment k = false
+
+-- a document is none
+pub document-no_shadow : Document ≢ Shadow
+document-no_shadow e = true≢false (ap is_document e)
+
+-- The rules of plans, for the page.
+abbrev PageKinds : Part → Type 0
+PageKinds p = (p.owner ≡ Page) × HasKinds p
+
+-- the page has no shadow root
+page-read : (p : Part) → PageKinds p → (x : NodeName) → (node_in p.trees x).kind ≢ Shadow
+page-read p i x = read-no_shadow p x i.1 (λ b. subst (λ o. MayBeShadow o x) i.0 b)
+
+-- the rules hold
+page-rules : IsKept PageKinds MakesNoShadow (λ x. ⊤)
+page-rules =
+    record {
+      step = λ p s i m. (owner-part_step p s ∙ i.0, kinds-step p s i.1 m);
+      placing = λ x parent before h. tt;
+      making_room = λ parent index count. tt;
+      taking_out = λ x. tt;
+      document = λ x d. tt;
+      data_replaced = λ x offset count new. tt;
+      split = λ x offset new parent index. tt;
+      join = λ x size next parent index. tt;
+      range = λ k range. tt;
+      children_told = λ x added removed previous next. tt;
+      data_told = λ x old. tt;
+      new_text = λ x d text. text-no_shadow;
+      new_fragment = λ x d. fragment-no_shadow;
+      clone = λ p x y i m. page-read p i x;
+      clone_part = λ p x y from to i m. page-read p i x;
+      new_node = λ p i. tt;
+      children = λ p i x. all-from (λ y. ⊤) (λ y. tt) (children_of p.trees x);
+      wholes = λ p i range. any-whole (pieces_of p.trees range);
+    }
+
+-- The rules of plans, for a component with its shadow root.
+record ComponentKinds (k : ComponentName) (p : Part) : Type 0 where
+  owner : p.owner ≡ Component k
+  pub own : IsOwn (shadow_root_of (Component k)) p
+  pub kinds : HasKinds p
+
+-- a step that places and makes no shadow root
+abbrev MayMake : NodeName → Step → Type 0
+MayMake r s = Allowed r s × MakesNoShadow s
+
+-- a node that is not the shadow root is none
+component-read : (k : ComponentName) (p : Part) → ComponentKinds k p → (x : NodeName) → IsOther (shadow_root_of (Component k)) x →
+    (node_in p.trees x).kind ≢ Shadow
+component-read k p i x m =
+    let r = shadow_root_of (Component k) in
+    read-no_shadow p x i.kinds (λ b. let same : x ≡ r = subst (λ o. MayBeShadow o x) i.owner b in true≢false
+    (sym (name_eq-same r) ∙ ap (λ y. name_eq y r) (sym same) ∙ m))
+
+-- the rules hold
+component-rules : (k : ComponentName) → IsKept (ComponentKinds k) (MayMake (shadow_root_of (Component k))) (IsOther (shadow_root_of (Component k)))
+component-rules k =
+    let r = shadow_root_of (Component k) in
+    let root = shadow-rules r in
+    record {
+      step = λ p s i m. record { owner = owner-part_step p s ∙ i.owner; own = own-step r p s i.own m.0; kinds = kinds-step p s i.kinds m.1 };
+      placing = λ x parent before h. (h, tt);
+      making_room = λ parent index count. (tt, tt);
+      taking_out = λ x. (tt, tt);
+      document = λ x d. (tt, tt);
+      data_replaced = λ x offset count new. (tt, tt);
+      split = λ x offset new parent index. (tt, tt);
+      join = λ x size next parent index. (tt, tt);
+      range = λ k range. (tt, tt);
+      children_told = λ x added removed previous next. (tt, tt);
+      data_told = λ x old. (tt, tt);
+      new_text = λ x d text. (tt, text-no_shadow);
+      new_fragment = λ x d. (tt, fragment-no_shadow);
+      clone = λ p x y i m. (tt, component-read k p i x m);
+      clone_part = λ p x y from to i m. (tt, component-read k p i x m);
+      new_node = λ p i. next-other r p i.own;
+      children = λ p i x. root.children p i.own x;
+      wholes = λ p i range. root.wholes p i.own range;
+    }
+
+-- What commands make.
+page-may_do : (p : Part) (c : Command) → MayDo MakesNoShadow (λ x. ⊤) p c
+page-may_do p (Command.new_element a) = element-no_shadow
+page-may_do p (Command.new_text a) = text-no_shadow
+page-may_do p (Command.new_comment a) = comment-no_shadow
+page-may_do p Command.new_fragment = fragment-no_shadow
+page-may_do p Command.new_document = document-no_shadow
+page-may_do p (Command.set_attribute a b c) = ((λ old. tt), tt)
+page-may_do p (Command.unset_attribute a b) = ((λ old. tt), tt)
+page-may_do p (Command.insert_node a b) = λ range e. tt
+page-may_do p c = tt
+
+-- of a component
+component-may_do : (r : NodeName) (p : Part) (c : Command) → MayDo (Allowed r) (IsOther r) p c → MayDo (MayMake r) (IsOther r) p c
+component-may_do r p (Command.new_element a) h = (tt, element-no_shadow)
+component-may_do r p (Command.new_text a) h = (tt, text-no_shadow)
+component-may_do r p (Command.new_comment a) h = (tt, comment-no_shadow)
+component-may_do r p Command.new_fragment h = (tt, fragment-no_shadow)
+component-may_do r p Command.new_document h = (tt, document-no_shadow)
+component-may_do r p (Command.set_attribute a b c) h = ((λ old. (tt, tt)), (tt, tt))
+component-may_do r p (Command.unset_attribute a b) h = ((λ old. (tt, tt)), (tt, tt))
+component-may_do r p (Command.append a b) h = h
+component-may_do r p (Command.insert a b c) h = h
+component-may_do r p (Command.replace a b c) h = h
+component-may_do r p (Command.insert_node a b) h = h
+component-may_do r p c h = tt
+
+-- what is made so makes no shadow root
+no_shadow-made : (r : NodeName) (e : Effect) → Makes (MayMake r) e → Makes MakesNoShadow e
+no_shadow-made r (tables p lines v) h = tt
+no_shadow-made r (changes steps v) h = all-then (MayMake r) MakesNoShadow (λ s m. m.1) steps h
+
+-- Worlds.
+abbrev pub AllKinds : World → Type 0
+AllKinds w = HoldsIn HasKinds (λ t. ⊤) w
+
+-- steps keep the kinds
+pub kind-steps : IsKeptIn HasKinds MakesNoShadow (λ t. ⊤)
+kind-steps = record { step = kinds-step; document = λ x d. tt; notify = λ o. tt }
+
+-- the kinds of all parts
+pub all-kinds : (w : World) → ((o : Owner) → HasKinds (part_of w o)) → AllKinds w
+all-kinds w h = record { parts = h; tasks = all-from (λ t. ⊤) (λ t. tt) w.tasks }
+
+-- worlds with the same trees, counts and hosts
+pub kinds-same : (v w : World) → AreAlike v w → AllKinds w → AllKinds v
+kinds-same v w a h = all-kinds v (λ o. kinds-alike (part_of v o) (part_of w o) (owner-part_of v o ∙ sym (owner-part_of w o)) (a o) (h.parts o))
+
+-- no command makes a shadow root
+pub no_shadow-steps : {w : World} {o : Owner} (c : Command) → Invariant false w → IsPresent w o → AllKinds w → own_refusal (part_of w o) c ≡ None →
+    Makes MakesNoShadow (effect (part_of w o) c)
+no_shadow-steps {w} {o = Page} c q k h r = made-effect page-rules (part_of w Page) (owner-part_of w Page, h.parts Page) c (page-may_do (part_of w Page) c)
+no_shadow-steps {w} {o = Component k} c q m h r =
+    let root = shadow_root_of (Component k) in
+    let p = part_of w (Component k) in
+    let own = own-part w q.world (Component k) (there-hosted w m.people.makers m.people.owners (Component k) (Component-IsNoPage k) m.there) in
+    no_shadow-made root (effect p c) (made-effect (component-rules k) p
+    (record { owner = owner-part_of w (Component k); own = own; kinds = h.parts (Component k) }) c
+    (component-may_do root p c (may-do root p own c r)))
+
+-- an effect keeps the kinds
+pub kinds-effect : (w : World) (o : Owner) (e : Effect) → KeepsBase (part_of w o) e → Makes MakesNoShadow e → AllKinds w → AllKinds (effect_in w o e).0
+kinds-effect w o (tables p lines v) base m h =
+    holds-with_part kind-steps w p h (kinds-alike p (part_of w o) base.0 base.1 (h.parts o))
+kinds-effect w o (changes steps v) base m h = holds-world_after kind-steps o steps w h m
 
 -- Attaching: the nodes of the element's name are elements.
 pub absent-any : (P : Node → Type 0) (ts : Trees) (x : NodeName) → times_in ts x ≡ 0 → AllNodes (λ n. name_eq n.name x ≡ true → P n) ts
@@ -165,52 +331,21 @@ kinds-attaching w o x f q h =
     holds-with_part kind-steps (with_part w more) root (holds-with_part kind-steps w more h marked)
     (kinds-root (component_made o n) (node_in p.trees x).document (component_made-no_page o n))
 
--- An accepted command, and lines.
-kinds-perform : {w : World} {o : Owner} (c : Command) → IsPresent w o → part_refusal (part_of w o) c ≡ None → Invariant false w → AllKinds w →
-    AllKinds (perform w o c).0
-kinds-perform {w} {o} (Command.attach x) k r q h = kinds-attaching w o (named (part_of w o) x) (attach-free (part_of w o) x r) q h
-kinds-perform (Command.connected x) k r q h = h
-kinds-perform (Command.assigned x) k r q h = h
-kinds-perform {w} {o} (Command.dispatch x e related) k r q h =
-    kinds-same _ w (alike-dispatch w (named (part_of w o) x) (option_map (named (part_of w o)) related) e) h
-kinds-perform {w} {o} (Command.micro label) k r q h = all-kinds (perform w o (Command.micro label)).0 h.parts
-kinds-perform {w} Command.end_turn k r q h = kinds-same (ending_turn w).0 w (alike-ending_turn w) h
-kinds-perform {w} {o} c k r q h = kinds-effect w o (effect (part_of w o) c) (base-effect (part_of w o) c)
-    (no_shadow-steps c q k h (part-accepted (part_of w o) c r).own) h
-
--- the turn that a command opens
-kinds-opening : (w : World) (o : Owner) → AllKinds w → AllKinds (opening_turn w o)
-kinds-opening w o h = either_way AllKinds (is_some w.turn) w (record w { turn = Some o }) h (all-kinds (record w { turn = Some o }) h.parts)
-
--- with that turn
-kinds-accepted : {w : World} {o : Owner} (c : Command) → IsPresent w o → part_refusal (part_of w o) c ≡ None → Invariant false w → AllKinds w →
-    AllKinds (accepted w o c).0
-kinds-accepted {w} Command.end_turn k r q h = kinds-same (ending_turn w).0 w (alike-ending_turn w) h
-kinds-accepted {w} {o} c m r q h =
-    kinds-perform c (present-opening m) (ap (λ k. part_refusal k c) (part_of-opening w o o) ∙ r) (quiet-opening w q o)
-    (kinds-opening w o h)
-
--- refused or accepted
-kinds-command : {w : World} (o : Owner) (c : Command) → Invariant false w → IsPeopled w → AllKinds w → AllKinds (run_command o c w).0
-kinds-command {w} o c q i h = from (refusal w o c) refl
-  where
-    from : (r : Option Refusal) → refusal w o c ≡ r → AllKinds (unless_refused o (refusal w o c) w (accepted w o c)).0
-    from (Some r) e = subst (λ a. AllKinds (unless_refused o a w (accepted w o c)).0) (sym e) h
-    from None e = let a = accepted-facts w o c e in subst (λ a. AllKinds (unless_refused o a w (accepted w o c)).0) (sym e)
-        (kinds-accepted c (record { there = a.there; people = i }) a.part q h)
-
--- the ending of another component's turn
-kinds-ending_other : (w : World) (o : Owner) → AllKinds w → AllKinds (ending_other_turn w o).0
-kinds-ending_other w o h = either_way (λ (r : Run World). AllKinds r.0) (has_other_turn w o) (ending_turn w) (quiet w)
-    (kinds-same (ending_turn w).0 w (alike-ending_turn w) h) h
-
--- a line keeps the kinds
-pub kinds-line : (w : World) (l : Line) → Invariant false w → IsPeopled w → AllKinds w → AllKinds (step w l).0
-kinds-line w no_owner q i h = h
-kinds-line w (no_command o) q i h = kinds-ending_other w o h
-kinds-line w (command o c) q i h =
-    kinds-command o c
-    (quiet-ending_other w q o) (peopled-ending_other w o q i) (kinds-ending_other w o h)
+-- What lines consist of keeps the kinds, where it keeps who is there.
+pub kinds-keeps : Keeps (OkFor false) (λ w. Invariant false w × IsPeopled w) AllKinds
+kinds-keeps =
+    record {
+      turns = record {
+        dispatch = λ w x related e k h. kinds-same (dispatch_in w x related e).run.0 w (alike-dispatch w x related e) h;
+        at_end = λ w k h. all-kinds (at_end w) h.parts;
+        told = λ w o t k h. kinds-same (told_in w o) w (alike-told w o) h;
+      };
+      turned = λ w o e t k h. all-kinds (record w { turn = Some o }) h.parts;
+      attach = λ w o x m k h. kinds-attaching w o (named (part_of w o) x) (attach-free (part_of w o) x m.part) k.0 h;
+      micro = λ w o label m k h. all-kinds (record w { tasks = w.tasks ++ micro_task o label ∷ [] }) h.parts;
+      effect = λ w o c m k h. kinds-effect w o (effect (part_of w o) c) (base-effect (part_of w o) c)
+          (no_shadow-steps c k.0 (record { there = m.there; people = k.1 }) h (part-accepted (part_of w o) c m.part).own) h;
+    }
 
 -- the first world
 pub kinds-first : AllKinds first_world

@@ -1,73 +1,60 @@
-pub mod Tests
-pub mod Lists
-pub mod ComponentSignals
-pub mod Visits
-pub mod Trees
-pub mod Makers
-pub mod ShadowTrees
-pub mod Chains
-pub mod SameInvariant
-pub mod Owners
-pub mod TurnEndings
-pub mod LineBegins
-pub mod TableEffects
-pub mod FirstWorld
-pub mod StepKeeps
-pub mod TreeChangeLaws
-pub mod PartSteps
-pub mod Plans
-pub mod FitPieces
-pub mod PlanCommands
-pub mod WorldParts
-pub mod WorldSteps
+-- What other crates cite is passed on by the modules that are `pub`; the others state and prove it.
+pub mod ListLemmas
+pub mod TreeLemmas
+pub mod ShadowTreeLemmas
+pub mod OwnerLemmas
+pub mod CommandLemmas
+pub mod PlanLemmas
+pub mod RangeLemmas
+pub mod TurnLemmas
+pub mod WorldLemmas
+mod Lists
+mod ShadowTrees
+mod Turns
+mod Trees
+mod Owners
+mod Chains
+mod Invariants
+mod Effects
+mod StepKeeps
+mod TreeChangeLaws
+mod PartSteps
+mod Plans
+mod ShadowRoots
+mod WorldSteps
 mod OwnerSteps
-pub mod OwnerDispatches
-mod OwnerCommands
-mod KindCommands
-pub mod KindLines
-pub mod Acceptance
-pub mod ShadowRoots
-pub mod NodeKinds
+mod Reached
+mod KindLines
 mod Insides
-pub mod InsideAncestors
-pub mod Descents
-pub mod Roots
-pub mod TableSteps
-pub mod TableRecords
-pub mod ChildCounts
-pub mod NodesRead
-pub mod PlanPlaces
-pub mod PlanChildren
-pub mod PlanTexts
-pub mod PlanRoots
-pub mod PlanContents
+mod InsideAncestors
+mod Descents
+mod Roots
+mod TableSteps
+mod TableRecords
+mod ChildCounts
+mod PlanPlaces
+mod PlanStages
+mod PlanChildren
+mod PlanTexts
+mod PlanRoots
+mod PlanContents
 mod Recorded
-mod RecordedTexts
-pub mod TableCommands
-mod TableCursors
-pub mod TableRegisters
-mod RecordedRanges
-mod RecordedCommands
-pub mod TableWorlds
-pub mod Bounds
-pub mod Reached
-pub mod ReachedFacts
-pub mod PlanBounds
+mod RecordedPlans
+mod TableCommands
+mod TableRegisters
+mod TableLines
+mod TableWorlds
+mod Bounds
+mod ReachedFacts
+mod RangeBounds
 mod PlacedBounds
-pub mod TextBounds
-pub mod ChildPairs
-pub mod TableLines
-pub mod TaskWorlds
-mod RangeRoots
-pub mod BoundLines
-pub mod RangeInsertions
+mod TextBounds
+mod ChildPairs
+mod BoundWorlds
+mod BoundLines
+mod RangeInsertions
 mod Contained
-pub mod RangeBounds
-pub mod KeptOffsets
-pub mod BoundWorlds
-pub mod FollowPaths
-pub mod FollowEvents
-mod RangeEnds
+mod KeptOffsets
+mod FollowPaths
 mod RangePlans
-pub mod ExtractionPlans
-mod Sights
+mod ExtractionPlans

@@ -1,13 +1,67 @@
--- Facts on lists.
-use Rattle.std.proofs.Common.{◌≡◌, ℕ, zero, ◌<◌, Some, length, true≢false, Bool, true, false, not, List, [], ◌∷◌, ◌++◌, filter, map, flat_map}
-use Rattle.std.proofs.Common.{take_while, reverse, refl, sym, ap, ◌∙◌, arith, append-nil, take, drop, subst, suc, ◌+◌}
+-- Lists: what holds of all items of lists made of others; and choices by a test.
+use Rattle.std.proofs.Common.{◌≡◌, Bool, true, false, ◌&&◌, ◌||◌, refl, sym, ◌∙◌, true≢false, ℕ, zero, ◌<◌, Some, length, not, List, [], ◌∷◌, ◌++◌, filter, map}
+use Rattle.std.proofs.Common.{None, Option, flat_map, fold, take_while, reverse, ap, arith, append-nil, take, drop, subst, suc, ◌+◌}
+use Rattle.std.specs.Prelude.{if◌then◌else◌, is_some, slice_get, slice_set}
+use Rattle.std.specs.Option.{option_flatten}
 use Rattle.std.proofs.lemmas.Bool.{cond-true, cond-false}
 use Rattle.std.proofs.lemmas.List.{reverse-append}
-use Rattle.std.specs.Prelude.{is_some, slice_get, slice_set}
 use Rattle.std.specs.List.{AllByRecursion, prefix_len}
 use Rattle.std.proofs.lemmas.List.Elements.{filter-append}
 use Rattle.dom_model.specs.Names.{distinct}
-use Rattle.dom_worlds.proofs.Tests.{by_cases}
+
+-- by whether a test holds
+pub by_cases : {P : Type 0} (b : Bool) → (b ≡ true → P) → (b ≡ false → P) → P
+by_cases true f g = f refl
+by_cases false f g = g refl
+
+-- by whether there is something
+pub by_some_is : {X : Type 0} (P : Option X → Type 0) (o : Option X) → (o ≡ None → P None) → ((x : X) → o ≡ Some x → P (Some x)) → P o
+by_some_is P None f g = f refl
+by_some_is P (Some x) f g = g x refl
+
+-- where it does not matter that it is that
+pub by_some : {X : Type 0} (P : Option X → Type 0) (o : Option X) → P None → ((x : X) → P (Some x)) → P o
+by_some P o f g = by_some_is P o (λ e. f) (λ x e. g x)
+
+-- what holds of both holds of either
+pub either_way : {X : Type 0} (P : X → Type 0) (b : Bool) (x y : X) → P x → P y → P (if b then x else y)
+either_way P true x y f g = f
+either_way P false x y f g = g
+
+-- one of two tests
+pub or-first : (a b : Bool) → a ≡ true → (a || b) ≡ true
+or-first true b h = refl
+or-first false b h = absurd (true≢false (sym h))
+
+-- the second of two
+pub or-second : (a b : Bool) → b ≡ true → (a || b) ≡ true
+or-second true b h = refl
+or-second false b h = h
+
+-- the second, where the first fails
+pub or-later : (a b : Bool) → a ≡ false → (a || b) ≡ true → b ≡ true
+or-later true b e h = absurd (true≢false e)
+or-later false b e h = h
+
+-- the first, where the second fails
+pub or-earlier : (a b : Bool) → b ≡ false → (a || b) ≡ true → a ≡ true
+or-earlier true b e h = refl
+or-earlier false b e h = absurd (true≢false (sym h ∙ e))
+
+-- neither of two
+pub or-neither : (a b : Bool) → a ≡ false → b ≡ false → (a || b) ≡ false
+or-neither true b h g = absurd (true≢false h)
+or-neither false b h g = g
+
+-- what holds of each where the test says so
+pub which_way : {X : Type 0} (P : X → Type 0) (b : Bool) (x y : X) → (b ≡ true → P x) → (b ≡ false → P y) → P (if b then x else y)
+which_way P true x y f g = f refl
+which_way P false x y f g = g refl
+
+-- what always holds beside it makes no test false
+pub and-true_false : (b : Bool) → (b && true) ≡ false → b ≡ false
+and-true_false true h = absurd (true≢false h)
+and-true_false false h = refl
 
 module _ {X : Type 0} where
   -- all of two lists
@@ -158,3 +212,15 @@ pub all-set : {X : Type 0} (P : X → Type 0) (xs : List X) (k : ℕ) (x : X) �
 all-set P [] k x h g = tt
 all-set P (y ∷ xs) zero x h g = (g, h.1)
 all-set P (y ∷ xs) (suc k) x h g = (h.0, all-set P xs k x h.1 g)
+
+-- What each step of a fold keeps holds at its end.
+pub kept-fold : {A X : Type 0} (P : X → Type 0) (f : X → A → X) → ((x : X) (a : A) → P x → P (f x a)) → (items : List A) (x : X) → P x → P (fold f x items)
+kept-fold P f keep [] x h = h
+kept-fold P f keep (a ∷ items) x h = kept-fold P f keep items (f x a) (keep x a h)
+
+-- An item of a list with holes.
+pub at-each : {X : Type 0} (P : Option X → Type 0) → P None → (xs : List (Option X)) (k : ℕ) → AllByRecursion P xs → P (option_flatten (slice_get xs k))
+at-each P n [] k h = n
+at-each P n (None ∷ xs) zero h = n
+at-each P n (Some x ∷ xs) zero h = h.0
+at-each P n (x ∷ xs) (suc k) h = at-each P n xs k h.1

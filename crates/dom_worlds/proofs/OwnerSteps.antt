@@ -1,7 +1,6 @@
--- Steps, dispatches, notifications and the endings of turns: no owner's part comes or goes, and what they leave open,
--- queued and signalled is of owners that are there.
-use Rattle.std.proofs.Common.{◌≡◌, ℕ, zero, suc, Bool, true, false, not, ◌&&◌, List, [], ◌∷◌, ◌++◌, length, filter, fold}
-use Rattle.std.proofs.Common.{filter_map, Option, Some, None, refl, sym, ap, ◌∙◌, true≢false, subst}
+-- Steps, dispatches and notifications: no owner's part comes or goes, and what they leave open, queued and signalled is of owners that are there.
+use Rattle.std.proofs.Common.{◌≡◌, ℕ, zero, suc, Bool, true, false, not, ◌&&◌, List, [], ◌∷◌, ◌++◌, length, filter, fold, filter_map, Option, Some, None, refl}
+use Rattle.std.proofs.Common.{sym, ap, ◌∙◌, true≢false, subst, ◌≤◌, ◌||◌, map, flat_map, take_while, reverse}
 use Rattle.std.specs.Prelude.{if◌then◌else◌, is_some, option_to_list}
 use Rattle.std.specs.List.{AllByRecursion, list_any, cons_option}
 use Rattle.std.specs.Option.{option_and_then, option_map_or}
@@ -9,24 +8,29 @@ use Rattle.dom_base.specs.declared.Owner.{Owner}
 use Rattle.dom_base.specs.declared.NodeName.{NodeName}
 use Rattle.std.proofs.lemmas.Bool.{and_parts}
 use Rattle.dom_model.specs.Names.{name_eq, first_of, is_in, list_eq, max_depth, is_empty}
-use Rattle.dom_model.specs.Tree.{parent_of, inclusive_descendants}
+use Rattle.dom_model.specs.Tree.{inclusive_descendants, times_in}
 use Rattle.dom_model.specs.Part.{Part}
-use Rattle.dom_model.specs.Slots.{assigned, assigned_below, is_changed, is_bare_slot, is_slot_element, own_slots, other_slots, signals, with_signal}
-use Rattle.dom_model.specs.Steps.{Step, place, take_out, set_document, set_attribute, queue_record, part_step, is_taken}
-use Rattle.dom_model.specs.World.{World, Task, notify_task, part_of, with_part, node_at, trees_with, root_at, host_of}
-use Rattle.dom_model.specs.World.{some_if, is_in_shadow_tree, is_notify_of, with_notify, component_at, components_below, shadow_root_of}
-use Rattle.dom_model.specs.WorldSteps.{world_step, world_after, stepped, with_removal_signals, with_notify_if, with_shadow_document}
+use Rattle.dom_model.specs.Slots.{assigned, assigned_below, is_changed, is_bare_slot, is_slot_element, own_slots, other_slots, signals, with_signal, slot_of}
+use Rattle.dom_model.specs.Steps.{Step, set_document, part_step}
+use Rattle.dom_model.specs.World.{World, Task, notify_task, part_of, with_part, node_at, trees_with, root_at, host_of, some_if, is_in_shadow_tree, is_notify_of}
+use Rattle.dom_model.specs.World.{with_notify, component_at, components_below, shadow_root_of, ancestors_at, host_chain}
+use Rattle.dom_model.specs.WorldSteps.{world_step, world_after, stepped, with_shadow_document}
 use Rattle.dom_model.proofs.PartLaws.{owner-part_of}
 use Rattle.dom_model.proofs.StepLaws.{owner-part_step}
 use Rattle.dom_worlds.specs.Reached.{IsReached}
-use Rattle.dom_worlds.specs.Worlds.{owners_in, IsThere, task_owner, components_of, is_made_by, is_unmade, HasMakers, HasOwners}
-use Rattle.dom_worlds.proofs.SameInvariant.{host_of-same, there-with_part}
-use Rattle.dom_worlds.proofs.Lists.{all-append, all-passed, all-distinct, all-then, all-flat_map}
-use Rattle.dom_worlds.proofs.Makers.{makers-same, component-host, hosted-is}
-use Rattle.dom_worlds.proofs.Tests.{by_cases, either_way}
-use Rattle.dom_worlds.proofs.Owners.{there-same, owners-put, hosted-there}
+use Rattle.dom_worlds.specs.Worlds.{owners_in, IsThere, task_owner, components_of, is_made_by, is_unmade, HasMakers, HasOwners, IsWorld}
+use Rattle.dom_worlds.proofs.Turns.{host_of-same, there-with_part, told_in}
+use Rattle.dom_worlds.proofs.Lists.{all-append, all-passed, all-distinct, all-then, all-flat_map, by_cases, either_way, all-filter, all-map, all-reverse}
+use Rattle.dom_worlds.proofs.Lists.{by_some_is, kept-fold, all-from, all-take_while}
+use Rattle.dom_worlds.proofs.Owners.{makers-same, component-host, hosted-is, there-same, owners-put, hosted-there, node-there}
 use Rattle.dom_worlds.proofs.PartSteps.{rest-step}
-use Rattle.dom_worlds.proofs.WorldSteps.{attached-with_part}
+use Rattle.dom_worlds.proofs.WorldSteps.{attached-with_part, kept-world_step}
+use Rattle.dom_model.specs.Command.{EventWords}
+use Rattle.dom_model.specs.Dispatch.{world_visit, visits_of, visit_of, is_at_target, dispatch_in}
+use Rattle.dom_model.specs.Listeners.{Visit, Dispatching, visited, begun}
+use Rattle.dom_model.specs.Paths.{View, views, view_at, event_path, whole_path, way_up, with_slots, ends_at, is_node, retarget_related}
+use Rattle.dom_model.specs.Turns.{is_owned_by, without_signals, notified}
+use Rattle.dom_worlds.proofs.Trees.{ancestors-there}
 
 -- What steps keep: the owners, and that whoever has hosts may attach.
 pub record IsPeopled (w : World) : Type 0 where
@@ -115,12 +119,11 @@ assigned-none w s e = ap (λ o. option_map_or (assigned_below w s) (option_and_t
 -- a slot whose assigned nodes changed
 changed-there : (was now : World) → IsPeopled now → ((o : Owner) → host_of was o ≡ host_of now o) → (s : NodeName) → is_changed was now s ≡ true →
     IsThere now s.owner
-changed-there was now i same s h = from (host_of now s.owner) refl
-  where
-    from : (o : Option NodeName) → host_of now s.owner ≡ o → IsThere now s.owner
-    from None e = absurd (true≢false (sym h ∙ ap (λ xs. not (list_eq name_eq xs (assigned now s))) (assigned-none was s (same s.owner ∙ e)) ∙
-        ap (λ xs. not (list_eq name_eq [] xs)) (assigned-none now s e)))
-    from (Some x) e = hosted-there now i.owners s.owner (ap is_some e)
+changed-there was now i same s h =
+    by_some_is (λ (o : Option NodeName). IsThere now s.owner) (host_of now s.owner)
+    (λ e. absurd (true≢false (sym h ∙ ap (λ xs. not (list_eq name_eq xs (assigned now s))) (assigned-none was s (same s.owner ∙ e)) ∙
+    ap (λ xs. not (list_eq name_eq [] xs)) (assigned-none now s e))))
+    (λ x e. hosted-there now i.owners s.owner (ap is_some e))
 
 -- a slot without assigned nodes
 bare-there : (now : World) → IsPeopled now → (s : NodeName) (is_move : Bool) → (is_move && is_bare_slot now s) ≡ true → IsThere now s.owner
@@ -128,11 +131,9 @@ bare-there now i s is_move h =
     let both = and_parts is_move (is_bare_slot now s) h in
     let inside = and_parts (is_slot_element (node_at now s)) (is_in_shadow_tree now s && is_empty (assigned now s)) both.1 in
     let in_tree = and_parts (is_in_shadow_tree now s) (is_empty (assigned now s)) inside.1 in
-    from (host_of now s.owner) refl in_tree.0
-  where
-    from : (o : Option NodeName) → host_of now s.owner ≡ o → is_in_shadow_tree now s ≡ true → IsThere now s.owner
-    from None e g = absurd (true≢false (sym g ∙ ap (λ o. is_some (option_and_then (some_if (name_eq (root_at now s) (shadow_root_of s.owner))) o)) e))
-    from (Some x) e g = hosted-there now i.owners s.owner (ap is_some e)
+    by_some_is (λ (o : Option NodeName). is_in_shadow_tree now s ≡ true → IsThere now s.owner) (host_of now s.owner)
+    (λ e g. absurd (true≢false (sym g ∙ ap (λ o. is_some (option_and_then (some_if (name_eq (root_at now s) (shadow_root_of s.owner))) o)) e)))
+    (λ x e g. hosted-there now i.owners s.owner (ap is_some e)) in_tree.0
 
 -- all that is signalled
 signals-there : {now : World} (was : World) → IsPeopled now → ((o : Owner) → host_of was o ≡ host_of now o) → (x around : NodeName) (is_move : Bool) →
@@ -183,74 +184,138 @@ peopled-documents (c ∷ cs) d w h i =
     peopled-documents cs d v (all-there v w (λ o. o) (people-stepped w c (set_document (shadow_root_of c) d) h.0).0 cs h.1)
     (peopled-stepped w c (set_document (shadow_root_of c) d) (record { there = h.0; people = i }))
 
--- Steps.
-peopled-removed : {w : World} (o : Owner) (s : Step) (x : NodeName) (parent : Option NodeName) → IsPresent w o →
-    IsPeopled (with_removal_signals w (stepped o w s) x parent)
-peopled-removed {w} o s x None h = peopled-stepped w o s h
-peopled-removed {w} o s x (Some parent) h = signalled-after s h x parent true
-
--- a notification, if so
-peopled-notify_if : (b : Bool) (w : World) (o : Owner) → IsPresent w o → IsPeopled (with_notify_if b o w)
-peopled-notify_if true w o h = peopled-with_notify w o h
-peopled-notify_if false w o h = h.people
-
--- a step in the world
+-- A step in the world.
 peopled-world_step : (o : Owner) (w : World) (s : Step) → IsPresent w o → IsPeopled (world_step o w s)
-peopled-world_step o w (place x parent before) h = signalled-after (place x parent before) h x parent true
-peopled-world_step o w (take_out x) h = peopled-removed o (take_out x) x (parent_of (part_of w o).trees x) h
-peopled-world_step o w (set_attribute x a v) h = signalled-after (set_attribute x a v) h x x false
-peopled-world_step o w (set_document x d) h =
-    let v = stepped o w (set_document x d) in
-    peopled-documents (components_below max_depth w x) d v
-    (all-there v w (λ o. o) (people-stepped w o (set_document x d) h.there).0 (components_below max_depth w x) (below-there max_depth w h.people x))
-    (peopled-stepped w o (set_document x d) h)
-peopled-world_step o w (queue_record c) h =
-    let v = stepped o w (queue_record c) in
-    peopled-notify_if (is_taken (part_of w o) c) v o
-    (record { there = there-same v w (people-stepped w o (queue_record c) h.there).0 o ∙ h.there; people = peopled-stepped w o (queue_record c) h })
-peopled-world_step o w s h = peopled-stepped w o s h
+peopled-world_step o w s h =
+    let v = stepped o w s in
+    let k = peopled-stepped w o s h in
+    let same = (people-stepped w o s h.there).0 in
+    kept-world_step IsPeopled o w s (record {
+      own = k;
+      signals = signalled-after s h;
+      documents = λ x d. peopled-documents (components_below max_depth w x) d v
+          (all-there v w (λ o. o) same (components_below max_depth w x) (below-there max_depth w h.people x)) k;
+      notify = peopled-with_notify v o (record { there = there-same v w same o ∙ h.there; people = k });
+    })
 
 -- who is there stays there
-stays-signals : (ss : List NodeName) (w : World) (a : Owner) → IsThere w a → IsThere (fold with_signal w ss) a
-stays-signals [] w a h = h
-stays-signals (s ∷ ss) w a h = stays-signals ss (with_signal w s) a h
-
--- through the signals of a removal
-stays-removal_signals : (was now : World) (x : NodeName) (parent : Option NodeName) (a : Owner) → IsThere now a →
-    IsThere (with_removal_signals was now x parent) a
-stays-removal_signals was now x None a h = h
-stays-removal_signals was now x (Some parent) a h = stays-signals (signals was now x parent true) now a h
-
--- through a step in its part
-stays-stepped : (w : World) (o : Owner) (s : Step) (a : Owner) → IsThere w a → IsThere (stepped o w s) a
-stays-stepped w o s a h = there-with_part w (part_step (part_of w o) s) a h
-
--- through node documents
-stays-documents : (cs : List Owner) (d : NodeName) (w : World) (a : Owner) → IsThere w a → IsThere (fold (with_shadow_document d) w cs) a
-stays-documents [] d w a h = h
-stays-documents (c ∷ cs) d w a h = stays-documents cs d (with_shadow_document d w c) a (stays-stepped w c (set_document (shadow_root_of c) d) a h)
-
--- through a notification
-stays-notify_if : (b : Bool) (o : Owner) (w : World) (a : Owner) → IsThere w a → IsThere (with_notify_if b o w) a
-stays-notify_if true o w a h = h
-stays-notify_if false o w a h = h
-
--- through a step in the world
 stays-world_step : (o : Owner) (w : World) (s : Step) (a : Owner) → IsThere w a → IsThere (world_step o w s) a
-stays-world_step o w (place x parent before) a h = let now =
-    stepped o w (place x parent before) in stays-signals (signals w now x parent true) now a (stays-stepped w o (place x parent before) a h)
-stays-world_step o w (take_out x) a h = stays-removal_signals w (stepped o w (take_out x)) x (parent_of (part_of w o).trees x) a
-    (stays-stepped w o (take_out x) a h)
-stays-world_step o w (set_attribute x b v) a h = let now =
-    stepped o w (set_attribute x b v) in stays-signals (signals w now x x false) now a (stays-stepped w o (set_attribute x b v) a h)
-stays-world_step o w (set_document x d) a h =
-    stays-documents (components_below max_depth w x) d (stepped o w (set_document x d)) a (stays-stepped w o (set_document x d) a h)
-stays-world_step o w (queue_record c) a h =
-    stays-notify_if (is_taken (part_of w o) c) o (stepped o w (queue_record c)) a (stays-stepped w o (queue_record c) a h)
-stays-world_step o w s a h = stays-stepped w o s a h
+stays-world_step o w s a h =
+    let P : World → Type 0 = λ v. IsThere v a in
+    let stays : (v : World) (c : Owner) (s : Step) → P v → P (stepped c v s) = λ v c s. there-with_part v (part_step (part_of v c) s) a in
+    let k = stays w o s h in
+    kept-world_step P o w s (record {
+      own = k;
+      signals = λ x around is_move. kept-fold P with_signal (λ v y g. g) (signals w (stepped o w s) x around is_move) (stepped o w s) k;
+      documents = λ x d. kept-fold P (with_shadow_document d) (λ v c g. stays v c (set_document (shadow_root_of c) d) g)
+          (components_below max_depth w x) (stepped o w s) k;
+      notify = k;
+    })
 
 -- many steps
 pub peopled-world_after : (o : Owner) (steps : List Step) (w : World) → IsPresent w o → IsPeopled (world_after o w steps)
 peopled-world_after o [] w h = h.people
 peopled-world_after o (s ∷ steps) w h =
     peopled-world_after o steps (world_step o w s) (record { there = stays-world_step o w s o h.there; people = peopled-world_step o w s h })
+
+-- A dispatch: each node of its path has ancestors, and so is of an owner that is there.
+ancestors-of_there : (w : World) → IsWorld w → (x : NodeName) → AllByRecursion (λ y. IsThere w y.owner) (ancestors_at w x)
+ancestors-of_there w i x =
+    all-then (λ y. 1 ≤ times_in (trees_with w x) y) (λ y. IsThere w y.owner)
+    (λ y h. subst (IsThere w) (sym ((i.parts x.owner).owned y h ∙ owner-part_of w x.owner)) (node-there w x.owner y h)) (ancestors_at w x)
+    (ancestors-there (trees_with w x) x)
+
+-- a node and its way through slots
+slots-of_there : (depth : ℕ) (w : World) → IsWorld w → (x : NodeName) → IsThere w x.owner → AllByRecursion (λ y. IsThere w y.owner) (with_slots depth w x)
+slots-of_there zero w i x h = (h, tt)
+slots-of_there (suc depth) w i x h =
+    let up = flat_map (ancestors_at w) (option_to_list (slot_of w x)) in (
+      h,
+      all-flat_map (λ y. IsThere w y.owner) (with_slots depth w) up
+          (all-then (λ y. IsThere w y.owner) (λ y. AllByRecursion (λ z. IsThere w z.owner) (with_slots depth w y)) (slots-of_there depth w i) up
+          (all-flat_map (λ y. IsThere w y.owner) (ancestors_at w) (option_to_list (slot_of w x))
+          (all-from (λ s. AllByRecursion (λ y. IsThere w y.owner) (ancestors_at w s)) (ancestors-of_there w i) (option_to_list (slot_of w x))))),
+    )
+
+-- a way up
+way_up-of_there : (w : World) → IsWorld w → (x : NodeName) → AllByRecursion (λ y. IsThere w y.owner) (way_up w x)
+way_up-of_there w i x =
+    all-flat_map (λ y. IsThere w y.owner) (with_slots max_depth w) (ancestors_at w x)
+    (all-then (λ y. IsThere w y.owner) (λ y. AllByRecursion (λ z. IsThere w z.owner) (with_slots max_depth w y)) (slots-of_there max_depth w i)
+    (ancestors_at w x) (ancestors-of_there w i x))
+
+-- the path of an event
+path-of_there : (w : World) → IsWorld w → (x : NodeName) (related : Option NodeName) (composed : Bool) →
+    AllByRecursion (λ y. IsThere w y.owner) (event_path w x related composed)
+path-of_there w i x related composed =
+    let P : NodeName → Type 0 = λ y. IsThere w y.owner in
+    let from : List NodeName = if composed then host_chain w x else x ∷ [] in
+    let whole = all-flat_map P (way_up w) from (all-from (λ y. AllByRecursion P (way_up w y)) (way_up-of_there w i) from) in
+    either_way (AllByRecursion P) (is_node x (retarget_related w related x) && not (is_node x related)) []
+    (take_while (λ y. not (ends_at w x related y)) (whole_path w x composed)) tt
+    (all-take_while P (λ y. not (ends_at w x related y)) (whole_path w x composed) whole)
+
+-- the visits of a path
+visits-of_there : (w : World) (bubbles : Bool) (vs : List (View NodeName)) → AllByRecursion (λ (v : View NodeName). IsThere w v.node.owner) vs →
+    AllByRecursion (λ (v : Visit NodeName). IsThere w v.current.owner) (visits_of name_eq bubbles vs)
+visits-of_there w bubbles vs h =
+    let P : Visit NodeName → Type 0 = λ v. IsThere w v.current.owner in
+    let V : View NodeName → Type 0 = λ v. IsThere w v.node.owner in
+    all-append P (map (visit_of name_eq true) (reverse vs)) (map (visit_of name_eq false) (filter (λ v. bubbles || is_at_target name_eq v) vs))
+    (all-map P (visit_of name_eq true) (reverse vs) (all-reverse V vs h))
+    (all-map P (visit_of name_eq false) (filter (λ v. bubbles || is_at_target name_eq v) vs)
+    (all-filter V (λ v. bubbles || is_at_target name_eq v) vs h))
+
+-- visits
+peopled-visits : (e : EventWords) (vs : List (Visit NodeName)) (w : World) (d : Dispatching NodeName) →
+    AllByRecursion (λ (v : Visit NodeName). IsThere w v.current.owner) vs → IsPeopled w → IsPeopled (fold (world_visit e) (w, d) vs).0
+peopled-visits e [] w d h i = i
+peopled-visits e (v ∷ vs) w d h i =
+    let o = v.current.owner in
+    let p = part_of w o in
+    let heard = visited name_eq e (record d { listeners = p.listeners }) v in
+    let q = record p { listeners = heard.listeners } in
+    peopled-visits e vs (with_part w q) heard
+    (all-then (λ (v : Visit NodeName). IsThere w v.current.owner) (λ v. IsThere (with_part w q) v.current.owner)
+    (λ u t. there-with_part w q u.current.owner t) vs h.1)
+    (peopled-with_part w q o (owner-part_of w o) h.0 refl i)
+
+-- which leave whose parts are there
+people-visits : (e : EventWords) (vs : List (Visit NodeName)) (w : World) (d : Dispatching NodeName) →
+    AllByRecursion (λ (v : Visit NodeName). IsThere w v.current.owner) vs → owners_in (fold (world_visit e) (w, d) vs).0 ≡ owners_in w
+people-visits e [] w d h = refl
+people-visits e (v ∷ vs) w d h =
+    let o = v.current.owner in
+    let p = part_of w o in
+    let heard = visited name_eq e (record d { listeners = p.listeners }) v in
+    let q = record p { listeners = heard.listeners } in
+    people-visits e vs (with_part w q) heard (all-then (λ (v : Visit NodeName). IsThere w v.current.owner) (λ v. IsThere (with_part w q) v.current.owner)
+    (λ u t. there-with_part w q u.current.owner t) vs h.1)
+    ∙ owners-put w.parts q (subst (IsThere w) (sym (owner-part_of w o)) h.0)
+
+-- a dispatch
+visits-of_dispatch : (w : World) → IsWorld w → (x : NodeName) (related : Option NodeName) (e : EventWords) →
+    AllByRecursion (λ (v : Visit NodeName). IsThere w v.current.owner) (visits_of name_eq e.bubbles (views w x related e.composed))
+visits-of_dispatch w i x related e =
+    let path = event_path w x related e.composed in
+    visits-of_there w e.bubbles (views w x related e.composed) (all-map (λ (v : View NodeName). IsThere w v.node.owner) (view_at w x related path) path
+    (path-of_there w i x related e.composed))
+
+-- keeps who is there
+pub peopled-dispatch : (w : World) → IsWorld w → (x : NodeName) (related : Option NodeName) (e : EventWords) → IsPeopled w →
+    IsPeopled (dispatch_in w x related e).run.0
+peopled-dispatch w i x related e h =
+    peopled-visits e (visits_of name_eq e.bubbles (views w x related e.composed)) w (begun []) (visits-of_dispatch w i x related e) h
+
+-- and whose parts are there
+pub people-dispatch : (w : World) → IsWorld w → (x : NodeName) (related : Option NodeName) (e : EventWords) →
+    owners_in (dispatch_in w x related e).run.0 ≡ owners_in w
+people-dispatch w i x related e = people-visits e (visits_of name_eq e.bubbles (views w x related e.composed)) w (begun []) (visits-of_dispatch w i x related e)
+
+-- a notification, before its events
+pub peopled-told : (w : World) (o : Owner) → IsThere w o → IsPeopled w → IsPeopled (told_in w o)
+peopled-told w o h i =
+    let base = without_signals w o in
+    let calm = same-people base (refl, λ x. refl) i.owners.turn i.owners.tasks
+    (all-filter (λ s. IsThere w s.owner) (λ s. not (is_owned_by o s)) w.signalled i.owners.signalled) i in
+    peopled-with_part base (notified (part_of w o)) o (owner-part_of w o) h refl calm

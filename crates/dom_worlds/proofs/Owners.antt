@@ -1,25 +1,102 @@
--- Whose parts are there: the page's and the attached components'. Writing a part that is there, signalling slots that are
--- there, and dispatches keep that.
-use Rattle.std.proofs.Common.{◌≡◌, ◌≢◌, ℕ, zero, suc, ◌<◌, ◌≤◌, Bool, true, false, ◌||◌, List, [], ◌∷◌, ◌++◌, length, map, filter, Option, Some, None}
-use Rattle.std.proofs.Common.{unwrap_or, refl, sym, ap, ◌∙◌, arith, true≢false, subst}
-use Rattle.std.specs.Prelude.{⊤, is_some, is_none}
-use Rattle.std.specs.List.{list_any}
-use Rattle.std.specs.Option.{option_map_or}
-use Rattle.std.proofs.lemmas.Bool.{cond-true, cond-false, false_from_ne_true}
+-- Who made whom, whose host is whose, and who is there.
+use Rattle.std.proofs.Common.{◌≡◌, ◌≢◌, ℕ, ◌<◌, List, length, position, option_map, Option, Some, None, refl, sym, ap, ◌∙◌, arith, subst, zero, suc, ◌≤◌, Bool}
+use Rattle.std.proofs.Common.{true, false, ◌||◌, [], ◌∷◌, ◌++◌, map, filter, unwrap_or, true≢false}
+use Rattle.std.specs.Prelude.{is_some, slice_get, ⊤, is_none}
+use Rattle.std.specs.Option.{option_and_then, option_map_or}
+use Rattle.std.proofs.lemmas.List.Quantifiers.{position-Some}
+use Rattle.std.proofs.lemmas.Option.{slice_get-get_or}
 use Rattle.dom_base.specs.declared.Owner.{Owner}
 use Rattle.dom_base.specs.declared.Owner.TheVariants.{Page}
 use Rattle.dom_base.specs.declared.NodeName.{NodeName}
+use Rattle.dom_model.specs.Names.{name_eq, owner_depth, owner_eq}
+use Rattle.dom_model.specs.World.{World, part_of, component_at, component_made, made_by, host_of, MayAttach, find_part, put_part, is_there}
+use Rattle.dom_model.proofs.OwnerLaws.{made_by-made, depth-made, name_eq-true, owner_eq-same, owner_eq-true, owner_eq-false, ne-owner_eq, made_by-is}
+use Rattle.dom_model.proofs.OwnerLaws.{component_made-number, component_made-no_page}
+use Rattle.dom_worlds.specs.Worlds.{IsWorld, IsOf, HasMakers, components_of, is_made_by, is_unmade, owners_in, IsThere, HasOwners}
+use Rattle.dom_worlds.proofs.Lists.{get-below, get-all, get-there, by_cases, which_way, or-later, or-first, or-second, or-neither, or-earlier, by_some_is}
+use Rattle.dom_worlds.proofs.Lists.{by_some}
+use Rattle.std.specs.List.{list_any}
+use Rattle.std.proofs.lemmas.Bool.{cond-true, cond-false, false_from_ne_true}
 use Rattle.dom_model.specs.Tree.{times_in}
-use Rattle.dom_model.specs.Names.{owner_eq}
 use Rattle.dom_model.specs.Part.{Part, empty_part}
-use Rattle.dom_model.specs.World.{World, find_part, put_part, part_of, is_there, host_of, component_made, made_by, MayAttach}
-use Rattle.dom_model.proofs.OwnerLaws.{owner_eq-same, owner_eq-true, owner_eq-false, ne-owner_eq, made_by-is, component_made-number, component_made-no_page}
-use Rattle.dom_worlds.specs.Worlds.{components_of, is_made_by, is_unmade, owners_in, IsThere, HasMakers, HasOwners}
-use Rattle.dom_worlds.proofs.Lists.{get-below, get-there}
-use Rattle.dom_worlds.proofs.Makers.{hosted, host_of-made}
-use Rattle.dom_worlds.proofs.Tests.{by_cases, which_way, or-later, or-first, or-second, or-neither, or-earlier}
 use Rattle.dom_model.specs.Command.{NodeWord, own, foreign}
 use Rattle.dom_model.specs.CommandNames.{named}
+
+-- other worlds with the same hosts
+pub makers-same : (v w : World) → ((o : Owner) → (part_of v o).attached ≡ (part_of w o).attached) → HasMakers w → HasMakers v
+makers-same v w same makers o h = makers o (subst (λ (hs : List NodeName). 0 < length hs) (same o) h)
+
+-- the owner of an item that is there may attach
+maker-of : (w : World) → HasMakers w → (o : Owner) (k : ℕ) (x : NodeName) → slice_get (part_of w o).attached k ≡ Some x → MayAttach o
+maker-of w makers o k x e = makers o (let below = get-below (part_of w o).attached k (ap is_some e) in omega (arith, below))
+
+-- A host, with its component's maker and number.
+pub record IsHosted (w : World) (o : Owner) (host : NodeName) : Type 0 where
+  pub maker : Owner
+  pub number : ℕ
+  pub named : made_by o ≡ Some (maker, number)
+  pub found : slice_get (part_of w maker).attached number ≡ Some host
+
+-- a host is such
+pub hosted : (w : World) (o : Owner) (host : NodeName) → host_of w o ≡ Some host → IsHosted w o host
+hosted w o host h = from (made_by o) refl h
+  where
+    from : (m : Option (Owner × ℕ)) → made_by o ≡ m → option_and_then (λ (m : Owner × ℕ). slice_get (part_of w m.0).attached m.1) m ≡ Some host →
+        IsHosted w o host
+    from None e g = cc
+    from (Some m) e g = record { maker = m.0; number = m.1; named = e; found = g }
+
+-- and is the host
+pub hosted-is : (w : World) (o : Owner) (host : NodeName) → IsHosted w o host → host_of w o ≡ Some host
+hosted-is w o host k = ap (option_and_then (λ (m : Owner × ℕ). slice_get (part_of w m.0).attached m.1)) k.named ∙ k.found
+
+-- its maker may attach
+pub hosted-maker : (w : World) → HasMakers w → (o : Owner) (host : NodeName) → (k : IsHosted w o host) → MayAttach k.maker
+hosted-maker w makers o host k = maker-of w makers k.maker k.number host k.found
+
+-- and owns the host
+pub hosted-owned : (w : World) → IsWorld w → (o : Owner) (host : NodeName) → (k : IsHosted w o host) → host.owner ≡ k.maker
+hosted-owned w i o host k = get-all (IsOf k.maker) (part_of w k.maker).attached k.number host (i.hosts k.maker) k.found
+
+-- whoever has a host is not the page
+pub hosted-no_page : (w : World) (o : Owner) (host : NodeName) → IsHosted w o host → o ≢ Page
+hosted-no_page w o host k e = let none_at : made_by o ≡ None = ap made_by e in let both : None ≡ Some (k.maker, k.number) = sym none_at ∙ k.named in cc
+
+-- The host of a component that was made.
+pub host_of-made : (w : World) (o : Owner) (k : ℕ) → MayAttach o → host_of w (component_made o k) ≡ slice_get (part_of w o).attached k
+host_of-made w o k may = ap (option_and_then (λ (m : Owner × ℕ). slice_get (part_of w m.0).attached m.1)) (made_by-made o k may)
+
+-- The component at a node: by its number among those of the node's owner.
+pub record IsMade (w : World) (x : NodeName) (c : Owner) : Type 0 where
+  pub number : ℕ
+  pub made : component_made x.owner number ≡ c
+  pub found : slice_get (part_of w x.owner).attached number ≡ Some x
+
+-- it is such
+pub component-made : (w : World) (x : NodeName) (c : Owner) → component_at w x ≡ Some c → IsMade w x c
+component-made w x c h =
+    by_some_is (λ (k : Option ℕ). option_map (component_made x.owner) k ≡ Some c → IsMade w x c) (position (name_eq x) (part_of w x.owner).attached)
+    (λ e g. cc)
+    (λ k e g. let at = position-Some (name_eq x) (part_of w x.owner).attached k x e in
+    record { number = k; made = cc; found = slice_get-get_or (part_of w x.owner).attached k x at.0 ∙ ap Some (sym (name_eq-true x _ at.1)) }) h
+
+-- the node's owner may attach
+pub component-maker : (w : World) → HasMakers w → (x : NodeName) (c : Owner) → component_at w x ≡ Some c → MayAttach x.owner
+component-maker w makers x c h = let k = component-made w x c h in maker-of w makers x.owner k.number x k.found
+
+-- the node is its host
+pub component-host : (w : World) → HasMakers w → (x : NodeName) (c : Owner) → component_at w x ≡ Some c → IsHosted w c x
+component-host w makers x c h =
+    let k = component-made w x c h in
+    let may = component-maker w makers x c h in
+    record { maker = x.owner; number = k.number; named = ap made_by (sym k.made) ∙ made_by-made x.owner k.number may; found = k.found }
+
+-- and the component is deeper
+pub component-deeper : (w : World) → HasMakers w → (x : NodeName) (c : Owner) → component_at w x ≡ Some c → owner_depth x.owner < owner_depth c
+component-deeper w makers x c h =
+    let k = component-made w x c h in
+    let deep = depth-made x.owner k.number in
+    subst (λ a. owner_depth x.owner < owner_depth a) k.made (omega (arith, deep))
 
 -- whether a list of owners has one
 abbrev pub has_owner : List Owner → Owner → Bool
@@ -61,19 +138,14 @@ owners-put_new (q ∷ qs) p h =
 
 -- who is not there has nothing
 pub absent-part : (w : World) (o : Owner) → (IsThere w o → ⊥) → part_of w o ≡ empty_part o
-absent-part w o h = from (find_part w.parts o) refl
-  where
-    from : (q : Option Part) → find_part w.parts o ≡ q → unwrap_or q (empty_part o) ≡ empty_part o
-    from None e = refl
-    from (Some q) e = absurd (h (ap is_some e))
+absent-part w o h =
+    by_some_is (λ (q : Option Part). unwrap_or q (empty_part o) ≡ empty_part o) (find_part w.parts o) (λ e. refl) (λ q e. absurd (h (ap is_some e)))
 
 -- who has a node is there
 pub node-there : (w : World) (o : Owner) (y : NodeName) → 1 ≤ times_in (part_of w o).trees y → IsThere w o
-node-there w o y h = from (find_part w.parts o) h
-  where
-    from : (p : Option Part) → 1 ≤ times_in (unwrap_or p (empty_part o)).trees y → is_some p ≡ true
-    from None g = absurd (omega arith)
-    from (Some p) g = refl
+node-there w o y h =
+    by_some (λ (p : Option Part). 1 ≤ times_in (unwrap_or p (empty_part o)).trees y → is_some p ≡ true) (find_part w.parts o) (λ g. absurd (omega arith))
+    (λ p g. refl) h
 
 -- Lists of owners. One of two lists:
 has-append : (xs ys : List Owner) (o : Owner) → has_owner (xs ++ ys) o ≡ (has_owner xs o || has_owner ys o)
@@ -126,17 +198,14 @@ made_by-told o m k e = ap (λ x. option_map_or (λ (y : Owner × ℕ). owner_eq 
 
 -- Who has a host is there.
 pub hosted-there : (w : World) → HasOwners w → (o : Owner) → is_some (host_of w o) ≡ true → IsThere w o
-hosted-there w i o h = from (host_of w o) refl h
-  where
-    from : (m : Option NodeName) → host_of w o ≡ m → is_some m ≡ true → IsThere w o
-    from None e g = absurd (true≢false (sym g))
-    from (Some x) e g =
-        let k = hosted w o x e in
-        let hosts = (part_of w k.maker).attached in
-        let made : has_owner (components_of k.maker (length hosts)) o ≡ true =
-        subst (λ c. has_owner (components_of k.maker (length hosts)) c ≡ true) (made_by-is o k.maker k.number k.named)
-        (components-has k.maker (length hosts) k.number (get-below hosts k.number (ap is_some k.found))) in
-        there-listed w.parts o ∙ has-filtered (is_made_by k.maker) (owners_in w) o (ap (λ os. has_owner os o) (i.made k.maker) ∙ made)
+hosted-there w i o h =
+    by_some_is (λ (m : Option NodeName). is_some m ≡ true → IsThere w o) (host_of w o) (λ e g. absurd (true≢false (sym g)))
+    (λ x e g. let k = hosted w o x e in
+    let hosts = (part_of w k.maker).attached in
+    let made : has_owner (components_of k.maker (length hosts)) o ≡ true =
+    subst (λ c. has_owner (components_of k.maker (length hosts)) c ≡ true) (made_by-is o k.maker k.number k.named)
+    (components-has k.maker (length hosts) k.number (get-below hosts k.number (ap is_some k.found))) in
+    there-listed w.parts o ∙ has-filtered (is_made_by k.maker) (owners_in w) o (ap (λ os. has_owner os o) (i.made k.maker) ∙ made)) h
 
 -- who is there, but for the page, has a host
 pub there-hosted : (w : World) → HasMakers w → HasOwners w → (o : Owner) → o ≢ Page → IsThere w o → is_some (host_of w o) ≡ true
@@ -195,11 +264,9 @@ is_of_maker (Some m) o = is_made_by m o
 
 -- each owner is of some
 maker-found : (o : Owner) → (m : Option Owner) × (is_of_maker m o ≡ true)
-maker-found o = from (made_by o) refl
-  where
-    from : (m : Option (Owner × ℕ)) → made_by o ≡ m → (m : Option Owner) × (is_of_maker m o ≡ true)
-    from None e = (None, ap is_none e)
-    from (Some m) e = (Some m.0, made_by-told o m.0 m.1 e)
+maker-found o =
+    by_some_is (λ (m : Option (Owner × ℕ)). (m : Option Owner) × (is_of_maker m o ≡ true)) (made_by o) (λ e. (None, ap is_none e))
+    (λ m e. (Some m.0, made_by-told o m.0 m.1 e))
 
 -- owners stand once where those of each maker do
 once-of : (os : List Owner) → ((m : Option Owner) → AreOnce (filter (is_of_maker m) os)) → AreOnce os

@@ -1,36 +1,35 @@
 -- Texts stay where no data are replaced, and a root that is placed is one child more for its parent.
-use Rattle.std.proofs.Common.{◌≡◌, ℕ, ◌+◌, Bool, true, false, not, List, [], ◌∷◌, ◌++◌, drop, length, Option, Some, None, refl, sym, ap}
-use Rattle.std.proofs.Common.{◌∙◌, arith, true≢false, subst}
+use Rattle.std.proofs.Common.{◌≡◌, ℕ, ◌+◌, Bool, true, false, not, List, [], ◌∷◌, ◌++◌, drop, length, Option, Some, None, refl, sym, ap, ◌∙◌, arith, true≢false}
+use Rattle.std.proofs.Common.{subst}
 use Rattle.std.specs.Prelude.{if◌then◌else◌, ⊤}
 use Rattle.std.specs.List.{AllByRecursion}
 use Rattle.std.specs.Option.{option_map_or}
 use Rattle.std.proofs.lemmas.Bool.{cond-true, cond-false}
 use Rattle.dom_base.specs.declared.NodeName.{NodeName}
 use Rattle.dom_model.specs.Names.{name_eq, is_in, is_empty}
-use Rattle.dom_model.specs.Tree.{Trees, Node, node_in, kind_of, is_fragment, children_of, parent_of}
-use Rattle.dom_model.specs.Tree.{inclusive_descendants, roots}
+use Rattle.dom_model.specs.Tree.{Trees, Node, node_in, kind_of, is_fragment, children_of, parent_of, inclusive_descendants, roots}
 use Rattle.dom_model.specs.TreeChanges.{with_document}
 use Rattle.dom_model.specs.Output.{child_list}
 use Rattle.dom_model.specs.Part.{Part}
-use Rattle.dom_model.specs.Steps.{Step, place, take_out, set_document, queue_record, part_step, after}
-use Rattle.dom_model.specs.Changes.{Plan, in_turn, steps_of, Observing, observed, suppressed, telling, removal_record, removing}
-use Rattle.dom_model.specs.Changes.{removing_from, has_document, changing_document, adopting, document_below, placed_nodes, emptying, making_room}
-use Rattle.dom_model.specs.Changes.{placing, sibling_before, inserting_nodes, inserting}
+use Rattle.dom_model.specs.Steps.{Step, place, take_out, set_document, part_step, after}
+use Rattle.dom_model.specs.Changes.{Plan, in_turn, steps_of, Observing, observed, suppressed, telling, removal_record, removing, removing_from, has_document}
+use Rattle.dom_model.specs.Changes.{changing_document, adopting, document_below, placed_nodes, emptying, making_room, placing, sibling_before, inserting_nodes}
+use Rattle.dom_model.specs.Changes.{inserting}
 use Rattle.dom_model.proofs.OwnerLaws.{name_eq-same}
 use Rattle.dom_worlds.specs.Worlds.{IsPart}
 use Rattle.dom_worlds.proofs.ChildCounts.{kids, one_at, kids-placed, kids-map_nodes}
-use Rattle.dom_worlds.proofs.NodesRead.{node-taken_out, node-placed, node-map_nodes}
-use Rattle.dom_worlds.proofs.Lists.{all-then}
-use Rattle.dom_worlds.proofs.PartSteps.{some-keeps}
+use Rattle.dom_worlds.proofs.Roots.{node-taken_out, node-placed, node-map_nodes}
+use Rattle.dom_worlds.proofs.Lists.{all-then, either_way, all-from}
 use Rattle.dom_worlds.proofs.PlanChildren.{documented}
-use Rattle.dom_worlds.proofs.PlanPlaces.{may-place, MayGo, may-still, still, taken-step, telling-trees, root-adopting, after-append}
-use Rattle.dom_worlds.proofs.PlanPlaces.{emptied_of, leads-then, leads-eased, leads-each, placing-each, leads-removing, leads-adopting, leads-placing}
-use Rattle.dom_worlds.proofs.PlanPlaces.{leads-emptied, leads-making_room, placed-may}
+use Rattle.dom_worlds.proofs.PlanPlaces.{may-place, MayGo, may-still, still, taken-step, telling-trees, root-adopting, after-append, emptied_of, leads-then}
+use Rattle.dom_worlds.proofs.PlanPlaces.{removing-each, leads-eased, placing-each, leads-removing, leads-adopting, leads-placing, leads-emptied}
+use Rattle.dom_worlds.proofs.PlanPlaces.{leads-making_room, placed-may}
 use Rattle.dom_worlds.proofs.ReachedFacts.{root-alone}
 use Rattle.dom_worlds.proofs.TableSteps.{HasNode}
-use Rattle.dom_worlds.proofs.Tests.{either_way}
 use Rattle.dom_worlds.proofs.TreeChangeLaws.{HasRoot, root-placed, root-map_nodes}
 use Rattle.dom_worlds.proofs.Trees.{all-both}
+use Rattle.dom_worlds.proofs.PlanStages.{Joins, each-by, inserting-by}
+use Rattle.dom_worlds.proofs.PartSteps.{document_put, document_put-keeps}
 
 -- Texts stay where no data are replaced.
 abbrev pub SameTexts : Part → Part → Type 0
@@ -60,9 +59,7 @@ texts-adopting d x p i =
     let q = after p (removing observed x p) in
     texts-then p (removing observed x p) (changing_document d x q) (λ y. still first.changed y) (texts-removing observed x p i)
     (λ y t. either_way (λ steps. (node_in (after q steps).trees y).text ≡ (node_in q.trees y).text) (not (has_document q.trees d x)) (set_document x d ∷ []) []
-    (ap (λ (n : Node). n.text) (node-map_nodes (λ n. if is_in name_eq n.name (inclusive_descendants q.trees x) then with_document d n else n)
-    (λ n. (some-keeps (λ (n : Node). is_in name_eq n.name (inclusive_descendants q.trees x)) (with_document d) (λ n. (refl, refl)) n).0)
-    q.trees y t)
+    (ap (λ (n : Node). n.text) (node-map_nodes (document_put q.trees x d) (λ n. (document_put-keeps q.trees x d n).0) q.trees y t)
     ∙ either_way (λ (m : Node). m.text ≡ (node_in q.trees y).text) (is_in name_eq (node_in q.trees y).name (inclusive_descendants q.trees x))
     (with_document d (node_in q.trees y)) (node_in q.trees y) refl refl) refl)
 
@@ -97,17 +94,13 @@ module _ (d x : NodeName) (p : Part) (i : IsPart p) (h : HasRoot p.trees x) wher
   kids-root_adopted : (y : NodeName) → kids (after p (adopting d x p)).trees y ≡ kids p.trees y
   kids-root_adopted y =
       root-adopted (λ ts. kids ts y ≡ kids p.trees y) refl
-      (kids-map_nodes (λ n. if is_in name_eq n.name (inclusive_descendants p.trees x) then with_document d n else n)
-      (λ n. (some-keeps (λ (n : Node). is_in name_eq n.name (inclusive_descendants p.trees x)) (with_document d) (λ n. (refl, refl)) n).0)
-      p.trees y)
+      (kids-map_nodes (document_put p.trees x d) (λ n. (document_put-keeps p.trees x d n).0) p.trees y)
 
   -- other roots
   roots-root_adopted : (y : NodeName) → HasRoot p.trees y → HasRoot (after p (adopting d x p)).trees y
   roots-root_adopted y r =
       root-adopted (λ ts. HasRoot ts y) r
-      (root-map_nodes (λ n. if is_in name_eq n.name (inclusive_descendants p.trees x) then with_document d n else n)
-      (λ n. (some-keeps (λ (n : Node). is_in name_eq n.name (inclusive_descendants p.trees x)) (with_document d) (λ n. (refl, refl)) n).0)
-      p.trees y r)
+      (root-map_nodes (document_put p.trees x d) (λ n. (document_put-keeps p.trees x d n).0) p.trees y r)
 
 -- The placing of nodes below a parent.
 module _ (parent : NodeName) (before : Option NodeName) where
@@ -216,60 +209,23 @@ texts-placing parent before p x i m =
     texts-then p steps (place x parent before ∷ []) (λ y. still first.changed y) (texts-adopting doc x p i)
     (λ y t. ap (λ (n : Node). n.text) (node-placed before y (may-place first.changed.part n) t))
 
--- of all that are placed
-texts-each : (parent : NodeName) (before : Option NodeName) (xs : List NodeName) (p : Part) → IsPart p → AllByRecursion (MayGo parent p) xs →
-    SameTexts p (after p (in_turn (placing parent before) xs p))
-texts-each parent before [] p i m = λ y t. refl
-texts-each parent before (x ∷ xs) p i m =
-    let steps = placing parent before x p in
-    let q = after p steps in
-    let c = (leads-placing parent before p x i m.0).changed in
-    texts-then p steps (in_turn (placing parent before) xs q) (λ y. still c y) (texts-placing parent before p x i m.0)
-    (texts-each parent before xs q c.part (all-then (MayGo parent p) (MayGo parent q) (λ y. may-still parent p q y c) xs m.1))
-
--- of removals
-texts-removals : (how : Observing) (xs : List NodeName) (p : Part) → IsPart p → SameTexts p (after p (in_turn (removing how) xs p))
-texts-removals how [] p i = λ y t. refl
-texts-removals how (x ∷ xs) p i =
-    let first = leads-removing how x p i in
-    texts-then p (removing how x p) (in_turn (removing how) xs (after p (removing how x p))) (λ y. still first.changed y)
-    (texts-removing how x p i) (texts-removals how xs (after p (removing how x p)) first.changed.part)
+-- as other plans need it
+texts-joins_on : Joins (λ p steps. SameTexts p (after p steps))
+texts-joins_on = record { nothing = λ p y t. refl; append = λ p xs ys c a b. texts-then p xs ys (λ y. still c y) a b }
 
 -- of an insertion
 pub texts-inserting : {node parent : NodeName} {p : Part} (how : Observing) (before : Option NodeName) → IsPart p → MayGo parent p node →
     SameTexts p (after p (inserting how node parent before p))
 texts-inserting {node} {parent} {p} how before i m =
-    let spot = Some parent in
     let moved = placed_nodes p.trees node in
-    let told = telling how (child_list parent moved [] (sibling_before p.trees parent before) before) in
-    let one = emptied_of p node p in
-    let a = leads-eased spot p one (leads-emptied node p i) in
-    let q = after p one in
-    let two = making_room parent before (length moved) q in
-    let b = leads-eased spot q two (leads-making_room parent before (length moved) q a.changed.part) in
-    let ab = leads-then spot p one two a b in
-    let r = after p (one ++ two) in
-    let three = in_turn (placing parent before) moved r in
-    let n = all-then (MayGo parent p) (MayGo parent r) (λ y. may-still parent p r y ab.changed) moved (placed-may parent p node i m) in
-    let c = leads-each (placing-each parent before) moved r ab.changed.part n in
-    let abc = leads-then spot p (one ++ two) three ab c in
-    let s = after p ((one ++ two) ++ three) in
-    either_way (λ steps. (y : NodeName) → HasNode p y → (node_in (after p steps).trees y).text ≡ (node_in p.trees y).text) (is_empty moved) []
-    (inserting_nodes how node moved parent before p) (λ y t. refl)
-    (texts-then p ((one ++ two) ++ three) told (λ y. still abc.changed y)
-    (texts-then p (one ++ two) three (λ y. still ab.changed y)
-    (texts-then p one two (λ y. still a.changed y) (emptied (is_fragment (kind_of p.trees node)) moved)
-    (λ y t. ap (λ ts. (node_in ts y).text) (unmoved before (length moved) q))) (texts-each parent before moved r ab.changed.part n))
-    (λ y t. ap (λ ts. (node_in ts y).text) (telling-trees how (child_list parent moved [] (sibling_before p.trees parent before) before) s)))
+    inserting-by texts-joins_on {before = before} i m (record {
+      removals = each-by texts-joins_on (removing-each suppressed) (λ q x j g. texts-removing suppressed x q j) moved p i (all-from (λ x. ⊤) (λ x. tt) moved);
+      left = λ q c y t. refl;
+      room = λ q y t. ap (λ ts. (node_in ts y).text) (unmoved before q);
+      placed = λ q c may. each-by texts-joins_on (placing-each parent before) (texts-placing parent before) moved q c.part may;
+      told = λ q c y t. ap (λ ts. (node_in ts y).text) (telling-trees how (child_list parent moved [] (sibling_before p.trees parent before) before) q);
+    })
   where
-    unmoved : (before : Option NodeName) (count : ℕ) (q : Part) → (after q (making_room parent before count q)).trees ≡ q.trees
-    unmoved None count q = refl
-    unmoved (Some child) count q = refl
-
-    emptied : (b : Bool) (moved : List NodeName) → (y : NodeName) → HasNode p y →
-        (node_in (after p ((if b then emptying node moved else steps_of []) p)).trees y).text ≡ (node_in p.trees y).text
-    emptied false moved y t = refl
-    emptied true moved y t =
-        ap (λ (q : Part). (node_in q.trees y).text)
-        (after-append p (in_turn (removing suppressed) moved p) (queue_record (child_list node [] moved None None) ∷ [])) ∙
-        texts-removals suppressed moved p i y t
+    unmoved : (before : Option NodeName) (q : Part) → (after q (making_room parent before (length (placed_nodes p.trees node)) q)).trees ≡ q.trees
+    unmoved None q = refl
+    unmoved (Some child) q = refl

@@ -1,31 +1,29 @@
 -- Plans leave the children of nodes that they do not name, and what an insertion places is a child.
-use Rattle.std.proofs.Common.{◌≡◌, ◌≤◌, ℕ, ◌-◌, Bool, true, false, not, List, [], ◌∷◌, ◌++◌, length, Option, Some, None, refl, sym, ap, ◌∙◌, arith}
-use Rattle.std.proofs.Common.{true≢false, subst}
+use Rattle.std.proofs.Common.{◌≡◌, ◌≤◌, ℕ, ◌-◌, Bool, true, false, not, List, [], ◌∷◌, ◌++◌, length, Option, Some, None, sym, ap, ◌∙◌, arith, true≢false, subst}
 use Rattle.std.specs.Prelude.{if◌then◌else◌, min}
 use Rattle.std.specs.List.{AllByRecursion}
 use Rattle.std.specs.Option.{option_map_or}
 use Rattle.dom_base.specs.declared.NodeName.{NodeName}
-use Rattle.dom_model.specs.Names.{DomString, name_eq, is_in, is_empty}
-use Rattle.dom_model.specs.Tree.{Trees, Node, node_in, kind_of, is_fragment, children_of, parent_of, inclusive_descendants}
-use Rattle.dom_model.specs.TreeChanges.{with_name, with_document, with_data_replaced}
+use Rattle.dom_model.specs.Names.{DomString, name_eq, is_empty}
+use Rattle.dom_model.specs.Tree.{Trees, Node, node_in, kind_of, is_fragment, children_of, parent_of}
+use Rattle.dom_model.specs.TreeChanges.{with_name}
 use Rattle.dom_model.specs.Output.{child_list}
 use Rattle.dom_model.specs.Part.{Part, next_name}
-use Rattle.dom_model.specs.Steps.{Step, make, place, take_out, set_document, queue_record, part_step, after}
-use Rattle.dom_model.specs.Changes.{in_turn, steps_of, Observing, observed, suppressed, telling, removal_record, removing, removing_from}
-use Rattle.dom_model.specs.Changes.{has_document, changing_document, adopting, document_below, placed_nodes, emptying, making_room, placing}
-use Rattle.dom_model.specs.Changes.{sibling_before, inserting_nodes, inserting}
+use Rattle.dom_model.specs.Steps.{Step, make, place, take_out, set_document, part_step, after}
+use Rattle.dom_model.specs.Changes.{in_turn, steps_of, Observing, observed, suppressed, telling, removal_record, removing, removing_from, has_document}
+use Rattle.dom_model.specs.Changes.{changing_document, adopting, document_below, placed_nodes, emptying, making_room, placing, sibling_before, inserting}
 use Rattle.dom_model.specs.TextChanges.{replacing_data}
 use Rattle.dom_model.proofs.OwnerLaws.{name_eq-same, name_eq-true}
 use Rattle.dom_worlds.specs.Worlds.{IsPart}
 use Rattle.dom_worlds.proofs.ChildPairs.{childs, childs-taken_out, childs-placed, child-placed, childs-with_node, childs-map_nodes, childs-parent}
 use Rattle.dom_worlds.proofs.ChildPairs.{children-childs}
 use Rattle.dom_worlds.proofs.ChildCounts.{root-below}
-use Rattle.dom_worlds.proofs.Lists.{all-then}
-use Rattle.dom_worlds.proofs.PartSteps.{some-keeps}
-use Rattle.dom_worlds.proofs.PlanPlaces.{may-place, MayGo, may-still, taken-step, telling-trees, after-append, emptied_of, leads-then, leads-eased}
-use Rattle.dom_worlds.proofs.PlanPlaces.{leads-removing, leads-adopting, leads-placing, leads-emptied, leads-making_room, placed-may}
-use Rattle.dom_worlds.proofs.Tests.{by_cases, either_way}
+use Rattle.dom_worlds.proofs.Lists.{all-then, by_cases, either_way, by_some_is}
+use Rattle.dom_worlds.proofs.PlanPlaces.{may-place, MayGo, may-still, taken-step, telling-trees, after-append, leads-eased, leads-removing, leads-adopting}
+use Rattle.dom_worlds.proofs.PlanPlaces.{leads-placing, leads-making_room}
 use Rattle.dom_worlds.proofs.Trees.{all-in}
+use Rattle.dom_worlds.proofs.PlanStages.{Joins, inserting-by}
+use Rattle.dom_worlds.proofs.PartSteps.{data_put, data_put-keeps, document_put, document_put-keeps}
 
 -- The trees with another node document
 pub documented : (d x : NodeName) (q : Part) (P : Trees → Type 0) → P q.trees → P (part_step q (set_document x d)).trees →
@@ -47,14 +45,11 @@ pub record IsChildIn (x y : NodeName) (p : Part) : Type 0 where
 
 -- It stays a child where others leave.
 pub child-removing : {x y : NodeName} {p : Part} (how : Observing) (z : NodeName) → IsChildIn x y p → IsNot x z → IsChild x y (after p (removing how z p))
-child-removing {x} {y} {p} how z c d = from (parent_of p.trees z) refl
-  where
-    from : (o : Option NodeName) → parent_of p.trees z ≡ o → IsChild x y (after p (option_map_or (removing_from how z p.trees) o []))
-    from None e = c.child
-    from (Some parent) e =
-        subst (λ ts. 1 ≤ childs ts x y) (sym
-        (telling-trees how (removal_record p.trees parent z) (part_step p (take_out z)) ∙ ap (λ (q : Part). q.trees) (taken-step p z parent e)))
-        (let s = childs-taken_out p.trees z x y c.part.unique d in omega arith)
+child-removing {x} {y} {p} how z c d =
+    by_some_is (λ (o : Option NodeName). IsChild x y (after p (option_map_or (removing_from how z p.trees) o []))) (parent_of p.trees z) (λ e. c.child)
+    (λ parent e. subst (λ ts. 1 ≤ childs ts x y) (sym
+    (telling-trees how (removal_record p.trees parent z) (part_step p (take_out z)) ∙ ap (λ (q : Part). q.trees) (taken-step p z parent e)))
+    (let s = childs-taken_out p.trees z x y c.part.unique d in omega arith))
 
 -- steps after steps
 pub child-then : (x y : NodeName) (p : Part) (xs ys : List Step) → IsChild x y (after (after p xs) ys) → IsChild x y (after p (xs ++ ys))
@@ -76,9 +71,7 @@ child-adopting {x} {y} {p} d z c n =
     let g = child-removing observed z c n in
     child-then x y p (removing observed z p) (changing_document d z q)
     (documented d z q (λ ts. 1 ≤ childs ts x y) g
-    (let s = childs-map_nodes (λ n. if is_in name_eq n.name (inclusive_descendants q.trees z) then with_document d n else n)
-    (λ n. (some-keeps (λ (n : Node). is_in name_eq n.name (inclusive_descendants q.trees z)) (with_document d) (λ n. (refl, refl)) n).0)
-    q.trees x y in omega arith))
+    (let s = childs-map_nodes (document_put q.trees z d) (λ n. (document_put-keeps q.trees z d n).0) q.trees x y in omega arith))
 
 -- another one that is placed
 child-placing : {x y parent : NodeName} {p : Part} {z : NodeName} (before : Option NodeName) → IsChildIn x y p → MayGo parent p z → IsNot x z →
@@ -128,38 +121,22 @@ others-placed x y node p i other =
 pub child-inserting : {x y node parent : NodeName} {p : Part} (how : Observing) (before : Option NodeName) → IsPart p → MayGo parent p node →
     IsOtherChild x y node p → IsChild x y (after p (inserting how node parent before p))
 child-inserting {x} {y} {node} {parent} {p} how before i m other =
-    let spot = Some parent in
-    let moved = placed_nodes p.trees node in
-    let told = telling how (child_list parent moved [] (sibling_before p.trees parent before) before) in
-    let one = emptied_of p node p in
-    let l = leads-eased spot p one (leads-emptied node p i) in
-    let q = after p one in
-    let two = making_room parent before (length moved) q in
-    let lb = leads-eased spot q two (leads-making_room parent before (length moved) q l.changed.part) in
-    let ab = leads-then spot p one two l lb in
-    let r = after p (one ++ two) in
-    let three = in_turn (placing parent before) moved r in
+    let S : Part → List Step → Type 0 = λ q steps. IsChild x y q → IsChild x y (after q steps) in
+    let joins : Joins S = record { nothing = λ q h. h; append = λ q xs ys c a b h. child-then x y q xs ys (b (a h)) } in
     let others = others-placed x y node p i other in
-    let n = all-then (MayGo parent p) (MayGo parent r) (λ z. may-still parent p r z ab.changed) moved (placed-may parent p node i m) in
-    let s = after p ((one ++ two) ++ three) in
-    either_way (λ steps. IsChild x y (after p steps)) (is_empty moved) [] (inserting_nodes how node moved parent before p) other.child
-    (child-then x y p ((one ++ two) ++ three) told
-    (subst (λ ts. 1 ≤ childs ts x y) (sym (telling-trees how (child_list parent moved [] (sibling_before p.trees parent before) before) s))
-    (child-then x y p (one ++ two) three (child-each parent before moved
-    (record {
-      part = ab.changed.part;
-      child = child-then x y p one two
-          (unmoved before (length moved) q (emptied (is_fragment (kind_of p.trees node)) moved others));
-    }) n others))))
+    inserting-by joins {before = before} i m (record {
+      removals = λ h. child-removals suppressed (placed_nodes p.trees node) (record { part = i; child = h }) others;
+      left = λ q c h. h;
+      room = λ q. unmoved before q;
+      placed = λ q c may h. child-each parent before (placed_nodes p.trees node) (record { part = c.part; child = h }) may others;
+      told = λ q c h. subst (λ ts. 1 ≤ childs ts x y)
+          (sym (telling-trees how (child_list parent (placed_nodes p.trees node) [] (sibling_before p.trees parent before) before) q)) h;
+    }) other.child
   where
-    unmoved : (before : Option NodeName) (count : ℕ) (q : Part) → IsChild x y q → IsChild x y (after q (making_room parent before count q))
-    unmoved None count q g = g
-    unmoved (Some child) count q g = g
-
-    emptied : (t : Bool) (moved : List NodeName) → AllByRecursion (IsNot x) moved → IsChild x y (after p ((if t then emptying node moved else steps_of []) p))
-    emptied false moved others = other.child
-    emptied true moved others = child-then x y p (in_turn (removing suppressed) moved p) (queue_record (child_list node [] moved None None) ∷ [])
-        (child-removals suppressed moved (record { part = i; child = other.child }) others)
+    unmoved : (before : Option NodeName) (q : Part) → IsChild x y q →
+        IsChild x y (after q (making_room parent before (length (placed_nodes p.trees node)) q))
+    unmoved None q g = g
+    unmoved (Some child) q g = g
 
 -- A child stays one.
 module _ (x y : NodeName) where
@@ -168,8 +145,7 @@ module _ (x y : NodeName) where
       IsChild x y (after p (replacing_data z offset count new p))
   child-replacing_data z offset count new p h =
       let few = min count (length (node_in p.trees z).text - offset) in
-      let s = childs-map_nodes (λ n. if name_eq n.name z then with_data_replaced offset few new n else n)
-      (λ n. (some-keeps (λ (n : Node). name_eq n.name z) (with_data_replaced offset few new) (λ n. (refl, refl)) n).0) p.trees x y in omega
+      let s = childs-map_nodes (data_put z offset few new) (λ n. (data_put-keeps z offset few new n).0) p.trees x y in omega
       arith
 
   -- beside a new node

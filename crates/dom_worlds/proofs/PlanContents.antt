@@ -1,14 +1,13 @@
 -- The steps of the plans of extractions, deletions and insertions into ranges fit where they are made.
-use Rattle.std.proofs.Common.{zero, suc, ◌≡◌, ◌≤◌, ℕ, ◌+◌, ◌-◌, Bool, true, false, not, List, [], ◌∷◌, ◌++◌, filter, Option, Some, None, unwrap_or}
-use Rattle.std.proofs.Common.{refl, sym, ap, ◌∙◌, arith, subst}
+use Rattle.std.proofs.Common.{◌≡◌, ◌≤◌, ℕ, ◌+◌, ◌-◌, Bool, true, false, not, List, [], ◌∷◌, ◌++◌, filter, Option, Some, None, unwrap_or, refl, sym, ap, ◌∙◌}
+use Rattle.std.proofs.Common.{arith, subst}
 use Rattle.std.specs.Prelude.{if◌then◌else◌, slice_get}
-use Rattle.std.specs.List.{AllByRecursion}
-use Rattle.std.specs.Option.{option_map_or, option_and_then, option_flatten}
+use Rattle.std.specs.Option.{option_map_or, option_and_then}
 use Rattle.std.proofs.lemmas.Bool.{cond-true, cond-false}
 use Rattle.dom_base.specs.declared.NodeName.{NodeName}
 use Rattle.dom_model.specs.Names.{name_eq, last_of}
-use Rattle.dom_model.specs.Tree.{Trees, Node, node_in, kind_of, is_text, is_fragment, has_data, subtree, children_of, parent_of, root_of, index_of}
-use Rattle.dom_model.specs.Tree.{times_in, length_of, inclusive_ancestors, is_inclusive_ancestor}
+use Rattle.dom_model.specs.Tree.{Trees, Node, node_in, kind_of, is_text, is_fragment, has_data, subtree, children_of, parent_of, root_of, index_of, times_in}
+use Rattle.dom_model.specs.Tree.{length_of, inclusive_ancestors, is_inclusive_ancestor}
 use Rattle.dom_model.specs.TreeChanges.{with_name}
 use Rattle.dom_model.specs.Part.{Part, next_name, range_at}
 use Rattle.dom_model.specs.Place.{Boundary}
@@ -21,22 +20,21 @@ use Rattle.dom_model.specs.Extract.{making_below, taking, new_fragment_node, own
 use Rattle.dom_model.specs.RangeOps.{cutting_data, outermost_contained, deleting_contents, deleting, insertion_parent, start_reference, ending_at}
 use Rattle.dom_model.specs.RangeOps.{inserting_before, inserting_at, inserting_into_range}
 use Rattle.dom_worlds.specs.Worlds.{IsPart}
-use Rattle.dom_worlds.specs.Tables.{EndsIn, HasEnds, HasTables}
-use Rattle.dom_worlds.proofs.Lists.{all-filter}
-use Rattle.dom_worlds.proofs.Tests.{by_cases, either_way}
+use Rattle.dom_worlds.specs.Tables.{EndsIn, HasTables}
+use Rattle.dom_worlds.proofs.Lists.{all-filter, by_cases, either_way, at-each, by_some_is}
 use Rattle.dom_laws.proofs.Counts.{by_times, times_subtree}
 use Rattle.dom_worlds.proofs.Trees.{ancestors-there}
 use Rattle.dom_worlds.proofs.TreeChangeLaws.{times-below, nodes-named}
 use Rattle.dom_worlds.proofs.PartSteps.{next-absent}
 use Rattle.dom_worlds.proofs.KindLines.{has_node-times}
 use Rattle.dom_worlds.proofs.Plans.{AllWhole}
-use Rattle.dom_worlds.proofs.FitPieces.{fit-then, common_below, whole-pieces}
+use Rattle.dom_worlds.proofs.ShadowRoots.{fit-then, common_below, whole-pieces}
 use Rattle.dom_worlds.proofs.TableSteps.{HasNode}
 use Rattle.dom_worlds.proofs.TableRecords.{IfSome, last-all, all-get}
 use Rattle.dom_worlds.proofs.Insides.{inside, inside-times}
 use Rattle.dom_worlds.proofs.InsideAncestors.{parent-there}
-use Rattle.dom_worlds.proofs.PlanPlaces.{Changed, Leads, MayGo, may-still, still, after-append, made-append, leads-then, leads-eased, leads-nothing}
-use Rattle.dom_worlds.proofs.PlanPlaces.{leads-one, leads-if, leads-removing, leads-inserting}
+use Rattle.dom_worlds.proofs.PlanPlaces.{Changed, Leads, MayGo, may-still, still, after-append, made-append, leads-then, leads-eased, leads-nothing, leads-one}
+use Rattle.dom_worlds.proofs.PlanPlaces.{leads-if, leads-removing, leads-inserting}
 use Rattle.dom_worlds.proofs.PlanChildren.{IsChild, child-parent}
 use Rattle.dom_worlds.proofs.PlanRoots.{IsStart, SparesAll, starts-after, spares-removing, spares-inserting, spares-splitting}
 use Rattle.dom_worlds.proofs.Roots.{root-parent_of}
@@ -178,11 +176,7 @@ or-there p (Some y) x h g = h
 
 -- a parent, if there is one
 pub parent-if : (p : Part) (x : NodeName) → IfSome (HasNode p) (parent_of p.trees x)
-parent-if p x = from (parent_of p.trees x) refl
-  where
-    from : (o : Option NodeName) → parent_of p.trees x ≡ o → IfSome (HasNode p) o
-    from None e = tt
-    from (Some y) e = parent-there p.trees x y e
+parent-if p x = by_some_is (λ (o : Option NodeName). IfSome (HasNode p) o) (parent_of p.trees x) (λ e. tt) (λ y e. parent-there p.trees x y e)
 
 -- where a range stands afterwards
 pub place-there : (p : Part) (range : Range NodeName) → HasNode p range.start.node → HasNode p (new_place p.trees range).node
@@ -256,18 +250,9 @@ leads-deleting k range p i t =
 
 -- Insertion into a range: its ends are there in the part in which it is looked up.
 pub range-ends : (p : Part) (k : ℕ) → HasTables p → (range : Range NodeName) → range_at p k ≡ Some range → HasNode p range.start.node × HasNode p range.end.node
-range-ends p k h range e = each p.ranges k h.ranges e
-  where
-    each : (rs : List (Option (Range NodeName))) (k : ℕ) → AllByRecursion (EndsIn p.trees) rs → option_flatten (slice_get rs k) ≡ Some range →
-        HasNode p range.start.node × HasNode p range.end.node
-    each [] k g e = cc
-    each (None ∷ rs) zero g e = cc
-    each (Some r ∷ rs) zero g e =
-        let one : Some r ≡ Some range = e in let same : r ≡ range = cc in
-        let ends : HasEnds p.trees range =
-        subst (HasEnds p.trees) same g.0 in
-        (has_node-times p.trees range.start.node ends.start, has_node-times p.trees range.end.node ends.end)
-    each (r ∷ rs) (suc k) g e = each rs k g.1 e
+range-ends p k h range e =
+    let ends : EndsIn p.trees (Some range) = subst (EndsIn p.trees) e (at-each (EndsIn p.trees) tt p.ranges k h.ranges) in
+    (has_node-times p.trees range.start.node ends.start, has_node-times p.trees range.end.node ends.end)
 
 -- a collapsed range that gets its end
 leads-ending_at : {p : Part} (k : ℕ) (b : Boundary NodeName) → IsStart k b.node p → Leads None p (ending_at k b p)

@@ -4,25 +4,23 @@ use Rattle.std.specs.Prelude.{if◌then◌else◌, ⊤}
 use Rattle.std.specs.List.{AllByRecursion}
 use Rattle.std.specs.Option.{option_map_or}
 use Rattle.dom_base.specs.declared.NodeName.{NodeName}
-use Rattle.dom_model.specs.Names.{name_eq, is_in, is_empty}
-use Rattle.dom_model.specs.Tree.{Trees, Node, node_in, kind_of, is_fragment, subtree, children_of, parent_of, index_of, inclusive_descendants, times_in}
-use Rattle.dom_model.specs.TreeChanges.{without, map_nodes, with_name, with_document, with_data_replaced, with_attribute}
+use Rattle.dom_model.specs.Names.{name_eq, is_empty}
+use Rattle.dom_model.specs.Tree.{Trees, Node, node_in, kind_of, is_fragment, subtree, children_of, parent_of, index_of, times_in}
+use Rattle.dom_model.specs.TreeChanges.{without, map_nodes, with_name}
 use Rattle.dom_model.specs.Output.{Change, child_list}
 use Rattle.dom_model.specs.Part.{Part, next_name}
 use Rattle.dom_model.specs.Steps.{Step, make, make_room, place, take_out, set_document, set_attribute, replace_data, queue_record, part_step, leave, after}
-use Rattle.dom_model.specs.Changes.{Plan, in_turn, steps_of, Observing, observed, suppressed, telling, removal_record, removing, removing_from}
-use Rattle.dom_model.specs.Changes.{has_document, changing_document, adopting, document_below, placed_nodes, emptying, making_room, placing}
-use Rattle.dom_model.specs.Changes.{sibling_before, inserting}
+use Rattle.dom_model.specs.Changes.{Plan, in_turn, steps_of, Observing, observed, suppressed, telling, removal_record, removing, removing_from, has_document}
+use Rattle.dom_model.specs.Changes.{changing_document, adopting, document_below, placed_nodes, emptying, making_room, placing, sibling_before, inserting}
 use Rattle.dom_model.proofs.StepLaws.{owner-part_step}
 use Rattle.dom_model.proofs.OwnerLaws.{name_eq-true}
 use Rattle.dom_worlds.specs.Worlds.{IsPart}
-use Rattle.dom_worlds.proofs.NodesRead.{node-taken_out, node-placed, node-with_node, node-map_nodes}
-use Rattle.dom_worlds.proofs.Lists.{all-then, all-from}
-use Rattle.dom_worlds.proofs.Tests.{by_cases, either_way}
+use Rattle.dom_worlds.proofs.Roots.{node-taken_out, node-placed, node-with_node, node-map_nodes}
+use Rattle.dom_worlds.proofs.Lists.{all-then, all-from, by_cases, either_way, by_some, by_some_is}
 use Rattle.dom_worlds.proofs.TreeChangeLaws.{HasRoot, root-put_root_new, root-subtree, root-map_nodes}
 use Rattle.dom_laws.proofs.Counts.{times_subtree}
-use Rattle.dom_worlds.proofs.PartSteps.{KeepsNames, some-keeps, attribute-keeps, part-step, next-absent}
-use Rattle.dom_worlds.proofs.NodeKinds.{count-grows}
+use Rattle.dom_worlds.proofs.PartSteps.{KeepsNames, part-step, next-absent, count-grows, attribute_put, attribute_put-keeps, data_put, data_put-keeps}
+use Rattle.dom_worlds.proofs.PartSteps.{document_put, document_put-keeps}
 use Rattle.dom_worlds.proofs.TableSteps.{fits-place, HasNode, Fits, MadeIn, stays-step}
 use Rattle.dom_worlds.proofs.Insides.{CanPlace, inside, inside-taken_out, inside-placed, inside-with_node, inside-map_nodes, times-inside}
 use Rattle.dom_worlds.proofs.InsideAncestors.{inside-nested, children-inside, no_parent-root}
@@ -97,20 +95,12 @@ apart-step {p} (make n) i a z h =
 apart-step {p} (place x parent before) i a z h =
     let e = h.apart in
     let b = inside-placed p.trees x a z parent before i.unique h.free in omega arith
-apart-step {p} (take_out x) i a z h = from (parent_of p.trees x)
-  where
-    from : (o : Option NodeName) → inside (option_map_or (leave p x) o p).trees a z ≡ 0
-    from None = h.apart
-    from (Some parent) = let e = h.apart in let b = inside-taken_out p.trees x a z in omega arith
-apart-step {p} (set_document x d) i a z h =
-    mapped-apart (λ n. if is_in name_eq n.name (inclusive_descendants p.trees x) then with_document d n else n)
-    (some-keeps (λ (n : Node). is_in name_eq n.name (inclusive_descendants p.trees x)) (with_document d) (λ n. (refl, refl))) p.trees a z h.apart
-apart-step {p} (set_attribute x b v) i a z h =
-    mapped-apart (λ n. if name_eq n.name x then with_attribute b v n else n)
-    (some-keeps (λ (n : Node). name_eq n.name x) (with_attribute b v) (attribute-keeps b v)) p.trees a z h.apart
-apart-step {p} (replace_data x offset count new) i a z h =
-    mapped-apart (λ n. if name_eq n.name x then with_data_replaced offset count new n else n)
-    (some-keeps (λ (n : Node). name_eq n.name x) (with_data_replaced offset count new) (λ n. (refl, refl))) p.trees a z h.apart
+apart-step {p} (take_out x) i a z h =
+    by_some (λ (o : Option NodeName). inside (option_map_or (leave p x) o p).trees a z ≡ 0) (parent_of p.trees x) h.apart
+    (λ parent. let e = h.apart in let b = inside-taken_out p.trees x a z in omega arith)
+apart-step {p} (set_document x d) i a z h = mapped-apart (document_put p.trees x d) (document_put-keeps p.trees x d) p.trees a z h.apart
+apart-step {p} (set_attribute x b v) i a z h = mapped-apart (attribute_put x b v) (attribute_put-keeps x b v) p.trees a z h.apart
+apart-step {p} (replace_data x offset count new) i a z h = mapped-apart (data_put x offset count new) (data_put-keeps x offset count new) p.trees a z h.apart
 apart-step s i a z h = h.apart
 
 -- kinds stay
@@ -124,20 +114,12 @@ kind-step p (make n) i h y t =
     (λ k. absurd (let b = next-absent p i in let same = ap (times_in p.trees) (name_eq-true (next_name p) y k) in omega arith))
     (λ k. ap (λ (n : Node). n.kind) (node-with_node (with_name (next_name p) n) p.trees y i.unique t k))
 kind-step p (place x parent before) i h y t = ap (λ (n : Node). n.kind) (node-placed before y (fits-place before i h) t)
-kind-step p (take_out x) i h y t = from (parent_of p.trees x)
-  where
-    from : (o : Option NodeName) → kind_of (option_map_or (leave p x) o p).trees y ≡ kind_of p.trees y
-    from None = refl
-    from (Some parent) = ap (λ (n : Node). n.kind) (node-taken_out p.trees x y i.unique t)
-kind-step p (set_document x d) i h y t =
-    mapped-kind (λ n. if is_in name_eq n.name (inclusive_descendants p.trees x) then with_document d n else n)
-    (some-keeps (λ (n : Node). is_in name_eq n.name (inclusive_descendants p.trees x)) (with_document d) (λ n. (refl, refl))) p.trees y t
-kind-step p (set_attribute x b v) i h y t =
-    mapped-kind (λ n. if name_eq n.name x then with_attribute b v n else n)
-    (some-keeps (λ (n : Node). name_eq n.name x) (with_attribute b v) (attribute-keeps b v)) p.trees y t
-kind-step p (replace_data x offset count new) i h y t =
-    mapped-kind (λ n. if name_eq n.name x then with_data_replaced offset count new n else n)
-    (some-keeps (λ (n : Node). name_eq n.name x) (with_data_replaced offset count new) (λ n. (refl, refl))) p.trees y t
+kind-step p (take_out x) i h y t =
+    by_some (λ (o : Option NodeName). kind_of (option_map_or (leave p x) o p).trees y ≡ kind_of p.trees y) (parent_of p.trees x) refl
+    (λ parent. ap (λ (n : Node). n.kind) (node-taken_out p.trees x y i.unique t))
+kind-step p (set_document x d) i h y t = mapped-kind (document_put p.trees x d) (document_put-keeps p.trees x d) p.trees y t
+kind-step p (set_attribute x b v) i h y t = mapped-kind (attribute_put x b v) (attribute_put-keeps x b v) p.trees y t
+kind-step p (replace_data x offset count new) i h y t = mapped-kind (data_put x offset count new) (data_put-keeps x offset count new) p.trees y t
 kind-step p s i h y t = refl
 
 -- is such a change
@@ -214,14 +196,11 @@ leads-telling suppressed c p i = leads-nothing None p i
 
 -- a removal
 pub leads-removing : (how : Observing) (x : NodeName) (p : Part) → IsPart p → Leads None p (removing how x p)
-leads-removing how x p i = from (parent_of p.trees x)
-  where
-    from : (o : Option NodeName) → Leads None p (option_map_or (removing_from how x p.trees) o [])
-    from None = leads-nothing None p i
-    from (Some parent) =
-        let first = leads-one p (take_out x) i tt in
-        leads-then None p (take_out x ∷ []) (telling how (removal_record p.trees parent x)) first
-        (leads-telling how (removal_record p.trees parent x) (part_step p (take_out x)) first.changed.part)
+leads-removing how x p i =
+    by_some (λ (o : Option NodeName). Leads None p (option_map_or (removing_from how x p.trees) o [])) (parent_of p.trees x) (leads-nothing None p i)
+    (λ parent. let first = leads-one p (take_out x) i tt in
+    leads-then None p (take_out x ∷ []) (telling how (removal_record p.trees parent x)) first
+    (leads-telling how (removal_record p.trees parent x) (part_step p (take_out x)) first.changed.part))
 
 -- an adoption
 pub leads-adopting : (d x : NodeName) (p : Part) → IsPart p → x.owner ≡ p.owner → Leads None p (adopting d x p)
@@ -259,14 +238,12 @@ telling-trees suppressed c p = refl
 
 -- one that leaves its parent becomes one
 pub root-removing : (how : Observing) (x : NodeName) (p : Part) → HasNode p x → HasRoot (after p (removing how x p)).trees x
-root-removing how x p t = from (parent_of p.trees x) refl
-  where
-    from : (o : Option NodeName) → parent_of p.trees x ≡ o → HasRoot (after p (option_map_or (removing_from how x p.trees) o [])).trees x
-    from None e = no_parent-root p.trees x t e
-    from (Some parent) e =
-        subst (λ ts. HasRoot ts x) (sym (telling-trees how (removal_record p.trees parent x) (part_step p (take_out x)) ∙
-        ap (λ (q : Part). q.trees) (taken-step p x parent e)))
-        (root-put_root_new x (subtree p.trees x) (without x p.trees) x (root-subtree p.trees x t))
+root-removing how x p t =
+    by_some_is (λ (o : Option NodeName). HasRoot (after p (option_map_or (removing_from how x p.trees) o [])).trees x) (parent_of p.trees x)
+    (λ e. no_parent-root p.trees x t e)
+    (λ parent e. subst (λ ts. HasRoot ts x) (sym (telling-trees how (removal_record p.trees parent x) (part_step p (take_out x)) ∙
+    ap (λ (q : Part). q.trees) (taken-step p x parent e)))
+    (root-put_root_new x (subtree p.trees x) (without x p.trees) x (root-subtree p.trees x t)))
 
 -- and stays one under another node document
 pub root-adopting : (d x : NodeName) (p : Part) → HasNode p x → HasRoot (after p (adopting d x p)).trees x
@@ -275,9 +252,7 @@ root-adopting d x p t =
     let rooted = root-removing observed x p t in
     subst (λ (r : Part). HasRoot r.trees x) (sym (after-append p (removing observed x p) (changing_document d x q)))
     (either_way (λ steps. HasRoot (after q steps).trees x) (not (has_document q.trees d x)) (set_document x d ∷ []) []
-    (root-map_nodes (λ n. if is_in name_eq n.name (inclusive_descendants q.trees x) then with_document d n else n)
-    (λ n. (some-keeps (λ (n : Node). is_in name_eq n.name (inclusive_descendants q.trees x)) (with_document d) (λ n. (refl, refl)) n).0)
-    q.trees x rooted) rooted)
+    (root-map_nodes (document_put q.trees x d) (λ n. (document_put-keeps q.trees x d n).0) q.trees x rooted) rooted)
 
 -- a node is adopted and placed
 pub leads-placing : (parent : NodeName) (before : Option NodeName) (p : Part) (x : NodeName) → IsPart p → MayGo parent p x →

@@ -1,38 +1,35 @@
 -- What stands in the tree of a node that no step takes out keeps to it: the start of a live range through an insertion.
-use Rattle.std.proofs.Common.{zero, suc, ◌≡◌, ℕ, ◌-◌, Bool, true, false, not, List, [], ◌∷◌, ◌++◌, drop, map, length, Option, Some, None, option_map}
-use Rattle.std.proofs.Common.{unwrap_or, refl, sym, ◌∙◌, arith, subst}
-use Rattle.std.specs.Prelude.{if◌then◌else◌, ⊤, slice_get}
-use Rattle.std.specs.List.{AllByRecursion}
+use Rattle.std.proofs.Common.{zero, suc, ◌≡◌, ℕ, ◌-◌, not, List, [], ◌∷◌, ◌++◌, drop, map, length, Option, Some, None, option_map, unwrap_or, refl, sym, ◌∙◌}
+use Rattle.std.proofs.Common.{arith, subst}
+use Rattle.std.specs.Prelude.{⊤, slice_get}
 use Rattle.std.specs.Option.{option_map_or, option_flatten}
 use Rattle.dom_base.specs.declared.NodeName.{NodeName}
-use Rattle.dom_model.specs.Names.{name_eq, is_empty}
-use Rattle.dom_model.specs.Tree.{Trees, Node, node_in, kind_of, is_fragment, parent_of, root_of, index_of, next_sibling, is_inclusive_ancestor}
+use Rattle.dom_model.specs.Names.{name_eq}
+use Rattle.dom_model.specs.Tree.{Trees, Node, node_in, parent_of, root_of, index_of, next_sibling, is_inclusive_ancestor}
 use Rattle.dom_model.specs.TreeChanges.{taken_out}
 use Rattle.dom_model.specs.Output.{child_list}
 use Rattle.dom_model.specs.Part.{Part, next_name, range_at}
 use Rattle.dom_model.specs.Place.{Boundary}
 use Rattle.dom_model.specs.Ranges.{Range, map_ends, after_insert, after_removal, after_replace_data, after_split, after_join}
-use Rattle.dom_model.specs.Steps.{Step, make, make_room, place, take_out, set_document, set_attribute, replace_data, split_at, join_at, set_range}
-use Rattle.dom_model.specs.Steps.{queue_record, part_step, leave, with_ends, after}
-use Rattle.dom_model.specs.Changes.{in_turn, steps_of, Observing, observed, suppressed, telling, removing, removing_from, has_document}
-use Rattle.dom_model.specs.Changes.{changing_document, adopting, document_below, placed_nodes, emptying, making_room, placing, sibling_before}
-use Rattle.dom_model.specs.Changes.{inserting_nodes, inserting}
+use Rattle.dom_model.specs.Steps.{Step, make, make_room, place, take_out, set_document, set_attribute, replace_data, split_at, join_at, set_range, queue_record}
+use Rattle.dom_model.specs.Steps.{part_step, leave, with_ends, after}
+use Rattle.dom_model.specs.Changes.{Observing, observed, suppressed, telling, removing, removing_from, has_document, changing_document, adopting}
+use Rattle.dom_model.specs.Changes.{document_below, placed_nodes, making_room, placing, sibling_before, inserting}
 use Rattle.dom_model.specs.TextChanges.{replacing_data, new_text_node, placing_tail, splitting}
 use Rattle.dom_worlds.specs.Worlds.{IsPart}
 use Rattle.dom_worlds.specs.Tables.{IsNodeIn, EndsIn, HasTables}
 use Rattle.dom_worlds.proofs.Insides.{inside}
 use Rattle.dom_worlds.proofs.InsideAncestors.{times-has_node}
 use Rattle.dom_worlds.proofs.KindLines.{has_node-times}
-use Rattle.dom_worlds.proofs.Lists.{all-then}
+use Rattle.dom_worlds.proofs.Lists.{either_way, at-each, by_some_is}
 use Rattle.dom_worlds.proofs.PartSteps.{part-step}
-use Rattle.dom_worlds.proofs.PlanPlaces.{MayGo, may-still, emptied_of, leads-eased, leads-then, leads-one, leads-removing, leads-placing}
-use Rattle.dom_worlds.proofs.PlanPlaces.{leads-emptied, leads-making_room, placed-may}
+use Rattle.dom_worlds.proofs.PlanPlaces.{MayGo, may-still, leads-eased, leads-one, leads-removing, LeadsEach, placing-each, placed-may}
 use Rattle.dom_worlds.proofs.PlanTexts.{new-may}
 use Rattle.dom_worlds.proofs.Roots.{KeepsRoots, roots-stay, roots-left}
-use Rattle.dom_worlds.proofs.TableSteps.{HasNode, Fits, MadeIn, MovesIn, ancestors-step, stays-step, moves-insert, moves-removal, moves-data}
-use Rattle.dom_worlds.proofs.TableSteps.{moves-split, moves-join}
+use Rattle.dom_worlds.proofs.TableSteps.{HasNode, Fits, MadeIn, MovesIn, ancestors-step, stays-step, moves-insert, moves-removal, moves-data, moves-split}
+use Rattle.dom_worlds.proofs.TableSteps.{moves-join}
 use Rattle.dom_worlds.proofs.TableRecords.{IfSome, tables-step}
-use Rattle.dom_worlds.proofs.Tests.{either_way}
+use Rattle.dom_worlds.proofs.PlanStages.{Joins, each-by, inserting-by}
 
 -- The start of a live range, if there is one, has the root of a node.
 abbrev pub StartsBy : ℕ → NodeName → Part → Type 0
@@ -59,13 +56,7 @@ at-moved f (r ∷ rs) (suc k) = at-moved f rs k
 
 -- its ends
 pub ends-at : (p : Part) (k : ℕ) → HasTables p → EndsIn p.trees (range_at p k)
-ends-at p k h = each p.ranges k h.ranges
-  where
-    each : (rs : List (Option (Range NodeName))) (k : ℕ) → AllByRecursion (EndsIn p.trees) rs → EndsIn p.trees (option_flatten (slice_get rs k))
-    each [] k g = tt
-    each (None ∷ rs) zero g = tt
-    each (Some r ∷ rs) zero g = g.0
-    each (r ∷ rs) (suc k) g = each rs k g.1
+ends-at p k h = at-each (EndsIn p.trees) tt p.ranges k h.ranges
 
 -- What is asked of the node whose tree a range's start stands in, if there is such a range.
 pub record IsStart (k : ℕ) (y : NodeName) (p : Part) : Type 0 where
@@ -124,11 +115,9 @@ starts-step {p} (place x parent before) f o a =
     let us = (part_step p (place x parent before)).trees in
     starts-trees us p.node_count (roots-stay p.trees us (part-step p (place x parent before) a.part).unique
     (ancestors-step p (place x parent before) a.part f tt)) a
-starts-step {k} {y} {p} (take_out x) f out a = from (parent_of p.trees x) refl
-  where
-    from : (o : Option NodeName) → parent_of p.trees x ≡ o → StartsBy k y (option_map_or (leave p x) o p)
-    from None e = a.starts
-    from (Some parent) e = starts-left x e out a
+starts-step {k} {y} {p} (take_out x) f out a =
+    by_some_is (λ (o : Option NodeName). StartsBy k y (option_map_or (leave p x) o p)) (parent_of p.trees x) (λ e. a.starts)
+    (λ parent e. starts-left x e out a)
 starts-step {p} (set_document x d) f o a =
     let us = (part_step p (set_document x d)).trees in
     starts-trees us p.node_count
@@ -190,63 +179,36 @@ spares-placing parent before p x m =
     (spares-append parent p (removing observed x p) (changing_document d x q) (spares-removing parent observed x p m.apart)
     (either_way (SparesAll parent q) (not (has_document q.trees d x)) (set_document x d ∷ []) [] (tt, tt) tt)) (tt, tt)
 
--- all that are placed
-spares-each : (parent : NodeName) (before : Option NodeName) (xs : List NodeName) (p : Part) → IsPart p → AllByRecursion (MayGo parent p) xs →
-    SparesAll parent p (in_turn (placing parent before) xs p)
-spares-each parent before [] p i m = tt
-spares-each parent before (x ∷ xs) p i m =
-    let steps = placing parent before x p in
-    let q = after p steps in
-    let c = (leads-placing parent before p x i m.0).changed in
-    spares-append parent p steps (in_turn (placing parent before) xs q) (spares-placing parent before p x m.0)
-    (spares-each parent before xs q c.part (all-then (MayGo parent p) (MayGo parent q) (λ y. may-still parent p q y c) xs m.1))
-
--- removals
-spares-removals : (parent : NodeName) (how : Observing) (xs : List NodeName) (p : Part) → IsPart p → AllByRecursion (MayGo parent p) xs →
-    SparesAll parent p (in_turn (removing how) xs p)
-spares-removals parent how [] p i m = tt
-spares-removals parent how (x ∷ xs) p i m =
-    let steps = removing how x p in
-    let q = after p steps in
-    let c = (leads-eased (Some parent) p steps (leads-removing how x p i)).changed in
-    spares-append parent p steps (in_turn (removing how) xs q) (spares-removing parent how x p m.0.apart)
-    (spares-removals parent how xs q c.part (all-then (MayGo parent p) (MayGo parent q) (λ y. may-still parent p q y c) xs m.1))
+-- as other plans need it
+spares-joins_on : (y : NodeName) → Joins (SparesAll y)
+spares-joins_on y = record { nothing = λ p. tt; append = λ p xs ys c. spares-append y p xs ys }
 
 -- an insertion
 pub spares-inserting : {node parent : NodeName} {p : Part} (how : Observing) (before : Option NodeName) → IsPart p → MayGo parent p node →
     SparesAll parent p (inserting how node parent before p)
 spares-inserting {node} {parent} {p} how before i m =
-    let spot = Some parent in
-    let moved = placed_nodes p.trees node in
-    let told = telling how (child_list parent moved [] (sibling_before p.trees parent before) before) in
-    let one = emptied_of p node p in
-    let a = leads-eased spot p one (leads-emptied node p i) in
-    let q = after p one in
-    let two = making_room parent before (length moved) q in
-    let ab = leads-then spot p one two a (leads-eased spot q two (leads-making_room parent before (length moved) q a.changed.part)) in
-    let r = after p (one ++ two) in
-    let three = in_turn (placing parent before) moved r in
-    let n = all-then (MayGo parent p) (MayGo parent r) (λ y. may-still parent p r y ab.changed) moved (placed-may parent p node i m) in
-    either_way (SparesAll parent p) (is_empty moved) [] (inserting_nodes how node moved parent before p) tt
-    (spares-append parent p ((one ++ two) ++ three) told
-    (spares-append parent p (one ++ two) three
-    (spares-append parent p one two (emptied (is_fragment (kind_of p.trees node)) moved (placed-may parent p node i m))
-    (roomy before (length moved) q)) (spares-each parent before moved r ab.changed.part n))
-    (silent how (child_list parent moved [] (sibling_before p.trees parent before) before) (after p ((one ++ two) ++ three))))
+    let each : LeadsEach (Some parent) (MayGo parent) (removing suppressed) = record {
+      leads = λ q x j n. leads-eased (Some parent) q (removing suppressed x q) (leads-removing suppressed x q j);
+      stays = may-still parent;
+    } in
+    inserting-by (spares-joins_on parent) i m (record {
+      removals = each-by (spares-joins_on parent) each (λ q x j n. spares-removing parent suppressed x q n.apart) (placed_nodes p.trees node) p i
+          (placed-may parent p node i m);
+      left = λ q c. (tt, tt);
+      room = λ q. roomy before q;
+      placed = λ q c may. each-by (spares-joins_on parent) (placing-each parent before) (λ r x j n. spares-placing parent before r x n)
+          (placed_nodes p.trees node) q c.part may;
+      told = λ q c. silent how q;
+    })
   where
-    silent : (how : Observing) (c : _) (q : Part) → SparesAll parent q (telling how c)
-    silent observed c q = (tt, tt)
-    silent suppressed c q = tt
+    silent : (how : Observing) (q : Part) →
+        SparesAll parent q (telling how (child_list parent (placed_nodes p.trees node) [] (sibling_before p.trees parent before) before))
+    silent observed q = (tt, tt)
+    silent suppressed q = tt
 
-    roomy : (before : Option NodeName) (count : ℕ) (q : Part) → SparesAll parent q (making_room parent before count q)
-    roomy None count q = tt
-    roomy (Some child) count q = (tt, tt)
-
-    emptied : (b : Bool) (moved : List NodeName) → AllByRecursion (MayGo parent p) moved →
-        SparesAll parent p ((if b then emptying node moved else steps_of []) p)
-    emptied false moved m = tt
-    emptied true moved m = spares-append parent p (in_turn (removing suppressed) moved p) (queue_record (child_list node [] moved None None) ∷ [])
-        (spares-removals parent suppressed moved p i m) (tt, tt)
+    roomy : (before : Option NodeName) (q : Part) → SparesAll parent q (making_room parent before (length (placed_nodes p.trees node)) q)
+    roomy None q = tt
+    roomy (Some child) q = (tt, tt)
 
 -- a split of a Text below the node
 pub spares-splitting : (x : NodeName) (offset : ℕ) (p : Part) → IsPart p → SparesAll (unwrap_or (parent_of p.trees x) x) p (splitting x offset p)

@@ -1,14 +1,14 @@
 -- The steps of the plans of replacements, data, text and ranges fit where they are made.
-use Rattle.std.proofs.Common.{◌≡◌, ◌≤◌, ℕ, ◌+◌, ◌-◌, Bool, true, false, not, ◌&&◌, List, [], ◌∷◌, ◌++◌, map, filter, flat_map, drop, length, Option}
-use Rattle.std.proofs.Common.{Some, None, refl, sym, ap, ◌∙◌, arith, subst}
+use Rattle.std.proofs.Common.{◌≡◌, ◌≤◌, ℕ, ◌+◌, ◌-◌, Bool, true, false, not, ◌&&◌, List, [], ◌∷◌, ◌++◌, map, filter, flat_map, drop, length, Option, Some, None}
+use Rattle.std.proofs.Common.{refl, sym, ap, ◌∙◌, arith, subst}
 use Rattle.std.specs.Prelude.{if◌then◌else◌, ⊤, ◌==◌, min}
 use Rattle.std.specs.List.{AllByRecursion}
 use Rattle.std.specs.Option.{option_map_or}
 use Rattle.dom_base.specs.declared.NodeName.{NodeName}
 use Rattle.dom_model.specs.Names.{Word, DomString, name_eq, is_empty, items_after}
-use Rattle.dom_model.specs.Tree.{Trees, none, Node, node_in, kind_of, is_text, is_document, is_fragment, has_data, subtree, children_of, parent_of}
-use Rattle.dom_model.specs.Tree.{times_in, root_of, siblings, previous_sibling, next_sibling, index_of, length_of, attribute_value, descendants}
-use Rattle.dom_model.specs.Tree.{inclusive_descendants, nodes}
+use Rattle.dom_model.specs.Tree.{Trees, none, Node, node_in, kind_of, is_text, is_document, is_fragment, has_data, subtree, children_of, parent_of, times_in}
+use Rattle.dom_model.specs.Tree.{root_of, siblings, previous_sibling, next_sibling, index_of, length_of, attribute_value, descendants, inclusive_descendants}
+use Rattle.dom_model.specs.Tree.{nodes}
 use Rattle.dom_model.specs.TreeChanges.{with_name}
 use Rattle.dom_model.specs.Output.{child_list, attributes, character_data}
 use Rattle.dom_model.specs.Part.{Part, next_name}
@@ -20,12 +20,10 @@ use Rattle.dom_model.specs.TextChanges.{normalizing_text, normalizing, replacing
 use Rattle.dom_model.proofs.OwnerLaws.{name_eq-same, name_eq-true}
 use Rattle.dom_worlds.specs.Worlds.{IsPart}
 use Rattle.dom_worlds.proofs.ChildPairs.{children-childs}
-use Rattle.dom_worlds.proofs.Lists.{all-dropped, all-then, all-from, all-map, all-filter, all-take_while}
-use Rattle.dom_worlds.proofs.NodesRead.{node-new}
+use Rattle.dom_worlds.proofs.Lists.{all-dropped, all-then, all-from, all-map, all-filter, all-take_while, by_cases}
+use Rattle.dom_worlds.proofs.Roots.{node-new, root-parent_of}
 use Rattle.dom_worlds.proofs.PlanChildren.{IsOtherChild, IsChild, parent-child, child-parent, child-make, child-inserting, child-inserted, child-replacing_data}
-use Rattle.dom_worlds.proofs.Roots.{root-parent_of}
 use Rattle.dom_worlds.proofs.TableRecords.{after-all}
-use Rattle.dom_worlds.proofs.Tests.{by_cases}
 use Rattle.dom_laws.proofs.Counts.{times-here, times_subtree}
 use Rattle.dom_worlds.proofs.Trees.{nodes-there}
 use Rattle.dom_worlds.proofs.TreeChangeLaws.{times-with_node}
@@ -33,8 +31,8 @@ use Rattle.dom_worlds.proofs.PartSteps.{next-absent}
 use Rattle.dom_worlds.proofs.TableSteps.{HasNode}
 use Rattle.dom_worlds.proofs.Insides.{inside-new}
 use Rattle.dom_worlds.proofs.InsideAncestors.{parent-there, child-there}
-use Rattle.dom_worlds.proofs.PlanPlaces.{Changed, Leads, MayGo, may-still, still, after-append, leads-then, leads-eased, leads-nothing, leads-one}
-use Rattle.dom_worlds.proofs.PlanPlaces.{LeadsEach, leads-each, removing-each, inserting-each, leads-if, leads-removing, leads-inserting}
+use Rattle.dom_worlds.proofs.PlanPlaces.{Changed, Leads, MayGo, may-still, still, after-append, leads-then, leads-eased, leads-nothing, leads-one, LeadsEach}
+use Rattle.dom_worlds.proofs.PlanPlaces.{leads-each, removing-each, inserting-each, leads-if, leads-removing, leads-inserting}
 
 -- One plan and then another in what it leaves.
 pub leads-plan : (spot : Option NodeName) (f g : Plan) (p : Part) → Leads spot p (f p) → ((q : Part) → Changed spot p q → Leads spot q (g q)) →

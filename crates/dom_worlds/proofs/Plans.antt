@@ -12,19 +12,18 @@ use Rattle.dom_model.specs.Output.{Change, child_list, attributes, character_dat
 use Rattle.dom_model.specs.Part.{Part, next_name, range_at}
 use Rattle.dom_model.specs.Place.{Boundary}
 use Rattle.dom_model.specs.Ranges.{Range, from_to, is_collapsed}
-use Rattle.dom_model.specs.Steps.{Step, make, make_room, place, take_out, set_document, set_attribute, replace_data, split_at, join_at, set_range}
-use Rattle.dom_model.specs.Steps.{queue_record, part_step, after}
-use Rattle.dom_model.specs.Changes.{Plan, ◌and_then◌, in_turn, doing, steps_of, only_if, Observing, observed, suppressed, telling, removal_record}
-use Rattle.dom_model.specs.Changes.{removing, removing_from, has_document, changing_document, adopting, document_below, placed_nodes, emptying}
-use Rattle.dom_model.specs.Changes.{making_room, placing, sibling_before, inserting_nodes, inserting, reference_for, pre_inserting, replacing}
-use Rattle.dom_model.specs.Changes.{setting_attribute, unsetting_attribute}
+use Rattle.dom_model.specs.Steps.{Step, make, make_room, place, take_out, set_document, set_attribute, replace_data, split_at, join_at, set_range, queue_record}
+use Rattle.dom_model.specs.Steps.{part_step, after}
+use Rattle.dom_model.specs.Changes.{Plan, ◌and_then◌, in_turn, doing, steps_of, only_if, Observing, observed, suppressed, telling, removal_record, removing}
+use Rattle.dom_model.specs.Changes.{removing_from, has_document, changing_document, adopting, document_below, placed_nodes, emptying, making_room, placing}
+use Rattle.dom_model.specs.Changes.{sibling_before, inserting_nodes, inserting, reference_for, pre_inserting, replacing, setting_attribute, unsetting_attribute}
 use Rattle.dom_model.specs.TextChanges.{replacing_data, new_text_node, replacing_all_data, placing_tail, splitting, texts_after, joins, joining}
 use Rattle.dom_model.specs.TextChanges.{normalizing_text, normalizing, replacing_children, setting_text}
-use Rattle.dom_model.specs.Extract.{Pieces, nothing, whole, cut, clone, cut_start, cut_end, pieces_of, is_in_one_data, clone_part, making_below}
-use Rattle.dom_model.specs.Extract.{taking, new_fragment_node, own_document, new_place, both_at, extracting}
+use Rattle.dom_model.specs.Extract.{Pieces, nothing, whole, cut, clone, cut_start, cut_end, pieces_of, is_in_one_data, clone_part, making_below, taking}
+use Rattle.dom_model.specs.Extract.{new_fragment_node, own_document, new_place, both_at, extracting}
 use Rattle.dom_model.specs.RangeOps.{cutting_data, outermost_contained, deleting_contents, deleting, insertion_parent, start_reference, ending_at}
 use Rattle.dom_model.specs.RangeOps.{inserting_before, inserting_at, inserting_into_range}
-use Rattle.dom_worlds.proofs.Lists.{all-append, all-from, all-then}
+use Rattle.dom_worlds.proofs.Lists.{all-append, all-from, all-then, by_some}
 
 -- What is known of the nodes of pieces: W of those that are taken whole, C of those that are cut, K of those that are cloned.
 abbrev pub AreFit : (NodeName → Type 0) → (NodeName → Type 0) → (NodeName → Type 0) → Pieces → Type 0
@@ -105,15 +104,13 @@ module _ {Inv : Part → Type 0} {May : Step → Type 0} {MayPlace : NodeName �
 
   -- a removal
   pub keeps-removing : (how : Observing) (x : NodeName) → Keeps (removing how x)
-  keeps-removing how x p o = from (parent_of p.trees x)
-    where
-      from : (a : Option NodeName) → AllByRecursion May (option_map_or (removing_from how x p.trees) a [])
-      from None = tt
-      from (Some parent) = (
+  keeps-removing how x p o =
+      by_some (λ (a : Option NodeName). AllByRecursion May (option_map_or (removing_from how x p.trees) a [])) (parent_of p.trees x) tt
+      (λ parent. (
         rules.taking_out x,
         made-telling how (removal_record p.trees parent x)
             (rules.children_told parent [] (x ∷ []) (previous_sibling p.trees x) (next_sibling p.trees x)),
-      )
+      ))
 
   -- another node document
   keeps-changing_document : (d x : NodeName) → Keeps (changing_document d x)

@@ -1,6 +1,6 @@
 -- Insertions into a range keep the ends of ranges within their nodes.
-use Rattle.std.proofs.Common.{◌≡◌, ◌≤◌, ℕ, ◌+◌, ◌-◌, Bool, true, false, ◌&&◌, ◌||◌, List, [], ◌∷◌, ◌++◌, drop, length, Option, Some, None, unwrap_or}
-use Rattle.std.proofs.Common.{refl, sym, ap, ◌∙◌, arith, true≢false, subst}
+use Rattle.std.proofs.Common.{◌≡◌, ◌≤◌, ℕ, ◌+◌, ◌-◌, Bool, true, false, ◌&&◌, ◌||◌, List, [], ◌∷◌, ◌++◌, drop, length, Option, Some, None, unwrap_or, refl, sym}
+use Rattle.std.proofs.Common.{ap, ◌∙◌, arith, true≢false, subst}
 use Rattle.std.specs.Prelude.{if◌then◌else◌, slice_get}
 use Rattle.std.specs.List.{AllByRecursion}
 use Rattle.std.specs.Option.{option_map_or, option_and_then}
@@ -9,16 +9,16 @@ use Rattle.dom_base.specs.declared.Kind.{Kind}
 use Rattle.dom_base.specs.declared.Kind.TheVariants.{Document, Fragment, Shadow, Element, Text, Comment}
 use Rattle.dom_base.specs.declared.NodeName.{NodeName}
 use Rattle.dom_model.specs.Names.{name_eq, is_empty, first_of, items_after}
-use Rattle.dom_model.specs.Tree.{Trees, Node, node_in, kind_of, is_text, is_fragment, has_data, children_of, ancestors, parent_of, next_sibling}
-use Rattle.dom_model.specs.Tree.{index_of, length_of}
+use Rattle.dom_model.specs.Tree.{Trees, Node, node_in, kind_of, is_text, is_fragment, has_data, children_of, ancestors, parent_of, next_sibling, index_of}
+use Rattle.dom_model.specs.Tree.{length_of}
 use Rattle.dom_model.specs.TreeChanges.{taken_out}
 use Rattle.dom_model.specs.Output.{child_list}
 use Rattle.dom_model.specs.Part.{Part, next_name, range_at}
 use Rattle.dom_model.specs.Place.{Boundary}
 use Rattle.dom_model.specs.Ranges.{Range, at, from_to, is_collapsed}
 use Rattle.dom_model.specs.Steps.{make, take_out, split_at, set_range, queue_record, part_step, after}
-use Rattle.dom_model.specs.Changes.{Plan, ◌and_then◌, in_turn, steps_of, Observing, observed, suppressed, removal_record, removing, removing_from}
-use Rattle.dom_model.specs.Changes.{placed_nodes, emptying, inserting, reference_for}
+use Rattle.dom_model.specs.Changes.{Plan, ◌and_then◌, in_turn, steps_of, Observing, observed, suppressed, removal_record, removing, removing_from, placed_nodes}
+use Rattle.dom_model.specs.Changes.{emptying, inserting, reference_for}
 use Rattle.dom_model.specs.TextChanges.{replacing_data, new_text_node, placing_tail, splitting}
 use Rattle.dom_model.specs.RangeOps.{start_reference, insertion_parent, is_comment, cannot_take_node, ending_at, inserting_before, inserting_at}
 use Rattle.dom_model.specs.RangeOps.{inserting_into_range}
@@ -29,18 +29,16 @@ use Rattle.dom_worlds.proofs.Bounds.{IsRoomy, RangeUnder, reach, nowhere, HasRoo
 use Rattle.dom_worlds.proofs.ChildPairs.{children-childs}
 use Rattle.dom_worlds.proofs.Insides.{inside, inside-itself}
 use Rattle.dom_worlds.proofs.ChildCounts.{kids, one_at, kids-taken_out, index-below}
-use Rattle.dom_worlds.proofs.Lists.{all-then}
-use Rattle.dom_worlds.proofs.NodesRead.{length-kids}
-use Rattle.dom_worlds.proofs.PlanBounds.{MayEnter, IsOpen, open-still, room-then, room-removing, room-inserting}
+use Rattle.dom_worlds.proofs.Lists.{all-then, by_cases, either_way, which_way, by_some_is}
+use Rattle.dom_worlds.proofs.Roots.{length-kids}
+use Rattle.dom_worlds.proofs.RangeBounds.{MayEnter, IsOpen, open-still, room-then, room-removing, room-inserting, child-there_in}
 use Rattle.dom_worlds.proofs.PlacedBounds.{Distinct, kids-inserted, kids-plain}
 use Rattle.dom_worlds.proofs.PlanChildren.{IsChild, child-then, child-removing, child-replacing_data, child-inserted, child-parent}
-use Rattle.dom_worlds.proofs.PlanPlaces.{Changed, MayGo, may-still, still, taken-step, telling-trees, root-removing, after-append, emptied_of}
-use Rattle.dom_worlds.proofs.PlanPlaces.{leads-eased, leads-one, leads-removing, leads-inserting}
+use Rattle.dom_worlds.proofs.PlanPlaces.{Changed, MayGo, may-still, still, taken-step, telling-trees, root-removing, after-append, emptied_of, leads-eased}
+use Rattle.dom_worlds.proofs.PlanPlaces.{leads-one, leads-removing, leads-inserting}
 use Rattle.dom_worlds.proofs.PlanTexts.{may-follow, leads-splitting}
-use Rattle.dom_worlds.proofs.RangeBounds.{child-there_in}
 use Rattle.dom_worlds.proofs.TableSteps.{HasNode}
 use Rattle.dom_worlds.proofs.TableRecords.{IfSome, first-all, after-all, all-get}
-use Rattle.dom_worlds.proofs.Tests.{by_cases, either_way, which_way}
 use Rattle.dom_worlds.proofs.TextBounds.{none-among, among-behind, children-among, text-data, room-splitting}
 use Rattle.dom_worlds.proofs.TreeChangeLaws.{HasRoot, root-taken_out}
 use Rattle.dom_worlds.proofs.Trees.{all-both}
@@ -62,13 +60,10 @@ trees-removing how x parent p e =
 
 -- a root stays one
 root-left : (how : Observing) (x y : NodeName) (p : Part) → HasRoot p.trees y → HasRoot (after p (removing how x p)).trees y
-root-left how x y p h = from (parent_of p.trees x) refl
-  where
-    from : (o : Option NodeName) → parent_of p.trees x ≡ o → HasRoot (after p (option_map_or (removing_from how x p.trees) o [])).trees y
-    from None e = h
-    from (Some parent) e =
-        subst (λ ts. HasRoot ts y) (sym (telling-trees how (removal_record p.trees parent x) (part_step p (take_out x)) ∙
-        ap (λ (q : Part). q.trees) (taken-step p x parent e))) (root-taken_out x p.trees y h)
+root-left how x y p h =
+    by_some_is (λ (o : Option NodeName). HasRoot (after p (option_map_or (removing_from how x p.trees) o [])).trees y) (parent_of p.trees x) (λ e. h)
+    (λ parent e. subst (λ ts. HasRoot ts y) (sym (telling-trees how (removal_record p.trees parent x) (part_step p (take_out x)) ∙
+    ap (λ (q : Part). q.trees) (taken-step p x parent e))) (root-taken_out x p.trees y h))
 
 -- through many removals
 root-removals : (how : Observing) (xs : List NodeName) (y : NodeName) (p : Part) → HasRoot p.trees y → HasRoot (after p (in_turn (removing how) xs p)).trees y

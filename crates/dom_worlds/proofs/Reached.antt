@@ -1,92 +1,194 @@
 -- What holds of every world that the machine reaches, all in one; and what follows for slots.
-use Rattle.std.proofs.Common.{◌≡◌, ◌≤◌, Bool, true, false, [], sym, arith, true≢false, subst, not, map, List, ◌∷◌}
-use Rattle.std.specs.List.{AllByRecursion}
-use Rattle.std.specs.Option.{option_and_then, option_map_or}
+use Rattle.std.proofs.Common.{◌≡◌, ◌≢◌, ℕ, suc, Bool, false, List, [], ◌∷◌, ◌++◌, length, filter, Some, refl, sym, ap, ◌∙◌, arith, subst, append-nil}
+use Rattle.std.proofs.Common.{length-append, ◌≤◌, true, true≢false, not, map}
+use Rattle.std.specs.Prelude.{is_none, option_to_list}
+use Rattle.std.specs.Option.{option_map_or, option_and_then}
+use Rattle.std.proofs.lemmas.Bool.{cond-true, cond-false, false_from_ne_true, and_parts, not-true}
+use Rattle.std.proofs.lemmas.List.Elements.{filter-append}
+use Rattle.dom_base.specs.declared.Owner.{Owner}
+use Rattle.dom_base.specs.declared.Owner.TheVariants.{Page, Component}
 use Rattle.dom_base.specs.declared.NodeName.{NodeName}
-use Rattle.dom_model.specs.Command.{Line}
-use Rattle.dom_model.specs.DocumentMachine.{first_world, step, run_lines}
-use Rattle.dom_model.specs.Names.{name_eq}
-use Rattle.dom_model.specs.Runs.{Run, quiet}
-use Rattle.dom_model.specs.Slots.{assigned_below, is_assigned_to}
-use Rattle.dom_model.specs.Tree.{names_of, roots, trees_below, subtree, children_of, times_in}
-use Rattle.dom_model.specs.Trace.{line_may_stop, no_component_stops_from}
-use Rattle.dom_model.specs.Turns.{ending_turn, has_other_turn}
-use Rattle.dom_model.specs.World.{World, trees_with, some_if, root_at, shadow_root_of}
+use Rattle.dom_base.specs.declared.Kind.TheVariants.{Shadow}
+use Rattle.dom_model.specs.Names.{owner_eq, first_of, name_eq}
+use Rattle.dom_model.specs.Tree.{node_in, names_of, roots, trees_below, subtree, children_of, times_in}
+use Rattle.dom_model.specs.CommandNames.{named}
+use Rattle.dom_model.specs.DocumentMachine.{first_world, part_with_root, effect_in, attaching, step, run_lines, finish}
+use Rattle.dom_model.specs.Effects.{Effect, tables, changes}
+use Rattle.dom_model.specs.Part.{Part}
+use Rattle.dom_model.specs.World.{World, micro_task, part_of, with_part, is_there, component_made, made_by, MayAttach, trees_with, some_if, root_at}
+use Rattle.dom_model.specs.World.{shadow_root_of}
+use Rattle.dom_model.proofs.OwnerLaws.{ne-owner_eq, made_by-made, component_made-other}
+use Rattle.dom_model.proofs.PartLaws.{owner-part_of}
 use Rattle.dom_worlds.specs.Reached.{Invariant, IsReached, FirstIsReached, StepKeepsReached, EndingKeepsReached, FinishKeepsReached, ScriptsReach}
 use Rattle.dom_worlds.specs.Reached.{QuietScriptsReach, AssignedAreSiblings}
-use Rattle.dom_worlds.specs.Worlds.{IsWorld, IsOf}
-use Rattle.dom_worlds.proofs.FirstWorld.{quiet-first}
+use Rattle.dom_worlds.specs.Worlds.{owners_in, IsThere, task_owner, components_of, is_made_by, is_unmade, HasOwners, IsWorld, IsOf}
+use Rattle.dom_worlds.proofs.Effects.{KeepsBase, base-effect, attach-may}
+use Rattle.dom_worlds.proofs.StepKeeps.{quiet-first, quiet-attaching, by_owner, attached-maker, attached-new, attached-other, attached-there, OkFor, quiet-step}
+use Rattle.dom_worlds.proofs.StepKeeps.{any-line, quiet-keeps}
+use Rattle.dom_worlds.proofs.Invariants.{Keeps, Any, both-keep, kept-ending_other, kept-ending_turn, kept-finish, kept-lines, kept-step}
+use Rattle.dom_worlds.proofs.Lists.{all-append, all-then, all-filter}
+use Rattle.dom_worlds.proofs.OwnerSteps.{IsPresent, IsPeopled, same-people, peopled-with_part, peopled-world_after, peopled-dispatch, peopled-told, people}
+use Rattle.dom_worlds.proofs.Turns.{at_end, quiet-ending_turn, quiet-ending_other}
+use Rattle.dom_worlds.proofs.Owners.{has_owner, there-listed, owners-put, owners-put_new, absent-part, made_by-told, next-absent, owner-named}
+use Rattle.std.specs.List.{AllByRecursion}
+use Rattle.dom_model.specs.Command.{Line, effect}
+use Rattle.dom_model.specs.Slots.{assigned_below, is_assigned_to}
+use Rattle.dom_model.specs.Trace.{line_may_stop, no_component_stops_from}
+use Rattle.dom_model.specs.Turns.{ending_turn, ending_other_turn}
 use Rattle.dom_worlds.proofs.ShadowTrees.{owned-in}
-use Rattle.dom_worlds.proofs.KindCommands.{all-kinds, kinds-same}
-use Rattle.dom_worlds.proofs.KindLines.{kinds-line, kinds-first}
-use Rattle.dom_worlds.proofs.Lists.{all-filter, all-then}
-use Rattle.dom_worlds.proofs.OwnerCommands.{peopled-first, peopled-step}
-use Rattle.dom_worlds.proofs.OwnerSteps.{people}
-use Rattle.dom_worlds.proofs.OwnerDispatches.{peopled-ending_turn}
-use Rattle.dom_worlds.proofs.Tests.{either_way}
-use Rattle.dom_worlds.proofs.TurnEndings.{quiet-ending_turn, alike-ending_turn}
-use Rattle.std.proofs.lemmas.Bool.{and_parts, not-true}
-use Rattle.std.specs.Prelude.{is_some}
-use Rattle.dom_worlds.proofs.StepKeeps.{quiet-step}
+use Rattle.dom_worlds.proofs.KindLines.{all-kinds, AllKinds, kinds-first, kinds-keeps}
 use Rattle.dom_laws.proofs.Counts.{times_subtree}
 use Rattle.dom_worlds.proofs.TreeChangeLaws.{times-below}
 use Rattle.dom_worlds.proofs.InsideAncestors.{roots-there}
+
+-- The first world, and attaching.
+pub peopled-first : IsPeopled first_world
+peopled-first =
+    record {
+      owners = record { first = refl; unmade = refl; made = none_made; turn = tt; tasks = tt; signalled = tt };
+      makers = (quiet-first {only_log = false}).world.makers;
+    }
+  where
+    none_made : (o : Owner) → filter (is_made_by o) (owners_in first_world) ≡ components_of o (length (part_of first_world o).attached)
+    none_made Page = refl
+    none_made (Component k) = refl
+
+-- a component that an owner made is added to the owners of a world
+record AddsOwner (w v : World) (c o : Owner) (n : ℕ) : Type 0 where
+  named : made_by c ≡ Some (o, n)
+  owners : owners_in v ≡ owners_in w ++ c ∷ []
+
+-- where one is added that another owner made, an owner's components stay
+none-more : {w v : World} {c o : Owner} {n : ℕ} → AddsOwner w v c o n → HasOwners w → (a : Owner) → a ≢ o → (part_of v a).attached ≡ (part_of w a).attached →
+    filter (is_made_by a) (owners_in v) ≡ components_of a (length (part_of v a).attached)
+none-more {w} {v} {c} {o} adds i a f same =
+    let other : is_made_by a c ≡ false = ap (λ x. option_map_or (λ (m : Owner × ℕ). owner_eq m.0 a) x false) adds.named ∙ ne-owner_eq o a (λ e. f (sym e)) in
+    ap (filter (is_made_by a)) adds.owners ∙ filter-append (is_made_by a) (owners_in w) (c ∷ [])
+    ∙ ap (λ os. filter (is_made_by a) (owners_in w) ++ os) (cond-false (is_made_by a c) (c ∷ []) [] other)
+    ∙ append-nil (filter (is_made_by a) (owners_in w)) ∙ i.made a ∙ sym (ap (λ (hs : List NodeName). components_of a (length hs)) same)
+
+-- attaching adds the new component
+peopled-attaching : {w : World} {o : Owner} (x : NodeName) → MayAttach o → x.owner ≡ o → IsPresent w o → Invariant false w → IsPeopled (attaching w o x).0
+peopled-attaching {w} {o} x may h k q =
+    let p = part_of w o in
+    let n = length p.attached in
+    let c = component_made o n in
+    let more = record p { attached = p.attached ++ x ∷ [] } in
+    let marked = with_part w more in
+    let v = (attaching w o x).0 in
+    let absent : IsThere w c → ⊥ = next-absent w k.people.makers k.people.owners o may in
+    let marked_owners : owners_in marked ≡ owners_in w = owners-put w.parts more (subst (IsThere w) (sym (owner-part_of w o)) k.there) in
+    let off : has_owner (owners_in marked) c ≡ false =
+    ap (λ os. has_owner os c) marked_owners ∙ sym (there-listed w.parts c) ∙ false_from_ne_true (is_there w c) absent in
+    let owners : owners_in v ≡ owners_in w ++ c ∷ [] =
+    owners-put_new marked.parts (part_with_root c Shadow (node_in p.trees x).document) off ∙ ap (λ os. os ++ c ∷ []) marked_owners in
+    let named : made_by c ≡ Some (o, n) = made_by-made o n may in
+    let adds : AddsOwner w v c o n = record { named = named; owners = owners } in
+    let filtered : (f : Owner → Bool) → filter f (owners_in v) ≡ filter f (owners_in w) ++ filter f (c ∷ []) =
+    λ f. ap (filter f) owners ∙ filter-append f (owners_in w) (c ∷ []) in
+    let stays : (a : Owner) → IsThere w a → IsThere v a = attached-there w o x may in
+    record {
+      owners = record {
+        first = ap first_of owners ∙ first-more (owners_in w) (c ∷ []) k.people.owners.first;
+        unmade = filtered is_unmade ∙ ap (λ os. os ++ filter is_unmade (c ∷ [])) k.people.owners.unmade
+            ∙ ap (λ os. Page ∷ os) (cond-false (is_unmade c) (c ∷ []) [] (ap is_none named));
+        made = by_owner (λ a. filter (is_made_by a) (owners_in v) ≡ components_of a (length (part_of v a).attached)) o c (record {
+          first = let longer = length-append p.attached (x ∷ []) in
+              let count : length (part_of v o).attached ≡ suc n = ap (λ (q : Part). length q.attached) (attached-maker w o x may) ∙ omega (arith, longer) in
+              filtered (is_made_by o) ∙ ap (λ os. os ++ filter (is_made_by o) (c ∷ [])) (k.people.owners.made o)
+              ∙ ap (λ os. components_of o n ++ os) (cond-true (is_made_by o c) (c ∷ []) [] (made_by-told c o n named))
+              ∙ sym (ap (components_of o) count);
+          second = none-more adds k.people.owners c (component_made-other o n)
+              (ap (λ (q : Part). q.attached) (attached-new w o x may) ∙ sym (ap (λ (q : Part). q.attached) (absent-part w c absent)));
+          others = λ a f g. none-more adds k.people.owners a f (ap (λ (q : Part). q.attached) (attached-other w o x may a f g));
+        });
+        turn = all-then (IsThere w) (IsThere v) stays (option_to_list w.turn) k.people.owners.turn;
+        tasks = all-then (λ t. IsThere w (task_owner t)) (λ t. IsThere v (task_owner t)) (λ t. stays (task_owner t)) w.tasks k.people.owners.tasks;
+        signalled = all-then (λ (s : NodeName). IsThere w s.owner) (λ s. IsThere v s.owner) (λ s. stays s.owner) w.signalled k.people.owners.signalled;
+      };
+      makers = (quiet-attaching w o x may h q).world.makers;
+    }
+  where
+    first-more : (os more : List Owner) → first_of os ≡ Some Page → first_of (os ++ more) ≡ Some Page
+    first-more [] more e = cc
+    first-more (a ∷ os) more e = e
+
+-- Other commands.
+peopled-effect : {w : World} {o : Owner} (e : Effect) → IsPresent w o → KeepsBase (part_of w o) e → IsPeopled (effect_in w o e).0
+peopled-effect {w} {o} (tables p lines v) h base = peopled-with_part w p o (base.0 ∙ owner-part_of w o) h.there base.1.attached h.people
+peopled-effect {w} {o} (changes steps v) h base = peopled-world_after o steps w h
+
+-- what lines consist of keeps who is there
+pub peopled-keeps : Keeps (OkFor false) (Invariant false) IsPeopled
+peopled-keeps =
+    record {
+      turns = record {
+        dispatch = λ w x related e q i. peopled-dispatch w q.world x related e i;
+        at_end = λ w q i. same-people (at_end w) (refl, λ x. refl) tt tt i.owners.signalled i;
+        told = λ w o t q i. peopled-told w o t i;
+      };
+      turned = λ w o e t q i. same-people (record w { turn = Some o }) (refl, λ x. refl) (t, tt) i.owners.tasks i.owners.signalled i;
+      attach = λ w o x m q i. peopled-attaching (named (part_of w o) x) (attach-may w o x m.part) (owner-named (part_of w o) x ∙ owner-part_of w o)
+          (record { there = m.there; people = i }) q;
+      micro = λ w o label m q i. same-people (record w { tasks = w.tasks ++ micro_task o label ∷ [] }) (refl, λ x. refl) i.owners.turn
+          (all-append (λ t. IsThere w (task_owner t)) w.tasks (micro_task o label ∷ []) i.owners.tasks (m.there, tt)) i.owners.signalled i;
+      effect = λ w o c m q i. peopled-effect (effect (part_of w o) c) (record { there = m.there; people = i }) (base-effect (part_of w o) c);
+    }
 
 -- what the laws ask for
 pub sound : {only_log : Bool} (w : World) → IsReached only_log w → Invariant only_log w
 sound w r = record { world = r.world; logs = r.logs }
 
 -- whatever the listeners do
-any-sound : {only_log : Bool} (w : World) → IsReached only_log w → Invariant false w
-any-sound w r = record { world = r.world; logs = λ e. absurd (true≢false (sym e)) }
+pub any-reached : {only_log : Bool} (w : World) → IsReached only_log w → IsReached false w
+any-reached w r = record { world = r.world; kinds = r.kinds; owners = r.owners; logs = λ e. absurd (true≢false (sym e)) }
+
+-- The three invariants of reached worlds.
+abbrev pub IsSound : World → Type 0
+IsSound w = (Invariant false w × IsPeopled w) × AllKinds w
+
+-- they hold of a reached world
+pub sound-of : {only_log : Bool} (w : World) → IsReached only_log w → IsSound w
+sound-of w r = ((sound w (any-reached w r), people w r), all-kinds w r.kinds)
+
+-- and with what holds of the listeners they are all
+pub reached-of : {only_log : Bool} (w : World) → Invariant only_log w → IsSound w → IsReached only_log w
+reached-of w q s = record { world = q.world; kinds = s.1.parts; owners = s.0.1.owners; logs = q.logs }
+
+-- what lines consist of keeps them
+pub sound-keeps : Keeps (OkFor false) Any IsSound
+sound-keeps = both-keep (both-keep quiet-keeps peopled-keeps) kinds-keeps
+
+-- and so does the end of a turn
+pub sound-ending_turn : (w : World) → IsSound w → IsSound (ending_turn w).0
+sound-ending_turn = kept-ending_turn sound-keeps.turns (λ w s. s.0.1.owners.tasks)
 
 -- the first world
 pub first-is_reached : FirstIsReached
-first-is_reached b =
-    let q = quiet-first {only_log = b} in
-    record { world = q.world; kinds = kinds-first.parts; owners = peopled-first.owners; logs = q.logs }
+first-is_reached b = reached-of first_world quiet-first ((quiet-first, peopled-first), kinds-first)
 
 -- a line
 pub step-keeps_reached : StepKeepsReached
 step-keeps_reached b w l r h =
-    let q = quiet-step w l (sound w r) h in
-    let i = people w r in
-    record {
-      world = q.world;
-      kinds = (kinds-line w l (any-sound w r) i (all-kinds w r.kinds)).parts;
-      owners = (peopled-step w l (any-sound w r) i).owners;
-      logs = q.logs;
-    }
+    reached-of (step w l).0 (quiet-step w l (sound w r) h) (kept-step sound-keeps sound-ending_turn w l (any-line w l) (sound-of w r))
 
--- the ending of a turn
-ending-keeps : {only_log : Bool} (w : World) → IsReached only_log w → IsReached only_log (ending_turn w).0
-ending-keeps w r =
-    let q = quiet-ending_turn w (sound w r) in
-    record {
-      world = q.world;
-      kinds = (kinds-same (ending_turn w).0 w (alike-ending_turn w) (all-kinds w r.kinds)).parts;
-      owners = (peopled-ending_turn w (any-sound w r) (people w r)).owners;
-      logs = q.logs;
-    }
-
--- of another component's turn
+-- the ending of another component's turn
 pub ending-keeps_reached : EndingKeepsReached
-ending-keeps_reached b w o r = either_way (λ (x : Run World). IsReached b x.0) (has_other_turn w o) (ending_turn w) (quiet w) (ending-keeps w r) r
+ending-keeps_reached b w o r =
+    reached-of (ending_other_turn w o).0 (quiet-ending_other w (sound w r) o) (kept-ending_other sound-ending_turn w o (sound-of w r))
 
 -- at the end of input
 pub finish-keeps_reached : FinishKeepsReached
-finish-keeps_reached b w r = either_way (λ (x : Run World). IsReached b x.0) (is_some w.turn) (ending_turn w) (quiet w) (ending-keeps w r) r
+finish-keeps_reached b w r =
+    reached-of (finish w).0 (kept-finish quiet-ending_turn w (sound w r)) (kept-finish sound-ending_turn w (sound-of w r))
 
 -- Scripts.
 module _ {L : Type 0} (read : L → Line) where
-  -- lines from a world on
-  lines-reach : (ls : List L) (w : World) → IsReached false w → IsReached false (run_lines w (map read ls)).0
-  lines-reach [] w r = r
-  lines-reach (l ∷ ls) w r = lines-reach ls (step w (read l)).0 (step-keeps_reached false w (read l) r (λ e. absurd (true≢false (sym e))))
-
   -- from the first one on
   pub scripts-reach : ScriptsReach read
-  scripts-reach ls = lines-reach ls first_world (first-is_reached false)
+  scripts-reach ls =
+      let s = kept-lines sound-keeps sound-ending_turn any-line read ls first_world (sound-of first_world (first-is_reached false)) in
+      reached-of (run_lines first_world (map read ls)).0 s.0.0 s
 
   -- where no component listener stops or cancels
   quiet_lines-reach : (ls : List L) (w : World) → no_component_stops_from read w ls ≡ true → IsReached true w → IsReached true (run_lines w (map read ls)).0

@@ -1,6 +1,6 @@
 -- What follows of worlds that the machine reaches: of shadow roots, of hosts, and of who is there.
 use Rattle.std.proofs.Common.{◌≡◌, ℕ, zero, suc, ◌+◌, ◌≤◌, ◌<◌, true, false, not, List, [], ◌∷◌, ◌++◌, length, position, Option, Some, None, option_map, sym}
-use Rattle.std.proofs.Common.{refl, ap, ◌∙◌, arith, true≢false, subst}
+use Rattle.std.proofs.Common.{ap, ◌∙◌, arith, true≢false, subst}
 use Rattle.std.specs.Prelude.{is_some, slice_get, nat_lt, cond, drop}
 use Rattle.std.specs.List.{position_or_len}
 use Rattle.std.proofs.lemmas.Bool.{cond-true, cond-false, false_from_ne_true, lt-ltb}
@@ -15,12 +15,11 @@ use Rattle.dom_model.proofs.OwnerLaws.{owner_eq-true, owner_eq-false, name_eq-sa
 use Rattle.dom_model.proofs.PartLaws.{owner-part_of}
 use Rattle.dom_worlds.specs.Reached.{ShadowRootsAreRoots, NoOtherShadowRoots, AttachedAreThere, OwnersHaveWords, HostsAreTheirs}
 use Rattle.dom_worlds.specs.Worlds.{IsWorld, IsShadowOf, MayBeShadow, times_among}
-use Rattle.dom_worlds.proofs.Makers.{hosted, hosted-owned, hosted-maker}
+use Rattle.dom_worlds.proofs.Owners.{hosted, hosted-owned, hosted-maker, hosted-there, there-hosted}
 use Rattle.dom_worlds.proofs.InsideAncestors.{in-later}
-use Rattle.dom_worlds.proofs.NodeKinds.{node-read, name-node_in, fragment-no_shadow}
-use Rattle.dom_worlds.proofs.Owners.{hosted-there, there-hosted}
+use Rattle.dom_worlds.proofs.PartSteps.{node-read, name-node_in, fragment-no_shadow}
 use Rattle.dom_worlds.proofs.ShadowRoots.{kind-root}
-use Rattle.dom_worlds.proofs.Tests.{by_cases, or-first, or-second, or-later}
+use Rattle.dom_worlds.proofs.Lists.{by_cases, or-first, or-second, or-later, by_some_is}
 use Rattle.dom_worlds.proofs.TreeChangeLaws.{HasRoot}
 use Rattle.dom_laws.proofs.Counts.{once_parts, Once, times-elsewhere}
 use Rattle.dom_worlds.proofs.Trees.{root-there}
@@ -115,13 +114,10 @@ hosts-are_theirs b w r o x e =
 
 -- a component's word is its maker's with one number more
 hosted-word : (w : World) → IsWorld w → (o : Owner) → is_some (host_of w o) ≡ true → has_word o ≡ true
-hosted-word w i o h = from (host_of w o) refl h
-  where
-    from : (m : Option NodeName) → host_of w o ≡ m → is_some m ≡ true → has_word o ≡ true
-    from None e g = absurd (true≢false (sym g))
-    from (Some x) e g =
-        let k = hosted w o x e in
-        subst (λ c. has_word c ≡ true) (made_by-is o k.maker k.number k.named) (word-made k.maker k.number (hosted-maker w i.makers o x k))
+hosted-word w i o h =
+    by_some_is (λ (m : Option NodeName). is_some m ≡ true → has_word o ≡ true) (host_of w o) (λ e g. absurd (true≢false (sym g)))
+    (λ x e g. let k = hosted w o x e in
+    subst (λ c. has_word c ≡ true) (made_by-is o k.maker k.number k.named) (word-made k.maker k.number (hosted-maker w i.makers o x k))) h
 
 -- who is there has a word
 pub owners-have_words : OwnersHaveWords

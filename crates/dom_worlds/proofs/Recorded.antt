@@ -1,35 +1,33 @@
 -- The records of plans name nodes that are there where they are queued, and steps keep that of all records.
-use Rattle.std.proofs.Common.{◌≡◌, ◌≤◌, ℕ, Bool, true, false, not, ◌&&◌, List, [], ◌∷◌, ◌++◌, fold, length, Option, Some, None, unwrap_or, refl, arith}
-use Rattle.std.specs.Prelude.{if◌then◌else◌, ⊤, slice_get, slice_set, ◌==◌}
+use Rattle.std.proofs.Common.{◌≤◌, ℕ, not, ◌&&◌, List, [], ◌∷◌, ◌++◌, fold, length, Option, Some, None, unwrap_or, arith}
+use Rattle.std.specs.Prelude.{⊤, slice_get, slice_set, ◌==◌}
 use Rattle.std.specs.List.{AllByRecursion, list_any}
 use Rattle.std.specs.Option.{option_map_or}
 use Rattle.dom_base.specs.declared.NodeName.{NodeName}
-use Rattle.dom_model.specs.Names.{Word, DomString, name_eq, is_empty, items_before, items_after}
-use Rattle.dom_model.specs.Tree.{Trees, node_in, kind_of, is_fragment, subtree, children_of, parent_of, siblings, previous_sibling, next_sibling}
-use Rattle.dom_model.specs.Tree.{times_in, attribute_value, inclusive_ancestors}
+use Rattle.dom_model.specs.Names.{Word, DomString, name_eq, items_before, items_after}
+use Rattle.dom_model.specs.Tree.{Trees, node_in, kind_of, is_fragment, subtree, children_of, parent_of, siblings, previous_sibling, next_sibling, times_in}
+use Rattle.dom_model.specs.Tree.{attribute_value, inclusive_ancestors}
 use Rattle.dom_model.specs.Observers.{target_of, fitting, without_old, asks_for_old}
 use Rattle.dom_model.specs.Output.{Change, child_list, attributes, character_data}
 use Rattle.dom_model.specs.Part.{Part, queue_of}
-use Rattle.dom_model.specs.Steps.{Step, make, place, take_out, set_document, set_attribute, replace_data, queue_record, part_step, leave}
-use Rattle.dom_model.specs.Steps.{interested_in, record_in, after}
-use Rattle.dom_model.specs.Changes.{Plan, ◌and_then◌, in_turn, doing, steps_of, Observing, observed, suppressed, telling, removal_record, removing}
-use Rattle.dom_model.specs.Changes.{removing_from, has_document, changing_document, adopting, document_below, placed_nodes, emptying, making_room}
-use Rattle.dom_model.specs.Changes.{placing, sibling_before, inserting_nodes, inserting, reference_for, replacing, setting_attribute}
-use Rattle.dom_model.specs.Changes.{unsetting_attribute}
+use Rattle.dom_model.specs.Steps.{Step, make, place, take_out, set_document, set_attribute, replace_data, queue_record, part_step, leave, interested_in}
+use Rattle.dom_model.specs.Steps.{record_in, after}
+use Rattle.dom_model.specs.Changes.{Plan, ◌and_then◌, in_turn, doing, Observing, observed, suppressed, telling, removal_record, removing, removing_from}
+use Rattle.dom_model.specs.Changes.{has_document, changing_document, adopting, document_below, placed_nodes, making_room, placing, sibling_before, inserting}
+use Rattle.dom_model.specs.Changes.{reference_for, replacing, setting_attribute, unsetting_attribute}
 use Rattle.dom_model.specs.TextChanges.{replacing_data}
 use Rattle.dom_worlds.specs.Worlds.{IsPart}
 use Rattle.dom_worlds.specs.Tables.{IsNodeIn, IsNodeIf, IsRecordIn, HasRecords}
 use Rattle.dom_worlds.proofs.Insides.{times-taken_out_all}
 use Rattle.dom_worlds.proofs.InsideAncestors.{children-inside, child-there, parent-there, times-has_node}
-use Rattle.dom_worlds.proofs.Lists.{all-then, all-append, all-from, all-set}
-use Rattle.dom_worlds.proofs.PlanPlaces.{Changed, Leads, MayGo, may-still, still, emptied_of, leads-then, leads-eased, leads-one, LeadsEach}
-use Rattle.dom_worlds.proofs.PlanPlaces.{leads-each, removing-each, placing-each, leads-removing, leads-emptied, leads-making_room, leads-inserting}
-use Rattle.dom_worlds.proofs.PlanPlaces.{placed-may}
-use Rattle.dom_worlds.proofs.PlanTexts.{leads-plan, leads-removals}
+use Rattle.dom_worlds.proofs.Lists.{all-then, all-append, all-from, all-set, either_way, by_some, by_some_is}
+use Rattle.dom_worlds.proofs.PlanPlaces.{Changed, Leads, MayGo, may-still, still, leads-eased, leads-one, removing-each, placing-each, leads-removing}
+use Rattle.dom_worlds.proofs.PlanPlaces.{leads-inserting}
+use Rattle.dom_worlds.proofs.PlanTexts.{leads-plan}
 use Rattle.dom_worlds.proofs.TableSteps.{HasNode, Fits, Grows, grows-step, grows-times}
 use Rattle.dom_worlds.proofs.TableRecords.{IfSome, first-all, last-all, before-all, after-all, all-get}
-use Rattle.dom_worlds.proofs.Tests.{either_way}
 use Rattle.dom_laws.proofs.Counts.{times_subtree}
+use Rattle.dom_worlds.proofs.PlanStages.{Joins, each-by, inserting-by}
 
 -- What a step records is there.
 abbrev pub Tells : Part → Step → Type 0
@@ -102,12 +100,10 @@ pub records-step : (p : Part) (s : Step) → IsPart p → Fits p s → Tells p s
 records-step p (make n) i f t h = records-grow p.trees (part_step p (make n)).trees (grows-step p (make n) i f) p.record_queues h
 records-step p (place x parent before) i f t h =
     records-grow p.trees (part_step p (place x parent before)).trees (grows-step p (place x parent before) i f) p.record_queues h
-records-step p (take_out x) i f t h = from (parent_of p.trees x)
-  where
-    from : (o : Option NodeName) → HasRecords (option_map_or (leave p x) o p)
-    from None = h
-    from (Some parent) = records-grow p.trees (leave p x parent).trees
-        (grows-times p.trees (leave p x parent).trees (λ y. let a = times-taken_out_all p.trees x y i.unique in omega arith)) p.record_queues h
+records-step p (take_out x) i f t h =
+    by_some (λ (o : Option NodeName). HasRecords (option_map_or (leave p x) o p)) (parent_of p.trees x) h
+    (λ parent. records-grow p.trees (leave p x parent).trees
+    (grows-times p.trees (leave p x parent).trees (λ y. let a = times-taken_out_all p.trees x y i.unique in omega arith)) p.record_queues h)
 records-step p (set_document x d) i f t h = records-grow p.trees (part_step p (set_document x d)).trees (grows-step p (set_document x d) i f) p.record_queues h
 records-step p (set_attribute x a v) i f t h =
     records-grow p.trees (part_step p (set_attribute x a v)).trees (grows-step p (set_attribute x a v) i f) p.record_queues h
@@ -126,17 +122,9 @@ pub tells-plan : {spot : Option NodeName} {p : Part} (f g : Plan) → Leads spot
     TellsIn p ((f and_then g) p)
 tells-plan {p} f g l a b = tells-append p (f p) (g (after p (f p))) a (b (after p (f p)) l.changed)
 
--- plans for items that lead on, each of which tells
-module _ {A : Type 0} {spot : Option NodeName} {P : Part → A → Type 0} {f : A → Plan} (each : LeadsEach spot P f)
-    (tells : (p : Part) (x : A) → IsPart p → P p x → TellsIn p (f x p)) where
-  -- so do all in turn
-  pub tells-each : (xs : List A) (p : Part) → IsPart p → AllByRecursion (P p) xs → TellsIn p (in_turn f xs p)
-  tells-each [] p i g = tt
-  tells-each (x ∷ xs) p i g =
-      let first = each.leads p x i g.0 in
-      let q = after p (f x p) in
-      tells-append p (f x p) (in_turn f xs q) (tells p x i g.0)
-      (tells-each xs q first.changed.part (all-then (P p) (P q) (λ y. each.stays p q y first.changed) xs g.1))
+-- as other plans need it
+pub tells-joins_on : Joins TellsIn
+tells-joins_on = record { nothing = λ p. tt; append = λ p xs ys c. tells-append p xs ys }
 
 -- Nodes that are there stay there.
 pub still-all : {spot : Option NodeName} {p q : Part} → Changed spot p q → (xs : List NodeName) → AllByRecursion (HasNode p) xs → AllByRecursion (HasNode q) xs
@@ -174,11 +162,9 @@ children-there p y = all-then (λ z. 1 ≤ times_in (subtree p.trees y) z) (HasN
 
 -- siblings
 siblings-there : (p : Part) (x : NodeName) → HasNode p x → AllByRecursion (HasNode p) (siblings p.trees x)
-siblings-there p x t = from (parent_of p.trees x)
-  where
-    from : (o : Option NodeName) → AllByRecursion (HasNode p) (option_map_or (children_of p.trees) o (x ∷ []))
-    from None = (t, tt)
-    from (Some y) = children-there p y
+siblings-there p x t =
+    by_some (λ (o : Option NodeName). AllByRecursion (HasNode p) (option_map_or (children_of p.trees) o (x ∷ []))) (parent_of p.trees x) ((t, tt))
+    (λ y. children-there p y)
 
 -- the one before
 previous-there : (p : Part) (x : NodeName) → HasNode p x → IfSome (HasNode p) (previous_sibling p.trees x)
@@ -206,26 +192,23 @@ tells-telling suppressed c p h = tt
 
 -- a removal
 pub tells-removing : (how : Observing) (x : NodeName) (p : Part) → IsPart p → TellsIn p (removing how x p)
-tells-removing how x p i = from (parent_of p.trees x) refl
-  where
-    from : (o : Option NodeName) → parent_of p.trees x ≡ o → TellsIn p (option_map_or (removing_from how x p.trees) o [])
-    from None e = tt
-    from (Some parent) e =
-        let q = part_step p (take_out x) in
-        let c = (leads-one p (take_out x) i tt).changed in
-        let t = child-there p.trees x parent e in
-        let before = previous_sibling p.trees x in
-        let behind = next_sibling p.trees x in (
-          tt,
-          tells-telling how (removal_record p.trees parent x) q
-              (recorded q (child_list parent [] (x ∷ []) before behind) (
-                still c parent (parent-there p.trees x parent e),
-                tt,
-                (still c x t, tt),
-                still-if c before (previous-there p x t),
-                still-if c behind (next-there p x t),
-              )),
-        )
+tells-removing how x p i =
+    by_some_is (λ (o : Option NodeName). TellsIn p (option_map_or (removing_from how x p.trees) o [])) (parent_of p.trees x) (λ e. tt)
+    (λ parent e. let q = part_step p (take_out x) in
+    let c = (leads-one p (take_out x) i tt).changed in
+    let t = child-there p.trees x parent e in
+    let before = previous_sibling p.trees x in
+    let behind = next_sibling p.trees x in (
+      tt,
+      tells-telling how (removal_record p.trees parent x) q
+          (recorded q (child_list parent [] (x ∷ []) before behind) (
+            still c parent (parent-there p.trees x parent e),
+            tt,
+            (still c x t, tt),
+            still-if c before (previous-there p x t),
+            still-if c behind (next-there p x t),
+          )),
+    ))
 
 -- an adoption
 pub tells-adopting : (d x : NodeName) (p : Part) → IsPart p → TellsIn p (adopting d x p)
@@ -241,7 +224,7 @@ tells-placing parent before p x i m = let d =
 
 -- removals
 pub tells-removals : (how : Observing) (xs : List NodeName) (p : Part) → IsPart p → TellsIn p (in_turn (removing how) xs p)
-tells-removals how xs p i = tells-each (removing-each how) (λ q y j t. tells-removing how y q j) xs p i
+tells-removals how xs p i = each-by tells-joins_on (removing-each how) (λ q y j t. tells-removing how y q j) xs p i
     (all-from (λ y. ⊤) (λ y. tt) xs)
 
 -- what is placed is there
@@ -249,53 +232,30 @@ placed-there : (p : Part) (node : NodeName) → HasNode p node → AllByRecursio
 placed-there p node t = either_way (AllByRecursion (HasNode p)) (is_fragment (kind_of p.trees node)) (children_of p.trees node) (node ∷ [])
     (children-there p node) (t, tt)
 
--- a fragment that is emptied
-tells-emptied : (node : NodeName) (p : Part) → IsPart p → HasNode p node → TellsIn p (emptied_of p node p)
-tells-emptied node p i t = from (is_fragment (kind_of p.trees node)) (placed_nodes p.trees node) (placed-there p node t)
-  where
-    from : (b : Bool) (moved : List NodeName) → AllByRecursion (HasNode p) moved → TellsIn p ((if b then emptying node moved else steps_of []) p)
-    from false moved h = tt
-    from true moved h =
-        let gone = in_turn (removing suppressed) moved p in
-        let c = (leads-removals suppressed moved p i).changed in
-        tells-append p gone (queue_record (child_list node [] moved None None) ∷ []) (tells-removals suppressed moved p i)
-        (recorded (after p gone) (child_list node [] moved None None) (still c node t, tt, still-all c moved h, tt, tt), tt)
-
 -- An insertion, before a node that is there.
 pub tells-inserting : {node parent : NodeName} {p : Part} (how : Observing) (before : Option NodeName) → IsPart p → MayGo parent p node →
     IfSome (HasNode p) before → TellsIn p (inserting how node parent before p)
 tells-inserting {node} {parent} {p} how before i m b =
-    let spot = Some parent in
     let moved = placed_nodes p.trees node in
+    let there = placed-there p node m.there in
     let front = sibling_before p.trees parent before in
-    let change = child_list parent moved [] front before in
-    let one = emptied_of p node p in
-    let a = leads-eased spot p one (leads-emptied node p i) in
-    let q = after p one in
-    let two = making_room parent before (length moved) q in
-    let ab = leads-then spot p one two a (leads-eased spot q two (leads-making_room parent before (length moved) q a.changed.part)) in
-    let r = after p (one ++ two) in
-    let three = in_turn (placing parent before) moved r in
-    let may = all-then (MayGo parent p) (MayGo parent r) (λ y. may-still parent p r y ab.changed) moved (placed-may parent p node i m) in
-    let abc = leads-then spot p (one ++ two) three ab
-    (leads-each (placing-each parent before) moved r ab.changed.part may) in
-    let c = abc.changed in
-    let s = after p ((one ++ two) ++ three) in
-    either_way (TellsIn p) (is_empty moved) [] (inserting_nodes how node moved parent before p) tt
-    (tells-append p ((one ++ two) ++ three) (telling how change)
-    (tells-append p (one ++ two) three (tells-append p one two (tells-emptied node p i m.there) (roomy before (length moved) q))
-    (tells-each (placing-each parent before) (tells-placing parent before) moved r ab.changed.part may))
-    (tells-telling how change s (recorded s change (
-      still c parent m.below,
-      still-all c moved (placed-there p node m.there),
-      tt,
-      still-if c front (front-there p parent before b),
-      still-if c before b,
-    ))))
+    inserting-by tells-joins_on i m (record {
+      removals = tells-removals suppressed moved p i;
+      left = λ q c. (recorded q (child_list node [] moved None None) (still c node m.there, tt, still-all c moved there, tt, tt), tt);
+      room = λ q. roomy before q;
+      placed = λ q c may. each-by tells-joins_on (placing-each parent before) (tells-placing parent before) moved q c.part may;
+      told = λ q c. tells-telling how (child_list parent moved [] front before) q (recorded q (child_list parent moved [] front before) (
+        still c parent m.below,
+        still-all c moved there,
+        tt,
+        still-if c front (front-there p parent before b),
+        still-if c before b,
+      ));
+    })
   where
-    roomy : (before : Option NodeName) (count : ℕ) (q : Part) → TellsIn q (making_room parent before count q)
-    roomy None count q = tt
-    roomy (Some child) count q = (tt, tt)
+    roomy : (before : Option NodeName) (q : Part) → TellsIn q (making_room parent before (length (placed_nodes p.trees node)) q)
+    roomy None q = tt
+    roomy (Some child) q = (tt, tt)
 
 -- a replacement
 pub tells-replacing : {parent node : NodeName} {p : Part} (child : NodeName) → IsPart p → MayGo parent p node → HasNode p child →

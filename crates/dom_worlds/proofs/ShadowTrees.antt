@@ -1,28 +1,29 @@
--- Who stands in the shadow tree of a component: a slot that is found, and the slot's ancestors; and the way through the shadow trees in
--- which a node is slotted.
+-- Shadow trees: who is hidden from whom, and that no slot of the page is signalled.
 use Rattle.std.proofs.Common.{◌≡◌, ◌≢◌, ◌≤◌, Bool, true, false, List, [], ◌∷◌, find, flat_map, option_map, Option, Some, None, refl, sym, ap, ◌∙◌, arith}
-use Rattle.std.proofs.Common.{true≢false, subst, ℕ, zero, suc, ◌++◌}
-use Rattle.std.specs.Prelude.{IsTrue, is_some, option_to_list}
-use Rattle.std.specs.List.{AllByRecursion}
+use Rattle.std.proofs.Common.{true≢false, subst, ℕ, zero, suc, ◌++◌, ◌&&◌, filter, append-nil}
+use Rattle.std.specs.Prelude.{IsTrue, is_some, option_to_list, if◌then◌else◌}
+use Rattle.std.specs.List.{AllByRecursion, list_any}
 use Rattle.std.specs.Option.{option_and_then}
-use Rattle.std.proofs.lemmas.Bool.{cond-true, cond-false}
+use Rattle.std.proofs.lemmas.Bool.{cond-true, cond-false, and_parts}
 use Rattle.dom_base.specs.declared.Owner.{Owner}
 use Rattle.dom_base.specs.declared.Owner.TheVariants.{Page}
 use Rattle.dom_base.specs.declared.NodeName.{NodeName}
-use Rattle.dom_model.specs.Names.{DomString, name_eq, is_in}
+use Rattle.dom_model.specs.Names.{DomString, name_eq, is_in, is_empty}
 use Rattle.dom_model.specs.Tree.{Trees, Node, nodes, root_of, times_in}
-use Rattle.dom_model.specs.World.{World, part_of, node_at, trees_with, root_at, parent_at, ancestors_at, component_at, host_of, some_if}
-use Rattle.dom_model.specs.World.{shadow_root_of, shadow_tree, is_in_shadow_tree}
-use Rattle.dom_model.specs.Slots.{slot_of, slot_in, has_slot_name, slottable_name}
+use Rattle.dom_model.specs.World.{World, part_of, node_at, trees_with, root_at, parent_at, ancestors_at, component_at, host_of, some_if, shadow_root_of}
+use Rattle.dom_model.specs.World.{shadow_tree, is_in_shadow_tree, Task, notify_task, is_notify_of, queued_notify}
+use Rattle.dom_model.specs.Slots.{slot_of, slot_in, has_slot_name, slottable_name, signals, assigned, is_slot_element, is_bare_slot, is_changed, own_slots}
+use Rattle.dom_model.specs.Slots.{other_slots}
 use Rattle.dom_model.proofs.OwnerLaws.{ne-owner_eq, name_eq-same}
 use Rattle.dom_model.proofs.PartLaws.{owner-part_of}
-use Rattle.dom_worlds.specs.Worlds.{IsWorld, IsOf, HasMakers}
-use Rattle.dom_worlds.proofs.Lists.{all-then}
-use Rattle.dom_worlds.proofs.Makers.{component-host, hosted-is, hosted-no_page}
-use Rattle.dom_worlds.proofs.Tests.{by_cases}
+use Rattle.dom_worlds.specs.Worlds.{IsWorld, IsOf, HasMakers, IsForeignTo}
+use Rattle.dom_worlds.proofs.Lists.{all-then, by_cases, all-append, all-passed, all-distinct}
+use Rattle.dom_worlds.proofs.Owners.{component-host, hosted-is, hosted-no_page}
 use Rattle.dom_worlds.proofs.Trees.{ancestors-there, ancestors-root, root-of-root, nodes-there}
 use Rattle.dom_laws.proofs.Counts.{times_subtree}
 use Rattle.dom_model.specs.Paths.{with_slots}
+use Rattle.std.proofs.lemmas.List.Elements.{filter-append}
+use Rattle.dom_model.specs.PageMachine.{is_page_task}
 
 -- A node's ancestors are of its owner.
 pub owned-in : (w : World) → IsWorld w → (o : Owner) (y : NodeName) → 1 ≤ times_in (part_of w o).trees y → y.owner ≡ o
@@ -133,3 +134,41 @@ slots-behind (suc depth) w x = refl
 pub slots-first : (depth : ℕ) (w : World) (x : NodeName) (xs : List NodeName) →
     flat_map (with_slots depth w) (x ∷ xs) ≡ x ∷ (slot_way depth w x ++ flat_map (with_slots depth w) xs)
 slots-first depth w x xs = ap (λ ys. ys ++ flat_map (with_slots depth w) xs) (slots-behind depth w x)
+
+-- Queued notifications.
+pub page_tasks-queued_other : (o : Owner) → o ≢ Page → (ts : List Task) → filter is_page_task (queued_notify o ts) ≡ filter is_page_task ts
+page_tasks-queued_other o h ts =
+    by_cases (list_any (is_notify_of o) ts) (λ e. rw e refl)
+    (λ e. rw e (filter-append is_page_task ts (notify_task o ∷ []) ∙ rw (ne-owner_eq o Page h) (append-nil (filter is_page_task ts))))
+
+-- Signals are of components' slots alone.
+assigned-page : (w : World) (s : NodeName) → s.owner ≡ Page → assigned w s ≡ []
+assigned-page w s e = rw e refl
+
+-- a slot whose assigned nodes changed is no page node
+changed-foreign : (was now : World) (s : NodeName) → is_changed was now s ≡ true → IsForeignTo Page s
+changed-foreign was now s h e = true≢false (sym h ∙ rw (assigned-page was s e, assigned-page now s e) refl)
+
+-- a page node is in no shadow tree
+pub page_in_no_tree : (w : World) (x : NodeName) → x.owner ≡ Page → is_in_shadow_tree w x ≡ false
+page_in_no_tree w x e = rw e refl
+
+-- a slot without assigned nodes is no page node
+bare-foreign : (w : World) (s : NodeName) (is_move : Bool) → (is_move && is_bare_slot w s) ≡ true → IsForeignTo Page s
+bare-foreign w s is_move h e =
+    let both = and_parts is_move (is_bare_slot w s) h in
+    let inside = and_parts (is_slot_element (node_at w s)) (is_in_shadow_tree w s && is_empty (assigned w s)) both.1 in
+    let in_tree = and_parts (is_in_shadow_tree w s) (is_empty (assigned w s)) inside.1 in
+    true≢false (sym in_tree.0 ∙ page_in_no_tree w s e)
+
+-- all that is signalled
+pub signals-foreign : (was now : World) (x around : NodeName) (is_move : Bool) → AllByRecursion (IsForeignTo Page) (signals was now x around is_move)
+signals-foreign was now x around is_move =
+    let P = IsForeignTo Page in
+    let bare : List NodeName = if is_move && is_bare_slot now around then around ∷ [] else [] in
+    let own = filter (is_changed was now) (own_slots was now x) in
+    let other = filter (is_changed was now) (other_slots now x around) in
+    let bare-all : AllByRecursion P bare = by_cases (is_move && is_bare_slot now around) (λ e. rw e (bare-foreign now around is_move e, tt)) (λ e. rw e tt) in
+    let own-all : AllByRecursion P own = all-passed P (is_changed was now) (changed-foreign was now) (own_slots was now x) in
+    let other-all : AllByRecursion P other = all-passed P (is_changed was now) (changed-foreign was now) (other_slots now x around) in
+    all-distinct P name_eq (own ++ bare ++ other) (all-append P (own ++ bare) other (all-append P own bare own-all bare-all) other-all)

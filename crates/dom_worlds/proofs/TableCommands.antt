@@ -1,32 +1,38 @@
--- What an accepted command does to the tables of its owner's part: they keep to what is there, and steps fit.
-use Rattle.std.proofs.Common.{◌≡◌, ℕ, Bool, true, false, not, ◌&&◌, List, filter, drop, Option, Some}
-use Rattle.std.proofs.Common.{None, option_map, refl, sym}
+-- What accepted commands do to ranges, iterators and walkers: they keep to nodes that are there.
+use Rattle.std.proofs.Common.{◌≡◌, ℕ, Bool, true, false, not, ◌&&◌, List, filter, drop, Option, Some, None, option_map, refl, sym, ◌≤◌, [], ◌∷◌, ◌++◌, find}
 use Rattle.std.specs.Option.{option_map_or}
 use Rattle.std.proofs.lemmas.Bool.{and_parts}
 use Rattle.dom_base.specs.declared.NodeName.{NodeName}
 use Rattle.dom_base.specs.declared.Refusal.TheVariants.{Hierarchy}
 use Rattle.dom_model.specs.Command.{NodeWord}
 use Rattle.dom_model.specs.CommandNames.{named}
-use Rattle.dom_model.specs.Effects.{Effect, tables, changes, with_range, collapsed_to}
-use Rattle.dom_model.specs.Names.{name_eq}
+use Rattle.dom_model.specs.Effects.{Effect, tables, changes, with_range, collapsed_to, moves_iterator, sets_walker}
+use Rattle.dom_model.specs.Names.{name_eq, first_of, last_of, items_before, items_after}
 use Rattle.dom_model.specs.Part.{Part}
 use Rattle.dom_model.specs.Place.{Boundary, same_root, is_before}
 use Rattle.dom_model.specs.Ranges.{Range, from_to, with_start, with_end}
-use Rattle.dom_model.specs.Tree.{Trees, Node, has_node, kind_of, is_inclusive_ancestor}
-use Rattle.dom_model.specs.Tree.{child_nodes}
+use Rattle.dom_model.specs.Tree.{Trees, Node, has_node, kind_of, is_inclusive_ancestor, child_nodes, ancestors, inclusive_ancestors, inclusive_descendants}
+use Rattle.dom_model.specs.Tree.{times_in}
 use Rattle.dom_model.specs.Validity.{first_refusal, has_parent, may_be_parent, placing_tests, insertion_refusal, replacement_refusal}
 use Rattle.dom_worlds.specs.Worlds.{IsPart}
-use Rattle.dom_worlds.specs.Tables.{IsNodeIn, HasEnds, EndsIn, HasTables}
-use Rattle.dom_worlds.proofs.Acceptance.{next-test}
-use Rattle.dom_worlds.proofs.InsideAncestors.{inside-no_ancestor}
+use Rattle.dom_worlds.specs.Tables.{IsNodeIn, HasEnds, EndsIn, HasTables, IsIteratorIn, IsWalkerIn}
+use Rattle.dom_worlds.proofs.Effects.{next-test}
+use Rattle.dom_worlds.proofs.InsideAncestors.{inside-no_ancestor, times-has_node}
 use Rattle.dom_worlds.proofs.KindLines.{has_node-times}
 use Rattle.dom_worlds.proofs.Owners.{owner-named}
 use Rattle.dom_worlds.proofs.PlanPlaces.{MayGo}
-use Rattle.dom_worlds.proofs.TableSteps.{HasNode, MadeIn}
-use Rattle.dom_worlds.proofs.TableRecords.{IfSome}
+use Rattle.dom_worlds.proofs.TableSteps.{HasNode, MadeIn, tables-iterators, tables-ranges, tables-walkers}
+use Rattle.dom_worlds.proofs.TableRecords.{IfSome, StandsIn, all-stand, first-all, last-all, before-all, after-all, all-descend, iterator-moved}
 use Rattle.dom_worlds.proofs.Roots.{roots-equal, roots-same}
-use Rattle.dom_worlds.proofs.Tests.{which_way}
-use Rattle.dom_worlds.proofs.Lists.{all-set}
+use Rattle.dom_worlds.proofs.Lists.{which_way, all-set, all-dropped, all-append, all-then, all-filter, either_way}
+use Rattle.std.specs.List.{AllByRecursion}
+use Rattle.dom_base.specs.declared.Move.{Move}
+use Rattle.dom_base.specs.declared.Move.TheVariants.{Parent, First, Last, Next, Previous, NextSibling, PreviousSibling}
+use Rattle.dom_model.specs.Output.{Value}
+use Rattle.dom_model.specs.Traversal.{Iterator, Walker, iterator_next_node, iterator_previous_node, nodes_ahead, nodes_passed, accepts, walker_move}
+use Rattle.dom_model.specs.Traversal.{walker_step, walker_children, walker_nodes, walker_siblings}
+use Rattle.dom_laws.proofs.Counts.{Once}
+use Rattle.dom_worlds.proofs.Trees.{ancestors-there}
 
 -- the tables after an effect, or its steps
 abbrev pub Holds : Part → Effect → Type 0
@@ -93,15 +99,7 @@ some-holds p (Some x) f d h made = made.each x h
 -- a range that is written
 pub tables-range : (p : Part) (k : ℕ) (r : Option (Range NodeName)) → HasTables p → EndsIn p.trees r → HasTables (with_range p k r)
 tables-range p k r h e =
-    record {
-      hosts = h.hosts;
-      ranges = all-set (EndsIn p.trees) p.ranges k r h.ranges e;
-      iterators = h.iterators;
-      walkers = h.walkers;
-      registrations = h.registrations;
-      pending = h.pending;
-      listeners = h.listeners;
-    }
+    tables-ranges h (all-set (EndsIn p.trees) p.ranges k r h.ranges e)
 
 -- with other ends
 pub ends-mapped : (ts : Trees) (f : Range NodeName → Range NodeName) → ((r : Range NodeName) → HasEnds ts r → HasEnds ts (f r)) →
@@ -132,3 +130,81 @@ ends-with_end ts b t r h =
 pub ends-collapsed : (ts : Trees) (to_start : Bool) (r : Range NodeName) → HasEnds ts r → HasEnds ts (collapsed_to to_start r)
 ends-collapsed ts true r h = record { start = h.start; end = h.start; one_root = roots-same ts r.start.node r.start.node refl }
 ends-collapsed ts false r h = record { start = h.end; end = h.end; one_root = roots-same ts r.end.node r.end.node refl }
+
+-- Iterators and walkers move to nodes that are there.
+pub iterator-next : (ts : Trees) (i : Iterator) → Once ts → IsIteratorIn ts i → IfSome (StandsIn ts i.root) (iterator_next_node ts i)
+iterator-next ts i u h =
+    let P = StandsIn ts i.root in
+    let items = items_after name_eq i.reference (inclusive_descendants ts i.root) in
+    let behind = after-all P i.reference (inclusive_descendants ts i.root) (all-stand ts i.root u) in
+    first-all P (filter (accepts ts i.filter) (nodes_ahead ts i))
+    (all-filter P (accepts ts i.filter) (nodes_ahead ts i)
+    (either_way (AllByRecursion P) i.before (i.reference ∷ items) items ((h.reference, h.within), behind) behind))
+
+-- backwards
+pub iterator-previous : (ts : Trees) (i : Iterator) → Once ts → IsIteratorIn ts i → IfSome (StandsIn ts i.root) (iterator_previous_node ts i)
+iterator-previous ts i u h =
+    let P = StandsIn ts i.root in
+    let items = items_before name_eq i.reference (inclusive_descendants ts i.root) in
+    let front = before-all P i.reference (inclusive_descendants ts i.root) (all-stand ts i.root u) in
+    last-all P (filter (accepts ts i.filter) (nodes_passed ts i))
+    (all-filter P (accepts ts i.filter) (nodes_passed ts i)
+    (either_way (AllByRecursion P) i.before items (items ++ i.reference ∷ []) front
+    (all-append P items (i.reference ∷ []) front ((h.reference, h.within), tt))))
+
+-- an iterator that moves
+pub tables-iterator : {p : Part} {i : Iterator} (k : ℕ) (before : Bool) (o : Option NodeName) → HasTables p → IsIteratorIn p.trees i →
+    IfSome (StandsIn p.trees i.root) o → Holds p (moves_iterator p k before i o)
+tables-iterator {p} {i} k before o h g m =
+    tables-iterators h (all-set (IsIteratorIn p.trees) p.iterators k _ h.iterators (iterator-moved p.trees i before o g m))
+
+-- what is found among nodes
+find-all : (P : NodeName → Type 0) (test : NodeName → Bool) (xs : List NodeName) → AllByRecursion P xs → IfSome P (find test xs)
+find-all P test [] h = tt
+find-all P test (x ∷ xs) h = either_way (IfSome P) (test x) (Some x) (find test xs) h.0 (find-all P test xs h.1)
+
+-- ancestors are nodes
+all-ancestors : (ts : Trees) (x : NodeName) → AllByRecursion (IsNodeIn ts) (ancestors ts x)
+all-ancestors ts x = all-dropped (IsNodeIn ts) (inclusive_ancestors ts x)
+    (all-then (λ y. 1 ≤ times_in ts y) (IsNodeIn ts) (times-has_node ts) (inclusive_ancestors ts x) (ancestors-there ts x))
+
+-- a step of a walker
+walker-stepped : (ts : Trees) (w : Walker) (m : Move) → IfSome (IsNodeIn ts) (walker_step ts w m)
+walker-stepped ts w Parent = either_way (IfSome (IsNodeIn ts)) (name_eq w.current w.root) None
+    (find (λ y. accepts ts w.filter y && is_inclusive_ancestor ts w.root y) (ancestors ts w.current)) tt
+    (find-all (IsNodeIn ts) (λ y. accepts ts w.filter y && is_inclusive_ancestor ts w.root y) (ancestors ts w.current) (all-ancestors ts w.current))
+walker-stepped ts w First = first-all (IsNodeIn ts) (walker_children ts w)
+    (all-filter (IsNodeIn ts) _ (drop 1 (inclusive_descendants ts w.current))
+    (all-dropped (IsNodeIn ts) (inclusive_descendants ts w.current) (all-descend ts w.current)))
+walker-stepped ts w Last = last-all (IsNodeIn ts) (walker_children ts w)
+    (all-filter (IsNodeIn ts) _ (drop 1 (inclusive_descendants ts w.current))
+    (all-dropped (IsNodeIn ts) (inclusive_descendants ts w.current) (all-descend ts w.current)))
+walker-stepped ts w Next =
+    let items = items_after name_eq w.current (inclusive_descendants ts w.root) in
+    first-all (IsNodeIn ts) (walker_nodes ts w items)
+    (all-filter (IsNodeIn ts) _ items (after-all (IsNodeIn ts) w.current (inclusive_descendants ts w.root) (all-descend ts w.root)))
+walker-stepped ts w Previous =
+    let items = items_before name_eq w.current (inclusive_descendants ts w.root) in
+    last-all (IsNodeIn ts) (walker_nodes ts w items)
+    (all-filter (IsNodeIn ts) _ items (before-all (IsNodeIn ts) w.current (inclusive_descendants ts w.root) (all-descend ts w.root)))
+walker-stepped ts w NextSibling =
+    let items = items_after name_eq w.current (inclusive_descendants ts w.root) in
+    either_way (IfSome (IsNodeIn ts)) (name_eq w.current w.root) None (first_of (walker_siblings ts w items)) tt
+    (first-all (IsNodeIn ts) (walker_siblings ts w items)
+    (all-filter (IsNodeIn ts) _ items (after-all (IsNodeIn ts) w.current (inclusive_descendants ts w.root) (all-descend ts w.root))))
+walker-stepped ts w PreviousSibling =
+    let items = items_before name_eq w.current (inclusive_descendants ts w.root) in
+    either_way (IfSome (IsNodeIn ts)) (name_eq w.current w.root) None (last_of (walker_siblings ts w items)) tt
+    (last-all (IsNodeIn ts) (walker_siblings ts w items)
+    (all-filter (IsNodeIn ts) _ items (before-all (IsNodeIn ts) w.current (inclusive_descendants ts w.root) (all-descend ts w.root))))
+
+-- a move of a walker
+pub walker-moved : (ts : Trees) (w : Walker) (m : Move) → IfSome (IsNodeIn ts) (walker_move ts w m)
+walker-moved ts w m = either_way (IfSome (IsNodeIn ts)) (is_inclusive_ancestor ts w.root w.current) (walker_step ts w m) None (walker-stepped ts w m) tt
+
+-- a walker that is set
+pub tables-walker : {p : Part} {w : Walker} (k : ℕ) (o : Option NodeName) (v : Value) → HasTables p → IsWalkerIn p.trees w → IfSome (IsNodeIn p.trees) o →
+    Holds p (sets_walker p k w o v)
+tables-walker k None v h g m = h
+tables-walker {p} k (Some x) v h g m =
+    tables-walkers h (all-set (IsWalkerIn p.trees) p.walkers k _ h.walkers (record { root = g.root; current = m }))

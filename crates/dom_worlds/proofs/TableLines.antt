@@ -1,57 +1,161 @@
--- Every line keeps the tables of all parts.
-use Rattle.std.proofs.Common.{◌≡◌, Bool, false, not, List, [], ◌∷◌, ◌++◌, map, filter, fold, length, Option, Some, None, option_map, refl, sym}
-use Rattle.std.proofs.Common.{ap, ◌∙◌, arith, true≢false, subst}
-use Rattle.std.specs.Prelude.{is_some}
+-- Every line keeps the tables and the records of all parts.
+use Rattle.std.proofs.Common.{◌≡◌, ℕ, true, false, ◌&&◌, List, [], ◌∷◌, Option, Some, None, refl, sym, subst, Bool, not, ◌++◌, map, filter, fold, length, ◌∙◌}
+use Rattle.std.proofs.Common.{arith, true≢false}
+use Rattle.std.specs.Prelude.{slice_get, nat_eq}
 use Rattle.std.specs.List.{AllByRecursion}
+use Rattle.std.specs.Option.{option_map_or}
+use Rattle.dom_base.specs.declared.NodeName.{NodeName}
+use Rattle.dom_model.specs.Changes.{observed, reference_for}
+use Rattle.dom_model.specs.Command.{Command, Line, EventWords, part_refusal, effect}
+use Rattle.dom_model.specs.CommandNames.{named}
+use Rattle.dom_model.specs.CommandRefusals.{of_range}
+use Rattle.dom_model.specs.Effects.{Effect, tables, changes, answers, moves_iterator, sets_walker, node_or_null}
+use Rattle.dom_model.specs.Extract.{extracting}
+use Rattle.dom_model.specs.Output.{Value, nothing, a_node, a_string, boundaries, reference}
+use Rattle.dom_model.specs.Part.{Part, range_at, first_node}
+use Rattle.dom_model.specs.RangeOps.{deleting, inserting_into_range, range_text_of}
+use Rattle.dom_model.specs.Ranges.{Range}
+use Rattle.dom_model.specs.Steps.{Step}
+use Rattle.dom_model.specs.Traversal.{Iterator, Walker, iterator_next_node, iterator_previous_node, walker_move}
+use Rattle.dom_model.specs.Tree.{has_node, length_of, node_in}
+use Rattle.dom_worlds.specs.Worlds.{IsPart, IsThere}
+use Rattle.dom_worlds.specs.Tables.{IsRecordIn, HasTables, HasRecords, IsNodeIn, IsRegistrationIn, IsListenerIn, IsNodeAt, IsWhole}
+use Rattle.dom_worlds.proofs.Effects.{part-accepted, attach-may, KeepsBase, base-effect}
+use Rattle.dom_worlds.proofs.Lists.{all-append, all-set, all-filter, either_way, by_some_is}
+use Rattle.dom_worlds.proofs.PlanContents.{range-ends}
+use Rattle.dom_worlds.proofs.Recorded.{TellsIn, reference-there, tells-removing, tells-adopting, tells-inserting, tells-replacing, tells-setting_attribute}
+use Rattle.dom_worlds.proofs.Recorded.{tells-unsetting_attribute, tells-replacing_data, records-emptied}
+use Rattle.dom_worlds.proofs.RecordedPlans.{tells-splitting, tells-normalizing, tells-setting_text, tells-extracting, tells-deleting}
+use Rattle.dom_worlds.proofs.RecordedPlans.{tells-inserting_into_range}
+use Rattle.dom_worlds.proofs.TableCommands.{named-may, insertion-apart, replacement-apart, exists-first, exists-second, exists-third, Holds}
+use Rattle.dom_worlds.proofs.TableRegisters.{insert_node-may, holds-effect, more-registered, tables-listeners}
 use Rattle.dom_base.specs.declared.Action.{Action}
 use Rattle.dom_base.specs.declared.Action.TheVariants.{Log, Stop, StopNow, Cancel}
 use Rattle.dom_base.specs.declared.Kind.TheVariants.{Shadow}
-use Rattle.dom_base.specs.declared.NodeName.{NodeName}
 use Rattle.dom_base.specs.declared.Owner.{Owner}
 use Rattle.dom_base.specs.declared.Owner.TheVariants.{Page, Component}
-use Rattle.dom_base.specs.declared.Refusal.{Refusal}
-use Rattle.dom_model.specs.Command.{Command, Line, no_owner, no_command, command, NodeWord, EventWords, part_refusal, effect}
-use Rattle.dom_model.specs.CommandNames.{named}
 use Rattle.dom_model.specs.Dispatch.{dispatch_in, world_visit, visits_of}
-use Rattle.dom_model.specs.DocumentMachine.{first_world, part_with_root, refusal, effect_in, attaching, perform, accepted, run_command, step, run_lines, finish}
-use Rattle.dom_model.specs.Effects.{Effect, tables, changes}
+use Rattle.dom_model.specs.DocumentMachine.{first_world, part_with_root, effect_in, attaching, step, run_lines, finish}
 use Rattle.dom_model.specs.Listeners.{Listener, Visit, Dispatching, begun, after_action, may_cancel, line_of, is_listener, kept_after, called, hears, visited}
 use Rattle.dom_model.specs.Names.{name_eq, node_of, is_in}
 use Rattle.dom_model.specs.Observers.{Registration, is_transient}
-use Rattle.dom_model.specs.Part.{Part, first_node}
 use Rattle.dom_model.specs.Paths.{views}
-use Rattle.dom_model.specs.Runs.{Run, quiet, run_each, unless_refused}
-use Rattle.dom_model.specs.Tree.{node_in}
-use Rattle.std.specs.Prelude.{◌&&◌, nat_eq}
-use Rattle.dom_model.specs.Turns.{slotchange, firing_slotchange, is_owned_by, without_signals, notified, running_task, ending_turn, has_other_turn}
-use Rattle.dom_model.specs.Turns.{ending_other_turn, opening_turn}
-use Rattle.dom_model.specs.World.{World, Task, micro_task, notify_task, part_of, with_part, component_made, MayAttach}
+use Rattle.dom_model.specs.Turns.{is_owned_by, without_signals, notified, ending_turn, ending_other_turn}
+use Rattle.dom_model.specs.World.{World, part_of, with_part, component_made, MayAttach}
 use Rattle.dom_model.proofs.OwnerLaws.{component_made-other}
 use Rattle.dom_model.proofs.PartLaws.{part_of-with_part-other, owner-part_of}
 use Rattle.dom_model.proofs.StepLaws.{Component-IsNoPage}
 use Rattle.dom_worlds.specs.Reached.{IsReached}
-use Rattle.dom_worlds.specs.Tables.{IsNodeIn, IsRegistrationIn, IsListenerIn, IsRecordIn, HasTables, HasRecords, IsNodeAt, IsWhole}
 use Rattle.dom_worlds.specs.Wholes.{FirstIsWhole, StepKeepsWhole, EndingKeepsWhole, FinishKeepsWhole, ScriptsStayWhole}
-use Rattle.dom_worlds.specs.Worlds.{HasOwners, IsThere}
-use Rattle.dom_worlds.proofs.Acceptance.{accepted-facts, attach-may}
 use Rattle.dom_worlds.proofs.InsideAncestors.{times-has_node}
 use Rattle.dom_worlds.proofs.KindLines.{attach-free}
-use Rattle.dom_worlds.proofs.LineBegins.{part_of-opening}
-use Rattle.dom_worlds.proofs.Lists.{all-append, all-filter}
-use Rattle.dom_worlds.proofs.OwnerCommands.{present-opening}
-use Rattle.dom_worlds.proofs.OwnerSteps.{IsPresent, people}
 use Rattle.dom_worlds.proofs.Owners.{absent-part, next-absent, there-hosted}
-use Rattle.dom_worlds.proofs.Reached.{first-is_reached, step-keeps_reached, ending-keeps_reached, finish-keeps_reached}
+use Rattle.dom_worlds.proofs.Reached.{first-is_reached, IsSound, reached-of, sound-keeps, sound-of}
 use Rattle.dom_worlds.proofs.ReachedFacts.{shadow_roots-are_roots}
-use Rattle.dom_worlds.proofs.Recorded.{records-emptied}
-use Rattle.dom_worlds.proofs.RecordedCommands.{Records, records-effect}
-use Rattle.dom_worlds.proofs.TableCommands.{Holds}
-use Rattle.dom_worlds.proofs.TableRegisters.{holds-effect, more-registered, tables-listeners}
-use Rattle.dom_worlds.proofs.TableEffects.{KeepsBase, base-effect}
 use Rattle.dom_worlds.proofs.TableSteps.{Grows}
 use Rattle.dom_worlds.proofs.TableRecords.{queues-set}
 use Rattle.dom_worlds.proofs.TableWorlds.{Ground, ground-of, Frame, frame-with_part, frame-world_after}
-use Rattle.dom_worlds.proofs.Tests.{either_way}
+use Rattle.dom_worlds.proofs.Invariants.{Any, Keeps, both-keep, kept-ending_other, kept-ending_turn, kept-finish, kept-lines, kept-step}
+use Rattle.dom_worlds.proofs.OwnerSteps.{IsPeopled}
+use Rattle.dom_worlds.proofs.StepKeeps.{OkFor, any-line}
+
+-- What an effect leaves, or its steps record.
+abbrev pub Records : Part → Effect → Type 0
+Records p (tables q lines v) = HasRecords q
+Records p (changes steps v) = TellsIn p steps
+
+-- of a thing that may not be there
+some-records : {X : Type 0} (p : Part) (o : Option X) (f : X → Effect) (d : Effect) → ((x : X) → Records p (f x)) → Records p d →
+    Records p (option_map_or f o d)
+some-records p None f d h g = g
+some-records p (Some x) f d h g = h x
+
+-- a walker that is set
+walker-records : (p : Part) (k : ℕ) (w : Walker) (o : Option NodeName) (v : Value) → HasRecords p → Records p (sets_walker p k w o v)
+walker-records p k w None v h = h
+walker-records p k w (Some x) v h = h
+
+-- a plan for a range
+range-records : (p : Part) (k : ℕ) (f : Range NodeName → List Step) →
+    ((range : Range NodeName) → range_at p k ≡ Some range → TellsIn p (f range)) → TellsIn p (of_range p k [] f)
+range-records p k f g =
+    by_some_is (λ (o : Option (Range NodeName)). TellsIn p (of_range p k [] f)) (range_at p k) (λ e. subst (λ o. TellsIn p (option_map_or f o [])) (sym e) tt)
+    (λ range e. subst (λ o. TellsIn p (option_map_or f o [])) (sym e) (g range e))
+
+-- Every accepted command.
+pub records-effect : (p : Part) → IsPart p → HasTables p → HasRecords p → (c : Command) → part_refusal p c ≡ None → Records p (effect p c)
+records-effect p i t h (Command.new_element a) r = (tt, tt)
+records-effect p i t h (Command.new_text a) r = (tt, tt)
+records-effect p i t h (Command.new_comment a) r = (tt, tt)
+records-effect p i t h Command.new_fragment r = (tt, tt)
+records-effect p i t h Command.new_document r = (tt, tt)
+records-effect p i t h (Command.append a x) r =
+    let k = part-accepted p (Command.append a x) r in
+    tells-inserting observed None i
+    (named-may x (named p a) i (exists-second p a x true true k.exist)
+    (exists-first p a (has_node p.trees (named p x) && true) true k.exist) (insertion-apart p.trees (named p a) (named p x) None k.own)) tt
+records-effect p i t h (Command.insert a x c) r =
+    let k = part-accepted p (Command.insert a x c) r in
+    let rest = has_node p.trees (named p c) && true in
+    let there = exists-second p a x rest true k.exist in
+    tells-inserting observed (reference_for p.trees (named p x) (Some (named p c))) i
+    (named-may x (named p a) i there (exists-first p a (has_node p.trees (named p x) && rest) true k.exist)
+    (insertion-apart p.trees (named p a) (named p x) (Some (named p c)) k.own))
+    (reference-there p (named p x) (Some (named p c)) there (exists-third p a x c k.exist))
+records-effect p i t h (Command.replace a x c) r =
+    let k = part-accepted p (Command.replace a x c) r in
+    let rest = has_node p.trees (named p c) && true in
+    tells-replacing (named p c) i
+    (named-may x (named p a) i (exists-second p a x rest true k.exist)
+    (exists-first p a (has_node p.trees (named p x) && rest) true k.exist)
+    (replacement-apart p.trees (named p a) (named p x) (named p c) k.own)) (exists-third p a x c k.exist)
+records-effect p i t h (Command.remove x) r = tells-removing observed (named p x) p i
+records-effect p i t h (Command.adopt d x) r = tells-adopting (named p d) (named p x) p i
+records-effect p i t h (Command.normalize x) r = tells-normalizing (named p x) p i
+records-effect p i t h (Command.set_attribute x a v) r = let k =
+    part-accepted p (Command.set_attribute x a v) r in tells-setting_attribute (named p x) a v p (exists-first p x true true k.exist)
+records-effect p i t h (Command.unset_attribute x a) r = let k =
+    part-accepted p (Command.unset_attribute x a) r in tells-unsetting_attribute (named p x) a p (exists-first p x true true k.exist)
+records-effect p i t h (Command.set_data x s) r = let k =
+    part-accepted p (Command.set_data x s) r in tells-replacing_data (named p x) 0 (length_of p.trees (named p x)) s p
+    (exists-first p x true true k.exist)
+records-effect p i t h (Command.replace_data x j n s) r = let k =
+    part-accepted p (Command.replace_data x j n s) r in tells-replacing_data (named p x) j n s p (exists-first p x true true k.exist)
+records-effect p i t h (Command.split x j) r = let k =
+    part-accepted p (Command.split x j) r in (tells-splitting (named p x) j p i (exists-first p x true true k.exist)).0
+records-effect p i t h (Command.set_text x s) r = let k =
+    part-accepted p (Command.set_text x s) r in tells-setting_text (named p x) s p i (exists-first p x true true k.exist)
+records-effect p i t h (Command.range_get k) r =
+    some-records p (range_at p k) (λ (r : Range NodeName). answers p (boundaries r.start r.end)) (answers p nothing) (λ x. h) h
+records-effect p i t h (Command.range_text k) r =
+    some-records p (range_at p k) (λ (r : Range NodeName). answers p (a_string (range_text_of p.trees r))) (answers p nothing) (λ x. h) h
+records-effect p i t h (Command.extract k) r =
+    range-records p k (λ range. extracting k range p) (λ range e. tells-extracting k range p i (range-ends p k t range e).0)
+records-effect p i t h (Command.delete k) r =
+    range-records p k (λ range. deleting k range p) (λ range e. let ends = range-ends p k t range e in tells-deleting k range p i ends.0 ends.1)
+records-effect p i t h (Command.insert_node k x) r =
+    let a = part-accepted p (Command.insert_node k x) r in
+    range-records p k (λ range. inserting_into_range k range (named p x) p)
+    (λ range e. tells-inserting_into_range k range i (range-ends p k t range e).0
+    (insert_node-may i t a e))
+records-effect p i t h (Command.iterator_next k) r =
+    some-records p (slice_get p.iterators k) (λ i. moves_iterator p k false i (iterator_next_node p.trees i)) (answers p nothing) (λ i. h) h
+records-effect p i t h (Command.iterator_previous k) r =
+    some-records p (slice_get p.iterators k) (λ i. moves_iterator p k true i (iterator_previous_node p.trees i)) (answers p nothing) (λ i. h) h
+records-effect p i t h (Command.iterator_at k) r =
+    some-records p (slice_get p.iterators k) (λ (i : Iterator). answers p (reference i.reference i.before)) (answers p nothing) (λ i. h) h
+records-effect p i t h (Command.walk k m) r =
+    some-records p (slice_get p.walkers k) (λ w. sets_walker p k w (walker_move p.trees w m) (node_or_null (walker_move p.trees w m)))
+    (answers p nothing) (λ w. walker-records p k w (walker_move p.trees w m) (node_or_null (walker_move p.trees w m)) h) h
+records-effect p i t h (Command.walker_at k) r =
+    some-records p (slice_get p.walkers k) (λ (w : Walker). answers p (a_node w.current)) (answers p nothing) (λ w. h) h
+records-effect p i t h (Command.walker_set k x) r =
+    some-records p (slice_get p.walkers k) (λ w. sets_walker p k w (Some (named p x)) nothing) (answers p nothing)
+    (λ w. walker-records p k w (Some (named p x)) nothing h) h
+records-effect p i t h Command.observer r = all-append (AllByRecursion (IsRecordIn p.trees)) p.record_queues ([] ∷ []) h (tt, tt)
+records-effect p i t h (Command.disconnect k) r = all-set (AllByRecursion (IsRecordIn p.trees)) p.record_queues k [] h tt
+records-effect p i t h (Command.take k) r = all-set (AllByRecursion (IsRecordIn p.trees)) p.record_queues k [] h tt
+records-effect p i t h c r = h
 
 -- Listeners are called, and some go: those that are left are as they were.
 after-action : (P : Listener NodeName → Type 0) (a : Action) (c : Bool) (d : Dispatching NodeName) → AllByRecursion P d.listeners →
@@ -119,11 +223,6 @@ tables-notified p h =
       listeners = h.listeners;
     }
 
--- the events at slots
-frame-firings : (ss : List NodeName) (w : World) → Frame w → Frame (run_each firing_slotchange w ss).0
-frame-firings [] w f = f
-frame-firings (s ∷ ss) w f = frame-firings ss (firing_slotchange w s).0 (frame-dispatch w s None slotchange f)
-
 -- a notification, before its events
 pub frame-told : (w : World) (o : Owner) → Frame w → Frame (with_part (without_signals w o) (notified (part_of w o)))
 frame-told w o f =
@@ -137,26 +236,6 @@ frame-told w o f =
     frame-with_part calm (notified (part_of w o)) o (owner-part_of w o) (tables-notified (part_of w o) (f.tables o))
     (records-emptied (IsRecordIn (part_of w o).trees) (part_of w o).pending (part_of w o).record_queues (f.records o)) (λ y h. h) base
 
--- a task
-frame-running : (w : World) (t : Task) → Frame w → Frame (running_task w t).0
-frame-running w (micro_task o label) f = f
-frame-running w (notify_task o) f = frame-firings (filter (is_owned_by o) w.signalled) (with_part (without_signals w o) (notified (part_of w o)))
-    (frame-told w o f)
-
--- all tasks
-frame-running_all : (ts : List Task) (w : World) → Frame w → Frame (run_each running_task w ts).0
-frame-running_all [] w f = f
-frame-running_all (t ∷ ts) w f = frame-running_all ts (running_task w t).0 (frame-running w t f)
-
--- the ending of a turn
-frame-ending_turn : (w : World) → Frame w → Frame (ending_turn w).0
-frame-ending_turn w f = frame-running_all w.tasks (record w { tasks = []; turn = None })
-    (record { tables = f.tables; records = f.records; first = f.first; signalled = f.signalled })
-
--- of another component's turn
-frame-ending_other : (w : World) (o : Owner) → Frame w → Frame (ending_other_turn w o).0
-frame-ending_other w o f = either_way (λ (r : Run World). Frame r.0) (has_other_turn w o) (ending_turn w) (quiet w) (frame-ending_turn w f) f
-
 -- Attaching: an owner that is not there has no nodes.
 absent-grows : (w : World) (o : Owner) (p : Part) → (IsThere w o → ⊥) → Grows (part_of w o).trees p.trees
 absent-grows w o p h = subst (λ (q : Part). Grows q.trees p.trees) (sym (absent-part w o h)) (λ y g. absurd (true≢false (sym g)))
@@ -165,15 +244,9 @@ absent-grows w o p h = subst (λ (q : Part). Grows q.trees p.trees) (sym (absent
 tables-root : (o : Owner) (d : Option NodeName) → HasTables (part_with_root o Shadow d)
 tables-root o d = record { hosts = tt; ranges = tt; iterators = tt; walkers = tt; registrations = tt; pending = tt; listeners = tt }
 
--- What is asked beside the tables, where a command runs.
-record Facts (w : World) (o : Owner) : Type 0 where
-  ground : Ground w
-  owners : HasOwners w
-  first : IsNodeIn (part_of w o).trees (first_node (part_of w o))
-
 -- attaching keeps the tables
-frame-attaching : {w : World} {o : Owner} (x : NodeName) → MayAttach o → Facts w o → IsNodeIn (part_of w o).trees x → Frame w → Frame (attaching w o x).0
-frame-attaching {w} {o} x may k t f =
+frame-attaching : {w : World} (o : Owner) (x : NodeName) → MayAttach o → IsPeopled w → IsNodeIn (part_of w o).trees x → Frame w → Frame (attaching w o x).0
+frame-attaching {w} o x may k t f =
     let p = part_of w o in
     let h = f.tables o in
     let n = length p.attached in
@@ -195,50 +268,15 @@ frame-attaching {w} {o} x may k t f =
     let root = part_with_root c Shadow d in
     let other : part_of marked c ≡ part_of w c = part_of-with_part-other w more c (λ e. component_made-other o n (sym e ∙ mine)) in
     frame-with_part marked root c refl (tables-root c d) tt (subst (λ (q : Part). Grows q.trees root.trees) (sym other)
-    (absent-grows w c root (next-absent w k.ground.makers k.owners o may))) m
-
--- who attaches is known from acceptance
-frame-attach_of : {w : World} {o : Owner} (x : NodeWord) → part_refusal (part_of w o) (Command.attach x) ≡ None → Facts w o → Frame w →
-    Frame (perform w o (Command.attach x)).0
-frame-attach_of {w} {o} x r k f =
-    frame-attaching (named (part_of w o) x) (attach-may w o x r) k
-    (times-has_node (part_of w o).trees (named (part_of w o) x) (attach-free (part_of w o) x r).there) f
+    (absent-grows w c root (next-absent w k.makers k.owners o may))) m
 
 -- An accepted command.
-frame-effect : {w : World} {o : Owner} (e : Effect) → Facts w o → KeepsBase (part_of w o) e → Holds (part_of w o) e → Records (part_of w o) e → Frame w →
-    Frame (effect_in w o e).0
-frame-effect {w} {o} (tables p lines v) k base h r f =
-    frame-with_part w p o (base.0 ∙ owner-part_of w o) h r (λ y n. subst (λ ts. IsNodeIn ts y) (sym base.1.trees) n) f
-frame-effect {o} (changes steps v) k base h r f = frame-world_after o steps k.ground h r f
-
--- any command
-frame-perform : {w : World} {o : Owner} (c : Command) → Facts w o → part_refusal (part_of w o) c ≡ None → Frame w → Frame (perform w o c).0
-frame-perform {w} {o} (Command.attach x) k r f = frame-attach_of x r k f
-frame-perform (Command.connected x) k r f = f
-frame-perform (Command.assigned x) k r f = f
-frame-perform {w} {o} (Command.dispatch x e related) k r f = frame-dispatch w (named (part_of w o) x) (option_map (named (part_of w o)) related) e f
-frame-perform (Command.micro label) k r f = record { tables = f.tables; records = f.records; first = f.first; signalled = f.signalled }
-frame-perform {w} Command.end_turn k r f = frame-ending_turn w f
-frame-perform {w} {o} c k r f = frame-effect (effect (part_of w o) c) k (base-effect (part_of w o) c)
-    (holds-effect (part_of w o) (k.ground.parts o) (f.tables o) k.first c r)
-    (records-effect (part_of w o) (k.ground.parts o) (f.tables o) (f.records o) c r) f
-
--- with the turn that it opens
-facts-opening : (w : World) (o : Owner) → Facts w o → HasOwners (opening_turn w o) → Facts (opening_turn w o) o
-facts-opening w o k i =
-    record {
-      ground = either_way Ground (is_some w.turn) w (record w { turn = Some o }) k.ground (record { parts = k.ground.parts; makers = k.ground.makers });
-      owners = i;
-      first = either_way (λ v. IsNodeIn (part_of v o).trees (first_node (part_of v o))) (is_some w.turn) w (record w { turn = Some o }) k.first k.first;
-    }
-
--- `.` apart
-frame-accepted : {w : World} {o : Owner} (c : Command) → IsPresent w o → Facts w o → part_refusal (part_of w o) c ≡ None → Frame w → Frame (accepted w o c).0
-frame-accepted {w} Command.end_turn h k r f = frame-ending_turn w f
-frame-accepted {w} {o} c h k r f =
-    frame-perform c (facts-opening w o k (present-opening h).people.owners) (ap (λ p. part_refusal p c) (part_of-opening w o o) ∙ r)
-    (either_way Frame (is_some w.turn) w (record w { turn = Some o }) f
-    (record { tables = f.tables; records = f.records; first = f.first; signalled = f.signalled }))
+module _ {w : World} (o : Owner) (k : Ground w) where
+  -- its effect
+  frame-effect : (e : Effect) → KeepsBase (part_of w o) e → Holds (part_of w o) e → Records (part_of w o) e → Frame w → Frame (effect_in w o e).0
+  frame-effect (tables p lines v) base h r f =
+      frame-with_part w p o (base.0 ∙ owner-part_of w o) h r (λ y n. subst (λ ts. IsNodeIn ts y) (sym base.1.trees) n) f
+  frame-effect (changes steps v) base h r f = frame-world_after o steps k h r f
 
 -- An owner that is there has its first node.
 first-there : {only_log : Bool} (w : World) → IsReached only_log w → IsNodeIn (part_of w Page).trees (node_of Page 0) → (o : Owner) →
@@ -249,22 +287,37 @@ first-there {only_log = b} w r f (Component k) t =
     let hosted = there-hosted w r.world.makers r.owners o (Component-IsNoPage k) t in
     subst (λ a. IsNodeIn (part_of w o).trees (node_of a 0)) (sym (owner-part_of w o)) (shadow_roots-are_roots b w r o hosted).0
 
--- refused or accepted
-frame-command : {only_log : Bool} (w : World) (o : Owner) (c : Command) → IsReached only_log w → Frame w → Frame (run_command o c w).0
-frame-command w o c r f = from (refusal w o c) refl
-  where
-    from : (a : Option Refusal) → refusal w o c ≡ a → Frame (unless_refused o (refusal w o c) w (accepted w o c)).0
-    from (Some a) e = subst (λ a. Frame (unless_refused o a w (accepted w o c)).0) (sym e) f
-    from None e =
-        let a = accepted-facts w o c e in
-        let k : Facts w o = record { ground = ground-of w r.world; owners = r.owners; first = first-there w r f.first o a.there } in
-        subst (λ a. Frame (unless_refused o a w (accepted w o c)).0) (sym e) (frame-accepted c (record { there = a.there; people = people w r }) k a.part f)
+-- What lines consist of keeps the tables.
+frame-keeps : Keeps (OkFor false) IsSound Frame
+frame-keeps =
+    record {
+      turns = record {
+        dispatch = λ w x related e s f. frame-dispatch w x related e f;
+        at_end = λ w s f. record { tables = f.tables; records = f.records; first = f.first; signalled = f.signalled };
+        told = λ w o t s f. frame-told w o f;
+      };
+      turned = λ w o e t s f. record { tables = f.tables; records = f.records; first = f.first; signalled = f.signalled };
+      attach = λ w o x m s f. let y = named (part_of w o) x in frame-attaching o y (attach-may w o x m.part) s.0.1
+          (times-has_node (part_of w o).trees y (attach-free (part_of w o) x m.part).there) f;
+      micro = λ w o label m s f. record { tables = f.tables; records = f.records; first = f.first; signalled = f.signalled };
+      effect = λ w o c m s f. let p = part_of w o in
+          let i = s.0.0.world in
+          frame-effect o (ground-of w i) (effect p c) (base-effect p c)
+          (holds-effect p (i.parts o) (f.tables o) (first-there w (reached-of w s.0.0 s) f.first o m.there) c m.part)
+          (records-effect p (i.parts o) (f.tables o) (f.records o) c m.part) f;
+    }
 
--- a line
-frame-line : {only_log : Bool} (w : World) (l : Line) → IsReached only_log w → Frame w → Frame (step w l).0
-frame-line w no_owner r f = f
-frame-line w (no_command o) r f = frame-ending_other w o f
-frame-line {only_log = b} w (command o c) r f = frame-command (ending_other_turn w o).0 o c (ending-keeps_reached b w o r) (frame-ending_other w o f)
+-- with what holds of reached worlds
+abbrev pub IsFramed : World → Type 0
+IsFramed w = IsSound w × Frame w
+
+-- both are kept
+pub framed-keeps : Keeps (OkFor false) Any IsFramed
+framed-keeps = both-keep sound-keeps frame-keeps
+
+-- also by the end of a turn
+pub framed-ending_turn : (w : World) → IsFramed w → IsFramed (ending_turn w).0
+framed-ending_turn = kept-ending_turn framed-keeps.turns (λ w s. s.0.0.1.owners.tasks)
 
 -- The laws.
 pub frame-of : {only_log : Bool} (w : World) → IsReached only_log w → IsWhole w → Frame w
@@ -279,9 +332,13 @@ frame-of w r h = record {
 pub whole-of : {only_log : Bool} (w : World) → IsReached only_log w → Frame w → IsWhole w
 whole-of w r f = record { tables = f.tables; records = f.records; first = first-there w r f.first; signalled = f.signalled }
 
--- whatever the listeners do
-pub any-reached : {only_log : Bool} (w : World) → IsReached only_log w → IsReached false w
-any-reached w r = record { world = r.world; kinds = r.kinds; owners = r.owners; logs = λ e. absurd (true≢false (sym e)) }
+-- with what holds of reached worlds
+pub framed-of : {only_log : Bool} (w : World) → IsReached only_log w → IsWhole w → IsFramed w
+framed-of w r h = (sound-of w r, frame-of w r h)
+
+-- and back
+pub whole-framed : (w : World) → IsFramed w → IsWhole w
+whole-framed w s = whole-of w (reached-of w s.0.0.0 s.0) s.1
 
 -- the first world
 frame-first : Frame first_world
@@ -301,28 +358,18 @@ first-is_whole = whole-of first_world (first-is_reached false) frame-first
 
 -- each line keeps it
 pub step-keeps_whole : StepKeepsWhole
-step-keeps_whole b w l r h =
-    whole-of (step w l).0 (step-keeps_reached false w l (any-reached w r) (λ e. absurd (true≢false (sym e)))) (frame-line w l r (frame-of w r h))
+step-keeps_whole b w l r h = whole-framed (step w l).0 (kept-step framed-keeps framed-ending_turn w l (any-line w l) (framed-of w r h))
 
 -- the ending of another component's turn
 pub ending-keeps_whole : EndingKeepsWhole
-ending-keeps_whole b w o r h = whole-of (ending_other_turn w o).0 (ending-keeps_reached b w o r) (frame-ending_other w o (frame-of w r h))
+ending-keeps_whole b w o r h = whole-framed (ending_other_turn w o).0 (kept-ending_other framed-ending_turn w o (framed-of w r h))
 
 -- the end of input
 pub finish-keeps_whole : FinishKeepsWhole
-finish-keeps_whole b w r h =
-    let f = frame-of w r h in
-    whole-of (finish w).0 (finish-keeps_reached b w r)
-    (either_way (λ (x : Run World). Frame x.0) (is_some w.turn) (ending_turn w) (quiet w) (frame-ending_turn w f) f)
+finish-keeps_whole b w r h = whole-framed (finish w).0 (kept-finish framed-ending_turn w (framed-of w r h))
 
--- Scripts.
-module _ {L : Type 0} (read : L → Line) where
-  -- lines from a world on
-  lines-stay_whole : (ls : List L) (w : World) → IsReached false w → IsWhole w → IsWhole (run_lines w (map read ls)).0
-  lines-stay_whole [] w r h = h
-  lines-stay_whole (l ∷ ls) w r h =
-      lines-stay_whole ls (step w (read l)).0 (step-keeps_reached false w (read l) r (λ e. absurd (true≢false (sym e)))) (step-keeps_whole false w (read l) r h)
-
-  -- from the first one on
-  pub scripts-stay_whole : ScriptsStayWhole read
-  scripts-stay_whole ls = lines-stay_whole ls first_world (first-is_reached false) first-is_whole
+-- scripts
+pub scripts-stay_whole : {L : Type 0} (read : L → Line) → ScriptsStayWhole read
+scripts-stay_whole read ls =
+    whole-framed (run_lines first_world (map read ls)).0
+    (kept-lines framed-keeps framed-ending_turn any-line read ls first_world (framed-of first_world (first-is_reached false) first-is_whole))

@@ -1,41 +1,39 @@
 -- Steps with removals, records and iterators keep the tables of their part; and so does every step that fits.
-use Rattle.std.proofs.Common.{zero, suc, ◌≡◌, ◌≤◌, ◌<◌, ℕ, Bool, true, false, not, ◌||◌, List, [], ◌∷◌, ◌++◌, map, filter, fold, length, Option, Some}
-use Rattle.std.proofs.Common.{None, option_map, refl, sym, ap, ◌∙◌, arith, subst}
+use Rattle.std.proofs.Common.{zero, suc, ◌≡◌, ◌≤◌, ◌<◌, ℕ, Bool, true, false, not, ◌||◌, List, [], ◌∷◌, ◌++◌, map, filter, fold, length, Option, Some, None}
+use Rattle.std.proofs.Common.{option_map, refl, sym, ap, ◌∙◌, arith, subst}
 use Rattle.std.specs.Prelude.{if◌then◌else◌, IsTrue, ⊤, slice_get, slice_set, nat_eq}
 use Rattle.std.specs.List.{AllByRecursion, last_or}
 use Rattle.std.specs.Option.{option_map_or}
 use Rattle.std.proofs.lemmas.Bool.{cond-true, cond-false, not-true}
 use Rattle.std.proofs.lemmas.List.{length-set}
 use Rattle.dom_base.specs.declared.NodeName.{NodeName}
-use Rattle.dom_model.specs.Tree.{times_in, Trees, Node, nodes, subtree, parent_of, index_of, inclusive_descendants, inclusive_ancestors}
-use Rattle.dom_model.specs.Tree.{is_inclusive_ancestor}
+use Rattle.dom_model.specs.Tree.{times_in, Trees, Node, nodes, subtree, parent_of, index_of, inclusive_descendants, inclusive_ancestors, is_inclusive_ancestor}
 use Rattle.dom_model.specs.Names.{name_eq, is_in, first_of, last_of, items_after, items_before, append_once}
 use Rattle.dom_model.specs.TreeChanges.{without, taken_out}
 use Rattle.dom_model.specs.Ranges.{Range, map_ends, after_insert, after_removal, after_replace_data, after_split, after_join}
 use Rattle.dom_model.specs.Traversal.{Iterator, moved_to, adjusted_iterator}
-use Rattle.dom_model.specs.Observers.{target_of, fits, fitting, interested, Registration, copied_from, copied_from_transient, transients_for}
-use Rattle.dom_model.specs.Observers.{registrations_on, copied_source, is_transient}
+use Rattle.dom_model.specs.Observers.{target_of, fits, fitting, interested, Registration, copied_from, copied_from_transient, transients_for, registrations_on}
+use Rattle.dom_model.specs.Observers.{copied_source, is_transient}
 use Rattle.dom_model.specs.Output.{Change}
 use Rattle.dom_model.specs.Part.{Part, queue_of}
-use Rattle.dom_model.specs.Steps.{Step, make, make_room, place, take_out, set_document, set_attribute, replace_data, split_at, join_at, set_range}
-use Rattle.dom_model.specs.Steps.{queue_record, part_step, leave, told, interested_in, record_in, after}
+use Rattle.dom_model.specs.Steps.{Step, make, make_room, place, take_out, set_document, set_attribute, replace_data, split_at, join_at, set_range, queue_record}
+use Rattle.dom_model.specs.Steps.{part_step, leave, told, interested_in, record_in, after}
 use Rattle.dom_model.proofs.OwnerLaws.{name_eq-true}
 use Rattle.dom_worlds.specs.Worlds.{IsPart}
 use Rattle.dom_worlds.specs.Tables.{IsNodeIn, EndsIn, IsIteratorIn, IsWalkerIn, IsSourceIn, IsRegistrationIn, IsListenerIn, HasTables}
-use Rattle.dom_worlds.proofs.Lists.{all-distinct, all-append, all-then, all-filter, all-from, all-flat_map, all-map, all-set}
+use Rattle.dom_worlds.proofs.Lists.{all-distinct, all-append, all-then, all-filter, all-from, all-flat_map, all-map, all-set, by_cases, either_way, or-second}
+use Rattle.dom_worlds.proofs.Lists.{by_some_is, or-neither, or-first}
 use Rattle.dom_worlds.proofs.Roots.{roots-equal, roots-same, roots-left}
-use Rattle.dom_worlds.proofs.Tests.{by_cases, either_way, or-second, or-neither, or-first}
 use Rattle.dom_laws.proofs.Counts.{Once, by_times, times_subtree}
 use Rattle.dom_worlds.proofs.Trees.{nodes-there, root-there}
 use Rattle.dom_worlds.proofs.TreeChangeLaws.{root-subtree}
 use Rattle.dom_worlds.proofs.PartSteps.{part-step}
 use Rattle.dom_worlds.proofs.KindLines.{has_node-times}
 use Rattle.dom_worlds.proofs.Descents.{ancestor-inside, inside-ancestor, inside-subtree, inside-left, inside-comparable, before-apart, descend-begins}
-use Rattle.dom_worlds.proofs.Insides.{IsOutside, unique-taken_out, inside, inside-itself, inside-absent, inside-put_root, times-inside}
-use Rattle.dom_worlds.proofs.Insides.{times-taken_out_all}
+use Rattle.dom_worlds.proofs.Insides.{IsOutside, unique-taken_out, inside, inside-itself, inside-absent, inside-put_root, times-inside, times-taken_out_all}
 use Rattle.dom_worlds.proofs.InsideAncestors.{inside-nested, inside-no_ancestor, child-there, times-has_node}
-use Rattle.dom_worlds.proofs.TableSteps.{Fits, MadeIn, Grows, grows-times, grows-step, ancestors-step, tables-trees, tables-ends, moves-insert}
-use Rattle.dom_worlds.proofs.TableSteps.{moves-removal, moves-data, moves-split, moves-join, walker-grows, registration-grows}
+use Rattle.dom_worlds.proofs.TableSteps.{Fits, MadeIn, Grows, grows-times, grows-step, ancestors-step, tables-trees, tables-ends, moves-insert, moves-removal}
+use Rattle.dom_worlds.proofs.TableSteps.{tables-ranges, moves-data, moves-split, moves-join, walker-grows, registration-grows}
 
 -- Records and transient registrations: of the registrations on a path.
 all-registered : (P : Registration NodeName → Type 0) (path : List NodeName) (rs : List (Registration NodeName)) → AllByRecursion P rs →
@@ -346,11 +344,8 @@ tables-step p (make_room parent index count) i f h = tables-ends p (after_insert
 tables-step p (place x parent before) i f h =
     tables-trees (part_step p (place x parent before)).trees p.node_count (part-step p (place x parent before) i).unique
     (grows-step p (place x parent before) i f) (ancestors-step p (place x parent before) i f tt) h
-tables-step p (take_out x) i f h = from (parent_of p.trees x) refl
-  where
-    from : (o : Option NodeName) → parent_of p.trees x ≡ o → HasTables (option_map_or (leave p x) o p)
-    from None e = h
-    from (Some parent) e = tables-left x i e h
+tables-step p (take_out x) i f h =
+    by_some_is (λ (o : Option NodeName). HasTables (option_map_or (leave p x) o p)) (parent_of p.trees x) (λ e. h) (λ parent e. tables-left x i e h)
 tables-step p (set_document x d) i f h =
     tables-trees (part_step p (set_document x d)).trees p.node_count (part-step p (set_document x d) i).unique
     (grows-step p (set_document x d) i f) (ancestors-step p (set_document x d) i f tt) h
@@ -369,20 +364,12 @@ tables-step p (join_at first size next parent index) i f h =
     tables-ends p (after_join name_eq first size next parent index)
     (moves-join p.trees parent index first size next (times-has_node p.trees first f.0) f.1 f.2) h
 tables-step p (set_range k r) i f h =
-    record {
-      hosts = h.hosts;
-      ranges = all-set (EndsIn p.trees) p.ranges k (Some r) h.ranges
-          (record {
-            start = times-has_node p.trees r.start.node f.0;
-            end = times-has_node p.trees r.end.node f.1;
-            one_root = roots-same p.trees r.start.node r.end.node f.2;
-          });
-      iterators = h.iterators;
-      walkers = h.walkers;
-      registrations = h.registrations;
-      pending = h.pending;
-      listeners = h.listeners;
-    }
+    tables-ranges h (all-set (EndsIn p.trees) p.ranges k (Some r) h.ranges
+    (record {
+      start = times-has_node p.trees r.start.node f.0;
+      end = times-has_node p.trees r.end.node f.1;
+      one_root = roots-same p.trees r.start.node r.end.node f.2;
+    }))
 tables-step p (queue_record c) i f h = tables-told p c h
 
 -- and so do all steps, each where it is made

@@ -1,6 +1,6 @@
 -- Listeners and observers keep to nodes that are there, and so does what an accepted command does to tables.
-use Rattle.std.proofs.Common.{◌≡◌, ◌≤◌, ◌<◌, ℕ, true, false, not, ◌&&◌, List, [], ◌∷◌, ◌++◌, map, filter, length, Option, Some}
-use Rattle.std.proofs.Common.{None, refl, sym, ap, ◌∙◌, arith, subst, length-append}
+use Rattle.std.proofs.Common.{◌≡◌, ◌≤◌, ◌<◌, ℕ, true, false, not, ◌&&◌, List, [], ◌∷◌, ◌++◌, map, filter, length, Option, Some, None, refl, sym, ap, ◌∙◌, arith}
+use Rattle.std.proofs.Common.{subst, length-append}
 use Rattle.std.specs.Prelude.{⊤, slice_get, slice_set, is_some, ◌==◌}
 use Rattle.std.specs.List.{AllByRecursion, list_any}
 use Rattle.std.specs.Option.{option_map_or, option_or}
@@ -11,9 +11,8 @@ use Rattle.dom_model.specs.Changes.{observed}
 use Rattle.dom_model.specs.Command.{Command, NodeWord, ObserveWords, ListenerWords, part_refusal, own_refusal, effect}
 use Rattle.dom_model.specs.CommandNames.{named, has_range}
 use Rattle.dom_model.specs.CommandRefusals.{of_range, limit_on, made_by_insert_node}
-use Rattle.dom_model.specs.Effects.{answers, moves_iterator, sets_walker, node_or_null, collapsed_to}
-use Rattle.dom_model.specs.Effects.{new_iterator, new_walker}
-use Rattle.dom_model.specs.Extract.{both_at}
+use Rattle.dom_model.specs.Effects.{answers, moves_iterator, sets_walker, node_or_null, collapsed_to, new_iterator, new_walker}
+use Rattle.dom_model.specs.Extract.{both_at, extracting}
 use Rattle.dom_model.specs.Listeners.{Listener, listened, is_listener}
 use Rattle.dom_model.specs.Names.{name_eq}
 use Rattle.dom_model.specs.Observers.{Registration, asked_for, with_registration, with_options, is_asked_for, stems_from, options_of}
@@ -21,34 +20,31 @@ use Rattle.dom_model.specs.Output.{nothing, a_node, a_string, boundaries, refere
 use Rattle.dom_model.specs.Part.{Part, first_node, range_at}
 use Rattle.dom_model.specs.RangeOps.{cannot_take_node, insert_node_refusal, insertion_parent, start_reference, range_text_of, inserting_into_range, deleting}
 use Rattle.dom_model.specs.Ranges.{Range, at, with_start, with_end}
-use Rattle.dom_model.specs.Extract.{extracting}
 use Rattle.dom_model.specs.Steps.{Step}
 use Rattle.dom_model.specs.Traversal.{Iterator, Walker, iterator_next_node, iterator_previous_node, walker_move}
-use Rattle.dom_model.specs.Tree.{Trees, has_node}
-use Rattle.dom_model.specs.Tree.{parent_of, length_of}
+use Rattle.dom_model.specs.Tree.{Trees, has_node, parent_of, length_of}
 use Rattle.dom_model.specs.Validity.{insertion_refusal}
 use Rattle.dom_worlds.specs.Worlds.{IsPart}
 use Rattle.dom_worlds.specs.Tables.{IsNodeIn, EndsIn, IsIteratorIn, IsWalkerIn, IsRegistrationIn, IsListenerIn, HasTables}
-use Rattle.dom_worlds.proofs.Acceptance.{IsPartAccepted, or-none, part-accepted}
+use Rattle.dom_worlds.proofs.Effects.{IsPartAccepted, or-none, part-accepted}
 use Rattle.dom_worlds.proofs.Descents.{inside-ancestor}
 use Rattle.dom_worlds.proofs.Insides.{inside-itself}
 use Rattle.dom_worlds.proofs.InsideAncestors.{times-has_node, parent-there}
 use Rattle.dom_worlds.proofs.KindLines.{has_node-times}
-use Rattle.dom_worlds.proofs.Lists.{all-append, all-then, all-filter, all-map, get-below}
+use Rattle.dom_worlds.proofs.Lists.{all-append, all-then, all-filter, all-map, get-below, either_way, by_some_is}
 use Rattle.dom_worlds.proofs.Owners.{owner-named}
 use Rattle.dom_worlds.proofs.PlanPlaces.{MayGo, leads-removing, leads-adopting, leads-inserting}
 use Rattle.dom_worlds.proofs.PlanTexts.{leads-replacing, leads-setting_attribute, leads-unsetting_attribute, leads-replacing_data, leads-splitting}
 use Rattle.dom_worlds.proofs.PlanTexts.{leads-normalizing, leads-setting_text}
 use Rattle.dom_worlds.proofs.PlanContents.{range-ends, leads-extracting, leads-deleting, leads-inserting_into_range}
 use Rattle.dom_worlds.proofs.ShadowRoots.{not_taken}
-use Rattle.dom_worlds.proofs.TableSteps.{HasNode, MadeIn}
+use Rattle.dom_worlds.proofs.TableSteps.{HasNode, MadeIn, tables-iterators, tables-ranges, tables-walkers}
 use Rattle.dom_worlds.proofs.PlanRoots.{ends-at}
 use Rattle.dom_worlds.proofs.TableRecords.{IfSome, all-get}
 use Rattle.dom_worlds.proofs.Roots.{roots-same}
-use Rattle.dom_worlds.proofs.Tests.{either_way}
-use Rattle.dom_worlds.proofs.TableCommands.{Holds, insertion-apart, replacement-apart, named-may, exists-first, exists-second, some-holds}
-use Rattle.dom_worlds.proofs.TableCommands.{tables-range, ends-mapped, ends-with_start, ends-with_end, ends-collapsed}
-use Rattle.dom_worlds.proofs.TableCursors.{iterator-next, iterator-previous, tables-iterator, walker-moved, tables-walker}
+use Rattle.dom_worlds.proofs.TableCommands.{Holds, insertion-apart, replacement-apart, named-may, exists-first, exists-second, some-holds, tables-range}
+use Rattle.dom_worlds.proofs.TableCommands.{ends-mapped, ends-with_start, ends-with_end, ends-collapsed, iterator-next, iterator-previous, tables-iterator}
+use Rattle.dom_worlds.proofs.TableCommands.{walker-moved, tables-walker}
 
 -- Listeners.
 pub all-heard : (P : Listener NodeName → Type 0) (x : NodeName) (w : ListenerWords) (ls : List (Listener NodeName)) →
@@ -114,11 +110,9 @@ more-pending j k e ks h = all-then (λ i. i < j) (λ i. i < k) (λ i o. omega ar
 -- Ranges that plans are for.
 range-made : (p : Part) (k : ℕ) (f : Range NodeName → List Step) → ((range : Range NodeName) → range_at p k ≡ Some range → MadeIn p (f range)) →
     MadeIn p (of_range p k [] f)
-range-made p k f h = from (range_at p k) refl
-  where
-    from : (o : Option (Range NodeName)) → range_at p k ≡ o → MadeIn p (of_range p k [] f)
-    from None e = subst (λ o. MadeIn p (option_map_or f o [])) (sym e) tt
-    from (Some range) e = subst (λ o. MadeIn p (option_map_or f o [])) (sym e) (h range e)
+range-made p k f h =
+    by_some_is (λ (o : Option (Range NodeName)). MadeIn p (of_range p k [] f)) (range_at p k) (λ e. subst (λ o. MadeIn p (option_map_or f o [])) (sym e) tt)
+    (λ range e. subst (λ o. MadeIn p (option_map_or f o [])) (sym e) (h range e))
 
 -- the parent into which a node goes is there
 pub parent-of_range : (p : Part) (range : Range NodeName) → HasNode p range.start.node → HasNode p (insertion_parent p.trees range)
@@ -197,16 +191,8 @@ holds-effect p i h f (Command.set_text x s) r =
     let k = part-accepted p (Command.set_text x s) r in
     (leads-setting_text (named p x) s p i (exists-first p x true true k.exist)).made
 holds-effect p i h f Command.range_new r =
-    record {
-      hosts = h.hosts;
-      ranges = all-append (EndsIn p.trees) p.ranges (Some (both_at (at (first_node p) 0)) ∷ []) h.ranges
-          (record { start = f; end = f; one_root = roots-same p.trees (first_node p) (first_node p) refl }, tt);
-      iterators = h.iterators;
-      walkers = h.walkers;
-      registrations = h.registrations;
-      pending = h.pending;
-      listeners = h.listeners;
-    }
+    tables-ranges h (all-append (EndsIn p.trees) p.ranges (Some (both_at (at (first_node p) 0)) ∷ []) h.ranges
+    (record { start = f; end = f; one_root = roots-same p.trees (first_node p) (first_node p) refl }, tt))
 holds-effect p i h f (Command.range_start k x j) r =
     let a = part-accepted p (Command.range_start k x j) r in
     let b = at (named p x) j in
@@ -242,35 +228,19 @@ holds-effect p i h f (Command.insert_node k x) r =
 holds-effect p i h f (Command.iterator_new x w) r =
     let a = part-accepted p (Command.iterator_new x w) r in
     let t = times-has_node p.trees (named p x) (exists-first p x true true a.exist) in
-    record {
-      hosts = h.hosts;
-      ranges = h.ranges;
-      iterators = all-append (IsIteratorIn p.trees) p.iterators (new_iterator (named p x) w ∷ []) h.iterators (
-        record {
-          root = t;
-          reference = t;
-          within = inside-ancestor p.trees (named p x) (named p x) i.unique
-              (inside-itself p.trees (named p x) (has_node-times p.trees (named p x) t));
-        },
-        tt,
-      );
-      walkers = h.walkers;
-      registrations = h.registrations;
-      pending = h.pending;
-      listeners = h.listeners;
-    }
+    tables-iterators h (all-append (IsIteratorIn p.trees) p.iterators (new_iterator (named p x) w ∷ []) h.iterators (
+      record {
+        root = t;
+        reference = t;
+        within = inside-ancestor p.trees (named p x) (named p x) i.unique
+            (inside-itself p.trees (named p x) (has_node-times p.trees (named p x) t));
+      },
+      tt,
+    ))
 holds-effect p i h f (Command.walker_new x w) r =
     let a = part-accepted p (Command.walker_new x w) r in
     let t = times-has_node p.trees (named p x) (exists-first p x true true a.exist) in
-    record {
-      hosts = h.hosts;
-      ranges = h.ranges;
-      iterators = h.iterators;
-      walkers = all-append (IsWalkerIn p.trees) p.walkers (new_walker (named p x) w ∷ []) h.walkers (record { root = t; current = t }, tt);
-      registrations = h.registrations;
-      pending = h.pending;
-      listeners = h.listeners;
-    }
+    tables-walkers h (all-append (IsWalkerIn p.trees) p.walkers (new_walker (named p x) w ∷ []) h.walkers (record { root = t; current = t }, tt))
 holds-effect p i h f (Command.iterator_next k) r =
     some-holds p (slice_get p.iterators k) (λ i. moves_iterator p k false i (iterator_next_node p.trees i)) (answers p nothing)
     (all-get (IsIteratorIn p.trees) p.iterators k h.iterators) (record {

@@ -1,30 +1,29 @@
 -- A step that loses no node keeps the tables of its part, where what it names is there.
-use Rattle.std.proofs.Common.{◌≡◌, ◌≤◌, ℕ, Bool, true, false, not, ◌&&◌, ◌||◌, List, [], ◌∷◌, map, length, Option, Some, None, option_map}
-use Rattle.std.proofs.Common.{refl, sym, ap, ◌∙◌, arith, subst}
+use Rattle.std.proofs.Common.{◌≡◌, ◌≤◌, ℕ, Bool, true, false, not, ◌&&◌, ◌||◌, List, [], ◌∷◌, map, length, Option, Some, None, option_map, refl, sym, ap, ◌∙◌}
+use Rattle.std.proofs.Common.{arith, subst}
 use Rattle.std.specs.Prelude.{if◌then◌else◌, IsTrue, ⊤, nat_eq, nat_lt, nat_le, ◌+◌, ◌-◌}
 use Rattle.std.specs.List.{AllByRecursion}
 use Rattle.std.specs.Option.{option_map_or}
 use Rattle.std.proofs.lemmas.Bool.{and_parts}
 use Rattle.dom_base.specs.declared.NodeName.{NodeName}
-use Rattle.dom_model.specs.Names.{name_eq, is_in}
-use Rattle.dom_model.specs.Tree.{Trees, Node, parent_of, root_of, index_of, inclusive_descendants, is_inclusive_ancestor, times_in}
-use Rattle.dom_model.specs.TreeChanges.{map_nodes, with_name, with_document, with_data_replaced, with_attribute}
+use Rattle.dom_model.specs.Names.{name_eq}
+use Rattle.dom_model.specs.Tree.{Trees, Node, parent_of, root_of, index_of, is_inclusive_ancestor, times_in}
+use Rattle.dom_model.specs.TreeChanges.{map_nodes, with_name}
 use Rattle.dom_model.specs.Place.{Boundary}
 use Rattle.dom_model.specs.Ranges.{Range, at, map_ends, boundary_eq, after_insert, after_removal, after_replace_data, after_split, after_join}
 use Rattle.dom_model.specs.Traversal.{Iterator, Walker}
 use Rattle.dom_model.specs.Observers.{Registration, Source, asked_for, copied_from, copied_from_transient}
 use Rattle.dom_model.specs.Part.{Part, next_name}
-use Rattle.dom_model.specs.Steps.{Step, make, place, take_out, set_document, set_attribute, replace_data, split_at, join_at, set_range, part_step}
-use Rattle.dom_model.specs.Steps.{leave, with_ends}
+use Rattle.dom_model.specs.Steps.{Step, make, place, take_out, set_document, set_attribute, replace_data, split_at, join_at, set_range, part_step, leave}
+use Rattle.dom_model.specs.Steps.{with_ends}
 use Rattle.dom_model.proofs.OwnerLaws.{name_eq-true}
 use Rattle.dom_worlds.specs.Worlds.{IsPart}
 use Rattle.dom_worlds.specs.Tables.{IsNodeIn, EndsIn, IsIteratorIn, IsWalkerIn, IsSourceIn, IsRegistrationIn, IsListenerIn, HasTables}
-use Rattle.dom_worlds.proofs.Lists.{all-then, all-map}
+use Rattle.dom_worlds.proofs.Lists.{all-then, all-map, either_way, which_way, by_some}
 use Rattle.dom_worlds.proofs.Roots.{KeepsRoots, parent-apart, root-one, root-parent_of, roots-equal, roots-same, roots-stay}
-use Rattle.dom_worlds.proofs.Tests.{either_way, which_way}
 use Rattle.dom_laws.proofs.Counts.{Once}
 use Rattle.dom_worlds.proofs.TreeChangeLaws.{times-with_node, times-map_nodes, HasRoot}
-use Rattle.dom_worlds.proofs.PartSteps.{KeepsNames, some-keeps, attribute-keeps, part-step}
+use Rattle.dom_worlds.proofs.PartSteps.{KeepsNames, part-step, attribute_put, attribute_put-keeps, data_put, data_put-keeps, document_put, document_put-keeps}
 use Rattle.dom_worlds.proofs.KindLines.{has_node-times}
 use Rattle.dom_worlds.proofs.Descents.{ancestor-inside, inside-ancestor, inside-placed_all, inside-with_node_all}
 use Rattle.dom_worlds.proofs.Insides.{CanPlace, inside, inside-map_nodes, times-taken_out_all, times-placed_all}
@@ -62,20 +61,12 @@ fits-place before i f = record { unique = i.unique; below = record { there = f.0
 pub stays-step : (p : Part) (s : Step) → IsPart p → Fits p s → (y : NodeName) → times_in p.trees y ≤ times_in (part_step p s).trees y
 stays-step p (make n) i h y = let a = times-with_node (with_name (next_name p) n) p.trees y in omega arith
 stays-step p (place x parent before) i h y = let a = times-placed_all before y (fits-place before i h) in omega arith
-stays-step p (take_out x) i h y = from (parent_of p.trees x)
-  where
-    from : (o : Option NodeName) → times_in p.trees y ≤ times_in (option_map_or (leave p x) o p).trees y
-    from None = omega arith
-    from (Some parent) = let a = times-taken_out_all p.trees x y i.unique in omega arith
-stays-step p (set_document x d) i h y =
-    mapped-stays (λ n. if is_in name_eq n.name (inclusive_descendants p.trees x) then with_document d n else n)
-    (some-keeps (λ (n : Node). is_in name_eq n.name (inclusive_descendants p.trees x)) (with_document d) (λ n. (refl, refl))) p.trees y
-stays-step p (set_attribute x a v) i h y =
-    mapped-stays (λ n. if name_eq n.name x then with_attribute a v n else n)
-    (some-keeps (λ (n : Node). name_eq n.name x) (with_attribute a v) (attribute-keeps a v)) p.trees y
-stays-step p (replace_data x offset count new) i h y =
-    mapped-stays (λ n. if name_eq n.name x then with_data_replaced offset count new n else n)
-    (some-keeps (λ (n : Node). name_eq n.name x) (with_data_replaced offset count new) (λ n. (refl, refl))) p.trees y
+stays-step p (take_out x) i h y =
+    by_some (λ (o : Option NodeName). times_in p.trees y ≤ times_in (option_map_or (leave p x) o p).trees y) (parent_of p.trees x) (omega arith)
+    (λ parent. let a = times-taken_out_all p.trees x y i.unique in omega arith)
+stays-step p (set_document x d) i h y = mapped-stays (document_put p.trees x d) (document_put-keeps p.trees x d) p.trees y
+stays-step p (set_attribute x a v) i h y = mapped-stays (attribute_put x a v) (attribute_put-keeps x a v) p.trees y
+stays-step p (replace_data x offset count new) i h y = mapped-stays (data_put x offset count new) (data_put-keeps x offset count new) p.trees y
 stays-step p s i h y = omega arith
 
 -- The trees have the nodes of others, and perhaps more.
@@ -112,15 +103,9 @@ inside-step : {p : Part} (s : Step) → IsPart p → Fits p s → TakesNone s �
 inside-step {p} (make n) i h t a z = inside-with_node_all (with_name (next_name p) n) p.trees a z
 inside-step {p} (place x parent before) i h t a z = inside-placed_all before a z (fits-place before i h) h.2
 inside-step (take_out x) i h t a z = absurd t
-inside-step {p} (set_document x d) i h t a z =
-    mapped-inside (λ n. if is_in name_eq n.name (inclusive_descendants p.trees x) then with_document d n else n)
-    (some-keeps (λ (n : Node). is_in name_eq n.name (inclusive_descendants p.trees x)) (with_document d) (λ n. (refl, refl))) p.trees a z
-inside-step {p} (set_attribute x b v) i h t a z =
-    mapped-inside (λ n. if name_eq n.name x then with_attribute b v n else n)
-    (some-keeps (λ (n : Node). name_eq n.name x) (with_attribute b v) (attribute-keeps b v)) p.trees a z
-inside-step {p} (replace_data x offset count new) i h t a z =
-    mapped-inside (λ n. if name_eq n.name x then with_data_replaced offset count new n else n)
-    (some-keeps (λ (n : Node). name_eq n.name x) (with_data_replaced offset count new) (λ n. (refl, refl))) p.trees a z
+inside-step {p} (set_document x d) i h t a z = mapped-inside (document_put p.trees x d) (document_put-keeps p.trees x d) p.trees a z
+inside-step {p} (set_attribute x b v) i h t a z = mapped-inside (attribute_put x b v) (attribute_put-keeps x b v) p.trees a z
+inside-step {p} (replace_data x offset count new) i h t a z = mapped-inside (data_put x offset count new) (data_put-keeps x offset count new) p.trees a z
 inside-step s i h t a z = omega arith
 
 -- ancestors stay
@@ -203,18 +188,48 @@ pub ranges-moved : (ts : Trees) (f : Boundary NodeName → Boundary NodeName) �
 ranges-moved ts f m rs h = all-map (EndsIn ts) (option_map (map_ends f)) rs
     (all-then (EndsIn ts) (λ r. EndsIn ts (option_map (map_ends f) r)) (ends-moved ts f m) rs h)
 
+-- The tables of a part, with others in one of them.
+module _ {p : Part} (h : HasTables p) where
+  -- ranges
+  pub tables-ranges : {xs : List (Option (Range NodeName))} → AllByRecursion (EndsIn p.trees) xs → HasTables (record p { ranges = xs })
+  tables-ranges g = record {
+    hosts = h.hosts;
+    ranges = g;
+    iterators = h.iterators;
+    walkers = h.walkers;
+    registrations = h.registrations;
+    pending = h.pending;
+    listeners = h.listeners;
+  }
+
+  -- iterators
+  pub tables-iterators : {xs : List Iterator} → AllByRecursion (IsIteratorIn p.trees) xs → HasTables (record p { iterators = xs })
+  tables-iterators g = record {
+    hosts = h.hosts;
+    ranges = h.ranges;
+    iterators = g;
+    walkers = h.walkers;
+    registrations = h.registrations;
+    pending = h.pending;
+    listeners = h.listeners;
+  }
+
+  -- walkers
+  pub tables-walkers : {xs : List Walker} → AllByRecursion (IsWalkerIn p.trees) xs → HasTables (record p { walkers = xs })
+  tables-walkers g = record {
+    hosts = h.hosts;
+    ranges = h.ranges;
+    iterators = h.iterators;
+    walkers = g;
+    registrations = h.registrations;
+    pending = h.pending;
+    listeners = h.listeners;
+  }
+
 -- a part with its boundaries moved
 pub tables-ends : (p : Part) (f : Boundary NodeName → Boundary NodeName) → MovesIn p.trees f → HasTables p → HasTables (with_ends f p)
 tables-ends p f m h =
-    record {
-      hosts = h.hosts;
-      ranges = ranges-moved p.trees f m p.ranges h.ranges;
-      iterators = h.iterators;
-      walkers = h.walkers;
-      registrations = h.registrations;
-      pending = h.pending;
-      listeners = h.listeners;
-    }
+    tables-ranges h (ranges-moved p.trees f m p.ranges h.ranges)
 
 -- How steps move boundaries.
 pub moves-insert : (ts : Trees) (parent : NodeName) (index count : ℕ) → MovesIn ts (after_insert name_eq parent index count)

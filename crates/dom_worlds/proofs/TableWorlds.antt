@@ -1,6 +1,6 @@
 -- Steps in the world keep the tables of all parts, and each signalled slot a node.
-use Rattle.std.proofs.Common.{◌≡◌, ℕ, zero, suc, ◌≤◌, ◌<◌, Bool, true, false, ◌&&◌, List, [], ◌∷◌, ◌++◌, filter, filter_map, find, fold, Option, Some}
-use Rattle.std.proofs.Common.{None, option_map, refl, sym, ap, ◌∙◌, arith, true≢false, subst}
+use Rattle.std.proofs.Common.{◌≡◌, ℕ, zero, suc, ◌≤◌, ◌<◌, Bool, true, false, ◌&&◌, List, [], ◌∷◌, ◌++◌, filter, filter_map, find, fold, Option, Some, None}
+use Rattle.std.proofs.Common.{option_map, refl, sym, ap, ◌∙◌, arith, true≢false, subst}
 use Rattle.std.specs.Prelude.{if◌then◌else◌, option_to_list, unwrap_or}
 use Rattle.std.specs.List.{AllByRecursion, cons_option}
 use Rattle.std.specs.Option.{option_and_then}
@@ -9,31 +9,30 @@ use Rattle.dom_base.specs.declared.NodeName.{NodeName}
 use Rattle.dom_base.specs.declared.Owner.{Owner}
 use Rattle.dom_base.specs.declared.Owner.TheVariants.{Page}
 use Rattle.dom_model.specs.Names.{DomString, name_eq, owner_eq, owner_depth, node_of, max_depth, is_empty, is_in}
-use Rattle.dom_model.specs.Tree.{Trees, Node, nodes, node_in, no_node, subtree, inclusive_descendants, parent_of, is_element, times_in}
+use Rattle.dom_model.specs.Tree.{Trees, Node, nodes, node_in, no_node, subtree, inclusive_descendants, is_element, times_in}
 use Rattle.dom_model.specs.Part.{Part}
-use Rattle.dom_model.specs.Slots.{is_slot_element, slottable_name, slot_in, slot_of, has_slot_name, assigned, is_changed, is_bare_slot, own_slots}
-use Rattle.dom_model.specs.Slots.{slots_among, other_slots, signals, with_signal}
-use Rattle.dom_model.specs.Steps.{Step, place, take_out, set_document, set_attribute, queue_record, part_step, is_taken}
+use Rattle.dom_model.specs.Slots.{is_slot_element, slottable_name, slot_in, slot_of, has_slot_name, assigned, is_changed, is_bare_slot, own_slots, slots_among}
+use Rattle.dom_model.specs.Slots.{other_slots, signals, with_signal}
+use Rattle.dom_model.specs.Steps.{Step, set_document, part_step}
 use Rattle.dom_model.specs.World.{World, part_of, with_part, trees_with, node_at, root_at, parent_at, component_at, components_below, shadow_root_of}
 use Rattle.dom_model.specs.World.{shadow_tree, is_in_shadow_tree}
-use Rattle.dom_model.specs.WorldSteps.{world_step, world_after, stepped, with_signals, with_removal_signals, with_notify_if, with_shadow_document}
+use Rattle.dom_model.specs.WorldSteps.{world_step, world_after, stepped, with_shadow_document}
 use Rattle.dom_model.proofs.OwnerLaws.{owner_eq-true, owner_eq-false}
 use Rattle.dom_model.proofs.PartLaws.{part_of-with_part, part_of-with_part-other, owner-part_of}
 use Rattle.dom_model.proofs.StepLaws.{IsOther, IsApart, part_of-own_step}
 use Rattle.dom_worlds.specs.Worlds.{IsPart, IsWorld, HasMakers}
 use Rattle.dom_worlds.specs.Tables.{IsNodeIn, HasTables, HasRecords, IsNodeAt}
 use Rattle.dom_worlds.proofs.InsideAncestors.{times-has_node}
-use Rattle.dom_worlds.proofs.Lists.{all-append, all-filter, all-then, all-map, all-flat_map, all-distinct}
-use Rattle.dom_worlds.proofs.Makers.{makers-same, component-deeper}
+use Rattle.dom_worlds.proofs.Lists.{all-append, all-filter, all-then, all-map, all-flat_map, all-distinct, by_cases, either_way, kept-fold}
+use Rattle.dom_worlds.proofs.Owners.{makers-same, component-deeper}
 use Rattle.dom_worlds.proofs.PartSteps.{part-step, rest-step}
 use Rattle.dom_worlds.proofs.Recorded.{Tells, TellsIn, records-step}
 use Rattle.dom_worlds.proofs.ShadowRoots.{found-absent}
 use Rattle.dom_worlds.proofs.TableSteps.{Fits, MadeIn, Grows, grows-step}
 use Rattle.dom_worlds.proofs.TableRecords.{tables-step, IfSome}
-use Rattle.dom_worlds.proofs.Tests.{by_cases, either_way}
 use Rattle.dom_laws.proofs.Counts.{by_times, times_subtree}
 use Rattle.dom_worlds.proofs.Trees.{nodes-there}
-use Rattle.dom_worlds.proofs.WorldSteps.{attached-with_part, stepped_owner}
+use Rattle.dom_worlds.proofs.WorldSteps.{attached-with_part, stepped_owner, kept-world_step}
 
 -- All parts keep the nodes that they have.
 abbrev pub AllGrow : World → World → Type 0
@@ -217,30 +216,6 @@ frame-each_signal : (ss : List NodeName) (w : World) → AllByRecursion (IsNodeA
 frame-each_signal [] w h f = f
 frame-each_signal (s ∷ ss) w h f = frame-each_signal ss (with_signal w s) h.1 (frame-signal w s h.0 f)
 
--- names and hosts stay
-ground-each_signal : (ss : List NodeName) (w : World) → Ground w → Ground (fold with_signal w ss)
-ground-each_signal [] w g = g
-ground-each_signal (s ∷ ss) w g = ground-each_signal ss (with_signal w s) (record { parts = g.parts; makers = g.makers })
-
--- A step that suits an owner's part, in a world with its frame.
-module _ (o : Owner) (w : World) (s : Step) (h : Suits (part_of w o) s) (g : Ground w) (f : Frame w) where
-  -- the signals of a step
-  frame-signals : (x around : NodeName) → (is_move : Bool) → Frame (with_signals w (stepped o w s) x around is_move)
-  frame-signals x around is_move =
-      let now = stepped o w s in
-      frame-each_signal (signals w now x around is_move) now
-      (signals-at g (ground-stepped o w s g) (grow-stepped o w s h.0 g) x around is_move) (frame-stepped o w s h g f)
-
-  -- of a removal
-  frame-removal : (x : NodeName) → (parent : Option NodeName) → Frame (with_removal_signals w (stepped o w s) x parent)
-  frame-removal x None = frame-stepped o w s h g f
-  frame-removal x (Some parent) = frame-signals x parent true
-
--- names and hosts stay
-ground-removal : (was now : World) (x : NodeName) (parent : Option NodeName) → Ground now → Ground (with_removal_signals was now x parent)
-ground-removal was now x None g = g
-ground-removal was now x (Some parent) g = ground-each_signal (signals was now x parent true) now g
-
 -- Node documents of shadow trees.
 fits-document : (w : World) (c : Owner) (d : NodeName) → Fits (part_of w c) (set_document (shadow_root_of c) d)
 fits-document w c d = sym (owner-part_of w c)
@@ -252,44 +227,31 @@ frame-documents (c ∷ cs) d w g f =
     let s = set_document (shadow_root_of c) d in
     frame-documents cs d (stepped c w s) (ground-stepped c w s g) (frame-stepped c w s (fits-document w c d, tt) g f)
 
--- names and hosts stay
-ground-documents : (cs : List Owner) (d : NodeName) (w : World) → Ground w → Ground (fold (with_shadow_document d) w cs)
-ground-documents [] d w g = g
-ground-documents (c ∷ cs) d w g = ground-documents cs d (with_shadow_document d w c) (ground-stepped c w (set_document (shadow_root_of c) d) g)
-
--- a notification, if so
-frame-notify : (b : Bool) (o : Owner) (w : World) → Frame w → Frame (with_notify_if b o w)
-frame-notify true o w f = record { tables = f.tables; records = f.records; first = f.first; signalled = f.signalled }
-frame-notify false o w f = f
-
--- names and hosts stay
-ground-notify : (b : Bool) (o : Owner) (w : World) → Ground w → Ground (with_notify_if b o w)
-ground-notify true o w g = record { parts = g.parts; makers = g.makers }
-ground-notify false o w g = g
-
--- Steps.
+-- A step in the world.
 frame-world_step : (o : Owner) (w : World) (s : Step) → Suits (part_of w o) s → Ground w → Frame w → Frame (world_step o w s)
-frame-world_step o w (place x parent before) h g f = frame-signals o w (place x parent before) h g f x parent true
-frame-world_step o w (take_out x) h g f = frame-removal o w (take_out x) h g f x (parent_of (part_of w o).trees x)
-frame-world_step o w (set_attribute x a v) h g f = frame-signals o w (set_attribute x a v) h g f x x false
-frame-world_step o w (set_document x d) h g f =
-    frame-documents (components_below max_depth w x) d (stepped o w (set_document x d)) (ground-stepped o w (set_document x d) g)
-    (frame-stepped o w (set_document x d) h g f)
-frame-world_step o w (queue_record c) h g f =
-    frame-notify (is_taken (part_of w o) c) o (stepped o w (queue_record c)) (frame-stepped o w (queue_record c) h g f)
-frame-world_step o w s h g f = frame-stepped o w s h g f
+frame-world_step o w s h g f =
+    let v = stepped o w s in
+    let m = ground-stepped o w s g in
+    let k = frame-stepped o w s h g f in
+    kept-world_step Frame o w s (record {
+      own = k;
+      signals = λ x around is_move. frame-each_signal (signals w v x around is_move) v (signals-at g m (grow-stepped o w s h.0 g) x around is_move) k;
+      documents = λ x d. frame-documents (components_below max_depth w x) d v m k;
+      notify = record { tables = k.tables; records = k.records; first = k.first; signalled = k.signalled };
+    })
 
--- names and hosts
+-- names and hosts stay
 pub ground-world_step : (o : Owner) (w : World) (s : Step) → Ground w → Ground (world_step o w s)
-ground-world_step o w (place x parent before) g =
-    let now = stepped o w (place x parent before) in ground-each_signal (signals w now x parent true) now (ground-stepped o w (place x parent before) g)
-ground-world_step o w (take_out x) g = ground-removal w (stepped o w (take_out x)) x (parent_of (part_of w o).trees x) (ground-stepped o w (take_out x) g)
-ground-world_step o w (set_attribute x a v) g =
-    let now = stepped o w (set_attribute x a v) in ground-each_signal (signals w now x x false) now (ground-stepped o w (set_attribute x a v) g)
-ground-world_step o w (set_document x d) g =
-    ground-documents (components_below max_depth w x) d (stepped o w (set_document x d)) (ground-stepped o w (set_document x d) g)
-ground-world_step o w (queue_record c) g = ground-notify (is_taken (part_of w o) c) o (stepped o w (queue_record c)) (ground-stepped o w (queue_record c) g)
-ground-world_step o w s g = ground-stepped o w s g
+ground-world_step o w s g =
+    let k = ground-stepped o w s g in
+    kept-world_step Ground o w s (record {
+      own = k;
+      signals = λ x around is_move. kept-fold Ground with_signal (λ v y h. record { parts = h.parts; makers = h.makers })
+          (signals w (stepped o w s) x around is_move) (stepped o w s) k;
+      documents = λ x d. kept-fold Ground (with_shadow_document d) (λ v c h. ground-stepped c v (set_document (shadow_root_of c) d) h)
+          (components_below max_depth w x) (stepped o w s) k;
+      notify = record { parts = k.parts; makers = k.makers };
+    })
 
 -- What a step does in its owner's part is not done again elsewhere: the components below a node are deeper than its owner.
 abbrev IsDeeper : Owner → Owner → Type 0

@@ -1,6 +1,6 @@
 -- The plans of texts keep the ends of ranges within their nodes.
-use Rattle.std.proofs.Common.{◌≡◌, ◌≤◌, ℕ, ◌+◌, ◌-◌, Bool, true, false, not, ◌&&◌, List, [], ◌∷◌, ◌++◌, map, filter, flat_map, drop, length}
-use Rattle.std.proofs.Common.{take_while, Option, Some, None, refl, sym, ap, ◌∙◌, arith, true≢false, subst, length-append, length-drop}
+use Rattle.std.proofs.Common.{◌≡◌, ◌≤◌, ℕ, ◌+◌, ◌-◌, Bool, true, false, not, ◌&&◌, List, [], ◌∷◌, ◌++◌, map, filter, flat_map, drop, length, take_while, Option}
+use Rattle.std.proofs.Common.{Some, None, refl, sym, ap, ◌∙◌, arith, true≢false, subst, length-append, length-drop}
 use Rattle.std.specs.Prelude.{if◌then◌else◌, ◌==◌, min}
 use Rattle.std.specs.List.{AllByRecursion}
 use Rattle.std.specs.Option.{option_map_or}
@@ -9,9 +9,9 @@ use Rattle.dom_base.specs.declared.NodeName.{NodeName}
 use Rattle.dom_base.specs.declared.Kind.{Kind}
 use Rattle.dom_base.specs.declared.Kind.TheVariants.{Document, Fragment, Shadow, Element, Text, Comment}
 use Rattle.dom_model.specs.Names.{DomString, name_eq, is_empty, items_after, first_of}
-use Rattle.dom_model.specs.Tree.{Trees, none, tree, Node, node_in, kind_of, is_text, is_document, is_fragment, has_data, subtree, trees_below}
-use Rattle.dom_model.specs.Tree.{times_in, children_of, parent_of, siblings, next_sibling, index_of, length_of, descendants, inclusive_descendants}
-use Rattle.dom_model.specs.Tree.{inclusive_ancestors, on_top, names_of, roots}
+use Rattle.dom_model.specs.Tree.{Trees, none, tree, Node, node_in, kind_of, is_text, is_document, is_fragment, has_data, subtree, trees_below, times_in}
+use Rattle.dom_model.specs.Tree.{children_of, parent_of, siblings, next_sibling, index_of, length_of, descendants, inclusive_descendants, inclusive_ancestors}
+use Rattle.dom_model.specs.Tree.{on_top, names_of, roots}
 use Rattle.dom_model.specs.TreeChanges.{followed_by, with_name, with_node, with_data_replaced}
 use Rattle.dom_model.specs.Output.{child_list, character_data}
 use Rattle.dom_model.specs.Part.{Part, next_name}
@@ -23,19 +23,16 @@ use Rattle.dom_model.proofs.OwnerLaws.{name_eq-same, name_eq-turned}
 use Rattle.dom_worlds.specs.Worlds.{times_among, IsPart}
 use Rattle.dom_worlds.proofs.Bounds.{IsRoomy, nowhere, HasRoom, room-make, room-record, room-split, room-join, length-replaced}
 use Rattle.dom_worlds.proofs.ChildCounts.{kids, index-below}
-use Rattle.dom_worlds.proofs.NodesRead.{node-with_node, node-new, node-map_nodes, length-data, length-kids}
-use Rattle.dom_worlds.proofs.Lists.{all-dropped, all-then, all-take_while}
-use Rattle.dom_worlds.proofs.NodeKinds.{name-node_in}
-use Rattle.dom_worlds.proofs.PartSteps.{some-keeps, next-absent}
-use Rattle.dom_worlds.proofs.PlanBounds.{room-then, room-plan, room-removing, room-removals, room-inserting, room-replacing_data, IsOpen, open-still}
+use Rattle.dom_worlds.proofs.Roots.{node-with_node, node-new, node-map_nodes, length-data, length-kids}
+use Rattle.dom_worlds.proofs.Lists.{all-dropped, all-then, all-take_while, by_cases, either_way}
+use Rattle.dom_worlds.proofs.PartSteps.{name-node_in, next-absent, data_put-keeps}
+use Rattle.dom_worlds.proofs.RangeBounds.{room-then, room-plan, room-removing, room-removals, room-inserting, room-replacing_data, IsOpen, open-still}
 use Rattle.dom_worlds.proofs.PlacedBounds.{texts-inserting, kids-plain}
-use Rattle.dom_worlds.proofs.PlanPlaces.{LeadsEach, Changed, MayGo, may-still, still, after-append, leads-then, leads-eased, leads-one}
-use Rattle.dom_worlds.proofs.PlanPlaces.{leads-inserting}
-use Rattle.dom_worlds.proofs.PlanTexts.{IsReplaced, replaced-by, MayFollow, may-follow, texts-beside, next-not, new-there, descend-there}
-use Rattle.dom_worlds.proofs.PlanTexts.{leads-removals, leads-tail, leads-joins, leads-replacing_data, leads-normalizing_text}
+use Rattle.dom_worlds.proofs.PlanPlaces.{LeadsEach, Changed, MayGo, may-still, still, after-append, leads-then, leads-eased, leads-one, leads-inserting}
+use Rattle.dom_worlds.proofs.PlanTexts.{IsReplaced, replaced-by, MayFollow, may-follow, texts-beside, next-not, new-there, descend-there, leads-removals}
+use Rattle.dom_worlds.proofs.PlanTexts.{leads-tail, leads-joins, leads-replacing_data, leads-normalizing_text}
 use Rattle.dom_worlds.proofs.TableSteps.{HasNode}
 use Rattle.dom_worlds.proofs.TableRecords.{all-kept}
-use Rattle.dom_worlds.proofs.Tests.{by_cases, either_way}
 use Rattle.dom_worlds.proofs.TreeChangeLaws.{HasRoot, put_where, where-here, where-later, put_root-where, root-put_root_new, root-first, times-below}
 use Rattle.dom_laws.proofs.Counts.{times-here, times-elsewhere, times-more, times_subtree}
 use Rattle.dom_laws.proofs.Paths.{path_none}
@@ -165,7 +162,7 @@ module _ (p : Part) (x : NodeName) (offset count : ℕ) (new : DomString) where
   pub replaced-here : HasNode p x → node_in (part_step p (replace_data x offset count new)).trees x ≡ with_data_replaced offset count new (node_in p.trees x)
   replaced-here t =
       let f : Node → Node = λ n. if name_eq n.name x then with_data_replaced offset count new n else n in
-      node-map_nodes f (λ n. (some-keeps (λ (n : Node). name_eq n.name x) (with_data_replaced offset count new) (λ n. (refl, refl)) n).0) p.trees x t
+      node-map_nodes f (λ n. (data_put-keeps x offset count new n).0) p.trees x t
       ∙ cond-true (name_eq (node_in p.trees x).name x) (with_data_replaced offset count new (node_in p.trees x)) (node_in p.trees x)
       (ap (λ z. name_eq z x) (name-node_in p.trees x) ∙ name_eq-same x)
 
@@ -173,7 +170,7 @@ module _ (p : Part) (x : NodeName) (offset count : ℕ) (new : DomString) where
   replaced-elsewhere : (y : NodeName) → HasNode p y → name_eq x y ≡ false → node_in (part_step p (replace_data x offset count new)).trees y ≡ node_in p.trees y
   replaced-elsewhere y t e =
       let f : Node → Node = λ n. if name_eq n.name x then with_data_replaced offset count new n else n in
-      node-map_nodes f (λ n. (some-keeps (λ (n : Node). name_eq n.name x) (with_data_replaced offset count new) (λ n. (refl, refl)) n).0) p.trees y t
+      node-map_nodes f (λ n. (data_put-keeps x offset count new n).0) p.trees y t
       ∙ cond-false (name_eq (node_in p.trees y).name x) (with_data_replaced offset count new (node_in p.trees y)) (node_in p.trees y)
       (ap (λ z. name_eq z x) (name-node_in p.trees y) ∙ name_eq-turned y x ∙ e)
 
@@ -392,7 +389,7 @@ module _ (x : NodeName) (new : DomString) (p : Part) (i : IsPart p) (t : HasNode
   -- text content
   pub room-setting_text : HasRoom nowhere p → HasRoom nowhere (after p (setting_text x new p))
   room-setting_text h =
-      Rattle.dom_worlds.proofs.Tests.which_way (λ steps. HasRoom nowhere (after p steps)) (has_data (kind_of p.trees x))
+      Rattle.dom_worlds.proofs.Lists.which_way (λ steps. HasRoom nowhere (after p steps)) (has_data (kind_of p.trees x))
       (replacing_all_data x new p) (if is_document (kind_of p.trees x) then [] else replacing_children x new p)
       (λ e. room-replacing_data x 0 (length_of p.trees x) new (record { part = i; room = h }) e)
       (λ e. either_way (λ steps. HasRoom nowhere (after p steps)) (is_document (kind_of p.trees x)) [] (replacing_children x new p) h

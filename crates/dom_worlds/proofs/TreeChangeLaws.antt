@@ -9,8 +9,7 @@ use Rattle.dom_model.specs.Tree.{Trees, none, tree, Node, nodes, names_of, roots
 use Rattle.dom_model.specs.TreeChanges.{followed_by, without, is_given, put_before, put_below, put_root, taken_out, placed, with_node, map_nodes}
 use Rattle.dom_model.proofs.OwnerLaws.{name_eq-same, name_eq-turned, name_eq-true}
 use Rattle.dom_worlds.specs.Worlds.{AllNodes}
-use Rattle.dom_worlds.proofs.Lists.{all-append}
-use Rattle.dom_worlds.proofs.Tests.{by_cases, or-later, or-first, or-second}
+use Rattle.dom_worlds.proofs.Lists.{all-append, by_cases, or-later, or-first, or-second}
 use Rattle.dom_laws.proofs.Counts.{Once, by_times, times-here, times-elsewhere, times-more, times-parts, times_subtree, times_or_else}
 use Rattle.dom_laws.proofs.Paths.{subtree_gone}
 use Rattle.dom_worlds.proofs.Trees.{root-there}

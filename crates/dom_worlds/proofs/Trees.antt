@@ -1,6 +1,5 @@
 -- Where the nodes of a list of trees stand, by how often their names are there.
-use Rattle.std.proofs.Common.{◌≡◌, ◌≤◌, ◌||◌, Bool, true, false, List, [], ◌∷◌, ◌++◌, Option, Some, unwrap_or, refl, sym, ap}
-use Rattle.std.proofs.Common.{◌∙◌, arith, true≢false, subst}
+use Rattle.std.proofs.Common.{◌≡◌, ◌≤◌, ◌||◌, Bool, true, false, List, [], ◌∷◌, ◌++◌, Option, Some, unwrap_or, refl, sym, ap, ◌∙◌, arith, true≢false, subst}
 use Rattle.std.specs.List.{AllByRecursion, last_or}
 use Rattle.std.proofs.lemmas.Bool.{cond-true, cond-false}
 use Rattle.dom_base.specs.declared.NodeName.{NodeName}
@@ -9,8 +8,7 @@ use Rattle.dom_model.specs.Tree.{Trees, none, tree, Node, nodes, names_of, roots
 use Rattle.dom_model.proofs.OwnerLaws.{name_eq-same, name_eq-true, name_eq-turned}
 use Rattle.dom_laws.proofs.Counts.{Once, once_parts, by_times, times-here, times-elsewhere, times-more, times-parts, times_subtree}
 use Rattle.dom_laws.proofs.Paths.{path_none, subtree_gone}
-use Rattle.dom_worlds.proofs.Lists.{all-append, all-then}
-use Rattle.dom_worlds.proofs.Tests.{by_cases, or-first, or-later}
+use Rattle.dom_worlds.proofs.Lists.{all-append, all-then, by_cases, or-first, or-later}
 
 -- What holds of all nodes of a list holds of one of them.
 pub all-in : (P : NodeName → Type 0) (x : NodeName) (ys : List NodeName) → AllByRecursion P ys → is_in name_eq x ys ≡ true → P x

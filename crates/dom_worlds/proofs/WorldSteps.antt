@@ -1,31 +1,111 @@
--- Steps of a part keep what holds of the world.
-use Rattle.std.proofs.lemmas.Bool.{cond-true, cond-false}
-use Rattle.std.proofs.Common.{◌≡◌, Bool, true, false, List, [], ◌∷◌, ◌++◌, filter, fold, Option, Some, None, refl, sym, ap, ◌∙◌, true≢false, subst}
-use Rattle.std.specs.Prelude.{IsTrue, is_some}
-use Rattle.std.specs.List.{AllByRecursion}
+-- Steps in the world: they keep what holds of it, and of each of its parts and tasks.
+use Rattle.std.proofs.Common.{Bool, true, false, List, [], ◌∷◌, ◌++◌, fold, Option, sym, subst, ◌≡◌, filter, refl, ap, ◌∙◌, true≢false}
+use Rattle.std.specs.List.{AllByRecursion, list_any}
 use Rattle.dom_base.specs.declared.Owner.{Owner}
-use Rattle.dom_base.specs.declared.Owner.TheVariants.{Page, Component}
 use Rattle.dom_base.specs.declared.NodeName.{NodeName}
-use Rattle.dom_model.specs.Names.{owner_eq, name_eq, max_depth, is_in}
+use Rattle.dom_model.specs.Names.{owner_eq, max_depth, name_eq, is_in}
 use Rattle.dom_model.specs.Tree.{parent_of}
 use Rattle.dom_model.specs.Part.{Part}
-use Rattle.dom_model.specs.Steps.{Step, place, take_out, set_document, set_attribute, queue_record, part_step, is_taken}
-use Rattle.dom_model.specs.World.{World, part_of, with_part, host_of, with_notify, queued_notify, components_below, shadow_root_of}
 use Rattle.dom_model.specs.Slots.{signals, with_signal}
-use Rattle.dom_model.specs.Turns.{is_page_turn}
-use Rattle.dom_model.specs.WorldSteps.{world_step, world_after, stepped, with_signals, with_removal_signals, with_notify_if, with_shadow_document}
-use Rattle.dom_model.specs.PageMachine.{is_page_task}
+use Rattle.dom_model.specs.Steps.{Step, place, take_out, set_document, set_attribute, queue_record, part_step, is_taken}
+use Rattle.dom_model.specs.World.{World, Task, notify_task, part_of, with_part, is_notify_of, with_notify, components_below, shadow_root_of, host_of}
+use Rattle.dom_model.specs.World.{queued_notify}
+use Rattle.dom_model.specs.WorldSteps.{world_step, world_after, stepped, with_removal_signals, with_notify_if, with_shadow_document, with_signals}
 use Rattle.dom_model.proofs.OwnerLaws.{owner_eq-true, owner_eq-false}
 use Rattle.dom_model.proofs.PartLaws.{part_of-with_part, part_of-with_part-other, owner-part_of}
+use Rattle.dom_worlds.proofs.Lists.{all-append, by_cases, either_way, kept-fold, by_some}
+use Rattle.std.proofs.lemmas.Bool.{cond-true, cond-false}
+use Rattle.std.specs.Prelude.{IsTrue, is_some}
+use Rattle.dom_base.specs.declared.Owner.TheVariants.{Page, Component}
+use Rattle.dom_model.specs.Turns.{is_page_turn}
+use Rattle.dom_model.specs.PageMachine.{is_page_task}
 use Rattle.dom_model.proofs.StepLaws.{owner-part_step, Component-IsNoPage}
 use Rattle.dom_worlds.specs.Reached.{Invariant}
 use Rattle.dom_worlds.specs.Worlds.{IsPart, IsRoot, IsWorld, IsOf, IsForeignTo}
-use Rattle.dom_worlds.proofs.Lists.{all-append}
-use Rattle.dom_worlds.proofs.Makers.{makers-same}
-use Rattle.dom_worlds.proofs.Tests.{by_cases}
-use Rattle.dom_worlds.proofs.SameInvariant.{host_of-same, world-alike, there-with_part, logs-same, listeners-with_part}
-use Rattle.dom_worlds.proofs.ComponentSignals.{signals-foreign, page_tasks-queued_other}
+use Rattle.dom_worlds.proofs.Owners.{makers-same}
+use Rattle.dom_worlds.proofs.Turns.{host_of-same, world-alike, there-with_part, logs-same, listeners-with_part}
+use Rattle.dom_worlds.proofs.ShadowTrees.{signals-foreign, page_tasks-queued_other}
 use Rattle.dom_worlds.proofs.PartSteps.{Allowed, Safe, IsOwn, part-step, own-step, rest-step}
+
+-- What has to hold after a step of an owner's part, so that it holds after all that the step does in the world.
+pub record KeepsStep (P : World → Type 0) (o : Owner) (w : World) (s : Step) : Type 0 where
+  pub own : P (stepped o w s)
+  pub signals : (x around : NodeName) (is_move : Bool) → P (with_signals w (stepped o w s) x around is_move)
+  pub documents : (x d : NodeName) → P (fold (with_shadow_document d) (stepped o w s) (components_below max_depth w x))
+  pub notify : P (with_notify (stepped o w s) o)
+
+-- so it does
+pub kept-world_step : (P : World → Type 0) (o : Owner) (w : World) (s : Step) → KeepsStep P o w s → P (world_step o w s)
+kept-world_step P o w (place x parent before) k = k.signals x parent true
+kept-world_step P o w (take_out x) k =
+    by_some (λ (a : Option NodeName). P (with_removal_signals w (stepped o w (take_out x)) x a)) (parent_of (part_of w o).trees x) k.own
+    (λ parent. k.signals x parent true)
+kept-world_step P o w (set_attribute x a v) k = k.signals x x false
+kept-world_step P o w (set_document x d) k = k.documents x d
+kept-world_step P o w (queue_record c) k = from (is_taken (part_of w o) c)
+  where
+    from : (b : Bool) → P (with_notify_if b o (stepped o w (queue_record c)))
+    from true = k.notify
+    from false = k.own
+kept-world_step P o w s k = k.own
+
+-- of each part and each task of a world
+pub record HoldsIn (Inv : Part → Type 0) (IsTask : Task → Type 0) (w : World) : Type 0 where
+  pub parts : (o : Owner) → Inv (part_of w o)
+  pub tasks : AllByRecursion IsTask w.tasks
+
+-- What is asked: steps keep it in parts, a node document may be set, and a notification may be queued.
+pub record IsKeptIn (Inv : Part → Type 0) (May : Step → Type 0) (IsTask : Task → Type 0) : Type 0 where
+  pub step : (p : Part) (s : Step) → Inv p → May s → Inv (part_step p s)
+  pub document : (x d : NodeName) → May (set_document x d)
+  pub notify : (o : Owner) → IsTask (notify_task o)
+
+module _ {Inv : Part → Type 0} {May : Step → Type 0} {IsTask : Task → Type 0} (rules : IsKeptIn Inv May IsTask) where
+  -- another part
+  pub holds-with_part : (w : World) (p : Part) → HoldsIn Inv IsTask w → Inv p → HoldsIn Inv IsTask (with_part w p)
+  holds-with_part w p h g =
+      record {
+        parts = λ o. by_cases (owner_eq p.owner o) (λ e. subst Inv (sym (part_of-with_part w p o (owner_eq-true p.owner o e))) g)
+            (λ e. subst Inv (sym (part_of-with_part-other w p o (owner_eq-false p.owner o e))) (h.parts o));
+        tasks = h.tasks;
+      }
+
+  -- a step in its part
+  holds-stepped : (o : Owner) (w : World) (s : Step) → HoldsIn Inv IsTask w → May s → HoldsIn Inv IsTask (stepped o w s)
+  holds-stepped o w s h g = holds-with_part w (part_step (part_of w o) s) h (rules.step (part_of w o) s (h.parts o) g)
+
+  -- a notification is queued
+  holds-with_notify : (o : Owner) (w : World) → HoldsIn Inv IsTask w → HoldsIn Inv IsTask (with_notify w o)
+  holds-with_notify o w h =
+      record {
+        parts = h.parts;
+        tasks = either_way (AllByRecursion IsTask) (list_any (is_notify_of o) w.tasks) w.tasks (w.tasks ++ notify_task o ∷ []) h.tasks
+            (all-append IsTask w.tasks (notify_task o ∷ []) h.tasks (rules.notify o, tt));
+      }
+
+  -- a signal
+  holds-with_signal : (w : World) (s : NodeName) → HoldsIn Inv IsTask w → HoldsIn Inv IsTask (with_signal w s)
+  holds-with_signal w s h = let g = holds-with_notify s.owner w h in record { parts = g.parts; tasks = g.tasks }
+
+  -- a step in the world
+  holds-world_step : (o : Owner) (w : World) (s : Step) → HoldsIn Inv IsTask w → May s → HoldsIn Inv IsTask (world_step o w s)
+  holds-world_step o w s h g =
+      let P = HoldsIn Inv IsTask in
+      let v = stepped o w s in
+      let k = holds-stepped o w s h g in
+      kept-world_step P o w s (record {
+        own = k;
+        signals = λ x around is_move. kept-fold P with_signal holds-with_signal (signals w v x around is_move) v k;
+        documents = λ x d. kept-fold P (with_shadow_document d)
+            (λ u c m. holds-stepped c u (set_document (shadow_root_of c) d) m (rules.document (shadow_root_of c) d)) (components_below max_depth w x) v k;
+        notify = holds-with_notify o v k;
+      })
+
+  -- many steps
+  pub holds-world_after : (o : Owner) (steps : List Step) (w : World) → HoldsIn Inv IsTask w → AllByRecursion May steps →
+      HoldsIn Inv IsTask (world_after o w steps)
+  holds-world_after o [] w h g = h
+  holds-world_after o (s ∷ steps) w h g = holds-world_after o steps (world_step o w s) (holds-world_step o w s h g.0) g.1
 
 -- A part that is written for its owner.
 module _ (w : World) (p : Part) (o : Owner) (e : p.owner ≡ o) where
@@ -103,34 +183,24 @@ module _ {only_log : Bool} where
         logs = q.logs;
       }
 
-module _ {only_log : Bool} where
   -- signals
   quiet-each_signal : (ss : List NodeName) (w : World) → AllByRecursion (IsForeignTo Page) ss → Invariant only_log w →
       Invariant only_log (fold with_signal w ss)
   quiet-each_signal [] w h q = q
   quiet-each_signal (s ∷ ss) w h q = quiet-each_signal ss (with_signal w s) h.1 (quiet-with_signal w s h.0 q)
 
-module _ {only_log : Bool} where
   -- the signals of a step
   quiet-signals : (was now : World) (x around : NodeName) (is_move : Bool) → Invariant only_log now → Invariant only_log (with_signals was now x around is_move)
   quiet-signals was now x around is_move q = quiet-each_signal (signals was now x around is_move) now (signals-foreign was now x around is_move) q
-
-module _ {only_log : Bool} where
-  -- the signals of a removal
-  quiet-removal_signals : (was now : World) (x : NodeName) (parent : Option NodeName) → Invariant only_log now →
-      Invariant only_log (with_removal_signals was now x parent)
-  quiet-removal_signals was now x None q = q
-  quiet-removal_signals was now x (Some parent) q = quiet-signals was now x parent true q
 
 -- the page's steps are made in its turn
 abbrev pub InTurn : World → Owner → Type 0
 InTurn w o = o ≡ Page → is_page_turn w.turn ≡ true
 
 module _ {only_log : Bool} where
-  -- a notification, if so
-  quiet-notify : (b : Bool) (o : Owner) (w : World) → InTurn w o → Invariant only_log w → Invariant only_log (with_notify_if b o w)
-  quiet-notify false o w t q = q
-  quiet-notify true o w t q =
+  -- a notification
+  quiet-notify : (o : Owner) (w : World) → InTurn w o → Invariant only_log w → Invariant only_log (with_notify w o)
+  quiet-notify o w t q =
       record {
         world = world-alike (with_notify w o) (λ x. record { trees = refl; count = refl; attached = refl }) (λ h. h) q.world.signalled
             (tasks o t) q.world;
@@ -141,83 +211,41 @@ module _ {only_log : Bool} where
       tasks Page t h = absurd (true≢false (sym (t refl) ∙ h))
       tasks (Component k) t h = page_tasks-queued_other (Component k) (Component-IsNoPage k) w.tasks ∙ q.world.tasks h
 
-module _ {only_log : Bool} where
-  -- node documents of shadow trees
-  quiet-documents : (cs : List Owner) (d : NodeName) (w : World) → Invariant only_log w → Invariant only_log (fold (with_shadow_document d) w cs)
-  quiet-documents [] d w q = q
-  quiet-documents (c ∷ cs) d w q = quiet-documents cs d (with_shadow_document d w c) (quiet-stepped w c (set_document (shadow_root_of c) d) (λ h. tt) q)
-
-module _ {only_log : Bool} where
   -- a step in the world
   pub quiet-world_step : (o : Owner) (w : World) (s : Step) → InTurn w o → MayStep w o s → Invariant only_log w → Invariant only_log (world_step o w s)
-  quiet-world_step o w (place x parent before) t m q =
-      quiet-signals w (stepped o w (place x parent before)) x parent true (quiet-stepped w o (place x parent before) m q)
-  quiet-world_step o w (take_out x) t m q =
-      quiet-removal_signals w (stepped o w (take_out x)) x (parent_of (part_of w o).trees x) (quiet-stepped w o (take_out x) m q)
-  quiet-world_step o w (set_document x d) t m q =
-      quiet-documents (components_below max_depth w x) d (stepped o w (set_document x d)) (quiet-stepped w o (set_document x d) m q)
-  quiet-world_step o w (set_attribute x a v) t m q = quiet-signals w (stepped o w (set_attribute x a v)) x x false (quiet-stepped w o (set_attribute x a v) m q)
-  quiet-world_step o w (queue_record c) t m q =
-      quiet-notify (is_taken (part_of w o) c) o (stepped o w (queue_record c)) t (quiet-stepped w o (queue_record c) m q)
-  quiet-world_step o w s t m q = quiet-stepped w o s m q
+  quiet-world_step o w s t m q =
+      let v = stepped o w s in
+      let k = quiet-stepped w o s m q in
+      kept-world_step (Invariant only_log) o w s (record {
+        own = k;
+        signals = λ x around is_move. quiet-signals w v x around is_move k;
+        documents = λ x d. kept-fold (Invariant only_log) (with_shadow_document d)
+            (λ u c r. quiet-stepped u c (set_document (shadow_root_of c) d) (λ h. tt) r) (components_below max_depth w x) v k;
+        notify = quiet-notify o v t k;
+      })
 
 -- the turn and the hosts stay
 SameFrame : World → World → Type 0
 SameFrame v w = (v.turn ≡ w.turn) × ((o : Owner) → host_of v o ≡ host_of w o)
 
--- one and then another
-frame-then : (u v w : World) → SameFrame u v → SameFrame v w → SameFrame u w
-unfolding SameFrame
-frame-then u v w a b = (a.0 ∙ b.0, λ o. a.1 o ∙ b.1 o)
-
 -- a step in its part
-frame-stepped : (w : World) (o : Owner) (s : Step) → SameFrame (stepped o w s) w
+frame-stepped : (u w : World) (o : Owner) (s : Step) → SameFrame w u → SameFrame (stepped o w s) u
 unfolding SameFrame
-frame-stepped w o s = (refl, host_of-stepped w o s)
-
--- signals
-frame-signals : (ss : List NodeName) (w : World) → SameFrame (fold with_signal w ss) w
-unfolding SameFrame
-frame-signals [] w = (refl, λ o. refl)
-frame-signals (s ∷ ss) w = frame-signals ss (with_signal w s)
-
--- the signals of a removal
-frame-removal_signals : (was now : World) (x : NodeName) (parent : Option NodeName) → SameFrame (with_removal_signals was now x parent) now
-unfolding SameFrame
-frame-removal_signals was now x None = (refl, λ o. refl)
-frame-removal_signals was now x (Some parent) = frame-signals (signals was now x parent true) now
-
--- a notification, if so
-frame-notify : (b : Bool) (o : Owner) (w : World) → SameFrame (with_notify_if b o w) w
-unfolding SameFrame
-frame-notify true o w = (refl, λ x. refl)
-frame-notify false o w = (refl, λ x. refl)
-
--- node documents of shadow trees
-frame-documents : (cs : List Owner) (d : NodeName) (w : World) → SameFrame (fold (with_shadow_document d) w cs) w
-unfolding SameFrame
-frame-documents [] d w = (refl, λ o. refl)
-frame-documents (c ∷ cs) d w = frame-then (fold (with_shadow_document d) w (c ∷ cs)) (with_shadow_document d w c) w
-    (frame-documents cs d (with_shadow_document d w c)) (frame-stepped w c (set_document (shadow_root_of c) d))
+frame-stepped u w o s a = (a.0, λ x. host_of-stepped w o s x ∙ a.1 x)
 
 -- a step in the world
 frame-world_step : (o : Owner) (w : World) (s : Step) → SameFrame (world_step o w s) w
-frame-world_step o w (place x parent before) =
-    let v = stepped o w (place x parent before) in frame-then (world_step o w (place x parent before)) v w
-    (frame-signals (signals w v x parent true) v) (frame-stepped w o (place x parent before))
-frame-world_step o w (take_out x) =
-    let v = stepped o w (take_out x) in frame-then (world_step o w (take_out x)) v w
-    (frame-removal_signals w v x (parent_of (part_of w o).trees x)) (frame-stepped w o (take_out x))
-frame-world_step o w (set_document x d) =
-    let v = stepped o w (set_document x d) in frame-then (world_step o w (set_document x d)) v w
-    (frame-documents (components_below max_depth w x) d v) (frame-stepped w o (set_document x d))
-frame-world_step o w (set_attribute x a b) =
-    let v = stepped o w (set_attribute x a b) in frame-then (world_step o w (set_attribute x a b)) v w (frame-signals (signals w v x x false) v)
-    (frame-stepped w o (set_attribute x a b))
-frame-world_step o w (queue_record c) =
-    let v = stepped o w (queue_record c) in frame-then (world_step o w (queue_record c)) v w (frame-notify (is_taken (part_of w o) c) o v)
-    (frame-stepped w o (queue_record c))
-frame-world_step o w s = frame-stepped w o s
+unfolding SameFrame
+frame-world_step o w s =
+    let P : World → Type 0 = λ v. SameFrame v w in
+    let k = frame-stepped w w o s (refl, λ x. refl) in
+    kept-world_step P o w s (record {
+      own = k;
+      signals = λ x around is_move. kept-fold P with_signal (λ u y h. (h.0, h.1)) (signals w (stepped o w s) x around is_move) (stepped o w s) k;
+      documents = λ x d. kept-fold P (with_shadow_document d) (λ u c h. frame-stepped w u c (set_document (shadow_root_of c) d) h)
+          (components_below max_depth w x) (stepped o w s) k;
+      notify = (k.0, k.1);
+    })
 
 -- so many steps leave the turn
 pub turn-world_after : (o : Owner) (steps : List Step) (w : World) → (world_after o w steps).turn ≡ w.turn

@@ -1,4 +1,4 @@
-use Rattle.dom_worlds.proofs.FollowEvents.{path-follows_parents}
+use Rattle.dom_worlds.proofs.FollowPaths.{path-follows_parents}
 use Rattle.dom_worlds.proofs.path_follows_parents.Goals as goal
 
 pub returns : goal.returns

@@ -1,4 +1,4 @@
-use Rattle.dom_worlds.proofs.Sights.{hidden-by_roots, retarget-by_roots}
+use Rattle.dom_worlds.proofs.Chains.{hidden-by_roots, retarget-by_roots}
 use Rattle.dom_worlds.proofs.sights_go_by_roots.Goals as goal
 
 pub returns-clause-hidden : goal.returns-clause-hidden

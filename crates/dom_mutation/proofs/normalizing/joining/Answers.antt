@@ -1,7 +1,7 @@
 use Rattle.std.proofs.Common.{◌<◌, List, length, subst, sym, ap, ◌∙◌}
 use Rattle.std.proofs.lemmas.Result.{on_ok_weaker}
 use Rattle.dom_base.specs.declared.NodeName.{NodeName}
-use Rattle.dom_worlds.proofs.TextBounds.{text-data}
+use Rattle.dom_worlds.proofs.RangeLemmas.{text-data}
 use Rattle.dom_model.specs.Tree.{kind_of}
 use Rattle.dom_parts.specs.Doc.{DocState, name_in, trees_in}
 use Rattle.dom_mutation.proofs.Joined.{own_nodes, joined_whole}

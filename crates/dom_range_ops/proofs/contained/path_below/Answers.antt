@@ -3,7 +3,7 @@ use Rattle.std.specs.List.{AllByRecursion}
 use Rattle.std.proofs.lemmas.Bool.{eqb-true, false_from_ne_true}
 use Rattle.std.proofs.lemmas.List.{map-append}
 use Rattle.dom_base.specs.declared.NodeName.{NodeName}
-use Rattle.dom_worlds.proofs.Lists.{all-append}
+use Rattle.dom_worlds.proofs.ListLemmas.{all-append}
 use Rattle.dom_model.specs.Tree.{inclusive_ancestors, is_inclusive_ancestor}
 use Rattle.dom_tree.specs.Forest.{name_at}
 use Rattle.dom_laws.proofs.Chains.{above-along}

@@ -1,7 +1,7 @@
 use Rattle.std.proofs.Common.{List, sym, ap, subst, ◌∙◌}
 use Rattle.std.proofs.lemmas.Result.{on_ok_weaker}
 use Rattle.dom_base.specs.declared.NodeName.{NodeName}
-use Rattle.dom_worlds.proofs.PlanPlaces.{leads-removing}
+use Rattle.dom_worlds.proofs.PlanLemmas.{leads-removing}
 use Rattle.dom_model.specs.Changes.{observed, removing}
 use Rattle.dom_model.specs.Tree.{has_node, has_data, kind_of}
 use Rattle.dom_model.specs.World.{part_of}

@@ -2,8 +2,8 @@ use Rattle.std.proofs.Common.{◌≡◌, ◌++◌, ◌∷◌, [], List, Some, op
 use Rattle.std.proofs.lemmas.Bool.{cond-true}
 use Rattle.std.proofs.lemmas.Result.{on_ok_weaker}
 use Rattle.dom_base.specs.declared.NodeName.{NodeName}
-use Rattle.dom_worlds.proofs.BoundLines.{insertion-open}
-use Rattle.dom_worlds.proofs.TableCommands.{insertion-apart}
+use Rattle.dom_worlds.proofs.RangeLemmas.{insertion-open}
+use Rattle.dom_worlds.proofs.CommandLemmas.{insertion-apart}
 use Rattle.dom_model.specs.CommandRefusals.{limit_on}
 use Rattle.dom_model.specs.Part.{next_name}
 use Rattle.dom_model.specs.RangeOps.{inserting_into_range}

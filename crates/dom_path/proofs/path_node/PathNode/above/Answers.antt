@@ -1,6 +1,6 @@
 use Rattle.std.proofs.Common.{◌≡◌, ◌||◌, not, true, sym, ◌∙◌}
 use Rattle.std.specs.Prelude.{nat_eq}
-use Rattle.dom_worlds.proofs.Tests.{or-first, or-second}
+use Rattle.dom_worlds.proofs.ListLemmas.{or-first, or-second}
 use Rattle.dom_path.proofs.Steps.{up-host}
 use Rattle.dom_path.proofs.path_node.PathNode.above.Goals as goal
 use Rattle.dom_path.proofs.path_node.PathNode.above.Goals.{then-composed-via-then-composed, then-composed-via-else-composed+then-ne}

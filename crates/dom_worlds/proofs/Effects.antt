@@ -1,0 +1,317 @@
+-- An accepted command: what its tests say, and what its effect keeps of its owner's part.
+use Rattle.std.proofs.lemmas.Bool.{not-false, or_parts}
+use Rattle.std.proofs.Common.{◌≡◌, ◌+◌, Bool, true, false, not, ◌&&◌, ◌||◌, List, [], ◌∷◌, length, Option, Some, None, refl, sym, ap, ◌∙◌, ℕ, ◌++◌, subst}
+use Rattle.std.specs.Prelude.{nat_lt, ⊤, slice_get, if◌then◌else◌}
+use Rattle.std.specs.Option.{option_or, option_map_or}
+use Rattle.dom_base.specs.declared.Owner.{Owner}
+use Rattle.dom_base.specs.declared.TheConstants.{MAX_COMPONENTS}
+use Rattle.dom_base.specs.Owners.{may_attach}
+use Rattle.dom_base.specs.declared.Refusal.{Refusal}
+use Rattle.dom_base.specs.declared.Refusal.TheVariants.{Syntax, Busy, Foreign, Unknown, WrongKind, NotSupported, Limit}
+use Rattle.dom_model.specs.Command.{Command, NodeWord, ListenerWords, names_foreign, nodes_exist, thing_exists, nodes_fit, is_command_of, part_refusal}
+use Rattle.dom_model.specs.Command.{own_refusal, effect}
+use Rattle.dom_model.specs.Names.{name_eq, is_in, DomString}
+use Rattle.dom_model.specs.Tree.{node_in}
+use Rattle.dom_model.specs.CommandNames.{named}
+use Rattle.dom_model.specs.CommandRefusals.{may_be_host, of_range}
+use Rattle.dom_model.specs.DocumentMachine.{refusal, is_busy}
+use Rattle.dom_model.specs.Part.{Part, range_at}
+use Rattle.dom_model.specs.Validity.{first_refusal}
+use Rattle.dom_model.specs.World.{World, part_of, is_there, MayAttach}
+use Rattle.dom_model.proofs.PartLaws.{owner-part_of}
+use Rattle.dom_base.specs.declared.NodeName.{NodeName}
+use Rattle.dom_base.specs.declared.Action.TheVariants.{Log}
+use Rattle.dom_model.specs.Listeners.{Listener, listened, is_listener}
+use Rattle.std.specs.List.{AllByRecursion, list_any}
+use Rattle.dom_worlds.specs.Worlds.{OnlyLogs}
+use Rattle.dom_worlds.proofs.Turns.{IsAlike}
+use Rattle.dom_worlds.proofs.Lists.{all-append, all-filter, by_some_is}
+use Rattle.dom_model.specs.Output.{Value, nothing, a_string, boundaries, reference, a_node, attributes}
+use Rattle.dom_model.specs.Ranges.{Range}
+use Rattle.dom_model.specs.RangeOps.{range_text_of, inserting_into_range, deleting}
+use Rattle.dom_model.specs.Traversal.{Iterator, Walker, iterator_next_node, iterator_previous_node, walker_move}
+use Rattle.dom_model.specs.Effects.{Effect, tables, changes, answers, moves_iterator, sets_walker, node_or_null, new_node, new_document_of}
+use Rattle.dom_base.specs.declared.Kind.TheVariants.{Document, Fragment, Element, Text, Comment}
+use Rattle.dom_model.specs.Changes.{observed}
+use Rattle.dom_model.specs.Extract.{extracting}
+use Rattle.dom_model.specs.Steps.{Step, make, set_attribute, queue_record}
+use Rattle.dom_worlds.proofs.Plans.{IsKept, keeps-removing, keeps-adopting, keeps-pre_inserting, keeps-replacing, keeps-setting_attribute}
+use Rattle.dom_worlds.proofs.Plans.{keeps-unsetting_attribute, keeps-replacing_data, keeps-replacing_all_data, keeps-splitting, keeps-normalizing}
+use Rattle.dom_worlds.proofs.Plans.{keeps-setting_text, keeps-extracting, keeps-deleting, keeps-inserting_into_range}
+
+-- neither of two refusals
+pub or-none : (a b : Option Refusal) → option_or a b ≡ None → (a ≡ None) × (b ≡ None)
+or-none None b h = (refl, h)
+or-none (Some r) b h = cc
+
+-- the first of the tests, and the others
+pub next-test : (b : Bool) (r : Refusal) (ts : List (Bool × Refusal)) → first_refusal ((b, r) ∷ ts) ≡ None → (b ≡ false) × (first_refusal ts ≡ None)
+next-test true r ts h = cc
+next-test false r ts h = (refl, h)
+
+-- The refusals that its owner's part alone decides.
+pub record IsPartAccepted (p : Part) (c : Command) : Type 0 where
+  pub exist : (nodes_exist p c && thing_exists p c) ≡ true
+  pub fit : nodes_fit p c ≡ true
+  pub own : own_refusal p c ≡ None
+
+-- they are known
+pub part-accepted : (p : Part) (c : Command) → part_refusal p c ≡ None → IsPartAccepted p c
+part-accepted p c h =
+    let both = or-none (first_refusal ((not (nodes_exist p c && thing_exists p c), Unknown) ∷ (not (nodes_fit p c), WrongKind) ∷ [])) (own_refusal p c) h in
+    let exist = next-test (not (nodes_exist p c && thing_exists p c)) Unknown ((not (nodes_fit p c), WrongKind) ∷ []) both.0 in
+    let fit = next-test (not (nodes_fit p c)) WrongKind [] exist.1 in
+    record { exist = not-false (nodes_exist p c && thing_exists p c) exist.0; fit = not-false (nodes_fit p c) fit.0; own = both.1 }
+
+-- Whoever attaches may: that there is room for one number more is one of the tests.
+pub attach-may : (w : World) (o : Owner) (x : NodeWord) → part_refusal (part_of w o) (Command.attach x) ≡ None → MayAttach o
+unfolding MayAttach
+attach-may w o x h =
+    let p = part_of w o in
+    let no_host = is_in name_eq (named p x) p.attached || not (may_be_host (node_in p.trees (named p x)).element) in
+    let many = nat_lt MAX_COMPONENTS (length p.attached + 1) in
+    let first = next-test no_host NotSupported ((many || not (may_attach p.owner), Limit) ∷ []) (part-accepted p (Command.attach x) h).own in
+    let room = (or_parts many (not (may_attach p.owner)) (next-test (many || not (may_attach p.owner)) Limit [] first.1).0).1 in
+    ap may_attach (sym (owner-part_of w o)) ∙ not-false (may_attach p.owner) room
+
+-- All refusals.
+pub record IsAccepted (w : World) (o : Owner) (c : Command) : Type 0 where
+  pub grammar : is_command_of o c ≡ true
+  pub calm : is_busy w o ≡ false
+  pub there : is_there w o ≡ true
+  pub part : part_refusal (part_of w o) c ≡ None
+
+-- they are known
+pub accepted-facts : (w : World) (o : Owner) (c : Command) → refusal w o c ≡ None → IsAccepted w o c
+accepted-facts w o c e =
+    let all = or-none (first_refusal ((not (is_command_of o c), Syntax) ∷ (is_busy w o, Busy) ∷ (names_foreign c, Foreign) ∷
+    (not (is_there w o), Unknown) ∷ [])) (part_refusal (part_of w o) c) e in
+    let first = next-test (not (is_command_of o c)) Syntax ((is_busy w o, Busy) ∷ (names_foreign c, Foreign) ∷ (not (is_there w o), Unknown) ∷ []) all.0 in
+    let second = next-test (is_busy w o) Busy ((names_foreign c, Foreign) ∷ (not (is_there w o), Unknown) ∷ []) first.1 in
+    let third = next-test (names_foreign c) Foreign ((not (is_there w o), Unknown) ∷ []) second.1 in
+    let fourth = next-test (not (is_there w o)) Unknown [] third.1 in
+    record { grammar = not-false (is_command_of o c) first.0; calm = second.0; there = not-false (is_there w o) fourth.0; part = all.1 }
+
+-- the owner, the trees, the count and the hosts stay
+abbrev pub KeepsBase : Part → Effect → Type 0
+KeepsBase p (tables q lines v) = (q.owner ≡ p.owner) × IsAlike q p
+KeepsBase p (changes steps v) = ⊤
+
+-- of a thing that may not be there
+base_of_some : {X : Type 0} (p : Part) (o : Option X) (f : X → Effect) (d : Effect) → ((x : X) → KeepsBase p (f x)) → KeepsBase p d →
+    KeepsBase p (option_map_or f o d)
+base_of_some p None f d h g = g
+base_of_some p (Some x) f d h g = h x
+
+-- a walker that is set
+base_of_walker-set : (p : Part) (k : ℕ) (w : Walker) (o : Option NodeName) (v : Value) → KeepsBase p (sets_walker p k w o v)
+base_of_walker-set p k w None v = (refl, record { trees = refl; count = refl; attached = refl })
+base_of_walker-set p k w (Some x) v = (refl, record { trees = refl; count = refl; attached = refl })
+
+-- every effect on tables leaves these
+pub base-effect : (p : Part) (c : Command) → KeepsBase p (effect p c)
+base-effect p (Command.new_element a) = tt
+base-effect p (Command.new_text a) = tt
+base-effect p (Command.new_comment a) = tt
+base-effect p Command.new_fragment = tt
+base-effect p Command.new_document = tt
+base-effect p (Command.append a b) = tt
+base-effect p (Command.insert a b c) = tt
+base-effect p (Command.replace a b c) = tt
+base-effect p (Command.remove a) = tt
+base-effect p (Command.adopt a b) = tt
+base-effect p (Command.normalize a) = tt
+base-effect p (Command.set_attribute a b c) = tt
+base-effect p (Command.unset_attribute a b) = tt
+base-effect p (Command.set_data a b) = tt
+base-effect p (Command.replace_data a b c d) = tt
+base-effect p (Command.split a b) = tt
+base-effect p (Command.set_text a b) = tt
+base-effect p (Command.range_get a) = base_of_some p (range_at p a) (λ (r : Range NodeName). answers p (boundaries r.start r.end))
+    (answers p nothing) (λ r. (refl, record { trees = refl; count = refl; attached = refl }))
+    (refl, record { trees = refl; count = refl; attached = refl })
+base-effect p (Command.range_text a) = base_of_some p (range_at p a) (λ (r : Range NodeName). answers p (a_string (range_text_of p.trees r)))
+    (answers p nothing) (λ r. (refl, record { trees = refl; count = refl; attached = refl }))
+    (refl, record { trees = refl; count = refl; attached = refl })
+base-effect p (Command.extract a) = tt
+base-effect p (Command.delete a) = tt
+base-effect p (Command.insert_node a b) = tt
+base-effect p (Command.iterator_next a) =
+    base_of_some p (slice_get p.iterators a) (λ i. moves_iterator p a false i (iterator_next_node p.trees i)) (answers p nothing)
+    (λ i. (refl, record { trees = refl; count = refl; attached = refl })) (refl, record { trees = refl; count = refl; attached = refl })
+base-effect p (Command.iterator_previous a) =
+    base_of_some p (slice_get p.iterators a) (λ i. moves_iterator p a true i (iterator_previous_node p.trees i)) (answers p nothing)
+    (λ i. (refl, record { trees = refl; count = refl; attached = refl })) (refl, record { trees = refl; count = refl; attached = refl })
+base-effect p (Command.iterator_at a) = base_of_some p (slice_get p.iterators a) (λ (i : Iterator). answers p (reference i.reference i.before))
+    (answers p nothing) (λ i. (refl, record { trees = refl; count = refl; attached = refl }))
+    (refl, record { trees = refl; count = refl; attached = refl })
+base-effect p (Command.walk a b) = base_of_some p (slice_get p.walkers a)
+    (λ w. sets_walker p a w (walker_move p.trees w b) (node_or_null (walker_move p.trees w b))) (answers p nothing)
+    (λ w. base_of_walker-set p a w (walker_move p.trees w b) (node_or_null (walker_move p.trees w b)))
+    (refl, record { trees = refl; count = refl; attached = refl })
+base-effect p (Command.walker_at a) = base_of_some p (slice_get p.walkers a) (λ (w : Walker). answers p (a_node w.current)) (answers p nothing)
+    (λ w. (refl, record { trees = refl; count = refl; attached = refl })) (refl, record { trees = refl; count = refl; attached = refl })
+base-effect p (Command.walker_set a b) =
+    base_of_some p (slice_get p.walkers a) (λ w. sets_walker p a w (Some (named p b)) nothing) (answers p nothing)
+    (λ w. (refl, record { trees = refl; count = refl; attached = refl })) (refl, record { trees = refl; count = refl; attached = refl })
+base-effect p c = (refl, record { trees = refl; count = refl; attached = refl })
+
+-- Where a component's listeners only log, and a command adds none that does more, they only log afterwards.
+abbrev pub AddsLogs : Command → Type 0
+AddsLogs (Command.listen x words) = words.action ≡ Log
+AddsLogs c = ⊤
+
+-- listeners that only log are left so
+abbrev pub KeepsLogs : Part → Effect → Type 0
+KeepsLogs p (tables q lines v) = AllByRecursion OnlyLogs p.listeners → AllByRecursion OnlyLogs q.listeners
+KeepsLogs p (changes steps v) = ⊤
+
+-- of a thing that may not be there
+logs_of_some : {X : Type 0} (p : Part) (o : Option X) (f : X → Effect) (d : Effect) → ((x : X) → KeepsLogs p (f x)) → KeepsLogs p d →
+    KeepsLogs p (option_map_or f o d)
+logs_of_some p None f d h g = g
+logs_of_some p (Some x) f d h g = h x
+
+-- a walker that is set
+logs_of_walker-set : (p : Part) (k : ℕ) (w : Walker) (o : Option NodeName) (v : Value) → KeepsLogs p (sets_walker p k w o v)
+logs_of_walker-set p k w None v = λ h. h
+logs_of_walker-set p k w (Some x) v = λ h. h
+
+-- one more listener that only logs
+all-listened : (x : NodeName) (w : ListenerWords) (ls : List (Listener NodeName)) → w.action ≡ Log → AllByRecursion OnlyLogs ls →
+    AllByRecursion OnlyLogs (listened name_eq x w ls)
+all-listened x w ls e h = from (list_any (is_listener name_eq x w.event w.label w.capture) ls)
+  where
+    from : (b : Bool) → AllByRecursion OnlyLogs (if b then ls else ls ++ record { node = x; words = w } ∷ [])
+    from true = h
+    from false = all-append OnlyLogs ls (record { node = x; words = w } ∷ []) h (e, tt)
+
+-- every effect on tables leaves them so
+pub logs-effect : (p : Part) (c : Command) → AddsLogs c → KeepsLogs p (effect p c)
+logs-effect p (Command.new_element a) m = tt
+logs-effect p (Command.new_text a) m = tt
+logs-effect p (Command.new_comment a) m = tt
+logs-effect p Command.new_fragment m = tt
+logs-effect p Command.new_document m = tt
+logs-effect p (Command.append a b) m = tt
+logs-effect p (Command.insert a b c) m = tt
+logs-effect p (Command.replace a b c) m = tt
+logs-effect p (Command.remove a) m = tt
+logs-effect p (Command.adopt a b) m = tt
+logs-effect p (Command.normalize a) m = tt
+logs-effect p (Command.set_attribute a b c) m = tt
+logs-effect p (Command.unset_attribute a b) m = tt
+logs-effect p (Command.set_data a b) m = tt
+logs-effect p (Command.replace_data a b c d) m = tt
+logs-effect p (Command.split a b) m = tt
+logs-effect p (Command.set_text a b) m = tt
+logs-effect p (Command.range_get a) m = logs_of_some p (range_at p a) (λ (r : Range NodeName). answers p (boundaries r.start r.end))
+    (answers p nothing) (λ r h. h) (λ h. h)
+logs-effect p (Command.range_text a) m =
+    logs_of_some p (range_at p a) (λ (r : Range NodeName). answers p (a_string (range_text_of p.trees r))) (answers p nothing) (λ r h. h) (λ h. h)
+logs-effect p (Command.extract a) m = tt
+logs-effect p (Command.delete a) m = tt
+logs-effect p (Command.insert_node a b) m = tt
+logs-effect p (Command.iterator_next a) m =
+    logs_of_some p (slice_get p.iterators a) (λ i. moves_iterator p a false i (iterator_next_node p.trees i)) (answers p nothing) (λ i h. h) (λ h. h)
+logs-effect p (Command.iterator_previous a) m =
+    logs_of_some p (slice_get p.iterators a) (λ i. moves_iterator p a true i (iterator_previous_node p.trees i)) (answers p nothing) (λ i h. h)
+    (λ h. h)
+logs-effect p (Command.iterator_at a) m =
+    logs_of_some p (slice_get p.iterators a) (λ (i : Iterator). answers p (reference i.reference i.before)) (answers p nothing) (λ i h. h) (λ h. h)
+logs-effect p (Command.walk a b) m = logs_of_some p (slice_get p.walkers a)
+    (λ w. sets_walker p a w (walker_move p.trees w b) (node_or_null (walker_move p.trees w b))) (answers p nothing)
+    (λ w. logs_of_walker-set p a w (walker_move p.trees w b) (node_or_null (walker_move p.trees w b))) (λ h. h)
+logs-effect p (Command.walker_at a) m = logs_of_some p (slice_get p.walkers a) (λ (w : Walker). answers p (a_node w.current)) (answers p nothing)
+    (λ w h. h) (λ h. h)
+logs-effect p (Command.walker_set a b) m =
+    logs_of_some p (slice_get p.walkers a) (λ w. sets_walker p a w (Some (named p b)) nothing) (answers p nothing) (λ w h. h) (λ h. h)
+logs-effect p (Command.listen a b) m = λ h. all-listened (named p a) b p.listeners m h
+logs-effect p (Command.unlisten a b c d) m = λ h. all-filter OnlyLogs (λ l. not (is_listener name_eq (named p a) b c d l)) p.listeners h
+logs-effect p c m = λ h. h
+
+-- the steps of an effect are such
+abbrev pub Makes : (Step → Type 0) → Effect → Type 0
+Makes May (tables p lines v) = ⊤
+Makes May (changes steps v) = AllByRecursion May steps
+
+-- What is asked of a command beside: the node that it places may be placed, the node that it makes may be made, and the
+-- attribute that it names may be set and told.
+abbrev pub MayDo : (Step → Type 0) → (NodeName → Type 0) → Part → Command → Type 0
+MayDo May MayPlace p (Command.new_element a) = May (make (new_node p Element a [] (new_document_of p)))
+MayDo May MayPlace p (Command.new_text s) = May (make (new_node p Text [] s (new_document_of p)))
+MayDo May MayPlace p (Command.new_comment s) = May (make (new_node p Comment [] s (new_document_of p)))
+MayDo May MayPlace p Command.new_fragment = May (make (new_node p Fragment [] [] (new_document_of p)))
+MayDo May MayPlace p Command.new_document = May (make (new_node p Document [] [] None))
+MayDo May MayPlace p (Command.append parent x) = MayPlace (named p x)
+MayDo May MayPlace p (Command.insert parent x child) = MayPlace (named p x)
+MayDo May MayPlace p (Command.replace parent x child) = MayPlace (named p x)
+MayDo May MayPlace p (Command.insert_node k x) = (range : Range NodeName) → range_at p k ≡ Some range → MayPlace (named p x)
+MayDo May MayPlace p (Command.set_attribute x a v) = ((old : Option DomString) → May (queue_record (attributes (named p x) a old))) ×
+    May (set_attribute (named p x) a (Some v))
+MayDo May MayPlace p (Command.unset_attribute x a) = ((old : Option DomString) → May (queue_record (attributes (named p x) a old))) ×
+    May (set_attribute (named p x) a None)
+MayDo May MayPlace p c = ⊤
+
+-- of a thing that may not be there
+some-makes : {X : Type 0} (May : Step → Type 0) (o : Option X) (f : X → Effect) (d : Effect) → ((x : X) → Makes May (f x)) → Makes May d →
+    Makes May (option_map_or f o d)
+some-makes May None f d h g = g
+some-makes May (Some x) f d h g = h x
+
+-- a walker that is set
+walker-makes : (May : Step → Type 0) (p : Part) (k : ℕ) (w : Walker) (o : Option NodeName) (v : Value) → Makes May (sets_walker p k w o v)
+walker-makes May p k w None v = tt
+walker-makes May p k w (Some x) v = tt
+
+-- the steps for a range that may not be there
+range-makes : (May : Step → Type 0) (p : Part) (k : ℕ) (f : Range NodeName → List Step) →
+    ((range : Range NodeName) → range_at p k ≡ Some range → AllByRecursion May (f range)) → AllByRecursion May (of_range p k [] f)
+range-makes May p k f h =
+    by_some_is (λ (o : Option (Range NodeName)). AllByRecursion May (of_range p k [] f)) (range_at p k)
+    (λ e. subst (λ o. AllByRecursion May (option_map_or f o [])) (sym e) tt)
+    (λ range e. subst (λ o. AllByRecursion May (option_map_or f o [])) (sym e) (h range e))
+
+module _ {Inv : Part → Type 0} {May : Step → Type 0} {MayPlace : NodeName → Type 0} (rules : IsKept Inv May MayPlace) where
+  -- every command
+  pub made-effect : (p : Part) → Inv p → (c : Command) → MayDo May MayPlace p c → Makes May (effect p c)
+  made-effect p i (Command.new_element a) h = (h, tt)
+  made-effect p i (Command.new_text a) h = (h, tt)
+  made-effect p i (Command.new_comment a) h = (h, tt)
+  made-effect p i Command.new_fragment h = (h, tt)
+  made-effect p i Command.new_document h = (h, tt)
+  made-effect p i (Command.append a b) h = keeps-pre_inserting rules (named p b) (named p a) None h p i
+  made-effect p i (Command.insert a b c) h = keeps-pre_inserting rules (named p b) (named p a) (Some (named p c)) h p i
+  made-effect p i (Command.replace a b c) h = keeps-replacing rules (named p a) (named p b) (named p c) h p i
+  made-effect p i (Command.remove a) h = keeps-removing rules observed (named p a) p i
+  made-effect p i (Command.adopt a b) h = keeps-adopting rules (named p a) (named p b) p i
+  made-effect p i (Command.normalize a) h = keeps-normalizing rules (named p a) p i
+  made-effect p i (Command.set_attribute a b c) h = keeps-setting_attribute rules (named p a) b c h.0 h.1 p i
+  made-effect p i (Command.unset_attribute a b) h = keeps-unsetting_attribute rules (named p a) b h.0 h.1 p i
+  made-effect p i (Command.set_data a b) h = keeps-replacing_all_data rules (named p a) b p i
+  made-effect p i (Command.replace_data a b c d) h = keeps-replacing_data rules (named p a) b c d p i
+  made-effect p i (Command.split a b) h = keeps-splitting rules (named p a) b p i
+  made-effect p i (Command.set_text a b) h = keeps-setting_text rules (named p a) b p i
+  made-effect p i (Command.range_get a) h =
+      some-makes May (range_at p a) (λ (r : Range NodeName). answers p (boundaries r.start r.end)) (answers p nothing) (λ r. tt) tt
+  made-effect p i (Command.range_text a) h =
+      some-makes May (range_at p a) (λ (r : Range NodeName). answers p (a_string (range_text_of p.trees r))) (answers p nothing) (λ r. tt) tt
+  made-effect p i (Command.extract a) h = range-makes May p a (λ range. extracting a range p) (λ range e. keeps-extracting rules a range p i)
+  made-effect p i (Command.delete a) h = range-makes May p a (λ range. deleting a range p) (λ range e. keeps-deleting rules a range p i)
+  made-effect p i (Command.insert_node a b) h =
+      range-makes May p a (λ range. inserting_into_range a range (named p b) p)
+      (λ range e. keeps-inserting_into_range rules a range (named p b) (h range e) p i)
+  made-effect p i (Command.iterator_next a) h =
+      some-makes May (slice_get p.iterators a) (λ i. moves_iterator p a false i (iterator_next_node p.trees i)) (answers p nothing) (λ i. tt) tt
+  made-effect p i (Command.iterator_previous a) h =
+      some-makes May (slice_get p.iterators a) (λ i. moves_iterator p a true i (iterator_previous_node p.trees i)) (answers p nothing) (λ i. tt) tt
+  made-effect p i (Command.iterator_at a) h =
+      some-makes May (slice_get p.iterators a) (λ (i : Iterator). answers p (reference i.reference i.before)) (answers p nothing) (λ i. tt) tt
+  made-effect p i (Command.walk a b) h =
+      some-makes May (slice_get p.walkers a) (λ w. sets_walker p a w (walker_move p.trees w b) (node_or_null (walker_move p.trees w b)))
+      (answers p nothing) (λ w. walker-makes May p a w (walker_move p.trees w b) (node_or_null (walker_move p.trees w b))) tt
+  made-effect p i (Command.walker_at a) h =
+      some-makes May (slice_get p.walkers a) (λ (w : Walker). answers p (a_node w.current)) (answers p nothing) (λ w. tt) tt
+  made-effect p i (Command.walker_set a b) h =
+      some-makes May (slice_get p.walkers a) (λ w. sets_walker p a w (Some (named p b)) nothing) (answers p nothing) (λ w. tt) tt
+  made-effect p i c h = tt
