@@ -150,6 +150,10 @@ inner-below {f} {top} {k} i =
           ]);
     }
 
+-- so does its name
+pub IsBelow-inner : {f : NamedTrees} {top k : ℕ} → IsInner f top k → IsBelow f.trees (name_at f.names top) (name_at f.names k)
+IsBelow-inner {f} {top} {k} i = IsBelow-key f i.once i.only top k (inner-below i)
+
 -- the node at which a search stops stays, for the name of a key
 pub stop-some : (f : NamedTrees) (filter : Filter) (top k : ℕ) (found : Option ℕ)
     → ForSome found (λ j. stop_above f.trees filter (name_at f.names top) (name_at f.names j) ≡ stop_above f.trees filter (name_at f.names top)

@@ -26,7 +26,7 @@ use Rattle.dom_traversal.proofs.Stops.{IsBelow, within-below, other-below, below
 use Rattle.dom_traversal.proofs.Aside.{Follows}
 use Rattle.dom_traversal.proofs.Reaching.{opened-above}
 use Rattle.dom_traversal.proofs.Candidates.{children-reached}
-use Rattle.dom_traversal.proofs.Nested.{siblings-behind, stop-within}
+use Rattle.dom_traversal.proofs.Nested.{siblings-behind}
 
 -- a move within the root's tree
 pub move-step : (ts : Trees) (w : Walker) (m : Move) → is_inclusive_ancestor ts w.root w.current ≡ true → walker_step ts w m ≡ walker_move ts w m
@@ -119,7 +119,7 @@ module _ (ts : Trees) (w : Walker) (b : IsBelow ts w.root w.current) where
 
   -- the siblings behind are the nodes that are reached
   pub siblings-found : walker_siblings ts w (behind ts w.root w.current) ≡ filter (is_reached ts w) (beyond ts (sibling_top ts w) w.current)
-  siblings-found = siblings-behind ts w b (stop-within ts w b)
+  siblings-found = siblings-behind ts w b
 
 -- so the search may begin at the node aside
 pub Begins-sibling : (f : NamedTrees) → (w : KeyedWalker) → IsBelow f.trees (name_at f.names w.root) (name_at f.names w.current) → (from : Option ℕ)

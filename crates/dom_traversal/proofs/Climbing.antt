@@ -1,18 +1,20 @@
 -- Steps aside and up by keys, within the tree of a node.
-use Rattle.std.proofs.Common.{◌≡◌, ℕ, ◌<◌, true, ◌++◌, length, Option, Some, None, sym, ap, ◌∙◌, arith}
+use Rattle.std.proofs.Common.{◌≡◌, ℕ, ◌<◌, true, false, not, eqb, ◌++◌, length, Option, Some, None, sym, ap, ◌∙◌, arith}
 use Rattle.std.specs.Prelude.{is_some}
 use Rattle.std.specs.Option.{option_map, ForSome}
 use Rattle.dom_base.specs.declared.NodeName.{NodeName}
 use Rattle.dom_model.specs.Names.{first_of}
-use Rattle.dom_model.specs.Tree.{Trees, parent_of, next_sibling, inclusive_ancestors}
+use Rattle.dom_model.specs.Tree.{Trees, parent_of, next_sibling, inclusive_ancestors, is_inclusive_ancestor}
 use Rattle.dom_tree.specs.Forest.{NamedTrees, name_at}
 use Rattle.dom_laws.specs.Within.{beyond}
 use Rattle.dom_tree.specs.Within.{StandsIn}
+use Rattle.dom_tree.specs.Apart.{TellApart}
+use Rattle.dom_traversal.specs.Walkers.{KeyedWalker, IsWalkerOf}
 use Rattle.dom_laws.proofs.Shapes.{above-parent}
 use Rattle.dom_laws.proofs.Options.{was_some}
 use Rattle.dom_laws.proofs.Order.{IsWithin, stands_in, here, above-within}
 use Rattle.dom_laws.proofs.Steps.{within-parent, within-root, next_places, no_next}
-use Rattle.dom_tree.proofs.Standing.{StandOnce, StandAlone}
+use Rattle.dom_tree.proofs.Standing.{StandOnce, StandAlone, other_name}
 use Rattle.dom_tree.proofs.Searching.{IsWithin-key, StandsIn-found}
 
 -- the next sibling is the first node beyond
@@ -27,6 +29,24 @@ pub record IsInner (f : NamedTrees) (top k : ℕ) : Type 0 where
   pub only : StandAlone f
   pub stands : StandsIn f top k
   pub other : name_at f.names k ≡ name_at f.names top → ⊥
+
+-- such a key, where the test says that it is not the top
+pub inner-name : {f : NamedTrees} {top k : ℕ} → StandOnce f → StandAlone f → TellApart f.names → top < length f.names → StandsIn f top k →
+    not (eqb k top) ≡ true → IsInner f top k
+inner-name {f} {top} {k} once only apart at_top stands e =
+    record { once = once; only = only; stands = stands; other = other_name f apart k top stands.node at_top e }
+
+-- the current node of a walker, in the tree of its root
+pub walker-within : {f : NamedTrees} {w : KeyedWalker} → StandOnce f → StandAlone f → IsWalkerOf f w →
+    is_inclusive_ancestor f.trees (name_at f.names w.root) (name_at f.names w.current) ≡ true →
+    IsWithin f.trees (name_at f.names w.root) (name_at f.names w.current)
+walker-within {f} {w} once only placed within = IsWithin-key f once only w.root w.current (record { node = placed.current; within = within })
+
+-- and where it is not the root
+pub walker-inner : {f : NamedTrees} {w : KeyedWalker} → StandOnce f → StandAlone f → TellApart f.names → IsWalkerOf f w →
+    is_inclusive_ancestor f.trees (name_at f.names w.root) (name_at f.names w.current) ≡ true → eqb w.current w.root ≡ false → IsInner f w.root w.current
+walker-inner once only apart placed within e =
+    inner-name once only apart placed.root (record { node = placed.current; within = within }) (ap not e)
 
 -- its name stands there too
 pub inner-within : {f : NamedTrees} {top k : ℕ} → IsInner f top k → IsWithin f.trees (name_at f.names top) (name_at f.names k)

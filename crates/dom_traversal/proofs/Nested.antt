@@ -108,65 +108,6 @@ behind-outside ts top x y w i =
 below-other : (ts : Trees) (a y : NodeName) → IsWithin ts a a → In y (inclusive_descendants ts a) → (y ≡ a → ⊥) → IsBelow ts a y
 below-other ts a y w i other = below-member ts a y w (elim (subst (In y) (here ts a a w) i) [ inl same ↦ absurd (other same) | inr j ↦ j ])
 
-module _ (ts : Trees) (w : Walker) (b : IsBelow ts w.root w.current) where
-  -- the current node stands below its stop
-  top_below : IsBelow ts (sibling_top ts w) w.current
-  top_below = below-stop ts w.filter w.root w.current b
-
-  -- and in its tree
-  in_top : IsWithin ts (sibling_top ts w) w.current
-  in_top = within-below ts (sibling_top ts w) w.current top_below
-
-  -- the stop stands in its own tree
-  itself : IsWithin ts (sibling_top ts w) (sibling_top ts w)
-  itself = within-top ts (sibling_top ts w) w.current in_top
-
-  -- the current node stands in the root's tree
-  in_root : IsWithin ts w.root w.current
-  in_root = within-below ts w.root w.current b
-
-  -- the stop stands in the tree of the root, where it is a member of a list of accepted or top nodes above the current one
-  pub root-stop : IsWithin ts w.root (sibling_top ts w) →
-      (ahead_of ts w.root w.current ≡ ahead_of ts w.root (sibling_top ts w) ++ ahead_of ts (sibling_top ts w) w.current)
-      × (beyond ts w.root w.current ≡ beyond ts (sibling_top ts w) w.current ++ beyond ts w.root (sibling_top ts w))
-  root-stop at = nested at in_top in_root
-
-  -- among the nodes behind the current one
-  pub siblings-behind : IsWithin ts w.root (sibling_top ts w) →
-      walker_siblings ts w (behind ts w.root w.current) ≡ filter (is_reached ts w) (beyond ts (sibling_top ts w) w.current)
-  siblings-behind at =
-      let stop = sibling_top ts w in
-      let tree = inclusive_descendants ts w.current in
-      let parts = splits ts stop w.current in_top in
-      let single : Single (ahead_of ts stop w.current ++ (tree ++ beyond ts stop w.current)) = subst Single parts (all_single ts stop w.current in_top) in
-      let whole : behind ts w.root w.current ≡ below ts w.current ++ (beyond ts stop w.current ++ beyond ts w.root stop) =
-      behind_is ts w.root w.current in_root ∙ ap (λ xs. below ts w.current ++ xs) (root-stop at).1 in
-      ap (filter (is_sibling ts w)) whole
-      ∙ (filter-append (is_sibling ts w) (below ts w.current) (beyond ts stop w.current ++ beyond ts w.root stop)
-      ∙ (ap (λ xs. xs ++ filter (is_sibling ts w) (beyond ts stop w.current ++ beyond ts w.root stop))
-      (filter-none (is_sibling ts w) (below ts w.current)
-      (λ y i. sibling-inside ts w y (inside-test ts w.current y b.once b.stands (subst (In y) (sym (here ts stop w.current in_top)) (inr i)))))
-      ∙ (filter-append (is_sibling ts w) (beyond ts stop w.current) (beyond ts w.root stop)
-      ∙ (ap (λ xs. filter (is_sibling ts w) (beyond ts stop w.current) ++ xs)
-      (filter-none (is_sibling ts w) (beyond ts w.root stop) (λ y i. sibling-off ts w y (off-below ts stop y itself
-      (λ j. Single-apart y (inclusive_descendants ts stop) (beyond ts w.root stop)
-      (Single-right (ahead_of ts w.root stop) (inclusive_descendants ts stop ++ beyond ts w.root stop)
-      (subst Single (splits ts w.root stop at) (all_single ts w.root stop at))) j i))))
-      ∙ (append-nil (filter (is_sibling ts w) (beyond ts stop w.current))
-      ∙ filter-same (is_sibling ts w) (is_reached ts w) (beyond ts stop w.current) (λ y i.
-      let among : In y (inclusive_descendants ts stop) =
-      subst (In y) (sym parts) (In-right y (ahead_of ts stop w.current) (tree ++ beyond ts stop w.current)
-      (In-right y tree (beyond ts stop w.current) i)) in
-      let later : In y (behind ts stop w.current) =
-      subst (In y) (sym (behind_is ts stop w.current in_top)) (In-right y (below ts w.current) (beyond ts stop w.current) i) in
-      let other : y ≡ stop → ⊥ = λ same. both_ways _ (behind-outside ts stop w.current y in_top later)
-      (ap (λ z. is_inclusive_ancestor ts z w.current) same ∙ is_in-from stop (inclusive_ancestors ts w.current)
-      (subst (In stop) (sym (above-proper ts w.current b.stands)) (inr top_below.above))) in
-      sibling-reached w (below-other ts stop y itself among other) top_below (behind-outside ts stop w.current y in_top later)
-      (outside-test ts w.current y b.once
-      (λ j. Single-apart y tree (beyond ts stop w.current)
-      (Single-right (ahead_of ts stop w.current) (tree ++ beyond ts stop w.current) single) j i))))))))
-
 -- what stands before the first member that passes a test does not pass it
 found-first : (p : NodeName → Bool) (xs : List NodeName) (d y : NodeName) → In y (items_before name_eq (unwrap_or (find p xs) d) xs) → p y ≡ false
 found-first p [] d y i = absurd i
@@ -204,20 +145,63 @@ stop-within ts w b =
       | inr i ↦ record { once = b.once; top_stands = at_root; stands = below-from_above ts w.root stop b.once at_stop i }
     ]
 
--- ---- the siblings before the current node
-
 module _ (ts : Trees) (w : Walker) (b : IsBelow ts w.root w.current) where
   -- the current node stands below its stop
-  stop_below : IsBelow ts (sibling_top ts w) w.current
-  stop_below = below-stop ts w.filter w.root w.current b
+  top_below : IsBelow ts (sibling_top ts w) w.current
+  top_below = below-stop ts w.filter w.root w.current b
 
   -- and in its tree
-  in_stop : IsWithin ts (sibling_top ts w) w.current
-  in_stop = within-below ts (sibling_top ts w) w.current stop_below
+  in_top : IsWithin ts (sibling_top ts w) w.current
+  in_top = within-below ts (sibling_top ts w) w.current top_below
 
   -- the stop stands in its own tree
-  of_stop : IsWithin ts (sibling_top ts w) (sibling_top ts w)
-  of_stop = within-top ts (sibling_top ts w) w.current in_stop
+  itself : IsWithin ts (sibling_top ts w) (sibling_top ts w)
+  itself = within-top ts (sibling_top ts w) w.current in_top
+
+  -- the current node stands in the root's tree
+  in_root : IsWithin ts w.root w.current
+  in_root = within-below ts w.root w.current b
+
+  -- the stop stands in the tree of the root, where it is a member of a list of accepted or top nodes above the current one
+  root-stop : (ahead_of ts w.root w.current ≡ ahead_of ts w.root (sibling_top ts w) ++ ahead_of ts (sibling_top ts w) w.current)
+      × (beyond ts w.root w.current ≡ beyond ts (sibling_top ts w) w.current ++ beyond ts w.root (sibling_top ts w))
+  root-stop = nested (stop-within ts w b) in_top in_root
+
+  -- among the nodes behind the current one
+  pub siblings-behind : walker_siblings ts w (behind ts w.root w.current) ≡ filter (is_reached ts w) (beyond ts (sibling_top ts w) w.current)
+  siblings-behind =
+      let at = stop-within ts w b in
+      let stop = sibling_top ts w in
+      let tree = inclusive_descendants ts w.current in
+      let parts = splits ts stop w.current in_top in
+      let single : Single (ahead_of ts stop w.current ++ (tree ++ beyond ts stop w.current)) = subst Single parts (all_single ts stop w.current in_top) in
+      let whole : behind ts w.root w.current ≡ below ts w.current ++ (beyond ts stop w.current ++ beyond ts w.root stop) =
+      behind_is ts w.root w.current in_root ∙ ap (λ xs. below ts w.current ++ xs) root-stop.1 in
+      ap (filter (is_sibling ts w)) whole
+      ∙ (filter-append (is_sibling ts w) (below ts w.current) (beyond ts stop w.current ++ beyond ts w.root stop)
+      ∙ (ap (λ xs. xs ++ filter (is_sibling ts w) (beyond ts stop w.current ++ beyond ts w.root stop))
+      (filter-none (is_sibling ts w) (below ts w.current)
+      (λ y i. sibling-inside ts w y (inside-test ts w.current y b.once b.stands (subst (In y) (sym (here ts stop w.current in_top)) (inr i)))))
+      ∙ (filter-append (is_sibling ts w) (beyond ts stop w.current) (beyond ts w.root stop)
+      ∙ (ap (λ xs. filter (is_sibling ts w) (beyond ts stop w.current) ++ xs)
+      (filter-none (is_sibling ts w) (beyond ts w.root stop) (λ y i. sibling-off ts w y (off-below ts stop y itself
+      (λ j. Single-apart y (inclusive_descendants ts stop) (beyond ts w.root stop)
+      (Single-right (ahead_of ts w.root stop) (inclusive_descendants ts stop ++ beyond ts w.root stop)
+      (subst Single (splits ts w.root stop at) (all_single ts w.root stop at))) j i))))
+      ∙ (append-nil (filter (is_sibling ts w) (beyond ts stop w.current))
+      ∙ filter-same (is_sibling ts w) (is_reached ts w) (beyond ts stop w.current) (λ y i.
+      let among : In y (inclusive_descendants ts stop) =
+      subst (In y) (sym parts) (In-right y (ahead_of ts stop w.current) (tree ++ beyond ts stop w.current)
+      (In-right y tree (beyond ts stop w.current) i)) in
+      let later : In y (behind ts stop w.current) =
+      subst (In y) (sym (behind_is ts stop w.current in_top)) (In-right y (below ts w.current) (beyond ts stop w.current) i) in
+      let other : y ≡ stop → ⊥ = λ same. both_ways _ (behind-outside ts stop w.current y in_top later)
+      (ap (λ z. is_inclusive_ancestor ts z w.current) same ∙ is_in-from stop (inclusive_ancestors ts w.current)
+      (subst (In stop) (sym (above-proper ts w.current b.stands)) (inr top_below.above))) in
+      sibling-reached w (below-other ts stop y itself among other) top_below (behind-outside ts stop w.current y in_top later)
+      (outside-test ts w.current y b.once
+      (λ j. Single-apart y tree (beyond ts stop w.current)
+      (Single-right (ahead_of ts stop w.current) (tree ++ beyond ts stop w.current) single) j i))))))))
 
   -- a node above the current one and below the stop is not accepted
   above-unaccepted : (y : NodeName) → IsBelow ts (sibling_top ts w) y → (y ≡ w.current → ⊥) → In y (inclusive_ancestors ts w.current) →
@@ -225,7 +209,7 @@ module _ (ts : Trees) (w : Walker) (b : IsBelow ts w.root w.current) where
   above-unaccepted y below_y other i =
       let proper : In y (ancestors ts w.current) = elim (subst (In y) (above-proper ts w.current b.stands) i) [ inl same ↦ absurd (other same) | inr j ↦ j ] in
       elim (In-parts y (between ts (sibling_top ts w) w.current) (inclusive_ancestors ts (sibling_top ts w))
-      (subst (In y) (proper-split ts (sibling_top ts w) w.current stop_below) proper)) [
+      (subst (In y) (proper-split ts (sibling_top ts w) w.current top_below) proper)) [
         | inl j ↦ (or_parts (accepts ts w.filter y) _ (before-stop ts w y j)).0
         | inr j ↦ absurd (not_around ts y below_y.once below_y.stands (sibling_top ts w) below_y.above j)
       ]
@@ -241,7 +225,7 @@ module _ (ts : Trees) (w : Walker) (b : IsBelow ts w.root w.current) where
       other same = not_before w.current (inclusive_descendants ts (sibling_top ts w)) (subst (λ z. In z (ahead_of ts (sibling_top ts w) w.current)) same i)
 
       down : is_inclusive_ancestor ts w.current y ≡ false
-      down = outside-test ts w.current y b.once (ahead-apart y in_stop i)
+      down = outside-test ts w.current y b.once (ahead-apart y in_top i)
 
       apart : IsBelow ts (sibling_top ts w) y → (y ≡ sibling_top ts w → ⊥) → (is_inclusive_ancestor ts y w.current ≡ true) ⊎
           (is_inclusive_ancestor ts y w.current ≡ false) → is_sibling ts w y ≡ is_candidate ts w (sibling_top ts w) y
@@ -249,7 +233,7 @@ module _ (ts : Trees) (w : Walker) (b : IsBelow ts w.root w.current) where
           let no_y = above-unaccepted y below_y other (In-from y (inclusive_ancestors ts w.current) up) in
           and_left (accepts ts w.filter y) _ no_y ∙ sym (and_left (is_reached ts w y) _ (and_left (accepts ts w.filter y) _ no_y))
       apart below_y not_stop (inr up) =
-          sibling-reached w below_y stop_below up down ∙
+          sibling-reached w below_y top_below up down ∙
           sym (ap (λ t. is_reached ts w y && not t) (name_eq-other y (sibling_top ts w) not_stop) ∙ and_true (is_reached ts w y))
         where
           and_true : (t : Bool) → (t && true) ≡ t
@@ -259,10 +243,10 @@ module _ (ts : Trees) (w : Walker) (b : IsBelow ts w.root w.current) where
       by : (y ≡ sibling_top ts w) ⊎ (y ≡ sibling_top ts w → ⊥) → is_sibling ts w y ≡ is_candidate ts w (sibling_top ts w) y
       by (inl same) =
           sibling-off ts w y (is_in-not (sibling_top ts w) (ancestors ts y)
-          (λ j. not_above_itself ts (sibling_top ts w) b.once (stands_in ts (sibling_top ts w) (sibling_top ts w) of_stop)
+          (λ j. not_above_itself ts (sibling_top ts w) b.once (stands_in ts (sibling_top ts w) (sibling_top ts w) itself)
           (subst (λ z. In (sibling_top ts w) (ancestors ts z)) same j)))
           ∙ sym (and_right (is_reached ts w y) _ (ap not (name_eq-from y (sibling_top ts w) same)))
-      by (inr not_stop) = apart (below-other ts (sibling_top ts w) y of_stop among not_stop) not_stop (cases_Bool (is_inclusive_ancestor ts y w.current))
+      by (inr not_stop) = apart (below-other ts (sibling_top ts w) y itself among not_stop) not_stop (cases_Bool (is_inclusive_ancestor ts y w.current))
 
   -- among the nodes before the current one
   pub siblings-ahead : walker_siblings ts w (ahead_of ts w.root w.current) ≡ filter (is_candidate ts w (sibling_top ts w))
@@ -270,9 +254,9 @@ module _ (ts : Trees) (w : Walker) (b : IsBelow ts w.root w.current) where
   siblings-ahead =
       let stop = sibling_top ts w in
       let at = stop-within ts w b in
-      ap (filter (is_sibling ts w)) (root-stop ts w b at).0
+      ap (filter (is_sibling ts w)) root-stop.0
       ∙ (filter-append (is_sibling ts w) (ahead_of ts w.root stop) (ahead_of ts stop w.current)
       ∙ (ap (λ xs. xs ++ filter (is_sibling ts w) (ahead_of ts stop w.current))
       (filter-none (is_sibling ts w) (ahead_of ts w.root stop)
-      (λ y i. sibling-off ts w y (off-below ts stop y of_stop (ahead-apart y at i))))
+      (λ y i. sibling-off ts w y (off-below ts stop y itself (ahead-apart y at i))))
       ∙ filter-same (is_sibling ts w) (is_candidate ts w stop) (ahead_of ts stop w.current) sibling-candidate))

@@ -80,6 +80,16 @@ module _ (q r : Inside) {all : AllCursors} (o : Owner) (t : KeyedTables) (view :
   written-none off new at =
       written at ∙ with-same (cursors_of all) o t (had-none q all o view off ∙ sym new)
 
+-- the same where the map was changed before, and the cursors are as they were
+module _ (q : Inside) {all : AllCursors} (old : AllCursors) (o : Owner) (view : q.tables.entries ≡ all) (keeps : cursors_of all ≡ cursors_of old) where
+  pub had-kept : {t : KeyedTables} → Some t ≡ get OwnerImpl.ghosts.eq q.tables o → cursors_of old o ≡ t
+  had-kept {t} there = ap (λ each. each o) (sym keeps) ∙ had q all o t view there
+
+  pub written-kept : (r : Inside) (t : KeyedTables) →
+      ((p : Owner) → get OwnerImpl.ghosts.eq r.tables p ≡ cond (OwnerImpl.ghosts.eq o p) (Some t) (get OwnerImpl.ghosts.eq q.tables p)) →
+      cursors_of r.tables.entries ≡ with_cursors (cursors_of old) o t
+  written-kept r t at = written q r o t view at ∙ ap (λ each. with_cursors each o t) keeps
+
 -- what is not there
 pub none_from : {X : Type 0} (o : Option X) → is_some o ≡ false → o ≡ None
 none_from None e = refl

@@ -1,12 +1,14 @@
 -- What a contract sees of an `Iter`: a node iterator with keys in place of names.
-use Rattle.std.specs.Prelude.{◌≡◌, ℕ, ◌<◌, Bool, false, List, filter, length, Option, Some, None, option_map}
+use Rattle.std.specs.Prelude.{◌≡◌, ℕ, ◌<◌, Bool, true, false, List, filter, length, Option, Some, None, option_map}
 use Rattle.dom_base.specs.declared.NodeName.{NodeName}
 use Rattle.dom_model.specs.Command.{Filter}
-use Rattle.dom_model.specs.Traversal.{Iterator, nodes_ahead, accepts}
-use Rattle.dom_model.specs.Tree.{is_inclusive_ancestor}
+use Rattle.dom_model.specs.Traversal.{Iterator, nodes_ahead, accepts, iterator_next_node, iterator_previous_node}
+use Rattle.dom_model.specs.Tree.{Trees, is_inclusive_ancestor}
 use Rattle.dom_model.specs.TreeChanges.{taken_out, placed}
 use Rattle.dom_tree.specs.Forest.{NamedTrees, name_at}
 use Rattle.dom_tree.specs.Within.{StandsIn}
+use Rattle.dom_traversal.specs.declared.iter.Direction.{Direction}
+use Rattle.dom_traversal.specs.declared.iter.Direction.TheVariants.{Next, Previous}
 
 -- an iterator by keys
 pub record KeyedIterator : Type 0 where
@@ -28,6 +30,16 @@ pub record IsIteratorOf (f : NamedTrees) (i : KeyedIterator) : Type 0 where
 abbrev pub iterator_at : KeyedIterator → Bool → Option ℕ → KeyedIterator
 iterator_at i before None = i
 iterator_at i before (Some k) = record i { reference = k; before = before }
+
+-- the node that an iterator comes to in a direction, if there is one (DOM Standard, interface NodeIterator)
+abbrev pub iterator_found : Direction → Trees → Iterator → Option NodeName
+iterator_found Next ts i = iterator_next_node ts i
+iterator_found Previous ts i = iterator_previous_node ts i
+
+-- whether the iterator stands before that node then
+abbrev pub stands_before : Direction → Bool
+stands_before Next = false
+stands_before Previous = true
 
 -- the accepted nodes of the root's tree behind the iterator
 abbrev pub iterator_rest : NamedTrees → KeyedIterator → List NodeName

@@ -8,12 +8,13 @@ ghost use Rattle.dom_model.specs.Names.{owner_eq};
 ghost use Rattle.dom_model.specs.Traversal.{iterator_next_node, iterator_previous_node, walker_move};
 ghost use Rattle.dom_tree.specs.Forest.{IsNode, name_of};
 ghost use Rattle.dom_traversal.specs.Filters.{filter_of};
-ghost use Rattle.dom_traversal.specs.Iterators.{iterator_view, iterator_at, IsIteratorOf};
+ghost use Rattle.dom_traversal.specs.Iterators.{iterator_view, iterator_at, IsIteratorOf, iterator_found, stands_before};
 ghost use Rattle.dom_traversal.specs.Walkers.{walker_view, walker_at, IsWalkerOf};
 ghost use Rattle.dom_traversal.specs.OwnTables.{EachItem, AreLeft, no_keyed_tables};
 ghost use Rattle.dom_traversal.specs.Cursors.{cursors_of, with_cursors};
 
 use crate::Filter;
+use crate::iter::Direction;
 use crate::tables::OwnTables;
 use dom_base::{Fault, Move, Owner};
 use dom_tree::Forest;
@@ -146,10 +147,7 @@ impl Cursors {
             { iterators = slice_set (cursors_of self.old owner).iterators number (iterator_at i false result) })) }
         ensures kept { ForSome (slice_get (cursors_of self.old owner).iterators number) (λ i. IsIteratorOf forest.now (iterator_at i false result)) }
     {
-        let Some(tables) = self.tables.get_mut(&owner) else {
-            unreachable!()
-        };
-        tables.iter_next(forest, number)
+        self.traverse(owner, forest, number, Direction::Next)
     }
 
     /// Moves an owner's iterator back, and answers the node that it comes to, if there is one (DOM Standard, previousNode).
@@ -163,10 +161,31 @@ impl Cursors {
             { iterators = slice_set (cursors_of self.old owner).iterators number (iterator_at i true result) })) }
         ensures kept { ForSome (slice_get (cursors_of self.old owner).iterators number) (λ i. IsIteratorOf forest.now (iterator_at i true result)) }
     {
+        self.traverse(owner, forest, number, Direction::Previous)
+    }
+
+    /// Moves an owner's iterator on or back (DOM Standard, interface NodeIterator).
+    fn traverse(
+        &mut self,
+        owner: Owner,
+        forest: &Forest,
+        number: u32,
+        direction: Direction,
+    ) -> Option<Key>
+        requires there { is_some (slice_get (cursors_of self.old owner).iterators number) ≡ true }
+        requires iterators { EachItem (IsIteratorOf forest.now) (cursors_of self.old owner).iterators }
+        ensures value { ForSome (slice_get (cursors_of self.old owner).iterators number)
+            (λ i. option_map (name_of forest.now) result ≡ iterator_found direction forest.now.trees (iterator_view forest.now.names i)) }
+        ensures state { ForSome (slice_get (cursors_of self.old owner).iterators number)
+            (λ i. cursors_of self.new ≡ with_cursors (cursors_of self.old) owner (record (cursors_of self.old owner)
+            { iterators = slice_set (cursors_of self.old owner).iterators number (iterator_at i (stands_before direction) result) })) }
+        ensures kept { ForSome (slice_get (cursors_of self.old owner).iterators number)
+            (λ i. IsIteratorOf forest.now (iterator_at i (stands_before direction) result)) }
+    {
         let Some(tables) = self.tables.get_mut(&owner) else {
             unreachable!()
         };
-        tables.iter_previous(forest, number)
+        tables.traverse(forest, number, direction)
     }
 
     /// Where an owner's iterator stands: its reference, and whether it stands before that one (DOM Standard, referenceNode

@@ -17,6 +17,13 @@ use dom_tree::Forest;
 use node_arena::Key;
 use std::marker::Model;
 
+/// The direction in which an iterator is traversed (DOM Standard, interface NodeIterator).
+#[derive(Clone, Copy)]
+pub(crate) enum Direction {
+    Next,
+    Previous,
+}
+
 /// An iterator over the nodes of the tree of a root, in tree order (DOM Standard, interface NodeIterator). It stands just
 /// before or just behind a node, its reference.
 #[derive(Drop)]

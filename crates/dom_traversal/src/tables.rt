@@ -3,14 +3,15 @@ ghost use Rattle.std.specs.Prelude.{◌≡◌, ℕ, ◌≤◌, ◌↔◌, ◌⊎
 ghost use Rattle.std.specs.Prelude.{◌<◌, Some};
 ghost use Rattle.std.specs.Option.{option_map, ForSome};
 ghost use Rattle.dom_base.specs.declared.Refusal.TheVariants.{Limit};
-ghost use Rattle.dom_model.specs.Traversal.{iterator_next_node, iterator_previous_node, walker_move};
+ghost use Rattle.dom_model.specs.Traversal.{walker_move};
 ghost use Rattle.dom_tree.specs.Forest.{IsNode, name_of};
 ghost use Rattle.dom_traversal.specs.Filters.{filter_of};
-ghost use Rattle.dom_traversal.specs.Iterators.{KeyedIterator, iterator_view, iterator_at, IsIteratorOf};
+ghost use Rattle.dom_traversal.specs.Iterators.{KeyedIterator, iterator_view, iterator_at, IsIteratorOf, iterator_found, stands_before};
 ghost use Rattle.dom_traversal.specs.Walkers.{walker_view, walker_at, IsWalkerOf};
 ghost use Rattle.dom_traversal.specs.OwnTables.{EachItem, AreLeft, IsLeftIf, no_keyed_tables};
 ghost use Rattle.dom_traversal.specs.References.{MayHaveLeft};
 
+use crate::iter::Direction;
 use crate::references::{Reference, bring, list, number_at};
 use crate::{Filter, Iter, Walker};
 use dom_base::{Fault, MAX_NODES, Move, Refusal};
@@ -172,37 +173,24 @@ impl OwnTables {
         bring(&mut self.references, number, from, to);
     }
 
-    /// Moves an iterator on.
-    pub(crate) fn iter_next(&mut self, forest: &Forest, number: u32) -> Option<Key>
+    /// Moves an iterator on or back.
+    pub(crate) fn traverse(
+        &mut self,
+        forest: &Forest,
+        number: u32,
+        direction: Direction,
+    ) -> Option<Key>
         requires there { is_some (slice_get self.old.iterators number) ≡ true }
         requires iterators { EachItem (IsIteratorOf forest.now) self.old.iterators }
         ensures value { ForSome (slice_get self.old.iterators number)
-            (λ i. option_map (name_of forest.now) result ≡ iterator_next_node forest.now.trees (iterator_view forest.now.names i)) }
+            (λ i. option_map (name_of forest.now) result ≡ iterator_found direction forest.now.trees (iterator_view forest.now.names i)) }
         ensures state { ForSome (slice_get self.old.iterators number)
-            (λ i. self.new ≡ record self.old { iterators = slice_set self.old.iterators number (iterator_at i false result) }) }
-        ensures kept { ForSome (slice_get self.old.iterators number) (λ i. IsIteratorOf forest.now (iterator_at i false result)) }
+            (λ i. self.new ≡ record self.old { iterators = slice_set self.old.iterators number (iterator_at i (stands_before direction) result) }) }
+        ensures kept { ForSome (slice_get self.old.iterators number) (λ i. IsIteratorOf forest.now (iterator_at i (stands_before direction) result)) }
     {
         let iterator = &mut self.iterators[number as usize];
         let (from, _) = iterator.at();
-        let found = iterator.next(forest);
-        let (to, _) = iterator.at();
-        bring(&mut self.references, number as usize, from, to);
-        found
-    }
-
-    /// Moves an iterator back.
-    pub(crate) fn iter_previous(&mut self, forest: &Forest, number: u32) -> Option<Key>
-        requires there { is_some (slice_get self.old.iterators number) ≡ true }
-        requires iterators { EachItem (IsIteratorOf forest.now) self.old.iterators }
-        ensures value { ForSome (slice_get self.old.iterators number)
-            (λ i. option_map (name_of forest.now) result ≡ iterator_previous_node forest.now.trees (iterator_view forest.now.names i)) }
-        ensures state { ForSome (slice_get self.old.iterators number)
-            (λ i. self.new ≡ record self.old { iterators = slice_set self.old.iterators number (iterator_at i true result) }) }
-        ensures kept { ForSome (slice_get self.old.iterators number) (λ i. IsIteratorOf forest.now (iterator_at i true result)) }
-    {
-        let iterator = &mut self.iterators[number as usize];
-        let (from, _) = iterator.at();
-        let found = iterator.previous(forest);
+        let found = traverse(iterator, forest, direction);
         let (to, _) = iterator.at();
         bring(&mut self.references, number as usize, from, to);
         found
@@ -246,6 +234,19 @@ impl OwnTables {
     {
         let walker = &mut self.walkers[number as usize];
         walker.set(current);
+    }
+}
+
+/// Moves an iterator on or back.
+fn traverse(iterator: &mut Iter, forest: &Forest, direction: Direction) -> Option<Key>
+    requires { IsIteratorOf forest.now iterator.old }
+    ensures value { option_map (name_of forest.now) result ≡ iterator_found direction forest.now.trees (iterator_view forest.now.names iterator.old) }
+    ensures state { iterator.new ≡ iterator_at iterator.old (stands_before direction) result }
+    ensures kept { IsIteratorOf forest.now iterator.new }
+{
+    match direction {
+        Direction::Next => iterator.next(forest),
+        Direction::Previous => iterator.previous(forest),
     }
 }
 

@@ -7,29 +7,12 @@ use Rattle.dom_traversal.proofs.filter.Filter.aback.Goals as goal
 pub up-init : goal.up-init
 up-init c = Aback-begin c.args.forest.now (filter_of c.args.self.now) c.args.top c.args.key c.requires.below
 
-pub returns-then-is_some-clause-value : goal.returns-then-is_some-clause-value
-returns-then-is_some-clause-value c =
-    (back_found c.args.forest.now c.law_nodes_stand_once.ensures.once c.law_nodes_stand_once.ensures.only (filter_of c.args.self.now) c.args.top
-    c.args.key c.up.at c.up.invariant c.prev-previous.result c.prev-previous.ensures.value c.prev-previous.ensures.node
-    (sym c.if-is_some.ensures)).value
-
-pub returns-then-is_some-clause-below : goal.returns-then-is_some-clause-below
-returns-then-is_some-clause-below c =
-    (back_found c.args.forest.now c.law_nodes_stand_once.ensures.once c.law_nodes_stand_once.ensures.only (filter_of c.args.self.now) c.args.top
-    c.args.key c.up.at c.up.invariant c.prev-previous.result c.prev-previous.ensures.value c.prev-previous.ensures.node
-    (sym c.if-is_some.ensures)).below
-
-pub returns-then-is_some-clause-stop : goal.returns-then-is_some-clause-stop
-returns-then-is_some-clause-stop c =
-    (back_found c.args.forest.now c.law_nodes_stand_once.ensures.once c.law_nodes_stand_once.ensures.only (filter_of c.args.self.now) c.args.top
-    c.args.key c.up.at c.up.invariant c.prev-previous.result c.prev-previous.ensures.value c.prev-previous.ensures.node
-    (sym c.if-is_some.ensures)).stop
-
-pub returns-then-is_some-clause-path : goal.returns-then-is_some-clause-path
-returns-then-is_some-clause-path c =
-    (back_found c.args.forest.now c.law_nodes_stand_once.ensures.once c.law_nodes_stand_once.ensures.only (filter_of c.args.self.now) c.args.top
-    c.args.key c.up.at c.up.invariant c.prev-previous.result c.prev-previous.ensures.value c.prev-previous.ensures.node
-    (sym c.if-is_some.ensures)).path
+pub returns-then-is_some : goal.returns-then-is_some
+returns-then-is_some c =
+    let found = back_found c.args.forest.now c.law_nodes_stand_once.ensures.once c.law_nodes_stand_once.ensures.only (filter_of c.args.self.now)
+    c.args.top c.args.key c.up.at c.up.invariant c.prev-previous.result c.prev-previous.ensures.value c.prev-previous.ensures.node
+    (sym c.if-is_some.ensures) in
+    record { value = found.value; below = found.below; stop = found.stop; path = found.path }
 
 pub returns-in_err-parent-clause-value : goal.returns-in_err-parent-clause-value
 returns-in_err-parent-clause-value c =

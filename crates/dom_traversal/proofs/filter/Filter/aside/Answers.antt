@@ -4,22 +4,11 @@ use Rattle.dom_traversal.specs.Filters.{filter_of}
 use Rattle.dom_traversal.proofs.Aside.{follows_next, no_parent_below, rises, rises_beyond, ends_beyond}
 use Rattle.dom_traversal.proofs.filter.Filter.aside.Goals as goal
 
-pub returns-then-is_some-clause-value : goal.returns-then-is_some-clause-value
-returns-then-is_some-clause-value c =
-    (follows_next c.args.forest.now c.law_nodes_stand_once.ensures.once c.law_nodes_stand_once.ensures.only (filter_of c.args.self.now) c.args.top c.up.at
-    c.up.invariant.below c.next-next.result c.next-next.ensures.value c.next-next.ensures.node (sym c.if-is_some.ensures)).value
-    ∙ ap first_of c.up.invariant.left
-
-pub returns-then-is_some-clause-below : goal.returns-then-is_some-clause-below
-returns-then-is_some-clause-below c =
-    (follows_next c.args.forest.now c.law_nodes_stand_once.ensures.once c.law_nodes_stand_once.ensures.only (filter_of c.args.self.now) c.args.top c.up.at
-    c.up.invariant.below c.next-next.result c.next-next.ensures.value c.next-next.ensures.node (sym c.if-is_some.ensures)).below
-
-pub returns-then-is_some-clause-stop : goal.returns-then-is_some-clause-stop
-returns-then-is_some-clause-stop c = λ j e.
-    (follows_next c.args.forest.now c.law_nodes_stand_once.ensures.once c.law_nodes_stand_once.ensures.only (filter_of c.args.self.now) c.args.top c.up.at
-    c.up.invariant.below c.next-next.result c.next-next.ensures.value c.next-next.ensures.node (sym c.if-is_some.ensures)).stop j e
-    ∙ c.up.invariant.stop
+pub returns-then-is_some : goal.returns-then-is_some
+returns-then-is_some c =
+    let found = follows_next c.args.forest.now c.law_nodes_stand_once.ensures.once c.law_nodes_stand_once.ensures.only (filter_of c.args.self.now)
+    c.args.top c.up.at c.up.invariant.below c.next-next.result c.next-next.ensures.value c.next-next.ensures.node (sym c.if-is_some.ensures) in
+    record { value = found.value ∙ ap first_of c.up.invariant.left; below = found.below; stop = λ j e. found.stop j e ∙ c.up.invariant.stop }
 
 pub returns-in_err-parent-clause-value : goal.returns-in_err-parent-clause-value
 returns-in_err-parent-clause-value c =

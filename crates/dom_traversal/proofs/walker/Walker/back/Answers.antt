@@ -17,44 +17,21 @@ returns-then-eq-clause-value c =
     (steps_root f c.law_nodes_stand_once.ensures.once c.law_nodes_stand_once.ensures.only c.args.self.now c.args.key c.requires.comes
     (ap (name_at f.names) (eqb-true c.args.key c.self.inside.root (sym c.if-eq.ensures) ∙ root))).value
 
-pub returns-in_default-clause-value : goal.returns-in_default-clause-value
-returns-in_default-clause-value c =
+pub returns-in_default : goal.returns-in_default
+returns-in_default c =
     let f = c.args.forest.now in
-    let w : KeyedWalker = record { root = c.self.inside.root; current = c.self.inside.current; filter = filter_of c.self.inside.filter } in
     let placed = subst (IsWalkerOf f) (sym c.self.view_is) c.requires.walker in
     let comes = subst (λ (v : KeyedWalker). ComesBack f v c.args.key) (sym c.self.view_is) c.requires.comes in
     let other = other_key f c.law_nodes_stand_once.ensures.distinct c.args.key c.self.inside.root comes.stands.node placed.root (sym c.if-eq.ensures) in
     let previous = sym c.prev.ensures.value ∙ ap (option_map (name_at f.names)) (none_left c.prev.result c.in_default.not-Some) in
-    (subst (λ (v : KeyedWalker). StepsBack f v c.args.key c.parent.result) c.self.view_is
-    (steps_parent f c.law_nodes_stand_once.ensures.once c.law_nodes_stand_once.ensures.only w c.args.key comes other c.parent.result
-    c.parent.ensures.value c.parent.ensures.node previous)).value
+    let step = subst (λ (v : KeyedWalker). StepsBack f v c.args.key c.parent.result) c.self.view_is
+    (steps_parent f c.law_nodes_stand_once.ensures.once c.law_nodes_stand_once.ensures.only
+    record { root = c.self.inside.root; current = c.self.inside.current; filter = filter_of c.self.inside.filter } c.args.key comes other c.parent.result
+    c.parent.ensures.value c.parent.ensures.node previous) in
+    record { value = step.value; comes = step.comes; shorter = step.shorter }
 
-pub returns-in_default-clause-comes : goal.returns-in_default-clause-comes
-returns-in_default-clause-comes c =
-    let f = c.args.forest.now in
-    let w : KeyedWalker = record { root = c.self.inside.root; current = c.self.inside.current; filter = filter_of c.self.inside.filter } in
-    let placed = subst (IsWalkerOf f) (sym c.self.view_is) c.requires.walker in
-    let comes = subst (λ (v : KeyedWalker). ComesBack f v c.args.key) (sym c.self.view_is) c.requires.comes in
-    let other = other_key f c.law_nodes_stand_once.ensures.distinct c.args.key c.self.inside.root comes.stands.node placed.root (sym c.if-eq.ensures) in
-    let previous = sym c.prev.ensures.value ∙ ap (option_map (name_at f.names)) (none_left c.prev.result c.in_default.not-Some) in
-    (subst (λ (v : KeyedWalker). StepsBack f v c.args.key c.parent.result) c.self.view_is
-    (steps_parent f c.law_nodes_stand_once.ensures.once c.law_nodes_stand_once.ensures.only w c.args.key comes other c.parent.result
-    c.parent.ensures.value c.parent.ensures.node previous)).comes
-
-pub returns-in_default-clause-shorter : goal.returns-in_default-clause-shorter
-returns-in_default-clause-shorter c =
-    let f = c.args.forest.now in
-    let w : KeyedWalker = record { root = c.self.inside.root; current = c.self.inside.current; filter = filter_of c.self.inside.filter } in
-    let placed = subst (IsWalkerOf f) (sym c.self.view_is) c.requires.walker in
-    let comes = subst (λ (v : KeyedWalker). ComesBack f v c.args.key) (sym c.self.view_is) c.requires.comes in
-    let other = other_key f c.law_nodes_stand_once.ensures.distinct c.args.key c.self.inside.root comes.stands.node placed.root (sym c.if-eq.ensures) in
-    let previous = sym c.prev.ensures.value ∙ ap (option_map (name_at f.names)) (none_left c.prev.result c.in_default.not-Some) in
-    (subst (λ (v : KeyedWalker). StepsBack f v c.args.key c.parent.result) c.self.view_is
-    (steps_parent f c.law_nodes_stand_once.ensures.once c.law_nodes_stand_once.ensures.only w c.args.key comes other c.parent.result
-    c.parent.ensures.value c.parent.ensures.node previous)).shorter
-
-pub returns-clause-value : goal.returns-clause-value
-returns-clause-value c =
+pub returns : goal.returns
+returns c =
     let f = c.args.forest.now in
     let w : KeyedWalker = record { root = c.self.inside.root; current = c.self.inside.current; filter = filter_of c.self.inside.filter } in
     let placed = subst (IsWalkerOf f) (sym c.self.view_is) c.requires.walker in
@@ -69,46 +46,7 @@ returns-clause-value c =
       ends = c.lowest.ensures.ends;
       path = c.lowest.ensures.path;
     } in
-    (subst (λ (v : KeyedWalker). StepsBack f v c.args.key (Some c.lowest.result)) c.self.view_is
+    let step = subst (λ (v : KeyedWalker). StepsBack f v c.args.key (Some c.lowest.result)) c.self.view_is
     (steps_sibling f c.law_nodes_stand_once.ensures.once c.law_nodes_stand_once.ensures.only w c.args.key comes other c.in-Some.ensures.value
-    placed.current low)).value
-
-pub returns-clause-comes : goal.returns-clause-comes
-returns-clause-comes c =
-    let f = c.args.forest.now in
-    let w : KeyedWalker = record { root = c.self.inside.root; current = c.self.inside.current; filter = filter_of c.self.inside.filter } in
-    let placed = subst (IsWalkerOf f) (sym c.self.view_is) c.requires.walker in
-    let comes = subst (λ (v : KeyedWalker). ComesBack f v c.args.key) (sym c.self.view_is) c.requires.comes in
-    let other = other_key f c.law_nodes_stand_once.ensures.distinct c.args.key c.self.inside.root comes.stands.node placed.root (sym c.if-eq.ensures) in
-    let inner : IsInner f c.self.inside.root c.args.key =
-    record { once = c.law_nodes_stand_once.ensures.once; only = c.law_nodes_stand_once.ensures.only; stands = comes.stands; other = other } in
-    let sibling = sibling-stands c.in-Some.sibling inner (c.in-Some.ensures.node c.in-Some.sibling refl) c.in-Some.ensures.value in
-    let low : IsLowest f w c.in-Some.sibling c.lowest.result = record {
-      stands = record { node = c.lowest.ensures.node; within = c.lowest.ensures.within (name_at f.names c.self.inside.root) sibling.within };
-      tree = c.lowest.ensures.tree (name_at f.names c.self.inside.root) sibling.within;
-      ends = c.lowest.ensures.ends;
-      path = c.lowest.ensures.path;
-    } in
-    (subst (λ (v : KeyedWalker). StepsBack f v c.args.key (Some c.lowest.result)) c.self.view_is
-    (steps_sibling f c.law_nodes_stand_once.ensures.once c.law_nodes_stand_once.ensures.only w c.args.key comes other c.in-Some.ensures.value
-    placed.current low)).comes
-
-pub returns-clause-shorter : goal.returns-clause-shorter
-returns-clause-shorter c =
-    let f = c.args.forest.now in
-    let w : KeyedWalker = record { root = c.self.inside.root; current = c.self.inside.current; filter = filter_of c.self.inside.filter } in
-    let placed = subst (IsWalkerOf f) (sym c.self.view_is) c.requires.walker in
-    let comes = subst (λ (v : KeyedWalker). ComesBack f v c.args.key) (sym c.self.view_is) c.requires.comes in
-    let other = other_key f c.law_nodes_stand_once.ensures.distinct c.args.key c.self.inside.root comes.stands.node placed.root (sym c.if-eq.ensures) in
-    let inner : IsInner f c.self.inside.root c.args.key =
-    record { once = c.law_nodes_stand_once.ensures.once; only = c.law_nodes_stand_once.ensures.only; stands = comes.stands; other = other } in
-    let sibling = sibling-stands c.in-Some.sibling inner (c.in-Some.ensures.node c.in-Some.sibling refl) c.in-Some.ensures.value in
-    let low : IsLowest f w c.in-Some.sibling c.lowest.result = record {
-      stands = record { node = c.lowest.ensures.node; within = c.lowest.ensures.within (name_at f.names c.self.inside.root) sibling.within };
-      tree = c.lowest.ensures.tree (name_at f.names c.self.inside.root) sibling.within;
-      ends = c.lowest.ensures.ends;
-      path = c.lowest.ensures.path;
-    } in
-    (subst (λ (v : KeyedWalker). StepsBack f v c.args.key (Some c.lowest.result)) c.self.view_is
-    (steps_sibling f c.law_nodes_stand_once.ensures.once c.law_nodes_stand_once.ensures.only w c.args.key comes other
-    c.in-Some.ensures.value placed.current low)).shorter
+    placed.current low) in
+    record { value = step.value; comes = step.comes; shorter = step.shorter }

@@ -8,9 +8,8 @@ use Rattle.dom_tree.specs.Forest.{name_at}
 use Rattle.dom_traversal.specs.Filters.{filter_of}
 use Rattle.dom_traversal.specs.Walkers.{KeyedWalker, walker_view, is_reached, stop_of, IsWalkerOf, BeginsForward}
 use Rattle.dom_laws.specs.Within.{from_node}
-use Rattle.dom_tree.specs.Within.{StandsIn}
 use Rattle.dom_laws.proofs.Steps.{within-itself}
-use Rattle.dom_tree.proofs.Searching.{IsWithin-key}
+use Rattle.dom_traversal.proofs.Climbing.{walker-within}
 use Rattle.dom_traversal.proofs.Beginning.{Begins-child, First-found}
 use Rattle.dom_traversal.proofs.walker.Walker.first_node.Goals as goal
 
@@ -19,8 +18,7 @@ first_reached-requires-clause-begins c =
     let f = c.args.forest.now in
     let w : KeyedWalker = record { root = c.self.inside.root; current = c.self.inside.current; filter = filter_of c.self.inside.filter } in
     let placed = subst (IsWalkerOf f) (sym c.self.view_is) c.requires in
-    let stands : StandsIn f c.self.inside.root c.self.inside.current = record { node = placed.current; within = sym c.if-not-is_inclusive_ancestor.ensures } in
-    let at = IsWithin-key f c.law_nodes_stand_once.ensures.once c.law_nodes_stand_once.ensures.only c.self.inside.root c.self.inside.current stands in
+    let at = walker-within c.law_nodes_stand_once.ensures.once c.law_nodes_stand_once.ensures.only placed (sym c.if-not-is_inclusive_ancestor.ensures) in
     subst (λ (v : KeyedWalker). ForSome c.first.result (BeginsForward f v c.self.inside.current)) c.self.view_is
     (Begins-child f w (within-itself f.trees (name_at f.names c.self.inside.root) (name_at f.names c.self.inside.current) at) c.first.result
     c.first.ensures.value c.first.ensures.node)
@@ -30,8 +28,7 @@ returns-clause-value c =
     let f = c.args.forest.now in
     let w : KeyedWalker = record { root = c.self.inside.root; current = c.self.inside.current; filter = filter_of c.self.inside.filter } in
     let placed = subst (IsWalkerOf f) (sym c.self.view_is) c.requires in
-    let stands : StandsIn f c.self.inside.root c.self.inside.current = record { node = placed.current; within = sym c.if-not-is_inclusive_ancestor.ensures } in
-    let at = IsWithin-key f c.law_nodes_stand_once.ensures.once c.law_nodes_stand_once.ensures.only c.self.inside.root c.self.inside.current stands in
+    let at = walker-within c.law_nodes_stand_once.ensures.once c.law_nodes_stand_once.ensures.only placed (sym c.if-not-is_inclusive_ancestor.ensures) in
     let child = option_map (name_at f.names) c.first.result in
     let found = subst (λ (v : KeyedWalker). option_map (name_at f.names) c.first_reached.result ≡ first_of
     (filter (is_reached f.trees (walker_view f.names v))

@@ -8,9 +8,8 @@ use Rattle.dom_tree.specs.Forest.{name_at}
 use Rattle.dom_traversal.specs.Filters.{filter_of}
 use Rattle.dom_traversal.specs.Walkers.{KeyedWalker, walker_view, is_candidate, stop_of, IsWalkerOf, BeginsBackward}
 use Rattle.dom_laws.specs.Within.{up_to_tree}
-use Rattle.dom_tree.specs.Within.{StandsIn}
 use Rattle.dom_laws.proofs.Steps.{within-itself}
-use Rattle.dom_tree.proofs.Searching.{IsWithin-key}
+use Rattle.dom_traversal.proofs.Climbing.{walker-within}
 use Rattle.dom_traversal.proofs.BeginningBack.{Begins-last, Last-found}
 use Rattle.dom_traversal.proofs.walker.Walker.last_node.Goals as goal
 
@@ -19,8 +18,7 @@ last_reached-requires-clause-begins c =
     let f = c.args.forest.now in
     let w : KeyedWalker = record { root = c.self.inside.root; current = c.self.inside.current; filter = filter_of c.self.inside.filter } in
     let placed = subst (IsWalkerOf f) (sym c.self.view_is) c.requires in
-    let stands : StandsIn f c.self.inside.root c.self.inside.current = record { node = placed.current; within = sym c.if-not-is_inclusive_ancestor.ensures } in
-    let at = IsWithin-key f c.law_nodes_stand_once.ensures.once c.law_nodes_stand_once.ensures.only c.self.inside.root c.self.inside.current stands in
+    let at = walker-within c.law_nodes_stand_once.ensures.once c.law_nodes_stand_once.ensures.only placed (sym c.if-not-is_inclusive_ancestor.ensures) in
     subst (λ (v : KeyedWalker). ForSome c.last.result (BeginsBackward f v c.self.inside.current)) c.self.view_is
     (Begins-last f w (within-itself f.trees (name_at f.names c.self.inside.root) (name_at f.names c.self.inside.current) at) c.last.result
     c.last.ensures.value c.last.ensures.node)
@@ -30,8 +28,7 @@ returns-clause-value c =
     let f = c.args.forest.now in
     let w : KeyedWalker = record { root = c.self.inside.root; current = c.self.inside.current; filter = filter_of c.self.inside.filter } in
     let placed = subst (IsWalkerOf f) (sym c.self.view_is) c.requires in
-    let stands : StandsIn f c.self.inside.root c.self.inside.current = record { node = placed.current; within = sym c.if-not-is_inclusive_ancestor.ensures } in
-    let at = IsWithin-key f c.law_nodes_stand_once.ensures.once c.law_nodes_stand_once.ensures.only c.self.inside.root c.self.inside.current stands in
+    let at = walker-within c.law_nodes_stand_once.ensures.once c.law_nodes_stand_once.ensures.only placed (sym c.if-not-is_inclusive_ancestor.ensures) in
     let child = option_map (name_at f.names) c.last.result in
     let found = subst (λ (v : KeyedWalker). option_map (name_at f.names) c.last_reached.result ≡ last_of
     (filter (is_candidate f.trees (walker_view f.names v) (stop_of f.trees v.filter (name_at f.names c.self.inside.current) child))

@@ -6,9 +6,8 @@ use Rattle.dom_tree.specs.Forest.{name_at}
 use Rattle.dom_traversal.specs.Filters.{filter_of}
 use Rattle.dom_traversal.specs.Walkers.{walker_view, IsWalkerOf}
 use Rattle.dom_laws.specs.Within.{from_node}
-use Rattle.dom_tree.specs.Within.{StandsIn}
 use Rattle.dom_laws.proofs.Order.{above-within}
-use Rattle.dom_tree.proofs.Searching.{IsWithin-key}
+use Rattle.dom_traversal.proofs.Climbing.{walker-within}
 use Rattle.dom_traversal.proofs.Forward.{shorter-skip, shorter-reject}
 use Rattle.dom_traversal.proofs.Passing.{Comes-begin, ComesNext, ComesNext-skip, ComesNext-reject}
 use Rattle.dom_traversal.proofs.walker.Walker.next_node.Goals as goal
@@ -18,8 +17,7 @@ loop-at-init c =
     let f = c.args.forest.now in
     let placed = subst (IsWalkerOf f) (sym c.self.view_is) c.requires in
     let w : Walker = walker_view f.names record { root = c.self.inside.root; current = c.self.inside.current; filter = filter_of c.self.inside.filter } in
-    let stands : StandsIn f c.self.inside.root c.self.inside.current = record { node = placed.current; within = sym c.if-not-is_inclusive_ancestor.ensures } in
-    let at = IsWithin-key f c.law_nodes_stand_once.ensures.once c.law_nodes_stand_once.ensures.only c.self.inside.root c.self.inside.current stands in
+    let at = walker-within c.law_nodes_stand_once.ensures.once c.law_nodes_stand_once.ensures.only placed (sym c.if-not-is_inclusive_ancestor.ensures) in
     record {
       node = c.following-at.ensures.node;
       comes = Comes-begin f.trees w at (option_map (name_at f.names) c.following-at.result) c.following-at.ensures.value;
@@ -78,8 +76,7 @@ loop-at-preserved c =
     let f = c.args.forest.now in
     let w : Walker = walker_view f.names record { root = c.self.inside.root; current = c.self.inside.current; filter = filter_of c.self.inside.filter } in
     let placed = subst (IsWalkerOf f) (sym c.self.view_is) c.requires in
-    let stands : StandsIn f c.self.inside.root c.self.inside.current = record { node = placed.current; within = sym c.if-not-is_inclusive_ancestor.ensures } in
-    let at = IsWithin-key f c.law_nodes_stand_once.ensures.once c.law_nodes_stand_once.ensures.only c.self.inside.root c.self.inside.current stands in
+    let at = walker-within c.law_nodes_stand_once.ensures.once c.law_nodes_stand_once.ensures.only placed (sym c.if-not-is_inclusive_ancestor.ensures) in
     let h = subst (ComesNext f.trees w) (ap (option_map (name_at f.names)) c.in-Some.is) c.loop-at.invariant.comes in
     record {
       node = λ k e. (c.beyond-at.ensures.stands k e).node;

@@ -8,9 +8,8 @@ use Rattle.dom_tree.specs.Forest.{name_at}
 use Rattle.dom_traversal.specs.Filters.{filter_of}
 use Rattle.dom_traversal.specs.Walkers.{KeyedWalker, walker_view, is_reached, stop_of, IsWalkerOf, BeginsForward}
 use Rattle.dom_laws.specs.Within.{from_node}
-use Rattle.dom_traversal.proofs.Aside.{IsBelow-key, inner-below, stop-some}
-use Rattle.dom_traversal.proofs.Climbing.{IsInner}
-use Rattle.dom_tree.proofs.Standing.{other_key}
+use Rattle.dom_traversal.proofs.Climbing.{walker-inner}
+use Rattle.dom_traversal.proofs.Aside.{IsBelow-inner, inner-below, stop-some}
 use Rattle.dom_traversal.proofs.Beginning.{Begins-sibling, NextSibling-found}
 use Rattle.dom_traversal.proofs.walker.Walker.next_sibling_node.Goals as goal
 
@@ -18,12 +17,8 @@ pub aside-from-requires-clause-below : goal.aside-from-requires-clause-below
 aside-from-requires-clause-below c =
     let f = c.args.forest.now in
     let placed = subst (IsWalkerOf f) (sym c.self.view_is) c.requires in
-    let inner : IsInner f c.self.inside.root c.self.inside.current = record {
-      once = c.law_nodes_stand_once.ensures.once;
-      only = c.law_nodes_stand_once.ensures.only;
-      stands = record { node = placed.current; within = sym c.if-not-is_inclusive_ancestor.ensures };
-      other = other_key f c.law_nodes_stand_once.ensures.distinct c.self.inside.current c.self.inside.root placed.current placed.root (sym c.if-eq.ensures);
-    } in
+    let inner = walker-inner c.law_nodes_stand_once.ensures.once c.law_nodes_stand_once.ensures.only c.law_nodes_stand_once.ensures.distinct placed
+    (sym c.if-not-is_inclusive_ancestor.ensures) (sym c.if-eq.ensures) in
     inner-below inner
 
 pub first_reached-requires-clause-begins : goal.first_reached-requires-clause-begins
@@ -31,32 +26,21 @@ first_reached-requires-clause-begins c =
     let f = c.args.forest.now in
     let w : KeyedWalker = record { root = c.self.inside.root; current = c.self.inside.current; filter = filter_of c.self.inside.filter } in
     let placed = subst (IsWalkerOf f) (sym c.self.view_is) c.requires in
-    let inner : IsInner f c.self.inside.root c.self.inside.current = record {
-      once = c.law_nodes_stand_once.ensures.once;
-      only = c.law_nodes_stand_once.ensures.only;
-      stands = record { node = placed.current; within = sym c.if-not-is_inclusive_ancestor.ensures };
-      other = other_key f c.law_nodes_stand_once.ensures.distinct c.self.inside.current c.self.inside.root placed.current placed.root (sym c.if-eq.ensures);
-    } in
-    let b = IsBelow-key f inner.once inner.only c.self.inside.root c.self.inside.current (inner-below inner) in
+    let inner = walker-inner c.law_nodes_stand_once.ensures.once c.law_nodes_stand_once.ensures.only c.law_nodes_stand_once.ensures.distinct placed
+    (sym c.if-not-is_inclusive_ancestor.ensures) (sym c.if-eq.ensures) in
+    let b = IsBelow-inner inner in
     subst (λ (v : KeyedWalker). ForSome c.aside-from.result (BeginsForward f v c.self.inside.root)) c.self.view_is
-    (Begins-sibling f w b c.aside-from.result record {
-      value = c.aside-from.ensures.value;
-      below = c.aside-from.ensures.below;
-      stop = c.aside-from.ensures.stop;
-    })
+    (Begins-sibling f w b c.aside-from.result
+    record { value = c.aside-from.ensures.value; below = c.aside-from.ensures.below; stop = c.aside-from.ensures.stop })
 
 pub returns-clause-value : goal.returns-clause-value
 returns-clause-value c =
     let f = c.args.forest.now in
     let w : KeyedWalker = record { root = c.self.inside.root; current = c.self.inside.current; filter = filter_of c.self.inside.filter } in
     let placed = subst (IsWalkerOf f) (sym c.self.view_is) c.requires in
-    let inner : IsInner f c.self.inside.root c.self.inside.current = record {
-      once = c.law_nodes_stand_once.ensures.once;
-      only = c.law_nodes_stand_once.ensures.only;
-      stands = record { node = placed.current; within = sym c.if-not-is_inclusive_ancestor.ensures };
-      other = other_key f c.law_nodes_stand_once.ensures.distinct c.self.inside.current c.self.inside.root placed.current placed.root (sym c.if-eq.ensures);
-    } in
-    let b = IsBelow-key f inner.once inner.only c.self.inside.root c.self.inside.current (inner-below inner) in
+    let inner = walker-inner c.law_nodes_stand_once.ensures.once c.law_nodes_stand_once.ensures.only c.law_nodes_stand_once.ensures.distinct placed
+    (sym c.if-not-is_inclusive_ancestor.ensures) (sym c.if-eq.ensures) in
+    let b = IsBelow-inner inner in
     let from = option_map (name_at f.names) c.aside-from.result in
     let found = subst (λ (v : KeyedWalker). option_map (name_at f.names) c.first_reached.result ≡ first_of
     (filter (is_reached f.trees (walker_view f.names v))

@@ -7,9 +7,8 @@ use Rattle.dom_model.specs.Tree.{is_inclusive_ancestor}
 use Rattle.dom_tree.specs.Forest.{name_at}
 use Rattle.dom_traversal.specs.Filters.{filter_of}
 use Rattle.dom_traversal.specs.Walkers.{KeyedWalker, walker_view, IsWalkerOf, ComesBack}
-use Rattle.dom_tree.specs.Within.{StandsIn}
 use Rattle.dom_laws.specs.Within.{up_to_node}
-use Rattle.dom_tree.proofs.Searching.{IsWithin-key}
+use Rattle.dom_traversal.proofs.Climbing.{walker-within}
 use Rattle.dom_traversal.proofs.Backward.{Returns-begin, ComesBack-key, back-hit, back-miss}
 use Rattle.dom_traversal.proofs.Beginning.{move-step}
 use Rattle.dom_traversal.proofs.walker.Walker.previous_node.Goals as goal
@@ -19,8 +18,7 @@ back-at-requires-clause-comes c =
     let f = c.args.forest.now in
     let w : KeyedWalker = record { root = c.self.inside.root; current = c.self.inside.current; filter = filter_of c.self.inside.filter } in
     let placed = subst (IsWalkerOf f) (sym c.self.view_is) c.requires in
-    let stands : StandsIn f c.self.inside.root c.self.inside.current = record { node = placed.current; within = sym c.if-not-is_inclusive_ancestor.ensures } in
-    let at = IsWithin-key f c.law_nodes_stand_once.ensures.once c.law_nodes_stand_once.ensures.only c.self.inside.root c.self.inside.current stands in
+    let at = walker-within c.law_nodes_stand_once.ensures.once c.law_nodes_stand_once.ensures.only placed (sym c.if-not-is_inclusive_ancestor.ensures) in
     subst (λ (v : KeyedWalker). ComesBack f v c.self.inside.current) c.self.view_is
     (ComesBack-key f w c.self.inside.current placed.current (Returns-begin f.trees (walker_view f.names w) at))
 

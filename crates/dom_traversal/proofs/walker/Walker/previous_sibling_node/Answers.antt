@@ -8,9 +8,8 @@ use Rattle.dom_tree.specs.Forest.{name_at}
 use Rattle.dom_traversal.specs.Filters.{filter_of}
 use Rattle.dom_traversal.specs.Walkers.{KeyedWalker, walker_view, is_candidate, stop_of, IsWalkerOf, BeginsBackward}
 use Rattle.dom_laws.specs.Within.{up_to_tree}
-use Rattle.dom_traversal.proofs.Aside.{IsBelow-key, inner-below, stop-some}
-use Rattle.dom_traversal.proofs.Climbing.{IsInner}
-use Rattle.dom_tree.proofs.Standing.{other_key}
+use Rattle.dom_traversal.proofs.Climbing.{walker-inner}
+use Rattle.dom_traversal.proofs.Aside.{IsBelow-inner, inner-below, stop-some}
 use Rattle.dom_traversal.proofs.BeginningBack.{Begins-previous, PreviousSibling-found}
 use Rattle.dom_traversal.proofs.walker.Walker.previous_sibling_node.Goals as goal
 
@@ -18,12 +17,8 @@ pub aback-from-requires-clause-below : goal.aback-from-requires-clause-below
 aback-from-requires-clause-below c =
     let f = c.args.forest.now in
     let placed = subst (IsWalkerOf f) (sym c.self.view_is) c.requires in
-    let inner : IsInner f c.self.inside.root c.self.inside.current = record {
-      once = c.law_nodes_stand_once.ensures.once;
-      only = c.law_nodes_stand_once.ensures.only;
-      stands = record { node = placed.current; within = sym c.if-not-is_inclusive_ancestor.ensures };
-      other = other_key f c.law_nodes_stand_once.ensures.distinct c.self.inside.current c.self.inside.root placed.current placed.root (sym c.if-eq.ensures);
-    } in
+    let inner = walker-inner c.law_nodes_stand_once.ensures.once c.law_nodes_stand_once.ensures.only c.law_nodes_stand_once.ensures.distinct placed
+    (sym c.if-not-is_inclusive_ancestor.ensures) (sym c.if-eq.ensures) in
     inner-below inner
 
 pub last_reached-requires-clause-begins : goal.last_reached-requires-clause-begins
@@ -31,33 +26,21 @@ last_reached-requires-clause-begins c =
     let f = c.args.forest.now in
     let w : KeyedWalker = record { root = c.self.inside.root; current = c.self.inside.current; filter = filter_of c.self.inside.filter } in
     let placed = subst (IsWalkerOf f) (sym c.self.view_is) c.requires in
-    let inner : IsInner f c.self.inside.root c.self.inside.current = record {
-      once = c.law_nodes_stand_once.ensures.once;
-      only = c.law_nodes_stand_once.ensures.only;
-      stands = record { node = placed.current; within = sym c.if-not-is_inclusive_ancestor.ensures };
-      other = other_key f c.law_nodes_stand_once.ensures.distinct c.self.inside.current c.self.inside.root placed.current placed.root (sym c.if-eq.ensures);
-    } in
-    let b = IsBelow-key f inner.once inner.only c.self.inside.root c.self.inside.current (inner-below inner) in
+    let inner = walker-inner c.law_nodes_stand_once.ensures.once c.law_nodes_stand_once.ensures.only c.law_nodes_stand_once.ensures.distinct placed
+    (sym c.if-not-is_inclusive_ancestor.ensures) (sym c.if-eq.ensures) in
+    let b = IsBelow-inner inner in
     subst (λ (v : KeyedWalker). ForSome c.aback-from.result (BeginsBackward f v c.self.inside.root)) c.self.view_is
-    (Begins-previous f w b c.aback-from.result record {
-      value = c.aback-from.ensures.value;
-      below = c.aback-from.ensures.below;
-      stop = c.aback-from.ensures.stop;
-      path = c.aback-from.ensures.path;
-    })
+    (Begins-previous f w b c.aback-from.result
+    record { value = c.aback-from.ensures.value; below = c.aback-from.ensures.below; stop = c.aback-from.ensures.stop; path = c.aback-from.ensures.path })
 
 pub returns-clause-value : goal.returns-clause-value
 returns-clause-value c =
     let f = c.args.forest.now in
     let w : KeyedWalker = record { root = c.self.inside.root; current = c.self.inside.current; filter = filter_of c.self.inside.filter } in
     let placed = subst (IsWalkerOf f) (sym c.self.view_is) c.requires in
-    let inner : IsInner f c.self.inside.root c.self.inside.current = record {
-      once = c.law_nodes_stand_once.ensures.once;
-      only = c.law_nodes_stand_once.ensures.only;
-      stands = record { node = placed.current; within = sym c.if-not-is_inclusive_ancestor.ensures };
-      other = other_key f c.law_nodes_stand_once.ensures.distinct c.self.inside.current c.self.inside.root placed.current placed.root (sym c.if-eq.ensures);
-    } in
-    let b = IsBelow-key f inner.once inner.only c.self.inside.root c.self.inside.current (inner-below inner) in
+    let inner = walker-inner c.law_nodes_stand_once.ensures.once c.law_nodes_stand_once.ensures.only c.law_nodes_stand_once.ensures.distinct placed
+    (sym c.if-not-is_inclusive_ancestor.ensures) (sym c.if-eq.ensures) in
+    let b = IsBelow-inner inner in
     let from = option_map (name_at f.names) c.aback-from.result in
     let found = subst (λ (v : KeyedWalker). option_map (name_at f.names) c.last_reached.result ≡ last_of
     (filter (is_candidate f.trees (walker_view f.names v) (stop_of f.trees v.filter (name_at f.names c.self.inside.root) from))
