@@ -1,6 +1,6 @@
 -- Tree order among the keys for which trees stand, backward.
 use Rattle.std.proofs.Common.{◌≡◌, ◌⊎◌, inl, inr, ℕ, ◌-◌, ◌<◌, true, false, cond, eqb, List, [], ◌∷◌, ◌++◌, length, Option, Some, None, refl, sym, ap}
-use Rattle.std.proofs.Common.{subst, ◌∙◌, arith, true≢false}
+use Rattle.std.proofs.Common.{◌∙◌, arith, true≢false}
 use Rattle.std.specs.Option.{option_map, option_map_or, option_and_then}
 use Rattle.std.proofs.lemmas.Bool.{eq-eqb, ne_eqb, eqb-true, both_ways, or_cases, or_left, or_right, cases_Bool, false_from_ne_true}
 use Rattle.std.proofs.lemmas.Bool.Decides.{eqb_tells}
@@ -15,15 +15,15 @@ use Rattle.node_arena.proofs.Lists.{last_from-append, prev_from-append}
 use Rattle.node_arena.proofs.Forests.{contains-parent, ancestors_of-child, length-ancestors_of}
 use Rattle.dom_tree.specs.Contents.{Stored}
 use Rattle.dom_tree.specs.Rows.{trees_of}
-use Rattle.dom_tree.specs.Forest.{NamedTrees, IsKept, stored_names, nodes_of, name_at}
+use Rattle.dom_tree.specs.Forest.{NamedTrees, IsKept, nodes_of, name_at}
 use Rattle.dom_tree.proofs.Rows.{Stands, name_of_key}
 use Rattle.dom_tree.proofs.Changes.{IsWhole, subtree_here}
 use Rattle.dom_tree.proofs.Reading.{last_or-items_before}
-use Rattle.dom_tree.proofs.Kept.{seen, IsWhole-kept, name_at-same, names_option, within}
+use Rattle.dom_tree.proofs.Kept.{seen}
 use Rattle.node_arena.proofs.Indexes.{no_prev}
 use Rattle.dom_tree.proofs.Order.{in_trees, root-in_trees, child-in_trees, StandsOnce, StandsOnce-below, StandsOnce-rest}
 use Rattle.dom_tree.proofs.OrderWithin.{tree_at, keys_at, keys_at-inside, keys_at-named}
-use Rattle.dom_tree.proofs.OrderWithin.{keys_at-told, keys_at-standing, still_below, has_above, IsAbove}
+use Rattle.dom_tree.proofs.OrderWithin.{keys_at-told, keys_at-standing, still_below, has_above, IsAbove, shows_picked}
 
 -- the last of the nodes below a node and with it
 abbrev pub last_below : List (List ℕ) → Trees → List ℕ → ℕ → Option ℕ
@@ -328,15 +328,5 @@ pub shows_preceding : {f : NamedTrees} {ps : List Stored} {lists : List (List �
     → {top x : ℕ} {r : Option ℕ} → IsAbove f.names lists top x →
     r ≡ before_in (nodes_of ps) lists top x
     → option_map (name_at f.names) r ≡ last_of (items_before name_eq (name_at f.names x) (inclusive_descendants f.trees (name_at f.names top)))
-shows_preceding {f = f} {ps = ps} {lists = lists} {keys = keys} is kept {top = top} {x = x} {r = r} asked result =
-    let inside_top = within is kept top asked.at_top in
-    let inside_x = within is kept x asked.at_x in
-    let paired = kept.paired in
-    subst (λ (g : NamedTrees). option_map (name_at g.names) r ≡ last_of
-    (items_before name_eq (name_at g.names x) (inclusive_descendants g.trees (name_at g.names top)))) is
-    (names_option ps r ∙ (ap (option_map (name_of_key (nodes_of ps))) result
-    ∙ (sym (preceding-at (IsWhole-kept kept) top x (omega arith) (omega arith) asked.above)
-    ∙ (ap (λ y. last_of (items_before name_eq y (inclusive_descendants (trees_of (nodes_of ps) lists) (name_of_key (nodes_of ps) top))))
-    (sym (name_at-same (stored_names ps) ps x))
-    ∙ ap (λ y. last_of (items_before name_eq (name_at (stored_names ps) x) (inclusive_descendants (trees_of (nodes_of ps) lists) y)))
-    (sym (name_at-same (stored_names ps) ps top))))))
+shows_preceding {ps = ps} is kept {top = top} {x = x} {r = r} asked result = shows_picked (λ y ys. last_of (items_before name_eq y ys)) is kept r asked
+    (λ whole at_top at_x. preceding-at whole top x at_top at_x asked.above ∙ ap (option_map (name_of_key (nodes_of ps))) (sym result))

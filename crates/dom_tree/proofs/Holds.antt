@@ -5,7 +5,9 @@ use Rattle.std.proofs.lemmas.List.{length-map, length_push, get_or_append_left, 
 use Rattle.std.proofs.lemmas.Option.{slice_get_cases}
 use Rattle.dom_base.specs.declared.Owner.{Owner}
 use Rattle.dom_base.specs.declared.NodeName.{NodeName}
-use Rattle.dom_model.specs.Tree.{Node, node_in}
+use Rattle.dom_model.specs.Tree.{Node, node_in, inclusive_ancestors, children_of}
+use Rattle.dom_model.specs.TreeChanges.{change_node}
+use Rattle.dom_laws.proofs.Relatives.{path_changed, children_changed}
 use Rattle.node_arena.specs.Nodes.{Nodes, IsSound}
 use Rattle.dom_tree.specs.Contents.{Stored}
 use Rattle.dom_tree.specs.Rows.{node_at, trees_of}
@@ -13,8 +15,17 @@ use Rattle.dom_tree.specs.Forest.{NamedTrees, IsKept, stored_names, nodes_of, na
 use Rattle.dom_tree.proofs.Adding.{Adds, nodes_of-push}
 use Rattle.dom_tree.proofs.Kept.{seen, within, shows_node, kept_with, IsWhole-kept, name_at-same}
 use Rattle.dom_tree.proofs.Reading.{node_in-at}
-use Rattle.dom_tree.proofs.Setting.{IsStoredAnew, set_names, slice_get-set_same, slice_get-set_other}
+use Rattle.dom_tree.proofs.Setting.{IsStoredAnew, set_names, set_done, slice_get-set_same, slice_get-set_other}
 use Rattle.dom_tree.proofs.Stays.{IsAdded, added_named}
+
+-- a forest f in which one node is another one, and nothing else
+pub record IsChangedAt (f g : NamedTrees) (x : ℕ) (h : Node → Node) : Type 0 where
+  pub names : g.names ≡ f.names
+  pub trees : g.trees ≡ change_node h (name_at f.names x) f.trees
+  pub above : (y : NodeName) → inclusive_ancestors g.trees y ≡ inclusive_ancestors f.trees y
+  pub children : (y : NodeName) → children_of g.trees y ≡ children_of f.trees y
+  pub holds : node_in g.trees (name_at f.names x) ≡ h (node_in f.trees (name_at f.names x))
+  pub held : (k : ℕ) → k < length f.names → k ≢ x → node_in g.trees (name_at f.names k) ≡ node_in f.trees (name_at f.names k)
 
 module _ {f : NamedTrees} {ps : List Stored} {lists : List (List ℕ)} {keys : Owner → List ℕ} (is : seen ps lists ≡ f) (kept : IsKept ps lists keys) where
   -- something is stored of each node
@@ -42,15 +53,28 @@ module _ {f : NamedTrees} {ps : List Stored} {lists : List (List ℕ)} {keys : O
 
   -- what is stored of one node is another one
   module _ {x : ℕ} {s t : Stored} (after : IsKept (set ps x t) lists keys) (anew : IsStoredAnew ps x s t) where
-    pub holds_anew : x < length f.names → (h : Node → Node) → node_with f.names t.name t.node ≡ h (node_with f.names s.name s.node) →
+    holds_anew : x < length f.names → (h : Node → Node) → node_with f.names t.name t.node ≡ h (node_with f.names s.name s.node) →
         node_in (trees_of (nodes_of (set ps x t)) lists) (name_at f.names x) ≡ h (node_in f.trees (name_at f.names x))
     holds_anew node h changed =
         holds after (set_names is kept x t anew.at anew.name_kept) x node t (slice_get-set_same ps x s t anew.at)
         ∙ changed ∙ ap h (sym (shows_node is kept x s node anew.at))
 
-    pub held_elsewhere : (k : ℕ) → k < length f.names → k ≢ x →
+    held_elsewhere : (k : ℕ) → k < length f.names → k ≢ x →
         node_in (trees_of (nodes_of (set ps x t)) lists) (name_at f.names k) ≡ node_in f.trees (name_at f.names k)
     held_elsewhere k node other = held after (set_names is kept x t anew.at anew.name_kept) k node (slice_get-set_other ps x k t other)
+
+    pub IsChangedAt-stored : x < length f.names → (h : Node → Node) → ((y : Node) → (h y).name ≡ y.name) →
+        node_with f.names t.name t.node ≡ h (node_with f.names s.name s.node) → IsChangedAt f (seen (set ps x t) lists) x h
+    IsChangedAt-stored node h keeps changed =
+        let trees = ap (λ (g : NamedTrees). g.trees) (set_done is kept anew h keeps changed) in
+        record {
+          names = set_names is kept x t anew.at anew.name_kept;
+          trees = trees;
+          above = λ y. ap (λ ts. inclusive_ancestors ts y) trees ∙ path_changed h keeps (name_at f.names x) f.trees y;
+          children = λ y. ap (λ ts. children_of ts y) trees ∙ children_changed h keeps (name_at f.names x) f.trees y;
+          holds = holds_anew node h changed;
+          held = held_elsewhere;
+        }
 
 -- where the lists alone have changed
 pub held_along : {f : NamedTrees} {a b : Nodes Stored} {keys : Owner → List ℕ} → seen a.payloads a.children ≡ f → IsKept a.payloads a.children keys →

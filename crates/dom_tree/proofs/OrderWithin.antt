@@ -239,19 +239,24 @@ pub record IsAbove (names : List NodeName) (lists : List (List ℕ)) (top x : �
   pub at_x : x < length names
   pub above : contains (x ∷ ancestors_of lists x) top ≡ true
 
+-- what is picked in the tree of the first, beside the second, is picked in the trees where it is by keys
+pub shows_picked : (pick : NodeName → List NodeName → Option NodeName) {f : NamedTrees} {ps : List Stored} {lists : List (List ℕ)} {keys : Owner → List ℕ} →
+    seen ps lists ≡ f → IsKept ps lists keys → {top x : ℕ} (r : Option ℕ) → IsAbove f.names lists top x →
+    (IsWhole (nodes_of ps) lists → top < length lists → x < length lists → pick (name_of_key (nodes_of ps) x)
+    (inclusive_descendants (trees_of (nodes_of ps) lists) (name_of_key (nodes_of ps) top)) ≡ option_map (name_of_key (nodes_of ps)) r) →
+    option_map (name_at f.names) r ≡ pick (name_at f.names x) (inclusive_descendants f.trees (name_at f.names top))
+shows_picked pick {f = f} {ps = ps} {lists = lists} is kept {top = top} {x = x} r asked picked =
+    let inside_top = within is kept top asked.at_top in
+    let inside_x = within is kept x asked.at_x in
+    let paired = kept.paired in
+    subst (λ (g : NamedTrees). option_map (name_at g.names) r ≡ pick (name_at g.names x) (inclusive_descendants g.trees (name_at g.names top))) is
+    (names_option ps r ∙ (sym (picked (IsWhole-kept kept) (omega arith) (omega arith))
+    ∙ (ap (λ y. pick y (inclusive_descendants (trees_of (nodes_of ps) lists) (name_of_key (nodes_of ps) top))) (sym (name_at-same (stored_names ps) ps x))
+    ∙ ap (λ y. pick (name_at (stored_names ps) x) (inclusive_descendants (trees_of (nodes_of ps) lists) y)) (sym (name_at-same (stored_names ps) ps top)))))
+
 pub shows_following : {f : NamedTrees} {ps : List Stored} {lists : List (List ℕ)} {keys : Owner → List ℕ} → seen ps lists ≡ f → IsKept ps lists keys
     → {top x : ℕ} {r : Option ℕ} → IsAbove f.names lists top x →
     r ≡ head_or (children_of lists x) (behind_in (nodes_of ps) lists top x)
     → option_map (name_at f.names) r ≡ first_of (items_after name_eq (name_at f.names x) (inclusive_descendants f.trees (name_at f.names top)))
-shows_following {f = f} {ps = ps} {lists = lists} {keys = keys} is kept {top = top} {x = x} {r = r} asked result =
-    let inside_top = within is kept top asked.at_top in
-    let inside_x = within is kept x asked.at_x in
-    let paired = kept.paired in
-    subst (λ (g : NamedTrees). option_map (name_at g.names) r ≡ first_of
-    (items_after name_eq (name_at g.names x) (inclusive_descendants g.trees (name_at g.names top)))) is
-    (names_option ps r ∙ (ap (option_map (name_of_key (nodes_of ps))) result
-    ∙ (sym (following-at (IsWhole-kept kept) top x (omega arith) (omega arith) asked.above)
-    ∙ (ap (λ y. first_of (items_after name_eq y (inclusive_descendants (trees_of (nodes_of ps) lists) (name_of_key (nodes_of ps) top))))
-    (sym (name_at-same (stored_names ps) ps x))
-    ∙ ap (λ y. first_of (items_after name_eq (name_at (stored_names ps) x) (inclusive_descendants (trees_of (nodes_of ps) lists) y)))
-    (sym (name_at-same (stored_names ps) ps top))))))
+shows_following {ps = ps} is kept {top = top} {x = x} {r = r} asked result = shows_picked (λ y ys. first_of (items_after name_eq y ys)) is kept r asked
+    (λ whole at_top at_x. following-at whole top x at_top at_x asked.above ∙ ap (option_map (name_of_key (nodes_of ps))) (sym result))

@@ -143,26 +143,28 @@ tells-children nodes lists whole x p node k found =
     turned (inl h) = h.0 ∙ sym (eq-eqb k x (sym h.1))
     turned (inr h) = h.0 ∙ sym (ne_eqb k x (λ e. h.1 (sym e)))
 
+-- what is picked beside a node among its siblings, by names and by keys
+module _ (pick : NodeName → List NodeName → Option NodeName) (key_pick : List ℕ → ℕ → Option ℕ) (alone : (y : NodeName) → pick y (y ∷ []) ≡ None) where
+  picked_in-at : (nodes : List Node) (lists : List (List ℕ)) → IsWhole nodes lists → (x : ℕ) → x < length lists →
+      ((p : ℕ) → parent_of lists x ≡ Some p → pick (name_of_key nodes x) (map (name_of_key nodes) (children_of lists p))
+      ≡ option_map (name_of_key nodes) (key_pick (children_of lists p) x)) →
+      pick (name_of_key nodes x) (siblings (trees_of nodes lists) (name_of_key nodes x))
+      ≡ option_map (name_of_key nodes) (option_and_then (λ p. key_pick (children_of lists p) x) (parent_of lists x))
+  picked_in-at nodes lists whole x node among =
+      let beside : Option ℕ → Option NodeName = λ o. option_map (name_of_key nodes) (option_and_then (λ p. key_pick (children_of lists p) x) o) in
+      elim (cases_Option (parent_of lists x)) [
+        | inl e ↦ ap (pick (name_of_key nodes x)) (siblings-root nodes lists whole x node e) ∙ alone (name_of_key nodes x) ∙ sym (ap beside e)
+        | inr w ↦ ap (pick (name_of_key nodes x)) (siblings-child whole x node w.1) ∙ among w.0 w.1 ∙ sym (ap beside w.1)
+      ]
+
 pub next_in-at : (nodes : List Node) (lists : List (List ℕ)) → IsWhole nodes lists → (x : ℕ) → x < length lists →
     next_sibling (trees_of nodes lists) (name_of_key nodes x) ≡ option_map (name_of_key nodes) (next_of lists x)
-next_in-at nodes lists whole x node = elim (cases_Option (parent_of lists x)) [
-  | inl e ↦
-      ap (λ ys. first_of (items_after name_eq (name_of_key nodes x) ys)) (siblings-root nodes lists whole x node e)
-      ∙ rw (name_eq-same (name_of_key nodes x), e) refl
-  | inr w ↦
-      ap (λ ys. first_of (items_after name_eq (name_of_key nodes x) ys)) (siblings-child whole x node w.1)
-      ∙ (first_of-items_after (name_of_key nodes) x (children_of lists w.0) (tells-children nodes lists whole x w.0 node)
-      ∙ sym (ap (λ o. option_map (name_of_key nodes) (option_and_then (λ p. next_in (children_of lists p) x) o)) w.1))
-]
+next_in-at nodes lists whole x node =
+    picked_in-at (λ y ys. first_of (items_after name_eq y ys)) next_in (λ y. rw (name_eq-same y) refl) nodes lists whole x node
+    (λ p e. first_of-items_after (name_of_key nodes) x (children_of lists p) (tells-children nodes lists whole x p node))
 
 pub prev_in-at : (nodes : List Node) (lists : List (List ℕ)) → IsWhole nodes lists → (x : ℕ) → x < length lists →
     previous_sibling (trees_of nodes lists) (name_of_key nodes x) ≡ option_map (name_of_key nodes) (prev_of lists x)
-prev_in-at nodes lists whole x node = elim (cases_Option (parent_of lists x)) [
-  | inl e ↦
-      ap (λ ys. last_of (items_before name_eq (name_of_key nodes x) ys)) (siblings-root nodes lists whole x node e)
-      ∙ rw (name_eq-same (name_of_key nodes x), e) refl
-  | inr w ↦
-      ap (λ ys. last_of (items_before name_eq (name_of_key nodes x) ys)) (siblings-child whole x node w.1)
-      ∙ (last_or-items_before (name_of_key nodes) x None (children_of lists w.0) (tells-children nodes lists whole x w.0 node) (contains-parent lists x w.0 w.1)
-      ∙ sym (ap (λ o. option_map (name_of_key nodes) (option_and_then (λ p. prev_in (children_of lists p) x) o)) w.1))
-]
+prev_in-at nodes lists whole x node =
+    picked_in-at (λ y ys. last_of (items_before name_eq y ys)) prev_in (λ y. rw (name_eq-same y) refl) nodes lists whole x node
+    (λ p e. last_or-items_before (name_of_key nodes) x None (children_of lists p) (tells-children nodes lists whole x p node) (contains-parent lists x p e))

@@ -1,8 +1,8 @@
 -- Walks up a tree.
-use Rattle.std.proofs.Common.{◌≡◌, inl, inr, ℕ, suc, ◌-◌, ◌^◌, ◌<◌, ◌≤◌, true, false, eqb, List, [], ◌∷◌, map, length, Option, Some}
+use Rattle.std.proofs.Common.{◌≡◌, ◌⊎◌, inl, inr, ℕ, suc, ◌+◌, ◌-◌, ◌^◌, ◌<◌, ◌≤◌, true, false, eqb, List, [], ◌∷◌, map, length, Option, Some}
 use Rattle.std.proofs.Common.{None, refl, sym, ap, subst, ◌∙◌, arith, true≢false}
 use Rattle.std.specs.Prelude.{unwrap_or}
-use Rattle.std.specs.Option.{option_map, option_map_or, option_and_then}
+use Rattle.std.specs.Option.{option_map, option_map_or, option_and_then, ForSome}
 use Rattle.std.proofs.lemmas.Bool.{eq-eqb, ne_eqb, eqb-true, cases_Bool, or_cases, or_right, or_parts, both_ways, false_from_ne_true}
 use Rattle.dom_base.specs.declared.Owner.{Owner}
 use Rattle.dom_base.specs.declared.NodeName.{NodeName}
@@ -120,33 +120,26 @@ few_children lists forest p node =
         (ap (λ ys. contains ys p) (ancestors_of-child lists forest p p (parent_of_is lists forest.one_list p p found)) ∙
         contains-head p (ancestors_of lists p)))
 
--- a child has fewer siblings before it than its parent has children
-pub place-within : (lists : List (List ℕ)) → IsForest lists → (k : ℕ) → k < length lists → place_of lists k < length lists
-place-within lists forest k node = elim (cases_Option (parent_of lists k)) [
-  | inl e ↦ omega (arith, place_of-root lists k e)
+-- a root stands first, and a child has fewer siblings before it than there are nodes
+place-below : (lists : List (List ℕ)) → IsForest lists → (k : ℕ) → (place_of lists k ≡ 0) ⊎ (place_of lists k + 1 < length lists)
+place-below lists forest k = elim (cases_Option (parent_of lists k)) [
+  | inl e ↦ inl (place_of-root lists k e)
   | inr w ↦
       let child = contains-parent lists k w.0 w.1 in
-      omega (
+      inr (omega (
         arith,
         place_of-child lists k w.0 w.1,
         place_in-within (children_of lists w.0) k child,
         few_children lists forest w.0 (parent_within lists w.0 k child),
-      )
+      ))
 ]
+
+pub place-within : (lists : List (List ℕ)) → IsForest lists → (k : ℕ) → k < length lists → place_of lists k < length lists
+place-within lists forest k node = elim (place-below lists forest k) [ inl first ↦ omega arith | inr below ↦ omega arith ]
 
 -- so the index of a node is less than the greatest number that an index may be
 pub place-fits : (lists : List (List ℕ)) → IsForest lists → length lists ≤ 2 ^ 64 → (k : ℕ) → 2 ^ 64 - 1 ≤ place_of lists k → ⊥
-place-fits lists forest few k far = elim (cases_Option (parent_of lists k)) [
-  | inl e ↦ omega (arith, place_of-root lists k e)
-  | inr w ↦
-      let child = contains-parent lists k w.0 w.1 in
-      omega (
-        arith,
-        place_of-child lists k w.0 w.1,
-        place_in-within (children_of lists w.0) k child,
-        few_children lists forest w.0 (parent_within lists w.0 k child),
-      )
-]
+place-fits lists forest few k far = elim (place-below lists forest k) [ inl first ↦ omega arith | inr below ↦ omega arith ]
 
 pub length-items_before : (f : ℕ → NodeName) (x : ℕ) (ks : List ℕ) → Tells f x ks → contains ks x ≡ true →
     length (items_before name_eq (f x) (map f ks)) ≡ place_in ks x
@@ -223,6 +216,14 @@ children_left-next {lists} forest p k {r} child is =
     is ∙ ap (option_and_then (λ q. next_in (children_of lists q) k)) (parent_of_is lists forest.one_list p k child) in
     ap (λ o. suc (option_map_or (λ j. length (children_of lists p) - place_in (children_of lists p) j) o 0)) e ∙
     next_place (children_of lists p) k (forest.once p) child
+
+-- so fewer children are left after a step to the next sibling
+pub children_left-fewer : {lists : List (List ℕ)} → IsForest lists → (p : ℕ) {at next : Option ℕ} → ForSome at (λ k. contains (children_of lists p) k ≡ true) →
+    (k : ℕ) → at ≡ Some k → next ≡ next_of lists k → children_left (children_of lists p) next < children_left (children_of lists p) at
+children_left-fewer {lists} forest p among k is step =
+    let next = children_left-next forest p k (among k is) step in
+    let here = ap (children_left (children_of lists p)) is in
+    omega arith
 
 pub among-next : {lists : List (List ℕ)} → IsForest lists → (p k : ℕ) {s : ℕ} {r : Option ℕ} → contains (children_of lists p) k ≡ true →
     r ≡ next_of lists k → r ≡ Some s → contains (children_of lists p) s ≡ true

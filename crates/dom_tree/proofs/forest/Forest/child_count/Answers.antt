@@ -3,8 +3,8 @@ use Rattle.std.proofs.lemmas.List.{length-map}
 use Rattle.node_arena.specs.Nodes.{children_of}
 use Rattle.node_arena.proofs.Lists.{contains-head_of}
 use Rattle.dom_tree.specs.Forest.{name_at}
-use Rattle.dom_tree.proofs.Walks.{children_left, children_left-none, children_left-head, children_left-next, among-next, few_children, shows_children}
-use Rattle.dom_tree.proofs.Walks.{none_left}
+use Rattle.dom_tree.proofs.Walks.{children_left, children_left-none, children_left-head, children_left-next, children_left-fewer}
+use Rattle.dom_tree.proofs.Walks.{among-next, few_children, shows_children, none_left}
 use Rattle.dom_tree.proofs.Kept.{within}
 use Rattle.dom_tree.proofs.forest.Forest.child_count.Goals as goal
 
@@ -29,11 +29,7 @@ overflow_add-count c =
 
 pub loop-at-smaller : goal.loop-at-smaller
 loop-at-smaller c =
-    let child = c.loop-at.invariant.1 c.in-Some.child c.in-Some.is in
-    let next = children_left-next c.self.invariant.forest c.args.key c.in-Some.child child
-    c.next-at.ensures.value in
-    let here = ap (children_left (children_of c.self.inside.arena.children c.args.key)) c.in-Some.is in
-    omega arith
+    children_left-fewer c.self.invariant.forest c.args.key c.loop-at.invariant.1 c.in-Some.child c.in-Some.is c.next-at.ensures.value
 
 pub loop-at-preserved : goal.loop-at-preserved
 loop-at-preserved c =

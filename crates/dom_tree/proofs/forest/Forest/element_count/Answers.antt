@@ -3,7 +3,7 @@ use Rattle.std.proofs.lemmas.Bool.{and_left, and_right, and_from}
 use Rattle.node_arena.specs.Nodes.{children_of, next_of}
 use Rattle.node_arena.proofs.Lists.{contains-head_of}
 use Rattle.dom_tree.specs.Forest.{nodes_of}
-use Rattle.dom_tree.proofs.Walks.{children_left, children_left-next, among-next, few_children, none_left}
+use Rattle.dom_tree.proofs.Walks.{children_left-fewer, among-next, few_children, none_left}
 use Rattle.dom_tree.proofs.Kept.{within, within_names}
 use Rattle.dom_tree.proofs.Children.{rest_of, rest_of-none, rest_of-head, rest_of-next, tally, tally-nil, tally-yes, tally-no, tally-length}
 use Rattle.dom_tree.proofs.Children.{is_counted, is_counted-split, apart_test, shows_element_count}
@@ -46,11 +46,7 @@ overflow_add-count c =
 
 pub loop-at-smaller : goal.loop-at-smaller
 loop-at-smaller c =
-    let child = c.loop-at.invariant.1 c.in-Some.child c.in-Some.is in
-    let next = children_left-next c.self.invariant.forest c.args.key c.in-Some.child child
-    c.next-at.ensures.value in
-    let here = ap (children_left (children_of c.self.inside.arena.children c.args.key)) c.in-Some.is in
-    omega arith
+    children_left-fewer c.self.invariant.forest c.args.key c.loop-at.invariant.1 c.in-Some.child c.in-Some.is c.next-at.ensures.value
 
 pub loop-at-preserved : goal.loop-at-preserved
 loop-at-preserved c =

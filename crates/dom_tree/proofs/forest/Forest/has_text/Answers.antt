@@ -1,9 +1,9 @@
-use Rattle.std.proofs.Common.{ap, sym, ◌∙◌, arith, refl, ◌||◌}
+use Rattle.std.proofs.Common.{ap, sym, ◌∙◌, refl, ◌||◌}
 use Rattle.std.proofs.lemmas.Bool.{or_left}
 use Rattle.node_arena.specs.Nodes.{children_of, next_of}
 use Rattle.node_arena.proofs.Lists.{contains-head_of}
 use Rattle.dom_tree.specs.Forest.{nodes_of}
-use Rattle.dom_tree.proofs.Walks.{children_left, children_left-next, among-next, none_left}
+use Rattle.dom_tree.proofs.Walks.{children_left-fewer, among-next, none_left}
 use Rattle.dom_tree.proofs.Children.{rest_of, rest_of-none, rest_of-head, rest_of-next, any_of, any_of-nil, any_of-cons, is_text_key, shows_text}
 use Rattle.dom_tree.proofs.Children.{shows_has_text}
 use Rattle.dom_tree.proofs.Kept.{within_names}
@@ -33,11 +33,7 @@ returns-then-is_text c =
 
 pub loop-at-smaller : goal.loop-at-smaller
 loop-at-smaller c =
-    let child = c.loop-at.invariant.1 c.in-Some.child c.in-Some.is in
-    let next = children_left-next c.self.invariant.forest c.args.key c.in-Some.child child
-    c.next-at.ensures.value in
-    let here = ap (children_left (children_of c.self.inside.arena.children c.args.key)) c.in-Some.is in
-    omega arith
+    children_left-fewer c.self.invariant.forest c.args.key c.loop-at.invariant.1 c.in-Some.child c.in-Some.is c.next-at.ensures.value
 
 pub loop-at-preserved : goal.loop-at-preserved
 loop-at-preserved c =

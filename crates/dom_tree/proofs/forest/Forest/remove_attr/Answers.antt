@@ -1,54 +1,30 @@
 use Rattle.std.proofs.Common.{ap, sym, ◌∙◌, refl, None}
-use Rattle.dom_model.specs.Tree.{inclusive_ancestors, children_of}
 use Rattle.dom_model.specs.TreeChanges.{with_attribute}
 use Rattle.dom_model.specs.Tree.{attribute_value}
 use Rattle.dom_tree.specs.Contents.{Stored}
-use Rattle.dom_tree.specs.Forest.{name_at, node_with}
+use Rattle.dom_tree.specs.Forest.{node_with}
 use Rattle.dom_tree.proofs.Kept.{shows_node}
-use Rattle.dom_tree.proofs.Setting.{IsKept-set_same, set_names, set_done}
-use Rattle.dom_tree.proofs.Holds.{holds_anew, held_elsewhere}
-use Rattle.dom_laws.proofs.Relatives.{path_changed, children_changed}
+use Rattle.dom_tree.proofs.Setting.{IsKept-set_same}
+use Rattle.dom_tree.proofs.Holds.{IsChangedAt-stored}
 use Rattle.dom_tree.proofs.forest.Forest.remove_attr.Goals as goal
 
 pub invariant_of-self : goal.invariant_of-self
 invariant_of-self c = IsKept-set_same c.self.invariant c.args.key _ c.payload_mut.ensures.value
     (ap (λ (s : Stored). s.name) c.remove_attribute.ensures.without) (ap (λ (s : Stored). s.node.document) c.remove_attribute.ensures.without)
 
-pub returns-clause-value : goal.returns-clause-value
-returns-clause-value c = c.remove_attribute.ensures.value ∙
-    ap (λ n. attribute_value n c.args.name.now) (sym (shows_node c.self.view_is c.self.invariant c.args.key _ c.requires c.payload_mut.ensures.value))
-
-pub returns-clause-names : goal.returns-clause-names
-returns-clause-names c = set_names c.self.view_is c.self.invariant c.args.key _ c.payload_mut.ensures.value
-    (ap (λ (s : Stored). s.name) c.remove_attribute.ensures.without)
-
-pub returns-clause-trees : goal.returns-clause-trees
-returns-clause-trees c = ap (λ f. f.trees)
-    (set_done c.self.view_is c.self.invariant
+pub returns : goal.returns
+returns c =
+    let done = IsChangedAt-stored c.self.view_is c.self.invariant (invariant_of-self c)
     (record { at = c.payload_mut.ensures.value; name_kept = ap (λ (s : Stored). s.name) c.remove_attribute.ensures.without })
-    (with_attribute c.args.name.now None) (λ y. refl)
-    (ap (λ (s : Stored). node_with c.args.self.now.names s.name s.node) c.remove_attribute.ensures.without))
-
-pub returns-clause-above : goal.returns-clause-above
-returns-clause-above c = λ x.
-    let f = c.args.self.now in
-    ap (λ ts. inclusive_ancestors ts x) (returns-clause-trees c)
-    ∙ path_changed (with_attribute c.args.name.now None) (λ n. refl) (name_at f.names c.args.key) f.trees x
-
-pub returns-clause-children : goal.returns-clause-children
-returns-clause-children c = λ x.
-    let f = c.args.self.now in
-    ap (λ ts. children_of ts x) (returns-clause-trees c)
-    ∙ children_changed (with_attribute c.args.name.now None) (λ n. refl) (name_at f.names c.args.key) f.trees x
-
-pub returns-clause-holds : goal.returns-clause-holds
-returns-clause-holds c =
-    holds_anew c.self.view_is c.self.invariant (invariant_of-self c)
-    (record { at = c.payload_mut.ensures.value; name_kept = ap (λ (s : Stored). s.name) c.remove_attribute.ensures.without })
-    c.requires (with_attribute c.args.name.now None)
-    (ap (λ (s : Stored). node_with c.args.self.now.names s.name s.node) c.remove_attribute.ensures.without)
-
-pub returns-clause-held : goal.returns-clause-held
-returns-clause-held c =
-    held_elsewhere c.self.view_is c.self.invariant (invariant_of-self c)
-    (record { at = c.payload_mut.ensures.value; name_kept = ap (λ (s : Stored). s.name) c.remove_attribute.ensures.without })
+    c.requires (with_attribute c.args.name.now None) (λ n. refl)
+    (ap (λ (s : Stored). node_with c.args.self.now.names s.name s.node) c.remove_attribute.ensures.without) in
+    record {
+      value = c.remove_attribute.ensures.value ∙
+          ap (λ n. attribute_value n c.args.name.now) (sym (shows_node c.self.view_is c.self.invariant c.args.key _ c.requires c.payload_mut.ensures.value));
+      names = done.names;
+      trees = done.trees;
+      above = done.above;
+      children = done.children;
+      holds = done.holds;
+      held = done.held;
+    }

@@ -1,14 +1,13 @@
-use Rattle.std.proofs.Common.{◌≡◌, ◌∙◌, ap, set, refl, Some, Result, Ok, Err}
+use Rattle.std.proofs.Common.{◌≡◌, ap, set, refl, Some, Result, Ok, Err}
 use Rattle.std.specs.Prelude.{OnErr}
 use Rattle.dom_model.specs.Tree.{inclusive_ancestors, children_of, node_in}
 use Rattle.dom_model.specs.TreeChanges.{with_attribute}
 use Rattle.dom_tree.specs.Contents.{Stored}
 use Rattle.dom_tree.specs.Forest.{name_at, node_with}
-use Rattle.dom_tree.proofs.Setting.{IsKept-set_same, set_names, set_done}
+use Rattle.dom_tree.proofs.Setting.{IsKept-set_same, set_names}
 use Rattle.dom_tree.proofs.Kept.{seen}
 use Rattle.dom_tree.proofs.Unchanged.{set_same}
-use Rattle.dom_tree.proofs.Holds.{holds_anew, held_elsewhere}
-use Rattle.dom_laws.proofs.Relatives.{path_changed, children_changed}
+use Rattle.dom_tree.proofs.Holds.{IsChangedAt-stored}
 use Rattle.dom_tree.proofs.forest.Forest.set_attr.Goals as goal
 
 pub invariant_of-self : goal.invariant_of-self
@@ -47,36 +46,18 @@ returns-in_err-set_attribute-clause-err c = on_any c.from_residual.result (left 
     on_any (Ok x) p = tt
     on_any (Err e) p = p
 
-pub returns-clause-names : goal.returns-clause-names
-returns-clause-names c = set_names c.self.view_is c.self.invariant c.args.key _ c.payload_mut.ensures.value
-    (ap (λ (s : Stored). s.name) c.in_ok-set_attribute.ensures.ok)
-
-pub returns-clause-ok : goal.returns-clause-ok
-returns-clause-ok c = ap (λ f. f.trees) (set_done c.self.view_is c.self.invariant
+pub returns : goal.returns
+returns c =
+    let done = IsChangedAt-stored c.self.view_is c.self.invariant (invariant_of-self-2 c)
     (record { at = c.payload_mut.ensures.value; name_kept = ap (λ (s : Stored). s.name) c.in_ok-set_attribute.ensures.ok })
-    (with_attribute c.args.name.now (Some c.args.value.items)) (λ y. refl)
-    (ap (λ (s : Stored). node_with c.args.self.now.names s.name s.node) c.in_ok-set_attribute.ensures.ok))
-
-pub returns-clause-above : goal.returns-clause-above
-returns-clause-above c = λ x.
-    let f = c.args.self.now in
-    ap (λ ts. inclusive_ancestors ts x) (returns-clause-ok c)
-    ∙ path_changed (with_attribute c.args.name.now (Some c.args.value.items)) (λ n. refl) (name_at f.names c.args.key) f.trees x
-
-pub returns-clause-children : goal.returns-clause-children
-returns-clause-children c = λ x.
-    let f = c.args.self.now in
-    ap (λ ts. children_of ts x) (returns-clause-ok c)
-    ∙ children_changed (with_attribute c.args.name.now (Some c.args.value.items)) (λ n. refl) (name_at f.names c.args.key) f.trees x
-
-pub returns-clause-holds : goal.returns-clause-holds
-returns-clause-holds c =
-    holds_anew c.self.view_is c.self.invariant (invariant_of-self-2 c)
-    (record { at = c.payload_mut.ensures.value; name_kept = ap (λ (s : Stored). s.name) c.in_ok-set_attribute.ensures.ok })
-    c.requires (with_attribute c.args.name.now (Some c.args.value.items))
-    (ap (λ (s : Stored). node_with c.args.self.now.names s.name s.node) c.in_ok-set_attribute.ensures.ok)
-
-pub returns-clause-held : goal.returns-clause-held
-returns-clause-held c =
-    held_elsewhere c.self.view_is c.self.invariant (invariant_of-self-2 c)
-    (record { at = c.payload_mut.ensures.value; name_kept = ap (λ (s : Stored). s.name) c.in_ok-set_attribute.ensures.ok })
+    c.requires (with_attribute c.args.name.now (Some c.args.value.items)) (λ n. refl)
+    (ap (λ (s : Stored). node_with c.args.self.now.names s.name s.node) c.in_ok-set_attribute.ensures.ok) in
+    record {
+      names = done.names;
+      ok = done.trees;
+      err = tt;
+      above = done.above;
+      children = done.children;
+      holds = done.holds;
+      held = done.held;
+    }

@@ -10,38 +10,24 @@ use Rattle.dom_tree.proofs.forest.Forest.unlink.Goals as goal
 pub invariant_of-self : goal.invariant_of-self
 invariant_of-self c = kept_with c.self.inside.arena c.unlink.new.self _ c.self.invariant (ap (λ a. a.payloads) c.unlink.ensures.unlinked) c.unlink.ensures.sound
 
-pub returns-clause-trees : goal.returns-clause-trees
-returns-clause-trees c = ap (λ g. g.trees)
-    (unlink_done c.self.inside.arena c.self.view_is c.self.invariant c.args.key c.requires
-    c.unlink.ensures.unlinked)
-
-pub returns-clause-unlinked : goal.returns-clause-unlinked
-returns-clause-unlinked c =
-    parent_shown c.self.view_is c.self.invariant (ap (λ a. a.payloads) c.unlink.ensures.unlinked) c.unlink.ensures.sound c.args.key c.requires None
-    (ap (λ (a : Nodes Stored). parent_of a.children c.args.key) c.unlink.ensures.unlinked ∙ unlinked_root c.self.inside.arena.children c.args.key)
-
-apart : (c : goal.After-unlink) → AreSameBut c.args.key c.self.inside.arena.children c.unlink.new.self.children
-apart c = subst (λ (ks : List (List ℕ)). AreSameBut c.args.key c.self.inside.arena.children ks) (ap (λ (a : Nodes Stored). a.children)
-    (sym c.unlink.ensures.unlinked)) (unlinked_apart c.self.inside.arena.children c.args.key)
-
-pub returns-clause-above : goal.returns-clause-above
-returns-clause-above c =
-    moved_above c.self.view_is c.self.invariant (ap (λ a. a.payloads) c.unlink.ensures.unlinked) c.unlink.ensures.sound c.args.key c.requires (apart c)
-
-pub returns-clause-parents : goal.returns-clause-parents
-returns-clause-parents c =
-    moved_parents c.self.view_is c.self.invariant (ap (λ a. a.payloads) c.unlink.ensures.unlinked) c.unlink.ensures.sound c.args.key (apart c)
-
-pub returns-clause-held : goal.returns-clause-held
-returns-clause-held c =
-    held_along c.self.view_is c.self.invariant (ap (λ a. a.payloads) c.unlink.ensures.unlinked) c.unlink.ensures.sound
-
-pub returns-clause-children : goal.returns-clause-children
-returns-clause-children c =
-    children_unlinked c.self.view_is c.self.invariant (ap (λ a. a.payloads) c.unlink.ensures.unlinked) c.unlink.ensures.sound
-    c.args.key c.requires (ap (λ (a : Nodes Stored). a.children) c.unlink.ensures.unlinked)
-
-pub returns-clause-others : goal.returns-clause-others
-returns-clause-others c =
-    children_spared c.self.view_is c.self.invariant (ap (λ a. a.payloads) c.unlink.ensures.unlinked) c.unlink.ensures.sound
-    c.args.key c.requires (ap (λ (a : Nodes Stored). a.children) c.unlink.ensures.unlinked)
+pub returns : goal.returns
+returns c =
+    let old = c.self.inside.arena in
+    let is = c.self.view_is in
+    let kept = c.self.invariant in
+    let sound = c.unlink.ensures.sound in
+    let same = ap (λ (a : Nodes Stored). a.payloads) c.unlink.ensures.unlinked in
+    let lists = ap (λ (a : Nodes Stored). a.children) c.unlink.ensures.unlinked in
+    let done = unlink_done old is kept c.args.key c.requires c.unlink.ensures.unlinked in
+    let apart = subst (λ (ks : List (List ℕ)). AreSameBut c.args.key old.children ks) (sym lists) (unlinked_apart old.children c.args.key) in
+    record {
+      names = ap (λ g. g.names) done;
+      trees = ap (λ g. g.trees) done;
+      unlinked = parent_shown is kept same sound c.args.key c.requires None
+          (ap (λ ks. parent_of ks c.args.key) lists ∙ unlinked_root old.children c.args.key);
+      above = moved_above is kept same sound c.args.key c.requires apart;
+      children = children_unlinked is kept same sound c.args.key c.requires lists;
+      others = children_spared is kept same sound c.args.key c.requires lists;
+      parents = moved_parents is kept same sound c.args.key apart;
+      held = held_along is kept same sound;
+    }
