@@ -3,20 +3,28 @@ use Rattle.std.specs.Result.{is_ok}
 use Rattle.std.proofs.lemmas.List.{length-map}
 use Rattle.node_arena.specs.Owned.{placed}
 use Rattle.node_arena.proofs.StoreLemmas.{alone, IsFree, IsWired-push, seen-push}
+use Rattle.node_arena.proofs.store.Store.make.Given.{Over}
+use Rattle.node_arena.proofs.store.Store.make.Goals.{After-put-place}
 use Rattle.node_arena.proofs.store.Store.make.Goals as goal
+
+-- the cells with the new one
+put : (g : Over) (c : After-put-place g) → c.put-place.new.self.cells ≡ c.self.inside.pool.cells ++
+    placed c.put-place.result.ptr (alone c.args.payload (length c.self.inside.pool.cells) c.nowhere-nowhere.result) ∷ []
+put g c =
+    let list = c.self.inside.list.items in
+    let cells = c.self.inside.pool.cells in
+    let null = c.nowhere-nowhere.result in
+    let number : c.len-index.result ≡ length cells =
+    c.len-index.ensures ∙ c.self.inside.list.ok.0 ∙ sym (length-map list (λ p. p.ptr)) ∙ ap length c.self.invariant.places ∙ length-map cells (λ n. n.at) in
+    let value : c.of-2.result.value ≡ alone c.args.payload (length cells) null =
+    c.of-2.ensures ∙ c.of.ensures ∙ c.in_ok-kept.ensures.ok ∙ ap (λ k. alone c.args.payload k null) number in
+    c.put-place.ensures.cells ∙ ap (λ v. cells ++ placed c.put-place.result.ptr v ∷ []) value
 
 pub invariant_of-self-2 : goal.invariant_of-self-2
 invariant_of-self-2 g c =
     let list = c.self.inside.list.items in
     let cells = c.self.inside.pool.cells in
     let place = c.put-place.result in
-    let null = c.nowhere-nowhere.result in
-    let number : c.len-index.result ≡ length cells =
-    c.len-index.ensures ∙ c.self.inside.list.ok.0 ∙ sym (length-map list (λ p. p.ptr)) ∙ ap length c.self.invariant.places ∙ length-map cells (λ n. n.at) in
-    let value : c.of-2.result.value ≡ alone c.args.payload (length cells) null =
-    c.of-2.ensures ∙ c.of.ensures ∙ c.in_ok-kept.ensures.ok ∙ ap (λ k. alone c.args.payload k null) number in
-    let put : c.put-place.new.self.cells ≡ cells ++ placed place.ptr (alone c.args.payload (length cells) null) ∷ [] =
-    c.put-place.ensures.cells ∙ ap (λ v. cells ++ placed place.ptr v ∷ []) value in
     let room = c.in_ok-reserve.ensures.ok in
     let free : c.reserve.new.self.len < c.reserve.new.self.cap = omega arith in
     let pushed : is_ok c.push.result ≡ true = c.push.ensures.succeeds free in
@@ -25,18 +33,9 @@ invariant_of-self-2 g c =
     ap (λ ps. ps ++ place ∷ []) c.reserve.ensures.items in
     let at_place : IsFree cells place =
     record { absent = c.put-place.ensures.fresh; within = c.put-place.ensures.tested.0; tested = c.put-place.ensures.tested.1 } in
-    rw (listed, put) (IsWired-push null c.args.payload c.self.invariant c.nowhere-nowhere.ensures at_place)
+    rw (listed, put g (goal.at.invariant_of-self-2 g c).After-put-place)
+    (IsWired-push c.nowhere-nowhere.result c.args.payload c.self.invariant c.nowhere-nowhere.ensures at_place)
 
 pub returns-clause-ok : goal.returns-clause-ok
-returns-clause-ok g c =
-    let list = c.self.inside.list.items in
-    let cells = c.self.inside.pool.cells in
-    let place = c.put-place.result in
-    let null = c.nowhere-nowhere.result in
-    let number : c.len-index.result ≡ length cells =
-    c.len-index.ensures ∙ c.self.inside.list.ok.0 ∙ sym (length-map list (λ p. p.ptr)) ∙ ap length c.self.invariant.places ∙ length-map cells (λ n. n.at) in
-    let value : c.of-2.result.value ≡ alone c.args.payload (length cells) null =
-    c.of-2.ensures ∙ c.of.ensures ∙ c.in_ok-kept.ensures.ok ∙ ap (λ k. alone c.args.payload k null) number in
-    let put : c.put-place.new.self.cells ≡ cells ++ placed place.ptr (alone c.args.payload (length cells) null) ∷ [] =
-    c.put-place.ensures.cells ∙ ap (λ v. cells ++ placed place.ptr v ∷ []) value in
-    rw (put, ← c.self.view_is) (seen-push place null c.args.payload c.self.invariant c.nowhere-nowhere.ensures)
+returns-clause-ok g c = rw (put g (goal.at.returns-clause-ok g c).After-put-place, ← c.self.view_is)
+    (seen-push c.put-place.result c.nowhere-nowhere.result c.args.payload c.self.invariant c.nowhere-nowhere.ensures)
