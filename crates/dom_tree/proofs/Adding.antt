@@ -56,10 +56,6 @@ count_of-push : (o : Owner) (names : List NodeName) (x : NodeName) → count_of 
 count_of-push o names x = sum_by-append (λ y. cond (owner_eq y.owner o) 1 0) names (x ∷ []) ∙
     ap (λ n. count_of o names + n) (zero-add (cond (owner_eq x.owner o) 1 0))
 
--- which are no fewer
-count_of-more : (o : Owner) (names : List NodeName) (x : NodeName) → count_of o names ≤ count_of o (names ++ x ∷ [])
-count_of-more o names x = omega (arith, count_of-push o names x)
-
 -- the node that is added
 pub record Adds (ps : List Stored) (lists : List (List ℕ)) (keys more : Owner → List ℕ) (o : Owner) (s : Stored) : Type 0 where
   pub kept : IsKept ps lists keys

@@ -1,7 +1,6 @@
 -- Walks over the children of a node.
 use Rattle.std.proofs.Common.{◌≡◌, ◌≢◌, ◌⊎◌, inl, inr, ℕ, suc, ◌+◌, ◌<◌, Bool, true, false, not, cond, ◌&&◌, ◌||◌, eqb, List, [], ◌∷◌, map, length}
 use Rattle.std.proofs.Common.{Option, Some, None, refl, sym, ap, subst, ◌∙◌, arith, true≢false}
-use Rattle.std.specs.Prelude.{slice_get}
 use Rattle.std.specs.List.{list_any}
 use Rattle.node_arena.specs.contracts.key.KeyPartialEq.TheImpl as KeyImpl
 use Rattle.std.proofs.lemmas.Bool.Decides.{eqb_tells}
@@ -22,7 +21,7 @@ use Rattle.dom_tree.proofs.Rows.{name_of_key}
 use Rattle.dom_tree.proofs.Reach.{roots-Stands, trees_below-Stands}
 use Rattle.dom_tree.proofs.Changes.{IsWhole, subtree_here}
 use Rattle.dom_tree.proofs.Reading.{name_of_key-eq, node_in-at}
-use Rattle.dom_tree.proofs.Kept.{seen, IsWhole-kept, name_at-same, names_option, within, node_at-stored}
+use Rattle.dom_tree.proofs.Kept.{seen, IsWhole-kept, name_at-same, names_option, within}
 
 -- a list from one of its members on
 abbrev pub suffix_from : List ℕ → ℕ → List ℕ
@@ -172,25 +171,6 @@ shows_has_text {f = f} {ps = ps} {lists = lists} {keys = keys} is kept x node =
     ∙ ap (λ y. has_text (child_nodes (trees_of (nodes_of ps) lists) y)) (sym (name_at-same (stored_names ps) ps x))))
 
 -- the tests, as a caller sees them
-pub shows_counted : {f : NamedTrees} {ps : List Stored} {lists : List (List ℕ)} {keys : Owner → List ℕ} → seen ps lists ≡ f → IsKept ps lists keys
-    → (k : ℕ) (apart : Option ℕ) → k < length f.names →
-    (is_element (kind_of f.trees (name_at f.names k)) && not (is_given (option_map (name_at f.names) apart) (name_at f.names k))) ≡ is_counted
-    (nodes_of ps) apart k
-unfolding is_counted
-shows_counted {f = f} {ps = ps} {lists = lists} {keys = keys} is kept k apart node =
-    let inside = within is kept k node in
-    subst (λ (g : NamedTrees). (is_element (kind_of g.trees (name_at g.names k)) &&
-    not (is_given (option_map (name_at g.names) apart) (name_at g.names k))) ≡ is_counted (nodes_of ps) apart k) is
-    (ap (λ y. is_element (kind_of (trees_of (nodes_of ps) lists) y) && not (is_given (option_map (name_at (stored_names ps)) apart) y))
-    (name_at-same (stored_names ps) ps k)
-    ∙ (ap (λ (n : Node). is_element n.kind && not (is_given (option_map (name_at (stored_names ps)) apart) (name_of_key (nodes_of ps) k)))
-    (node_in-at (nodes_of ps) lists (IsWhole-kept kept) k (omega (arith, kept.paired)))
-    ∙ ap (λ o. is_element (node_at (nodes_of ps) k).kind && not (is_given o (name_of_key (nodes_of ps) k))) (names_option ps apart)))
-
-pub is_text_key-stored : (ps : List Stored) (k : ℕ) (s : Stored) → slice_get ps k ≡ Some s → is_text_key (nodes_of ps) k ≡ is_text s.node.kind
-unfolding is_text_key
-is_text_key-stored ps k s at = ap (λ n. is_text n.kind) (node_at-stored (stored_names ps) ps k s at)
-
 pub shows_text : {f : NamedTrees} {ps : List Stored} {lists : List (List ℕ)} {keys : Owner → List ℕ} → seen ps lists ≡ f → IsKept ps lists keys
     → (k : ℕ) → k < length f.names → is_text (kind_of f.trees (name_at f.names k)) ≡ is_text_key (nodes_of ps) k
 unfolding is_text_key
