@@ -18,7 +18,7 @@ use Rattle.dom_laws.proofs.Steps.{within-itself, top_places, last_child, no_last
 use Rattle.dom_laws.proofs.Shapes.{above-proper}
 use Rattle.dom_traversal.proofs.Opening.{all-from}
 use Rattle.dom_traversal.proofs.Stops.{IsBelow, within-below, other-below}
-use Rattle.dom_traversal.proofs.Aback.{FollowsBack}
+use Rattle.dom_traversal.proofs.SearchBack.{FollowsBack}
 use Rattle.dom_traversal.proofs.Reaching.{opened-above}
 use Rattle.dom_traversal.proofs.ReachingBack.{steps-filter}
 use Rattle.dom_traversal.proofs.Candidates.{children-reached, below-member}

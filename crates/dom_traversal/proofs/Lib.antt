@@ -10,7 +10,7 @@ mod Nested
 mod Beginning
 mod Backward
 mod Parents
-mod Aback
+mod SearchBack
 mod ReachingBack
 mod BeginningBack
 mod Fewer

@@ -136,10 +136,10 @@ aside_up {ts} {top} {x} {p} f b next up e =
 -- ---- aside, towards the beginning
 
 -- before a node comes last the tree of its previous sibling
-pub aback_previous : {ts : Trees} {top x s : NodeName} (f : Filter) → IsBelow ts top x → previous_sibling ts x ≡ Some s
+pub ahead_of-previous : {ts : Trees} {top x s : NodeName} (f : Filter) → IsBelow ts top x → previous_sibling ts x ≡ Some s
     → (ahead_of ts (stop_above ts f top x) x ≡ ahead_of ts (stop_above ts f top x) s ++ inclusive_descendants ts s) × IsBelow ts top s ×
     (ancestors ts s ≡ ancestors ts x)
-aback_previous {ts} {top} {x} {s} f b previous =
+ahead_of-previous {ts} {top} {x} {s} f b previous =
     let stop = stop_above ts f top x in
     let b_stop = below-stop ts f top x b in
     let is = previous_places (within-below ts stop x b_stop) (other-below ts stop x b_stop) previous in
@@ -147,9 +147,9 @@ aback_previous {ts} {top} {x} {s} f b previous =
     (is.1, its.0, its.1)
 
 -- without one its parent
-pub aback_up : {ts : Trees} {top x p : NodeName} (f : Filter) → IsBelow ts top x → previous_sibling ts x ≡ None → parent_of ts x ≡ Some p →
+pub ahead_of-parent : {ts : Trees} {top x p : NodeName} (f : Filter) → IsBelow ts top x → previous_sibling ts x ≡ None → parent_of ts x ≡ Some p →
     ahead_of ts (stop_above ts f top x) x ≡ ahead_of ts (stop_above ts f top x) p ++ p ∷ []
-aback_up {ts} {top} {x} f b previous up =
+ahead_of-parent {ts} {top} {x} f b previous up =
     let stop = stop_above ts f top x in
     let b_stop = below-stop ts f top x b in
     no_previous (within-below ts stop x b_stop) (other-below ts stop x b_stop) up previous

@@ -1,11 +1,11 @@
 use Rattle.std.proofs.Common.{None, refl, sym}
 use Rattle.dom_traversal.specs.Filters.{filter_of}
 use Rattle.dom_traversal.proofs.Aside.{no_parent_below, rises}
-use Rattle.dom_traversal.proofs.Aback.{Aback-begin, back_found, back_up, back_ends}
+use Rattle.dom_traversal.proofs.SearchBack.{HasRisen-begin, back_found, back_up, back_ends}
 use Rattle.dom_traversal.proofs.filter.Filter.aback.Goals as goal
 
 pub up-init : goal.up-init
-up-init c = Aback-begin c.args.forest.now (filter_of c.args.self.now) c.args.top c.args.key c.requires.below
+up-init c = HasRisen-begin c.args.forest.now (filter_of c.args.self.now) c.args.top c.args.key c.requires.below
 
 pub returns-then-is_some : goal.returns-then-is_some
 returns-then-is_some c =

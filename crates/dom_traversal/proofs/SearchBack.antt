@@ -17,11 +17,11 @@ use Rattle.dom_laws.proofs.Lists.{name_eq-from, filter-no}
 use Rattle.dom_laws.proofs.Steps.{top_places, within-top}
 use Rattle.dom_tree.proofs.Standing.{StandOnce, StandAlone}
 use Rattle.dom_laws.proofs.Options.{no_key, was_some}
-use Rattle.dom_traversal.proofs.Stops.{IsBelow, within-below, stop-here, path_up, below-stop, aback_previous, aback_up}
+use Rattle.dom_traversal.proofs.Stops.{IsBelow, within-below, stop-here, path_up, below-stop, ahead_of-previous, ahead_of-parent}
 use Rattle.dom_traversal.proofs.Aside.{IsBelow-key, StandsBelow-key, SameStop, rises}
 
 -- from a key the search has risen to another one, and what lies between is not accepted
-pub record Aback (f : NamedTrees) (filter_at : Filter) (top key at : ℕ) : Type 0 where
+pub record HasRisen (f : NamedTrees) (filter_at : Filter) (top key at : ℕ) : Type 0 where
   pub below : StandsBelow f top at
   pub stop : SameStop f filter_at top at (stop_above f.trees filter_at (name_at f.names top) (name_at f.names key))
   pub passed : List NodeName
@@ -32,8 +32,8 @@ pub record Aback (f : NamedTrees) (filter_at : Filter) (top key at : ℕ) : Type
   pub path : ancestors f.trees (name_at f.names key) ≡ above ++ ancestors f.trees (name_at f.names at)
 
 -- the search begins at the key itself
-pub Aback-begin : (f : NamedTrees) (filter_at : Filter) (top key : ℕ) → StandsBelow f top key → Aback f filter_at top key key
-Aback-begin f filter_at top key s = record {
+pub HasRisen-begin : (f : NamedTrees) (filter_at : Filter) (top key : ℕ) → StandsBelow f top key → HasRisen f filter_at top key key
+HasRisen-begin f filter_at top key s = record {
   below = s;
   stop = refl;
   passed = [];
@@ -51,10 +51,14 @@ pub record FollowsBack (f : NamedTrees) (filter_at : Filter) (top key : ℕ) (fo
   pub stop : ForSome found (λ j. SameStop f filter_at top j (stop_above f.trees filter_at (name_at f.names top) (name_at f.names key)))
   pub path : ForSome found (λ j. (above : List NodeName) × (ancestors f.trees (name_at f.names key) ≡ above ++ ancestors f.trees (name_at f.names j)))
 
-module _ (f : NamedTrees) (once : StandOnce f) (only : StandAlone f) (filter_at : Filter) (top key at : ℕ) (a : Aback f filter_at top key at) where
+module _ (f : NamedTrees) (once : StandOnce f) (only : StandAlone f) (filter_at : Filter) (top key at : ℕ) (a : HasRisen f filter_at top key at) where
+  -- the stop of the search
+  abbrev limit : NodeName
+  limit = stop_above f.trees filter_at (name_at f.names top) (name_at f.names key)
+
   -- what stands before the node it has come to, in the tree of the stop
   stop_at : ahead_of f.trees (stop_above f.trees filter_at (name_at f.names top) (name_at f.names at)) (name_at f.names at)
-      ≡ ahead_of f.trees (stop_above f.trees filter_at (name_at f.names top) (name_at f.names key)) (name_at f.names at)
+      ≡ ahead_of f.trees limit (name_at f.names at)
   stop_at = ap (λ z. ahead_of f.trees z (name_at f.names at)) a.stop
 
   -- a sibling before is where a step back leads
@@ -65,29 +69,18 @@ module _ (f : NamedTrees) (once : StandOnce f) (only : StandAlone f) (filter_at 
       let found = was_some previous some in
       let named : (j : ℕ) → previous ≡ Some j → previous_sibling f.trees (name_at f.names at) ≡ Some (name_at f.names j) =
       λ j e. sym is ∙ ap (option_map (name_at f.names)) e in
-      let steps : (j : ℕ) → previous ≡ Some j → ahead_of f.trees (stop_above f.trees filter_at (name_at f.names top) (name_at f.names key)) (name_at f.names at)
-      ≡ up_to_tree f.trees (stop_above f.trees filter_at (name_at f.names top) (name_at f.names key)) (Some (name_at f.names j)) =
-      λ j e. sym stop_at ∙ ((aback_previous filter_at b (named j e)).0
-      ∙ ap (λ z. up_to_tree f.trees z (Some (name_at f.names j))) a.stop) in
+      let steps : (j : ℕ) → previous ≡ Some j → ahead_of f.trees limit (name_at f.names at) ≡ up_to_tree f.trees limit (Some (name_at f.names j)) =
+      λ j e. sym stop_at ∙ ((ahead_of-previous filter_at b (named j e)).0 ∙ ap (λ z. up_to_tree f.trees z (Some (name_at f.names j))) a.stop) in
       record {
         value = record {
           passed = a.passed;
           split = a.split ∙ ap (λ xs. xs ++ a.passed)
-              (steps found.0 found.1 ∙ ap
-              (λ o. up_to_tree f.trees (stop_above f.trees filter_at (name_at f.names top) (name_at f.names key))
-              (option_map (name_at f.names) o)) (sym found.1));
+              (steps found.0 found.1 ∙ ap (λ o. up_to_tree f.trees limit (option_map (name_at f.names) o)) (sym found.1));
           none_accepted = a.none_accepted;
         };
-        below = λ j e. StandsBelow-key f top j (node j e)
-            (aback_previous filter_at b (named j e)).1;
-        stop = λ j e. same_path (name_at f.names j)
-            (aback_previous filter_at b (named j e)).2 ∙ a.stop;
-        path = λ j e. (
-          a.above,
-          a.path ∙
-              ap (λ xs. a.above ++ xs) (sym
-              (aback_previous filter_at b (named j e)).2),
-        );
+        below = λ j e. StandsBelow-key f top j (node j e) (ahead_of-previous filter_at b (named j e)).1;
+        stop = λ j e. same_path (name_at f.names j) (ahead_of-previous filter_at b (named j e)).2 ∙ a.stop;
+        path = λ j e. (a.above, a.path ∙ ap (λ xs. a.above ++ xs) (sym (ahead_of-previous filter_at b (named j e)).2));
       }
     where
       same_path : (y : NodeName) → ancestors f.trees y ≡ ancestors f.trees (name_at f.names at) →
@@ -98,13 +91,12 @@ module _ (f : NamedTrees) (once : StandOnce f) (only : StandAlone f) (filter_at 
       (is : option_map (name_at f.names) previous ≡ previous_sibling f.trees (name_at f.names at)) (none_left : is_some previous ≡ false) where
     leaves : ahead_of f.trees (stop_above f.trees filter_at (name_at f.names top) (name_at f.names at)) (name_at f.names at)
         ≡ ahead_of f.trees (stop_above f.trees filter_at (name_at f.names top) (name_at f.names at)) (name_at f.names p) ++ name_at f.names p ∷ []
-    leaves = aback_up filter_at (IsBelow-key f once only top at a.below)
+    leaves = ahead_of-parent filter_at (IsBelow-key f once only top at a.below)
         (no_key (name_at f.names) previous is none_left) (sym up)
 
-    pub back_up : p < length f.names → is_stop f.trees filter_at (name_at f.names top) (name_at f.names p) ≡ false → Aback f filter_at top key p
+    pub back_up : p < length f.names → is_stop f.trees filter_at (name_at f.names top) (name_at f.names p) ≡ false → HasRisen f filter_at top key p
     back_up node e =
         let r = rises f once only filter_at top at p a.below up node e in
-        let limit = stop_above f.trees filter_at (name_at f.names top) (name_at f.names key) in
         let b = IsBelow-key f once only top at a.below in
         record {
           below = r.below;
@@ -126,7 +118,6 @@ module _ (f : NamedTrees) (once : StandOnce f) (only : StandAlone f) (filter_at 
 
     pub back_ends : is_stop f.trees filter_at (name_at f.names top) (name_at f.names p) ≡ true → FollowsBack f filter_at top key None
     back_ends e =
-        let limit = stop_above f.trees filter_at (name_at f.names top) (name_at f.names key) in
         let b = IsBelow-key f once only top at a.below in
         let here_stop = stop-here f.trees filter_at (name_at f.names top) (name_at f.names at) (name_at f.names p) b (sym up) e in
         let b_stop = subst (λ z. IsBelow f.trees z (name_at f.names at)) here_stop
