@@ -1,5 +1,5 @@
 //! What one owner has of cursors.
-ghost use Rattle.std.specs.Prelude.{◌≡◌, ℕ, ◌≤◌, ◌↔◌, ◌⊎◌, ◌++◌, ◌∷◌, [], length, true, false, is_some, slice_get, slice_set, IfOk, IfErr, OnOk, OnErr};
+ghost use Rattle.std.specs.Prelude.{◌≡◌, ℕ, ◌≤◌, ◌↔◌, ◌⊎◌, ◌++◌, ◌∷◌, [], length, true, is_some, slice_get, slice_set, IfOk, IfErr, OnOk, OnErr};
 ghost use Rattle.std.specs.Prelude.{◌<◌, Some};
 ghost use Rattle.std.specs.Option.{option_map, ForSome};
 ghost use Rattle.dom_base.specs.declared.Refusal.TheVariants.{Limit};
