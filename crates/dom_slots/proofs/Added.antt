@@ -7,7 +7,6 @@ use Rattle.std.proofs.lemmas.Bool.{cases_Bool, cond-false, eqb-true}
 use Rattle.std.proofs.lemmas.List.{length_push}
 use Rattle.std.proofs.lemmas.List.Elements.{All-head, All-tail}
 use Rattle.std.proofs.lemmas.List.Folds.{find-append}
-use Rattle.std.proofs.lemmas.Option.{same_Some, none-some}
 use Rattle.std.proofs.Math.ListN.{get_or-append}
 use Rattle.std.proofs.Math.Nat.{eq-or-lt_of_le}
 use Rattle.std.proofs.Math.Seq.{get_or-append_seam}
@@ -29,6 +28,7 @@ use Rattle.dom_slots.specs.Hosts.{ShadowHost, HostsAreNodes, host_named, root_na
 use Rattle.dom_slots.specs.Kept.{SlotsNow, HasOneMore, AreSlotsOf}
 use Rattle.dom_slots.specs.Shadows.{ShadowTrees, shadow_trees, slot_at, assigned_at, assigned_under}
 use Rattle.dom_slots.specs.Tables.{list_of}
+use Rattle.dom_slots.proofs.Hosted.{host-key, root-key}
 
 -- ---- a tree of one node among others
 
@@ -123,23 +123,24 @@ module _ (names : List NodeName) (x : NodeName) where
   picked f true h o = refl
   picked f false h o = refl
 
+  found_kept : (by of : ShadowHost → ℕ) → ((h : ShadowHost) → h.host < length names → h.root < length names → (by h < length names) × (of h < length names)) →
+      (hosts : List ShadowHost) → HostsAreNodes names hosts → (r : NodeName) →
+      option_map (λ g. name_at more (of g)) (find (λ g. name_eq r (name_at more (by g))) hosts)
+      ≡ option_map (λ g. name_at names (of g)) (find (λ g. name_eq r (name_at names (by g))) hosts)
+  found_kept by of within [] nodes r = refl
+  found_kept by of within (h ∷ hosts) nodes r =
+      let w = within h nodes.0 nodes.1 in
+      let key = name_kept (by h) w.0 in
+      let value = name_kept (of h) w.1 in
+      picked (λ g. name_at more (of g)) (name_eq r (name_at more (by h))) h (find (λ g. name_eq r (name_at more (by g))) hosts)
+      ∙ ((λ j. if name_eq r (key j) then Some (value j) else found_kept by of within hosts nodes.2 r j) ∙
+      sym (picked (λ g. name_at names (of g)) (name_eq r (name_at names (by h))) h (find (λ g. name_eq r (name_at names (by g))) hosts)))
+
   host_kept : (hosts : List ShadowHost) → HostsAreNodes names hosts → (r : NodeName) → host_named more hosts r ≡ host_named names hosts r
-  host_kept [] nodes r = refl
-  host_kept (h ∷ hosts) nodes r =
-      let root = name_kept h.root nodes.1 in
-      let host = name_kept h.host nodes.0 in
-      picked (λ g. name_at more g.host) (name_eq r (name_at more h.root)) h (find (λ g. name_eq r (name_at more g.root)) hosts)
-      ∙ ((λ j. if name_eq r (root j) then Some (host j) else host_kept hosts nodes.2 r j) ∙
-      sym (picked (λ g. name_at names g.host) (name_eq r (name_at names h.root)) h (find (λ g. name_eq r (name_at names g.root)) hosts)))
+  host_kept = found_kept (λ h. h.root) (λ h. h.host) (λ h i j. (j, i))
 
   root_kept : (hosts : List ShadowHost) → HostsAreNodes names hosts → (r : NodeName) → root_named more hosts r ≡ root_named names hosts r
-  root_kept [] nodes r = refl
-  root_kept (h ∷ hosts) nodes r =
-      let root = name_kept h.root nodes.1 in
-      let host = name_kept h.host nodes.0 in
-      picked (λ g. name_at more g.root) (name_eq r (name_at more h.host)) h (find (λ g. name_eq r (name_at more g.host)) hosts)
-      ∙ ((λ j. if name_eq r (host j) then Some (root j) else root_kept hosts nodes.2 r j) ∙
-      sym (picked (λ g. name_at names g.root) (name_eq r (name_at names h.host)) h (find (λ g. name_eq r (name_at names g.host)) hosts)))
+  root_kept = found_kept (λ h. h.host) (λ h. h.root) (λ h i j. (i, j))
 
   module _ (new : (k : ℕ) → k < length names → name_at names k ≡ x → ⊥) where
     -- the new node has no host
@@ -152,34 +153,10 @@ module _ (names : List NodeName) (x : NodeName) where
 
     -- and is no host and no shadow root
     root_other : (hosts : List ShadowHost) → HostsAreNodes names hosts → (p r : NodeName) → root_named names hosts p ≡ Some r → x ≡ r → ⊥
-    root_other [] nodes p r e same = absurd (none-some r e)
-    root_other (h ∷ hosts) nodes p r e same = by (name_eq p (name_at names h.host)) refl (root_other hosts nodes.2 p r)
-      where
-        by : (b : Bool) → name_eq p (name_at names h.host) ≡ b → (root_named names hosts p ≡ Some r → x ≡ r → ⊥) → ⊥
-        by true i deeper =
-            new h.root nodes.1
-            (same_Some (name_at names h.root) r
-            (sym (ap (λ (b : Bool). option_map (λ (g : ShadowHost). name_at names g.root)
-            (if b then Some h else find (λ g. name_eq p (name_at names g.host)) hosts)) i) ∙ e)
-            ∙ sym same)
-        by false i deeper = deeper (sym (ap
-            (λ (b : Bool). option_map (λ (g : ShadowHost). name_at names g.root)
-            (if b then Some h else find (λ g. name_eq p (name_at names g.host)) hosts)) i) ∙ e) same
+    root_other hosts nodes p r e same = let k = root-key names hosts nodes p r e in new k.0 k.1 (k.2 ∙ sym same)
 
     host_other : (hosts : List ShadowHost) → HostsAreNodes names hosts → (r h : NodeName) → host_named names hosts r ≡ Some h → x ≡ h → ⊥
-    host_other [] nodes r h e same = absurd (none-some h e)
-    host_other (g ∷ hosts) nodes r h e same = by (name_eq r (name_at names g.root)) refl (host_other hosts nodes.2 r h)
-      where
-        by : (b : Bool) → name_eq r (name_at names g.root) ≡ b → (host_named names hosts r ≡ Some h → x ≡ h → ⊥) → ⊥
-        by true i deeper =
-            new g.host nodes.0
-            (same_Some (name_at names g.host) h
-            (sym (ap (λ (b : Bool). option_map (λ (k : ShadowHost). name_at names k.host)
-            (if b then Some g else find (λ k. name_eq r (name_at names k.root)) hosts)) i) ∙ e)
-            ∙ sym same)
-        by false i deeper = deeper (sym (ap
-            (λ (b : Bool). option_map (λ (k : ShadowHost). name_at names k.host)
-            (if b then Some g else find (λ k. name_eq r (name_at names k.root)) hosts)) i) ∙ e) same
+    host_other hosts nodes r h e same = let k = host-key names hosts nodes r h e in new k.0 k.1 (k.2 ∙ sym same)
 
 -- ---- what is assigned
 

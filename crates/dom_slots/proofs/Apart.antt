@@ -18,7 +18,8 @@ use Rattle.dom_laws.proofs.Lists.{In, In-parts}
 use Rattle.dom_laws.proofs.Shapes.{Has}
 use Rattle.dom_slots.specs.Hosts.{ShadowHost, host_named}
 use Rattle.dom_slots.specs.Insides.{own_slots}
-use Rattle.dom_slots.specs.Kept.{BegunStep, SlotsNow, StandsOnce, IsEndOf}
+use Rattle.dom_slots.specs.Kept.{SlotsNow, StandsOnce, IsEndOf}
+use Rattle.dom_slots.specs.declared.step.SlotChange.{SlotChange}
 use Rattle.dom_slots.specs.Renewals.{AreRenewed, IsButFor}
 use Rattle.dom_slots.specs.Shadows.{shadows, shadow_trees, slot_at, assigned_at, is_bare_at, is_changed_at, signalled_by}
 use Rattle.dom_slots.specs.Steps.{StepHasNodes, step_node, is_move, around_of, left_by, IsStepFrom, step_signals, is_outside, is_apart}
@@ -74,7 +75,7 @@ not_bare f hosts b y e =
 
 -- ---- the end of a step
 
-module _ (was : Trees) (f : NamedTrees) (s : SlotsNow) (b : BegunStep) (ended : IsEndOf was f s b) (stands : StandsOnce f)
+module _ (was : Trees) (f : NamedTrees) (s : SlotsNow) (b : SlotChange) (ended : IsEndOf was f s b) (stands : StandsOnce f)
     (apart : is_apart (shadows f s.hosts) (name_at f.names (step_node b.step)) (option_map (name_at f.names) b.left) ≡ true) where
   abbrev x : NodeName
   x = name_at f.names (step_node b.step)
@@ -117,9 +118,9 @@ module _ (was : Trees) (f : NamedTrees) (s : SlotsNow) (b : BegunStep) (ended : 
       × (around_of step b.left ≡ None → (parent_of was (At step) ≡ None) × (parent_of f.trees (At step) ≡ None)) × Still step f.trees
 
   keeps : Keeps b.step
-  keeps = by b.step ended.nodes ended.step ended.left_is tests.2 aside_from
+  keeps = by b.step ended.nodes ended.step ended.begun.left tests.2 aside_from
     where
-      by : (step : Step) → StepHasNodes f.names step → IsStepFrom f.names was f.trees step b.left →
+      by : (step : Step) → StepHasNodes f.names step → IsStepFrom f.names was f.trees step →
           option_map (name_at f.names) b.left ≡ left_by f.names was step
           → Outside f.names s.hosts f.trees (parent_of f.trees (At step)) →
           (Outside f.names s.hosts f.trees (parent_of was (At step)) → IsAside f.names s.hosts (At step) was f.trees) → Keeps step
@@ -137,12 +138,12 @@ module _ (was : Trees) (f : NamedTrees) (s : SlotsNow) (b : BegunStep) (ended : 
           )
       by (Removal y) nodes is left up aside =
           let a = aside (subst (Outside f.names s.hosts f.trees) left tests.1) in (
-            removal_keeps f.names s.hosts (name_at f.names y) was f.trees a (there-was was f s b ended stands y nodes) is.1,
+            removal_keeps f.names s.hosts (name_at f.names y) was f.trees a (there-was was f s b ended stands y nodes) is,
             λ k e. not_bare f s.hosts true (name_at f.names k) (a.left (name_at f.names k) (sym left ∙ ap (option_map (name_at f.names)) e)),
             λ e. (
               sym left ∙ ap (option_map (name_at f.names)) e,
               removal-unparented (name_at f.names y) was f.trees a.both.once_was
-                  (there-was was f s b ended stands y nodes) is.1,
+                  (there-was was f s b ended stands y nodes) is,
             ),
             λ no_move. absurd (true≢false no_move),
           )

@@ -1,11 +1,11 @@
 -- What the end of a step signals, and what stands before and after it.
-use Rattle.std.proofs.Common.{◌≡◌, ℕ, ◌<◌, Bool, true, false, not, List, [], ◌∷◌, ◌++◌, None, Some, map, length, refl, sym, ap, subst, ◌∙◌, true≢false}
-use Rattle.std.specs.Prelude.{find, if◌then◌else◌, option_to_list}
+use Rattle.std.proofs.Common.{◌≡◌, ℕ, ◌<◌, Bool, true, false, not, List, [], ◌++◌, None, map, length, refl, sym, ap, subst, ◌∙◌, true≢false}
+use Rattle.std.specs.Prelude.{option_to_list}
 use Rattle.std.specs.Option.{option_map, option_map_or, option_and_then}
 use Rattle.std.proofs.lemmas.Bool.{or_parts, true_from_ne_false}
 use Rattle.std.proofs.lemmas.List.Elements.{All-nil}
 use Rattle.std.proofs.lemmas.List.Folds.{list_any-append}
-use Rattle.std.proofs.lemmas.Option.{same_Some, none-some, get_or_from_slice_get, slice_get_within}
+use Rattle.std.proofs.lemmas.Option.{get_or_from_slice_get, slice_get_within}
 use Rattle.dom_base.specs.declared.NodeName.{NodeName}
 use Rattle.dom_base.specs.declared.Owner.TheVariants.{Page}
 use Rattle.dom_model.specs.Names.{name_eq, is_in, list_eq, node_of}
@@ -16,17 +16,18 @@ use Rattle.dom_tree.specs.Apart.{TellApart}
 use Rattle.dom_tree.proofs.Standing.{Once-forest, Has-forest}
 use Rattle.dom_laws.proofs.Lists.{In}
 use Rattle.dom_laws.proofs.Shapes.{Has}
-use Rattle.dom_slots.specs.Hosts.{ShadowHost, HostsAreNodes, host_named}
+use Rattle.dom_slots.specs.Hosts.{ShadowHost}
 use Rattle.dom_slots.specs.Insides.{own_slots}
-use Rattle.dom_slots.specs.Kept.{BegunStep, SlotsNow, StandsOnce, AreSlotsOf, IsBegun, IsEndOf}
+use Rattle.dom_slots.specs.Kept.{SlotsNow, StandsOnce, AreSlotsOf, IsBegun, IsEndOf}
+use Rattle.dom_slots.specs.declared.step.SlotChange.{SlotChange}
 use Rattle.dom_slots.specs.Renewals.{AreRenewed, IsButFor, names_but}
 use Rattle.dom_slots.specs.Shadows.{ShadowTrees, shadows, shadow_trees, slot_at, assigned_at, is_assigned_at, is_changed_at, signalled_by}
-use Rattle.dom_slots.specs.Steps.{StepHasNodes, IsStepFrom, step_node, around_of, is_move, left_by, step_signals}
+use Rattle.dom_slots.specs.Steps.{StepHasNodes, IsStepFrom, step_node, around_of, is_move, step_signals}
 use Rattle.dom_slots.specs.declared.step.Step.{Step}
 use Rattle.dom_slots.specs.declared.step.Step.TheVariants.{Place, Removal, Attribute}
 use Rattle.dom_slots.specs.Tables.{SlotTable, list_of, IsTableOf}
 use Rattle.dom_slots.proofs.Assigned.{listed-slot}
-use Rattle.dom_slots.proofs.Hosted.{named-key}
+use Rattle.dom_slots.proofs.Hosted.{named-key, host-key}
 use Rattle.dom_slots.proofs.Moved.{AreBoth}
 use Rattle.dom_slots.proofs.Settled.{KeepsBut}
 use Rattle.dom_slots.proofs.Signalled.{list_eq-self}
@@ -39,68 +40,36 @@ node-within names (Removal x) nodes = nodes
 node-within names (Attribute x) nodes = nodes
 
 -- what is signalled around a node, by the tables
-abbrev pub told_by : NamedTrees → List ShadowHost → (NodeName → Bool) → BegunStep → List NodeName
+abbrev pub told_by : NamedTrees → List ShadowHost → (NodeName → Bool) → SlotChange → List NodeName
 told_by f hosts p b =
     option_map_or (λ around. signalled_by p (shadows f hosts) (option_map (name_at f.names) b.slot) (name_at f.names (step_node b.step))
     (name_at f.names around) (is_move b.step)) (around_of b.step b.left) []
 
 -- is what the step signals
-pub told-signals : (was : Trees) (f : NamedTrees) (s : SlotsNow) (b : BegunStep) → IsEndOf was f s b
+pub told-signals : (was : Trees) (f : NamedTrees) (s : SlotsNow) (b : SlotChange) → IsEndOf was f s b
     → told_by f s.hosts (is_changed_at (shadow_trees f.names was s.hosts) (shadows f s.hosts)) b ≡ step_signals f.names
     (shadow_trees f.names was s.hosts) (shadows f s.hosts) b.step b.left
 told-signals was f s b h =
     let p = is_changed_at (shadow_trees f.names was s.hosts) (shadows f s.hosts) in
     ap (λ slot. option_map_or (λ around. signalled_by p (shadows f s.hosts) slot (name_at f.names (step_node b.step)) (name_at f.names around)
-    (is_move b.step)) (around_of b.step b.left) []) h.slot
+    (is_move b.step)) (around_of b.step b.left) []) h.begun.slot
 
--- A step that was begun and done, and nothing else: the forest and the slots before it, and those after it.
-pub record IsDone (old new : NamedTrees) (before after : SlotsNow) (step : Step) (b : BegunStep) : Type 0 where
-  pub names : new.names ≡ old.names
-  pub nodes : StepHasNodes old.names step
-  pub slots : AreSlotsOf old before
-  pub hosts : after.hosts ≡ before.hosts
-  pub table : after.table ≡ before.table
-  pub begun : after.begun ≡ Some b
-  pub is_begun : IsBegun old before.hosts step b
-  pub moved : IsStepFrom old.names old.trees new.trees step b.left
-
--- it is at its end
-pub step-ends : {old new : NamedTrees} {before after : SlotsNow} {step : Step} {b : BegunStep} → IsDone old new before after step b →
-    IsEndOf old.trees new after b
-step-ends {old} {new} {before} {after} {step} {b} h =
-    let is = h.is_begun in
-    let mine : SlotsNow = record { hosts = before.hosts; table = before.table; begun = Some b } in
-    let its : after ≡ mine = λ j. record { hosts = h.hosts j; table = h.table j; begun = h.begun j } in
-    let here : NamedTrees = record { names = old.names; trees = new.trees } in
-    let there : new ≡ here = λ j. record { names = h.names j; trees = new.trees } in
-    let done : IsEndOf old.trees here mine b = record {
-      begun = refl;
-      stands = is.stands;
-      left_is = is.left ∙ ap (left_by old.names old.trees) (sym is.same);
-      nodes = subst (StepHasNodes old.names) (sym is.same) h.nodes;
-      left = is.left_node;
-      slot_node = is.slot_node;
-      slot = is.slot ∙ ap (λ s. slot_at (shadow_trees old.names old.trees before.hosts) (name_at old.names (step_node s))) (sym is.same);
-      step = subst (λ s. IsStepFrom old.names old.trees new.trees s b.left) (sym is.same) h.moved;
-      slots = record { hosts = h.slots.hosts; table = h.slots.table };
-    } in
-    subst (λ f. IsEndOf old.trees f after b) (sym there) (subst (λ s. IsEndOf old.trees here s b) (sym its) done)
-
--- ---- hosts are nodes
-
-pub host-key : (names : List NodeName) (hosts : List ShadowHost) → HostsAreNodes names hosts → (r h : NodeName) → host_named names hosts r ≡ Some h →
-    (k : ℕ) × (k < length names) × (name_at names k ≡ h)
-host-key names [] nodes r h e = absurd (none-some h e)
-host-key names (g ∷ hosts) nodes r h e = by (name_eq r (name_at names g.root)) e (host-key names hosts nodes.2 r h)
-  where
-    by : (b : Bool) → option_map (λ (k : ShadowHost). name_at names k.host) (if b then Some g else find (λ k. name_eq r (name_at names k.root)) hosts) ≡ Some h
-        → (host_named names hosts r ≡ Some h → (k : ℕ) × (k < length names) × (name_at names k ≡ h)) → (k : ℕ) × (k < length names) × (name_at names k ≡ h)
-    by true is deeper = (g.host, nodes.0, same_Some (name_at names g.host) h is)
-    by false is deeper = deeper is
+-- a step that was begun and done, and nothing else, is at its end
+pub step-ends : {old new : NamedTrees} {s : SlotsNow} {step : Step} {b : SlotChange} → b.step ≡ step → new.names ≡ old.names →
+    StepHasNodes old.names step → AreSlotsOf old s → IsBegun old s.hosts b → IsStepFrom old.names old.trees new.trees step →
+    IsEndOf old.trees new s b
+step-ends {old} {new} {s} {step} {b} same names nodes slots begun moved =
+    let there : record { names = old.names; trees = new.trees } ≡ new = λ j. record { names = sym names j; trees = new.trees } in
+    subst (λ f. IsEndOf old.trees f s b) there record {
+      begun = begun;
+      nodes = subst (StepHasNodes old.names) (sym same) nodes;
+      step = subst (λ t. IsStepFrom old.names old.trees new.trees t) (sym same) moved;
+      slots = slots;
+    }
 
 -- ---- before and after a step
 
-module _ (was : Trees) (f : NamedTrees) (s : SlotsNow) (b : BegunStep) (ended : IsEndOf was f s b) (stands : StandsOnce f) where
+module _ (was : Trees) (f : NamedTrees) (s : SlotsNow) (b : SlotChange) (ended : IsEndOf was f s b) (stands : StandsOnce f) where
   abbrev x : NodeName
   x = name_at f.names (step_node b.step)
 
@@ -117,14 +86,14 @@ module _ (was : Trees) (f : NamedTrees) (s : SlotsNow) (b : BegunStep) (ended : 
   is-other = is_changed_at before after
 
   pub there-was : (k : ℕ) → k < length f.names → Has was (name_at f.names k)
-  there-was k within = Has-forest record { names = f.names; trees = was } ended.stands.once k within
+  there-was k within = Has-forest record { names = f.names; trees = was } ended.begun.stands.once k within
 
   pub there-now : (k : ℕ) → k < length f.names → Has f.trees (name_at f.names k)
   there-now k within = Has-forest f stands.once k within
 
   pub both-stand : AreBoth f.names s.hosts was f.trees
   both-stand = record {
-    once_was = Once-forest record { names = f.names; trees = was } ended.stands.once ended.stands.only;
+    once_was = Once-forest record { names = f.names; trees = was } ended.begun.stands.once ended.begun.stands.only;
     once_now = Once-forest f stands.once stands.only;
     stands = λ r h e. let w = host-key f.names s.hosts ended.slots.hosts r h e in
         (subst (Has was) w.2 (there-was w.0 w.1), subst (Has f.trees) w.2 (there-now w.0 w.1));
@@ -136,13 +105,14 @@ module _ (was : Trees) (f : NamedTrees) (s : SlotsNow) (b : BegunStep) (ended : 
       let parts : (is_in name_eq y (option_to_list (option_map (name_at f.names) b.slot)) ≡ false) ×
       (is_in name_eq y (option_to_list (slot_at after x)) ≡ false) =
       or_parts _ _ (sym (list_any-append (name_eq y) (option_to_list (option_map (name_at f.names) b.slot)) (option_to_list (slot_at after x))) ∙ other) in
-      (ap (λ o. is_in name_eq y (option_to_list o)) (sym ended.slot) ∙ parts.0, parts.1)
+      (ap (λ o. is_in name_eq y (option_to_list o)) (sym ended.begun.slot) ∙ parts.0, parts.1)
 
   -- a node that had no parent and has none has no own slots
   pub none-own : parent_of was x ≡ None → parent_of f.trees x ≡ None → own ≡ []
   none-own up_was up_now =
       let none_was : option_to_list (option_map (name_at f.names) b.slot) ≡ [] =
-      ap option_to_list (ended.slot ∙ ap (λ o. option_and_then (λ r. slot_in (subtree was r) (node_in was x)) (option_and_then before.shadow_of o)) up_was) in
+      ap option_to_list (ended.begun.slot
+      ∙ ap (λ o. option_and_then (λ r. slot_in (subtree was r) (node_in was x)) (option_and_then before.shadow_of o)) up_was) in
       let none_now : option_to_list (slot_at after x) ≡ [] =
       ap (λ o. option_to_list (option_and_then (λ r. slot_in (subtree f.trees r) (node_in f.trees x))
       (option_and_then after.shadow_of o))) up_now in
@@ -156,10 +126,10 @@ module _ (was : Trees) (f : NamedTrees) (s : SlotsNow) (b : BegunStep) (ended : 
   but-for distinct kept still = record {
     others = λ k within. ap (names_but x) (ended.slots.table.lists k within) ∙ kept (name_at f.names k) (there-was k within) (there-now k within);
     listed = λ k within i.
-        named-key f.names distinct b.slot ended.slot_node k within
-        (ended.slot ∙ sym (listed-slot record { names = f.names; trees = was } s.hosts s.table ended.slots.table (step_node b.step) k i));
+        named-key f.names distinct b.slot ended.begun.slot_node k within
+        (ended.begun.slot ∙ sym (listed-slot record { names = f.names; trees = was } s.hosts s.table ended.slots.table (step_node b.step) k i));
     stays = λ unmoved same k within.
-        ended.slots.table.lists k within ∙ still unmoved (sym ended.slot ∙ same) (name_at f.names k) (there-was k within) (there-now k within);
+        ended.slots.table.lists k within ∙ still unmoved (sym ended.begun.slot ∙ same) (name_at f.names k) (there-was k within) (there-now k within);
   }
 
   -- before the first list is renewed

@@ -1,6 +1,6 @@
 -- Hosts by their keys and by their names, and the slot of a node by the way in which it is looked for.
 use Rattle.std.proofs.Common.{◌≡◌, inl, inr, ℕ, ◌<◌, Bool, true, false, ◌||◌, List, [], ◌∷◌, length, Option, Some, None, refl, sym, ap, ◌∙◌}
-use Rattle.std.specs.Prelude.{nat_eq, not, find, is_some, is_none, option_to_list}
+use Rattle.std.specs.Prelude.{nat_eq, not, if◌then◌else◌, find, is_some, is_none, option_to_list}
 use Rattle.std.specs.Option.{option_map, option_and_then, option_eq, ForSome}
 use Rattle.std.proofs.lemmas.Bool.{cases_Bool, eqb-true, eq-eqb, both_ways}
 use Rattle.std.proofs.lemmas.Option.{same_Some, none-some}
@@ -29,6 +29,29 @@ is_none-named f o named b told is = twice b ∙ ap not (sym told ∙ (is_some-na
     twice true = refl
     twice false = refl
 
+-- what is found among hosts by the name of one of their nodes is the name of a node
+module _ (names : List NodeName) (by of : ShadowHost → ℕ) (within : (h : ShadowHost) → h.host < length names → h.root < length names → of h < length names)
+  where
+    found-key : (hosts : List ShadowHost) → HostsAreNodes names hosts → (r x : NodeName) →
+        option_map (λ h. name_at names (of h)) (find (λ h. name_eq r (name_at names (by h))) hosts) ≡ Some x →
+        (k : ℕ) × (k < length names) × (name_at names k ≡ x)
+    found-key [] nodes r x e = absurd (none-some x e)
+    found-key (g ∷ hosts) nodes r x e = at (name_eq r (name_at names (by g))) e (found-key hosts nodes.2 r x)
+      where
+        at : (b : Bool) → option_map (λ h. name_at names (of h)) (if b then Some g else find (λ h. name_eq r (name_at names (by h))) hosts) ≡ Some x →
+            (option_map (λ h. name_at names (of h)) (find (λ h. name_eq r (name_at names (by h))) hosts) ≡ Some x →
+            (k : ℕ) × (k < length names) × (name_at names k ≡ x)) → (k : ℕ) × (k < length names) × (name_at names k ≡ x)
+        at true is deeper = (of g, within g nodes.0 nodes.1, same_Some (name_at names (of g)) x is)
+        at false is deeper = deeper is
+
+pub host-key : (names : List NodeName) (hosts : List ShadowHost) → HostsAreNodes names hosts → (r h : NodeName) → host_named names hosts r ≡ Some h →
+    (k : ℕ) × (k < length names) × (name_at names k ≡ h)
+host-key names = found-key names (λ h. h.root) (λ h. h.host) (λ h i j. i)
+
+pub root-key : (names : List NodeName) (hosts : List ShadowHost) → HostsAreNodes names hosts → (h r : NodeName) → root_named names hosts h ≡ Some r →
+    (k : ℕ) × (k < length names) × (name_at names k ≡ r)
+root-key names = found-key names (λ h. h.host) (λ h. h.root) (λ h i j. j)
+
 module _ (names : List NodeName) (distinct : TellApart names) where
   -- the test of keys is that of names
   pub key-test : (j k : ℕ) → j < length names → k < length names → nat_eq j k ≡ name_eq (name_at names j) (name_at names k)
@@ -37,21 +60,24 @@ module _ (names : List NodeName) (distinct : TellApart names) where
     | inr e ↦ e ∙ sym (name_eq-other (name_at names j) (name_at names k) (λ same. both_ways _ e (eq-eqb j k (distinct j k h i same))))
   ]
 
-  -- the host of a root by keys is that by names
+  -- one node of a host that is found by its other one, by keys and by names
+  module _ (by of : ShadowHost → ℕ) (within : (h : ShadowHost) → h.host < length names → h.root < length names → by h < length names) where
+    found-named : (hosts : List ShadowHost) → HostsAreNodes names hosts → (k : ℕ) → k < length names →
+        option_map (name_at names) (option_map of (find (λ h. nat_eq k (by h)) hosts))
+        ≡ option_map (λ h. name_at names (of h)) (find (λ h. name_eq (name_at names k) (name_at names (by h))) hosts)
+    found-named [] h k i = refl
+    found-named (x ∷ hosts) h k i =
+        let same = key-test k (by x) i (within x h.0 h.1) in
+        elim (cases_Bool (nat_eq k (by x))) [ inl e ↦ rw (sym same ∙ e, e) refl | inr e ↦ rw (sym same ∙ e, e) (found-named hosts h.2 k i) ]
+
+  -- the host of a root by keys is that by names, and so the root of a host
   pub host-named : (hosts : List ShadowHost) → HostsAreNodes names hosts → (k : ℕ) → k < length names →
       option_map (name_at names) (host_of_root hosts k) ≡ host_named names hosts (name_at names k)
-  host-named [] h k i = refl
-  host-named (x ∷ hosts) h k i =
-      let same = key-test k x.root i h.1 in
-      elim (cases_Bool (nat_eq k x.root)) [ inl e ↦ rw (sym same ∙ e, e) refl | inr e ↦ rw (sym same ∙ e, e) (host-named hosts h.2 k i) ]
+  host-named = found-named (λ h. h.root) (λ h. h.host) (λ h i j. j)
 
-  -- and so the root of a host
   pub root-named : (hosts : List ShadowHost) → HostsAreNodes names hosts → (k : ℕ) → k < length names →
       option_map (name_at names) (root_of_host hosts k) ≡ root_named names hosts (name_at names k)
-  root-named [] h k i = refl
-  root-named (x ∷ hosts) h k i =
-      let same = key-test k x.host i h.0 in
-      elim (cases_Bool (nat_eq k x.host)) [ inl e ↦ rw (sym same ∙ e, e) refl | inr e ↦ rw (sym same ∙ e, e) (root-named hosts h.2 k i) ]
+  root-named = found-named (λ h. h.host) (λ h. h.root) (λ h i j. i)
 
   -- whether a key is the one found, by names
   pub found-test : (o : Option ℕ) (k : ℕ) → ForSome o (λ j. j < length names) → k < length names →

@@ -18,7 +18,8 @@ use Rattle.dom_laws.proofs.Lists.{In, is_in-from, In-parts}
 use Rattle.dom_laws.proofs.Shapes.{Has, subtree-present}
 use Rattle.dom_slots.specs.Hosts.{ShadowHost}
 use Rattle.dom_slots.specs.Insides.{tree_slots, own_slots, bare_around, slots_around, left_slots, MovesNone, AreMoved, MayMove, IsInside}
-use Rattle.dom_slots.specs.Kept.{BegunStep, SlotsNow, StandsOnce, IsEndOf}
+use Rattle.dom_slots.specs.Kept.{SlotsNow, StandsOnce, IsEndOf}
+use Rattle.dom_slots.specs.declared.step.SlotChange.{SlotChange}
 use Rattle.dom_slots.specs.Renewals.{AreRenewed, IsButFor}
 use Rattle.dom_slots.specs.Shadows.{ShadowTrees, shadows, shadow_trees, slot_at, assigned_at, is_changed_at, signalled_by}
 use Rattle.dom_slots.specs.Steps.{StepHasNodes, step_node, is_move, around_of, left_by, IsStepFrom, step_signals}
@@ -54,7 +55,7 @@ module _ (names : List NodeName) (hosts : List ShadowHost) (m : Node) (d us : Tr
   far-so : KeepsFar names hosts m.name (grafted m d p us) (grafted m d q us)
   far-so = far-kept names hosts m d us p q apart both
 
-module _ (was : Trees) (f : NamedTrees) (s : SlotsNow) (b : BegunStep) (ended : IsEndOf was f s b) (stands : StandsOnce f) where
+module _ (was : Trees) (f : NamedTrees) (s : SlotsNow) (b : SlotChange) (ended : IsEndOf was f s b) (stands : StandsOnce f) where
   abbrev before : ShadowTrees
   before = shadow_trees f.names was s.hosts
 
@@ -104,9 +105,9 @@ module _ (was : Trees) (f : NamedTrees) (s : SlotsNow) (b : BegunStep) (ended : 
   Stays step = (y : NodeName) → Has was y → Has f.trees y → (MovesNone f s.hosts step ⊎ IsBeyond step y) → KeepsBut f.names s.hosts (At step) was f.trees y
 
   stays : Stays b.step
-  stays = by b.step ended.nodes ended.step ended.left_is
+  stays = by b.step ended.nodes ended.step ended.begun.left
     where
-      by : (step : Step) → StepHasNodes f.names step → IsStepFrom f.names was f.trees step b.left →
+      by : (step : Step) → StepHasNodes f.names step → IsStepFrom f.names was f.trees step →
           option_map (name_at f.names) b.left ≡ left_by f.names was step → Stays step
       by (Place z parent next) nodes is left y h i may =
           place-so f.names s.hosts (KeepsFar f.names s.hosts) (far-so f.names s.hosts) (name_at f.names z) was f.trees both (here_was z nodes.0)
@@ -142,7 +143,7 @@ module _ (was : Trees) (f : NamedTrees) (s : SlotsNow) (b : BegunStep) (ended : 
               }
       by (Removal z) nodes is left y h i may =
           removal-so f.names s.hosts (KeepsFar f.names s.hosts) (far-so f.names s.hosts) (name_at f.names z) was f.trees both (here_was z nodes)
-          is.1 y h i (far may)
+          is y h i (far may)
         where
           x : NodeName
           x = name_at f.names z
@@ -162,7 +163,7 @@ module _ (was : Trees) (f : NamedTrees) (s : SlotsNow) (b : BegunStep) (ended : 
               away slot = record {
                 below = off_slots x y slot (beyond_parts (Removal z) y beyond).1;
                 left = λ a e. off_slots (root_of f.trees a) y slot (off_left a e);
-                parent = λ a e. absurd (none-some a (sym (removal-unparented x was f.trees both.once_was (here_was z nodes) is.1) ∙ e));
+                parent = λ a e. absurd (none-some a (sym (removal-unparented x was f.trees both.once_was (here_was z nodes) is) ∙ e));
               }
       by (Attribute z) nodes is left y h i may =
           subst Kept (sym is.2) (λ two j apart. changed-far x (with_attribute is.0 is.1) (attribute-name is.0 is.1) (attribute-slot is.0 is.1)
@@ -194,7 +195,7 @@ module _ (was : Trees) (f : NamedTrees) (s : SlotsNow) (b : BegunStep) (ended : 
   still : IsStill b.step
   still = by b.step ended.nodes ended.step
     where
-      by : (step : Step) → StepHasNodes f.names step → IsStepFrom f.names was f.trees step b.left → IsStill step
+      by : (step : Step) → StepHasNodes f.names step → IsStepFrom f.names was f.trees step → IsStill step
       by (Place z parent next) nodes is moves no_move same y h i = absurd (true≢false no_move)
       by (Removal z) nodes is moves no_move same y h i = absurd (true≢false no_move)
       by (Attribute z) nodes is moves no_move same y h i =
@@ -220,17 +221,17 @@ module _ (was : Trees) (f : NamedTrees) (s : SlotsNow) (b : BegunStep) (ended : 
   IsAlone step = KeepsAssigned f.names s.hosts (At step) was f.trees × (parent_of was (At step) ≡ None) × (parent_of f.trees (At step) ≡ None)
 
   alone : around_of b.step b.left ≡ None → IsAlone b.step
-  alone = by b.step ended.nodes ended.step ended.left_is
+  alone = by b.step ended.nodes ended.step ended.begun.left
     where
-      by : (step : Step) → StepHasNodes f.names step → IsStepFrom f.names was f.trees step b.left →
+      by : (step : Step) → StepHasNodes f.names step → IsStepFrom f.names was f.trees step →
           option_map (name_at f.names) b.left ≡ left_by f.names was step → around_of step b.left ≡ None → IsAlone step
       by (Place z parent next) nodes is left e = absurd (none-some parent (sym e))
       by (Attribute z) nodes is left e = absurd (none-some z (sym e))
       by (Removal z) nodes is left e =
           let x = name_at f.names z in
           let up_was : parent_of was x ≡ None = sym left ∙ ap (option_map (name_at f.names)) e in
-          let up_now = removal-unparented x was f.trees both.once_was (here_was z nodes) is.1 in (
-            removal-so f.names s.hosts (AloneKept f.names s.hosts) (alone-so f.names s.hosts) x was f.trees both (here_was z nodes) is.1 up_was
+          let up_now = removal-unparented x was f.trees both.once_was (here_was z nodes) is in (
+            removal-so f.names s.hosts (AloneKept f.names s.hosts) (alone-so f.names s.hosts) x was f.trees both (here_was z nodes) is up_was
                 up_now,
             up_was,
             up_now,

@@ -9,7 +9,7 @@ pub mod Siblings
 mod Tables
 mod Signalled
 mod Entering
-pub mod Ended
+mod Ended
 mod OwnSignals
 mod Within
 mod Renewing

@@ -1,14 +1,12 @@
 -- A walk along the children of a node.
-use Rattle.std.proofs.Common.{◌≡◌, inl, inr, ℕ, ◌<◌, List, [], ◌∷◌, ◌++◌, length, Option, Some, None, suc, refl, sym, ap, subst, ◌∙◌, append_assoc, arith}
-use Rattle.std.specs.List.{flat_map}
+use Rattle.std.proofs.Common.{◌≡◌, inl, ℕ, ◌<◌, List, [], ◌∷◌, ◌++◌, length, Option, Some, None, suc, refl, sym, ap, subst, ◌∙◌, append_assoc, arith}
 use Rattle.std.specs.Option.{option_map, option_map_or, ForSome}
-use Rattle.std.proofs.lemmas.List.Concat.{flat_map-cons}
 use Rattle.std.proofs.lemmas.Option.{same_Some}
 use Rattle.dom_base.specs.declared.NodeName.{NodeName}
 use Rattle.dom_model.specs.Names.{name_eq, first_of, items_after, items_before}
 use Rattle.dom_model.specs.Tree.{Trees, parent_of, children_of, siblings, next_sibling, inclusive_descendants, subtree}
 use Rattle.dom_tree.specs.Forest.{NamedTrees, name_at}
-use Rattle.dom_laws.proofs.Lists.{In, In-left, In-right, Single, Single-right, Single-apart, no_first, first_split, split_at, after-split, after-in}
+use Rattle.dom_laws.proofs.Lists.{In, Single, Single-apart, no_first, first_split, split_at, after-split, after-in}
 use Rattle.dom_laws.proofs.Lists.{name_eq-from}
 use Rattle.dom_laws.proofs.Counts.{Once}
 use Rattle.dom_laws.proofs.Shapes.{Has, above-present, above-parent, below-from_above}
@@ -35,19 +33,6 @@ from-next x xs single i (Some y) e =
     split_at x xs i ∙ (ap (λ ys. items_before name_eq x xs ++ x ∷ ys) s.1 ∙ sym (append_assoc (items_before name_eq x xs) (x ∷ []) (y ∷ s.0))) in
     let apart : In y front → ⊥ = λ j. Single-apart y front (y ∷ s.0) (subst Single whole single) j (inl refl) in
     s.1 ∙ ap (λ ys. y ∷ ys) (sym (ap (items_after name_eq y) whole ∙ after-split y front s.0 apart))
-
-in_flat : (f : NodeName → List NodeName) (y : NodeName) (xs : List NodeName) → In y xs → In y (f y) → In y (flat_map f xs)
-in_flat f y [] h i = h
-in_flat f y (x ∷ xs) (inl e) i = subst (In y) (sym (flat_map-cons f x xs)) (In-left y (f x) (flat_map f xs) (subst (λ z. In y (f z)) e i))
-in_flat f y (x ∷ xs) (inr h) i = subst (In y) (sym (flat_map-cons f x xs)) (In-right y (f x) (flat_map f xs) (in_flat f y xs h i))
-
-single_from_flat : (f : NodeName → List NodeName) (xs : List NodeName) → ((y : NodeName) → In y xs → In y (f y)) → Single (flat_map f xs) → Single xs
-single_from_flat f [] own s = tt
-single_from_flat f (x ∷ xs) own s =
-    let t : Single (f x ++ flat_map f xs) = subst Single (flat_map-cons f x xs) s in (
-      λ i. Single-apart x (f x) (flat_map f xs) t (own x (inl refl)) (in_flat f x xs i (own x (inl refl))),
-      single_from_flat f xs (λ y i. own y (inr i)) (Single-right (f x) (flat_map f xs) t),
-    )
 
 -- a node in its own tree
 itself : (ts : Trees) (x : NodeName) → Once ts → Has ts x → In x (inclusive_descendants ts x)

@@ -1,10 +1,8 @@
 -- How the fields of a `Slots` stand for what a contract sees of it.
 use Rattle.std.specs.Prelude.{◌≡◌, ℕ, List, map, Option}
 use Rattle.dom_slots.specs.declared.slots.Attached.{Attached}
-use Rattle.dom_slots.specs.declared.slots.Begun.{Begun}
 use Rattle.dom_slots.specs.Hosts.{ShadowHost, root_of_host, host_of_root}
 use Rattle.dom_slots.specs.KeyMaps.{value_at}
-use Rattle.dom_slots.specs.Kept.{BegunStep}
 
 -- a host as it is kept
 abbrev pub host_in : Attached → ShadowHost
@@ -18,7 +16,3 @@ hosts_in kept = map host_in kept
 pub record AreFound (hosts : List ShadowHost) (by_host by_root : List (Option ℕ)) : Type 0 where
   pub attached : (k : ℕ) → value_at by_host k ≡ root_of_host hosts k
   pub found : (k : ℕ) → value_at by_root k ≡ host_of_root hosts k
-
--- a step that was begun
-abbrev pub begun_in : Begun → BegunStep
-begun_in b = record { step = b.step; left = b.left; slot = b.slot }

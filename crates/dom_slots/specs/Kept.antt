@@ -1,28 +1,21 @@
 -- What a contract sees of a `Slots`.
-use Rattle.std.specs.Prelude.{◌≡◌, ℕ, ◌<◌, true, count_by, slice_get, List, [], ◌∷◌, ◌++◌, length, Option, Some, option_map}
+use Rattle.std.specs.Prelude.{◌≡◌, ℕ, ◌<◌, true, count_by, slice_get, List, [], ◌∷◌, ◌++◌, length, Some, option_map}
 use Rattle.std.specs.Option.{ForSome}
 use Rattle.dom_base.specs.declared.NodeName.{NodeName}
 use Rattle.dom_model.specs.Names.{name_eq}
 use Rattle.dom_model.specs.Tree.{Trees, Node, nodes, has_node}
 use Rattle.dom_model.specs.TreeChanges.{with_node}
 use Rattle.dom_tree.specs.Forest.{NamedTrees, name_at}
-use Rattle.dom_slots.specs.declared.step.Step.{Step}
+use Rattle.dom_slots.specs.declared.step.SlotChange.{SlotChange}
 use Rattle.dom_slots.specs.Hosts.{ShadowHost, HostsAreNodes}
-use Rattle.dom_slots.specs.Shadows.{shadows, shadow_trees, slot_at}
+use Rattle.dom_slots.specs.Shadows.{shadows, slot_at}
 use Rattle.dom_slots.specs.Steps.{step_node, left_by, StepHasNodes, IsStepFrom}
 use Rattle.dom_slots.specs.Tables.{SlotTable, IsTableOf}
 
--- A step that was begun, with the parent of a node that it places or removes and the slot of its node, both at that time.
-pub record BegunStep : Type 0 where
-  pub step : Step
-  pub left : Option ℕ
-  pub slot : Option ℕ
-
--- the hosts, in the order of attaching, the nodes assigned to each slot, and the step that was begun, if one was
+-- the hosts, in the order of attaching, and the nodes assigned to each slot
 pub record SlotsNow : Type 0 where
   pub hosts : List ShadowHost
   pub table : SlotTable
-  pub begun : Option BegunStep
 
 -- the nodes of a forest stand in its trees, each once, and no others: what a forest's `law_nodes_stand_once` says
 pub record StandsOnce (f : NamedTrees) : Type 0 where
@@ -37,28 +30,22 @@ pub record HasOneMore (f g : NamedTrees) (n : Node) : Type 0 where
   pub distinct : (j k : ℕ) → j < length g.names → k < length g.names → name_at g.names j ≡ name_at g.names k → j ≡ k
   pub stands : StandsOnce g
 
--- the slots of a forest when no step is begun
+-- the slots of a forest
 pub record AreSlotsOf (f : NamedTrees) (s : SlotsNow) : Type 0 where
   pub hosts : HostsAreNodes f.names s.hosts
   pub table : IsTableOf f s.hosts s.table
 
--- a step that was just begun: with the parent that a node has which it moves, and with the slot that its node has
-pub record IsBegun (f : NamedTrees) (hosts : List ShadowHost) (step : Step) (b : BegunStep) : Type 0 where
+-- what is known of a step that is about to be done: the parent that a node has which it moves, and the slot that its node has
+pub record IsBegun (f : NamedTrees) (hosts : List ShadowHost) (c : SlotChange) : Type 0 where
   pub stands : StandsOnce f
-  pub same : b.step ≡ step
-  pub left : option_map (name_at f.names) b.left ≡ left_by f.names f.trees step
-  pub left_node : ForSome b.left (λ k. k < length f.names)
-  pub slot : option_map (name_at f.names) b.slot ≡ slot_at (shadows f hosts) (name_at f.names (step_node step))
-  pub slot_node : ForSome b.slot (λ k. k < length f.names)
+  pub left : option_map (name_at f.names) c.left ≡ left_by f.names f.trees c.step
+  pub left_node : ForSome c.left (λ k. k < length f.names)
+  pub slot : option_map (name_at f.names) c.slot ≡ slot_at (shadows f hosts) (name_at f.names (step_node c.step))
+  pub slot_node : ForSome c.slot (λ k. k < length f.names)
 
 -- a step was begun when the trees of a forest were others, and this step alone made them what they are
-pub record IsEndOf (was : Trees) (f : NamedTrees) (s : SlotsNow) (b : BegunStep) : Type 0 where
-  pub begun : s.begun ≡ Some b
-  pub stands : StandsOnce record { names = f.names; trees = was }
-  pub nodes : StepHasNodes f.names b.step
-  pub left_is : option_map (name_at f.names) b.left ≡ left_by f.names was b.step
-  pub left : ForSome b.left (λ k. k < length f.names)
-  pub slot_node : ForSome b.slot (λ k. k < length f.names)
-  pub slot : option_map (name_at f.names) b.slot ≡ slot_at (shadow_trees f.names was s.hosts) (name_at f.names (step_node b.step))
-  pub step : IsStepFrom f.names was f.trees b.step b.left
+pub record IsEndOf (was : Trees) (f : NamedTrees) (s : SlotsNow) (c : SlotChange) : Type 0 where
+  pub begun : IsBegun record { names = f.names; trees = was } s.hosts c
+  pub nodes : StepHasNodes f.names c.step
+  pub step : IsStepFrom f.names was f.trees c.step
   pub slots : AreSlotsOf record { names = f.names; trees = was } s

@@ -47,11 +47,11 @@ StepHasNodes names (Place x parent before) = (x < length names) × (parent < len
 StepHasNodes names (Removal x) = x < length names
 StepHasNodes names (Attribute x) = x < length names
 
--- a step alone leads from the first trees to the second, a removal from this parent
-abbrev pub IsStepFrom : List NodeName → Trees → Trees → Step → Option ℕ → Type 0
-IsStepFrom names was now (Place x parent before) left = now ≡ placed (name_at names x) (name_at names parent) (option_map (name_at names) before) was
-IsStepFrom names was now (Removal x) left = (option_map (name_at names) left ≡ parent_of was (name_at names x)) × (now ≡ taken_out (name_at names x) was)
-IsStepFrom names was now (Attribute x) left = (a : Word) × (v : Option DomString) × (now ≡ change_node (with_attribute a v) (name_at names x) was)
+-- a step alone leads from the first trees to the second
+abbrev pub IsStepFrom : List NodeName → Trees → Trees → Step → Type 0
+IsStepFrom names was now (Place x parent before) = now ≡ placed (name_at names x) (name_at names parent) (option_map (name_at names) before) was
+IsStepFrom names was now (Removal x) = now ≡ taken_out (name_at names x) was
+IsStepFrom names was now (Attribute x) = (a : Word) × (v : Option DomString) × (now ≡ change_node (with_attribute a v) (name_at names x) was)
 
 -- the slots that a step signals, in order (own rule); a removal of a node without a parent signals none
 abbrev pub step_signals : List NodeName → ShadowTrees → ShadowTrees → Step → Option ℕ → List NodeName

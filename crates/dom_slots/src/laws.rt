@@ -7,8 +7,9 @@ ghost use Rattle.dom_model.specs.Slots.{slot_of, assigned, signals, is_slot_elem
 ghost use Rattle.dom_model.specs.Tree.{Node, subtree};
 ghost use Rattle.dom_model.specs.TreeChanges.{change_node, change_subtree, under_document, with_document, with_text};
 ghost use Rattle.dom_slots.specs.Shadows.{ShadowTrees, IsShownBy, slot_at, assigned_at, signals_at};
-ghost use Rattle.dom_slots.specs.Kept.{BegunStep, SlotsNow, HasOneMore, AreSlotsOf, IsBegun, IsEndOf};
+ghost use Rattle.dom_slots.specs.Kept.{SlotsNow, HasOneMore, AreSlotsOf, IsBegun, IsEndOf};
 ghost use Rattle.dom_slots.specs.Steps.{StepHasNodes, IsStepFrom};
+ghost use Rattle.dom_slots.specs.declared.step.SlotChange.{SlotChange};
 ghost use Rattle.dom_slots.specs.declared.step.Step.{Step};
 ghost use Rattle.dom_slots.specs.Hosts.{host_of_root};
 ghost use Rattle.dom_tree.specs.Forest.{NamedTrees, name_at};
@@ -24,9 +25,9 @@ pub fn law_slots_are_of_worlds()
 
 /// Holds of every forest: a step that was begun, and then done and nothing else, can be ended (own rule).
 pub fn law_steps_end()
-    ensures { (old new : NamedTrees) (before after : SlotsNow) (step : Step) (b : BegunStep) → new.names ≡ old.names →
-        StepHasNodes old.names step → AreSlotsOf old before → after.hosts ≡ before.hosts → after.table ≡ before.table → after.begun ≡ Some b →
-        IsBegun old before.hosts step b → IsStepFrom old.names old.trees new.trees step b.left → IsEndOf old.trees new after b }
+    ensures { (old new : NamedTrees) (s : SlotsNow) (step : Step) (change : SlotChange) → change.step ≡ step → new.names ≡ old.names →
+        StepHasNodes old.names step → AreSlotsOf old s → IsBegun old s.hosts change → IsStepFrom old.names old.trees new.trees step →
+        IsEndOf old.trees new s change }
 {}
 
 /// Holds of every forest: a node more, alone in its tree, other node documents and other data leave the slots those of

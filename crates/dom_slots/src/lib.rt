@@ -15,4 +15,4 @@ mod waiting;
 
 pub use laws::{law_new_nodes_are_free, law_slots_are_of_worlds, law_slots_stay, law_steps_end};
 pub use slots::Slots;
-pub use step::Step;
+pub use step::{SlotChange, Step};

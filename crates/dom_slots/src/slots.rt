@@ -14,7 +14,6 @@ mod renewal;
 mod signals;
 
 use crate::key_map::KeyMap;
-use crate::step::Step;
 use crate::table::Table;
 use dom_base::Owner;
 use node_arena::Key;
@@ -29,14 +28,6 @@ struct Attached {
     owner: Owner,
 }
 
-/// A step that was begun, with the parent of a node that it places or removes and the slot of its node, both at that time.
-#[derive(Clone, Copy)]
-struct Begun {
-    step: Step,
-    left: Option<Key>,
-    slot: Option<Key>,
-}
-
 /// The hosts of shadow trees, in the order of attaching, and the nodes assigned to the slots of their trees.
 #[derive(Drop)]
 pub struct Slots {
@@ -44,8 +35,6 @@ pub struct Slots {
     by_host: KeyMap,
     by_root: KeyMap,
     table: Table,
-    begun: Option<Begun>,
-    spare: Vec<Key>,
     alloc: Global,
 }
 
@@ -54,10 +43,9 @@ impl Model for Slots {
 
     ghost Value = { SlotsNow };
 
-    ghost use Rattle.dom_slots.specs.Fields.{hosts_in, begun_in, AreFound};
-    ghost use Rattle.std.specs.Option.{option_map};
+    ghost use Rattle.dom_slots.specs.Fields.{hosts_in, AreFound};
 
-    ghost view = { λ s. record { hosts = hosts_in s.hosts.items; table = s.table; begun = option_map begun_in s.begun } };
+    ghost view = { λ s. record { hosts = hosts_in s.hosts.items; table = s.table } };
 
     ghost invariant = { λ s. AreFound (hosts_in s.hosts.items) s.by_host.values.items s.by_root.values.items };
 }
@@ -65,7 +53,7 @@ impl Model for Slots {
 impl Slots {
     /// No hosts. Takes no memory yet; later calls take theirs from `alloc`.
     pub fn new(alloc: Global) -> Self
-        ensures value { result ≡ record { hosts = []; table = []; begun = None } }
+        ensures value { result ≡ record { hosts = []; table = [] } }
         // They are the slots of every forest.
         ensures slots { (f : NamedTrees) → AreSlotsOf f result }
     {
@@ -74,8 +62,6 @@ impl Slots {
             by_host: KeyMap::new(alloc),
             by_root: KeyMap::new(alloc),
             table: Table::new(alloc),
-            begun: None,
-            spare: Vec::new(alloc),
             alloc,
         }
     }
@@ -83,12 +69,10 @@ impl Slots {
     /// Makes a node the host of a shadow root, which belongs to a component (DOM Standard, concept: attach a shadow
     /// root). Where memory is refused, all is as it was.
     pub fn attach(&mut self, host: Key, root: Key, owner: Owner) -> Result<(), AllocError>
-        requires free { self.old.begun ≡ None }
         requires new_host { root_of_host self.old.hosts host ≡ None }
         requires new_root { host_of_root self.old.hosts root ≡ None }
         ensures hosts { OnOk result (self.new.hosts ≡ self.old.hosts ++ record { host = host; root = root; owner = owner } ∷ []) }
         ensures table { OnOk result (self.new.table ≡ self.old.table) }
-        ensures begun { OnOk result (self.new.begun ≡ None) }
         // They stay the slots of a forest, if no slot stands in the tree of the root.
         ensures slots { OnOk result ((f : NamedTrees) → StandsOnce f → AreSlotsOf f self.old → host < length f.names → root < length f.names →
             slots_among (subtree f.trees (name_at f.names root)) ≡ [] → AreSlotsOf f self.new) }

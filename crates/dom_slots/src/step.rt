@@ -13,6 +13,15 @@ pub enum Step {
     Attribute(Key),
 }
 
+/// What is known of a step that was begun: the step, with the parent of a node that it places or removes and the slot of its node,
+/// both at that time (own rule). `Slots::begin` gives it, and `Slots::end` takes it when the step is done.
+#[derive(Clone, Copy)]
+pub struct SlotChange {
+    pub step: Step,
+    pub left: Option<Key>,
+    pub slot: Option<Key>,
+}
+
 impl Step {
     /// The node that is placed, removed or has an attribute changed.
     pub(crate) fn node(self) -> Key

@@ -1,5 +1,5 @@
 //! The slot of a node, and the nodes assigned to a slot.
-ghost use Rattle.std.specs.Prelude.{◌≡◌, ℕ, false, nat_eq, None, map, IfOk, All};
+ghost use Rattle.std.specs.Prelude.{◌≡◌, ℕ, false, nat_eq, map, IfOk, All};
 ghost use Rattle.std.specs.Option.{option_map, ForSome};
 ghost use Rattle.dom_model.specs.Names.{is_in};
 ghost use Rattle.dom_tree.specs.Forest.{IsNode, name_of};
@@ -19,7 +19,6 @@ impl Slots {
     /// concept: find a slot). It is found by one look-up; of a node that has none three more tell that. Takes no memory.
     pub fn slot_of(&self, forest: &Forest, node: Key) -> Option<Key>
         requires node_is_node { IsNode forest.now node }
-        requires free { self.now.begun ≡ None }
         requires slots { AreSlotsOf forest.now self.now }
         ensures value { option_map (name_of forest.now) result ≡ slot_at (shadows forest.now self.now.hosts) (name_of forest.now node) }
         ensures node { ForSome result (IsNode forest.now) }
@@ -52,7 +51,6 @@ impl Slots {
     /// Standard, concept: assigned nodes). They are read from the table: no tree is walked.
     pub fn assigned(&self, forest: &Forest, slot: Key) -> Result<Vec<Key>, AllocError>
         requires slot_is_node { IsNode forest.now slot }
-        requires free { self.now.begun ≡ None }
         requires slots { AreSlotsOf forest.now self.now }
         ensures value { IfOk result (λ keys. map (name_of forest.now) keys.items ≡ assigned_at (shadows forest.now self.now.hosts)
             (name_of forest.now slot)) }

@@ -12,70 +12,59 @@ ghost use Rattle.dom_slots.specs.Shadows.{shadows, is_bare_at};
 ghost use Rattle.dom_slots.specs.Steps.{StepHasNodes, step_node, is_move};
 ghost use Rattle.dom_slots.specs.Tables.{SlotTable};
 
-use super::Begun;
 use crate::Slots;
 use crate::changes::add_once;
 use crate::find::{is_slot, slots_below};
-use crate::step::Step;
+use crate::step::{SlotChange, Step};
 use crate::waiting::waiting_below;
 use dom_tree::Forest;
 use node_arena::Key;
 use std::alloc::AllocError;
 
 impl Slots {
-    /// Renews the lists that a step inside of a shadow tree may have changed, and gives the slots that it signals, if it can in a
-    /// list that is empty before: the old and the new slot of its node, the node around, and where a slot was moved or changed
-    /// those of the trees that it concerns.
+    /// Renews the lists that a step inside of a shadow tree may have changed, and gives the slots that it signals: the
+    /// old and the new slot of its node, the node around, and where a slot was moved or changed those of the trees that it
+    /// concerns.
     pub(super) fn inside_signals(
         &mut self,
         forest: &Forest,
-        begun: Begun,
-        signals: Vec<Key>,
+        change: SlotChange,
     ) -> Result<Vec<Key>, AllocError>
         requires hosts { HostsAreNodes forest.now.names self.old.hosts }
-        requires nodes { StepHasNodes forest.now.names begun.step }
-        requires left { ForSome begun.left (IsNode forest.now) }
-        requires slot { ForSome begun.slot (IsNode forest.now) }
-        requires signals { signals.items ≡ [] }
+        requires nodes { StepHasNodes forest.now.names change.step }
+        requires left { ForSome change.left (IsNode forest.now) }
+        requires slot { ForSome change.slot (IsNode forest.now) }
         ensures hosts { IfOk result (λ keys. self.new.hosts ≡ self.old.hosts) }
-        ensures begun { IfOk result (λ keys. self.new.begun ≡ self.old.begun) }
         ensures renewed { (p : Name → Truth) →
-            (MovesNone forest.now self.old.hosts begun.step → IsButFor forest.now self.old.hosts self.old.table begun.slot begun.step) →
+            (MovesNone forest.now self.old.hosts change.step → IsButFor forest.now self.old.hosts self.old.table change.slot change.step) →
             AreRenewed forest.now self.old.hosts p self.old.table [] [] self.old.table [] →
-            IfOk result (λ keys. IsInside forest.now self.old.hosts p self.old.table begun.step begun.left begun.slot self.new.table keys.items) }
+            IfOk result (λ keys. IsInside forest.now self.old.hosts p self.old.table change.step change.left change.slot self.new.table keys.items) }
     {
-        let kept = begun;
+        let kept = change;
         let moved = self.moved_slots(forest, kept)?;
         if moved.is_empty() {
-            return self.still_signals(forest, begun, signals);
+            return self.still_signals(forest, change);
         }
-        self.stirred_signals(forest, begun, &moved)
+        self.stirred_signals(forest, change, &moved)
     }
 
-    /// The slots that a step inside a shadow tree signals, where it moved or changed no slot, in a list that is empty before.
-    fn still_signals(
-        &mut self,
-        forest: &Forest,
-        begun: Begun,
-        signals: Vec<Key>,
-    ) -> Result<Vec<Key>, AllocError>
+    /// The slots that a step inside a shadow tree signals, where it moved or changed no slot.
+    fn still_signals(&mut self, forest: &Forest, change: SlotChange) -> Result<Vec<Key>, AllocError>
         requires hosts { HostsAreNodes forest.now.names self.old.hosts }
-        requires nodes { StepHasNodes forest.now.names begun.step }
-        requires left { ForSome begun.left (IsNode forest.now) }
-        requires slot { ForSome begun.slot (IsNode forest.now) }
-        requires signals { signals.items ≡ [] }
-        requires still { MovesNone forest.now self.old.hosts begun.step }
+        requires nodes { StepHasNodes forest.now.names change.step }
+        requires left { ForSome change.left (IsNode forest.now) }
+        requires slot { ForSome change.slot (IsNode forest.now) }
+        requires still { MovesNone forest.now self.old.hosts change.step }
         ensures hosts { IfOk result (λ keys. self.new.hosts ≡ self.old.hosts) }
-        ensures begun { IfOk result (λ keys. self.new.begun ≡ self.old.begun) }
-        ensures renewed { (p : Name → Truth) → IsButFor forest.now self.old.hosts self.old.table begun.slot begun.step →
+        ensures renewed { (p : Name → Truth) → IsButFor forest.now self.old.hosts self.old.table change.slot change.step →
             AreRenewed forest.now self.old.hosts p self.old.table [] [] self.old.table [] →
-            IfOk result (λ keys. IsInside forest.now self.old.hosts p self.old.table begun.step begun.left begun.slot self.new.table keys.items) }
+            IfOk result (λ keys. IsInside forest.now self.old.hosts p self.old.table change.step change.left change.slot self.new.table keys.items) }
     {
-        let node = begun.step.node();
-        let moves = begun.step.is_move();
-        let mut signals = self.moved_signals(forest, node, moves, begun.slot, signals)?;
-        if let Some(around) = begun.step.around(begun.left) {
-            self.add_bare(forest, begun.step, around, &mut signals)?;
+        let node = change.step.node();
+        let moves = change.step.is_move();
+        let mut signals = self.moved_signals(forest, node, moves, change.slot)?;
+        if let Some(around) = change.step.around(change.left) {
+            self.add_bare(forest, change.step, around, &mut signals)?;
         }
         Ok(signals)
     }
@@ -84,25 +73,24 @@ impl Slots {
     fn stirred_signals(
         &mut self,
         forest: &Forest,
-        begun: Begun,
+        change: SlotChange,
         moved: &[Key],
     ) -> Result<Vec<Key>, AllocError>
         requires hosts { HostsAreNodes forest.now.names self.old.hosts }
-        requires nodes { StepHasNodes forest.now.names begun.step }
-        requires left { ForSome begun.left (IsNode forest.now) }
-        requires slot { ForSome begun.slot (IsNode forest.now) }
-        requires moved { map (name_of forest.now) moved.now ≡ slots_among (subtree forest.now.trees (name_of forest.now (step_node begun.step))) }
+        requires nodes { StepHasNodes forest.now.names change.step }
+        requires left { ForSome change.left (IsNode forest.now) }
+        requires slot { ForSome change.slot (IsNode forest.now) }
+        requires moved { map (name_of forest.now) moved.now ≡ slots_among (subtree forest.now.trees (name_of forest.now (step_node change.step))) }
         requires moved_nodes { All (IsNode forest.now) moved.now }
         ensures hosts { IfOk result (λ keys. self.new.hosts ≡ self.old.hosts) }
-        ensures begun { IfOk result (λ keys. self.new.begun ≡ self.old.begun) }
         ensures renewed { (p : Name → Truth) (old : SlotTable) → AreRenewed forest.now self.old.hosts p old [] [] self.old.table [] →
-            IfOk result (λ keys. IsInside forest.now self.old.hosts p old begun.step begun.left begun.slot self.new.table keys.items) }
+            IfOk result (λ keys. IsInside forest.now self.old.hosts p old change.step change.left change.slot self.new.table keys.items) }
     {
-        let mut signals = self.own_signals(forest, begun.step.node(), begun.slot)?;
-        if let Some(around) = begun.step.around(begun.left) {
-            let step = begun.step;
+        let mut signals = self.own_signals(forest, change.step.node(), change.slot)?;
+        if let Some(around) = change.step.around(change.left) {
+            let step = change.step;
             self.add_bare(forest, step, around, &mut signals)?;
-            self.renew_moved(forest, begun, around, moved, &mut signals)?;
+            self.renew_moved(forest, change, around, moved, &mut signals)?;
         }
         Ok(signals)
     }
@@ -148,27 +136,26 @@ impl Slots {
     fn renew_moved(
         &mut self,
         forest: &Forest,
-        begun: Begun,
+        change: SlotChange,
         around: Key,
         moved: &[Key],
         signals: &mut Vec<Key>,
     ) -> Result<(), AllocError>
         requires hosts { HostsAreNodes forest.now.names self.old.hosts }
-        requires nodes { StepHasNodes forest.now.names begun.step }
-        requires left { ForSome begun.left (IsNode forest.now) }
+        requires nodes { StepHasNodes forest.now.names change.step }
+        requires left { ForSome change.left (IsNode forest.now) }
         requires around { IsNode forest.now around }
-        requires moved { map (name_of forest.now) moved.now ≡ slots_among (subtree forest.now.trees (name_of forest.now (step_node begun.step))) }
+        requires moved { map (name_of forest.now) moved.now ≡ slots_among (subtree forest.now.trees (name_of forest.now (step_node change.step))) }
         requires moved_nodes { All (IsNode forest.now) moved.now }
         ensures hosts { OnOk result (self.new.hosts ≡ self.old.hosts) }
-        ensures begun { OnOk result (self.new.begun ≡ self.old.begun) }
         ensures renewed { (p : Name → Truth) (old : SlotTable) (done told : List Name) →
             AreRenewed forest.now self.old.hosts p old done told self.old.table signals.old.items →
-            OnOk result (MayMove forest.now self.old.hosts p old done told begun.step begun.left (name_of forest.now around) self.new.table
+            OnOk result (MayMove forest.now self.old.hosts p old done told change.step change.left (name_of forest.now around) self.new.table
             signals.new.items) }
     {
         self.renew_tree(forest, around, signals)?;
-        self.renew_below(forest, begun.step.node(), around, moved, signals)?;
-        self.renew_left(forest, begun, around)
+        self.renew_below(forest, change.step.node(), around, moved, signals)?;
+        self.renew_left(forest, change, around)
     }
 
     /// Renews the lists of the slots in the tree of a node, unless that stands in the tree of another one, whose slots are done.
@@ -186,7 +173,6 @@ impl Slots {
         requires moved { map (name_of forest.now) moved.now ≡ slots_among (subtree forest.now.trees (name_of forest.now node)) }
         requires moved_nodes { All (IsNode forest.now) moved.now }
         ensures hosts { OnOk result (self.new.hosts ≡ self.old.hosts) }
-        ensures begun { OnOk result (self.new.begun ≡ self.old.begun) }
         ensures renewed { (p : Name → Truth) (old : SlotTable) (done told : List Name) →
             AreRenewed forest.now self.old.hosts p old (done ++ tree_slots forest.now.trees (name_of forest.now around)) told self.old.table
             signals.old.items →
@@ -202,18 +188,18 @@ impl Slots {
     }
 
     /// The slots that a step moves, or the slots below a slot whose attributes it changes.
-    fn moved_slots(&self, forest: &Forest, begun: Begun) -> Result<Vec<Key>, AllocError>
-        requires { StepHasNodes forest.now.names begun.step }
+    fn moved_slots(&self, forest: &Forest, change: SlotChange) -> Result<Vec<Key>, AllocError>
+        requires { StepHasNodes forest.now.names change.step }
         ensures value { IfOk result (λ keys.
-            (map (name_of forest.now) keys.items ≡ slots_among (subtree forest.now.trees (name_of forest.now (step_node begun.step))))
-            ⊎ ((keys.items ≡ []) × (is_move begun.step ≡ false) ×
-            (is_slot_element (node_in forest.now.trees (name_of forest.now (step_node begun.step))) ≡ false))) }
+            (map (name_of forest.now) keys.items ≡ slots_among (subtree forest.now.trees (name_of forest.now (step_node change.step))))
+            ⊎ ((keys.items ≡ []) × (is_move change.step ≡ false) ×
+            (is_slot_element (node_in forest.now.trees (name_of forest.now (step_node change.step))) ≡ false))) }
         ensures nodes { IfOk result (λ keys. All (IsNode forest.now) keys.items) }
     {
-        if !begun.step.is_move() && !is_slot(forest, begun.step.node()) {
+        if !change.step.is_move() && !is_slot(forest, change.step.node()) {
             return Ok(Vec::new(self.alloc));
         }
-        slots_below(self.alloc, forest, begun.step.node())
+        slots_below(self.alloc, forest, change.step.node())
     }
 
     /// Renews the lists of the slots in the tree in which a node stands, and adds those to the signals whose lists were others.
@@ -226,7 +212,6 @@ impl Slots {
         requires hosts { HostsAreNodes forest.now.names self.old.hosts }
         requires node { IsNode forest.now node }
         ensures hosts { OnOk result (self.new.hosts ≡ self.old.hosts) }
-        ensures begun { OnOk result (self.new.begun ≡ self.old.begun) }
         ensures renewed { (p : Name → Truth) (old : SlotTable) (done told : List Name) →
             AreRenewed forest.now self.old.hosts p old done told self.old.table signals.old.items →
             OnOk result (AreRenewed forest.now self.old.hosts p old (done ++ tree_slots forest.now.trees (name_of forest.now node))
@@ -245,17 +230,21 @@ impl Slots {
     }
 
     /// Renews the lists of the slots in the tree that a placed node left, unless that is the tree around, whose slots are done.
-    fn renew_left(&mut self, forest: &Forest, begun: Begun, around: Key) -> Result<(), AllocError>
+    fn renew_left(
+        &mut self,
+        forest: &Forest,
+        change: SlotChange,
+        around: Key,
+    ) -> Result<(), AllocError>
         requires hosts { HostsAreNodes forest.now.names self.old.hosts }
-        requires left { ForSome begun.left (IsNode forest.now) }
+        requires left { ForSome change.left (IsNode forest.now) }
         requires around { IsNode forest.now around }
         ensures hosts { OnOk result (self.new.hosts ≡ self.old.hosts) }
-        ensures begun { OnOk result (self.new.begun ≡ self.old.begun) }
         ensures renewed { AreRight forest.now self.old.hosts (tree_slots forest.now.trees (name_of forest.now around)) self.old.table →
-            OnOk result (AreSilent forest.now self.old.hosts (left_slots forest.now self.old.hosts begun.step begun.left) self.old.table self.new.table) }
+            OnOk result (AreSilent forest.now self.old.hosts (left_slots forest.now self.old.hosts change.step change.left) self.old.table self.new.table) }
     {
         forest.law_nodes_stand_once();
-        let Some(left) = begun.step.left_behind(begun.left) else {
+        let Some(left) = change.step.left_behind(change.left) else {
             return Ok(());
         };
         if forest.root(left) == forest.root(around) {

@@ -25,7 +25,7 @@ use std::alloc::AllocError;
 
 impl Slots {
     /// Renews the lists of the slot that a step's node had and of the one that it has now, where all other nodes in the lists of
-    /// slots stay, and gives those of the two whose lists were others, in a list that is empty before. Where the two are one and
+    /// slots stay, and gives those of the two whose lists were others. Where the two are one and
     /// the node is not moved, no list is looked at.
     pub(super) fn moved_signals(
         &mut self,
@@ -33,14 +33,11 @@ impl Slots {
         node: Key,
         moves: bool,
         was: Option<Key>,
-        mut signals: Vec<Key>,
     ) -> Result<Vec<Key>, AllocError>
         requires hosts { HostsAreNodes forest.now.names self.old.hosts }
         requires node { IsNode forest.now node }
         requires slot { ForSome was (IsNode forest.now) }
-        requires signals { signals.items ≡ [] }
         ensures hosts { IfOk result (λ keys. self.new.hosts ≡ self.old.hosts) }
-        ensures begun { IfOk result (λ keys. self.new.begun ≡ self.old.begun) }
         ensures renewed { (p : Name → Truth) (step : Step) → step_node step ≡ node → is_move step ≡ moves →
             IsButFor forest.now self.old.hosts self.old.table was step → AreRenewed forest.now self.old.hosts p self.old.table [] [] self.old.table [] →
             IfOk result (λ keys. AreRenewed forest.now self.old.hosts p self.old.table (own_slots forest.now self.old.hosts was step)
@@ -48,6 +45,7 @@ impl Slots {
     {
         forest.law_nodes_stand_once();
         let slot = self.slot_now(forest, node);
+        let mut signals = Vec::new(self.alloc);
         if slot == was {
             if moves {
                 return self.own_signals(forest, node, was);
@@ -70,7 +68,6 @@ impl Slots {
         requires node { IsNode forest.now node }
         requires slot { ForSome slot (IsNode forest.now) }
         ensures hosts { OnOk result (self.new.hosts ≡ self.old.hosts) }
-        ensures begun { OnOk result (self.new.begun ≡ self.old.begun) }
         ensures renewed { (p : Name → Truth) (old : SlotTable) (done told : List Name) →
             ((k : ℕ) → slot ≡ Some k → map (name_of forest.now) (without node (list_of self.old.table k)) ≡ assigned_at
             (shadows forest.now self.old.hosts) (name_of forest.now k)) →
@@ -102,7 +99,6 @@ impl Slots {
         requires slot { ForSome slot (IsNode forest.now) }
         requires own { option_map (name_of forest.now) slot ≡ slot_at (shadows forest.now self.old.hosts) (name_of forest.now node) }
         ensures hosts { OnOk result (self.new.hosts ≡ self.old.hosts) }
-        ensures begun { OnOk result (self.new.begun ≡ self.old.begun) }
         ensures renewed { (p : Name → Truth) (old : SlotTable) (done told : List Name) →
             ((k : ℕ) → slot ≡ Some k → map (name_of forest.now) (list_of self.old.table k) ≡ names_but (name_of forest.now node)
             (assigned_at (shadows forest.now self.old.hosts) (name_of forest.now k))) →

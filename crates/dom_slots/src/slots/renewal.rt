@@ -27,7 +27,6 @@ impl Slots {
         requires hosts { HostsAreNodes forest.now.names self.old.hosts }
         requires nodes { All (IsNode forest.now) slots.now }
         ensures hosts { OnOk result (self.new.hosts ≡ self.old.hosts) }
-        ensures begun { OnOk result (self.new.begun ≡ self.old.begun) }
         ensures renewed { (p : Name → Truth) (old : SlotTable) (done told : List Name) →
             AreRenewed forest.now self.old.hosts p old done told self.old.table signals.old.items →
             OnOk result (AreRenewed forest.now self.old.hosts p old (done ++ map (name_of forest.now) slots.now)
@@ -49,7 +48,6 @@ impl Slots {
         requires hosts { HostsAreNodes forest.now.names self.old.hosts }
         requires node { IsNode forest.now slot }
         ensures hosts { OnOk result (self.new.hosts ≡ self.old.hosts) }
-        ensures begun { OnOk result (self.new.begun ≡ self.old.begun) }
         ensures renewed { (p : Name → Truth) (old : SlotTable) (done told : List Name) →
             AreRenewed forest.now self.old.hosts p old done told self.old.table signals.old.items →
             OnOk result (AreRenewed forest.now self.old.hosts p old (done ++ name_of forest.now slot ∷ [])
@@ -73,7 +71,6 @@ impl Slots {
         requires served { Serves forest.now self.old.hosts (waiting_under waiting) slots.now }
         requires waiting_nodes { (name : List ℕ) → All (IsNode forest.now) (waiting_under waiting name) }
         ensures hosts { OnOk result (self.new.hosts ≡ self.old.hosts) }
-        ensures begun { OnOk result (self.new.begun ≡ self.old.begun) }
         ensures renewed { (p : Name → Truth) (old : SlotTable) (done told : List Name) →
             AreRenewed forest.now self.old.hosts p old done told self.old.table signals.old.items →
             OnOk result (AreRenewed forest.now self.old.hosts p old (done ++ map (name_of forest.now) slots.now)
@@ -98,7 +95,6 @@ impl Slots {
         requires right { map (name_of forest.now) list.items ≡ assigned_at (shadows forest.now self.old.hosts) (name_of forest.now slot) }
         requires nodes { All (IsNode forest.now) list.items }
         ensures hosts { OnOk result (self.new.hosts ≡ self.old.hosts) }
-        ensures begun { OnOk result (self.new.begun ≡ self.old.begun) }
         ensures renewed { (p : Name → Truth) (old : SlotTable) (done told : List Name) →
             AreRenewed forest.now self.old.hosts p old done told self.old.table signals.old.items →
             OnOk result (AreRenewed forest.now self.old.hosts p old (done ++ name_of forest.now slot ∷ [])

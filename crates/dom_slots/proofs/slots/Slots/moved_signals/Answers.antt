@@ -23,7 +23,7 @@ returns-then-eq-clause-renewed c =
     let same : c.slot_now-slot.result ≡ slot = same-option c.slot_now-slot.result slot (sym c.eq.ensures ∙ c.if-eq.true) in
     let still = moves ∙ c.if-moves.false in
     subst (λ keys. AreRenewed f s.hosts p s.table (own_slots f s.hosts slot step) (filter p (own_slots f s.hosts slot step)) s.table keys)
-    (sym c.requires.signals)
+    (sym c.new-signals.ensures.items)
     (both-stay f c.law_nodes_stand_once.ensures.distinct s.hosts step (subst (λ k. k < length f.names) (sym is) c.requires.node) slot c.slot_now-slot.result
     c.slot_now-slot.ensures.node own c.requires.slot p s.table
     (but.stays still (ap (option_map (name_at f.names)) (sym same) ∙ own)) start)
@@ -50,7 +50,7 @@ returns-clause-renewed c =
     c.in_ok-leave.ensures.renewed p s.table [] []
     (λ k was. ap (λ n. map name (without n (list_of s.table k))) node_is ∙ leaves-right f distinct s.hosts step node slot new
     c.slot_now-slot.ensures.node own s.table but start.nodes apart c.requires.slot k was)
-    (subst (AreRenewed f s.hosts p s.table [] [] s.table) (sym c.requires.signals) start) in
+    (subst (AreRenewed f s.hosts p s.table [] [] s.table) (sym c.new-signals.ensures.items) start) in
     let right : (k : ℕ) → new ≡ Some k → map name (list_of left k) ≡ names_but (name c.args.node) (assigned_at (shadows f hs) (name k)) =
     λ k now.
     joins-right f distinct s.hosts step node slot new c.slot_now-slot.ensures.node own s.table but start.nodes apart c.requires.slot first k now

@@ -9,7 +9,6 @@ use Rattle.dom_slots.proofs.slots.Slots.renew.Goals as goal
 pub loop-slot-init : goal.loop-slot-init
 loop-slot-init c = record {
   hosts = refl;
-  begun = refl;
   renewed = λ p old done told r. none_yet c.args.forest.now c.args.self.now.hosts p old done told c.args.self.now.table c.args.signals.now.items r;
 }
 
@@ -25,7 +24,6 @@ loop-slot-preserved c =
     let same = c.loop-slot.invariant.hosts in
     record {
       hosts = c.in_ok-renew_slot.ensures.hosts ∙ same;
-      begun = c.in_ok-renew_slot.ensures.begun ∙ c.loop-slot.invariant.begun;
       renewed = λ p old done told r.
           one_more f c.args.self.now.hosts p old done told slots i c.slot-item.result c.slot-item.is c.loop-slot-test.true
           (subst (λ hs. AreRenewed f hs p old ((done ++ names) ++ name_at f.names c.slot-item.result ∷ [])
@@ -38,9 +36,6 @@ loop-slot-preserved c =
 
 pub returns-clause-hosts : goal.returns-clause-hosts
 returns-clause-hosts c = c.loop-slot.invariant.hosts
-
-pub returns-clause-begun : goal.returns-clause-begun
-returns-clause-begun c = c.loop-slot.invariant.begun
 
 pub returns-clause-renewed : goal.returns-clause-renewed
 returns-clause-renewed c =

@@ -17,7 +17,7 @@ returns-clause-renewed c =
     λ p old done told r.
     let f = c.args.forest.now in
     let hosts = c.args.self.now.hosts in
-    let step = c.args.begun.step in
+    let step = c.args.change.step in
     let around = name_at f.names c.args.around in
     let a = tree_slots f.trees around in
     let b = slots_among (subtree f.trees (name_at f.names (step_node step))) in
@@ -45,6 +45,6 @@ returns-clause-renewed c =
     (list_any-append (name_eq (name_at f.names k)) (done ++ a) b
     ∙ or_left _ _ (list_any-append (name_eq (name_at f.names k)) done a ∙ or_right (is_in name_eq (name_at f.names k) done) _ i))) in
     on_ok_weaker c.renew_left.result
-    (λ (h : AreSilent f c.renew_below.new.self.hosts (left_slots f c.renew_below.new.self.hosts step c.args.begun.left) mid c.renew_left.new.self.table).
-    inr (mid, both, subst (λ hs. AreSilent f hs (left_slots f hs step c.args.begun.left) mid c.renew_left.new.self.table) hosts_now h))
+    (λ (h : AreSilent f c.renew_below.new.self.hosts (left_slots f c.renew_below.new.self.hosts step c.args.change.left) mid c.renew_left.new.self.table).
+    inr (mid, both, subst (λ hs. AreSilent f hs (left_slots f hs step c.args.change.left) mid c.renew_left.new.self.table) hosts_now h))
     (c.renew_left.ensures.renewed right)

@@ -36,7 +36,6 @@ nodes-stay n false was now e all = subst (All (λ k. k < n)) (sym e) all
 pub loop-slot-init : goal.loop-slot-init
 loop-slot-init c = record {
   hosts = refl;
-  begun = refl;
   renewed = λ p old done told r. none_yet c.args.forest.now c.args.self.now.hosts p old done told c.args.self.now.table c.args.signals.now.items r;
   served = c.requires.served;
   nodes = c.requires.waiting_nodes;
@@ -70,7 +69,6 @@ loop-slot-preserved c =
     drop_more slots i s c.loop-slot-test.true ∙ ap (λ k. k ∷ drop (i + 1) slots) (sym c.slot-item.is) in
     record {
       hosts = c.in_ok-renew_as.ensures.hosts ∙ same;
-      begun = c.in_ok-renew_as.ensures.begun ∙ c.loop-slot.invariant.begun;
       renewed = λ p old done told r.
           one_more f c.args.self.now.hosts p old done told slots i s c.slot-item.is c.loop-slot-test.true
           (subst (λ hs. AreRenewed f hs p old ((done ++ names) ++ name_at f.names s ∷ []) ((told ++ filter p names) ++ filter p (name_at f.names s ∷ []))

@@ -9,7 +9,6 @@ use Rattle.dom_slots.proofs.slots.Slots.renew_waiting.Given as goal
 abbrev pub invariant-loop-slot : goal.invariant-loop-slot
 invariant-loop-slot l = record {
   hosts : l.self.hosts ≡ l.fn.self.hosts;
-  begun : l.self.begun ≡ l.fn.self.begun;
   renewed : (p : NodeName → Bool) (old : SlotTable) (done told : List NodeName) →
       AreRenewed l.forest l.fn.self.hosts p old done told l.fn.self.table l.fn.signals.items
       → AreRenewed l.forest l.fn.self.hosts p old (done ++ map (name_at l.forest.names) (take l.slot-index l.slots))

@@ -12,9 +12,9 @@ returns-clause-renewed c =
     λ p old r.
     let f = c.args.forest.now in
     let hosts = c.args.self.now.hosts in
-    let step = c.args.begun.step in
-    let left = c.args.begun.left in
-    let slot = c.args.begun.slot in
+    let step = c.args.change.step in
+    let left = c.args.change.left in
+    let slot = c.args.change.slot in
     let table = c.own_signals.new.self.table in
     let keys = c.in_ok-signals.signals.items in
     let same : c.own_signals.new.self.hosts ≡ hosts = c.in_ok-signals.ensures.hosts in
