@@ -1,5 +1,5 @@
 -- The shadow roots of the hosts in the tree of a node, listed in tree order, behind each those in its own shadow tree.
-use Rattle.std.proofs.Common.{◌≡◌, ℕ, ◌<◌, ◌≤◌, true, ◌||◌, List, [], ◌∷◌, ◌++◌, All, map, filter_map, flat_map, length, Option, Some, None, option_map, sym}
+use Rattle.std.proofs.Common.{◌≡◌, ℕ, ◌<◌, ◌≤◌, ◌||◌, List, [], ◌∷◌, ◌++◌, All, map, filter_map, flat_map, length, Option, Some, None, option_map, sym}
 use Rattle.std.proofs.Common.{ap, subst, ◌∙◌}
 use Rattle.std.specs.List.{cons_option}
 use Rattle.std.specs.Option.{ForSome}
@@ -8,12 +8,12 @@ use Rattle.std.proofs.lemmas.List.{map-append, append-nil, append_assoc, flat_ma
 use Rattle.std.proofs.lemmas.List.Elements.{All-push, filter_map-append}
 use Rattle.dom_base.specs.declared.NodeName.{NodeName}
 use Rattle.dom_model.specs.Names.{name_eq, first_of, is_in, items_before, items_after}
-use Rattle.dom_model.specs.Tree.{inclusive_descendants, is_inclusive_ancestor, subtree, times_in}
+use Rattle.dom_model.specs.Tree.{inclusive_descendants, subtree, times_in}
 use Rattle.dom_model.proofs.OwnerLaws.{name_eq-same}
 use Rattle.dom_slots.specs.Hosts.{ShadowHost, HostsAreNodes, root_of_host, root_named}
 use Rattle.dom_slots.proofs.Hosted.{root-named, root-node}
 use Rattle.dom_tree.specs.Forest.{NamedTrees, name_at}
-use Rattle.dom_laws.proofs.Walks.{walked, left, StandsIn, Walks, walks, first_inside, above_inside}
+use Rattle.dom_laws.proofs.Walks.{walked, left, StandsIn, Walks, walks, first_inside}
 use Rattle.dom_laws.proofs.Counts.{once_subtree, Once}
 use Rattle.dom_laws.proofs.Relatives.{names_once}
 use Rattle.dom_tree.specs.Apart.{TellApart}
@@ -55,10 +55,6 @@ module _ (f : NamedTrees) (hosts : List ShadowHost) (deeper : NodeName → List 
 
     stands_at : StandsIn below (option_map (name_at f.names) (Some k))
     stands_at = subst (λ (o : Option ℕ). StandsIn below (option_map (name_at f.names) o)) is lists.stands
-
-    -- what the forest asks
-    pub lists_above : is_inclusive_ancestor f.trees (name_at f.names top) (name_at f.names k) ≡ true
-    lists_above = above_inside f.trees once (name_at f.names top) y stands_at
 
     module _ (next : Option ℕ) (found : option_map (name_at f.names) next ≡ first_of
         (items_after name_eq (name_at f.names k) (inclusive_descendants f.trees (name_at f.names top)))) where

@@ -7,4 +7,4 @@ mod steps;
 
 pub use documents::{roots_below, set_documents, set_each};
 pub use hosts::may_be_host;
-pub use steps::{link, own_slots, remove_attr, set_attr, unlink};
+pub use steps::NodeTrees;

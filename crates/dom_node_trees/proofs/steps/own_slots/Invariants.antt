@@ -1,9 +1,0 @@
-use Rattle.std.proofs.Common.{◌≡◌, ◌<◌, All, map, take, length}
-use Rattle.dom_model.specs.Names.{node_of}
-use Rattle.dom_tree.specs.Forest.{name_at}
-use Rattle.dom_node_trees.proofs.steps.own_slots.Given as goal
-
-abbrev pub invariant-loop-number : goal.invariant-loop-number
-invariant-loop-number l =
-    (map (name_at l.fn.forest.names) l.keys.items ≡ map (node_of l.fn.owner) (take l.number-index l.number-items))
-    × All (λ k. k < length l.fn.forest.names) l.keys.items
