@@ -19,7 +19,7 @@ use Rattle.dom_model.specs.TreeChanges.{with_node, with_name}
 use Rattle.dom_model.specs.Steps.{make}
 use Rattle.dom_model.specs.World.{part_of, is_there}
 use Rattle.dom_model.specs.WorldSteps.{world_step}
-use Rattle.dom_model.specs.Part.{next_name as part_next}
+use Rattle.dom_model.specs.Part.{empty_part, next_name as part_next}
 use Rattle.dom_model.specs.Ranges.{Range}
 use Rattle.dom_model.proofs.OwnerLaws.{owner_eq-same, owner_eq-true, ne-owner_eq}
 use Rattle.dom_tree.specs.Forest.{NamedTrees, name_at, next_name, count_of}
@@ -27,7 +27,7 @@ use Rattle.dom_tree.specs.Owners.{trees_of_owner, IsOwnChange}
 use Rattle.dom_tree.proofs.OwnPlacings.{added}
 use Rattle.dom_tree.specs.Apart.{TellApart}
 use Rattle.dom_ranges.specs.Settings.{named_ranges}
-use Rattle.dom_ranges.specs.Tables.{RangeLists, ranges_of}
+use Rattle.dom_ranges.specs.Tables.{RangeList, RangeLists, ranges_of}
 use Rattle.dom_observers.specs.Naming.{IsKey}
 use Rattle.dom_observers.proofs.Speaking.{speaks_none}
 use Rattle.dom_parts.specs.Contents.{Tables, part_with}
@@ -37,7 +37,7 @@ use Rattle.dom_slots.proofs.Added.{slots-more}
 use Rattle.dom_parts.proofs.HostedSteps.{names_pushed, made_renamed, attached_renamed, plain_step}
 use Rattle.std.proofs.lemmas.List.Elements.{All-nil}
 use Rattle.dom_node_trees.proofs.NamesByKey.{names_grown}
-use Rattle.dom_parts.specs.Doc.{DocState, named_trees, shown_tables, contents, world_from, state_from, IsDoc}
+use Rattle.dom_parts.specs.Doc.{DocState, named_trees, shown_tables, contents, world_from, state_from, nothing_left, IsDoc}
 use Rattle.dom_parts.specs.Hosting.{attached_of}
 use Rattle.dom_parts.proofs.Worlds.{part_at}
 use Rattle.dom_parts.proofs.Keeping.{tables_more, view_same, speaks_grown}
@@ -266,6 +266,15 @@ empty_held rs empty = record {
 pub given_up : (g : NamedTrees) (tables : AllTables) → g ≡ record { names = []; trees = none } → AreFirst tables → IsDoc g.names g.trees tables
 given_up g tables empty first =
     subst (λ (p : NamedTrees). IsDoc p.names p.trees tables) (sym empty) (subst (IsDoc [] none) (sym first.all) (empty_held tables.ranges first.no_ranges))
+
+-- and it shows nothing
+pub nothing_shown : (g : NamedTrees) (tables : AllTables) → g ≡ record { names = []; trees = none } → AreFirst tables →
+    state_from g.names g.trees tables ≡ nothing_left
+nothing_shown g tables empty first =
+    ap (λ (p : NamedTrees). state_from p.names p.trees tables) empty ∙ (ap (state_from [] none) first.all ∙ ap with_ranges (first.no_ranges Page))
+  where
+    with_ranges : RangeList → DocState
+    with_ranges rs = record nothing_left { world = record nothing_left.world { parts = record (empty_part Page) { ranges = named_ranges [] rs } ∷ [] } }
 
 -- with the first one
 pub first_held : (g : NamedTrees) {tables : AllTables} (n : Node) → n.name ≡ node_of Page 0 → AreFirst tables → g.names ≡ node_of Page 0 ∷ [] →

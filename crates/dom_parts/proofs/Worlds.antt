@@ -75,6 +75,16 @@ there_same a b same o = each a.owners ∙ ap (λ os. is_some (find_part (map (pa
     each [] = refl
     each (q ∷ os) = elim (cases_Bool (owner_eq q o)) [ inl e ↦ rw e refl | inr e ↦ rw e (each os) ]
 
+-- what is read alike of the same owners' parts
+pub read_same : (a b : Contents) → a.owners ≡ b.owners → {R : Type 0} (read : Part → R) → ((q : Owner) → read (part_in a q) ≡ read (part_in b q)) →
+    (o : Owner) → read (part_of (world_of a) o) ≡ read (part_of (world_of b) o)
+read_same a b same read like o = each a.owners ∙ ap (λ os. read (unwrap_or (find_part (map (part_in b) os) o) (empty_part o))) same
+  where
+    each : (os : List Owner) → read (unwrap_or (find_part (map (part_in a) os) o) (empty_part o)) ≡
+        read (unwrap_or (find_part (map (part_in b) os) o) (empty_part o))
+    each [] = refl
+    each (q ∷ os) = elim (cases_Bool (owner_eq q o)) [ inl e ↦ rw e (like q) | inr e ↦ rw e (each os) ]
+
 -- one owner's part changes, and no other one's
 pub record IsChangeOf (a b : Contents) (o : Owner) (p : Part) : Type 0 where
   pub owners : b.owners ≡ a.owners

@@ -15,7 +15,7 @@ use Rattle.dom_base.specs.Owners.{may_attach}
 use Rattle.dom_model.specs.Names.{DomString, name_eq, is_empty, is_in}
 use Rattle.dom_model.specs.Tree.{Trees, none, node_in, kind_of, is_document, has_data, children_of, parent_of, length_of, inclusive_ancestors}
 use Rattle.dom_model.specs.Tree.{is_inclusive_ancestor}
-use Rattle.dom_model.specs.Part.{Part, next_name, queue_of}
+use Rattle.dom_model.specs.Part.{Part, empty_part, next_name, queue_of}
 use Rattle.dom_model.specs.Steps.{Step, queue_record}
 use Rattle.dom_model.specs.World.{World, Task, micro_task, notify_task, part_of, with_part, is_there}
 use Rattle.dom_model.specs.Command.{Command, effect}
@@ -82,6 +82,10 @@ world_from names ts tables = world_of (contents names ts tables)
 
 abbrev pub state_from : List NodeName → Trees → AllTables → DocState
 state_from names ts tables = record { names = names; world = world_from names ts tables }
+
+-- what is left of a document that was given up: no nodes, and the page alone is there (own rule)
+abbrev pub nothing_left : DocState
+nothing_left = record { names = []; world = record { parts = empty_part Page ∷ []; signalled = []; tasks = []; turn = None } }
 
 -- a task of an owner that is there, where it is a notification (own rule)
 abbrev pub IsDue : World → Task → Type 0

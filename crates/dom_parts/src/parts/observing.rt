@@ -1,6 +1,7 @@
 //! Mutation observers of each owner, by their numbers (DOM Standard, 4.3 Mutation observers).
 ghost use Rattle.std.specs.Prelude.{◌≡◌, ◌↔◌, ◌⊎◌, length, map, true, is_some, slice_get, IfOk, IfErr, OnOk, OnErr};
 ghost use Rattle.std.specs.List.{AllByRecursion};
+ghost use Rattle.dom_base.specs.declared.Owner.{Owner as OwnerOf};
 ghost use Rattle.dom_base.specs.declared.Refusal.TheVariants.{Limit, TypeFault};
 ghost use Rattle.dom_model.specs.Command.{Command, own};
 ghost use Rattle.dom_model.specs.Observers.{options_of, asks_for_nothing};
@@ -90,13 +91,15 @@ impl Parts {
 
     /// Empties an owner's set of pending observers, and gives each with the records of its queue, in order; their queues
     /// are then empty, and their transient registrations gone (DOM Standard, notify mutation observers). After a refusal
-    /// of memory no owner has an observer.
+    /// of memory no owner has an observer, and all nodes and live ranges are as they were.
     pub fn notify(&mut self, owner: Owner) -> Result<Vec<(u32, Vec<Record>)>, AllocError>
         requires { is_there self.old.world owner ≡ true }
         ensures names { self.new.names ≡ self.old.names }
         ensures notices { IfOk result (λ list. map (notice_in self.old) list.items ≡ notices_of (part_of self.old.world owner)) }
         ensures nodes { IfOk result (λ list. AllByRecursion (λ n. AllByRecursion (NamesNodes self.old) n.1.items) list.items) }
         ensures world { OnOk result (self.new.world ≡ with_part self.old.world (notified (part_of self.old.world owner))) }
+        ensures trees { OnErr result ((o : OwnerOf) → (part_of self.new.world o).trees ≡ (part_of self.old.world o).trees) }
+        ensures ranges { OnErr result ((o : OwnerOf) → (part_of self.new.world o).ranges ≡ (part_of self.old.world o).ranges) }
     {
         match self.observers.notify(owner) {
             Ok(notices) => Ok(notices),

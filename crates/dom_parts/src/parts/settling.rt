@@ -4,7 +4,9 @@ ghost use Rattle.dom_model.specs.Tree.{none};
 ghost use Rattle.dom_traversal.specs.Cursors.{cursors_of};
 ghost use Rattle.dom_observers.specs.Owners.{tables_of as observers_of};
 ghost use Rattle.dom_parts.specs.AllTables.{tables_of, AreFirst};
+ghost use Rattle.dom_parts.specs.Doc.{nothing_left};
 
+use crate::Parts;
 use dom_microtasks::{Queue, Signals};
 use dom_observers::Observers;
 use dom_ranges::RangeTable;
@@ -12,6 +14,24 @@ use dom_slots::Slots;
 use dom_traversal::Cursors;
 use dom_tree::Forest;
 use std::alloc::{AllocError, Global};
+
+impl Parts {
+    /// Gives everything up: there are no nodes then, and the page alone is there. It takes no memory.
+    pub fn give_up(&mut self)
+        ensures { self.new ≡ nothing_left }
+    {
+        give_up(
+            &mut self.forest,
+            &mut self.cursors,
+            &mut self.observers,
+            &mut self.ranges,
+            &mut self.slots,
+            &mut self.signalled,
+            &mut self.queue,
+            self.alloc,
+        );
+    }
+}
 
 /// After a step of which memory was refused everything is given up: there are no nodes then, and the page alone is there.
 pub(super) fn settle(
