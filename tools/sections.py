@@ -89,7 +89,7 @@ SECTIONS = [
     ("4.2.3", "Mutation algorithms", {
         "ensure pre-insert validity": ("Forest::check_insert", "rows/validity-in-order"),
         "pre-insert": ("Doc::insert", "commands/moving-a-node-goes-before-a-child"),
-        "insert": ("Doc::insert_before", "calls/doc-fragments-give-their-children"),
+        "insert": ("Doc::insert_unchecked", "calls/doc-fragments-give-their-children"),
         "append": ("Doc::insert", "rows/append-and-remove"),
         "replace": ("Doc::replace", "calls/doc-replacements-keep-the-place"),
         "replace all": ("Doc::set_text", "rows/text-replaced"),

@@ -244,18 +244,6 @@ module _ (d : DocState) (node : ℕ) where
   abbrev after_steps : List Step → DocState
   after_steps steps = record d { world = world_after o d.world steps }
 
-  pub normal_empty : (e : DocState) → (length_of ts x == 0) ≡ true → e ≡ planned o (removing observed x) d → e ≡ planned o (normalizing_text x) d
-  normal_empty e h is = is ∙ ap (λ b. after_steps (steps_if b (parent_of ts x) (texts_after ts x))) (sym h)
-
-  pub normal_root : (length_of ts x == 0) ≡ false → parent_of ts x ≡ None → d ≡ planned o (normalizing_text x) d
-  normal_root h up = ap (λ a. after_steps (steps_if false a (texts_after ts x))) (sym up) ∙
-      ap (λ b. after_steps (steps_if b (parent_of ts x) (texts_after ts x))) (sym h)
-
-  pub normal_lone : (q : NodeName) → (length_of ts x == 0) ≡ false → parent_of ts x ≡ Some q → texts_after ts x ≡ [] → d ≡ planned o (normalizing_text x) d
-  normal_lone q h up lone =
-      ap (λ ys. after_steps (steps_if false (Some q) ys)) (sym lone) ∙ ap (λ a. after_steps (steps_if false a (texts_after ts x))) (sym up) ∙
-      ap (λ b. after_steps (steps_if b (parent_of ts x) (texts_after ts x))) (sym h)
-
   pub normal_joined : {e : DocState} {q : NodeName} (ks : List ℕ) → (length_of ts x == 0) ≡ false → parent_of ts x ≡ Some q →
       map (name_in d) ks ≡ texts_after ts x → is_empty ks ≡ false
       → e ≡ planned o (joining x q (map (name_in d) ks)) d → e ≡ planned o (normalizing_text x) d

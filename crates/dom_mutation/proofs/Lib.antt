@@ -8,6 +8,7 @@ mod Inserted
 mod Joined
 mod Joining
 mod Listing
+mod NoData
 mod Nodes
 mod NormalizedEach
 pub mod Placed

@@ -7,9 +7,6 @@ use Rattle.std.specs.List.{AllByRecursion}
 pub nodes_kept : (d e : DocState) → e.names ≡ d.names → (ks : List ℕ) → AreNodes d ks → AreNodes e ks
 nodes_kept d e same ks all = subst (λ (ns : List NodeName). AllByRecursion (λ k. k < length ns) ks) (sym same) all
 
-pub node_kept : (d e : DocState) → e.names ≡ d.names → (k : Option ℕ) → IsNodeIf d k → IsNodeIf e k
-node_kept d e same k is j at = subst (λ (ns : List NodeName). j < length ns) (sym same) (is j at)
-
 -- nodes that may be moved
 pub movable_nodes : (d : DocState) (parent : ℕ) (before : Option ℕ) (ks : List ℕ) → AllByRecursion (MayMove d parent before) ks → AreNodes d ks
 movable_nodes d parent before [] all = tt

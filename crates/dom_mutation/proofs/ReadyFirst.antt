@@ -1,4 +1,5 @@
--- A part with one node alone is ready: so are the first world, and a world with one component more.
+-- A part with one node alone is ready, and so is one without nodes: the first world, what was given up, and a world with one component
+-- more.
 use Rattle.std.proofs.Common.{◌≡◌, List, [], ◌∷◌, ◌++◌, drop, length, Option, None, refl}
 use Rattle.dom_base.specs.declared.Kind.{Kind}
 use Rattle.dom_base.specs.declared.Kind.TheVariants.{Document, Shadow}
@@ -7,12 +8,13 @@ use Rattle.dom_base.specs.declared.Owner.{Owner}
 use Rattle.dom_base.specs.declared.Owner.TheVariants.{Page, Component}
 use Rattle.dom_model.specs.DocumentMachine.{first_world, part_with_root, new_root, attaching}
 use Rattle.dom_model.specs.Names.{name_eq, node_of, first_of}
-use Rattle.dom_model.specs.Part.{Part}
+use Rattle.dom_model.specs.Part.{Part, empty_part}
 use Rattle.dom_model.specs.Tree.{Trees, none, tree, Node, node_in, names_of, roots, trees_below, children_of, parent_of}
 use Rattle.dom_model.specs.World.{World, part_of, with_part, component_made}
 use Rattle.dom_model.proofs.PartLaws.{owner-part_of}
 use Rattle.dom_worlds.proofs.ListLemmas.{either_way}
-use Rattle.dom_mutation.specs.Ready.{IsReadyPart, AreReady}
+use Rattle.dom_parts.specs.Doc.{nothing_left}
+use Rattle.dom_mutation.specs.Ready.{IsReadyPart, AreReady, IsReady}
 use Rattle.dom_mutation.proofs.ReadyTables.{ready-same}
 use Rattle.dom_mutation.proofs.ReadyWorlds.{ready-written}
 
@@ -29,10 +31,19 @@ ready-root o k d =
     let n = new_root (node_of o 0) k d in
     record { bounds = record { ranges = tt; leaves = λ x h. alone-children n x }; ends = tt; roots = λ x h. alone-parent n x }
 
+-- a part with nothing
+ready-empty : (o : Owner) → IsReadyPart (empty_part o)
+ready-empty o = record { bounds = record { ranges = tt; leaves = λ x h. refl }; ends = tt; roots = λ x h. refl }
+
 -- the first world
 pub ready-first : AreReady first_world
 ready-first Page = ready-root Page Document None
-ready-first (Component k) = record { bounds = record { ranges = tt; leaves = λ x h. refl }; ends = tt; roots = λ x h. refl }
+ready-first (Component k) = ready-empty (Component k)
+
+-- what is left of a document that was given up
+pub ready-nothing_left : IsReady nothing_left
+ready-nothing_left Page = ready-empty Page
+ready-nothing_left (Component k) = ready-empty (Component k)
 
 -- one component more
 pub ready-attaching : (w : World) (o : Owner) (x : NodeName) → AreReady w → AreReady (attaching w o x).0

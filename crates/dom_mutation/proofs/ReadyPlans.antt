@@ -1,6 +1,7 @@
 -- The plans of changes keep an owner's part ready for calls.
-use Rattle.std.proofs.Common.{◌≡◌, ℕ, Bool, true, false, not, List, [], ◌∷◌, drop, filter, Option, Some, None, refl, sym, ap, ◌∙◌, arith, true≢false, subst}
-use Rattle.std.specs.Prelude.{IsTrue}
+use Rattle.std.proofs.Common.{◌≡◌, ◌<◌, ℕ, length, Bool, true, false, not, ◌||◌, List, [], ◌∷◌, drop, filter, Option, Some}
+use Rattle.std.proofs.Common.{None, refl, sym, ap, ◌∙◌, arith, true≢false, subst}
+use Rattle.std.specs.Prelude.{IsTrue, if◌then◌else◌}
 use Rattle.std.specs.Option.{option_map_or}
 use Rattle.std.proofs.lemmas.Bool.{not-false}
 use Rattle.dom_base.specs.declared.Kind.{Kind}
@@ -17,8 +18,8 @@ use Rattle.dom_model.specs.Part.{Part, range_at}
 use Rattle.dom_model.specs.RangeOps.{deleting, insert_node_refusal, insertion_parent, start_reference, cannot_take_node, inserting_into_range}
 use Rattle.dom_model.specs.Ranges.{Range}
 use Rattle.dom_model.specs.Steps.{Step, make, set_document, set_range, after}
-use Rattle.dom_model.specs.TextChanges.{replacing_data, splitting, normalizing, setting_text}
-use Rattle.dom_model.specs.Tree.{Trees, Node, has_node, kind_of, has_data, is_text, is_shadow, child_nodes, is_inclusive_ancestor}
+use Rattle.dom_model.specs.TextChanges.{replacing_data, replacing_all_data, replacing_children, splitting, normalizing, setting_text}
+use Rattle.dom_model.specs.Tree.{Trees, Node, has_node, kind_of, has_data, is_document, is_text, is_shadow, child_nodes, is_inclusive_ancestor}
 use Rattle.dom_model.specs.Validity.{first_refusal, has_parent, may_be_parent, may_be_inserted, placing_tests, insertion_refusal, replacement_refusal}
 use Rattle.dom_model.proofs.KindLaws.{parent-open}
 use Rattle.dom_worlds.specs.Bounds.{HasBounds, IsWithin}
@@ -36,7 +37,9 @@ use Rattle.dom_worlds.proofs.PlanLemmas.{leads-inserting_into_range, MayGo, lead
 use Rattle.dom_worlds.proofs.PlanLemmas.{leads-setting_attribute, leads-unsetting_attribute, leads-replacing_data, leads-splitting, leads-normalizing}
 use Rattle.dom_worlds.proofs.PlanLemmas.{leads-setting_text, MadeIn}
 use Rattle.dom_worlds.proofs.ShadowTreeLemmas.{not_taken}
+use Rattle.dom_worlds.proofs.ListLemmas.{by_cases}
 use Rattle.dom_mutation.specs.Ready.{IsReadyPart}
+use Rattle.dom_mutation.proofs.NoData.{no_data-keeps}
 use Rattle.dom_mutation.proofs.ReadyEnds.{bare, bare-part, bare-bounds, bounds-bare, bare-tables, bare-after, made-bare, ends-after}
 use Rattle.dom_mutation.proofs.ReadyRoots.{LoneRoots, lone-rules, lone-before, lone-after}
 use Rattle.dom_mutation.proofs.BarePlans.{bare-inserting_into_range}
@@ -52,10 +55,10 @@ pub ready-after : (p : Part) (steps : List Step) → IsPart p → IsReadyPart p 
 ready-after p steps i h k = record { bounds = k.bounds; ends = ends-after p steps i k.made h.ends; roots = k.roots }
 
 -- what passed the tests of a placing
-record MayPlace (ts : Trees) (parent x : NodeName) : Type 0 where
-  apart : is_inclusive_ancestor ts x parent ≡ false
-  opened : has_data (kind_of ts parent) ≡ false
-  plain : is_shadow (kind_of ts x) ≡ false
+pub record MayPlace (ts : Trees) (parent x : NodeName) : Type 0 where
+  pub apart : is_inclusive_ancestor ts x parent ≡ false
+  pub opened : has_data (kind_of ts parent) ≡ false
+  pub plain : is_shadow (kind_of ts x) ≡ false
 
 inserted-plain : (k : Kind) → may_be_inserted k ≡ true → is_shadow k ≡ false
 inserted-plain Shadow h = absurd (true≢false (sym h))
@@ -81,7 +84,7 @@ tested ts parent x is_lost others h =
     }
 
 -- of an insertion and a replacement
-insertion-tested : (ts : Trees) (parent x : NodeName) (child : Option NodeName) → insertion_refusal ts parent x child ≡ None → MayPlace ts parent x
+pub insertion-tested : (ts : Trees) (parent x : NodeName) (child : Option NodeName) → insertion_refusal ts parent x child ≡ None → MayPlace ts parent x
 insertion-tested ts parent x child h = tested ts parent x (option_map_or (λ c. not (has_parent ts parent c)) child false) (child_nodes ts parent) h
 
 replacement-tested : (ts : Trees) (parent x child : NodeName) → replacement_refusal ts parent x child ≡ None → MayPlace ts parent x
@@ -164,11 +167,6 @@ module _ (p : Part) (i : IsPart p) (h : IsReadyPart p) where
           roots = lone-plan (inserting observed x parent before) (keeps-inserting (lone-rules p) observed x parent before m);
         }
 
-    -- one that is tested
-    pub ready-pre_inserting : (child : Option NodeName) → insertion_refusal p.trees parent x child ≡ None → KeepReady p (pre_inserting x parent child p)
-    ready-pre_inserting child r =
-        let m = insertion-tested p.trees parent x child r in ready-inserting (reference_for p.trees x child) m.apart m.opened m.plain
-
   -- a replacement
   pub ready-replacing : (parent x child : NodeName) → IsTrue (has_node p.trees x) → IsTrue (has_node p.trees parent) →
       replacement_refusal p.trees parent x child ≡ None → KeepReady p (replacing parent x child p)
@@ -198,14 +196,20 @@ module _ (p : Part) (i : IsPart p) (h : IsReadyPart p) where
         roots = lone-plan (unsetting_attribute x a) (keeps-unsetting_attribute (lone-rules p) x a (λ old. tt) tt);
       }
 
-  -- data of a Text or a Comment
-  pub ready-data : (x : NodeName) (offset count : ℕ) (new : DomString) → has_data (kind_of p.trees x) ≡ true → KeepReady p (replacing_data x offset count new p)
+  -- data of a Text or a Comment, or of any node where none come
+  pub ready-data : (x : NodeName) (offset count : ℕ) (new : DomString) → (0 < length new → has_data (kind_of p.trees x) ≡ true) →
+      KeepReady p (replacing_data x offset count new p)
   ready-data x offset count new k =
       record {
         made = (leads-replacing_data x offset count new p i).made;
-        bounds = data-keeps x offset count new p i k h.bounds;
+        bounds = by_cases (has_data (kind_of p.trees x)) (λ e. data-keeps x offset count new p i e h.bounds) (without new k);
         roots = lone-plan (replacing_data x offset count new) (keeps-replacing_data (lone-rules p) x offset count new);
       }
+    where
+      without : (us : DomString) → (0 < length us → has_data (kind_of p.trees x) ≡ true) → has_data (kind_of p.trees x) ≡ false →
+          HasBounds (after p (replacing_data x offset count us p))
+      without [] k none = no_data-keeps p i x offset count none h.bounds
+      without (u ∷ us) k none = absurd (true≢false (sym (k (omega arith)) ∙ none))
 
   -- a split of a Text
   pub ready-splitting : (x : NodeName) (offset : ℕ) → IsTrue (has_node p.trees x) → is_text (kind_of p.trees x) ≡ true → KeepReady p (splitting x offset p)
@@ -224,14 +228,22 @@ module _ (p : Part) (i : IsPart p) (h : IsReadyPart p) where
     roots = lone-plan (normalizing x) (keeps-normalizing (lone-rules p) x);
   }
 
-  -- text content
-  pub ready-text : (x : NodeName) (new : DomString) → IsTrue (has_node p.trees x) → KeepReady p (setting_text x new p)
-  ready-text x new t =
-      record {
+  -- text content, of a node with children
+  pub ready-children : (x : NodeName) (new : DomString) → IsTrue (has_node p.trees x) →
+      (has_data (kind_of p.trees x) || is_document (kind_of p.trees x)) ≡ false → KeepReady p (replacing_children x new p)
+  ready-children x new t inner =
+      by (has_data (kind_of p.trees x)) (is_document (kind_of p.trees x)) inner
+      (record {
         made = (leads-setting_text x new p i (has_node-times p.trees x t)).made;
         bounds = text_content-keeps x new p i t h.bounds;
         roots = lone-plan (setting_text x new) (keeps-setting_text (lone-rules p) x new);
-      }
+      })
+    where
+      by : (a b : Bool) → (a || b) ≡ false → KeepReady p (if a then replacing_all_data x new p else (if b then [] else replacing_children x new p)) →
+          KeepReady p (replacing_children x new p)
+      by false false none k = k
+      by false true none k = absurd (true≢false none)
+      by true b none k = absurd (true≢false none)
 
   -- The contents of ranges. Both ends of a range that is there are at nodes of one tree, and its start is within its node.
   range-ends : (k : ℕ) (r : Range NodeName) → range_at p k ≡ Some r → HasEnds p.trees r

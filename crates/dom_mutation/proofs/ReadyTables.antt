@@ -4,11 +4,11 @@ use Rattle.std.proofs.Common.{◌≡◌, ℕ, Bool, true, false, not, ◌&&◌, 
 use Rattle.std.specs.Prelude.{IsTrue, slice_get}
 use Rattle.std.specs.List.{AllByRecursion}
 use Rattle.std.specs.Option.{option_map_or}
-use Rattle.std.proofs.lemmas.Bool.{and_parts, ltb-false}
+use Rattle.std.proofs.lemmas.Bool.{ltb-false}
 use Rattle.dom_base.specs.declared.Move.{Move}
 use Rattle.dom_base.specs.declared.NodeName.{NodeName}
 use Rattle.dom_base.specs.declared.Owner.{Owner}
-use Rattle.dom_model.specs.Command.{Command, NodeWord, Filter, ObserveWords, effect}
+use Rattle.dom_model.specs.Command.{Command, NodeWord, effect}
 use Rattle.dom_model.specs.CommandNames.{named}
 use Rattle.dom_model.specs.CommandRefusals.{past_end}
 use Rattle.dom_model.specs.Effects.{Effect, tables, changes, answers, moves_iterator, sets_walker, node_or_null, with_range, collapsed_to}
@@ -18,16 +18,16 @@ use Rattle.dom_model.specs.Part.{Part, first_node, range_at}
 use Rattle.dom_model.specs.Place.{Boundary, same_root, is_before}
 use Rattle.dom_model.specs.Ranges.{Range, at, from_to, with_start, with_end}
 use Rattle.dom_model.specs.Traversal.{Walker, iterator_next_node, iterator_previous_node, walker_move}
-use Rattle.dom_model.specs.Tree.{Trees, has_node}
-use Rattle.dom_model.specs.Turns.{notified}
+use Rattle.dom_model.specs.Tree.{Trees, length_of}
 use Rattle.dom_model.specs.World.{World, part_of}
 use Rattle.dom_model.proofs.PartLaws.{owner-part_of}
 use Rattle.dom_worlds.specs.Bounds.{IsWithin, EndsWithin}
 use Rattle.dom_worlds.specs.Tables.{IsNodeIn, HasEnds, EndsIn}
 use Rattle.dom_worlds.proofs.RangeLemmas.{under-at, RangeUnder, reach, nowhere, room-of}
-use Rattle.dom_worlds.proofs.ListLemmas.{all-append, all-set, which_way}
+use Rattle.dom_worlds.proofs.ListLemmas.{all-append, all-set, either_way}
 use Rattle.dom_worlds.proofs.PlanLemmas.{ends-at}
-use Rattle.dom_worlds.proofs.TreeLemmas.{roots-equal, roots-same}
+use Rattle.dom_worlds.proofs.TreeLemmas.{roots-same}
+use Rattle.dom_worlds.proofs.CommandLemmas.{ends-with_start, ends-with_end, ends-collapsed}
 use Rattle.dom_worlds.specs.Worlds.{IsPart}
 use Rattle.dom_mutation.specs.Ready.{IsReadyPart, AreReady}
 use Rattle.dom_mutation.proofs.ReadyEnds.{bare, bare-tables}
@@ -72,13 +72,7 @@ module _ (p : Part) (h : IsReadyPart p) where
   walker-ready k w None v = h
   walker-ready k w (Some x) v = ready-same p _ refl refl h
 
-  -- iterators and walkers
-  pub iterator_new-ready : (x : NodeWord) (f : Filter) → ReadyEffect (effect p (Command.iterator_new x f))
-  iterator_new-ready x f = ready-same p _ refl refl h
-
-  pub walker_new-ready : (x : NodeWord) (f : Filter) → ReadyEffect (effect p (Command.walker_new x f))
-  walker_new-ready x f = ready-same p _ refl refl h
-
+  -- iterators and walkers that move
   pub iterator_next-ready : (k : ℕ) → ReadyEffect (effect p (Command.iterator_next k))
   iterator_next-ready k = some-ready (slice_get p.iterators k) (λ i. moves_iterator p k false i (iterator_next_node p.trees i))
       (answers p nothing) (λ i. ready-same p _ refl refl h) h
@@ -96,22 +90,6 @@ module _ (p : Part) (h : IsReadyPart p) where
   walker_set-ready k x = some-ready (slice_get p.walkers k) (λ w. sets_walker p k w (Some (named p x)) nothing) (answers p nothing)
       (λ w. walker-ready k w (Some (named p x)) nothing) h
 
-  -- observers
-  pub observer-ready : ReadyEffect (effect p Command.observer)
-  observer-ready = ready-same p _ refl refl h
-
-  pub observe-ready : (k : ℕ) (x : NodeWord) (w : ObserveWords) → ReadyEffect (effect p (Command.observe k x w))
-  observe-ready k x w = ready-same p _ refl refl h
-
-  pub disconnect-ready : (k : ℕ) → ReadyEffect (effect p (Command.disconnect k))
-  disconnect-ready k = ready-same p _ refl refl h
-
-  pub take-ready : (k : ℕ) → ReadyEffect (effect p (Command.take k))
-  take-ready k = ready-same p _ refl refl h
-
-  pub notified-ready : IsReadyPart (notified p)
-  notified-ready = ready-same p (notified p) refl refl h
-
   -- Live ranges that are written.
   range-ready : (k : ℕ) (r : Option (Range NodeName)) → EndsIn p.trees r → EndsWithin p.trees r → IsReadyPart (with_range p k r)
   range-ready k r e w =
@@ -122,81 +100,58 @@ module _ (p : Part) (h : IsReadyPart p) where
       }
 
   -- with other ends
-  mapped-ready : (k : ℕ) (f : Range NodeName → Range NodeName) → IsPart p →
-      ((r : Range NodeName) → HasEnds p.trees r → EndsWithin p.trees (Some r) → HasEnds p.trees (f r) × EndsWithin p.trees (Some (f r))) →
+  mapped-ready : (k : ℕ) (f : Range NodeName → Range NodeName) → IsPart p → ((r : Range NodeName) → HasEnds p.trees r → HasEnds p.trees (f r)) →
+      ((r : Range NodeName) → EndsWithin p.trees (Some r) → EndsWithin p.trees (Some (f r))) →
       IsReadyPart (with_range p k (option_map f (range_at p k)))
-  mapped-ready k f i g = let both = by (range_at p k) (ends-at (bare p) k (bare-tables p h.ends)) (under-at p k (room-of p i h.bounds)) in
+  mapped-ready k f i ends within = let both = by (range_at p k) (ends-at (bare p) k (bare-tables p h.ends)) (under-at p k (room-of p i h.bounds)) in
       range-ready k (option_map f (range_at p k)) both.0 both.1
     where
       by : (o : Option (Range NodeName)) → EndsIn p.trees o → RangeUnder (reach nowhere p) o → EndsIn p.trees (option_map f o) ×
           EndsWithin p.trees (option_map f o)
       by None e u = (tt, tt)
-      by (Some r) e u = g r e (let a = u.0 in omega arith, let b = u.1 in omega arith)
-
-  -- a boundary point within a node that is there
-  abbrev IsPoint : Boundary NodeName → Type 0
-  IsPoint b = IsNodeIn p.trees b.node × IsWithin p.trees b
-
-  one-place : (b : Boundary NodeName) → IsPoint b → HasEnds p.trees (from_to b b) × EndsWithin p.trees (Some (from_to b b))
-  one-place b t = (record { start = t.0; end = t.0; one_root = roots-same p.trees b.node b.node refl }, (t.1, t.1))
+      by (Some r) e u = (ends r e, within r (let a = u.0 in omega arith, let b = u.1 in omega arith))
 
   -- a new range, at the owner's first node
   pub range_new-ready : IsNodeIn p.trees (first_node p) → ReadyEffect (effect p Command.range_new)
   range_new-ready f =
       let new = both_at (at (first_node p) 0) in
-      let t = one-place (at (first_node p) 0) (f, omega arith) in
+      let ends : HasEnds p.trees new = record { start = f; end = f; one_root = roots-same p.trees (first_node p) (first_node p) refl } in
       record {
-        bounds = record { ranges = all-append (EndsWithin p.trees) p.ranges (Some new ∷ []) h.bounds.ranges (t.1, tt); leaves = h.bounds.leaves };
-        ends = all-append (EndsIn p.trees) p.ranges (Some new ∷ []) h.ends (t.0, tt);
+        bounds = record {
+          ranges = all-append (EndsWithin p.trees) p.ranges (Some new ∷ []) h.bounds.ranges ((omega arith, omega arith), tt);
+          leaves = h.bounds.leaves;
+        };
+        ends = all-append (EndsIn p.trees) p.ranges (Some new ∷ []) h.ends (ends, tt);
         roots = h.roots;
       }
 
   -- another start, and another end
-  pub range_start-ready : (k : ℕ) (x : NodeWord) (j : ℕ) → IsPart p → IsNodeIn p.trees (named p x) → past_end p (named p x) j ≡ false →
-      ReadyEffect (effect p (Command.range_start k x j))
-  range_start-ready k x j i t low =
-      let b = at (named p x) j in
-      let point : IsPoint b = (t, ltb-false _ j low) in
-      mapped-ready k (with_start p.trees b) i
-      (λ r e w. which_way (λ (q : Range NodeName). HasEnds p.trees q × EndsWithin p.trees (Some q))
-      (same_root p.trees b.node r.end.node && not (is_before p.trees r.end b)) (from_to b r.end) (from_to b b)
-      (λ s. (
-        record {
-          start = t;
-          end = e.end;
-          one_root = (and_parts (same_root p.trees b.node r.end.node) (not (is_before p.trees r.end b)) s).0;
-        },
-        (point.1, w.1),
-      ))
-      (λ s. one-place b point))
+  module _ (k : ℕ) (x : NodeWord) (j : ℕ) (i : IsPart p) (t : IsNodeIn p.trees (named p x)) (low : past_end p (named p x) j ≡ false) where
+    abbrev b : Boundary NodeName
+    b = at (named p x) j
 
-  pub range_end-ready : (k : ℕ) (x : NodeWord) (j : ℕ) → IsPart p → IsNodeIn p.trees (named p x) → past_end p (named p x) j ≡ false →
-      ReadyEffect (effect p (Command.range_end k x j))
-  range_end-ready k x j i t low =
-      let b = at (named p x) j in
-      let point : IsPoint b = (t, ltb-false _ j low) in
-      mapped-ready k (with_end p.trees b) i
-      (λ r e w. which_way (λ (q : Range NodeName). HasEnds p.trees q × EndsWithin p.trees (Some q))
-      (same_root p.trees b.node r.start.node && not (is_before p.trees b r.start)) (from_to r.start b) (from_to b b)
-      (λ s. (
-        record {
-          start = e.start;
-          end = t;
-          one_root = roots-same p.trees r.start.node b.node
-              (sym (roots-equal p.trees b.node r.start.node
-              (and_parts (same_root p.trees b.node r.start.node) (not (is_before p.trees b r.start)) s).0));
-        },
-        (w.0, point.1),
-      )) (λ s. one-place b point))
+    point : IsWithin p.trees b
+    point = ltb-false (length_of p.trees (named p x)) j low
+
+    pub range_start-ready : ReadyEffect (effect p (Command.range_start k x j))
+    range_start-ready =
+        mapped-ready k (with_start p.trees b) i (ends-with_start p.trees b t)
+        (λ r w. either_way (λ (q : Range NodeName). EndsWithin p.trees (Some q))
+        (same_root p.trees b.node r.end.node && not (is_before p.trees r.end b)) (from_to b r.end) (from_to b b) (point, w.1) (point, point))
+
+    pub range_end-ready : ReadyEffect (effect p (Command.range_end k x j))
+    range_end-ready =
+        mapped-ready k (with_end p.trees b) i (ends-with_end p.trees b t)
+        (λ r w. either_way (λ (q : Range NodeName). EndsWithin p.trees (Some q))
+        (same_root p.trees b.node r.start.node && not (is_before p.trees b r.start)) (from_to r.start b) (from_to b b) (w.0, point) (point, point))
 
   -- both ends at one of them
   pub range_collapse-ready : (k : ℕ) (to_start : Bool) → IsPart p → ReadyEffect (effect p (Command.range_collapse k to_start))
-  range_collapse-ready k to_start i = mapped-ready k (collapsed_to to_start) i (λ r e w. by to_start r e w)
+  range_collapse-ready k to_start i = mapped-ready k (collapsed_to to_start) i (ends-collapsed p.trees to_start) (by to_start)
     where
-      by : (b : Bool) (r : Range NodeName) → HasEnds p.trees r → EndsWithin p.trees (Some r) → HasEnds p.trees (collapsed_to b r) ×
-          EndsWithin p.trees (Some (collapsed_to b r))
-      by true r e w = one-place r.start (e.start, w.0)
-      by false r e w = one-place r.end (e.end, w.1)
+      by : (b : Bool) (r : Range NodeName) → EndsWithin p.trees (Some r) → EndsWithin p.trees (Some (collapsed_to b r))
+      by true r w = (w.0, w.0)
+      by false r w = (w.1, w.1)
 
   -- a range that is dropped
   pub range_drop-ready : (k : ℕ) → ReadyEffect (effect p (Command.range_drop k))

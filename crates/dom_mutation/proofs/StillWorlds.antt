@@ -1,74 +1,50 @@
 -- What every step leaves in all parts of the world, and so every plan; and what an attaching leaves.
-use Rattle.std.proofs.Common.{◌≡◌, true, false, List, [], ◌∷◌, ◌++◌, length, Option, Some, None, fold, refl, sym, ◌∙◌, subst, arith, unwrap_or}
-use Rattle.std.specs.Prelude.{is_some}
+use Rattle.std.proofs.Common.{◌≡◌, true, false, List, [], ◌∷◌, ◌++◌, length, Option, Some, None, refl, sym, subst, arith, unwrap_or}
+use Rattle.std.specs.Prelude.{is_some, ⊤}
+use Rattle.std.specs.List.{AllByRecursion}
 use Rattle.dom_base.specs.declared.Kind.TheVariants.{Shadow}
 use Rattle.dom_base.specs.declared.NodeName.{NodeName}
 use Rattle.dom_base.specs.declared.Owner.{Owner}
-use Rattle.dom_worlds.proofs.WorldLemmas.{each-part}
-use Rattle.dom_model.specs.Names.{max_depth}
+use Rattle.dom_worlds.proofs.WorldLemmas.{each-part, IsKeptIn, holds-world_after}
 use Rattle.dom_model.specs.DocumentMachine.{attaching, part_with_root}
 use Rattle.dom_model.specs.Part.{Part, empty_part}
-use Rattle.dom_model.specs.Steps.{Step, place, take_out, set_document, set_attribute, queue_record, part_step, is_taken}
-use Rattle.dom_model.specs.Tree.{node_in, parent_of}
-use Rattle.dom_model.specs.World.{World, find_part, part_of, with_part, is_there, component_made, components_below, shadow_root_of}
-use Rattle.dom_model.specs.WorldSteps.{world_step, world_after, stepped, with_signals, with_removal_signals, with_notify_if, with_shadow_document}
+use Rattle.dom_model.specs.Steps.{Step, part_step}
+use Rattle.dom_model.specs.Tree.{node_in}
+use Rattle.dom_model.specs.World.{World, find_part, part_of, with_part, is_there, component_made}
+use Rattle.dom_model.specs.WorldSteps.{world_after}
 use Rattle.dom_model.proofs.PartLaws.{owner-part_of}
-use Rattle.dom_model.proofs.StepLaws.{owner-part_step, part_of-with_signals, part_of-with_removal_signals, part_of-with_notify_if}
+use Rattle.dom_model.proofs.StepLaws.{owner-part_step}
 use Rattle.dom_mutation.proofs.StillParts.{KeepsPart, keeps-same, keeps-then, keeps-step, tables-same}
 
 -- all parts keep what they have
 abbrev pub KeepsWorld : World → World → Type 0
 KeepsWorld w v = (o : Owner) → KeepsPart (part_of w o) (part_of v o)
 
--- one change after another
-keeps-both : (w v u : World) → KeepsWorld w v → KeepsWorld v u → KeepsWorld w u
-keeps-both w v u a b o = keeps-then (part_of w o) (part_of v o) (part_of u o) (a o) (b o)
-
--- where the parts stay
-same-parts : (w v u : World) → ((o : Owner) → part_of u o ≡ part_of v o) → KeepsWorld w v → KeepsWorld w u
-same-parts w v u e h o = subst (KeepsPart (part_of w o)) (sym (e o)) (h o)
-
 -- a part that is written
 pub keeps-written : (w : World) (p : Part) (o : Owner) → p.owner ≡ o → KeepsPart (part_of w o) p → KeepsWorld w (with_part w p)
 keeps-written w p o e h = each-part (λ q r. KeepsPart (part_of w q) r) w p o e h (λ q. keeps-same (part_of w q))
 
--- a step in its owner's part
-keeps-stepped : (o : Owner) (w : World) (s : Step) → KeepsWorld w (stepped o w s)
-keeps-stepped o w s =
-    keeps-written w (part_step (part_of w o) s) o (owner-part_step (part_of w o) s ∙ owner-part_of w o) (keeps-step (part_of w o) s)
+-- so does each step in a part, whose owner stays
+kept-rules : (w : World) → IsKeptIn (λ (r : Part). KeepsPart (part_of w r.owner) r) (λ s. ⊤) (λ t. ⊤)
+kept-rules w = record {
+  step = λ p s h m. subst (λ (q : Owner). KeepsPart (part_of w q) (part_step p s)) (sym (owner-part_step p s))
+      (keeps-then (part_of w p.owner) p (part_step p s) h (keeps-step p s));
+  document = λ x d. tt;
+  notify = λ o. tt;
+}
 
--- node documents of shadow trees
-keeps-documents : (d : NodeName) (cs : List Owner) (w v : World) → KeepsWorld w v → KeepsWorld w (fold (with_shadow_document d) v cs)
-keeps-documents d [] w v h = h
-keeps-documents d (c ∷ cs) w v h =
-    let s = set_document (shadow_root_of c) d in
-    keeps-documents d cs w (with_shadow_document d v c) (keeps-both w v (with_shadow_document d v c) h (keeps-stepped c v s))
-
--- a step in the world
-pub keeps-world_step : (o : Owner) (w : World) (s : Step) → KeepsWorld w (world_step o w s)
-keeps-world_step o w (place x parent before) =
-    let now = stepped o w (place x parent before) in
-    same-parts w now (with_signals w now x parent true) (part_of-with_signals w now x parent true) (keeps-stepped o w (place x parent before))
-keeps-world_step o w (take_out x) =
-    let now = stepped o w (take_out x) in
-    let parent = parent_of (part_of w o).trees x in
-    same-parts w now (with_removal_signals w now x parent) (part_of-with_removal_signals w now x parent) (keeps-stepped o w (take_out x))
-keeps-world_step o w (set_attribute x a v) =
-    let now = stepped o w (set_attribute x a v) in
-    same-parts w now (with_signals w now x x false) (part_of-with_signals w now x x false) (keeps-stepped o w (set_attribute x a v))
-keeps-world_step o w (set_document x d) =
-    keeps-documents d (components_below max_depth w x) w (stepped o w (set_document x d)) (keeps-stepped o w (set_document x d))
-keeps-world_step o w (queue_record c) =
-    let now = stepped o w (queue_record c) in
-    let b = is_taken (part_of w o) c in
-    same-parts w now (with_notify_if b o now) (λ q. part_of-with_notify_if b o q now) (keeps-stepped o w (queue_record c))
-keeps-world_step o w s = keeps-stepped o w s
+-- nothing is asked of them
+all-any : {X : Type 0} (xs : List X) → AllByRecursion (λ (x : X). ⊤) xs
+all-any [] = tt
+all-any (x ∷ xs) = (tt, all-any xs)
 
 -- many steps
 pub keeps-world_after : (o : Owner) (w : World) (steps : List Step) → KeepsWorld w (world_after o w steps)
-keeps-world_after o w [] = λ q. keeps-same (part_of w q)
-keeps-world_after o w (s ∷ steps) =
-    keeps-both w (world_step o w s) (world_after o w (s ∷ steps)) (keeps-world_step o w s) (keeps-world_after o (world_step o w s) steps)
+keeps-world_after o w steps q =
+    let v = world_after o w steps in
+    let before = λ (r : Owner). subst (λ (x : Owner). KeepsPart (part_of w x) (part_of w r)) (sym (owner-part_of w r)) (keeps-same (part_of w r)) in
+    subst (λ (x : Owner). KeepsPart (part_of w x) (part_of v q)) (owner-part_of v q)
+    ((holds-world_after (kept-rules w) o steps w (record { parts = before; tasks = all-any w.tasks }) (all-any steps)).parts q)
 
 -- ---- one component more
 

@@ -8,7 +8,6 @@ ghost use Rattle.dom_model.specs.DocumentMachine.{first_world};
 ghost use Rattle.dom_tree.specs.Owners.{trees_of_owner, AreOwned};
 ghost use Rattle.dom_slots.specs.Kept.{AreSlotsOf};
 ghost use Rattle.dom_slots.specs.Shadows.{shadows, IsShownBy};
-ghost use Rattle.dom_mutation.specs.Ready.{IsReady};
 ghost use Rattle.dom_parts.specs.Doc.{HoldsNode, name_in};
 
 mod attaching;
@@ -36,7 +35,10 @@ use std::alloc::{AllocError, Global};
 use std::marker::Model;
 
 /// The nodes of all owners, how they stand, and all that each owner has beside them but its listeners: the page and the
-/// components, their cursors, observers, live ranges, hosts, signalled slots and microtasks.
+/// components, their cursors, observers, live ranges, hosts, signalled slots and microtasks. Between calls the live ranges end within
+/// their nodes, both ends of one in one tree, and no shadow root has a parent (`IsReady`), so calls follow each other as they please. A
+/// call that changes the document and is refused memory gives it up, unless it says that nothing is changed then: there are no nodes
+/// then, and the page alone is there.
 #[derive(Drop)]
 pub struct Doc {
     parts: Parts,
@@ -46,19 +48,21 @@ impl Model for Doc {
     ghost use Rattle.std.specs.Coded.{codes};
     ghost use Rattle.dom_model.specs.Codes.{trees_code};
     ghost use Rattle.dom_mutation.specs.Doc.{DocState};
+    ghost use Rattle.dom_mutation.specs.Ready.{IsReady};
 
     ghost Value = { DocState };
 
     ghost coded = { Prim.hlevel (codes, trees_code) };
 
     ghost view = { λ d. d.parts };
+
+    ghost invariant = { λ d. IsReady d.parts };
 }
 
 impl Doc {
     /// The page with its first document, and no component. It is refused where memory is refused, and only then.
     pub fn new(alloc: Global) -> Result<Self, AllocError>
         ensures value { IfOk result (λ doc. doc ≡ record { names = node_of Page 0 ∷ []; world = first_world }) }
-        ensures ready { IfOk result IsReady }
     {
         let parts = Parts::new(alloc)?;
         Ok(Doc { parts })

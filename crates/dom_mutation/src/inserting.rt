@@ -21,9 +21,9 @@ use dom_parts::Parts;
 use node_arena::Key;
 use std::alloc::AllocError;
 
-/// The child before which a node is put: the one given, or the node's next sibling where that is the node itself (DOM
-/// Standard, pre-insert).
-pub(crate) fn reference_for(
+/// The Standard's *reference child*, before which a node is put: the child given, or the node's next sibling where that is the node
+/// itself (DOM Standard, pre-insert).
+pub(crate) fn reference_child(
     parts: &Parts,
     parent: Key,
     node: Key,

@@ -10,6 +10,7 @@ mod making;
 mod normalizing;
 mod removing;
 mod replacing;
+mod settling;
 mod splitting;
 mod still;
 mod texts;

@@ -1,49 +1,25 @@
 //! Replacement (DOM Standard, concept: replace).
 ghost use Rattle.std.specs.Prelude.{◌≡◌, ◌↔◌, false, map, IfOk, OnOk, Some};
-ghost use Rattle.dom_base.specs.declared.Refusal.{Refusal as RefusalOf};
 ghost use Rattle.dom_model.specs.Tree.{is_inclusive_ancestor};
 ghost use Rattle.dom_model.specs.Changes.{placed_nodes, replacing};
-ghost use Rattle.dom_model.specs.Validity.{replacement_refusal};
 ghost use Rattle.dom_model.specs.World.{part_of};
 ghost use Rattle.dom_worlds.specs.Bounds.{HasBounds};
 ghost use Rattle.dom_parts.specs.Doc.{AreNodes, made, planned, name_in, owner_in, trees_in, IsChild, HoldsNode};
 
-use crate::inserting::{children, inserting, is_fragment, reference_for};
+use crate::inserting::{children, inserting, is_fragment, reference_child};
 use crate::removing::{SuppressObserversFlag, removing};
-use dom_base::Fault;
 use dom_parts::Parts;
 use node_arena::Key;
 use std::alloc::AllocError;
 
-/// A node, or the children of a fragment, take the place of a child of a parent, with one record of the parent (DOM
-/// Standard, replace). Refused with `Hierarchy` or `NotFound` as the Standard's tests say, in their order, with nothing
-/// changed. Where memory is refused, the document is only to be dropped.
-pub(crate) fn replace(parts: &mut Parts, parent: Key, node: Key, child: Key) -> Result<(), Fault>
-    requires parent_is_node { HoldsNode parts.old parent }
-    requires node_is_node { HoldsNode parts.old node }
-    requires child_is_node { HoldsNode parts.old child }
-    requires node_owner { owner_in parts.old node ≡ owner_in parts.old parent }
-    requires child_owner { owner_in parts.old child ≡ owner_in parts.old parent }
-    requires bounds { HasBounds (part_of parts.old.world (owner_in parts.old parent)) }
-    ensures names { OnOk result (parts.new.names ≡ parts.old.names) }
-    ensures world { OnOk result (parts.new.world ≡ made (owner_in parts.old parent)
-        (replacing (name_in parts.old parent) (name_in parts.old node) (name_in parts.old child)) parts.old.world) }
-
-    // A refusal is the Standard's, and changes nothing; nothing else but memory stops a replacement.
-    ensures refused { (r : RefusalOf) → (result ≡ Err (Fault.Refused r)) ↔
-        (replacement_refusal (trees_in parts.old parent) (name_in parts.old parent) (name_in parts.old node) (name_in parts.old child) ≡ Some r) }
-    ensures unchanged { (r : RefusalOf) → result ≡ Err (Fault.Refused r) → parts.new ≡ parts.old }
-{
-    if let Err(refusal) = parts.check_replace(parent, node, child) {
-        return Err(Fault::Refused(refusal));
-    }
-    replacing(parts, parent, node, child)?;
-    Ok(())
-}
-
 /// A replacement that is not refused. The reference is the child's next sibling, or the node's own where that is the
 /// node.
-fn replacing(parts: &mut Parts, parent: Key, node: Key, child: Key) -> Result<(), AllocError>
+pub(crate) fn replacing(
+    parts: &mut Parts,
+    parent: Key,
+    node: Key,
+    child: Key,
+) -> Result<(), AllocError>
     requires parent_is_node { HoldsNode parts.old parent }
     requires node_is_node { HoldsNode parts.old node }
     requires node_owner { owner_in parts.old node ≡ owner_in parts.old parent }
@@ -56,7 +32,7 @@ fn replacing(parts: &mut Parts, parent: Key, node: Key, child: Key) -> Result<()
 {
     parts.laws();
     let next = parts.next(child);
-    let reference = reference_for(parts, parent, node, next);
+    let reference = reference_child(parts, parent, node, next);
     let prev = parts.prev(child);
     let added = placed_nodes(parts, node)?;
     removing(parts, SuppressObserversFlag::Suppressed, child)?;

@@ -3,7 +3,7 @@ ghost use Rattle.std.specs.Prelude.{◌≡◌, ◌↔◌, ◌⊎◌, ◌++◌, �
 ghost use Rattle.std.specs.Option.{option_map, ForSome};
 ghost use Rattle.dom_base.specs.declared.Refusal.{Refusal as RefusalOf};
 ghost use Rattle.dom_base.specs.declared.Refusal.TheVariants.{IndexSize, Limit};
-ghost use Rattle.dom_model.specs.Tree.{parent_of, is_inclusive_ancestor, node_in};
+ghost use Rattle.dom_model.specs.Tree.{parent_of, is_inclusive_ancestor, node_in, kind_of, is_text};
 ghost use Rattle.dom_model.specs.Part.{next_name};
 ghost use Rattle.dom_model.specs.Steps.{make};
 ghost use Rattle.dom_model.specs.Changes.{doing};
@@ -11,11 +11,13 @@ ghost use Rattle.dom_model.specs.TextChanges.{new_text_node, placing_tail, split
 ghost use Rattle.dom_model.specs.World.{part_of};
 ghost use Rattle.dom_model.specs.CommandRefusals.{past_end, past_limit};
 ghost use Rattle.dom_worlds.specs.Bounds.{HasBounds};
+ghost use Rattle.dom_mutation.specs.Ready.{IsReady};
 ghost use Rattle.dom_parts.specs.Doc.{made, planned, name_in, owner_in, trees_in, IsChild, splitting_refusal, cutting_tail, HoldsNode};
 
 use crate::character_data::replacing_data;
 use crate::inserting::inserting;
 use crate::removing::SuppressObserversFlag;
+use crate::settling::given_up;
 use dom_base::{DomStr, Fault, Kind, Refusal};
 use dom_parts::Parts;
 use dom_tree::NodeData;
@@ -25,10 +27,11 @@ use std::alloc::AllocError;
 
 /// The code units of a Text from an offset on go into a new Text just behind it, which is the answer (DOM Standard,
 /// split a Text node). Refused with `IndexSize` where the offset is past the node's length, and with `Limit` where the
-/// owner has as many nodes as it may.
+/// owner has as many nodes as it may. Where memory is refused, nothing is changed, or all is given up.
 pub(crate) fn split(parts: &mut Parts, node: Key, offset: usize) -> Result<Key, Fault>
     requires node_is_node { HoldsNode parts.old node }
-    requires bounds { HasBounds (part_of parts.old.world (owner_in parts.old node)) }
+    requires text { is_text (kind_of (trees_in parts.old node) (name_in parts.old node)) ≡ true }
+    requires ready { IsReady parts.old }
     ensures key { IfOk result (λ key. key ≡ length parts.old.names) }
     ensures names { OnOk result (parts.new.names ≡ parts.old.names ++ next_name (part_of parts.old.world (owner_in parts.old node)) ∷ []) }
     ensures world { OnOk result (parts.new.world ≡ made (owner_in parts.old node) (splitting (name_in parts.old node) offset) parts.old.world) }
@@ -41,6 +44,7 @@ pub(crate) fn split(parts: &mut Parts, node: Key, offset: usize) -> Result<Key, 
     ensures stopped { (r : RefusalOf) → splitting_refusal (part_of parts.old.world (owner_in parts.old node)) (name_in parts.old node)
         offset ≡ Some r → (result ≡ Err (Fault.Refused r)) ⊎ (result ≡ Err Fault.Memory) }
     ensures unchanged { (r : RefusalOf) → result ≡ Err (Fault.Refused r) → parts.new ≡ parts.old }
+    ensures ready { IsReady parts.new }
 {
     if offset > parts.length(node) {
         return Err(Fault::Refused(Refusal::IndexSize));
@@ -51,8 +55,10 @@ pub(crate) fn split(parts: &mut Parts, node: Key, offset: usize) -> Result<Key, 
     let tail = tail(parts, node, offset)?;
     let new = make_text(parts, node, document, tail)?;
     parts.laws();
-    cut_tail(parts, node, offset, count, new)?;
-    Ok(new)
+    match cut_tail(parts, node, offset, count, new) {
+        Ok(()) => Ok(new),
+        Err(error) => Err(Fault::from(given_up(parts, error))),
+    }
 }
 
 /// The code units of a Text from an offset on.

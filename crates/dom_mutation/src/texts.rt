@@ -1,73 +1,53 @@
 //! The text of a node (DOM Standard, textContent; concept: string replace all).
-ghost use Rattle.std.specs.Prelude.{◌≡◌, ◌↔◌, ◌⊎◌, ◌++◌, [], true, false, IfErr, OnOk, if◌then◌else◌};
+ghost use Rattle.std.specs.Prelude.{◌≡◌, ◌↔◌, ◌⊎◌, ◌++◌, ◌||◌, [], true, false, IfErr, OnOk, if◌then◌else◌};
 ghost use Rattle.dom_base.specs.declared.Refusal.TheVariants.{Limit};
 ghost use Rattle.dom_model.specs.Names.{is_empty};
-ghost use Rattle.dom_model.specs.Tree.{is_inclusive_ancestor};
-ghost use Rattle.dom_model.specs.TextChanges.{setting_text, replacing_children};
+ghost use Rattle.dom_model.specs.Tree.{kind_of, has_data, is_document, is_inclusive_ancestor};
+ghost use Rattle.dom_model.specs.TextChanges.{replacing_children};
 ghost use Rattle.dom_model.specs.World.{part_of};
-ghost use Rattle.dom_model.specs.CommandRefusals.{past_limit, made_by_text};
+ghost use Rattle.dom_model.specs.CommandRefusals.{past_limit};
 ghost use Rattle.dom_worlds.specs.Bounds.{HasBounds};
-ghost use Rattle.dom_parts.specs.Doc.{made, name_in, owner_in, trees_in, planned, texts_made, children_texts, putting_text, HoldsNode};
+ghost use Rattle.dom_mutation.specs.Ready.{IsReady};
+ghost use Rattle.dom_parts.specs.Doc.{made, name_in, owner_in, trees_in, planned, children_texts, putting_text, HoldsNode};
 
-use crate::character_data::set_data;
 use crate::documents::document_below;
 use crate::inserting::{children, inserting, take_each};
 use crate::removing::SuppressObserversFlag;
+use crate::settling::given_up;
 use crate::splitting::make_text;
-use dom_base::{DomStr, Fault, Kind};
+use dom_base::{DomStr, Fault};
 use dom_parts::Parts;
 use node_arena::Key;
 use std::alloc::AllocError;
 
-/// A Text or a Comment gets these data; a document stays as it is; the children of another node give way to one new
-/// Text with these data, or to none where these are none (DOM Standard, textContent). Refused with `Limit` where a Text
-/// is made and the owner has as many nodes as it may.
-pub(crate) fn set_text(parts: &mut Parts, node: Key, data: DomStr) -> Result<(), Fault>
+/// The children of a node give way to one new Text with these data, or to none where these are none. Where memory is refused, all is given up.
+pub(crate) fn replace_children(parts: &mut Parts, node: Key, units: DomStr) -> Result<(), Fault>
     requires node_is_node { HoldsNode parts.old node }
-    requires bounds { HasBounds (part_of parts.old.world (owner_in parts.old node)) }
-    ensures names { OnOk result (parts.new.names ≡ parts.old.names ++ texts_made (part_of parts.old.world (owner_in parts.old node))
-        (name_in parts.old node) «data».items) }
-    ensures world { OnOk result (parts.new.world ≡ made (owner_in parts.old node) (setting_text (name_in parts.old node) «data».items) parts.old.world) }
-
-    // A refusal changes nothing; nothing else but memory stops a change of text.
-    ensures refused { (result ≡ Err (Fault.Refused Limit)) ↔
-        (past_limit (part_of parts.old.world (owner_in parts.old node)).node_count
-        (made_by_text (part_of parts.old.world (owner_in parts.old node)) (name_in parts.old node) «data».items) ≡ true) }
-    ensures other { IfErr result (λ fault. (fault ≡ Fault.Refused Limit) ⊎ (fault ≡ Fault.Memory)) }
-    ensures unchanged { result ≡ Err (Fault.Refused Limit) → parts.new ≡ parts.old }
-{
-    parts.laws();
-    match parts.kind(node) {
-        Kind::Text | Kind::Comment => {
-            set_data(parts, node, data)?;
-            Ok(())
-        }
-        Kind::Document => Ok(()),
-        _ => replace_children(parts, node, data),
-    }
-}
-
-/// The children of a node give way to one new Text with these data, or to none where these are none.
-fn replace_children(parts: &mut Parts, node: Key, units: DomStr) -> Result<(), Fault>
-    requires node_is_node { HoldsNode parts.old node }
-    requires bounds { HasBounds (part_of parts.old.world (owner_in parts.old node)) }
+    requires inner { (has_data (kind_of (trees_in parts.old node) (name_in parts.old node)) || is_document
+        (kind_of (trees_in parts.old node) (name_in parts.old node))) ≡ false }
+    requires ready { IsReady parts.old }
     ensures names { OnOk result (parts.new.names ≡ parts.old.names ++ children_texts (part_of parts.old.world (owner_in parts.old node)) units.items) }
     ensures world { OnOk result (parts.new.world ≡ made (owner_in parts.old node) (replacing_children (name_in parts.old node) units.items) parts.old.world) }
     ensures limit { (result ≡ Err (Fault.Refused Limit)) ↔
         (past_limit (part_of parts.old.world (owner_in parts.old node)).node_count (if is_empty units.items then 0 else 1) ≡ true) }
     ensures other { IfErr result (λ fault. (fault ≡ Fault.Refused Limit) ⊎ (fault ≡ Fault.Memory)) }
     ensures unchanged { result ≡ Err (Fault.Refused Limit) → parts.new ≡ parts.old }
+    ensures ready { IsReady parts.new }
 {
     parts.laws();
     if units.as_slice().is_empty() {
-        clear(parts, node)?;
-        return Ok(());
+        match clear(parts, node) {
+            Ok(()) => return Ok(()),
+            Err(error) => return Err(Fault::from(given_up(parts, error))),
+        }
     }
     let document = document_below(parts, node);
     let text = make_text(parts, node, Some(document), units)?;
     parts.laws();
-    put_text(parts, node, text)?;
-    Ok(())
+    match put_text(parts, node, text) {
+        Ok(()) => Ok(()),
+        Err(error) => Err(Fault::from(given_up(parts, error))),
+    }
 }
 
 /// A node loses its children, of which observers are told once.

@@ -5,19 +5,20 @@ ghost use Rattle.dom_base.specs.declared.Refusal.TheVariants.{InvalidCharacter};
 ghost use Rattle.dom_model.specs.Names.{begins_name, continues_name, is_name};
 ghost use Rattle.dom_model.specs.Changes.{setting_attribute, unsetting_attribute};
 ghost use Rattle.dom_model.specs.Tree.{kind_of, is_element};
-ghost use Rattle.dom_mutation.specs.Doc.{made, name_in, owner_in, trees_in};
-ghost use Rattle.dom_mutation.specs.Ready.{IsReady};
+ghost use Rattle.dom_mutation.specs.Doc.{made, planned, name_in, owner_in, trees_in};
 ghost use Rattle.dom_parts.specs.Doc.{HoldsNode};
 
 use crate::Doc;
+use crate::settling::given_up;
 use dom_base::{DomStr, Fault, Refusal};
+use dom_parts::Parts;
 use node_arena::Key;
 use std::alloc::AllocError;
 
 impl Doc {
     /// Sets an attribute of an element. One that is there keeps its place, and a new one goes last. Refused with
     /// `InvalidCharacter` where the name is none, with nothing changed: it is a letter or `_`, then letters, digits, `-` and `_`
-    /// (own rule). Where memory is refused, the document is only to be dropped.
+    /// (own rule). Where memory is refused, the document is given up: its keys name no nodes any more.
     pub fn set_attr(&mut self, node: Key, name: &str, value: DomStr) -> Result<(), Fault>
         requires node_is_node { HoldsNode self.old node }
         requires element { is_element (kind_of (trees_in self.old node) (name_in self.old node)) ≡ true }
@@ -27,32 +28,59 @@ impl Doc {
         ensures names { OnOk result (self.new.names ≡ self.old.names) }
         ensures world { OnOk result (self.new.world ≡ made (owner_in self.old node)
             (setting_attribute (name_in self.old node) name.now value.items) self.old.world) }
-        ensures ready { IsReady self.old → OnOk result (IsReady self.new) }
     {
         if !is_name(name.as_bytes()) {
             return Err(Fault::Refused(Refusal::InvalidCharacter));
         }
         self.parts.laws();
-        self.parts.tell_attribute(node, name)?;
-        self.parts.set_attribute(node, name, value)?;
-        Ok(())
+        match change_attribute(&mut self.parts, node, name, value) {
+            Ok(()) => Ok(()),
+            Err(error) => Err(Fault::from(given_up(&mut self.parts, error))),
+        }
     }
 
-    /// Takes an attribute away from a node. Without it nothing changes. Where memory is refused, the document is only to be
-    /// dropped.
+    /// Takes an attribute away from a node. Without it nothing changes. Where memory is refused, the document is given up: its keys name
+    /// no nodes any more.
     pub fn remove_attr(&mut self, node: Key, name: &str) -> Result<(), AllocError>
         requires { HoldsNode self.old node }
         ensures names { OnOk result (self.new.names ≡ self.old.names) }
         ensures world { OnOk result (self.new.world ≡ made (owner_in self.old node) (unsetting_attribute (name_in self.old node) name.now) self.old.world) }
-        ensures ready { IsReady self.old → OnOk result (IsReady self.new) }
     {
-        if !self.parts.has_attr(node, name) {
-            return Ok(());
-        }
         self.parts.laws();
-        self.parts.tell_attribute(node, name)?;
-        self.parts.unset_attribute(node, name)
+        match unset_attribute(&mut self.parts, node, name) {
+            Ok(()) => Ok(()),
+            Err(error) => Err(given_up(&mut self.parts, error)),
+        }
     }
+}
+
+/// An attribute of an element gets a value, of which observers are told first.
+fn change_attribute(
+    parts: &mut Parts,
+    node: Key,
+    name: &str,
+    value: DomStr,
+) -> Result<(), AllocError>
+    requires node_is_node { HoldsNode parts.old node }
+    requires element { is_element (kind_of (trees_in parts.old node) (name_in parts.old node)) ≡ true }
+    ensures { OnOk result (parts.new ≡ planned (owner_in parts.old node) (setting_attribute (name_in parts.old node) name.now value.items) parts.old) }
+{
+    parts.laws();
+    parts.tell_attribute(node, name)?;
+    parts.set_attribute(node, name, value)
+}
+
+/// An attribute of a node goes, of which observers are told first; without it nothing changes.
+fn unset_attribute(parts: &mut Parts, node: Key, name: &str) -> Result<(), AllocError>
+    requires { HoldsNode parts.old node }
+    ensures { OnOk result (parts.new ≡ planned (owner_in parts.old node) (unsetting_attribute (name_in parts.old node) name.now) parts.old) }
+{
+    if !parts.has_attr(node, name) {
+        return Ok(());
+    }
+    parts.laws();
+    parts.tell_attribute(node, name)?;
+    parts.unset_attribute(node, name)
 }
 
 /// Whether a text is a name of an element or an attribute: a letter or `_`, then letters, digits, `-`, `_` (own rule).

@@ -9,7 +9,6 @@ ghost use Rattle.dom_model.specs.World.{part_of};
 ghost use Rattle.dom_model.specs.CommandRefusals.{past_limit};
 ghost use Rattle.dom_traversal.specs.Filters.{filter_of};
 ghost use Rattle.dom_mutation.specs.Doc.{name_in, owner_in, Makes};
-ghost use Rattle.dom_mutation.specs.Ready.{IsReady};
 ghost use Rattle.dom_parts.specs.Doc.{HoldsNode};
 
 use crate::Doc;
@@ -43,7 +42,6 @@ impl Doc {
         ensures limit { (result ≡ Err (Fault.Refused Limit)) ↔ (past_limit (length (part_of self.old.world owner).iterators) 1 ≡ true) }
         ensures other { IfErr result (λ fault. (fault ≡ Fault.Refused Limit) ⊎ (fault ≡ Fault.Memory)) }
         ensures err { OnErr result (self.new ≡ self.old) }
-        ensures ready { IsReady self.old → OnOk result (IsReady self.new) }
     {
         self.parts.iter_make(owner, root, filter)
     }
@@ -59,7 +57,6 @@ impl Doc {
         ensures limit { (result ≡ Err (Fault.Refused Limit)) ↔ (past_limit (length (part_of self.old.world owner).walkers) 1 ≡ true) }
         ensures other { IfErr result (λ fault. (fault ≡ Fault.Refused Limit) ⊎ (fault ≡ Fault.Memory)) }
         ensures err { OnErr result (self.new ≡ self.old) }
-        ensures ready { IsReady self.old → OnOk result (IsReady self.new) }
     {
         self.parts.walk_make(owner, root, filter)
     }
@@ -71,7 +68,6 @@ impl Doc {
         ensures names { self.new.names ≡ self.old.names }
         ensures node { ForSome result (HoldsNode self.old) }
         ensures world { Makes owner (Command.iterator_next number) (node_or_null (option_map (name_in self.old) result)) self.old.world self.new.world }
-        ensures ready { IsReady self.old → IsReady self.new }
     {
         self.parts.iter_next(owner, number)
     }
@@ -83,7 +79,6 @@ impl Doc {
         ensures names { self.new.names ≡ self.old.names }
         ensures node { ForSome result (HoldsNode self.old) }
         ensures world { Makes owner (Command.iterator_previous number) (node_or_null (option_map (name_in self.old) result)) self.old.world self.new.world }
-        ensures ready { IsReady self.old → IsReady self.new }
     {
         self.parts.iter_previous(owner, number)
     }
@@ -105,7 +100,6 @@ impl Doc {
         ensures names { self.new.names ≡ self.old.names }
         ensures node { ForSome result (HoldsNode self.old) }
         ensures world { Makes owner (Command.walk number step) (node_or_null (option_map (name_in self.old) result)) self.old.world self.new.world }
-        ensures ready { IsReady self.old → IsReady self.new }
     {
         self.parts.walk(owner, number, step)
     }
@@ -126,7 +120,6 @@ impl Doc {
         requires own { owner_in self.old current ≡ owner }
         ensures names { self.new.names ≡ self.old.names }
         ensures world { Makes owner (Command.walker_set number (own (name_in self.old current).number)) nothing self.old.world self.new.world }
-        ensures ready { IsReady self.old → IsReady self.new }
     {
         self.parts.walk_set(owner, number, current);
     }

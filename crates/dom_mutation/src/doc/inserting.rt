@@ -6,31 +6,28 @@ ghost use Rattle.dom_model.specs.Tree.{kind_of, has_data, is_shadow};
 ghost use Rattle.dom_model.specs.Changes.{pre_inserting, reference_for, inserting, observed};
 ghost use Rattle.dom_base.specs.declared.Refusal.{Refusal as RefusalOf};
 ghost use Rattle.dom_model.specs.Validity.{insertion_refusal};
-ghost use Rattle.dom_model.specs.World.{part_of};
-ghost use Rattle.dom_worlds.specs.Bounds.{HasBounds};
 ghost use Rattle.dom_tree.specs.Forest.{err_of};
 ghost use Rattle.dom_mutation.specs.Doc.{made, planned, name_in, owner_in, trees_in, MayMove, IsChild};
-ghost use Rattle.dom_mutation.specs.Ready.{IsReady};
 ghost use Rattle.dom_parts.specs.Doc.{HoldsNode};
 
 use crate::Doc;
-use crate::inserting::{inserting, reference_for};
+use crate::inserting::{inserting, reference_child};
 use crate::removing::SuppressObserversFlag;
+use crate::settling::given_up;
 use dom_base::{Fault, Refusal};
 use node_arena::Key;
 use std::alloc::AllocError;
 
 impl Doc {
-    /// Puts a node among the children of a parent, before the child given or last; of a fragment its children. It leaves
-    /// its parent and gets the parent's node document. Refused with `Hierarchy` or `NotFound` as the Standard's tests say, in
-    /// their order, with nothing changed (DOM Standard, pre-insert). Where memory is refused, the document is only to be dropped.
+    /// The Standard's *pre-insert*: puts a node among the children of a parent, before the child given or last; of a fragment its
+    /// children. It leaves its parent and gets the parent's node document. Refused with `Hierarchy` or `NotFound` as the Standard's tests
+    /// say, in their order, with nothing changed. Where memory is refused, the document is given up: its keys name no nodes any more.
     pub fn insert(&mut self, parent: Key, node: Key, child: Option<Key>) -> Result<(), Fault>
         requires parent_is_node { HoldsNode self.old parent }
         requires node_is_node { HoldsNode self.old node }
         requires child_is_node { ForSome child (HoldsNode self.old) }
         requires node_owner { owner_in self.old node ≡ owner_in self.old parent }
         requires child_owner { ForSome child (λ c. owner_in self.old c ≡ owner_in self.old parent) }
-        requires bounds { HasBounds (part_of self.old.world (owner_in self.old parent)) }
         ensures names { OnOk result (self.new.names ≡ self.old.names) }
         ensures world { OnOk result (self.new.world ≡ made (owner_in self.old parent)
             (pre_inserting (name_in self.old node) (name_in self.old parent) (option_map (name_in self.old) child)) self.old.world) }
@@ -41,22 +38,21 @@ impl Doc {
             (insertion_refusal (trees_in self.old parent) (name_in self.old parent) (name_in self.old node)
             (option_map (name_in self.old) child) ≡ Some r) }
         ensures unchanged { (r : RefusalOf) → result ≡ Err (Fault.Refused r) → self.new ≡ self.old }
-        ensures ready { IsReady self.old → OnOk result (IsReady self.new) }
     {
         let at = child;
         if let Err(refusal) = self.check_insert(parent, node, at) {
             return Err(Fault::Refused(refusal));
         }
         self.laws();
-        let before = self.reference_for(parent, node, child);
-        self.insert_before(parent, node, before)?;
+        let before = self.reference_child(parent, node, child);
+        self.insert_unchecked(parent, node, before)?;
         Ok(())
     }
 
-    /// Puts a node among the children of a parent, before a child of it or last; of a fragment its children. It leaves its
-    /// parent and gets the parent's node document. Whether it may stand there is not tested (DOM Standard, insert). Where
-    /// memory is refused, the document is only to be dropped.
-    pub fn insert_before(
+    /// The Standard's *insert*, which tests nothing: puts a node among the children of a parent, before a child of it or last; of a
+    /// fragment its children. It leaves its parent and gets the parent's node document. Where memory is refused, the document is given
+    /// up: its keys name no nodes any more.
+    pub fn insert_unchecked(
         &mut self,
         parent: Key,
         node: Key,
@@ -65,20 +61,17 @@ impl Doc {
         requires parent_is_node { HoldsNode self.old parent }
         requires may_move { MayMove self.old parent child node }
         requires child_is_child { ForSome child (IsChild self.old parent) }
-        requires bounds { HasBounds (part_of self.old.world (owner_in self.old parent)) }
+        requires open { has_data (kind_of (trees_in self.old parent) (name_in self.old parent)) ≡ false }
+        requires no_shadow { is_shadow (kind_of (trees_in self.old node) (name_in self.old node)) ≡ false }
         ensures state { OnOk result (self.new ≡ planned (owner_in self.old parent)
             (inserting observed (name_in self.old node) (name_in self.old parent) (option_map (name_in self.old) child)) self.old) }
-        ensures ready { IsReady self.old → has_data (kind_of (trees_in self.old parent) (name_in self.old parent)) ≡ false →
-            is_shadow (kind_of (trees_in self.old node) (name_in self.old node)) ≡ false → OnOk result (IsReady self.new) }
     {
         self.parts.laws();
-        inserting(
-            &mut self.parts,
-            SuppressObserversFlag::Observed,
-            node,
-            parent,
-            child,
-        )
+        let how = SuppressObserversFlag::Observed;
+        match inserting(&mut self.parts, how, node, parent, child) {
+            Ok(()) => Ok(()),
+            Err(error) => Err(given_up(&mut self.parts, error)),
+        }
     }
 
     /// Tests whether a node may be put among the children of a parent, before the child given or last: `Hierarchy` or `NotFound`
@@ -95,9 +88,9 @@ impl Doc {
         self.parts.check_insert(parent, node, child)
     }
 
-    /// The child before which a node is put: the one given, or the node's next sibling where that is the node itself (DOM
-    /// Standard, pre-insert).
-    pub fn reference_for(&self, parent: Key, node: Key, child: Option<Key>) -> Option<Key>
+    /// The Standard's *reference child*, before which a node is put: the child given, or the node's next sibling where that is the node
+    /// itself (DOM Standard, pre-insert).
+    pub fn reference_child(&self, parent: Key, node: Key, child: Option<Key>) -> Option<Key>
         requires parent_is_node { HoldsNode self.now parent }
         requires node_is_node { HoldsNode self.now node }
         requires child_is_child { ForSome child (IsChild self.now parent) }
@@ -106,6 +99,6 @@ impl Doc {
         ensures child { ForSome result (IsChild self.now parent) }
         ensures apart { ForSome result (λ b. name_eq (name_in self.now node) (name_in self.now b) ≡ false) }
     {
-        reference_for(&self.parts, parent, node, child)
+        reference_child(&self.parts, parent, node, child)
     }
 }

@@ -11,7 +11,6 @@ ghost use Rattle.dom_model.specs.Changes.{doing};
 ghost use Rattle.dom_model.specs.World.{part_of, is_there};
 ghost use Rattle.dom_tree.specs.Forest.{node_from};
 ghost use Rattle.dom_mutation.specs.Doc.{HoldsNode, made, name_in, owner_in, trees_in, adding_refusal};
-ghost use Rattle.dom_mutation.specs.Ready.{IsReady};
 
 use crate::Doc;
 use crate::making::add;
@@ -37,7 +36,6 @@ impl Doc {
         ensures refused { (r : RefusalOf) → (result ≡ Err (Fault.Refused r)) ↔
             (adding_refusal (part_of self.old.world owner) node.kind (string_bytes node.element) ≡ Some r) }
         ensures err { OnErr result (self.new ≡ self.old) }
-        ensures ready { IsReady self.old → OnOk result (IsReady self.new) }
     {
         self.parts.laws();
         add(&mut self.parts, owner, node)
@@ -61,7 +59,6 @@ impl Doc {
         ensures limit { (result ≡ Err (Fault.Refused Limit)) ↔ (past_limit (part_of self.old.world (owner_in self.old of)).node_count 1 ≡ true) }
         ensures other { IfErr result (λ fault. (fault ≡ Fault.Refused Limit) ⊎ (fault ≡ Fault.Memory)) }
         ensures err { OnErr result (self.new ≡ self.old) }
-        ensures ready { IsReady self.old → OnOk result (IsReady self.new) }
     {
         self.parts.laws();
         let owner = self.parts.owner(of);

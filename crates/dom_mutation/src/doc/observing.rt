@@ -10,7 +10,6 @@ ghost use Rattle.dom_model.specs.World.{part_of, with_part, is_there};
 ghost use Rattle.dom_model.specs.CommandRefusals.{past_limit};
 ghost use Rattle.dom_observers.specs.Views.{words_of};
 ghost use Rattle.dom_mutation.specs.Doc.{name_in, owner_in, change_in, notice_in, notices_of, NamesNodes, Makes, MakesSaying};
-ghost use Rattle.dom_mutation.specs.Ready.{IsReady};
 ghost use Rattle.dom_parts.specs.Doc.{HoldsNode};
 
 use crate::Doc;
@@ -36,7 +35,6 @@ impl Doc {
         ensures limit { (result ≡ Err (Fault.Refused Limit)) ↔ (past_limit (length (part_of self.old.world owner).record_queues) 1 ≡ true) }
         ensures other { IfErr result (λ fault. (fault ≡ Fault.Refused Limit) ⊎ (fault ≡ Fault.Memory)) }
         ensures err { OnErr result (self.new ≡ self.old) }
-        ensures ready { IsReady self.old → OnOk result (IsReady self.new) }
     {
         self.parts.observer_make(owner)
     }
@@ -60,7 +58,6 @@ impl Doc {
         ensures no_kind { (result ≡ Err (Fault.Refused TypeFault)) ↔ (asks_for_nothing (options_of (words_of options)) ≡ true) }
         ensures other { IfErr result (λ fault. (fault ≡ Fault.Refused TypeFault) ⊎ (fault ≡ Fault.Memory)) }
         ensures err { OnErr result (self.new ≡ self.old) }
-        ensures ready { IsReady self.old → OnOk result (IsReady self.new) }
     {
         self.parts.observe(owner, number, node, options)
     }
@@ -71,7 +68,6 @@ impl Doc {
         requires { is_some (slice_get (part_of self.old.world owner).record_queues number) ≡ true }
         ensures names { self.new.names ≡ self.old.names }
         ensures world { Makes owner (Command.disconnect number) nothing self.old.world self.new.world }
-        ensures ready { IsReady self.old → IsReady self.new }
     {
         self.parts.disconnect(owner, number);
     }
@@ -84,7 +80,6 @@ impl Doc {
         ensures nodes { AllByRecursion (NamesNodes self.old) result.items }
         ensures world { MakesSaying owner (Command.take number) (map (λ r. recorded number (change_in self.old r)) result.items)
             (a_count (length result.items)) self.old.world self.new.world }
-        ensures ready { IsReady self.old → IsReady self.new }
     {
         self.parts.take_records(owner, number)
     }
@@ -98,7 +93,6 @@ impl Doc {
         ensures notices { IfOk result (λ list. map (notice_in self.old) list.items ≡ notices_of (part_of self.old.world owner)) }
         ensures nodes { IfOk result (λ list. AllByRecursion (λ n. AllByRecursion (NamesNodes self.old) n.1.items) list.items) }
         ensures world { OnOk result (self.new.world ≡ with_part self.old.world (notified (part_of self.old.world owner))) }
-        ensures ready { IsReady self.old → OnOk result (IsReady self.new) }
     {
         self.parts.notify(owner)
     }

@@ -12,6 +12,7 @@ ghost use Rattle.dom_model.specs.Steps.{set_range};
 ghost use Rattle.dom_model.specs.World.{part_of};
 ghost use Rattle.dom_mutation.specs.Doc.{name_in, owner_in, stepped, Makes};
 ghost use Rattle.dom_mutation.specs.Ready.{IsReady, MayStand};
+ghost use Rattle.dom_mutation.specs.Ready.{MayStand};
 ghost use Rattle.dom_parts.specs.Doc.{HoldsNode};
 
 use crate::Doc;
@@ -38,7 +39,6 @@ impl Doc {
         ensures limit { (result ≡ Err (Fault.Refused Limit)) ↔ (past_limit (length (part_of self.old.world owner).ranges) 1 ≡ true) }
         ensures other { IfErr result (λ fault. (fault ≡ Fault.Refused Limit) ⊎ (fault ≡ Fault.Memory)) }
         ensures err { OnErr result (self.new ≡ self.old) }
-        ensures ready { IsReady self.old → OnOk result (IsReady self.new) }
     {
         self.parts.laws();
         self.parts.range_make(owner, first)
@@ -63,7 +63,6 @@ impl Doc {
         ensures refused { (result ≡ Err RefusalOf.IndexSize) ↔ (past_end (part_of self.old.world owner) (name_in self.old node) offset ≡ true) }
         ensures other { IfErr result (λ refusal. refusal ≡ RefusalOf.IndexSize) }
         ensures err { OnErr result (self.new ≡ self.old) }
-        ensures ready { IsReady self.old → OnOk result (IsReady self.new) }
     {
         self.parts.laws();
         self.parts.range_set_start(owner, number, node, offset)
@@ -87,7 +86,6 @@ impl Doc {
         ensures refused { (result ≡ Err RefusalOf.IndexSize) ↔ (past_end (part_of self.old.world owner) (name_in self.old node) offset ≡ true) }
         ensures other { IfErr result (λ refusal. refusal ≡ RefusalOf.IndexSize) }
         ensures err { OnErr result (self.new ≡ self.old) }
-        ensures ready { IsReady self.old → OnOk result (IsReady self.new) }
     {
         self.parts.laws();
         self.parts.range_set_end(owner, number, node, offset)
@@ -98,7 +96,6 @@ impl Doc {
         requires { is_some (range_at (part_of self.old.world owner) number) ≡ true }
         ensures names { self.new.names ≡ self.old.names }
         ensures world { Makes owner (Command.range_collapse number to_start) nothing self.old.world self.new.world }
-        ensures ready { IsReady self.old → IsReady self.new }
     {
         self.parts.laws();
         self.parts.range_collapse(owner, number, to_start);
@@ -112,12 +109,11 @@ impl Doc {
         requires end_is_node { HoldsNode self.old points.end.0 }
         requires own_start { owner_in self.old points.start.0 ≡ owner }
         requires own_end { owner_in self.old points.end.0 ≡ owner }
+        requires may_stand { MayStand (part_of self.old.world owner).trees
+            (from_to (at (name_in self.old points.start.0) points.start.1) (at (name_in self.old points.end.0) points.end.1)) }
         ensures state { self.new ≡ stepped owner
             (set_range number (from_to (at (name_in self.old points.start.0) points.start.1) (at (name_in self.old points.end.0) points.end.1)))
             self.old }
-        ensures ready { IsReady self.old →
-            MayStand (part_of self.old.world owner).trees
-            (from_to (at (name_in self.old points.start.0) points.start.1) (at (name_in self.old points.end.0) points.end.1)) → IsReady self.new }
     {
         self.parts.laws();
         self.parts.range_put(owner, number, points);
@@ -128,7 +124,6 @@ impl Doc {
         requires { is_some (range_at (part_of self.old.world owner) number) ≡ true }
         ensures names { self.new.names ≡ self.old.names }
         ensures world { Makes owner (Command.range_drop number) nothing self.old.world self.new.world }
-        ensures ready { IsReady self.old → IsReady self.new }
     {
         self.parts.range_remove(owner, number);
     }

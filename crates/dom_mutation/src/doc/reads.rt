@@ -10,6 +10,7 @@ ghost use Rattle.dom_model.specs.CommandRefusals.{past_limit};
 ghost use Rattle.dom_worlds.specs.Worlds.{IsPart};
 ghost use Rattle.dom_mutation.specs.Doc.{name_in, owner_in, trees_in};
 ghost use Rattle.dom_mutation.specs.Hosting.{IsAlone};
+ghost use Rattle.dom_mutation.specs.Ready.{IsReady};
 ghost use Rattle.dom_parts.specs.Doc.{HoldsNode};
 
 use crate::Doc;
@@ -18,8 +19,8 @@ use node_arena::Key;
 
 impl Doc {
     /// Holds of every document: names tell the nodes apart, each node stands once in its owner's trees, an owner's steps
-    /// do in its part what they do in a part alone, no owner has more nodes than it may, each node's owner is there, and each
-    /// owner's part is one as every world has it that is reached.
+    /// do in its part what they do in a part alone, no owner has more nodes than it may, each node's owner is there, each owner's part
+    /// is one as every world has it that is reached, and live ranges and shadow roots stand as they should (`IsReady`).
     pub fn laws(&self)
         ensures distinct { (j k : ℕ) → HoldsNode self.now j → HoldsNode self.now k → name_in self.now j ≡ name_in self.now k → j ≡ k }
         ensures once { (o : OwnerOf) (x : Name) → count_by (λ n. name_eq n.name x) (nodes (part_of self.now.world o).trees) ≤ 1 }
@@ -28,6 +29,7 @@ impl Doc {
         ensures present { (k : ℕ) → HoldsNode self.now k → is_there self.now.world (owner_in self.now k) ≡ true }
         ensures parts { (o : OwnerOf) → IsPart (part_of self.now.world o) }
         ensures stand { (k : ℕ) → HoldsNode self.now k → has_node (trees_in self.now k) (name_in self.now k) ≡ true }
+        ensures ready { IsReady self.now }
     {
         self.parts.laws();
     }

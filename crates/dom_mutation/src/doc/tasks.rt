@@ -3,7 +3,6 @@ ghost use Rattle.std.specs.Prelude.{◌≡◌, ◌++◌, ◌∷◌, [], All, fil
 ghost use Rattle.dom_model.specs.World.{micro_task};
 ghost use Rattle.dom_model.specs.Turns.{is_owned_by, without_signals};
 ghost use Rattle.dom_mutation.specs.Doc.{name_in, with_tasks};
-ghost use Rattle.dom_mutation.specs.Ready.{IsReady};
 ghost use Rattle.dom_parts.specs.Doc.{HoldsNode};
 
 use crate::Doc;
@@ -18,7 +17,6 @@ impl Doc {
     pub fn push_micro(&mut self, owner: Owner, label: Vec<u8>) -> Result<(), AllocError>
         ensures ok { OnOk result (self.new ≡ with_tasks (self.old.world.tasks ++ micro_task owner label.items ∷ []) self.old) }
         ensures err { OnErr result (self.new ≡ self.old) }
-        ensures ready { IsReady self.old → IsReady self.new }
     {
         self.parts.push_micro(owner, label)
     }
@@ -27,7 +25,6 @@ impl Doc {
     pub fn take_tasks(&mut self) -> Queue
         ensures tasks { result ≡ self.old.world.tasks }
         ensures rest { self.new ≡ with_tasks [] self.old }
-        ensures ready { IsReady self.old → IsReady self.new }
     {
         self.parts.take_tasks()
     }
@@ -39,7 +36,6 @@ impl Doc {
         ensures nodes { IfOk result (λ keys. All (HoldsNode self.old) keys.items) }
         ensures rest { OnOk result (self.new ≡ record self.old { world = without_signals self.old.world owner }) }
         ensures err { OnErr result (self.new ≡ self.old) }
-        ensures ready { IsReady self.old → IsReady self.new }
     {
         self.parts.take_signals(owner)
     }

@@ -10,31 +10,31 @@ use Rattle.dom_model.specs.Changes.{removing, suppressed}
 use Rattle.dom_mutation.proofs.BoundedDocs.{bounds_removed, bounds_at}
 use Rattle.dom_mutation.proofs.replacing.replacing.Goals as goal
 
-pub reference_for-reference-requires-clause-child_is_child : goal.reference_for-reference-requires-clause-child_is_child
-reference_for-reference-requires-clause-child_is_child c =
+pub reference_child-reference-requires-clause-child_is_child : goal.reference_child-reference-requires-clause-child_is_child
+reference_child-reference-requires-clause-child_is_child c =
     next_is_near c.laws.ensures.once c.next-next.result c.requires.child_is_child
     c.next-next.ensures.value c.next-next.ensures.node c.next-next.ensures.owner
 
 pub inserting-requires-clause-may_move : goal.inserting-requires-clause-may_move
 inserting-requires-clause-may_move c =
-    may_now c.args.parent c.reference_for-reference.result c.args.parts.now c.removing.new.parts
+    may_now c.args.parent c.reference_child-reference.result c.args.parts.now c.removing.new.parts
     (stays_removed c.args.parts.now c.removing.new.parts c.laws.ensures.once c.laws.ensures.alone c.args.parent c.args.node c.args.child
-    c.next-next.result c.reference_for-reference.result c.requires.child_is_child
-    c.next-next.ensures.value c.reference_for-reference.ensures.value c.in_ok-removing.ensures c.reference_for-reference.ensures.child)
+    c.next-next.result c.reference_child-reference.result c.requires.child_is_child
+    c.next-next.ensures.value c.reference_child-reference.ensures.value c.in_ok-removing.ensures c.reference_child-reference.ensures.child)
     c.args.node (record {
       node = c.requires.node_is_node;
       owner = c.requires.node_owner;
       not_above = c.requires.not_above;
-      apart = c.reference_for-reference.ensures.apart;
+      apart = c.reference_child-reference.ensures.apart;
     })
 
 pub inserting-requires-clause-before_is_child : goal.inserting-requires-clause-before_is_child
 inserting-requires-clause-before_is_child c =
-    child_now c.args.parent c.reference_for-reference.result c.args.parts.now c.removing.new.parts
+    child_now c.args.parent c.reference_child-reference.result c.args.parts.now c.removing.new.parts
     (stays_removed c.args.parts.now c.removing.new.parts c.laws.ensures.once c.laws.ensures.alone c.args.parent c.args.node c.args.child
-    c.next-next.result c.reference_for-reference.result c.requires.child_is_child
-    c.next-next.ensures.value c.reference_for-reference.ensures.value c.in_ok-removing.ensures c.reference_for-reference.ensures.child)
-    c.reference_for-reference.ensures.child
+    c.next-next.result c.reference_child-reference.result c.requires.child_is_child
+    c.next-next.ensures.value c.reference_child-reference.ensures.value c.in_ok-removing.ensures c.reference_child-reference.ensures.child)
+    c.reference_child-reference.ensures.child
 
 pub returns-clause-world : goal.returns-clause-world
 returns-clause-world c =
@@ -50,19 +50,19 @@ returns-clause-world c =
       added = c.in_ok-added.added.items;
       prev = c.prev-prev.result;
       next = c.next-next.result;
-      reference = c.reference_for-reference.result;
+      reference = c.reference_child-reference.result;
       alone = c.laws.ensures.alone c.args.parent c.requires.parent_is_node;
       node_owner = c.requires.node_owner;
       child_owner = c.requires.child_is_child.owner;
       placed = c.in_ok-added.ensures.value;
       prev_is = c.prev-prev.ensures.value;
       next_is = c.next-next.ensures.value;
-      reference_is = c.reference_for-reference.ensures.value;
+      reference_is = c.reference_child-reference.ensures.value;
       removed = c.in_ok-removing.ensures;
       inserted = c.in_ok-inserting.ensures;
       told = told ∙ ap (λ (ks : List ℕ). stepped (owner_in f c.args.parent)
           (queue_record (child_list (name_in f c.args.parent) (map (name_in f) ks) (name_in f c.args.child ∷ []) (option_map (name_in f) c.prev-prev.result)
-          (option_map (name_in f) c.reference_for-reference.result))) f) c.as_slice.ensures.value;
+          (option_map (name_in f) c.reference_child-reference.result))) f) c.as_slice.ensures.value;
     }))
     c.tell_children.ensures
 

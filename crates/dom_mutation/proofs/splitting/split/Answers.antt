@@ -1,12 +1,14 @@
-use Rattle.std.proofs.Common.{◌≡◌, ◌-◌, length, option_map, ap, arith}
+use Rattle.std.proofs.Common.{◌≡◌, ◌-◌, length, option_map, refl, ap, arith}
 use Rattle.dom_model.specs.Names.{DomString}
 use Rattle.dom_model.specs.Tree.{node_in}
 use Rattle.dom_parts.specs.Doc.{name_in, owner_in, trees_in}
 use Rattle.dom_mutation.proofs.Grown.{new_owner, new_unlinked, new_not_above, split_whole}
 use Rattle.dom_model.specs.Part.{next_name}
-use Rattle.dom_model.specs.TextChanges.{new_text_node}
+use Rattle.dom_model.specs.TextChanges.{new_text_node, splitting}
 use Rattle.dom_model.specs.World.{part_of}
 use Rattle.dom_mutation.proofs.BoundedDocs.{bounds_added}
+use Rattle.dom_mutation.proofs.ReadyCalls.{plan-done}
+use Rattle.dom_mutation.proofs.ReadyPlans.{ready-splitting}
 use Rattle.dom_mutation.proofs.splitting.split.Goals as goal
 
 pub cut_tail-requires-clause-one_owner : goal.cut_tail-requires-clause-one_owner
@@ -29,8 +31,8 @@ cut_tail-requires-clause-not_above c =
     c.in_ok-new.ensures.world c.in_ok-new.ensures.key c.requires.node_is_node (c.laws.ensures.alone c.args.node c.requires.node_is_node)
     c.laws-2.ensures.distinct c.laws-2.ensures.once
 
-pub returns-clause-world : goal.returns-clause-world
-returns-clause-world c =
+pub returns-in-Ok-clause-world : goal.returns-in-Ok-clause-world
+returns-in-Ok-clause-world c =
     let units = ap (λ (s : DomString). length s) c.text.ensures in
     let left = c.saturating_sub-count.ensures in
     let counts : c.saturating_sub-count.result ≡ length
@@ -40,7 +42,7 @@ returns-clause-world c =
     (option_map (name_in c.args.parts.now) c.document-document.result) c.in_ok-tail.tail.items c.in_ok-new.ensures.names
     c.in_ok-new.ensures.world c.in_ok-new.ensures.key c.requires.node_is_node (c.laws.ensures.alone c.args.node c.requires.node_is_node)
     c.laws-2.ensures.distinct c.laws-2.ensures.once c.args.offset counts
-    c.document-document.ensures.value c.in_ok-tail.ensures c.in_ok-cut_tail.ensures
+    c.document-document.ensures.value c.in_ok-tail.ensures c.in-Ok.ensures
 
 pub cut_tail-requires-clause-bounds : goal.cut_tail-requires-clause-bounds
 cut_tail-requires-clause-bounds c =
@@ -52,5 +54,15 @@ cut_tail-requires-clause-bounds c =
       here = c.requires.node_is_node;
       alone = c.laws.ensures.alone c.args.node c.requires.node_is_node;
       part = c.laws.ensures.parts _;
-      bounds = c.requires.bounds;
+      bounds = (c.requires.ready _).bounds;
     } c.in_ok-new.ensures.names c.in_ok-new.ensures.world
+
+pub returns-in-Ok-clause-ready : goal.returns-in-Ok-clause-ready
+returns-in-Ok-clause-ready c =
+    let d = c.args.parts.now in
+    let x = c.args.node in
+    plan-done d d c.cut_tail.new.parts refl
+    (record { alone = c.laws.ensures.alone; parts = c.laws.ensures.parts; stand = c.laws.ensures.stand }) x
+    c.requires.node_is_node (λ a. splitting (name_in a x) c.args.offset)
+    (λ l i r. ready-splitting _ i r (name_in d x) c.args.offset (l.stand x c.requires.node_is_node) c.requires.text) (returns-in-Ok-clause-world c)
+    c.requires.ready

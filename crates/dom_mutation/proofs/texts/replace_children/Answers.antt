@@ -1,13 +1,15 @@
-use Rattle.std.proofs.Common.{Some, ap, sym, ◌∙◌}
+use Rattle.std.proofs.Common.{[], Some, refl, ap, sym, ◌∙◌}
 use Rattle.dom_model.specs.Names.{is_empty}
 use Rattle.dom_parts.specs.Doc.{name_in, owner_in}
 use Rattle.dom_mutation.proofs.Inserted.{some_left}
 use Rattle.dom_mutation.proofs.Grown.{new_owner, new_not_above}
 use Rattle.dom_mutation.proofs.Emptied.{text_whole}
 use Rattle.dom_model.specs.Part.{next_name}
-use Rattle.dom_model.specs.TextChanges.{new_text_node}
+use Rattle.dom_model.specs.TextChanges.{new_text_node, replacing_children}
 use Rattle.dom_model.specs.World.{part_of}
 use Rattle.dom_mutation.proofs.BoundedDocs.{bounds_added}
+use Rattle.dom_mutation.proofs.ReadyCalls.{plan-done, planned-done}
+use Rattle.dom_mutation.proofs.ReadyPlans.{ready-children}
 use Rattle.dom_mutation.proofs.texts.replace_children.Goals as goal
 
 pub put_text-requires-clause-one_owner : goal.put_text-requires-clause-one_owner
@@ -23,14 +25,14 @@ put_text-requires-clause-not_above c =
     c.in_ok-text.ensures.world c.in_ok-text.ensures.key c.requires.node_is_node (c.laws.ensures.alone c.args.node c.requires.node_is_node)
     c.laws-2.ensures.distinct c.laws-2.ensures.once
 
-pub returns-clause-world : goal.returns-clause-world
-returns-clause-world c =
+pub returns-in-Ok-put_text-clause-world : goal.returns-in-Ok-put_text-clause-world
+returns-in-Ok-put_text-clause-world c =
     text_whole c.args.parts.now c.make_text.new.parts c.args.node c.in_ok-text.text
     (Some (name_in c.args.parts.now c.document_below-document.result)) c.args.units.items c.in_ok-text.ensures.names
     c.in_ok-text.ensures.world c.in_ok-text.ensures.key c.requires.node_is_node (c.laws.ensures.alone c.args.node c.requires.node_is_node)
     c.laws-2.ensures.distinct c.laws-2.ensures.once c.put_text.new.parts
     (ap is_empty (sym c.as_slice.ensures.value) ∙ some_left c.as_slice.result.now c.if-is_empty.ensures)
-    (ap (λ y. Some y) c.document_below-document.ensures.value) c.in_ok-put_text.ensures
+    (ap (λ y. Some y) c.document_below-document.ensures.value) c.in-Ok-put_text.ensures
 
 pub put_text-requires-clause-bounds : goal.put_text-requires-clause-bounds
 put_text-requires-clause-bounds c =
@@ -41,5 +43,24 @@ put_text-requires-clause-bounds c =
       here = c.requires.node_is_node;
       alone = c.laws.ensures.alone c.args.node c.requires.node_is_node;
       part = c.laws.ensures.parts _;
-      bounds = c.requires.bounds;
+      bounds = (c.requires.ready _).bounds;
     } c.in_ok-text.ensures.names c.in_ok-text.ensures.world
+
+pub returns-in-Ok-clause-ready : goal.returns-in-Ok-clause-ready
+returns-in-Ok-clause-ready c =
+    let d = c.args.parts.now in
+    let x = c.args.node in
+    planned-done d d c.clear.new.parts refl
+    (record { alone = c.laws.ensures.alone; parts = c.laws.ensures.parts; stand = c.laws.ensures.stand }) x
+    c.requires.node_is_node (λ a. replacing_children (name_in a x) [])
+    (λ l i r. ready-children _ i r (name_in d x) [] (l.stand x c.requires.node_is_node) c.requires.inner) c.in-Ok.ensures c.requires.ready
+
+pub returns-in-Ok-put_text-clause-ready : goal.returns-in-Ok-put_text-clause-ready
+returns-in-Ok-put_text-clause-ready c =
+    let d = c.args.parts.now in
+    let x = c.args.node in
+    plan-done d d c.put_text.new.parts refl
+    (record { alone = c.laws.ensures.alone; parts = c.laws.ensures.parts; stand = c.laws.ensures.stand }) x
+    c.requires.node_is_node (λ a. replacing_children (name_in a x) c.args.units.items)
+    (λ l i r. ready-children _ i r (name_in d x) c.args.units.items (l.stand x c.requires.node_is_node) c.requires.inner)
+    (returns-in-Ok-put_text-clause-world c) c.requires.ready

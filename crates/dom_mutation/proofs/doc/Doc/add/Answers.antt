@@ -7,12 +7,12 @@ use Rattle.dom_mutation.specs.Doc.{DocState, adding_refusal}
 use Rattle.dom_mutation.proofs.ReadyCalls.{node-made}
 use Rattle.dom_mutation.proofs.doc.Doc.add.Goals as goal
 
-pub returns-clause-ready : goal.returns-clause-ready
-returns-clause-ready c =
+pub invariant_of-self : goal.invariant_of-self
+invariant_of-self c =
+    let b = c.self.inside.parts in
     let o = c.args.owner in
-    node-made c.self.inside.parts c.args.self.now c.add.new.parts c.self.view_is
-    (record { alone = c.laws.ensures.alone; parts = c.laws.ensures.parts; stand = c.laws.ensures.stand }) o
-    (λ a. node_from a.names (next_name (part_of a.world o)) c.args.node) c.requires.no_shadow c.add.result c.add.ensures.world
+    node-made b c.add.new.parts (record { alone = c.laws.ensures.alone; parts = c.laws.ensures.parts; stand = c.laws.ensures.stand }) c.self.invariant o
+    (node_from b.names (next_name (part_of b.world o)) c.args.node) c.requires.no_shadow c.add.result c.add.ensures.world c.add.ensures.err
 
 pub returns-clause-refused : goal.returns-clause-refused
 returns-clause-refused c = λ r.

@@ -1,29 +1,32 @@
-use Rattle.std.proofs.Common.{◌≡◌, ◌↔◌, false, length, Err, Some, subst, sym}
-use Rattle.std.specs.Prelude.{OnOk}
+use Rattle.std.proofs.Common.{◌≡◌, ◌↔◌, ℕ, Some, Err, Result, sym, ap, subst, ◌∙◌}
+use Rattle.dom_base.specs.declared.Fault.{Fault}
 use Rattle.dom_base.specs.declared.Fault.TheVariants.{Refused}
-use Rattle.dom_model.specs.World.{part_of, is_there, component_made}
+use Rattle.dom_base.specs.declared.Refusal.{Refusal}
+use Rattle.dom_model.specs.World.{part_of}
 use Rattle.dom_mutation.specs.Doc.{DocState, name_in, owner_in, attaching_refusal}
-use Rattle.dom_model.specs.DocumentMachine.{attaching}
 use Rattle.dom_mutation.specs.Ready.{AreReady}
-use Rattle.dom_mutation.proofs.ReadyCalls.{if-done}
 use Rattle.dom_mutation.proofs.ReadyFirst.{ready-attaching}
 use Rattle.dom_mutation.proofs.doc.Doc.attach.Goals as goal
 
-pub returns-clause-refused : goal.returns-clause-refused
-returns-clause-refused c r =
-    subst (λ (d : DocState). (c.attach.result ≡ Err (Refused r)) ↔ (attaching_refusal (part_of d.world (owner_in d c.args.host))
-    (name_in d c.args.host) ≡ Some r)) c.self.view_is (c.attach.ensures.refused r)
+-- what an attaching answers is refused as its part says
+refused : {b d : DocState} → b ≡ d → (x : ℕ) {m n : Result ℕ Fault} → m ≡ n →
+    ((r : Refusal) → (m ≡ Err (Refused r)) ↔ (attaching_refusal (part_of b.world (owner_in b x)) (name_in b x) ≡ Some r)) →
+    (r : Refusal) → (n ≡ Err (Refused r)) ↔ (attaching_refusal (part_of d.world (owner_in d x)) (name_in d x) ≡ Some r)
+refused {d} same x {m} is h r =
+    subst (λ (a : Result ℕ Fault). (a ≡ Err (Refused r)) ↔ (attaching_refusal (part_of d.world (owner_in d x)) (name_in d x) ≡ Some r)) is
+    (subst (λ (a : DocState). (m ≡ Err (Refused r)) ↔ (attaching_refusal (part_of a.world (owner_in a x)) (name_in a x) ≡ Some r)) same (h r))
 
-pub returns-clause-ready : goal.returns-clause-ready
-returns-clause-ready c =
-    λ h. if-done c.attach.result
-    (λ w. subst AreReady (sym (subst (λ (a : DocState). c.attach.new.self.world ≡ (attaching a.world (owner_in a c.args.host) (name_in a c.args.host)).0)
-    c.self.view_is w)) (ready-attaching c.args.self.now.world (owner_in c.args.self.now c.args.host) (name_in c.args.self.now c.args.host) h))
-    c.attach.ensures.world
+pub invariant_of-self : goal.invariant_of-self
+invariant_of-self c =
+    let b = c.self.inside.parts in
+    subst AreReady (sym c.in-Ok.ensures.world) (ready-attaching b.world (owner_in b c.args.host) (name_in b c.args.host) c.self.invariant)
 
-pub returns-clause-fresh : goal.returns-clause-fresh
-returns-clause-fresh c =
-    let x = c.args.host in
-    subst (λ (d : DocState). OnOk c.attach.result
-    (is_there d.world (component_made (owner_in d x) (length (part_of d.world (owner_in d x)).attached)) ≡ false))
-    c.self.view_is c.attach.ensures.fresh
+pub returns-in-Ok-clause-refused : goal.returns-in-Ok-clause-refused
+returns-in-Ok-clause-refused c = refused c.self.view_is c.args.host c.in-Ok.is c.attach.ensures.refused
+
+pub returns-in-Err-Refused-clause-refused : goal.returns-in-Err-Refused-clause-refused
+returns-in-Err-Refused-clause-refused c = refused c.self.view_is c.args.host (c.in-Err-Refused.is ∙ ap Err c.in-Err-Refused.field-0-is) c.attach.ensures.refused
+
+pub returns-in-Err-Memory-clause-refused : goal.returns-in-Err-Memory-clause-refused
+returns-in-Err-Memory-clause-refused c =
+    refused c.self.view_is c.args.host (c.in-Err-Memory.is ∙ ap Err (c.in-Err-Memory.field-0-is ∙ sym c.from.ensures)) c.attach.ensures.refused

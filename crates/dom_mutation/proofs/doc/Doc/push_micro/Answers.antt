@@ -1,12 +1,10 @@
-use Rattle.std.specs.Prelude.{[], ◌∷◌, ◌++◌}
-use Rattle.dom_model.specs.World.{micro_task}
-use Rattle.dom_mutation.specs.Doc.{with_tasks}
-use Rattle.dom_mutation.proofs.ReadyCalls.{either-call}
+use Rattle.std.proofs.Common.{sym, subst}
+use Rattle.std.proofs.lemmas.Result.{on_ok_weaker}
+use Rattle.dom_mutation.specs.Ready.{IsReady}
+use Rattle.dom_mutation.proofs.ReadyCalls.{or-same}
 use Rattle.dom_mutation.proofs.doc.Doc.push_micro.Goals as goal
 
-pub returns-clause-ready : goal.returns-clause-ready
-returns-clause-ready c =
-    let b = c.self.inside.parts in
-    either-call c.push_micro.result b c.args.self.now c.push_micro.new.self
-    (with_tasks (b.world.tasks ++ micro_task c.args.owner c.args.label.items ∷ []) b) c.self.view_is c.push_micro.ensures.ok
-    c.push_micro.ensures.err (λ h. h)
+pub invariant_of-self : goal.invariant_of-self
+invariant_of-self c =
+    or-same c.push_micro.result c.self.inside.parts c.push_micro.new.self c.push_micro.ensures.err c.self.invariant
+    (on_ok_weaker c.push_micro.result (λ is. subst IsReady (sym is) c.self.invariant) c.push_micro.ensures.ok)

@@ -1,28 +1,25 @@
-use Rattle.std.proofs.Common.{◌≡◌, ◌↔◌, Err, Some, subst}
-use Rattle.dom_base.specs.declared.Fault.TheVariants.{Refused}
-use Rattle.dom_model.specs.Validity.{replacement_refusal}
-use Rattle.dom_mutation.specs.Doc.{DocState, name_in, trees_in, owner_in}
+use Rattle.std.proofs.Common.{◌≡◌, None, sym, ap, ◌∙◌}
 use Rattle.dom_model.specs.Changes.{replacing}
-use Rattle.dom_mutation.proofs.ReadyCalls.{stands-in, tested-call}
+use Rattle.dom_model.specs.Validity.{replacement_refusal}
+use Rattle.dom_tree.specs.Forest.{err_of}
+use Rattle.dom_mutation.specs.Doc.{DocState, name_in, owner_in, trees_in}
+use Rattle.dom_mutation.proofs.ReadyCalls.{stands-in, planned-done}
 use Rattle.dom_mutation.proofs.ReadyPlans.{ready-replacing}
 use Rattle.dom_mutation.proofs.doc.Doc.replace.Goals as goal
 
-pub returns-clause-refused : goal.returns-clause-refused
-returns-clause-refused c r =
-    let p = c.args.parent in
-    subst (λ (d : DocState). (c.replace.result ≡ Err (Refused r)) ↔
-    (replacement_refusal (trees_in d p) (name_in d p) (name_in d c.args.node) (name_in d c.args.child) ≡ Some r))
-    c.self.view_is (c.replace.ensures.refused r)
+pub replacing-requires-clause-bounds : goal.replacing-requires-clause-bounds
+replacing-requires-clause-bounds c = (c.self.invariant _).bounds
 
-pub returns-clause-ready : goal.returns-clause-ready
-returns-clause-ready c =
+pub invariant_of-self : goal.invariant_of-self
+invariant_of-self c =
     let d = c.args.self.now in
     let parent = c.args.parent in
     let node = c.args.node in
-    tested-call c.self.inside.parts c.args.self.now c.replace.new.parts c.self.view_is
+    let test = λ (a : DocState). replacement_refusal (trees_in a parent) (name_in a parent) (name_in a node) (name_in a c.args.child) in
+    planned-done c.self.inside.parts d c.replacing.new.parts c.self.view_is
     (record { alone = c.laws.ensures.alone; parts = c.laws.ensures.parts; stand = c.laws.ensures.stand }) parent
-    c.requires.parent_is_node (λ a. replacing (name_in a parent) (name_in a node) (name_in a c.args.child)) c.replace.result
-    (λ a. replacement_refusal (trees_in a parent) (name_in a parent) (name_in a node) (name_in a c.args.child)) c.replace.ensures.refused
-    c.replace.ensures.world
-    (λ none l i r. ready-replacing _ i r (name_in d parent) (name_in d node) (name_in d c.args.child)
-    (stands-in d node (owner_in d parent) l c.requires.node_is_node c.requires.node_owner) (l.stand parent c.requires.parent_is_node) none)
+    c.requires.parent_is_node (λ a. replacing (name_in a parent) (name_in a node) (name_in a c.args.child))
+    (λ l i r. ready-replacing _ i r (name_in d parent) (name_in d node) (name_in d c.args.child)
+    (stands-in d node (owner_in d parent) l c.requires.node_is_node c.requires.node_owner) (l.stand parent c.requires.parent_is_node)
+    (ap test (sym c.self.view_is) ∙ (sym c.check_replace.ensures ∙ ap err_of c.in_default.is)))
+    c.in-Ok.ensures.world c.self.invariant

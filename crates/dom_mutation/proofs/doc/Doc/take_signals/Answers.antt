@@ -1,9 +1,10 @@
-use Rattle.dom_model.specs.Turns.{without_signals}
-use Rattle.dom_mutation.proofs.ReadyCalls.{either-call}
+use Rattle.std.proofs.Common.{sym, subst}
+use Rattle.std.proofs.lemmas.Result.{on_ok_weaker}
+use Rattle.dom_mutation.specs.Ready.{IsReady}
+use Rattle.dom_mutation.proofs.ReadyCalls.{or-same}
 use Rattle.dom_mutation.proofs.doc.Doc.take_signals.Goals as goal
 
-pub returns-clause-ready : goal.returns-clause-ready
-returns-clause-ready c =
-    let b = c.self.inside.parts in
-    either-call c.take_signals.result b c.args.self.now c.take_signals.new.self (record b { world = without_signals b.world c.args.owner })
-    c.self.view_is c.take_signals.ensures.rest c.take_signals.ensures.err (λ h. h)
+pub invariant_of-self : goal.invariant_of-self
+invariant_of-self c =
+    or-same c.take_signals.result c.self.inside.parts c.take_signals.new.self c.take_signals.ensures.err c.self.invariant
+    (on_ok_weaker c.take_signals.result (λ is. subst IsReady (sym is) c.self.invariant) c.take_signals.ensures.rest)

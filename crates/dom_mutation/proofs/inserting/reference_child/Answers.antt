@@ -3,7 +3,7 @@ use Rattle.std.proofs.lemmas.Bool.{eqb-true}
 use Rattle.std.proofs.lemmas.Option.{same_Some}
 use Rattle.dom_parts.specs.Doc.{IsChild}
 use Rattle.dom_mutation.proofs.Placed.{next_is_child}
-use Rattle.dom_mutation.proofs.inserting.reference_for.Goals as goal
+use Rattle.dom_mutation.proofs.inserting.reference_child.Goals as goal
 
 pub returns-then-eq-clause-child : goal.returns-then-eq-clause-child
 returns-then-eq-clause-child c b is =

@@ -1,0 +1,7 @@
+use Rattle.std.proofs.Common.{ap, ◌∙◌}
+use Rattle.dom_model.specs.World.{is_connected}
+use Rattle.dom_mutation.specs.Doc.{DocState, name_in}
+use Rattle.dom_mutation.proofs.doc.Doc.is_connected.Goals as goal
+
+pub returns : goal.returns
+returns c = c.is_connected.ensures ∙ ap (λ (d : DocState). is_connected d.world (name_in d c.args.node)) c.self.view_is

@@ -1,6 +1,0 @@
-use Rattle.std.proofs.Common.{subst, sym}
-use Rattle.dom_mutation.specs.Doc.{DocState, IsChild}
-use Rattle.dom_mutation.proofs.doc.Doc.reference_for.Goals as goal
-
-pub reference_for-requires-clause-child_is_child : goal.reference_for-requires-clause-child_is_child
-reference_for-requires-clause-child_is_child c x is = subst (λ (d : DocState). IsChild d c.args.parent x) (sym c.self.view_is) (c.requires.child_is_child x is)
