@@ -1,6 +1,6 @@
 -- Where code units of a node that is no Text or Comment are to go, its children stay, and live ranges past them fall back: their ends are
 -- within their nodes still.
-use Rattle.std.proofs.Common.{◌≡◌, ◌≤◌, ℕ, ◌+◌, ◌-◌, true, false, not, ◌||◌, List, [], ◌∷◌, map, length, Option, Some, None, option_map, refl, sym, ap}
+use Rattle.std.proofs.Common.{◌≡◌, ℕ, ◌+◌, ◌-◌, false, not, ◌||◌, List, [], ◌∷◌, map, length, Option, Some, None, option_map, refl, sym, ap}
 use Rattle.std.proofs.Common.{◌∙◌, arith, true≢false}
 use Rattle.std.specs.Prelude.{if◌then◌else◌, nat_le, min}
 use Rattle.std.specs.List.{AllByRecursion}
@@ -19,7 +19,7 @@ use Rattle.dom_model.proofs.OwnerLaws.{name_eq-true}
 use Rattle.dom_worlds.specs.Bounds.{HasBounds}
 use Rattle.dom_worlds.specs.Worlds.{IsPart}
 use Rattle.dom_worlds.proofs.RangeLemmas.{Under, RangeUnder, reach, nowhere, HasRoom, length-like, ranges-more, room-of, bounds-of}
-use Rattle.dom_worlds.proofs.TreeLemmas.{kids, kids-absent, kids-map_nodes, node-map_nodes, length-kids, length-absent, times-map_nodes}
+use Rattle.dom_worlds.proofs.TreeLemmas.{kids-absent, kids-map_nodes, node-map_nodes, length-kids, length-absent, times-map_nodes}
 use Rattle.dom_worlds.proofs.CommandLemmas.{name-node_in}
 use Rattle.dom_worlds.proofs.PlanLemmas.{KeepsNames, some-keeps, leads-replacing_data}
 use Rattle.dom_worlds.proofs.ListLemmas.{by_cases, which_way}

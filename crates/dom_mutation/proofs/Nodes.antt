@@ -1,7 +1,7 @@
 -- Keys of nodes stay keys of nodes where the names stay, and nodes that may be moved are nodes.
 use Rattle.std.proofs.Common.{◌≡◌, ℕ, ◌<◌, List, [], ◌∷◌, length, Option, sym, subst}
 use Rattle.dom_base.specs.declared.NodeName.{NodeName}
-use Rattle.dom_parts.specs.Doc.{DocState, AreNodes, IsNodeIf, MayMove, owner_in}
+use Rattle.dom_parts.specs.Doc.{DocState, AreNodes, MayMove, owner_in}
 use Rattle.std.specs.List.{AllByRecursion}
 
 pub nodes_kept : (d e : DocState) → e.names ≡ d.names → (ks : List ℕ) → AreNodes d ks → AreNodes e ks

@@ -8,7 +8,7 @@ use Rattle.dom_base.specs.declared.Kind.{Kind}
 use Rattle.dom_base.specs.declared.Kind.TheVariants.{Document, Fragment, Shadow, Element, Text, Comment}
 use Rattle.dom_base.specs.declared.NodeName.{NodeName}
 use Rattle.dom_base.specs.declared.Refusal.TheVariants.{Hierarchy, NotFound}
-use Rattle.dom_model.specs.Changes.{Plan, observed, removing, adopting, inserting, pre_inserting, reference_for, replacing, setting_attribute}
+use Rattle.dom_model.specs.Changes.{Plan, observed, removing, adopting, inserting, replacing, setting_attribute}
 use Rattle.dom_model.specs.Changes.{unsetting_attribute}
 use Rattle.dom_model.specs.CommandRefusals.{of_range}
 use Rattle.dom_model.specs.Effects.{plan_of_range}

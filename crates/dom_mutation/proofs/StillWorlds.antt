@@ -1,5 +1,5 @@
 -- What every step leaves in all parts of the world, and so every plan; and what an attaching leaves.
-use Rattle.std.proofs.Common.{◌≡◌, true, false, List, [], ◌∷◌, ◌++◌, length, Option, Some, None, refl, sym, subst, arith, unwrap_or}
+use Rattle.std.proofs.Common.{◌≡◌, false, List, [], ◌∷◌, ◌++◌, length, Option, Some, None, refl, sym, subst, arith, unwrap_or}
 use Rattle.std.specs.Prelude.{is_some, ⊤}
 use Rattle.std.specs.List.{AllByRecursion}
 use Rattle.dom_base.specs.declared.Kind.TheVariants.{Shadow}

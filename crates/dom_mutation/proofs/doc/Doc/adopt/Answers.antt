@@ -1,6 +1,5 @@
-use Rattle.std.proofs.Common.{ap}
 use Rattle.dom_model.specs.Changes.{adopting}
-use Rattle.dom_mutation.specs.Doc.{DocState, name_in}
+use Rattle.dom_mutation.specs.Doc.{name_in}
 use Rattle.dom_mutation.proofs.ReadyCalls.{planned-done}
 use Rattle.dom_mutation.proofs.ReadyPlans.{ready-adopting}
 use Rattle.dom_mutation.proofs.doc.Doc.adopt.Goals as goal

@@ -1,6 +1,4 @@
-use Rattle.std.specs.Prelude.{[]}
 use Rattle.dom_model.specs.Command.{Command}
-use Rattle.dom_model.specs.Output.{nothing}
 use Rattle.dom_mutation.proofs.ReadyCalls.{table-ready}
 use Rattle.dom_mutation.proofs.ReadyTables.{range_drop-ready}
 use Rattle.dom_mutation.proofs.doc.Doc.range_remove.Goals as goal

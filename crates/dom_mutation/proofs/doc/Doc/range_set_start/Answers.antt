@@ -1,7 +1,5 @@
-use Rattle.std.specs.Prelude.{[]}
 use Rattle.dom_model.specs.Command.{Command, own}
 use Rattle.dom_model.specs.CommandRefusals.{past_end}
-use Rattle.dom_model.specs.Output.{nothing}
 use Rattle.dom_model.specs.World.{part_of}
 use Rattle.dom_mutation.specs.Doc.{name_in}
 use Rattle.dom_mutation.proofs.ReadyCalls.{named-there, named-within, within-done, table-ready, or-same}

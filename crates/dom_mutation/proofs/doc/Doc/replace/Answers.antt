@@ -1,4 +1,4 @@
-use Rattle.std.proofs.Common.{◌≡◌, None, sym, ap, ◌∙◌}
+use Rattle.std.proofs.Common.{sym, ap, ◌∙◌}
 use Rattle.dom_model.specs.Changes.{replacing}
 use Rattle.dom_model.specs.Validity.{replacement_refusal}
 use Rattle.dom_tree.specs.Forest.{err_of}

@@ -1,8 +1,5 @@
 use Rattle.std.proofs.Common.{refl}
-use Rattle.std.specs.Prelude.{length, map}
 use Rattle.dom_model.specs.Command.{Command}
-use Rattle.dom_model.specs.Output.{recorded, a_count}
-use Rattle.dom_mutation.specs.Doc.{change_in}
 use Rattle.dom_mutation.proofs.ReadyCalls.{table-ready}
 use Rattle.dom_mutation.proofs.ReadyTables.{ready-same}
 use Rattle.dom_mutation.proofs.doc.Doc.take_records.Goals as goal

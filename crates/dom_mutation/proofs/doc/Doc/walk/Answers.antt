@@ -1,7 +1,4 @@
-use Rattle.std.specs.Prelude.{[], option_map}
 use Rattle.dom_model.specs.Command.{Command}
-use Rattle.dom_model.specs.Effects.{node_or_null}
-use Rattle.dom_mutation.specs.Doc.{name_in}
 use Rattle.dom_mutation.proofs.ReadyCalls.{table-ready}
 use Rattle.dom_mutation.proofs.ReadyTables.{walk-ready}
 use Rattle.dom_mutation.proofs.doc.Doc.walk.Goals as goal

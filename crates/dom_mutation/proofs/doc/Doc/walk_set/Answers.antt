@@ -1,6 +1,4 @@
-use Rattle.std.specs.Prelude.{[]}
 use Rattle.dom_model.specs.Command.{Command, own}
-use Rattle.dom_model.specs.Output.{nothing}
 use Rattle.dom_mutation.specs.Doc.{name_in}
 use Rattle.dom_mutation.proofs.ReadyCalls.{table-ready}
 use Rattle.dom_mutation.proofs.ReadyTables.{walker_set-ready}
