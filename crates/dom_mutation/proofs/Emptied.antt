@@ -64,46 +64,6 @@ module _ (d e : DocState) (counted : Counted d) (node text : ℕ) (ks : List ℕ
         apart = λ b is. cc;
       }
 
--- the text content is set, state by state: the children are taken out, the Text is inserted, and the record is queued
-pub record TextContent : Type 0 where
-  -- the states
-  pub start : DocState
-  pub emptied_state : DocState
-  pub with_text : DocState
-  pub end : DocState
-  -- the keys of the nodes
-  pub node : ℕ
-  pub text : ℕ
-  pub children : List ℕ
-  pub alone : IsAlone start.world (owner_in start node)
-  pub text_owner : owner_in start text ≡ owner_in start node
-  pub listed : map (name_in start) children ≡ children_of (trees_in start node) (name_in start node)
-  pub taken : emptied_state ≡ planned (owner_in start node) (in_turn (removing suppressed) (map (name_in start) children)) start
-  pub inserted : with_text ≡ planned (owner_in emptied_state node) (inserting suppressed (name_in emptied_state text) (name_in emptied_state node) None)
-      emptied_state
-  pub told : end ≡ stepped (owner_in with_text node)
-      (queue_record (child_list (name_in with_text node) (name_in with_text text ∷ []) (map (name_in with_text) children) None None)) with_text
-
--- the whole, where there is a Text
-pub put_whole : (h : TextContent) → h.end ≡ planned (owner_in h.start h.node) (putting_text (name_in h.start h.node) (name_in h.start h.text)) h.start
-put_whole h =
-    let o = owner_in d node in
-    let x = name_in d node in
-    let y = name_in d text in
-    let tell : DocState → DocState = λ s. stepped (owner_in s node)
-    (queue_record (child_list (name_in s node) (name_in s text ∷ []) (map (name_in s) ks) None None)) s in
-    let put : DocState → DocState = λ s. planned (owner_in s node) (inserting suppressed (name_in s text) (name_in s node) None) s in
-    let clear : List NodeName → Plan = in_turn (removing suppressed) in
-    let record_of : List NodeName → Plan = λ zs. doing (queue_record (child_list x (y ∷ []) zs None None)) in
-    let cleared = plans_each o (removing suppressed) (plans_removing o suppressed) (map (name_in d) ks) in
-    told ∙ ap tell inserted ∙ ap (λ s. tell (put s)) taken
-    ∙ ap (planned o (record_of (map (name_in d) ks))) (planned_then o (clear (map (name_in d) ks)) (inserting suppressed y x None) d alone cleared)
-    ∙ planned_then o (clear (map (name_in d) ks) and_then inserting suppressed y x None) (record_of (map (name_in d) ks)) d alone
-    (plans_then o (clear (map (name_in d) ks)) (inserting suppressed y x None) cleared (plans_inserting o suppressed y x None text_owner))
-    ∙ ap (λ zs. planned o (clear zs and_then inserting suppressed y x None and_then record_of zs) d) listed
-  where
-    open h use {start as d, node, text, children as ks, alone, text_owner, listed, taken, inserted, told}
-
 -- a node's children are replaced by none
 module _ (d : DocState) (node : ℕ) (alone : IsAlone d.world (owner_in d node)) where
   abbrev o : Owner

@@ -178,83 +178,10 @@ module _ (d : DocState) (counted : Counted d) (parent fragment : ℕ) (before : 
 
 -- ---- what the calls say of it
 
--- an insertion of a node that is no fragment
-pub record NodeInsertion : Type 0 where
-  -- the states
-  pub start : DocState
-  pub end : DocState
-  pub alone : (k : ℕ) → k < length start.names → IsAlone start.world (owner_in start k)
-  pub how : Observing
-  -- the keys of the nodes
-  pub parent : ℕ
-  pub node : ℕ
-  pub before : Option ℕ
-  pub prev : Option NodeName
-  pub parent_is : parent < length start.names
-  pub may : MayMove start parent before node
-  pub no_fragment : is_fragment (kind_of (trees_in start node) (name_in start node)) ≡ false
-  pub prev_is : prev ≡ sibling_before (trees_in start parent) (name_in start parent) (option_map (name_in start) before)
-  pub placed : end ≡ placed_all how (name_in start node ∷ []) (name_in start parent) (option_map (name_in start) before) prev (owner_in start parent) start
-
--- of one node
-pub inserted_single : (h : NodeInsertion) →
-    h.end ≡ planned (owner_in h.start h.parent) (inserting h.how (name_in h.start h.node) (name_in h.start h.parent) (option_map (name_in h.start) h.before))
-    h.start
-inserted_single h =
-    is ∙ ap (λ q. placed_all how (name_in d node ∷ []) (name_in d parent) (option_map (name_in d) before) q (owner_in d parent) d) was
-    ∙ inserted_one (owner_in d parent) how (name_in d node) (name_in d parent) (option_map (name_in d) before) d (alone parent parent_is) may.owner
-    (ap (λ o. is_fragment (kind_of (part_of d.world o).trees (name_in d node))) (sym may.owner) ∙ kind)
-  where
-    open h use {start as d, alone, how, parent, node, before, parent_is, may, no_fragment as kind, prev_is as was, placed as is}
-
--- an insertion of a fragment, state by state: it is emptied, and its children are placed
-pub record FragmentInsertion : Type 0 where
-  -- the states
-  pub start : DocState
-  pub emptied_state : DocState
-  pub end : DocState
-  pub alone : (k : ℕ) → k < length start.names → IsAlone start.world (owner_in start k)
-  pub how : Observing
-  -- the keys of the nodes
-  pub parent : ℕ
-  pub fragment : ℕ
-  pub before : Option ℕ
-  pub prev : Option ℕ
-  pub children : List ℕ
-  pub parent_is : parent < length start.names
-  pub may : MayMove start parent before fragment
-  pub is_fragment_kind : is_fragment (kind_of (trees_in start fragment) (name_in start fragment)) ≡ true
-  pub prev_is : option_map (name_in start) prev ≡ sibling_before (trees_in start parent) (name_in start parent) (option_map (name_in start) before)
-  pub listed : map (name_in start) children ≡ children_of (trees_in start fragment) (name_in start fragment)
-  pub some_children : is_empty children ≡ false
-  pub emptied : emptied_state ≡ planned (owner_in start fragment) (emptying (name_in start fragment) (map (name_in start) children)) start
-  pub placed : end ≡ placed_all how (map (name_in emptied_state) children) (name_in emptied_state parent) (option_map (name_in emptied_state) before)
-      (option_map (name_in emptied_state) prev) (owner_in emptied_state parent) emptied_state
-
--- of a fragment
-pub inserted_fragment : (h : FragmentInsertion) →
-    h.end ≡ planned (owner_in h.start h.parent) (inserting h.how (name_in h.start h.fragment) (name_in h.start h.parent)
-    (option_map (name_in h.start) h.before)) h.start
-inserted_fragment h =
-    let o = owner_in d parent in
-    let here = name_in d parent in
-    let ref = option_map (name_in d) before in
-    let own : trees_in d fragment ≡ trees_in d parent = ap (λ p. (part_of d.world p).trees) may.owner in
-    let children : map (name_in d) ks ≡ children_of (trees_in d parent) (name_in d fragment) = listed ∙ ap (λ t. children_of t (name_in d fragment)) own in
-    placed ∙ ap (λ (s : DocState). placed_all how (map (name_in s) ks) (name_in s parent) (option_map (name_in s) before)
-    (option_map (name_in s) prev) (owner_in s parent) s)
-    (emptied ∙ ap (λ p. planned p (emptying (name_in d fragment) (map (name_in d) ks)) d) may.owner)
-    ∙ ap (λ q. placed_all how (map (name_in d) ks) here ref q o (planned o (emptying (name_in d fragment) (map (name_in d) ks)) d)) was
-    ∙ ap (λ xs. placed_all how xs here ref (sibling_before (trees_in d parent) here ref) o (planned o (emptying (name_in d fragment) xs) d)) children
-    ∙ inserted_children o how (name_in d fragment) here ref d (alone parent parent_is) may.owner
-    (ap (λ t. is_fragment (kind_of t (name_in d fragment))) (sym own) ∙ kind) (ap is_empty (sym children) ∙ mapped ks some)
-  where
-    open h use {start as d, alone, how, parent, fragment, before, prev, children as ks, parent_is, may, is_fragment_kind as kind, prev_is as was}
-    open h use {listed, some_children as some, emptied, placed}
-
-    mapped : (ks : List ℕ) → is_empty ks ≡ false → is_empty (map (name_in d) ks) ≡ false
-    mapped [] h = cc
-    mapped (k ∷ ks) h = refl
+-- keys that name some nodes
+pub some_named : (d : DocState) (ks : List ℕ) → is_empty ks ≡ false → is_empty (map (name_in d) ks) ≡ false
+some_named d [] h = cc
+some_named d (k ∷ ks) h = refl
 
 -- a test of length, for a test of emptiness
 pub some_left : (ks : List ℕ) → false ≡ (length ks == 0) → is_empty ks ≡ false

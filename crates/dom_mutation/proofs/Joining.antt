@@ -21,6 +21,13 @@ use Rattle.dom_mutation.proofs.ExactJoins.{joins_after}
 use Rattle.dom_parts.proofs.Made.{plan_alone}
 use Rattle.dom_parts.proofs.OwnPlans.{plans_data}
 
+-- the joins are those that were planned, each fits, and the live ranges' offsets are within lengths
+pub record IsGrown (d e : DocState) (node parent size : ℕ) (ks : List ℕ) : Type 0 where
+  pub exact : joins (trees_in e node) (name_in e node) (name_in e parent) size (map (name_in e) ks) ≡
+      joins (trees_in d node) (name_in e node) (name_in e parent) size (map (name_in e) ks)
+  pub fit : JoinsFit (trees_in e node) (name_in e node) size (map (name_in e) ks)
+  pub bounds : HasBounds (part_of e.world (owner_in e node))
+
 module _ (d e : DocState) (node parent size : ℕ) (units : DomString) (ks : List ℕ) (alone : IsAlone d.world (owner_in d node))
     (part : IsPart (part_of d.world (owner_in d node))) (bounds : HasBounds (part_of d.world (owner_in d node)))
     (there : has_node (trees_in d node) (name_in d node) ≡ true) (text : is_text (kind_of (trees_in d node) (name_in d node)) ≡ true)
@@ -52,8 +59,8 @@ module _ (d e : DocState) (node parent size : ℕ) (units : DomString) (ks : Lis
   trees_e : trees_in e node ≡ (after p (replacing_data x (length_of p.trees x) 0 all p)).trees
   trees_e = ap (λ (ns : List NodeName). (part_of e.world (name_at ns node).owner).trees) names ∙ grown
 
-  pub joining_exact : joins (trees_in e node) (name_in e node) (name_in e parent) size (map (name_in e) ks) ≡ joins (trees_in d node)
-      (name_in e node) (name_in e parent) size (map (name_in e) ks)
+  joining_exact : joins (trees_in e node) (name_in e node) (name_in e parent) size (map (name_in e) ks) ≡
+      joins (trees_in d node) (name_in e node) (name_in e parent) size (map (name_in e) ks)
   joining_exact =
       ap (λ ts. joins ts (name_in e node) (name_in e parent) size (map (name_in e) ks)) trees_e
       ∙ subst (λ (ns : List NodeName). joins (after p (replacing_data x (length_of p.trees x) 0 all p)).trees (name_at ns node)
@@ -61,7 +68,7 @@ module _ (d e : DocState) (node parent size : ℕ) (units : DomString) (ks : Lis
       (ap (joins (after p (replacing_data x (length_of p.trees x) 0 all p)).trees x (name_in d parent) size) listed
       ∙ (joins_after x (name_in d parent) size part record { there = there; text = text } up ∙ ap (joins p.trees x (name_in d parent) size) (sym listed)))
 
-  pub joining_fits : JoinsFit (trees_in e node) (name_in e node) size (map (name_in e) ks)
+  joining_fits : JoinsFit (trees_in e node) (name_in e node) size (map (name_in e) ks)
   joining_fits =
       subst (λ ts. JoinsFit ts (name_in e node) size (map (name_in e) ks)) (sym trees_e)
       (subst (λ (ns : List NodeName). JoinsFit (after p (replacing_data x (length_of p.trees x) 0 all p)).trees (name_at ns node) size
@@ -70,7 +77,10 @@ module _ (d e : DocState) (node parent size : ℕ) (units : DomString) (ks : Lis
       (subst (JoinsFit (after p (replacing_data x (length_of p.trees x) 0 all p)).trees x (length_of p.trees x)) (sym listed)
       (joining-joins_fit x (name_in d parent) part there text up))))
 
-  pub joining_bounds : HasBounds (part_of e.world (owner_in e node))
-  joining_bounds =
-      subst (λ (ns : List NodeName). HasBounds (part_of e.world (name_at ns node).owner)) (sym names)
-      (bounds_grown (owner_in d node) d alone part bounds x size 0 units (text-data (kind_of p.trees x) text) made)
+  pub grown_for : IsGrown d e node parent size ks
+  grown_for = record {
+    exact = joining_exact;
+    fit = joining_fits;
+    bounds = subst (λ (ns : List NodeName). HasBounds (part_of e.world (name_at ns node).owner)) (sym names)
+        (bounds_grown (owner_in d node) d alone part bounds x size 0 units (text-data (kind_of p.trees x) text) made);
+  }

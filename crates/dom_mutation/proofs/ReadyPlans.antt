@@ -123,36 +123,27 @@ module _ (p : Part) (i : IsPart p) (h : IsReadyPart p) where
   -- a range that gets ends within their nodes, which are in one tree
   pub ready-set_range : (k : ℕ) (r : Range NodeName) → HasEnds p.trees r → IsWithin p.trees r.start → IsWithin p.trees r.end → KeepReady p (set_range k r ∷ [])
   ready-set_range k r e a b =
+      let start = has_node-times p.trees r.start.node e.start in
+      let end = has_node-times p.trees r.end.node e.end in
       record {
-        made = (
-          (
-            has_node-times p.trees r.start.node e.start,
-            has_node-times p.trees r.end.node e.end,
-            roots-equal p.trees r.start.node r.end.node
-                e.one_root,
-          ),
-          tt,
-        );
+        made = ((start, end, roots-equal p.trees r.start.node r.end.node e.one_root), tt);
         bounds = set_range-keeps p k r i a b h.bounds;
         roots = lone-after p (set_range k r ∷ []) i h.roots (tt, tt);
       }
 
-  -- a removal
-  pub ready-removing : (x : NodeName) → KeepReady p (removing observed x p)
-  ready-removing x = record {
-    made = (leads-removing observed x p i).made;
-    bounds = removal-keeps observed x p i h.bounds;
-    roots = lone-plan (removing observed x) (keeps-removing (lone-rules p) observed x);
-  }
+  -- a plan, by what is known of it
+  ready-by : (f : Plan) → MadeIn p (f p) → HasBounds (after p (f p)) → Keeps (lone-rules p) f → KeepReady p (f p)
+  ready-by f made bounds k = record { made = made; bounds = bounds; roots = lone-plan f k }
 
-  -- an adoption
+  -- a removal and an adoption
+  pub ready-removing : (x : NodeName) → KeepReady p (removing observed x p)
+  ready-removing x =
+      ready-by (removing observed x) (leads-removing observed x p i).made (removal-keeps observed x p i h.bounds) (keeps-removing (lone-rules p) observed x)
+
   pub ready-adopting : (d x : NodeName) → IsTrue (has_node p.trees x) → KeepReady p (adopting d x p)
   ready-adopting d x t =
-      record {
-        made = (leads-adopting d x p i (i.owned x (has_node-times p.trees x t))).made;
-        bounds = adoption-keeps d x p i t h.bounds;
-        roots = lone-plan (adopting d x) (keeps-adopting (lone-rules p) d x);
-      }
+      ready-by (adopting d x) (leads-adopting d x p i (i.owned x (has_node-times p.trees x t))).made (adoption-keeps d x p i t h.bounds)
+      (keeps-adopting (lone-rules p) d x)
 
   module _ (x parent : NodeName) (t : IsTrue (has_node p.trees x)) (s : IsTrue (has_node p.trees parent)) where
     -- an insertion
@@ -160,51 +151,38 @@ module _ (p : Part) (i : IsPart p) (h : IsReadyPart p) where
         is_inclusive_ancestor p.trees x parent ≡ false → has_data (kind_of p.trees parent) ≡ false → is_shadow (kind_of p.trees x) ≡ false →
         KeepReady p (inserting observed x parent before p)
     ready-inserting before a o m =
-        record {
-          made = (leads-inserting observed x parent before i (may-go x parent t s a)).made;
-          bounds = insertion-keeps observed x parent before p
-              (record { part = i; there = t; parent_there = s; apart = a; opened = o; bounds = h.bounds });
-          roots = lone-plan (inserting observed x parent before) (keeps-inserting (lone-rules p) observed x parent before m);
-        }
+        ready-by (inserting observed x parent before) (leads-inserting observed x parent before i (may-go x parent t s a)).made
+        (insertion-keeps observed x parent before p
+        (record { part = i; there = t; parent_there = s; apart = a; opened = o; bounds = h.bounds }))
+        (keeps-inserting (lone-rules p) observed x parent before m)
 
-  -- a replacement
-  pub ready-replacing : (parent x child : NodeName) → IsTrue (has_node p.trees x) → IsTrue (has_node p.trees parent) →
-      replacement_refusal p.trees parent x child ≡ None → KeepReady p (replacing parent x child p)
-  ready-replacing parent x child t s r =
-      let m = replacement-tested p.trees parent x child r in
-      record {
-        made = (leads-replacing parent x child p i (may-go x parent t s m.apart)).made;
-        bounds = replacement-keeps parent x child p
-            (record { part = i; there = t; parent_there = s; apart = m.apart; opened = m.opened; bounds = h.bounds });
-        roots = lone-plan (replacing parent x child) (keeps-replacing (lone-rules p) parent x child m.plain);
-      }
+    -- a replacement
+    pub ready-replacing : (child : NodeName) → replacement_refusal p.trees parent x child ≡ None → KeepReady p (replacing parent x child p)
+    ready-replacing child r =
+        let m = replacement-tested p.trees parent x child r in
+        ready-by (replacing parent x child) (leads-replacing parent x child p i (may-go x parent t s m.apart)).made
+        (replacement-keeps parent x child p
+        (record { part = i; there = t; parent_there = s; apart = m.apart; opened = m.opened; bounds = h.bounds }))
+        (keeps-replacing (lone-rules p) parent x child m.plain)
 
   -- attributes
   pub ready-attribute : (x : NodeName) (a : Word) (v : DomString) → KeepReady p (setting_attribute x a v p)
   ready-attribute x a v =
-      record {
-        made = (leads-setting_attribute x a v p i).made;
-        bounds = attribute-keeps x a v p i h.bounds;
-        roots = lone-plan (setting_attribute x a v) (keeps-setting_attribute (lone-rules p) x a v (λ old. tt) tt);
-      }
+      ready-by (setting_attribute x a v) (leads-setting_attribute x a v p i).made (attribute-keeps x a v p i h.bounds)
+      (keeps-setting_attribute (lone-rules p) x a v (λ old. tt) tt)
 
   pub ready-no_attribute : (x : NodeName) (a : Word) → KeepReady p (unsetting_attribute x a p)
   ready-no_attribute x a =
-      record {
-        made = (leads-unsetting_attribute x a p i).made;
-        bounds = attribute_removal-keeps x a p i h.bounds;
-        roots = lone-plan (unsetting_attribute x a) (keeps-unsetting_attribute (lone-rules p) x a (λ old. tt) tt);
-      }
+      ready-by (unsetting_attribute x a) (leads-unsetting_attribute x a p i).made (attribute_removal-keeps x a p i h.bounds)
+      (keeps-unsetting_attribute (lone-rules p) x a (λ old. tt) tt)
 
   -- data of a Text or a Comment, or of any node where none come
   pub ready-data : (x : NodeName) (offset count : ℕ) (new : DomString) → (0 < length new → has_data (kind_of p.trees x) ≡ true) →
       KeepReady p (replacing_data x offset count new p)
   ready-data x offset count new k =
-      record {
-        made = (leads-replacing_data x offset count new p i).made;
-        bounds = by_cases (has_data (kind_of p.trees x)) (λ e. data-keeps x offset count new p i e h.bounds) (without new k);
-        roots = lone-plan (replacing_data x offset count new) (keeps-replacing_data (lone-rules p) x offset count new);
-      }
+      ready-by (replacing_data x offset count new) (leads-replacing_data x offset count new p i).made
+      (by_cases (has_data (kind_of p.trees x)) (λ e. data-keeps x offset count new p i e h.bounds) (without new k))
+      (keeps-replacing_data (lone-rules p) x offset count new)
     where
       without : (us : DomString) → (0 < length us → has_data (kind_of p.trees x) ≡ true) → has_data (kind_of p.trees x) ≡ false →
           HasBounds (after p (replacing_data x offset count us p))
@@ -214,30 +192,20 @@ module _ (p : Part) (i : IsPart p) (h : IsReadyPart p) where
   -- a split of a Text
   pub ready-splitting : (x : NodeName) (offset : ℕ) → IsTrue (has_node p.trees x) → is_text (kind_of p.trees x) ≡ true → KeepReady p (splitting x offset p)
   ready-splitting x offset t k =
-      record {
-        made = (leads-splitting x offset p i).made;
-        bounds = split-keeps x offset p i t k h.bounds;
-        roots = lone-plan (splitting x offset) (keeps-splitting (lone-rules p) x offset);
-      }
+      ready-by (splitting x offset) (leads-splitting x offset p i).made (split-keeps x offset p i t k h.bounds) (keeps-splitting (lone-rules p) x offset)
 
   -- normalize()
   pub ready-normalizing : (x : NodeName) → KeepReady p (normalizing x p)
-  ready-normalizing x = record {
-    made = (leads-normalizing x p i).made;
-    bounds = normalization-keeps x p i h.bounds;
-    roots = lone-plan (normalizing x) (keeps-normalizing (lone-rules p) x);
-  }
+  ready-normalizing x =
+      ready-by (normalizing x) (leads-normalizing x p i).made (normalization-keeps x p i h.bounds) (keeps-normalizing (lone-rules p) x)
 
   -- text content, of a node with children
   pub ready-children : (x : NodeName) (new : DomString) → IsTrue (has_node p.trees x) →
       (has_data (kind_of p.trees x) || is_document (kind_of p.trees x)) ≡ false → KeepReady p (replacing_children x new p)
   ready-children x new t inner =
       by (has_data (kind_of p.trees x)) (is_document (kind_of p.trees x)) inner
-      (record {
-        made = (leads-setting_text x new p i (has_node-times p.trees x t)).made;
-        bounds = text_content-keeps x new p i t h.bounds;
-        roots = lone-plan (setting_text x new) (keeps-setting_text (lone-rules p) x new);
-      })
+      (ready-by (setting_text x new) (leads-setting_text x new p i (has_node-times p.trees x t)).made (text_content-keeps x new p i t h.bounds)
+      (keeps-setting_text (lone-rules p) x new))
     where
       by : (a b : Bool) → (a || b) ≡ false → KeepReady p (if a then replacing_all_data x new p else (if b then [] else replacing_children x new p)) →
           KeepReady p (replacing_children x new p)
@@ -262,27 +230,20 @@ module _ (p : Part) (i : IsPart p) (h : IsReadyPart p) where
       from None e = subst (λ o. KeepReady p (option_map_or (λ r. f r p) o [])) (sym e) ready-nothing
       from (Some r) e = subst (λ o. KeepReady p (option_map_or (λ r. f r p) o [])) (sym e) (g r e)
 
-  -- a deletion
+  -- a deletion and an extraction
   pub ready-deleting : (k : ℕ) → KeepReady p (plan_of_range p k (deleting k))
   ready-deleting k =
       ready-of_range k (deleting k)
       (λ r e. let ends = range-ends k r e in
-      record {
-        made = (leads-deleting k r p i (has_node-times p.trees r.start.node ends.start)).made;
-        bounds = deletion-keeps k r p i ends (range-within k r e) h.bounds;
-        roots = lone-plan (deleting k r) (keeps-deleting (lone-rules p) k r);
-      })
+      ready-by (deleting k r) (leads-deleting k r p i (has_node-times p.trees r.start.node ends.start)).made
+      (deletion-keeps k r p i ends (range-within k r e) h.bounds) (keeps-deleting (lone-rules p) k r))
 
-  -- an extraction
   pub ready-extracting : (k : ℕ) → KeepReady p (plan_of_range p k (extracting k))
   ready-extracting k =
       ready-of_range k (extracting k)
       (λ r e. let ends = range-ends k r e in
-      record {
-        made = (leads-extracting k r p i (has_node-times p.trees r.start.node ends.start)).made;
-        bounds = extraction-keeps k r p i ends (range-within k r e) h.bounds;
-        roots = lone-plan (extracting k r) (keeps-extracting (lone-rules p) k r);
-      })
+      ready-by (extracting k r) (leads-extracting k r p i (has_node-times p.trees r.start.node ends.start)).made
+      (extraction-keeps k r p i ends (range-within k r e) h.bounds) (keeps-extracting (lone-rules p) k r))
 
   -- an insertion of a node that a live range can take
   pub ready-inserting_into_range : (k : ℕ) (x : NodeName) → IsTrue (has_node p.trees x) →
@@ -298,13 +259,10 @@ module _ (p : Part) (i : IsPart p) (h : IsReadyPart p) where
       let tables = bare-tables p h.ends in
       let same = bare-inserting_into_range k r x p in
       let steps = inserting_into_range k r x p in
-      record {
-        made = made-bare p steps (subst (MadeIn (bare p)) same
-            (leads-inserting_into_range k x (bare-part p i) tables e
-            (record { there = g.there; owner = g.owner; below = g.below; apart = g.apart })).made);
-        bounds = bounds-bare (after p steps)
-            (subst HasBounds (ap (after (bare p)) same ∙ bare-after p steps)
-            (range_insertion-keeps k r x (bare p)
-            (record { part = bare-part p i; tables = tables; at_k = e; there = t; valid = valid r e; bounds = bare-bounds p h.bounds })));
-        roots = lone-plan (inserting_into_range k r x) (keeps-inserting_into_range (lone-rules p) k r x m.plain);
-      })
+      ready-by (inserting_into_range k r x)
+      (made-bare p steps (subst (MadeIn (bare p)) same
+      (leads-inserting_into_range k x (bare-part p i) tables e (record { there = g.there; owner = g.owner; below = g.below; apart = g.apart })).made))
+      (bounds-bare (after p steps) (subst HasBounds (ap (after (bare p)) same ∙ bare-after p steps)
+      (range_insertion-keeps k r x (bare p)
+      (record { part = bare-part p i; tables = tables; at_k = e; there = t; valid = valid r e; bounds = bare-bounds p h.bounds }))))
+      (keeps-inserting_into_range (lone-rules p) k r x m.plain))

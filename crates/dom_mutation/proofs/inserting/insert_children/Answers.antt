@@ -1,14 +1,16 @@
-use Rattle.std.proofs.Common.{map, length, ap, ◌∙◌, arith}
+use Rattle.std.proofs.Common.{◌≡◌, List, map, length, option_map, sym, ap, ◌∙◌, arith}
 use Rattle.std.proofs.lemmas.List.{length-map}
-use Rattle.dom_base.specs.declared.NodeName.{NodeName}
 use Rattle.std.proofs.lemmas.Result.{on_ok_weaker}
-use Rattle.dom_mutation.proofs.Turns.{all_may_now, child_now}
-use Rattle.dom_mutation.proofs.Inserted.{are_inside, all_may, stays_emptied, inserted_fragment, some_left}
-use Rattle.dom_model.specs.Changes.{emptying}
+use Rattle.dom_base.specs.declared.NodeName.{NodeName}
+use Rattle.dom_model.specs.Changes.{emptying, sibling_before}
+use Rattle.dom_model.specs.Names.{is_empty}
+use Rattle.dom_model.specs.Tree.{children_of, kind_of, is_fragment}
 use Rattle.dom_model.specs.World.{part_of}
-use Rattle.dom_parts.specs.Doc.{DocState, name_in, owner_in, planned}
+use Rattle.dom_parts.specs.Doc.{DocState, name_in, owner_in, placed_all, planned, trees_in}
 use Rattle.dom_mutation.specs.Observing.{observing_of}
 use Rattle.dom_mutation.proofs.BoundedDocs.{bounds_emptied, bounds_at, children_limited}
+use Rattle.dom_mutation.proofs.Inserted.{are_inside, all_may, stays_emptied, inserted_children, some_left, some_named}
+use Rattle.dom_mutation.proofs.Turns.{all_may_now, child_now}
 use Rattle.dom_mutation.proofs.inserting.insert_children.Goals as goal
 
 pub place_all-requires-clause-may_move : goal.place_all-requires-clause-may_move
@@ -34,28 +36,31 @@ place_all-requires-clause-before_is_child c =
     c.empty.new.parts (map (name_in d) c.args.children.now) c.in_ok-empty.ensures.state c.in_ok-empty.ensures.paths)
     c.requires.before_is_child
 
+-- of a fragment
 pub returns : goal.returns
 returns c =
-    on_ok_weaker c.place_all.result (λ placed. inserted_fragment (record {
-      start = c.args.parts.now;
-      emptied_state = c.empty.new.parts;
-      end = c.place_all.new.parts;
-      alone = c.laws.ensures.alone;
-      how = observing_of c.args.how;
-      parent = c.args.parent;
-      fragment = c.args.fragment;
-      before = c.args.before;
-      prev = c.args.prev;
-      children = c.args.children.now;
-      parent_is = c.requires.parent_is_node;
-      may = c.requires.may_move;
-      is_fragment_kind = c.requires.is_fragment;
-      prev_is = c.requires.prev_is_before;
-      listed = c.requires.are_children;
-      some_children = some_left c.args.children.now c.if-is_empty.ensures;
-      emptied = c.in_ok-empty.ensures.state;
-      placed = placed;
-    })) c.place_all.ensures
+    let d = c.args.parts.now in
+    let o = owner_in d c.args.parent in
+    let x = name_in d c.args.fragment in
+    let p = name_in d c.args.parent in
+    let ts = trees_in d c.args.parent in
+    let ref = option_map (name_in d) c.args.before in
+    let how = observing_of c.args.how in
+    let ks = c.args.children.now in
+    let may = c.requires.may_move in
+    let own : trees_in d c.args.fragment ≡ ts = ap (λ w. (part_of d.world w).trees) may.owner in
+    let children : map (name_in d) ks ≡ children_of ts x = c.requires.are_children ∙ ap (λ t. children_of t x) own in
+    let emptied : List NodeName → DocState = λ xs. planned o (emptying x xs) d in
+    on_ok_weaker c.place_all.result
+    (λ placed. placed ∙ ap (λ (s : DocState). placed_all how (map (name_in s) ks) (name_in s c.args.parent) (option_map (name_in s) c.args.before)
+    (option_map (name_in s) c.args.prev) (owner_in s c.args.parent) s)
+    (c.in_ok-empty.ensures.state ∙ ap (λ w. planned w (emptying x (map (name_in d) ks)) d) may.owner)
+    ∙ ap (λ q. placed_all how (map (name_in d) ks) p ref q o (emptied (map (name_in d) ks))) c.requires.prev_is_before
+    ∙ ap (λ xs. placed_all how xs p ref (sibling_before ts p ref) o (emptied xs)) children
+    ∙ inserted_children o how x p ref d (c.laws.ensures.alone c.args.parent c.requires.parent_is_node) may.owner
+    (ap (λ t. is_fragment (kind_of t x)) (sym own) ∙ c.requires.is_fragment)
+    (ap is_empty (sym children) ∙ some_named d ks (some_left ks c.if-is_empty.ensures)))
+    c.place_all.ensures
 
 pub place_all-requires-clause-bounds : goal.place_all-requires-clause-bounds
 place_all-requires-clause-bounds c =

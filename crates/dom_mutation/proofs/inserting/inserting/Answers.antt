@@ -1,24 +1,24 @@
-use Rattle.std.proofs.Common.{option_map, sym, ◌∙◌}
+use Rattle.std.proofs.Common.{[], ◌∷◌, option_map, sym, ap, ◌∙◌}
 use Rattle.std.proofs.lemmas.Result.{on_ok_weaker}
-use Rattle.dom_parts.specs.Doc.{name_in}
+use Rattle.dom_model.specs.Tree.{kind_of, is_fragment}
+use Rattle.dom_model.specs.World.{part_of}
+use Rattle.dom_parts.specs.Doc.{name_in, owner_in, placed_all}
 use Rattle.dom_mutation.specs.Observing.{observing_of}
-use Rattle.dom_mutation.proofs.Inserted.{inserted_single}
+use Rattle.dom_mutation.proofs.Inserted.{inserted_one}
 use Rattle.dom_mutation.proofs.inserting.inserting.Goals as goal
 
+-- of one node
 pub returns : goal.returns
 returns c =
-    on_ok_weaker c.place_all.result (λ placed. inserted_single (record {
-      start = c.args.parts.now;
-      end = c.place_all.new.parts;
-      alone = c.laws.ensures.alone;
-      how = observing_of c.args.how;
-      parent = c.args.parent;
-      node = c.args.node;
-      before = c.args.before;
-      prev = option_map (name_in c.args.parts.now) c.sibling_before-prev.result;
-      parent_is = c.requires.parent_is_node;
-      may = c.requires.may_move;
-      no_fragment = sym c.is_fragment.ensures ∙ c.if-is_fragment.false;
-      prev_is = c.sibling_before-prev.ensures.value;
-      placed = placed;
-    })) c.place_all.ensures
+    let d = c.args.parts.now in
+    let o = owner_in d c.args.parent in
+    let x = name_in d c.args.node in
+    let p = name_in d c.args.parent in
+    let how = observing_of c.args.how in
+    let ref = option_map (name_in d) c.args.before in
+    let may = c.requires.may_move in
+    on_ok_weaker c.place_all.result
+    (λ placed. placed ∙ ap (λ q. placed_all how (x ∷ []) p ref q o d) c.sibling_before-prev.ensures.value
+    ∙ inserted_one o how x p ref d (c.laws.ensures.alone c.args.parent c.requires.parent_is_node) may.owner
+    (ap (λ w. is_fragment (kind_of (part_of d.world w).trees x)) (sym may.owner) ∙ sym c.is_fragment.ensures ∙ c.if-is_fragment.false))
+    c.place_all.ensures

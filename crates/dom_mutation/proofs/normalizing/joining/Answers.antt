@@ -1,11 +1,17 @@
-use Rattle.std.proofs.Common.{◌<◌, List, length, subst, sym, ap, ◌∙◌}
+use Rattle.std.proofs.Common.{◌<◌, ℕ, List, length, map, subst, sym, ap, ◌∙◌}
 use Rattle.std.proofs.lemmas.Result.{on_ok_weaker}
 use Rattle.dom_base.specs.declared.NodeName.{NodeName}
 use Rattle.dom_worlds.proofs.RangeLemmas.{text-data}
-use Rattle.dom_model.specs.Tree.{kind_of}
-use Rattle.dom_parts.specs.Doc.{DocState, name_in, trees_in}
-use Rattle.dom_mutation.proofs.Joined.{own_nodes, joined_whole}
-use Rattle.dom_mutation.proofs.Joining.{joining_exact, joining_fits, joining_bounds}
+use Rattle.dom_model.specs.Changes.{Plan, ◌and_then◌, in_turn, steps_of, observed, removing}
+use Rattle.dom_model.specs.Names.{DomString}
+use Rattle.dom_model.specs.TextChanges.{replacing_data, joins}
+use Rattle.dom_model.specs.Tree.{kind_of, length_of}
+use Rattle.dom_parts.specs.Doc.{DocState, name_in, owner_in, planned, trees_in}
+use Rattle.dom_parts.proofs.Made.{planned_then}
+use Rattle.dom_parts.proofs.OwnPlans.{plans_then, plans_data, plans_joins}
+use Rattle.dom_mutation.proofs.Joined.{own_nodes}
+use Rattle.dom_mutation.proofs.Joining.{IsGrown, grown_for}
+use Rattle.dom_mutation.proofs.normalizing.joining.Goals.{In_ok-replacing_data}
 use Rattle.dom_mutation.proofs.normalizing.joining.Goals as goal
 
 pub replacing_data-requires-clause-may_come : goal.replacing_data-requires-clause-may_come
@@ -17,21 +23,20 @@ join_each-requires-clause-nexts_are_nodes c =
     own_nodes c.args.parts.now c.replacing_data.new.parts c.args.node c.args.nexts.now
     (ap (λ (s : DocState). s.names) c.in_ok-replacing_data.ensures) c.requires.nexts_are_nodes
 
-pub join_each-requires-clause-bounds : goal.join_each-requires-clause-bounds
-join_each-requires-clause-bounds c =
+-- what the joins ask, and which they are, once the data came
+joined : (c : In_ok-replacing_data) → IsGrown c.args.parts.now c.replacing_data.new.parts c.args.node c.args.parent c.length-size.result c.args.nexts.now
+joined c =
     let d = c.args.parts.now in
-    joining_bounds d c.replacing_data.new.parts c.args.node c.args.parent c.length-size.result c.in_ok-units.units.items c.args.nexts.now
+    grown_for d c.replacing_data.new.parts c.args.node c.args.parent c.length-size.result c.in_ok-units.units.items c.args.nexts.now
     (c.laws.ensures.alone c.args.node c.requires.node_is_node) (c.laws.ensures.parts _) c.requires.bounds
     (c.laws.ensures.stand c.args.node c.requires.node_is_node) c.requires.is_text c.requires.is_parent c.requires.are_nexts c.length-size.ensures
     c.in_ok-units.ensures c.in_ok-replacing_data.ensures
 
+pub join_each-requires-clause-bounds : goal.join_each-requires-clause-bounds
+join_each-requires-clause-bounds c = (joined (goal.at.join_each-requires-clause-bounds c).In_ok-replacing_data).bounds
+
 pub join_each-requires-clause-fit : goal.join_each-requires-clause-fit
-join_each-requires-clause-fit c =
-    let d = c.args.parts.now in
-    joining_fits d c.replacing_data.new.parts c.args.node c.args.parent c.length-size.result c.in_ok-units.units.items c.args.nexts.now
-    (c.laws.ensures.alone c.args.node c.requires.node_is_node) (c.laws.ensures.parts _) c.requires.bounds
-    (c.laws.ensures.stand c.args.node c.requires.node_is_node) c.requires.is_text c.requires.is_parent c.requires.are_nexts c.length-size.ensures
-    c.in_ok-units.ensures c.in_ok-replacing_data.ensures
+join_each-requires-clause-fit c = (joined (goal.at.join_each-requires-clause-fit c).In_ok-replacing_data).fit
 
 pub take_each-requires-clause-top_is_node : goal.take_each-requires-clause-top_is_node
 take_each-requires-clause-top_is_node c =
@@ -45,27 +50,32 @@ take_each-requires-clause-children_are_nodes c =
     (ap (λ (s : DocState). s.names) c.join_each.ensures ∙ ap (λ (s : DocState). s.names) c.in_ok-replacing_data.ensures)
     c.requires.nexts_are_nodes
 
+-- the steps are the plan's
 pub returns : goal.returns
 returns c =
     let d = c.args.parts.now in
-    on_ok_weaker c.take_each.result (λ taken_out. joined_whole (record {
-      start = d;
-      replaced_state = c.replacing_data.new.parts;
-      carried_state = c.join_each.new.self;
-      end = c.take_each.new.parts;
-      node = c.args.node;
-      parent = c.args.parent;
-      size = c.length-size.result;
-      units = c.in_ok-units.units.items;
-      texts = c.args.nexts.now;
-      alone = c.laws.ensures.alone c.args.node c.requires.node_is_node;
-      sized = c.length-size.ensures;
-      collected = c.in_ok-units.ensures;
-      replaced = c.in_ok-replacing_data.ensures;
-      same_steps = joining_exact d c.replacing_data.new.parts c.args.node c.args.parent c.length-size.result c.in_ok-units.units.items c.args.nexts.now
-          (c.laws.ensures.alone c.args.node c.requires.node_is_node) (c.laws.ensures.parts _) c.requires.bounds
-          (c.laws.ensures.stand c.args.node c.requires.node_is_node) c.requires.is_text c.requires.is_parent c.requires.are_nexts c.length-size.ensures
-          c.in_ok-units.ensures c.in_ok-replacing_data.ensures;
-      carried = c.join_each.ensures;
-      taken_out = taken_out;
-    })) c.take_each.ensures.state
+    let node = c.args.node in
+    let ks = c.args.nexts.now in
+    let size = c.length-size.result in
+    let units = c.in_ok-units.units.items in
+    let o = owner_in d node in
+    let x = name_in d node in
+    let q = name_in d c.args.parent in
+    let ts = trees_in d node in
+    let ys = map (name_in d) ks in
+    let alone = c.laws.ensures.alone node c.requires.node_is_node in
+    let carry : DocState → DocState = λ s. planned (owner_in s node)
+    (steps_of (joins ts (name_in s node) (name_in s c.args.parent) size (map (name_in s) ks))) s in
+    let leave : DocState → DocState = λ s. planned (owner_in s node) (in_turn (removing observed) (map (name_in s) ks)) s in
+    let put : ℕ → DomString → Plan = λ n u. replacing_data x n 0 u and_then steps_of (joins ts x q n ys) in
+    let all : ℕ → DomString → DocState = λ n u. planned o (put n u and_then in_turn (removing observed) ys) d in
+    let e = c.replacing_data.new.parts in
+    on_ok_weaker c.take_each.result
+    (λ taken. taken
+    ∙ ap leave (c.join_each.ensures ∙ ap (λ steps. planned (owner_in e node) (steps_of steps) e) (joined (goal.at.returns c).In_ok-replacing_data).exact)
+    ∙ ap (λ s. leave (carry s)) c.in_ok-replacing_data.ensures
+    ∙ ap (planned o (in_turn (removing observed) ys))
+    (planned_then o (replacing_data x size 0 units) (steps_of (joins ts x q size ys)) d alone (plans_data o x size 0 units))
+    ∙ planned_then o (put size units) (in_turn (removing observed) ys) d alone
+    (plans_then o (replacing_data x size 0 units) (steps_of (joins ts x q size ys)) (plans_data o x size 0 units) (λ p own. plans_joins o ts x q size ys))
+    ∙ ap (λ n. all n units) c.length-size.ensures ∙ ap (all (length_of ts x)) c.in_ok-units.ensures) c.take_each.ensures.state

@@ -1,13 +1,19 @@
-use Rattle.std.proofs.Common.{◌≡◌, ◌∷◌, [], ℕ, List, map, option_map, sym, ap, subst, ◌∙◌}
+use Rattle.std.proofs.Common.{◌≡◌, ◌∷◌, [], ℕ, List, Option, map, option_map, sym, ap, subst, ◌∙◌}
 use Rattle.std.proofs.lemmas.Result.{on_ok_weaker}
+use Rattle.dom_base.specs.declared.NodeName.{NodeName}
+use Rattle.dom_model.specs.Changes.{Plan, ◌and_then◌, doing, suppressed, removing, inserting, placed_nodes, reference_for}
 use Rattle.dom_model.specs.Output.{child_list}
 use Rattle.dom_model.specs.Steps.{queue_record}
-use Rattle.dom_parts.specs.Doc.{DocState, AreNodes, name_in, owner_in, planned, stepped}
-use Rattle.dom_mutation.proofs.Nodes.{nodes_kept}
-use Rattle.dom_mutation.proofs.Turns.{may_now, child_now}
-use Rattle.dom_mutation.proofs.Replaced.{next_is_near, stays_removed, replaced_whole}
-use Rattle.dom_model.specs.Changes.{removing, suppressed}
+use Rattle.dom_model.specs.Tree.{next_sibling, previous_sibling}
+use Rattle.dom_model.specs.World.{part_of}
+use Rattle.dom_parts.specs.Doc.{DocState, AreNodes, name_in, owner_in, planned, stepped, trees_in}
+use Rattle.dom_parts.proofs.Made.{planned_then}
+use Rattle.dom_parts.proofs.OwnPlans.{plans_then, plans_removing, plans_inserting}
 use Rattle.dom_mutation.proofs.BoundedDocs.{bounds_removed, bounds_at}
+use Rattle.dom_mutation.proofs.Nodes.{nodes_kept}
+use Rattle.dom_mutation.proofs.Replaced.{next_is_near, stays_removed}
+use Rattle.dom_mutation.proofs.Turns.{Stays, may_now, child_now}
+use Rattle.dom_mutation.proofs.replacing.replacing.Goals.{In_ok-removing}
 use Rattle.dom_mutation.proofs.replacing.replacing.Goals as goal
 
 pub reference_child-reference-requires-clause-child_is_child : goal.reference_child-reference-requires-clause-child_is_child
@@ -15,13 +21,17 @@ reference_child-reference-requires-clause-child_is_child c =
     next_is_near c.laws.ensures.once c.next-next.result c.requires.child_is_child
     c.next-next.ensures.value c.next-next.ensures.node c.next-next.ensures.owner
 
+-- what is around the place stays
+stays : (c : In_ok-removing) → Stays c.args.parent c.reference_child-reference.result c.args.parts.now c.removing.new.parts
+stays c =
+    stays_removed c.args.parts.now c.removing.new.parts c.laws.ensures.once c.laws.ensures.alone c.args.parent c.args.node c.args.child
+    c.next-next.result c.reference_child-reference.result c.requires.child_is_child
+    c.next-next.ensures.value c.reference_child-reference.ensures.value c.in_ok-removing.ensures c.reference_child-reference.ensures.child
+
 pub inserting-requires-clause-may_move : goal.inserting-requires-clause-may_move
 inserting-requires-clause-may_move c =
     may_now c.args.parent c.reference_child-reference.result c.args.parts.now c.removing.new.parts
-    (stays_removed c.args.parts.now c.removing.new.parts c.laws.ensures.once c.laws.ensures.alone c.args.parent c.args.node c.args.child
-    c.next-next.result c.reference_child-reference.result c.requires.child_is_child
-    c.next-next.ensures.value c.reference_child-reference.ensures.value c.in_ok-removing.ensures c.reference_child-reference.ensures.child)
-    c.args.node (record {
+    (stays (goal.at.inserting-requires-clause-may_move c).In_ok-removing) c.args.node (record {
       node = c.requires.node_is_node;
       owner = c.requires.node_owner;
       not_above = c.requires.not_above;
@@ -31,39 +41,43 @@ inserting-requires-clause-may_move c =
 pub inserting-requires-clause-before_is_child : goal.inserting-requires-clause-before_is_child
 inserting-requires-clause-before_is_child c =
     child_now c.args.parent c.reference_child-reference.result c.args.parts.now c.removing.new.parts
-    (stays_removed c.args.parts.now c.removing.new.parts c.laws.ensures.once c.laws.ensures.alone c.args.parent c.args.node c.args.child
-    c.next-next.result c.reference_child-reference.result c.requires.child_is_child
-    c.next-next.ensures.value c.reference_child-reference.ensures.value c.in_ok-removing.ensures c.reference_child-reference.ensures.child)
-    c.reference_child-reference.ensures.child
+    (stays (goal.at.inserting-requires-clause-before_is_child c).In_ok-removing) c.reference_child-reference.ensures.child
 
+-- the steps are the plan's
 pub returns-clause-world : goal.returns-clause-world
 returns-clause-world c =
-    let f = c.inserting.new.parts in
-    on_ok_weaker c.tell_children.result (λ told. replaced_whole (record {
-      start = c.args.parts.now;
-      without_child = c.removing.new.parts;
-      with_node = f;
-      end = c.tell_children.new.self;
-      parent = c.args.parent;
-      node = c.args.node;
-      child = c.args.child;
-      added = c.in_ok-added.added.items;
-      prev = c.prev-prev.result;
-      next = c.next-next.result;
-      reference = c.reference_child-reference.result;
-      alone = c.laws.ensures.alone c.args.parent c.requires.parent_is_node;
-      node_owner = c.requires.node_owner;
-      child_owner = c.requires.child_is_child.owner;
-      placed = c.in_ok-added.ensures.value;
-      prev_is = c.prev-prev.ensures.value;
-      next_is = c.next-next.ensures.value;
-      reference_is = c.reference_child-reference.ensures.value;
-      removed = c.in_ok-removing.ensures;
-      inserted = c.in_ok-inserting.ensures;
-      told = told ∙ ap (λ (ks : List ℕ). stepped (owner_in f c.args.parent)
-          (queue_record (child_list (name_in f c.args.parent) (map (name_in f) ks) (name_in f c.args.child ∷ []) (option_map (name_in f) c.prev-prev.result)
-          (option_map (name_in f) c.reference_child-reference.result))) f) c.as_slice.ensures.value;
-    }))
+    let d = c.args.parts.now in
+    let parent = c.args.parent in
+    let o = owner_in d parent in
+    let p = name_in d parent in
+    let x = name_in d c.args.node in
+    let y = name_in d c.args.child in
+    let ts = trees_in d parent in
+    let added = c.in_ok-added.added.items in
+    let before = option_map (name_in d) c.prev-prev.result in
+    let ref = option_map (name_in d) c.reference_child-reference.result in
+    let alone = c.laws.ensures.alone parent c.requires.parent_is_node in
+    let child_owner = c.requires.child_is_child.owner in
+    let tell : List ℕ → DocState → DocState = λ ks s. stepped (owner_in s parent)
+    (queue_record (child_list (name_in s parent) (map (name_in s) ks) (name_in s c.args.child ∷ []) (option_map (name_in s) c.prev-prev.result)
+    (option_map (name_in s) c.reference_child-reference.result))) s in
+    let put : DocState → DocState = λ s. planned (owner_in s parent)
+    (inserting suppressed (name_in s c.args.node) (name_in s parent) (option_map (name_in s) c.reference_child-reference.result)) s in
+    let take : Plan = removing suppressed y in
+    let record_of : List NodeName → Option NodeName → Option NodeName → Plan = λ xs a b. doing (queue_record (child_list p xs (y ∷ []) a b)) in
+    let all : List NodeName → Option NodeName → Option NodeName → DocState =
+    λ xs a b. planned o (take and_then inserting suppressed x p b and_then record_of xs a b) d in
+    on_ok_weaker c.tell_children.result
+    (λ told. told ∙ ap (λ ks. tell ks c.inserting.new.parts) c.as_slice.ensures.value ∙ ap (tell added) c.in_ok-inserting.ensures
+    ∙ ap (λ s. tell added (put s)) (c.in_ok-removing.ensures ∙ ap (λ w. planned w take d) child_owner)
+    ∙ ap (planned o (record_of (map (name_in d) added) before ref))
+    (planned_then o take (inserting suppressed x p ref) d alone (plans_removing o suppressed y))
+    ∙ planned_then o (take and_then inserting suppressed x p ref) (record_of (map (name_in d) added) before ref) d alone
+    (plans_then o take (inserting suppressed x p ref) (plans_removing o suppressed y) (plans_inserting o suppressed x p ref c.requires.node_owner))
+    ∙ ap (λ xs. all xs before ref) (c.in_ok-added.ensures.value ∙ ap (λ w. placed_nodes (part_of d.world w).trees x) c.requires.node_owner)
+    ∙ ap (λ a. all (placed_nodes ts x) a ref) (c.prev-prev.ensures.value ∙ ap (λ w. previous_sibling (part_of d.world w).trees y) child_owner)
+    ∙ ap (λ b. all (placed_nodes ts x) (previous_sibling ts y) b) (c.reference_child-reference.ensures.value
+    ∙ ap (reference_for ts x) (c.next-next.ensures.value ∙ ap (λ w. next_sibling (part_of d.world w).trees y) child_owner)))
     c.tell_children.ensures
 
 pub tell_children-requires-clause-added_are_nodes : goal.tell_children-requires-clause-added_are_nodes

@@ -1,10 +1,14 @@
-use Rattle.std.proofs.Common.{ap, subst, ◌∙◌, arith}
+use Rattle.std.proofs.Common.{ℕ, option_map, sym, ap, subst, ◌∙◌, arith}
 use Rattle.dom_worlds.specs.Bounds.{HasBounds}
+use Rattle.dom_model.specs.Changes.{Plan, ◌and_then◌, observed, inserting, doing}
+use Rattle.dom_model.specs.Steps.{split_at}
 use Rattle.dom_model.specs.Tree.{index_of}
 use Rattle.dom_model.specs.World.{part_of}
-use Rattle.dom_parts.specs.Doc.{name_in, owner_in}
+use Rattle.dom_parts.specs.Doc.{DocState, name_in, owner_in, planned, stepped, trees_in}
+use Rattle.dom_parts.proofs.Made.{planned_then}
+use Rattle.dom_parts.proofs.OwnPlans.{plans_inserting}
 use Rattle.dom_mutation.proofs.Replaced.{next_is_near}
-use Rattle.dom_mutation.proofs.Tails.{tail_may, tail_placed}
+use Rattle.dom_mutation.proofs.Tails.{tail_may}
 use Rattle.dom_mutation.proofs.BoundedDocs.{index_limited}
 use Rattle.dom_mutation.proofs.splitting.placing_tail.Goals as goal
 
@@ -20,26 +24,26 @@ inserting-requires-clause-before_is_child c =
     next_is_near c.laws.ensures.once c.next-next.result c.requires.node_is_child
     c.next-next.ensures.value c.next-next.ensures.node c.next-next.ensures.owner
 
+-- the steps are the plan's
 pub returns : goal.returns
 returns c =
-    tail_placed (record {
-      start = c.args.parts.now;
-      with_tail = c.inserting.new.parts;
-      end = c.split_at.new.self;
-      parent = c.args.parent;
-      node = c.args.node;
-      new = c.args.new;
-      offset = c.args.offset;
-      next = c.next-next.result;
-      alone = c.laws.ensures.alone c.args.node c.requires.node_is_child.node;
-      owner = c.requires.node_is_child.owner;
-      new_owner = c.requires.one_owner;
-      next_is = c.next-next.ensures.value;
-      inserted = c.in_ok-inserting.ensures;
-      index = c.index-index.result;
-      index_is = c.index-index.ensures;
-      moved = c.split_at.ensures;
-    })
+    let d = c.args.parts.now in
+    let node = c.args.node in
+    let o = owner_in d node in
+    let x = name_in d node in
+    let y = name_in d c.args.new in
+    let p = name_in d c.args.parent in
+    let put = inserting observed y p (option_map (name_in d) c.next-next.result) in
+    let owner = c.requires.node_is_child.owner in
+    let tell : ℕ → DocState → DocState = λ i s. stepped (owner_in s node)
+    (split_at (name_in s node) c.args.offset (name_in s c.args.new) (name_in s c.args.parent) i) s in
+    let at = index_of (trees_in d node) x in
+    let split : Plan = doing (split_at x c.args.offset y p at) in
+    c.split_at.ensures ∙ ap (λ i. tell i c.inserting.new.parts) c.index-index.ensures
+    ∙ ap (tell at) (c.in_ok-inserting.ensures ∙ ap (λ w. planned w put d) (sym owner))
+    ∙ planned_then o put split d (c.laws.ensures.alone node c.requires.node_is_child.node)
+    (plans_inserting o observed y p (option_map (name_in d) c.next-next.result) (c.requires.one_owner ∙ sym owner))
+    ∙ ap (λ r. planned o (inserting observed y p r and_then split) d) c.next-next.ensures.value
 
 pub inserting-requires-clause-bounds : goal.inserting-requires-clause-bounds
 inserting-requires-clause-bounds c = subst (λ o. HasBounds (part_of c.args.parts.now.world o)) c.requires.node_is_child.owner c.requires.bounds

@@ -1,11 +1,14 @@
 use Rattle.std.proofs.Common.{◌≡◌, subst, ℕ, [], ◌∷◌, List, None, map, ap, sym, ◌∙◌}
 use Rattle.std.proofs.lemmas.Result.{on_ok_weaker}
+use Rattle.dom_base.specs.declared.NodeName.{NodeName}
+use Rattle.dom_model.specs.Changes.{Plan, ◌and_then◌, doing, in_turn, suppressed, removing, inserting}
 use Rattle.dom_model.specs.Output.{child_list}
 use Rattle.dom_model.specs.Steps.{queue_record}
-use Rattle.dom_parts.specs.Doc.{DocState, AreNodes, name_in, owner_in, stepped}
+use Rattle.dom_parts.specs.Doc.{DocState, AreNodes, name_in, owner_in, planned, stepped}
+use Rattle.dom_parts.proofs.Made.{planned_then}
+use Rattle.dom_parts.proofs.OwnPlans.{plans_then, plans_each, plans_removing, plans_inserting}
 use Rattle.dom_mutation.proofs.Nodes.{nodes_kept, own_nodes}
-use Rattle.dom_mutation.proofs.Emptied.{text_may, put_whole}
-use Rattle.dom_model.specs.Changes.{suppressed}
+use Rattle.dom_mutation.proofs.Emptied.{text_may}
 use Rattle.dom_mutation.proofs.BoundedDocs.{bounds_cleared, bounds_at}
 use Rattle.dom_mutation.proofs.texts.put_text.Goals as goal
 
@@ -16,27 +19,30 @@ inserting-requires-clause-may_move c =
     (ap (map (name_in d)) c.as_slice.ensures.value ∙ c.in_ok-children.ensures.names)
     c.in_ok-take_each.ensures.state c.in_ok-take_each.ensures.paths c.requires.text_is_node c.requires.one_owner c.requires.not_above
 
+-- the steps are the plan's
 pub returns : goal.returns
 returns c =
     let d = c.args.parts.now in
-    let f = c.inserting.new.parts in
-    on_ok_weaker c.tell_children.result (λ told. put_whole (record {
-      start = d;
-      emptied_state = c.take_each.new.parts;
-      with_text = f;
-      end = c.tell_children.new.self;
-      node = c.args.node;
-      text = c.args.text;
-      children = c.as_slice.result.now;
-      alone = c.laws.ensures.alone c.args.node c.requires.node_is_node;
-      text_owner = c.requires.one_owner;
-      listed = ap (map (name_in d)) c.as_slice.ensures.value ∙ c.in_ok-children.ensures.names;
-      taken = c.in_ok-take_each.ensures.state;
-      inserted = c.in_ok-inserting.ensures;
-      told = told ∙ ap (λ (ks : List ℕ). stepped (owner_in f c.args.node)
-          (queue_record (child_list (name_in f c.args.node) (name_in f c.args.text ∷ []) (map (name_in f) ks) None None)) f) (c.as_slice-2.ensures.value
-          ∙ sym c.as_slice.ensures.value);
-    }))
+    let node = c.args.node in
+    let o = owner_in d node in
+    let x = name_in d node in
+    let y = name_in d c.args.text in
+    let ks = c.as_slice.result.now in
+    let alone = c.laws.ensures.alone node c.requires.node_is_node in
+    let tell : List ℕ → DocState → DocState = λ js s. stepped (owner_in s node)
+    (queue_record (child_list (name_in s node) (name_in s c.args.text ∷ []) (map (name_in s) js) None None)) s in
+    let put : DocState → DocState = λ s. planned (owner_in s node) (inserting suppressed (name_in s c.args.text) (name_in s node) None) s in
+    let clear : List NodeName → Plan = in_turn (removing suppressed) in
+    let record_of : List NodeName → Plan = λ zs. doing (queue_record (child_list x (y ∷ []) zs None None)) in
+    let cleared = plans_each o (removing suppressed) (plans_removing o suppressed) (map (name_in d) ks) in
+    on_ok_weaker c.tell_children.result
+    (λ told. told ∙ ap (λ js. tell js c.inserting.new.parts) (c.as_slice-2.ensures.value ∙ sym c.as_slice.ensures.value)
+    ∙ ap (tell ks) c.in_ok-inserting.ensures ∙ ap (λ s. tell ks (put s)) c.in_ok-take_each.ensures.state
+    ∙ ap (planned o (record_of (map (name_in d) ks))) (planned_then o (clear (map (name_in d) ks)) (inserting suppressed y x None) d alone cleared)
+    ∙ planned_then o (clear (map (name_in d) ks) and_then inserting suppressed y x None) (record_of (map (name_in d) ks)) d alone
+    (plans_then o (clear (map (name_in d) ks)) (inserting suppressed y x None) cleared (plans_inserting o suppressed y x None c.requires.one_owner))
+    ∙ ap (λ zs. planned o (clear zs and_then inserting suppressed y x None and_then record_of zs) d)
+    (ap (map (name_in d)) c.as_slice.ensures.value ∙ c.in_ok-children.ensures.names))
     c.tell_children.ensures
 
 pub inserting-requires-clause-bounds : goal.inserting-requires-clause-bounds

@@ -19,7 +19,7 @@ invariant_of-self c =
     planned-done c.self.inside.parts d c.replacing.new.parts c.self.view_is
     (record { alone = c.laws.ensures.alone; parts = c.laws.ensures.parts; stand = c.laws.ensures.stand }) parent
     c.requires.parent_is_node (λ a. replacing (name_in a parent) (name_in a node) (name_in a c.args.child))
-    (λ l i r. ready-replacing _ i r (name_in d parent) (name_in d node) (name_in d c.args.child)
-    (stands-in d node (owner_in d parent) l c.requires.node_is_node c.requires.node_owner) (l.stand parent c.requires.parent_is_node)
+    (λ l i r. ready-replacing _ i r (name_in d node) (name_in d parent)
+    (stands-in d node (owner_in d parent) l c.requires.node_is_node c.requires.node_owner) (l.stand parent c.requires.parent_is_node) (name_in d c.args.child)
     (ap test (sym c.self.view_is) ∙ (sym c.check_replace.ensures ∙ ap err_of c.in_default.is)))
     c.in-Ok.ensures.world c.self.invariant
