@@ -23,7 +23,7 @@ use Rattle.dom_parts.proofs.Made.{made_then, made_turn, planned_then, alone_made
 use Rattle.dom_parts.proofs.OwnPlans.{plans_then, plans_turn, plans_each, plans_removing, plans_inserting}
 use Rattle.dom_mutation.proofs.Placed.{Counted, once_in}
 use Rattle.dom_mutation.proofs.Replaced.{child_below}
-use Rattle.dom_mutation.proofs.Grown.{same_name, new_name, same_children, alone_new}
+use Rattle.dom_mutation.proofs.Grown.{IsMade, same_name, new_name, same_children, alone_new}
 
 -- a node's children are not above it
 pub none_above_parent : (d : DocState) → Counted d → (node : ℕ) (ks : List ℕ) →
@@ -116,10 +116,7 @@ none_left [] e = refl
 none_left (k ∷ ks) e = let h = eqb-true (length (k ∷ ks)) 0 (sym e) in absurd (omega arith)
 
 -- ---- after the Text was made
-module _ (d e : DocState) (node new : ℕ) (doc : Option NodeName) (text : DomString)
-    (names : e.names ≡ d.names ++ next_name (part_of d.world (owner_in d node)) ∷ [])
-    (world : e.world ≡ made (owner_in d node) (doing (make (new_text_node (next_name (part_of d.world (owner_in d node))) doc text))) d.world)
-    (key : new ≡ length d.names) (node_is : node < length d.names) (alone : IsAlone d.world (owner_in d node))
+module _ {d e : DocState} {node new : ℕ} {doc : Option NodeName} {text : DomString} (is_made : IsMade d e node new doc text)
     (distinct : (j k : ℕ) → j < length e.names → k < length e.names → name_in e j ≡ name_in e k → j ≡ k) (counted : Counted e) where
   abbrev p : Owner
   p = owner_in d node
@@ -163,21 +160,21 @@ module _ (d e : DocState) (node new : ℕ) (doc : Option NodeName) (text : DomSt
       let clear_own = plans_each p (removing suppressed) (plans_removing p suppressed) old in
       let put_own = plans_inserting p suppressed y z None (owner-part_of d.world p) in
       let cleared_own = plans_then p make_plan (clear_plan old) made_own clear_own in
-      let now = alone_new d e node new doc text names world key node_is alone in
+      let now = alone_new is_made in
       ap (λ (s : DocState). s.world) is
-      ∙ ap (λ (w : NodeName). made w.owner (putting_text w (name_in e new)) e.world) (same_name d e node new doc text names world key node_is alone)
-      ∙ ap (λ (w : NodeName). made p (putting_text z w) e.world) (new_name d e node new doc text names world key node_is alone)
+      ∙ ap (λ (w : NodeName). made w.owner (putting_text w (name_in e new)) e.world) (same_name is_made)
+      ∙ ap (λ (w : NodeName). made p (putting_text z w) e.world) (new_name is_made)
       ∙ ap (λ zs. made p (clear_plan zs and_then put_plan y and_then record_plan zs) e.world)
-      (same_children d e node new doc text names world key node_is alone distinct counted)
+      (same_children is_made distinct counted)
       ∙ made_then p (clear_plan old and_then put_plan y) (record_plan old) e.world now (plans_then p (clear_plan old) (put_plan y) clear_own put_own)
       ∙ ap (made p (record_plan old)) (made_then p (clear_plan old) (put_plan y) e.world now clear_own)
-      ∙ ap (λ (w : World). made p (record_plan old) (made p (put_plan y) (made p (clear_plan old) w))) world
-      ∙ ap (λ (w : World). made p (record_plan old) (made p (put_plan y) w)) (sym (made_then p make_plan (clear_plan old) d.world alone made_own))
+      ∙ ap (λ (w : World). made p (record_plan old) (made p (put_plan y) (made p (clear_plan old) w))) is_made.world
+      ∙ ap (λ (w : World). made p (record_plan old) (made p (put_plan y) w)) (sym (made_then p make_plan (clear_plan old) d.world is_made.alone made_own))
       ∙ ap (made p (record_plan old)) (sym
       (made_turn p put_plan y [] (made p (make_plan and_then clear_plan old) d.world)
-      (alone_made p (make_plan and_then clear_plan old) d.world alone cleared_own) put_own))
-      ∙ ap (made p (record_plan old)) (sym (made_then p (make_plan and_then clear_plan old) (in_turn put_plan (y ∷ [])) d.world alone cleared_own))
-      ∙ sym (made_then p (make_plan and_then clear_plan old and_then in_turn put_plan (y ∷ [])) (record_plan old) d.world alone
+      (alone_made p (make_plan and_then clear_plan old) d.world is_made.alone cleared_own) put_own))
+      ∙ ap (made p (record_plan old)) (sym (made_then p (make_plan and_then clear_plan old) (in_turn put_plan (y ∷ [])) d.world is_made.alone cleared_own))
+      ∙ sym (made_then p (make_plan and_then clear_plan old and_then in_turn put_plan (y ∷ [])) (record_plan old) d.world is_made.alone
       (plans_then p (make_plan and_then clear_plan old) (in_turn put_plan (y ∷ [])) cleared_own (plans_turn p put_plan (y ∷ []) (put_own, tt))))
       ∙ ap (λ b. made p (make_plan and_then clear_plan old and_then in_turn put_plan (y ∷ []) and_then steps_of
       (only_if (not b) (queue_record (child_list z (y ∷ []) old None None)))) d.world) (sym (and_false (is_empty old)))

@@ -66,11 +66,16 @@ module _ (n : Node) (ts : Trees) where
   new_below_none once y h = ap (is_in name_eq n.name) (path_beside_new y h) ∙ lacks_to n.name (inclusive_ancestors ts y)
       (path_lacks ts y n.name (new_gone once))
 
--- ---- in the state e, where a node of d's owner was made
-module _ (d e : DocState) (node new : ℕ) (doc : Option NodeName) (text : DomString)
-    (names : e.names ≡ d.names ++ next_name (part_of d.world (owner_in d node)) ∷ [])
-    (world : e.world ≡ made (owner_in d node) (doing (make (new_text_node (next_name (part_of d.world (owner_in d node))) doc text))) d.world)
-    (key : new ≡ length d.names) (node_is : node < length d.names) (alone : IsAlone d.world (owner_in d node)) where
+-- ---- in the state e, where a Text of d's owner was made
+
+pub record IsMade (d e : DocState) (node new : ℕ) (doc : Option NodeName) (text : DomString) : Type 0 where
+  pub names : e.names ≡ d.names ++ next_name (part_of d.world (owner_in d node)) ∷ []
+  pub world : e.world ≡ made (owner_in d node) (doing (make (new_text_node (next_name (part_of d.world (owner_in d node))) doc text))) d.world
+  pub key : new ≡ length d.names
+  pub here : node < length d.names
+  pub alone : IsAlone d.world (owner_in d node)
+
+module _ {d e : DocState} {node new : ℕ} {doc : Option NodeName} {text : DomString} (is_made : IsMade d e node new doc text) where
   abbrev o : Owner
   o = owner_in d node
 
@@ -88,18 +93,18 @@ module _ (d e : DocState) (node new : ℕ) (doc : Option NodeName) (text : DomSt
 
   -- the names of the two, by their keys
   pub same_name : name_in e node ≡ x
-  same_name = ap (λ (ns : List NodeName). name_at ns node) names ∙ get_or-append d.names (y ∷ []) (node_of Page 0) node node_is
+  same_name = ap (λ (ns : List NodeName). name_at ns node) is_made.names ∙ get_or-append d.names (y ∷ []) (node_of Page 0) node is_made.here
 
   pub new_name : name_in e new ≡ y
-  new_name = ap (λ (ns : List NodeName). name_at ns new) names ∙ ap (name_at (d.names ++ y ∷ [])) key ∙ get_or-append_seam d.names y [] (node_of Page 0)
+  new_name = ap (λ (ns : List NodeName). name_at ns new) is_made.names ∙ ap (name_at (d.names ++ y ∷ [])) is_made.key ∙ get_or-append_seam d.names y [] (node_of Page 0)
 
   -- the trees, and how many nodes there are
   pub grown_trees : (part_of e.world o).trees ≡ with_node n ts
-  grown_trees = ap (λ (w : World). (part_of w o).trees) world ∙ ap (λ (p : Part). p.trees) (alone.steps (make n ∷ []) (tt, tt))
+  grown_trees = ap (λ (w : World). (part_of w o).trees) is_made.world ∙ ap (λ (p : Part). p.trees) (is_made.alone.steps (make n ∷ []) (tt, tt))
 
   -- its steps do there still what they do in a part alone
   pub alone_new : IsAlone e.world o
-  alone_new = subst (λ w. IsAlone w o) (sym world) (alone_after o (make n ∷ []) d.world alone (tt, tt))
+  alone_new = subst (λ w. IsAlone w o) (sym is_made.world) (alone_after o (make n ∷ []) d.world is_made.alone (tt, tt))
 
   own_trees : trees_in e node ≡ with_node n ts
   own_trees = ap (λ (z : NodeName). (part_of e.world z.owner).trees) same_name ∙ grown_trees
@@ -108,12 +113,14 @@ module _ (d e : DocState) (node new : ℕ) (doc : Option NodeName) (text : DomSt
   new_owner = ap (λ (z : NodeName). z.owner) new_name ∙ owner-part_of d.world o ∙ sym (ap (λ (z : NodeName). z.owner) same_name)
 
   pub longer : length e.names ≡ length d.names + 1
-  longer = ap (λ (ns : List NodeName). length ns) names ∙ length_push d.names y
+  longer = ap (λ (ns : List NodeName). length ns) is_made.names ∙ length_push d.names y
 
   module _ (distinct : (j k : ℕ) → j < length e.names → k < length e.names → name_in e j ≡ name_in e k → j ≡ k) (counted : Counted e) where
     apart : name_eq y x ≡ false
     apart = false_from_ne_true _ (λ h.
         let more = longer in
+        let key = is_made.key in
+        let node_is = is_made.here in
         let same = distinct new node (omega (arith, key, more)) (omega (arith, node_is, more)) (new_name ∙ name_eq-true y x h ∙ sym same_name) in
         omega (arith, same, key, node_is))
 
@@ -155,9 +162,9 @@ module _ (d e : DocState) (node new : ℕ) (doc : Option NodeName) (text : DomSt
         ∙ made_then o (placing_tail x offset y (parent_of (part_of e.world o).trees x)) (replacing_data x offset count []) e.world alone_new
         (tail_own (parent_of (part_of e.world o).trees x))
         ∙ ap (λ up. rest count (behind up e.world)) same_parent
-        ∙ ap (λ (w : World). rest count (behind (parent_of ts x) w)) world
-        ∙ ap (rest count) (sym (made_then o (doing (make n)) (placing_tail x offset y (parent_of ts x)) d.world alone (λ p own. (tt, tt))))
-        ∙ sym (made_then o (doing (make n) and_then placing_tail x offset y (parent_of ts x)) (replacing_data x offset count []) d.world alone
+        ∙ ap (λ (w : World). rest count (behind (parent_of ts x) w)) is_made.world
+        ∙ ap (rest count) (sym (made_then o (doing (make n)) (placing_tail x offset y (parent_of ts x)) d.world is_made.alone (λ p own. (tt, tt))))
+        ∙ sym (made_then o (doing (make n) and_then placing_tail x offset y (parent_of ts x)) (replacing_data x offset count []) d.world is_made.alone
         (plans_then o (doing (make n)) (placing_tail x offset y (parent_of ts x)) (λ p own. (tt, tt)) (tail_own (parent_of ts x))))
         ∙ ap (λ k. whole (parent_of ts x) doc text k) counts ∙ ap (λ a. whole (parent_of ts x) a text (length old.text - offset)) documented
         ∙ ap (λ units. whole (parent_of ts x) old.document units (length old.text - offset)) tailed

@@ -2,7 +2,7 @@ use Rattle.std.proofs.Common.{[], Some, refl, ap, sym, ◌∙◌}
 use Rattle.dom_model.specs.Names.{is_empty}
 use Rattle.dom_parts.specs.Doc.{name_in, owner_in}
 use Rattle.dom_mutation.proofs.Inserted.{some_left}
-use Rattle.dom_mutation.proofs.Grown.{new_owner, new_not_above}
+use Rattle.dom_mutation.proofs.Grown.{IsMade, new_owner, new_not_above}
 use Rattle.dom_mutation.proofs.Emptied.{text_whole}
 use Rattle.dom_model.specs.Part.{next_name}
 use Rattle.dom_model.specs.TextChanges.{new_text_node, replacing_children}
@@ -10,27 +10,30 @@ use Rattle.dom_model.specs.World.{part_of}
 use Rattle.dom_mutation.proofs.BoundedDocs.{bounds_added}
 use Rattle.dom_mutation.proofs.ReadyCalls.{plan-done, planned-done}
 use Rattle.dom_mutation.proofs.ReadyPlans.{ready-children}
+use Rattle.dom_mutation.proofs.texts.replace_children.Goals.{In_ok-text}
 use Rattle.dom_mutation.proofs.texts.replace_children.Goals as goal
 
+-- the new Text
+new_text : (c : In_ok-text) → IsMade c.args.parts.now c.make_text.new.parts c.args.node c.in_ok-text.text
+    (Some (name_in c.args.parts.now c.document_below-document.result)) c.args.units.items
+new_text c = record {
+  names = c.in_ok-text.ensures.names;
+  world = c.in_ok-text.ensures.world;
+  key = c.in_ok-text.ensures.key;
+  here = c.requires.node_is_node;
+  alone = c.laws.ensures.alone c.args.node c.requires.node_is_node;
+}
+
 pub put_text-requires-clause-one_owner : goal.put_text-requires-clause-one_owner
-put_text-requires-clause-one_owner c =
-    new_owner c.args.parts.now c.make_text.new.parts c.args.node c.in_ok-text.text
-    (Some (name_in c.args.parts.now c.document_below-document.result)) c.args.units.items c.in_ok-text.ensures.names
-    c.in_ok-text.ensures.world c.in_ok-text.ensures.key c.requires.node_is_node (c.laws.ensures.alone c.args.node c.requires.node_is_node)
+put_text-requires-clause-one_owner c = new_owner (new_text (goal.at.put_text-requires-clause-one_owner c).In_ok-text)
 
 pub put_text-requires-clause-not_above : goal.put_text-requires-clause-not_above
 put_text-requires-clause-not_above c =
-    new_not_above c.args.parts.now c.make_text.new.parts c.args.node c.in_ok-text.text
-    (Some (name_in c.args.parts.now c.document_below-document.result)) c.args.units.items c.in_ok-text.ensures.names
-    c.in_ok-text.ensures.world c.in_ok-text.ensures.key c.requires.node_is_node (c.laws.ensures.alone c.args.node c.requires.node_is_node)
-    c.laws-2.ensures.distinct c.laws-2.ensures.once
+    new_not_above (new_text (goal.at.put_text-requires-clause-not_above c).In_ok-text) c.laws-2.ensures.distinct c.laws-2.ensures.once
 
 pub returns-in-Ok-put_text-clause-world : goal.returns-in-Ok-put_text-clause-world
 returns-in-Ok-put_text-clause-world c =
-    text_whole c.args.parts.now c.make_text.new.parts c.args.node c.in_ok-text.text
-    (Some (name_in c.args.parts.now c.document_below-document.result)) c.args.units.items c.in_ok-text.ensures.names
-    c.in_ok-text.ensures.world c.in_ok-text.ensures.key c.requires.node_is_node (c.laws.ensures.alone c.args.node c.requires.node_is_node)
-    c.laws-2.ensures.distinct c.laws-2.ensures.once c.put_text.new.parts
+    text_whole (new_text (goal.at.returns-in-Ok-put_text-clause-world c).In_ok-text) c.laws-2.ensures.distinct c.laws-2.ensures.once c.put_text.new.parts
     (ap is_empty (sym c.as_slice.ensures.value) ∙ some_left c.as_slice.result.now c.if-is_empty.ensures)
     (ap (λ y. Some y) c.document_below-document.ensures.value) c.in-Ok-put_text.ensures
 
