@@ -10,7 +10,7 @@ use Rattle.dom_base.specs.declared.Refusal.TheVariants.{Hierarchy, IndexSize}
 use Rattle.dom_model.specs.Changes.{observed}
 use Rattle.dom_model.specs.Command.{Command, part_refusal, effect}
 use Rattle.dom_model.specs.CommandNames.{named}
-use Rattle.dom_model.specs.CommandRefusals.{past_end, of_range}
+use Rattle.dom_model.specs.CommandRefusals.{past_end}
 use Rattle.dom_model.specs.Effects.{Effect, tables, changes, answers, moves_iterator, sets_walker, node_or_null, with_range, collapsed_to, new_node}
 use Rattle.dom_model.specs.Effects.{new_document_of}
 use Rattle.dom_model.specs.Extract.{both_at}
@@ -20,15 +20,15 @@ use Rattle.dom_model.specs.Part.{Part, first_node, range_at}
 use Rattle.dom_model.specs.Place.{Boundary, same_root, is_before}
 use Rattle.dom_model.specs.RangeOps.{range_text_of}
 use Rattle.dom_model.specs.Ranges.{Range, at, from_to, with_start, with_end}
-use Rattle.dom_model.specs.Steps.{Step, after}
+use Rattle.dom_model.specs.Steps.{after}
 use Rattle.dom_model.specs.Traversal.{Iterator, Walker, iterator_next_node, iterator_previous_node, walker_move}
 use Rattle.dom_model.specs.Tree.{Trees, Node, kind_of, has_data, is_text, child_nodes, length_of}
 use Rattle.dom_model.specs.Validity.{first_refusal, has_parent, may_be_parent, placing_tests, insertion_refusal, replacement_refusal}
 use Rattle.dom_model.proofs.KindLaws.{parent-open}
 use Rattle.dom_worlds.specs.Worlds.{IsPart}
-use Rattle.dom_worlds.proofs.Effects.{next-test, part-accepted}
+use Rattle.dom_worlds.proofs.Effects.{next-test, part-accepted, some-effect}
 use Rattle.dom_worlds.proofs.Bounds.{Under, RangeUnder, reach, nowhere, HasRoom, room-make}
-use Rattle.dom_worlds.proofs.Lists.{all-append, all-set, either_way, at-each, by_some_is}
+use Rattle.dom_worlds.proofs.Lists.{all-append, all-set, either_way, at-each}
 use Rattle.dom_worlds.proofs.RangeBounds.{room-removing, room-adopting, room-inserting, room-replacing, room-setting_attribute, room-unsetting_attribute}
 use Rattle.dom_worlds.proofs.RangeBounds.{room-replacing_data}
 use Rattle.dom_worlds.proofs.TableCommands.{named-may, insertion-apart, replacement-apart, exists-first, exists-second}
@@ -106,23 +106,10 @@ room-same p q t r h =
       leaves = subst (λ ts. (y : NodeName) → has_data (kind_of ts y) ≡ true → Rattle.dom_worlds.proofs.ChildCounts.kids ts y ≡ 0) (sym t) h.leaves;
     }
 
--- of a thing that may not be there
-some-room : {X : Type 0} (p : Part) (o : Option X) (f : X → Effect) (d : Effect) → ((x : X) → Roomy p (f x)) → Roomy p d → Roomy p (option_map_or f o d)
-some-room p None f d h g = g
-some-room p (Some x) f d h g = h x
-
 -- a walker that is set
 room-walker : (p : Part) (k : ℕ) (w : Walker) (o : Option NodeName) (v : Value) → HasRoom nowhere p → Roomy p (sets_walker p k w o v)
 room-walker p k w None v h = h
 room-walker p k w (Some x) v h = room-same p _ refl refl h
-
--- a plan for a range
-pub range-room : (p : Part) (k : ℕ) (f : Range NodeName → List Step) → HasRoom nowhere p →
-    ((range : Range NodeName) → range_at p k ≡ Some range → HasRoom nowhere (after p (f range))) → HasRoom nowhere (after p (of_range p k [] f))
-range-room p k f h g =
-    by_some_is (λ (o : Option (Range NodeName)). HasRoom nowhere (after p (of_range p k [] f))) (range_at p k)
-    (λ e. subst (λ o. HasRoom nowhere (after p (option_map_or f o []))) (sym e) h)
-    (λ range e. subst (λ o. HasRoom nowhere (after p (option_map_or f o []))) (sym e) (g range e))
 
 -- What is shown elsewhere of the commands that take or fill the contents of a range.
 abbrev pub ForRanges : Part → Command → Type 0
@@ -207,28 +194,28 @@ room-effect p i h (Command.range_collapse k t) r s =
     room-range p k _ h (under-mapped (reach nowhere p) (collapsed_to t) (under-collapsed (reach nowhere p) t) (range_at p k) (under-at p k h))
 room-effect p i h (Command.range_drop k) r s = room-range p k None h tt
 room-effect p i h (Command.range_get k) r s =
-    some-room p (range_at p k) (λ (r : Range NodeName). answers p (boundaries r.start r.end)) (answers p nothing) (λ x. h) h
+    some-effect (Roomy p) (range_at p k) (λ (r : Range NodeName). answers p (boundaries r.start r.end)) (λ x. h) h
 room-effect p i h (Command.range_text k) r s =
-    some-room p (range_at p k) (λ (r : Range NodeName). answers p (a_string (range_text_of p.trees r))) (answers p nothing) (λ x. h) h
+    some-effect (Roomy p) (range_at p k) (λ (r : Range NodeName). answers p (a_string (range_text_of p.trees r))) (λ x. h) h
 room-effect p i h (Command.extract k) r s = s h
 room-effect p i h (Command.delete k) r s = s h
 room-effect p i h (Command.insert_node k x) r s = s h
 room-effect p i h (Command.iterator_new x w) r s = room-same p _ refl refl h
 room-effect p i h (Command.walker_new x w) r s = room-same p _ refl refl h
 room-effect p i h (Command.iterator_next k) r s =
-    some-room p (slice_get p.iterators k) (λ i. moves_iterator p k false i (iterator_next_node p.trees i)) (answers p nothing)
+    some-effect (Roomy p) (slice_get p.iterators k) (λ i. moves_iterator p k false i (iterator_next_node p.trees i))
     (λ i. room-same p _ refl refl h) h
 room-effect p i h (Command.iterator_previous k) r s =
-    some-room p (slice_get p.iterators k) (λ i. moves_iterator p k true i (iterator_previous_node p.trees i)) (answers p nothing)
+    some-effect (Roomy p) (slice_get p.iterators k) (λ i. moves_iterator p k true i (iterator_previous_node p.trees i))
     (λ i. room-same p _ refl refl h) h
 room-effect p i h (Command.iterator_at k) r s =
-    some-room p (slice_get p.iterators k) (λ (i : Iterator). answers p (reference i.reference i.before)) (answers p nothing) (λ i. h) h
+    some-effect (Roomy p) (slice_get p.iterators k) (λ (i : Iterator). answers p (reference i.reference i.before)) (λ i. h) h
 room-effect p i h (Command.walk k m) r s =
-    some-room p (slice_get p.walkers k) (λ w. sets_walker p k w (walker_move p.trees w m) (node_or_null (walker_move p.trees w m)))
-    (answers p nothing) (λ w. room-walker p k w (walker_move p.trees w m) (node_or_null (walker_move p.trees w m)) h) h
-room-effect p i h (Command.walker_at k) r s = some-room p (slice_get p.walkers k) (λ (w : Walker). answers p (a_node w.current)) (answers p nothing) (λ w. h) h
+    some-effect (Roomy p) (slice_get p.walkers k) (λ w. sets_walker p k w (walker_move p.trees w m) (node_or_null (walker_move p.trees w m)))
+    (λ w. room-walker p k w (walker_move p.trees w m) (node_or_null (walker_move p.trees w m)) h) h
+room-effect p i h (Command.walker_at k) r s = some-effect (Roomy p) (slice_get p.walkers k) (λ (w : Walker). answers p (a_node w.current)) (λ w. h) h
 room-effect p i h (Command.walker_set k x) r s =
-    some-room p (slice_get p.walkers k) (λ w. sets_walker p k w (Some (named p x)) nothing) (answers p nothing)
+    some-effect (Roomy p) (slice_get p.walkers k) (λ w. sets_walker p k w (Some (named p x)) nothing)
     (λ w. room-walker p k w (Some (named p x)) nothing h) h
 room-effect p i h (Command.listen x w) r s = room-same p _ refl refl h
 room-effect p i h (Command.unlisten x e l c) r s = room-same p _ refl refl h

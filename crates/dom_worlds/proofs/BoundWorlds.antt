@@ -39,8 +39,8 @@ use Rattle.dom_model.proofs.OwnerLaws.{owner_eq-true, owner_eq-false}
 use Rattle.dom_model.proofs.PartLaws.{owner-part_of}
 use Rattle.dom_model.proofs.StepLaws.{owner-part_step, part_of-stepped-other}
 use Rattle.dom_worlds.specs.Bounds.{IsBounded, FirstIsBounded, StepKeepsBounds, EndingKeepsBounds, FinishKeepsBounds, ScriptsStayBounded}
-use Rattle.dom_worlds.proofs.Effects.{part-accepted, KeepsBase, base-effect}
-use Rattle.dom_worlds.proofs.BoundLines.{Roomy, ForRanges, room-effect, room-same, range-room, under-at, insertion-open}
+use Rattle.dom_worlds.proofs.Effects.{part-accepted, KeepsBase, base-effect, range-steps}
+use Rattle.dom_worlds.proofs.BoundLines.{Roomy, ForRanges, room-effect, room-same, under-at, insertion-open}
 use Rattle.dom_worlds.proofs.Bounds.{RangeUnder, reach, nowhere, HasRoom, room-document}
 use Rattle.dom_worlds.proofs.ChildCounts.{kids}
 use Rattle.dom_worlds.proofs.KeptOffsets.{room-of, bounds-of, takes}
@@ -208,11 +208,13 @@ proper p k t h r e =
 
 -- what is left to show of commands for ranges' contents
 for-ranges : (p : Part) → IsPart p → HasTables p → (c : Command) → part_refusal p c ≡ None → ForRanges p c
-for-ranges p i t (Command.extract k) n = λ h. range-room p k (λ r. extracting k r p) h (λ r e. room-extracting k r p i (proper p k t h r e) h)
-for-ranges p i t (Command.delete k) n = λ h. range-room p k (λ r. deleting k r p) h (λ r e. room-deleting k r p i (proper p k t h r e) h)
+for-ranges p i t (Command.extract k) n = λ h. range-steps (λ steps. HasRoom nowhere (after p steps)) p k h (λ r. extracting k r p)
+    (λ r e. room-extracting k r p i (proper p k t h r e) h)
+for-ranges p i t (Command.delete k) n = λ h. range-steps (λ steps. HasRoom nowhere (after p steps)) p k h (λ r. deleting k r p)
+    (λ r e. room-deleting k r p i (proper p k t h r e) h)
 for-ranges p i t (Command.insert_node k x) n = λ h.
     let a = part-accepted p (Command.insert_node k x) n in
-    range-room p k (λ r. inserting_into_range k r (named p x) p) h
+    range-steps (λ steps. HasRoom nowhere (after p steps)) p k h (λ r. inserting_into_range k r (named p x) p)
     (λ r e. let node = named p x in
     let parent = insertion_parent p.trees r in
     let refused = insertion_refusal p.trees parent node (start_reference p.trees r) in

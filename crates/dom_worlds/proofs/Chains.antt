@@ -16,7 +16,7 @@ use Rattle.dom_worlds.specs.Worlds.{IsWorld, IsOf}
 use Rattle.dom_worlds.proofs.ShadowTrees.{IsInTree, in_tree, ancestors-owned, not_in}
 use Rattle.dom_worlds.proofs.Lists.{all-then, by_cases, by_some_is}
 use Rattle.dom_worlds.proofs.Owners.{hosted, hosted-owned, hosted-no_page}
-use Rattle.dom_worlds.proofs.ReachedFacts.{root-alone}
+use Rattle.dom_worlds.proofs.Reached.{root-alone}
 use Rattle.dom_worlds.proofs.Trees.{ancestors-root, root-there, ancestors-present, all-in, last_from, last-is, last-in}
 use Rattle.dom_laws.proofs.Counts.{by_times}
 use Rattle.dom_laws.proofs.Paths.{path_none}

@@ -1,6 +1,6 @@
 -- How many children nodes have, and what the elementary changes do to that and to the nodes themselves.
-use Rattle.std.proofs.Common.{◌≡◌, ℕ, ◌+◌, ◌≤◌, ◌<◌, Bool, true, false, List, [], ◌∷◌, ◌++◌, length, Option, Some, None, refl, sym, ap, ◌∙◌, arith, true≢false}
-use Rattle.std.proofs.Common.{subst, drop}
+use Rattle.std.proofs.Common.{◌≡◌, ℕ, ◌+◌, ◌≤◌, ◌<◌, true, false, List, [], ◌∷◌, ◌++◌, length, Option, Some, None, refl, sym, ap, ◌∙◌, arith, true≢false, subst}
+use Rattle.std.proofs.Common.{drop}
 use Rattle.std.specs.Prelude.{if◌then◌else◌}
 use Rattle.std.specs.Option.{option_map_or}
 use Rattle.std.proofs.lemmas.Bool.{cond-true, cond-false}
@@ -8,16 +8,15 @@ use Rattle.dom_base.specs.declared.NodeName.{NodeName}
 use Rattle.dom_model.specs.Names.{name_eq, is_in, items_before, first_of}
 use Rattle.dom_model.specs.Tree.{Trees, none, tree, Node, names_of, roots, subtree, or_else, trees_below, children_of, parent_of, index_of, times_in}
 use Rattle.dom_model.specs.Tree.{inclusive_ancestors, on_top}
-use Rattle.dom_model.specs.TreeChanges.{followed_by, without, put_before, put_below, put_root, taken_out, placed, with_node, map_nodes}
-use Rattle.dom_model.proofs.OwnerLaws.{name_eq-same, name_eq-turned, name_eq-true}
+use Rattle.dom_model.specs.TreeChanges.{without, put_below, put_root, taken_out, placed, with_node, map_nodes}
+use Rattle.dom_model.proofs.OwnerLaws.{name_eq-same, name_eq-turned}
 use Rattle.dom_worlds.proofs.Insides.{CanPlace, times-inside, times-parted, without-absent, or_else-none}
 use Rattle.dom_worlds.proofs.InsideAncestors.{parent-there, no_parent-root}
 use Rattle.dom_worlds.proofs.Lists.{by_cases, or-later}
-use Rattle.dom_worlds.proofs.TreeChangeLaws.{put_where, where-here, where-later, put_before-where, put_root-where, HasRoot, without-here, without-elsewhere}
-use Rattle.dom_worlds.proofs.TreeChangeLaws.{subtree-here, subtree-elsewhere, put_below-here, put_below-elsewhere, put_below-absent}
+use Rattle.dom_worlds.proofs.TreeChangeLaws.{HasRoot, without-here, without-elsewhere, subtree-here, subtree-elsewhere, IsNodeSum, sum-put_below_name}
 use Rattle.dom_laws.proofs.Counts.{once_parts, Once, by_times, times-here, times-elsewhere, times-more}
 use Rattle.dom_laws.proofs.Paths.{subtree_gone, path_none}
-use Rattle.dom_worlds.proofs.Trees.{root-there, ancestors-present}
+use Rattle.dom_worlds.proofs.Trees.{root-there, ancestors-present, IsSum, sum-put_root}
 
 -- how many roots there are
 abbrev pub rooted : Trees → ℕ
@@ -55,58 +54,33 @@ pub kids-below : (ts : Trees) (y : NodeName) → Once ts → rooted (trees_below
 kids-below none y u = refl
 kids-below (tree n c r) y u =
     let once = u y in
-    let uc : Once c = λ k. let o = u k in let m = times-more n c r k in omega arith in
-    let ur : Once r = λ k. let o = u k in let m = times-more n c r k in omega arith in
+    let parts = once_parts n c r u in
     by_cases (name_eq n.name y)
     (λ e. let g = times-here n c r y e in let s = ap (λ t. rooted (trees_below t)) (subtree-here n c r y e) in
     let k = kids-here n c r y e in let a = kids-absent c y (omega arith) in let b = kids-absent r y (omega arith) in omega arith)
     (λ e. let g = times-elsewhere n c r y e in let k = kids-elsewhere n c r y e in
     by_times (times_in c y)
     (λ z. let s = ap (λ t. rooted (trees_below t)) (subtree-elsewhere n c r y e ∙ ap (λ t. or_else t (subtree r y)) (subtree_gone c y z)) in
-    let a = kids-absent c y z in let b = kids-below r y ur in omega arith)
+    let a = kids-absent c y z in let b = kids-below r y parts.after in omega arith)
     (λ z. let s = ap (λ t. rooted (trees_below t))
     (subtree-elsewhere n c r y e ∙ ap (or_else (subtree c y)) (subtree_gone r y (omega arith)) ∙ or_else-none (subtree c y)) in
-    let a = kids-absent r y (omega arith) in let b = kids-below c y uc in omega arith))
+    let a = kids-absent r y (omega arith) in let b = kids-below c y parts.below in omega arith))
 
 -- so the list of children has that length
 pub length-children : (ts : Trees) (y : NodeName) → Once ts → length (children_of ts y) ≡ kids ts y
 length-children ts y u = length-roots (trees_below (subtree ts y)) ∙ kids-below ts y u
 
--- Trees put into a list.
-rooted-followed : (a b : Trees) → rooted (followed_by a b) ≡ rooted a + rooted b
-rooted-followed none b = omega arith
-rooted-followed (tree n c r) b = let h = rooted-followed r b in omega arith
-
--- children of two lists
-kids-followed : (a b : Trees) (y : NodeName) → kids (followed_by a b) y ≡ kids a y + kids b y
-kids-followed none b y = omega arith
-kids-followed (tree n c r) b y = let h = kids-followed r b y in omega arith
-
--- roots
-rooted-where : (test : NodeName → Bool) (new ts : Trees) → rooted (put_where test new ts) ≡ rooted new + rooted ts
-rooted-where test new none = omega arith
-rooted-where test new (tree n c r) =
-    by_cases (test n.name) (λ e. ap rooted (where-here test new n c r e) ∙ rooted-followed new (tree n c r))
-    (λ e. let s = ap rooted (where-later test new n c r e) in let h = rooted-where test new r in omega arith)
-
--- children
-kids-where : (test : NodeName → Bool) (new ts : Trees) (y : NodeName) → kids (put_where test new ts) y ≡ kids new y + kids ts y
-kids-where test new none y = omega arith
-kids-where test new (tree n c r) y =
-    by_cases (test n.name) (λ e. ap (λ t. kids t y) (where-here test new n c r e) ∙ kids-followed new (tree n c r) y)
-    (λ e. let s = ap (λ t. kids t y) (where-later test new n c r e) in let h = kids-where test new r y in omega arith)
-
--- before the node given
-rooted-put_before : (before : Option NodeName) (new ts : Trees) → rooted (put_before before new ts) ≡ rooted new + rooted ts
-rooted-put_before before new ts = ap rooted (put_before-where before new ts) ∙ rooted-where (Rattle.dom_model.specs.TreeChanges.is_given before) new ts
+-- Trees put into a list: their roots.
+rooted-sum : IsSum rooted
+rooted-sum = record { nothing = refl; more = λ n c r. omega arith }
 
 -- their children
-kids-put_before : (before : Option NodeName) (new ts : Trees) (y : NodeName) → kids (put_before before new ts) y ≡ kids new y + kids ts y
-kids-put_before before new ts y = ap (λ t. kids t y) (put_before-where before new ts) ∙ kids-where (Rattle.dom_model.specs.TreeChanges.is_given before) new ts y
+kids-sum : (y : NodeName) → IsSum (λ ts. kids ts y)
+kids-sum y = record { nothing = refl; more = λ n c r. omega arith }
 
 -- by the order of names
 kids-put_root : (x : NodeName) (new ts : Trees) (y : NodeName) → kids (put_root x new ts) y ≡ kids new y + kids ts y
-kids-put_root x new ts y = ap (λ t. kids t y) (put_root-where x new ts) ∙ kids-where (Rattle.dom_model.specs.Names.name_before x) new ts y
+kids-put_root x new ts y = sum-put_root (kids-sum y) x new ts
 
 -- one more, at a node
 abbrev pub one_at : NodeName → NodeName → ℕ
@@ -115,43 +89,14 @@ one_at x y = if name_eq x y then 1 else 0
 -- what is put below a node
 kids-put_below : (parent : NodeName) (before : Option NodeName) (new ts : Trees) (y : NodeName) → times_in ts parent ≡ 1 →
     kids (put_below parent before new ts) y ≡ kids new y + kids ts y + (if name_eq parent y then rooted new else 0)
-kids-put_below parent before new none y h = absurd (omega arith)
-kids-put_below parent before new (tree n c r) y h =
-    by_cases (name_eq n.name parent)
-    (λ e. let s = ap (λ t. kids t y) (put_below-here parent before new n c r e) in
-    let g = times-here n c r parent e in
-    let dc = put_below-absent parent before new c (omega arith) in
-    let d = ap (λ t. kids (put_before before new t) y) dc in
-    let dr = ap (λ t. rooted (put_before before new t)) dc in
-    let f = ap (λ t. kids t y) (put_below-absent parent before new r (omega arith)) in
-    let b = kids-put_before before new c y in
-    let br = rooted-put_before before new c in
-    let same = name_eq-true n.name parent e in
-    by_cases (name_eq n.name y)
-    (λ k. let i = kids-here n c r y k in let j = kids-here n (put_before before new (put_below parent before new c)) (put_below parent before new r) y k in
-    let l = cond-true (name_eq parent y) (rooted new) 0 (sym (ap (λ z. name_eq z y) same) ∙ k) in omega arith)
-    (λ k. let i = kids-elsewhere n c r y k in let j = kids-elsewhere n (put_before before new (put_below parent before new c))
-    (put_below parent before new r) y k in
-    let l = cond-false (name_eq parent y) (rooted new) 0 (sym (ap (λ z. name_eq z y) same) ∙ k) in omega arith))
-    (λ e. let s = ap (λ t. kids t y) (put_below-elsewhere parent before new n c r e) in
-    let g = times-elsewhere n c r parent e in
-    by_times (times_in c parent)
-    (λ t. let dc = put_below-absent parent before new c t in
-    let d = ap (λ t. kids t y) dc in let dr = ap rooted dc in
-    let behind = kids-put_below parent before new r y (omega arith) in
-    by_cases (name_eq n.name y)
-    (λ k. let i = kids-here n c r y k in let j = kids-here n (put_below parent before new c) (put_below parent before new r) y k in omega arith)
-    (λ k. let i = kids-elsewhere n c r y k in let j = kids-elsewhere n (put_below parent before new c) (put_below parent before new r) y k in omega arith))
-    (λ t. let d = ap (λ t. kids t y) (put_below-absent parent before new r (omega arith)) in
-    let below = kids-put_below parent before new c y (omega arith) in
-    let same = rooted-put_below parent before new c in
-    by_cases (name_eq n.name y)
-    (λ k. let i = kids-here n c r y k in let j = kids-here n (put_below parent before new c) (put_below parent before new r) y k in omega arith)
-    (λ k. let i = kids-elsewhere n c r y k in let j = kids-elsewhere n (put_below parent before new c) (put_below parent before new r) y k in omega arith)))
+kids-put_below parent before new ts y h = sum-put_below_name y parent before new {m = λ ts. kids ts y} {f = rooted} sum rooted-sum same ts h
   where
-    rooted-put_below : (parent : NodeName) (before : Option NodeName) (new ts : Trees) → rooted (put_below parent before new ts) ≡ rooted ts
-    rooted-put_below parent before new none = refl
-    rooted-put_below parent before new (tree n c r) = let h = rooted-put_below parent before new r in omega arith
+    sum : IsNodeSum (λ ts. kids ts y) (λ n c. if name_eq n.name y then rooted c else 0)
+    sum = record { nothing = refl; each = λ n c r. refl }
+
+    same : (ts : Trees) → rooted (put_below parent before new ts) ≡ rooted ts
+    same none = refl
+    same (tree n c r) = let h = same r in omega arith
 
 -- A root that is taken out of a list.
 rooted-without : (ts : Trees) (x : NodeName) → Once ts → HasRoot ts x → 1 + rooted (without x ts) ≡ rooted ts
@@ -193,8 +138,7 @@ kids-taken : (ts : Trees) (x parent y : NodeName) → Once ts → parent_of ts x
 kids-taken none x parent y u h = cc
 kids-taken (tree n c r) x parent y u h =
     let once = u x in
-    let uc : Once c = λ k. let o = u k in let m = times-more n c r k in omega arith in
-    let ur : Once r = λ k. let o = u k in let m = times-more n c r k in omega arith in
+    let parts = once_parts n c r u in
     by_cases (name_eq n.name x)
     (λ e. let is : first_of (drop 1 (x ∷ [])) ≡ Some parent = sym
     (ap (λ p. first_of (drop 1 p)) (cond-true (name_eq n.name x) (x ∷ []) (on_top (inclusive_ancestors c x) n.name (inclusive_ancestors r x))
@@ -205,7 +149,7 @@ kids-taken (tree n c r) x parent y u h =
     (λ z. let up : parent_of r x ≡ Some parent = sym
     (ap (λ p. first_of (drop 1 p)) (cond-false (name_eq n.name x) (x ∷ []) (on_top (inclusive_ancestors c x) n.name (inclusive_ancestors r x))
     e ∙ ap (λ p. on_top p n.name (inclusive_ancestors r x)) (path_none c x z))) ∙ h in
-    let b = kids-taken r x parent y ur up in
+    let b = kids-taken r x parent y parts.after up in
     let b0 = b.0 in let b1 = b.1 in
     let whole = s ∙ ap (λ t. tree n t (without x r)) (without-absent c x z) in
     let w = ap (λ t. kids t y) whole in
@@ -215,7 +159,7 @@ kids-taken (tree n c r) x parent y u h =
     let up = sym (below-parent n c r e at.1) ∙ h in
     let whole = s ∙ ap (tree n (without x c)) (without-absent r x (omega arith)) in
     let own = subtree-elsewhere n c r x e ∙ ap (or_else (subtree c x)) (subtree_gone r x (omega arith)) ∙ or_else-none (subtree c x) in
-    from (λ e. kids-taken c x parent y uc e) up at.1 z whole own))
+    from (λ e. kids-taken c x parent y parts.below e) up at.1 z whole own))
   where
     from : (parent_of c x ≡ Some parent → (kids (without x c) y + kids (subtree c x) y + one_at parent y ≡ kids c y) × (rooted (without x c) ≡ rooted c)) →
         {path : List NodeName} → first_of (path ++ n.name ∷ []) ≡ Some parent → inclusive_ancestors c x ≡ x ∷ path → 1 ≤ times_in c x →
@@ -307,8 +251,7 @@ root-below none x parent u h = cc
 root-below (tree n c r) x parent u h =
     let once = u x in
     let once_p = u parent in
-    let uc : Once c = λ k. let o = u k in let m = times-more n c r k in omega arith in
-    let ur : Once r = λ k. let o = u k in let m = times-more n c r k in omega arith in
+    let parts = once_parts n c r u in
     by_cases (name_eq n.name x)
     (λ e. let is : first_of (drop 1 (x ∷ [])) ≡ Some parent = sym
     (ap (λ p. first_of (drop 1 p)) (cond-true (name_eq n.name x) (x ∷ []) (on_top (inclusive_ancestors c x) n.name (inclusive_ancestors r x))
@@ -323,8 +266,8 @@ root-below (tree n c r) x parent u h =
     let m = times-elsewhere n c r parent other in
     subst (λ t. HasRoot (trees_below t) x)
     (sym (subtree-elsewhere n c r parent other ∙ ap (λ t. or_else t (subtree r parent)) (subtree_gone c parent (omega arith))))
-    (root-below r x parent ur up))
-    (λ z. let at = ancestors-present c x z in from (λ e. root-below c x parent uc e) (sym (below-parent n c r e at.1) ∙ h) at.1 uc z once_p))
+    (root-below r x parent parts.after up))
+    (λ z. let at = ancestors-present c x z in from (λ e. root-below c x parent parts.below e) (sym (below-parent n c r e at.1) ∙ h) at.1 parts.below z once_p))
   where
     from : (parent_of c x ≡ Some parent → HasRoot (trees_below (subtree c parent)) x) → {path : List NodeName} → first_of (path ++ n.name ∷ []) ≡ Some parent →
         inclusive_ancestors c x ≡ x ∷ path → Once c → 1 ≤ times_in c x → times_in (tree n c r) parent ≤ 1 →

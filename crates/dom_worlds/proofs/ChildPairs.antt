@@ -1,6 +1,5 @@
 -- Which node is a child of which, counted, through the elementary changes.
-use Rattle.std.proofs.Common.{◌≡◌, ℕ, ◌+◌, ◌≤◌, Bool, true, false, List, [], ◌∷◌, ◌++◌, length, Option, Some, refl, sym, ap, ◌∙◌, arith, true≢false, subst}
-use Rattle.std.proofs.Common.{drop}
+use Rattle.std.proofs.Common.{◌≡◌, ℕ, ◌+◌, ◌≤◌, true, false, List, [], ◌∷◌, ◌++◌, length, Option, Some, refl, sym, ap, ◌∙◌, arith, true≢false, subst, drop}
 use Rattle.std.specs.Prelude.{if◌then◌else◌}
 use Rattle.std.specs.List.{AllByRecursion}
 use Rattle.std.proofs.lemmas.Bool.{cond-true, cond-false}
@@ -8,19 +7,18 @@ use Rattle.dom_base.specs.declared.NodeName.{NodeName}
 use Rattle.dom_model.specs.Tree.{times_in, Trees, none, tree, Node, names_of, roots, subtree, or_else, trees_below, children_of, parent_of, inclusive_ancestors}
 use Rattle.dom_model.specs.Tree.{on_top}
 use Rattle.dom_model.specs.Names.{name_eq, is_in, first_of}
-use Rattle.dom_model.specs.TreeChanges.{followed_by, without, put_before, put_below, put_root, taken_out, placed, with_node, map_nodes}
+use Rattle.dom_model.specs.TreeChanges.{without, put_below, put_root, taken_out, placed, with_node, map_nodes}
 use Rattle.dom_model.proofs.OwnerLaws.{name_eq-same, name_eq-turned, name_eq-true}
 use Rattle.dom_worlds.specs.Worlds.{times_among}
 use Rattle.dom_worlds.proofs.Insides.{CanPlace, times-inside, times-parted, without-absent, or_else-none}
 use Rattle.dom_worlds.proofs.ChildCounts.{rooted, kids}
-use Rattle.dom_worlds.proofs.ReachedFacts.{root-alone}
+use Rattle.dom_worlds.proofs.Reached.{root-alone}
 use Rattle.dom_worlds.proofs.Lists.{all-then, by_cases, or-later}
-use Rattle.dom_worlds.proofs.TreeChangeLaws.{put_where, where-here, where-later, put_before-where, put_root-where, HasRoot, root-first, root-second}
-use Rattle.dom_worlds.proofs.TreeChangeLaws.{without-here, without-elsewhere, subtree-here, subtree-elsewhere, put_below-here, put_below-elsewhere}
-use Rattle.dom_worlds.proofs.TreeChangeLaws.{put_below-absent}
-use Rattle.dom_laws.proofs.Counts.{Once, by_times, times-here, times-elsewhere, times-more}
+use Rattle.dom_worlds.proofs.TreeChangeLaws.{HasRoot, root-first, root-second, without-here, without-elsewhere, subtree-here, subtree-elsewhere, put_below-here}
+use Rattle.dom_worlds.proofs.TreeChangeLaws.{IsNodeSum, sum-put_below_name, put_below-elsewhere}
+use Rattle.dom_laws.proofs.Counts.{Once, by_times, times-here, times-elsewhere, once_parts}
 use Rattle.dom_laws.proofs.Paths.{subtree_gone, path_none}
-use Rattle.dom_worlds.proofs.Trees.{ancestors-present}
+use Rattle.dom_worlds.proofs.Trees.{ancestors-present, IsSum, sum-put_root}
 
 -- how often a name is a root's
 abbrev pub root_times : Trees → NodeName → ℕ
@@ -47,33 +45,17 @@ childs-times (tree n c r) x y =
     let a = childs-times c x y in let b = childs-times r x y in
     by_cases (name_eq n.name y) (λ e. let k = childs-here n c r x y e in omega arith) (λ e. let k = childs-elsewhere n c r x y e in omega arith)
 
--- Trees put into a list.
-roots-followed : (a b : Trees) (x : NodeName) → root_times (followed_by a b) x ≡ root_times a x + root_times b x
-roots-followed none b x = omega arith
-roots-followed (tree n c r) b x = let h = roots-followed r b x in omega arith
+-- Trees put into a list: their roots.
+roots-sum : (x : NodeName) → IsSum (λ ts. root_times ts x)
+roots-sum x = record { nothing = refl; more = λ n c r. omega arith }
 
--- children
-childs-followed : (a b : Trees) (x y : NodeName) → childs (followed_by a b) x y ≡ childs a x y + childs b x y
-childs-followed none b x y = omega arith
-childs-followed (tree n c r) b x y = let h = childs-followed r b x y in omega arith
-
--- roots
-roots-where : (test : NodeName → Bool) (new ts : Trees) (x : NodeName) → root_times (put_where test new ts) x ≡ root_times new x + root_times ts x
-roots-where test new none x = omega arith
-roots-where test new (tree n c r) x =
-    by_cases (test n.name) (λ e. ap (λ t. root_times t x) (where-here test new n c r e) ∙ roots-followed new (tree n c r) x)
-    (λ e. let s = ap (λ t. root_times t x) (where-later test new n c r e) in let h = roots-where test new r x in omega arith)
-
--- children
-childs-where : (test : NodeName → Bool) (new ts : Trees) (x y : NodeName) → childs (put_where test new ts) x y ≡ childs new x y + childs ts x y
-childs-where test new none x y = omega arith
-childs-where test new (tree n c r) x y =
-    by_cases (test n.name) (λ e. ap (λ t. childs t x y) (where-here test new n c r e) ∙ childs-followed new (tree n c r) x y)
-    (λ e. let s = ap (λ t. childs t x y) (where-later test new n c r e) in let h = childs-where test new r x y in omega arith)
+-- their children
+childs-sum : (x y : NodeName) → IsSum (λ ts. childs ts x y)
+childs-sum x y = record { nothing = refl; more = λ n c r. omega arith }
 
 -- by the order of names
 childs-put_root : (z : NodeName) (new ts : Trees) (x y : NodeName) → childs (put_root z new ts) x y ≡ childs new x y + childs ts x y
-childs-put_root z new ts x y = ap (λ t. childs t x y) (put_root-where z new ts) ∙ childs-where (Rattle.dom_model.specs.Names.name_before z) new ts x y
+childs-put_root z new ts x y = sum-put_root (childs-sum x y) z new ts
 
 -- Another node that is taken out leaves children and roots.
 roots-without : (ts : Trees) (z x : NodeName) → name_eq z x ≡ false → root_times (without z ts) x ≡ root_times ts x
@@ -91,8 +73,7 @@ childs-parted : (ts : Trees) (z x y : NodeName) → Once ts → name_eq z x ≡ 
 childs-parted none z x y u d = refl
 childs-parted (tree n c r) z x y u d =
     let once = u z in
-    let uc : Once c = λ k. let o = u k in let m = times-more n c r k in omega arith in
-    let ur : Once r = λ k. let o = u k in let m = times-more n c r k in omega arith in
+    let parts = once_parts n c r u in
     by_cases (name_eq n.name z)
     (λ e. let g = times-here n c r z e in
     let s = ap (λ t. childs t x y) (without-here n c r z e ∙ without-absent r z (omega arith)) in let t =
@@ -103,10 +84,10 @@ childs-parted (tree n c r) z x y u d =
     let sum : childs (without z c) x y + childs (without z r) x y + childs (subtree (tree n c r) z) x y ≡ childs c x y + childs r x y =
     by_times (times_in c z)
     (λ k. let t = ap (λ t. childs t x y) (subtree-elsewhere n c r z e ∙ ap (λ t. or_else t (subtree r z)) (subtree_gone c z k)) in
-    let w = ap (λ t. childs t x y) (without-absent c z k) in let b = childs-parted r z x y ur d in omega arith)
+    let w = ap (λ t. childs t x y) (without-absent c z k) in let b = childs-parted r z x y parts.after d in omega arith)
     (λ k. let t = ap (λ t. childs t x y)
     (subtree-elsewhere n c r z e ∙ ap (or_else (subtree c z)) (subtree_gone r z (omega arith)) ∙ or_else-none (subtree c z)) in
-    let w = ap (λ t. childs t x y) (without-absent r z (omega arith)) in let b = childs-parted c z x y uc d in omega arith) in
+    let w = ap (λ t. childs t x y) (without-absent r z (omega arith)) in let b = childs-parted c z x y parts.below d in omega arith) in
     by_cases (name_eq n.name y)
     (λ f. let i = childs-here n c r x y f in let j = childs-here n (without z c) (without z r) x y f in omega arith)
     (λ f. let i = childs-elsewhere n c r x y f in let j = childs-elsewhere n (without z c) (without z r) x y f in omega arith))
@@ -117,64 +98,23 @@ childs-taken_out ts z x y u d = let p = childs-put_root z (subtree ts z) (withou
 
 -- Trees that are put among others: how often x is a child of y, and a root.
 module _ (before : Option NodeName) (new : Trees) (x y : NodeName) where
-  -- before the node given
-  childs-put_before : (ts : Trees) →
-      (childs (put_before before new ts) x y ≡ childs new x y + childs ts x y) ×
-      (root_times (put_before before new ts) x ≡ root_times new x + root_times ts x)
-  childs-put_before ts =
-      let is = Rattle.dom_model.specs.TreeChanges.is_given before in (
-        ap (λ t. childs t x y) (put_before-where before new ts) ∙ childs-where is new ts x y,
-        ap (λ t. root_times t x)
-            (put_before-where before new ts) ∙ roots-where is new ts x,
-      )
-
   -- what is put below a node
   childs-put_below : (parent : NodeName) (ts : Trees) → times_in ts parent ≡ 1 →
       (childs new x y + childs ts x y + (if name_eq parent y then root_times new x else 0) ≤ childs (put_below parent before new ts) x y) ×
       (root_times (put_below parent before new ts) x ≡ root_times ts x)
-  childs-put_below parent none h = absurd (omega arith)
-  childs-put_below parent (tree n c r) h =
-      by_cases (name_eq n.name parent)
-      (λ e. let s = put_below-here parent before new n c r e in
-      let g = times-here n c r parent e in
-      let dc = put_below-absent parent before new c (omega arith) in
-      let dr = put_below-absent parent before new r (omega arith) in
-      let all = ap (λ t. childs t x y) (s ∙ ap (λ t. tree n (put_before before new t) (put_below parent before new r)) dc ∙
-      ap (tree n (put_before before new c)) dr) in
-      let tops = ap (λ t. root_times t x) (s ∙ ap (λ t. tree n (put_before before new t) (put_below parent before new r)) dc ∙
-      ap (tree n (put_before before new c)) dr) in
-      let b = childs-put_before c in let b0 = b.0 in let b1 = b.1 in
-      let same = name_eq-true n.name parent e in (
-        by_cases (name_eq n.name y)
-            (λ k. let i = childs-here n c r x y k in let j = childs-here n (put_before before new c) r x y k in
-            let l : (if name_eq parent y then root_times new x else 0) ≡ root_times new x =
-            cond-true (name_eq parent y) (root_times new x) 0 (sym (ap (λ z. name_eq z y) same) ∙ k) in omega arith)
-            (λ k. let i = childs-elsewhere n c r x y k in let j = childs-elsewhere n (put_before before new c) r x y k in
-            let l : (if name_eq parent y then root_times new x else 0) ≡ 0 =
-            cond-false (name_eq parent y) (root_times new x) 0 (sym (ap (λ z. name_eq z y) same) ∙ k) in omega arith),
-        tops,
-      ))
-      (λ e. let s = put_below-elsewhere parent before new n c r e in
-      let g = times-elsewhere n c r parent e in
-      by_times (times_in c parent)
-      (λ t. let dc = put_below-absent parent before new c t in
-      let b = childs-put_below parent r (omega arith) in let b0 = b.0 in let b1 = b.1 in
-      let all = ap (λ t. childs t x y) (s ∙ ap (λ t. tree n t (put_below parent before new r)) dc) in
-      let tops = ap (λ t. root_times t x) (s ∙ ap (λ t. tree n t (put_below parent before new r)) dc) in (
-        by_cases (name_eq n.name y)
-            (λ k. let i = childs-here n c r x y k in let j = childs-here n c (put_below parent before new r) x y k in omega arith)
-            (λ k. let i = childs-elsewhere n c r x y k in let j = childs-elsewhere n c (put_below parent before new r) x y k in omega arith),
-        (omega arith),
-      ))
-      (λ t. let dr = put_below-absent parent before new r (omega arith) in
-      let b = childs-put_below parent c (omega arith) in let b0 = b.0 in let b1 = b.1 in
-      let all = ap (λ t. childs t x y) (s ∙ ap (tree n (put_below parent before new c)) dr) in
-      let tops = ap (λ t. root_times t x) (s ∙ ap (tree n (put_below parent before new c)) dr) in (
-        by_cases (name_eq n.name y)
-            (λ k. let i = childs-here n c r x y k in let j = childs-here n (put_below parent before new c) r x y k in omega arith)
-            (λ k. let i = childs-elsewhere n c r x y k in let j = childs-elsewhere n (put_below parent before new c) r x y k in omega arith),
-        (omega arith),
-      )))
+  childs-put_below parent ts h =
+      let all = sum-put_below_name y parent before new {m = λ ts. childs ts x y} {f = λ ts. root_times ts x} sum (roots-sum x) (same parent) ts h in
+      (omega arith, same parent ts)
+    where
+      sum : IsNodeSum (λ ts. childs ts x y) (λ n c. if name_eq n.name y then root_times c x else 0)
+      sum = record { nothing = refl; each = λ n c r. refl }
+
+      same : (parent : NodeName) (ts : Trees) → root_times (put_below parent before new ts) x ≡ root_times ts x
+      same parent none = refl
+      same parent (tree n c r) =
+          let h = same parent r in
+          by_cases (name_eq n.name parent) (λ e. let s = ap (λ t. root_times t x) (put_below-here parent before new n c r e) in omega arith)
+          (λ e. let s = ap (λ t. root_times t x) (put_below-elsewhere parent before new n c r e) in omega arith)
 
 -- A node that is placed below a parent.
 module _ {ts : Trees} {z parent : NodeName} (before : Option NodeName) (place : CanPlace ts z parent) where
@@ -231,8 +171,7 @@ pub childs-parent : (ts : Trees) (x y : NodeName) → Once ts → 1 ≤ childs t
 childs-parent none x y u h = absurd (omega arith)
 childs-parent (tree n c r) x y u h =
     let once = u x in
-    let uc : Once c = λ k. let o = u k in let m = times-more n c r k in omega arith in
-    let ur : Once r = λ k. let o = u k in let m = times-more n c r k in omega arith in
+    let parts = once_parts n c r u in
     let a = childs-times c x y in let b = childs-times r x y in
     let top = on_top (inclusive_ancestors c x) n.name (inclusive_ancestors r x) in
     let bound : childs (tree n c r) x y ≤ root_times c x + childs c x y + childs r x y =
@@ -244,14 +183,14 @@ childs-parent (tree n c r) x y u h =
     let here = cond-false (name_eq n.name x) (x ∷ []) top e in
     by_times (times_in c x)
     (λ z. ap (λ p. first_of (drop 1 p)) (here ∙ ap (λ p. on_top p n.name (inclusive_ancestors r x)) (path_none c x z)) ∙
-    childs-parent r x y ur (omega arith))
+    childs-parent r x y parts.after (omega arith))
     (λ z. let at = ancestors-present c x z in
     let all : inclusive_ancestors (tree n c r) x ≡ (x ∷ at.0) ++ n.name ∷ [] = here ∙ ap (λ p. on_top p n.name (inclusive_ancestors r x)) at.1 in
     let up = ap (λ p. first_of (drop 1 p)) all in
     by_times (root_times c x)
-    (λ k. let inner = childs-parent c x y uc (omega arith) in up ∙ deeper at.0 n.name y (sym (ap (λ p. first_of (drop 1 p)) at.1) ∙ inner))
+    (λ k. let inner = childs-parent c x y parts.below (omega arith) in up ∙ deeper at.0 n.name y (sym (ap (λ p. first_of (drop 1 p)) at.1) ∙ inner))
     (λ k. let root : HasRoot c x = counted-root c x k in
-    let alone : x ∷ at.0 ≡ x ∷ [] = sym at.1 ∙ root-alone c uc x root in
+    let alone : x ∷ at.0 ≡ x ∷ [] = sym at.1 ∙ root-alone c parts.below x root in
     let path : at.0 ≡ [] = ap (drop 1) alone in
     let named : name_eq n.name y ≡ true = by_cases (name_eq n.name y) (λ q. q) (λ q. absurd (let i = childs-elsewhere n c r x y q in omega arith)) in
     up ∙ ap (λ p. first_of (p ++ n.name ∷ [])) path ∙ ap Some (name_eq-true n.name y named))))

@@ -2,5 +2,5 @@
 pub use Rattle.dom_worlds.proofs.Effects.{accepted-facts, attach-may, next-test, part-accepted, KeepsBase, base-effect, Makes, MayDo, made-effect}
 pub use Rattle.dom_worlds.proofs.KindLines.{absent-any, has_node-times}
 pub use Rattle.dom_worlds.proofs.PartSteps.{count-grows, fragment-no_shadow, name-node_in, node-read}
-pub use Rattle.dom_worlds.proofs.TableCommands.{Holds, insertion-apart, ends-collapsed, ends-with_end, ends-with_start}
+pub use Rattle.dom_worlds.proofs.TableCommands.{Holds, insertion-apart}
 pub use Rattle.dom_worlds.proofs.TableRegisters.{holds-effect, parent-of_range}

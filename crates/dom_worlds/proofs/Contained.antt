@@ -21,7 +21,7 @@ use Rattle.dom_worlds.proofs.Lists.{all-then, by_cases, or-later}
 use Rattle.dom_worlds.proofs.Roots.{self-above, parent-above}
 use Rattle.dom_worlds.proofs.TableRecords.{inside-alone, above-above}
 use Rattle.dom_worlds.proofs.TreeChangeLaws.{HasRoot, subtree-here, subtree-elsewhere, times-below}
-use Rattle.dom_laws.proofs.Counts.{Once, by_times, times-here, times-elsewhere, times-more, times_subtree}
+use Rattle.dom_laws.proofs.Counts.{Once, by_times, times-here, times-elsewhere, times-more, times_subtree, once_parts}
 use Rattle.dom_laws.proofs.Paths.{subtree_gone}
 use Rattle.dom_worlds.proofs.Trees.{root-there}
 
@@ -82,8 +82,7 @@ place-nested k (tree n c r) a z {path} {rest} u places =
     let b = has-place 0 (trees_below (subtree (tree n c r) a)) z rest q in
     let once = u a in
     let once_z = u z in
-    let uc : Once c = λ k. let o = u k in let m = times-more n c r k in omega arith in
-    let ur : Once r = λ k. let o = u k in let m = times-more n c r k in omega arith in
+    let parts = once_parts n c r u in
     by_cases (name_eq n.name a)
     (λ e. let same = ap trees_below (subtree-here n c r a e) in
     let inner = subst (λ us. 1 ≤ times_in us z) same b in
@@ -100,7 +99,7 @@ place-nested k (tree n c r) a z {path} {rest} u places =
     let there : 1 ≤ times_in r z = let s = times-below (subtree r a) z in let t = times_subtree r a z in omega arith in
     let other : name_eq n.name z ≡ false = by_cases (name_eq n.name z) (λ f. absurd (let g = times-here n c r z f in omega arith)) (λ f. f) in
     let gz = times-elsewhere n c r z other in
-    place-behind n c r z k other (omega arith) ∙ place-nested (k + 1) r a z ur (record { outer = sym (place-behind n c r a k e y) ∙ p; inner = at }))
+    place-behind n c r z k other (omega arith) ∙ place-nested (k + 1) r a z parts.after (record { outer = sym (place-behind n c r a k e y) ∙ p; inner = at }))
     (λ y. let same = ap trees_below (subtree-elsewhere n c r a e ∙ ap (or_else (subtree c a)) (subtree_gone r a (omega arith)) ∙
     or_else-none (subtree c a)) in
     let inner = subst (λ us. 1 ≤ times_in us z) same b in
@@ -110,7 +109,7 @@ place-nested k (tree n c r) a z {path} {rest} u places =
     let own = place-there 0 c a y in
     let one : Some (k ∷ own.0) ≡ Some path = sym (place-below n c r a e own.1) ∙ p in
     let is : k ∷ own.0 ≡ path = cc in
-    place-below n c r z other (place-nested 0 c a z uc (record { outer = own.1; inner = at })) ∙ ap (λ xs. Some (xs ++ rest)) is))
+    place-below n c r z other (place-nested 0 c a z parts.below (record { outer = own.1; inner = at })) ∙ ap (λ xs. Some (xs ++ rest)) is))
 
 -- Roots of a list, by their numbers: those before a number, and those up to one of them.
 record IsRootAt (k : ℕ) (us : Trees) (bound : ℕ) (x : NodeName) : Type 0 where

@@ -11,13 +11,13 @@ use Rattle.dom_model.specs.Tree.{inclusive_descendants, is_inclusive_ancestor, o
 use Rattle.dom_model.specs.TreeChanges.{without, put_before, put_below, placed, with_node}
 use Rattle.dom_model.proofs.OwnerLaws.{name_eq-same, name_eq-turned, name_eq-true}
 use Rattle.dom_worlds.proofs.Lists.{all-then, all-append, by_cases, or-later}
-use Rattle.dom_laws.proofs.Counts.{Once, by_times, times-here, times-elsewhere, times-more, times-parts, times_subtree}
+use Rattle.dom_laws.proofs.Counts.{Once, by_times, times-here, times-elsewhere, times-more, times-parts, times_subtree, once_parts}
 use Rattle.dom_laws.proofs.Paths.{subtree_gone, path_none}
 use Rattle.dom_worlds.proofs.Trees.{root-there, nodes-there, ancestors-present}
 use Rattle.dom_worlds.proofs.TreeChangeLaws.{HasRoot, without-here, without-elsewhere, subtree-here, subtree-elsewhere, put_below-here, put_below-elsewhere}
-use Rattle.dom_worlds.proofs.TreeChangeLaws.{put_below-absent, times-put_before}
+use Rattle.dom_worlds.proofs.TreeChangeLaws.{times-put_below_all, put_below-absent, times-put_before}
 use Rattle.dom_worlds.proofs.Insides.{CanPlace, inside, inside-here, inside-elsewhere, inside-times, inside-absent, times-inside, inside-put_root}
-use Rattle.dom_worlds.proofs.Insides.{inside-put_before, without-absent, or_else-none, times-put_below_all, times-parted}
+use Rattle.dom_worlds.proofs.Insides.{inside-put_before, without-absent, or_else-none, times-parted}
 use Rattle.dom_worlds.proofs.InsideAncestors.{inside-no_ancestor}
 
 -- By ancestors.
@@ -143,8 +143,7 @@ inside-subtree none a y z u h = absurd (omega arith)
 inside-subtree (tree n c r) a y z u h =
     let once = u y in
     let once_a = u a in
-    let uc : Once c = λ k. let o = u k in let m = times-more n c r k in omega arith in
-    let ur : Once r = λ k. let o = u k in let m = times-more n c r k in omega arith in
+    let parts = once_parts n c r u in
     let p = times-parts n c r y in
     by_cases (name_eq n.name a)
     (λ e. let s = ap (λ t. inside t y z) (subtree-here n c r a e) in
@@ -156,14 +155,14 @@ inside-subtree (tree n c r) a y z u h =
     let k : 1 ≤ times_in (subtree r a) y = subst (λ t. 1 ≤ times_in t y) same h in
     let s = ap (λ t. inside t y z) same in
     let there = times_subtree r a y in
-    let behind = inside-subtree r a y z ur k in
+    let behind = inside-subtree r a y z parts.after k in
     let below = inside-absent c y z (let m = times-more n c none y in omega arith) in
     by_cases (name_eq n.name y) (λ f. absurd (let q = times-here n c r y f in omega arith)) (λ f. let i = inside-elsewhere n c r y z f in omega arith))
     (λ t. let same = subtree-elsewhere n c r a e ∙ ap (or_else (subtree c a)) (subtree_gone r a (omega arith)) ∙ or_else-none (subtree c a) in
     let k : 1 ≤ times_in (subtree c a) y = subst (λ t. 1 ≤ times_in t y) same h in
     let s = ap (λ t. inside t y z) same in
     let there = times_subtree c a y in
-    let below = inside-subtree c a y z uc k in
+    let below = inside-subtree c a y z parts.below k in
     let m = times-more n c r y in
     let behind = inside-absent r y z (omega arith) in
     by_cases (name_eq n.name y) (λ f. absurd (let q = times-here n c r y f in omega arith)) (λ f. let i = inside-elsewhere n c r y z f in omega arith)))
@@ -173,8 +172,7 @@ pub inside-left : (ts : Trees) (x a z : NodeName) → Once ts → inside ts x z 
 inside-left none x a z u h = omega arith
 inside-left (tree n c r) x a z u h =
     let once = u x in
-    let uc : Once c = λ k. let o = u k in let m = times-more n c r k in omega arith in
-    let ur : Once r = λ k. let o = u k in let m = times-more n c r k in omega arith in
+    let parts = once_parts n c r u in
     by_cases (name_eq n.name x)
     (λ e. let g = times-here n c r x e in
     let s = ap (λ t. inside t a z) (without-here n c r x e ∙ without-absent r x (omega arith)) in
@@ -183,11 +181,11 @@ inside-left (tree n c r) x a z u h =
     by_cases (name_eq n.name a) (λ k. let j = inside-here n c r a z k in omega arith) (λ k. let j = inside-elsewhere n c r a z k in omega arith))
     (λ e. let s = ap (λ t. inside t a z) (without-elsewhere n c r x e) in
     let i = inside-elsewhere n c r x z e in
-    let below = inside-left c x a z uc (omega arith) in
-    let behind = inside-left r x a z ur (omega arith) in
+    let below = inside-left c x a z parts.below (omega arith) in
+    let behind = inside-left r x a z parts.after (omega arith) in
     by_cases (name_eq n.name a)
     (λ k. let j = inside-here n c r a z k in let l = inside-here n (without x c) (without x r) a z k in
-    let w = times-parted c x z uc in let v = times-inside c x z in
+    let w = times-parted c x z parts.below in let v = times-inside c x z in
     let p = times-parts n c none z in let q = times-parts n (without x c) none z in omega arith)
     (λ k. let j = inside-elsewhere n c r a z k in let l = inside-elsewhere n (without x c) (without x r) a z k in omega arith))
 
@@ -206,8 +204,7 @@ inside-comparable (tree n c r) a x z u both =
     let k = both.apart in
     let once = u z in
     let once_a = u a in
-    let uc : Once c = λ k. let o = u k in let m = times-more n c r k in omega arith in
-    let ur : Once r = λ k. let o = u k in let m = times-more n c r k in omega arith in
+    let parts = once_parts n c r u in
     let zr = inside-times r x z in
     let zc = inside-times c x z in
     let ar = inside-times r a z in
@@ -236,11 +233,11 @@ inside-comparable (tree n c r) a x z u both =
     (λ t. let ca = inside-absent c a z t in
     let same = subtree-elsewhere n c r a e ∙ ap (λ t. or_else t (subtree r a)) (subtree_gone c a t) in
     let s = ap (λ t. times_in t x) same in
-    let behind = inside-comparable r a x z ur (record { first = omega arith; second = omega arith; apart = omega arith }) in omega arith)
+    let behind = inside-comparable r a x z parts.after (record { first = omega arith; second = omega arith; apart = omega arith }) in omega arith)
     (λ t. let ra = inside-absent r a z (omega arith) in
     let same = subtree-elsewhere n c r a e ∙ ap (or_else (subtree c a)) (subtree_gone r a (omega arith)) ∙ or_else-none (subtree c a) in
     let s = ap (λ t. times_in t x) same in
-    let below = inside-comparable c a x z uc (record { first = omega arith; second = omega arith; apart = omega arith }) in omega arith)))
+    let below = inside-comparable c a x z parts.below (record { first = omega arith; second = omega arith; apart = omega arith }) in omega arith)))
 
 -- What comes before a node in tree order does not stand in its tree.
 before-front : (x : NodeName) (ns ms : List Node) → is_in name_eq x (names_of ns) ≡ true →
@@ -274,8 +271,7 @@ pub before-apart : (ts : Trees) (x : NodeName) → Once ts →
 before-apart none x u = tt
 before-apart (tree n c r) x u =
     let T : NodeName → Type 0 = λ y. (1 ≤ times_in (tree n c r) y) × (inside (tree n c r) x y ≡ 0) in
-    let uc : Once c = λ k. let o = u k in let m = times-more n c r k in omega arith in
-    let ur : Once r = λ k. let o = u k in let m = times-more n c r k in omega arith in
+    let parts = once_parts n c r u in
     let rest = items_before name_eq x (names_of (nodes c ++ nodes r)) in
     by_cases (name_eq x n.name)
     (λ e. subst (AllByRecursion T) (sym (cond-true (name_eq x n.name) [] (n.name ∷ rest) e)) tt)
@@ -294,7 +290,7 @@ before-apart (tree n c r) x u =
       here,
       by_cases (is_in name_eq x (names_of (nodes c)))
           (λ k. subst (AllByRecursion T) (sym (before-front x (nodes c) (nodes r) k))
-          (all-then (λ y. (1 ≤ times_in c y) × (inside c x y ≡ 0)) T below (items_before name_eq x (names_of (nodes c))) (before-apart c x uc)))
+          (all-then (λ y. (1 ≤ times_in c y) × (inside c x y ≡ 0)) T below (items_before name_eq x (names_of (nodes c))) (before-apart c x parts.below)))
           (λ k. let gone : times_in c x ≡ 0 = by_times (times_in c x) (λ z. z)
           (λ z. absurd (true≢false (sym (Rattle.dom_worlds.proofs.InsideAncestors.times-has_node c x z) ∙ k))) in
           subst (AllByRecursion T) (sym (before-back x (nodes c) (nodes r) k))
@@ -305,7 +301,7 @@ before-apart (tree n c r) x u =
           (λ y h. (
             (let h0 = h.0 in let g = times-more n c r y in omega arith),
             (let h1 = h.1 in let i = inside-elsewhere n c r x y other in let b = inside-absent c x y gone in omega arith),
-          )) (items_before name_eq x (names_of (nodes r))) (before-apart r x ur)))),
+          )) (items_before name_eq x (names_of (nodes r))) (before-apart r x parts.after)))),
     ))
 
 -- The nodes of a tree begin with its root.

@@ -25,7 +25,7 @@ use Rattle.dom_worlds.proofs.ShadowTrees.{owned-in, ancestors-owned, IsInTree, s
 use Rattle.dom_worlds.proofs.InsideAncestors.{parent-there, child-there, no_parent-root}
 use Rattle.dom_worlds.proofs.Lists.{all-then, by_cases, either_way, get-all, by_some_is}
 use Rattle.dom_worlds.proofs.Owners.{component-host, component-maker, component-deeper, hosted-is, node-there, there-hosted, hosted, hosted-owned}
-use Rattle.dom_worlds.proofs.ReachedFacts.{root-alone, no_other_shadow_roots, shadow_roots-are_roots}
+use Rattle.dom_worlds.proofs.Reached.{root-alone, no_other_shadow_roots, shadow_roots-are_roots}
 use Rattle.dom_worlds.proofs.Roots.{ancestors-step}
 use Rattle.dom_laws.proofs.Counts.{Once, times_subtree}
 use Rattle.dom_worlds.proofs.Trees.{ancestors-present, ancestors-root, ancestors-there, all-both}

@@ -9,7 +9,7 @@ use Rattle.dom_model.specs.Tree.{Trees, none, tree, Node, nodes, names_of, roots
 use Rattle.dom_model.specs.Tree.{inclusive_ancestors, is_inclusive_ancestor, on_top, parent_of}
 use Rattle.dom_model.proofs.OwnerLaws.{name_eq-same, name_eq-turned, name_eq-true}
 use Rattle.dom_worlds.proofs.Lists.{all-then, by_cases, or-first, or-second, or-later}
-use Rattle.dom_laws.proofs.Counts.{Once, by_times, times-here, times-elsewhere, times-more, times-parts, times_subtree}
+use Rattle.dom_laws.proofs.Counts.{Once, by_times, times-here, times-elsewhere, times-more, times-parts, times_subtree, once_parts}
 use Rattle.dom_laws.proofs.Paths.{subtree_gone, path_none}
 use Rattle.dom_worlds.proofs.Trees.{ancestors-present, ancestors-there}
 use Rattle.dom_worlds.proofs.TreeChangeLaws.{subtree-here, subtree-elsewhere, HasRoot, root-first, root-second, times-below}
@@ -45,8 +45,7 @@ pub inside-no_ancestor : (ts : Trees) (a z : NodeName) → Once ts → is_inclus
 inside-no_ancestor none a z u h = refl
 inside-no_ancestor (tree n c r) a z u h =
     let once = u z in
-    let uc : Once c = λ k. let o = u k in let m = times-more n c r k in omega arith in
-    let ur : Once r = λ k. let o = u k in let m = times-more n c r k in omega arith in
+    let parts = once_parts n c r u in
     let top = on_top (inclusive_ancestors c z) n.name (inclusive_ancestors r z) in
     by_cases (name_eq n.name z)
     (λ e. let is = cond-true (name_eq n.name z) (z ∷ []) top e in
@@ -58,14 +57,15 @@ inside-no_ancestor (tree n c r) a z u h =
     let g = times-elsewhere n c r z e in
     let k : is_in name_eq a top ≡ false = sym (ap (is_in name_eq a) is) ∙ h in
     by_times (times_in c z)
-    (λ t. let behind = inside-no_ancestor r a z ur (sym (ap (λ p. is_in name_eq a (on_top p n.name (inclusive_ancestors r z))) (path_none c z t)) ∙ k) in
+    (λ t. let behind = inside-no_ancestor r a z parts.after (sym (ap (λ p. is_in name_eq a (on_top p n.name (inclusive_ancestors r z)))
+    (path_none c z t)) ∙ k) in
     let below = inside-times c a z in
     by_cases (name_eq n.name a)
     (λ f. let i = inside-here n c r a z f in let j = times-elsewhere n c none z e in omega arith)
     (λ f. let i = inside-elsewhere n c r a z f in omega arith))
     (λ t. let at = ancestors-present c z t in
     let split : is_in name_eq a ((z ∷ at.0) ++ n.name ∷ []) ≡ false = sym (ap (λ p. is_in name_eq a (on_top p n.name (inclusive_ancestors r z))) at.1) ∙ k in
-    let below = inside-no_ancestor c a z uc (ap (is_in name_eq a) at.1 ∙ not_in-front a (z ∷ at.0) (n.name ∷ []) split) in
+    let below = inside-no_ancestor c a z parts.below (ap (is_in name_eq a) at.1 ∙ not_in-front a (z ∷ at.0) (n.name ∷ []) split) in
     let other = not-first (name_eq a n.name) false (not_in-back a (z ∷ at.0) (n.name ∷ []) split) in
     let i = inside-elsewhere n c r a z (name_eq-turned n.name a ∙ other) in
     let behind = inside-times r a z in omega arith))
@@ -76,8 +76,7 @@ inside-nested none a y z u h = omega arith
 inside-nested (tree n c r) a y z u h =
     let once = u y in
     let once_a = u a in
-    let uc : Once c = λ k. let o = u k in let m = times-more n c r k in omega arith in
-    let ur : Once r = λ k. let o = u k in let m = times-more n c r k in omega arith in
+    let parts = once_parts n c r u in
     let p = times-parts n c r y in
     by_cases (name_eq n.name a)
     (λ e. let s = ap (λ t. times_in t z) (subtree-here n c r a e) in
@@ -91,14 +90,14 @@ inside-nested (tree n c r) a y z u h =
     let k : 1 ≤ times_in (subtree r a) y = subst (λ t. 1 ≤ times_in t y) same h in
     let s = ap (λ t. times_in t z) same in
     let there = times_subtree r a y in
-    let behind = inside-nested r a y z ur k in
+    let behind = inside-nested r a y z parts.after k in
     let below = inside-absent c y z (let m = times-more n c none y in omega arith) in
     by_cases (name_eq n.name y) (λ f. absurd (let q = times-here n c r y f in omega arith)) (λ f. let i = inside-elsewhere n c r y z f in omega arith))
     (λ t. let same = subtree-elsewhere n c r a e ∙ ap (or_else (subtree c a)) (subtree_gone r a (omega arith)) ∙ or_else-none (subtree c a) in
     let k : 1 ≤ times_in (subtree c a) y = subst (λ t. 1 ≤ times_in t y) same h in
     let s = ap (λ t. times_in t z) same in
     let there = times_subtree c a y in
-    let below = inside-nested c a y z uc k in
+    let below = inside-nested c a y z parts.below k in
     let m = times-more n c r y in
     let behind = inside-absent r y z (omega arith) in
     by_cases (name_eq n.name y) (λ f. absurd (let q = times-here n c r y f in omega arith)) (λ f. let i = inside-elsewhere n c r y z f in omega arith)))

@@ -5,14 +5,14 @@ use Rattle.std.proofs.lemmas.Bool.{cond-true, cond-false}
 use Rattle.dom_base.specs.declared.NodeName.{NodeName}
 use Rattle.dom_model.specs.Names.{name_eq}
 use Rattle.dom_model.specs.Tree.{Trees, none, tree, Node, subtree, or_else, times_in}
-use Rattle.dom_model.specs.TreeChanges.{followed_by, without, put_before, put_below, put_root, taken_out, placed, with_node, map_nodes}
+use Rattle.dom_model.specs.TreeChanges.{without, put_before, put_below, put_root, taken_out, placed, with_node, map_nodes}
 use Rattle.dom_model.proofs.OwnerLaws.{name_eq-same}
 use Rattle.dom_worlds.proofs.Lists.{by_cases}
-use Rattle.dom_laws.proofs.Counts.{Once, by_times, times-here, times-elsewhere, times-more, times-parts, times_or_else}
+use Rattle.dom_laws.proofs.Counts.{Once, by_times, times-here, times-elsewhere, times-more, times-parts, times_or_else, once_parts}
 use Rattle.dom_laws.proofs.Paths.{subtree_gone}
-use Rattle.dom_worlds.proofs.TreeChangeLaws.{put_where, where-here, where-later, put_before-where, put_root-where, without-here, without-elsewhere}
-use Rattle.dom_worlds.proofs.TreeChangeLaws.{subtree-here, subtree-elsewhere, put_below-here, put_below-elsewhere, put_below-absent, times-put_root}
-use Rattle.dom_worlds.proofs.TreeChangeLaws.{times-put_before, times-without, times-map_nodes}
+use Rattle.dom_worlds.proofs.TreeChangeLaws.{without-here, without-elsewhere, times-put_below_all, subtree-here, subtree-elsewhere, put_below-here}
+use Rattle.dom_worlds.proofs.TreeChangeLaws.{put_below-elsewhere, put_below-absent, times-put_root, times-without, times-map_nodes}
+use Rattle.dom_worlds.proofs.Trees.{IsSum, sum-put_before, sum-put_root}
 
 -- how often z stands in the trees of nodes named a
 abbrev pub inside : Trees → NodeName → NodeName → ℕ
@@ -63,21 +63,13 @@ times-inside (tree n c r) a z =
     (λ e. let g = inside-elsewhere n c r a z e in let s = ap (λ t. times_in t z) (subtree-elsewhere n c r a e) in
     let o = times_or_else (subtree c a) (subtree r a) z in let below = times-inside c a z in let behind = times-inside r a z in omega arith)
 
--- Two lists, and trees put into a list.
-inside-followed : (ts us : Trees) (a z : NodeName) → inside (followed_by ts us) a z ≡ inside ts a z + inside us a z
-inside-followed none us a z = omega arith
-inside-followed (tree n c r) us a z = let h = inside-followed r us a z in omega arith
-
--- all that was put in and all that was there
-inside-where : (test : NodeName → _) (new ts : Trees) (a z : NodeName) → inside (put_where test new ts) a z ≡ inside new a z + inside ts a z
-inside-where test new none a z = omega arith
-inside-where test new (tree n c r) a z =
-    by_cases (test n.name) (λ e. ap (λ t. inside t a z) (where-here test new n c r e) ∙ inside-followed new (tree n c r) a z)
-    (λ e. let s = ap (λ t. inside t a z) (where-later test new n c r e) in let h = inside-where test new r a z in omega arith)
+-- trees put into a list
+inside-sum : (a z : NodeName) → IsSum (λ ts. inside ts a z)
+inside-sum a z = record { nothing = refl; more = λ n c r. omega arith }
 
 -- by the order of names
 pub inside-put_root : (y : NodeName) (new ts : Trees) (a z : NodeName) → inside (put_root y new ts) a z ≡ inside new a z + inside ts a z
-inside-put_root y new ts a z = ap (λ t. inside t a z) (put_root-where y new ts) ∙ inside-where (Rattle.dom_model.specs.Names.name_before y) new ts a z
+inside-put_root y new ts a z = sum-put_root (inside-sum a z) y new ts
 
 -- of the first list that is there
 inside-or_else : (ts us : Trees) (a z : NodeName) → inside (or_else ts us) a z ≤ inside ts a z + inside us a z
@@ -104,8 +96,7 @@ inside-without (tree n c r) y a z =
 module _ (before : Option NodeName) (new : Trees) (a z : NodeName) where
   -- before the node given
   pub inside-put_before : (ts : Trees) → inside (put_before before new ts) a z ≡ inside new a z + inside ts a z
-  inside-put_before ts = ap (λ t. inside t a z) (put_before-where before new ts) ∙
-      inside-where (Rattle.dom_model.specs.TreeChanges.is_given before) new ts a z
+  inside-put_before ts = sum-put_before (inside-sum a z) before new ts
 
   -- what is put below a node that does not stand in the tree of a
   inside-put_below : (parent : NodeName) (ts : Trees) → times_in ts parent ≤ 1 →
@@ -202,14 +193,13 @@ times-parted (tree n c r) y x u =
     let p = times-parts n c r x in omega arith)
     (λ e. let g = times-elsewhere n c r y e in
     let s = ap (λ t. times_in t x) (without-elsewhere n c r y e) in
-    let uc : Once c = λ k. let o = u k in let m = times-more n c r k in omega arith in
-    let ur : Once r = λ k. let o = u k in let m = times-more n c r k in omega arith in
+    let parts = once_parts n c r u in
     by_times (times_in c y)
     (λ z. let t = ap (λ t. times_in t x) (subtree-elsewhere n c r y e ∙ ap (λ t. or_else t (subtree r y)) (subtree_gone c y z)) in
-    let w = ap (λ t. times_in t x) (without-absent c y z) in let behind = times-parted r y x ur in omega arith)
+    let w = ap (λ t. times_in t x) (without-absent c y z) in let behind = times-parted r y x parts.after in omega arith)
     (λ z. let t = ap (λ t. times_in t x)
     (subtree-elsewhere n c r y e ∙ ap (or_else (subtree c y)) (subtree_gone r y (omega arith)) ∙ or_else-none (subtree c y)) in
-    let w = ap (λ t. times_in t x) (without-absent r y (omega arith)) in let below = times-parted c y x uc in omega arith))
+    let w = ap (λ t. times_in t x) (without-absent r y (omega arith)) in let below = times-parted c y x parts.below in omega arith))
 
 -- a node that leaves its parent
 pub times-taken_out_all : (ts : Trees) (y x : NodeName) → Once ts → times_in (taken_out y ts) x ≡ times_in ts x
@@ -228,25 +218,6 @@ pub record IsOutside (ts : Trees) (x y : NodeName) : Type 0 where
 pub record CanPlace (ts : Trees) (x parent : NodeName) : Type 0 where
   pub unique : Once ts
   pub below : IsOutside ts x parent
-
--- all that is put below a node
-pub times-put_below_all : (parent : NodeName) (before : Option NodeName) (new ts : Trees) (x : NodeName) → times_in ts parent ≡ 1 →
-    times_in (put_below parent before new ts) x ≡ times_in new x + times_in ts x
-times-put_below_all parent before new none x h = absurd (omega arith)
-times-put_below_all parent before new (tree n c r) x h =
-    by_cases (name_eq n.name parent)
-    (λ e. let a = ap (λ t. times_in t x) (put_below-here parent before new n c r e) in
-    let g = times-here n c r parent e in
-    let b = times-put_before before new (put_below parent before new c) x in
-    let d = ap (λ t. times_in t x) (put_below-absent parent before new c (omega arith)) in
-    let f = ap (λ t. times_in t x) (put_below-absent parent before new r (omega arith)) in omega arith)
-    (λ e. let a = ap (λ t. times_in t x) (put_below-elsewhere parent before new n c r e) in
-    let g = times-elsewhere n c r parent e in
-    by_times (times_in c parent)
-    (λ z. let b = ap (λ t. times_in t x) (put_below-absent parent before new c z) in let d = times-put_below_all parent before new r x
-    (omega arith) in omega arith)
-    (λ z. let b = ap (λ t. times_in t x) (put_below-absent parent before new r (omega arith)) in let d = times-put_below_all parent before new c x
-    (omega arith) in omega arith))
 
 -- a node that is placed below one that does not stand in its tree
 pub times-placed_all : {ts : Trees} {y parent : NodeName} (before : Option NodeName) (x : NodeName) → CanPlace ts y parent →

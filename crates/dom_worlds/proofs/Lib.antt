@@ -33,7 +33,6 @@ mod TableSteps
 mod TableRecords
 mod ChildCounts
 mod PlanPlaces
-mod PlanStages
 mod PlanChildren
 mod PlanTexts
 mod PlanRoots
@@ -45,7 +44,6 @@ mod TableRegisters
 mod TableLines
 mod TableWorlds
 mod Bounds
-mod ReachedFacts
 mod RangeBounds
 mod PlacedBounds
 mod TextBounds

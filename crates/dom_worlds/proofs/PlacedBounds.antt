@@ -20,15 +20,14 @@ use Rattle.dom_worlds.specs.Worlds.{IsPart}
 use Rattle.dom_worlds.proofs.ChildCounts.{kids, one_at, kids-placed, kids-map_nodes}
 use Rattle.dom_worlds.proofs.Roots.{node-taken_out, node-placed, node-map_nodes}
 use Rattle.dom_worlds.proofs.Lists.{all-then, either_way, all-from}
-use Rattle.dom_worlds.proofs.PlanChildren.{documented}
+use Rattle.dom_worlds.proofs.PlanChildren.{documented, Joins, each-by, inserting-by}
 use Rattle.dom_worlds.proofs.PlanPlaces.{may-place, MayGo, may-still, still, taken-step, telling-trees, root-adopting, after-append, emptied_of, leads-then}
 use Rattle.dom_worlds.proofs.PlanPlaces.{removing-each, leads-eased, placing-each, leads-removing, leads-adopting, leads-placing, leads-emptied}
 use Rattle.dom_worlds.proofs.PlanPlaces.{leads-making_room, placed-may}
-use Rattle.dom_worlds.proofs.ReachedFacts.{root-alone}
+use Rattle.dom_worlds.proofs.Reached.{root-alone}
 use Rattle.dom_worlds.proofs.TableSteps.{HasNode}
 use Rattle.dom_worlds.proofs.TreeChangeLaws.{HasRoot, root-placed, root-map_nodes}
 use Rattle.dom_worlds.proofs.Trees.{all-both}
-use Rattle.dom_worlds.proofs.PlanStages.{Joins, each-by, inserting-by}
 use Rattle.dom_worlds.proofs.PartSteps.{document_put, document_put-keeps}
 
 -- Texts stay where no data are replaced.

@@ -1,29 +1,90 @@
--- Plans leave the children of nodes that they do not name, and what an insertion places is a child.
-use Rattle.std.proofs.Common.{◌≡◌, ◌≤◌, ℕ, ◌-◌, Bool, true, false, not, List, [], ◌∷◌, ◌++◌, length, Option, Some, None, sym, ap, ◌∙◌, arith, true≢false, subst}
-use Rattle.std.specs.Prelude.{if◌then◌else◌, min}
+-- What holds of lists of steps one after another holds of insertions and of plans in turn; so plans leave the children that they do not name.
+use Rattle.std.proofs.Common.{◌++◌, ◌∷◌, [], Bool, false, length, List, None, Option, Some, true, ◌≡◌, ◌≤◌, ℕ, ◌-◌, not, sym, ap, ◌∙◌, arith, true≢false, subst}
 use Rattle.std.specs.List.{AllByRecursion}
-use Rattle.std.specs.Option.{option_map_or}
+use Rattle.std.specs.Prelude.{if◌then◌else◌, ⊤, min}
 use Rattle.dom_base.specs.declared.NodeName.{NodeName}
-use Rattle.dom_model.specs.Names.{DomString, name_eq, is_empty}
-use Rattle.dom_model.specs.Tree.{Trees, Node, node_in, kind_of, is_fragment, children_of, parent_of}
-use Rattle.dom_model.specs.TreeChanges.{with_name}
+use Rattle.dom_model.specs.Changes.{emptying, in_turn, inserting, inserting_nodes, making_room, Observing, placed_nodes, placing, Plan, removing}
+use Rattle.dom_model.specs.Changes.{sibling_before, steps_of, suppressed, telling, observed, removal_record, removing_from, has_document, changing_document}
+use Rattle.dom_model.specs.Changes.{adopting, document_below}
+use Rattle.dom_model.specs.Names.{is_empty, DomString, name_eq}
 use Rattle.dom_model.specs.Output.{child_list}
 use Rattle.dom_model.specs.Part.{Part, next_name}
-use Rattle.dom_model.specs.Steps.{Step, make, place, take_out, set_document, part_step, after}
-use Rattle.dom_model.specs.Changes.{in_turn, steps_of, Observing, observed, suppressed, telling, removal_record, removing, removing_from, has_document}
-use Rattle.dom_model.specs.Changes.{changing_document, adopting, document_below, placed_nodes, emptying, making_room, placing, sibling_before, inserting}
+use Rattle.dom_model.specs.Steps.{after, queue_record, Step, make, place, take_out, set_document, part_step}
+use Rattle.dom_model.specs.Tree.{is_fragment, kind_of, Trees, Node, node_in, children_of, parent_of}
+use Rattle.dom_worlds.specs.Worlds.{IsPart}
+use Rattle.dom_worlds.proofs.Lists.{all-from, all-then, either_way, by_cases, by_some_is}
+use Rattle.dom_worlds.proofs.PlanPlaces.{Changed, emptied_of, leads-each, leads-eased, leads-emptied, leads-making_room, leads-then, LeadsEach, may-still}
+use Rattle.dom_worlds.proofs.PlanPlaces.{MayGo, placed-may, placing-each, removing-each, may-place, taken-step, telling-trees, after-append, leads-removing}
+use Rattle.dom_worlds.proofs.PlanPlaces.{leads-adopting, leads-placing}
+use Rattle.std.specs.Option.{option_map_or}
+use Rattle.dom_model.specs.TreeChanges.{with_name}
 use Rattle.dom_model.specs.TextChanges.{replacing_data}
 use Rattle.dom_model.proofs.OwnerLaws.{name_eq-same, name_eq-true}
-use Rattle.dom_worlds.specs.Worlds.{IsPart}
 use Rattle.dom_worlds.proofs.ChildPairs.{childs, childs-taken_out, childs-placed, child-placed, childs-with_node, childs-map_nodes, childs-parent}
 use Rattle.dom_worlds.proofs.ChildPairs.{children-childs}
 use Rattle.dom_worlds.proofs.ChildCounts.{root-below}
-use Rattle.dom_worlds.proofs.Lists.{all-then, by_cases, either_way, by_some_is}
-use Rattle.dom_worlds.proofs.PlanPlaces.{may-place, MayGo, may-still, taken-step, telling-trees, after-append, leads-eased, leads-removing, leads-adopting}
-use Rattle.dom_worlds.proofs.PlanPlaces.{leads-placing, leads-making_room}
 use Rattle.dom_worlds.proofs.Trees.{all-in}
-use Rattle.dom_worlds.proofs.PlanStages.{Joins, inserting-by}
 use Rattle.dom_worlds.proofs.PartSteps.{data_put, data_put-keeps, document_put, document_put-keeps}
+
+-- It holds of no step, and of steps after steps.
+pub record Joins (S : Part → List Step → Type 0) : Type 0 where
+  pub nothing : (p : Part) → S p []
+  pub append : {spot : Option NodeName} (p : Part) (xs ys : List Step) → Changed spot p (after p xs) → S p xs → S (after p xs) ys → S p (xs ++ ys)
+
+-- What has to be shown of an insertion, of each part of its plan where that is made.
+pub record InsertsBy (S : Part → List Step → Type 0) (how : Observing) (node parent : NodeName) (before : Option NodeName) (p : Part) : Type 0 where
+  pub removals : S p (in_turn (removing suppressed) (placed_nodes p.trees node) p)
+  pub left : (q : Part) → Changed None p q → S q (queue_record (child_list node [] (placed_nodes p.trees node) None None) ∷ [])
+  pub room : (q : Part) → S q (making_room parent before (length (placed_nodes p.trees node)) q)
+  pub placed : (q : Part) → Changed (Some parent) p q → AllByRecursion (MayGo parent q) (placed_nodes p.trees node) →
+      S q (in_turn (placing parent before) (placed_nodes p.trees node) q)
+  pub told : (q : Part) → Changed (Some parent) p q →
+      S q (telling how (child_list parent (placed_nodes p.trees node) [] (sibling_before p.trees parent before) before))
+
+module _ {S : Part → List Step → Type 0} (joins : Joins S) where
+  -- of plans for items that lead on, if it holds of each
+  pub each-by : {A : Type 0} {spot : Option NodeName} {Q : Part → A → Type 0} {f : A → Plan} → LeadsEach spot Q f →
+      ((p : Part) (x : A) → IsPart p → Q p x → S p (f x p)) → (xs : List A) (p : Part) → IsPart p → AllByRecursion (Q p) xs → S p (in_turn f xs p)
+  each-by each holds [] p i g = joins.nothing p
+  each-by {Q = Q} {f = f} each holds (x ∷ xs) p i g =
+      let c = (each.leads p x i g.0).changed in
+      let q = after p (f x p) in
+      joins.append p (f x p) (in_turn f xs q) c (holds p x i g.0)
+      (each-by each holds xs q c.part (all-then (Q p) (Q q) (λ y. each.stays p q y c) xs g.1))
+
+  -- of a fragment that is emptied
+  emptied-by : {node : NodeName} {p : Part} → IsPart p → S p (in_turn (removing suppressed) (placed_nodes p.trees node) p) →
+      ((q : Part) → Changed None p q → S q (queue_record (child_list node [] (placed_nodes p.trees node) None None) ∷ [])) → S p (emptied_of p node p)
+  emptied-by {node} {p} i removals left =
+      let moved = placed_nodes p.trees node in
+      let gone = in_turn (removing suppressed) moved p in
+      let c = (leads-each (removing-each suppressed) moved p i (all-from (λ y. ⊤) (λ y. tt) moved)).changed in
+      from (is_fragment (kind_of p.trees node))
+      (joins.append p gone (queue_record (child_list node [] moved None None) ∷ []) c removals (left (after p gone) c))
+    where
+      from : (b : Bool) → S p (emptying node (placed_nodes p.trees node) p) → S p ((if b then emptying node (placed_nodes p.trees node) else steps_of []) p)
+      from true h = h
+      from false h = joins.nothing p
+
+  -- of an insertion
+  pub inserting-by : {how : Observing} {node parent : NodeName} {before : Option NodeName} {p : Part} → IsPart p → MayGo parent p node →
+      InsertsBy S how node parent before p → S p (inserting how node parent before p)
+  inserting-by {how} {node} {parent} {before} {p} i m by =
+      let spot = Some parent in
+      let moved = placed_nodes p.trees node in
+      let one = emptied_of p node p in
+      let a = leads-eased spot p one (leads-emptied node p i) in
+      let q = after p one in
+      let two = making_room parent before (length moved) q in
+      let ab = leads-then spot p one two a (leads-eased spot q two (leads-making_room parent before (length moved) q a.changed.part)) in
+      let r = after p (one ++ two) in
+      let three = in_turn (placing parent before) moved r in
+      let may = all-then (MayGo parent p) (MayGo parent r) (λ y. may-still parent p r y ab.changed) moved (placed-may parent p node i m) in
+      let abc = leads-then spot p (one ++ two) three ab (leads-each (placing-each parent before) moved r ab.changed.part may) in
+      either_way (S p) (is_empty moved) [] (inserting_nodes how node moved parent before p) (joins.nothing p)
+      (joins.append p ((one ++ two) ++ three) (telling how (child_list parent moved [] (sibling_before p.trees parent before) before)) abc.changed
+      (joins.append p (one ++ two) three ab.changed (joins.append p one two a.changed (emptied-by i by.removals by.left) (by.room q))
+      (by.placed r ab.changed may)) (by.told (after p ((one ++ two) ++ three)) abc.changed))
 
 -- The trees with another node document
 pub documented : (d x : NodeName) (q : Part) (P : Trees → Type 0) → P q.trees → P (part_step q (set_document x d)).trees →

@@ -5,7 +5,7 @@ use Rattle.std.specs.Prelude.{⊤, slice_get}
 use Rattle.std.specs.Option.{option_map_or, option_flatten}
 use Rattle.dom_base.specs.declared.NodeName.{NodeName}
 use Rattle.dom_model.specs.Names.{name_eq}
-use Rattle.dom_model.specs.Tree.{Trees, Node, node_in, parent_of, root_of, index_of, next_sibling, is_inclusive_ancestor}
+use Rattle.dom_model.specs.Tree.{Trees, node_in, parent_of, root_of, index_of, next_sibling, is_inclusive_ancestor}
 use Rattle.dom_model.specs.TreeChanges.{taken_out}
 use Rattle.dom_model.specs.Output.{child_list}
 use Rattle.dom_model.specs.Part.{Part, next_name, range_at}
@@ -19,7 +19,7 @@ use Rattle.dom_model.specs.TextChanges.{replacing_data, new_text_node, placing_t
 use Rattle.dom_worlds.specs.Worlds.{IsPart}
 use Rattle.dom_worlds.specs.Tables.{IsNodeIn, EndsIn, HasTables}
 use Rattle.dom_worlds.proofs.Insides.{inside}
-use Rattle.dom_worlds.proofs.InsideAncestors.{times-has_node}
+use Rattle.dom_worlds.proofs.InsideAncestors.{times-has_node, parent-there}
 use Rattle.dom_worlds.proofs.KindLines.{has_node-times}
 use Rattle.dom_worlds.proofs.Lists.{either_way, at-each, by_some_is}
 use Rattle.dom_worlds.proofs.PartSteps.{part-step}
@@ -29,7 +29,7 @@ use Rattle.dom_worlds.proofs.Roots.{KeepsRoots, roots-stay, roots-left}
 use Rattle.dom_worlds.proofs.TableSteps.{HasNode, Fits, MadeIn, MovesIn, ancestors-step, stays-step, moves-insert, moves-removal, moves-data, moves-split}
 use Rattle.dom_worlds.proofs.TableSteps.{moves-join}
 use Rattle.dom_worlds.proofs.TableRecords.{IfSome, tables-step}
-use Rattle.dom_worlds.proofs.PlanStages.{Joins, each-by, inserting-by}
+use Rattle.dom_worlds.proofs.PlanChildren.{Joins, each-by, inserting-by}
 
 -- The start of a live range, if there is one, has the root of a node.
 abbrev pub StartsBy : ℕ → NodeName → Part → Type 0
@@ -212,21 +212,15 @@ spares-inserting {node} {parent} {p} how before i m =
 
 -- a split of a Text below the node
 pub spares-splitting : (x : NodeName) (offset : ℕ) (p : Part) → IsPart p → SparesAll (unwrap_or (parent_of p.trees x) x) p (splitting x offset p)
-spares-splitting x offset p i = from (parent_of p.trees x) refl
-  where
-    tail : Node
-    tail = new_text_node (next_name p) (node_in p.trees x).document (drop offset (node_in p.trees x).text)
-
-    from : (o : Option NodeName) → parent_of p.trees x ≡ o →
-        SparesAll (unwrap_or o x) p (((make tail ∷ []) ++ placing_tail x offset (next_name p) o (part_step p (make tail))) ++
-        replacing_data x offset (length (node_in p.trees x).text - offset) []
-        (after p ((make tail ∷ []) ++ placing_tail x offset (next_name p) o (part_step p (make tail)))))
-    from None e = (tt, (tt, (tt, tt)))
-    from (Some parent) e =
-        let q = part_step p (make tail) in
-        let j = (leads-one p (make tail) i tt).changed.part in
-        let may = new-may p tail parent i (Rattle.dom_worlds.proofs.InsideAncestors.parent-there p.trees x parent e) in
-        let put = inserting observed (next_name p) parent (next_sibling q.trees x) q in
-        let one = make tail ∷ placing_tail x offset (next_name p) (Some parent) q in
-        spares-append parent p one (replacing_data x offset (length (node_in p.trees x).text - offset) [] (after p one))
-        (tt, spares-append parent q put _ (spares-inserting observed (next_sibling q.trees x) j may) (tt, tt)) (tt, (tt, tt))
+spares-splitting x offset p i =
+    let old = node_in p.trees x in
+    let new = next_name p in
+    let tail = new_text_node new old.document (drop offset old.text) in
+    let spot = parent_of p.trees x in
+    let q = part_step p (make tail) in
+    let one = make tail ∷ placing_tail x offset new spot q in
+    let put = by_some_is (λ (o : Option NodeName). SparesAll (unwrap_or o x) q (placing_tail x offset new o q)) spot (λ e. tt)
+    (λ parent e. spares-append parent q (inserting observed new parent (next_sibling q.trees x) q) _
+    (spares-inserting observed (next_sibling q.trees x) (leads-one p (make tail) i tt).changed.part
+    (new-may p tail parent i (parent-there p.trees x parent e))) (tt, tt)) in
+    spares-append (unwrap_or spot x) p one (replacing_data x offset (length old.text - offset) [] (after p one)) (tt, put) (tt, (tt, tt))

@@ -1,5 +1,5 @@
 -- What other crates cite of live ranges, and the ends of ranges within their nodes.
-pub use Rattle.dom_worlds.proofs.Bounds.{RangeUnder, length-replaced, nowhere, reach, HasRoom, Under, length-like, ranges-more}
+pub use Rattle.dom_worlds.proofs.Bounds.{RangeUnder, length-replaced, nowhere, reach}
 pub use Rattle.dom_worlds.proofs.RangeBounds.{room-removals, child-there_in}
 pub use Rattle.dom_worlds.proofs.TextBounds.{joining-fits, room-normalizing_text, text-data, total}
 pub use Rattle.dom_worlds.proofs.BoundLines.{insertion-open, under-at}

@@ -27,7 +27,7 @@ use Rattle.dom_worlds.proofs.PlanTexts.{leads-plan}
 use Rattle.dom_worlds.proofs.TableSteps.{HasNode, Fits, Grows, grows-step, grows-times}
 use Rattle.dom_worlds.proofs.TableRecords.{IfSome, first-all, last-all, before-all, after-all, all-get}
 use Rattle.dom_laws.proofs.Counts.{times_subtree}
-use Rattle.dom_worlds.proofs.PlanStages.{Joins, each-by, inserting-by}
+use Rattle.dom_worlds.proofs.PlanChildren.{Joins, each-by, inserting-by}
 
 -- What a step records is there.
 abbrev pub Tells : Part → Step → Type 0

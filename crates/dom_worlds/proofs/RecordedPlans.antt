@@ -1,6 +1,6 @@
 -- The records of the plans of texts and ranges name nodes that are there.
 use Rattle.std.proofs.Common.{◌≡◌, ℕ, ◌+◌, ◌-◌, Bool, true, false, not, ◌&&◌, List, [], ◌∷◌, ◌++◌, map, filter, flat_map, drop, length, Option, Some, None}
-use Rattle.std.proofs.Common.{refl, sym, ◌∙◌, subst, ◌≤◌, unwrap_or, ap, arith}
+use Rattle.std.proofs.Common.{refl, sym, subst, ◌≤◌, unwrap_or, ap, arith}
 use Rattle.std.specs.Prelude.{if◌then◌else◌, ◌==◌, slice_get}
 use Rattle.std.specs.List.{AllByRecursion}
 use Rattle.std.specs.Option.{option_map_or, option_and_then}
@@ -16,7 +16,7 @@ use Rattle.dom_model.specs.Changes.{reference_for, pre_inserting}
 use Rattle.dom_model.specs.TextChanges.{replacing_data, new_text_node, replacing_all_data, placing_tail, splitting, texts_after, joins, joining}
 use Rattle.dom_model.specs.TextChanges.{normalizing_text, normalizing, replacing_children, setting_text}
 use Rattle.dom_worlds.specs.Worlds.{IsPart}
-use Rattle.dom_worlds.proofs.Lists.{all-dropped, all-then, all-filter, either_way, which_way}
+use Rattle.dom_worlds.proofs.Lists.{all-dropped, all-then, all-filter, either_way, which_way, by_some_is}
 use Rattle.dom_worlds.proofs.PlanPlaces.{Changed, MayGo, may-still, still, leads-then, leads-eased, leads-one, leads-each, inserting-each, after-append}
 use Rattle.dom_worlds.proofs.PlanPlaces.{leads-removing, leads-inserting, changed-eased}
 use Rattle.dom_worlds.proofs.PlanTexts.{IsReplaced, replaced-by, leads-removals, leads-replacing_data, leads-tail, leads-joins, normalizing-each, may-follow}
@@ -36,49 +36,28 @@ use Rattle.dom_worlds.proofs.PartSteps.{next-absent}
 use Rattle.dom_worlds.proofs.PlanContents.{CanTake, take-still, take-below, OldIn, old-may, old-there, whole-then, changed-inner, leads-making_below}
 use Rattle.dom_worlds.proofs.PlanContents.{leads-taking, leads-cutting, pieces-there}
 use Rattle.dom_worlds.proofs.TableRecords.{IfSome, all-get}
-use Rattle.dom_worlds.proofs.PlanStages.{each-by}
+use Rattle.dom_worlds.proofs.PlanChildren.{each-by}
 
 -- A split, after which the new Text is there.
 pub tells-splitting : (x : NodeName) (offset : ℕ) (p : Part) → IsPart p → HasNode p x → TellsIn p (splitting x offset p) ×
     HasNode (after p (splitting x offset p)) (next_name p)
-tells-splitting x offset p i t = from (parent_of p.trees x) refl
-  where
-    tail : Node
-    tail = new_text_node (next_name p) (node_in p.trees x).document (drop offset (node_in p.trees x).text)
-
-    all : Option NodeName → List Step
-    all o = (make tail ∷ placing_tail x offset (next_name p) o (part_step p (make tail))) ++
-        replacing_data x offset (length (node_in p.trees x).text - offset) []
-        (after p (make tail ∷ placing_tail x offset (next_name p) o (part_step p (make tail))))
-
-    last : (q : Part) → IsPart q → HasNode q (next_name p) →
-        HasNode (after q (replacing_data x offset (length (node_in p.trees x).text - offset) [] q)) (next_name p)
-    last q j n = still (leads-replacing_data x offset (length (node_in p.trees x).text - offset) [] q j).changed (next_name p) n
-
-    from : (o : Option NodeName) → parent_of p.trees x ≡ o → TellsIn p (all o) × HasNode (after p (all o)) (next_name p)
-    from None e =
-        let q = part_step p (make tail) in
-        let c = (leads-one p (make tail) i tt).changed in
-        ((tt, tells-replacing_data x offset (length (node_in p.trees x).text - offset) [] q (still c x t)), last q c.part (new-there p tail))
-    from (Some parent) e =
-        let q = part_step p (make tail) in
-        let c = (leads-one p (make tail) i tt).changed in
-        let new = next_name p in
-        let follow = may-follow tail x i refl e in
-        let put = inserting observed new parent (next_sibling q.trees x) q in
-        let one = make tail ∷ placing_tail x offset new (Some parent) q in
-        let l = leads-tail offset (Some parent) c.part (new-there p tail) (λ y g. may-follow tail x i refl (e ∙ g)) in
-        let r = after p one in
-        let rest = replacing_data x offset (length (node_in p.trees x).text - offset) [] r in (
-          tells-append p one rest (
-            tt,
-            tells-append q put _
-                (tells-inserting observed (next_sibling q.trees x) c.part follow.may (next-there q x (still c x t))) (tt, tt),
-          )
-              (tells-replacing_data x offset (length (node_in p.trees x).text - offset) [] r (still l.changed x (still c x t))),
-          subst (λ (s : Part). HasNode s new) (sym (Rattle.dom_worlds.proofs.PlanPlaces.after-append p one rest))
-              (last r l.changed.part (still l.changed new (new-there p tail))),
-        )
+tells-splitting x offset p i t =
+    let old = node_in p.trees x in
+    let new = next_name p in
+    let tail = new_text_node new old.document (drop offset old.text) in
+    let spot = parent_of p.trees x in
+    let q = part_step p (make tail) in
+    let c = (leads-one p (make tail) i tt).changed in
+    let put = placing_tail x offset new spot in
+    let cut = replacing_data x offset (length old.text - offset) [] in
+    let l = leads-tail {x = x} offset spot c.part (new-there p tail) (λ parent e. may-follow tail x i refl e) in
+    let told = by_some_is (λ (o : Option NodeName). TellsIn q (placing_tail x offset new o q)) spot (λ e. tt)
+    (λ parent e. tells-append q (inserting observed new parent (next_sibling q.trees x) q) _
+    (tells-inserting observed (next_sibling q.trees x) c.part (may-follow tail x i refl e).may (next-there q x (still c x t))) (tt, tt)) in (
+      (tt, tells-plan put cut l told (λ r d. tells-replacing_data x offset (length old.text - offset) [] r (still d x (still c x t)))),
+      still (leads-plan spot put cut q l
+          (λ r d. leads-eased spot r (cut r) (leads-replacing_data x offset (length old.text - offset) [] r d.part))).changed new (new-there p tail),
+    )
 
 -- Joins record nothing.
 tells-joins : (ts : Trees) (x parent : NodeName) (size : ℕ) (ys : List NodeName) (p : Part) → TellsIn p (joins ts x parent size ys)

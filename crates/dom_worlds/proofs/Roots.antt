@@ -15,7 +15,7 @@ use Rattle.dom_worlds.proofs.Insides.{IsOutside, unique-taken_out, inside, insid
 use Rattle.dom_worlds.proofs.Insides.{times-taken_out_all, times-placed_all}
 use Rattle.dom_worlds.proofs.InsideAncestors.{parent-there}
 use Rattle.dom_worlds.proofs.Lists.{by_cases, or-first, or-second, or-later}
-use Rattle.dom_laws.proofs.Counts.{Once, by_times, times-here, times-elsewhere, times-more}
+use Rattle.dom_laws.proofs.Counts.{Once, by_times, times-here, times-elsewhere, once_parts}
 use Rattle.dom_worlds.proofs.Trees.{all-in, last_from, last-is, last-in, ancestors-present, ancestors-root}
 use Rattle.dom_laws.proofs.Paths.{path_none}
 use Rattle.dom_worlds.specs.Worlds.{AllNodes}
@@ -29,8 +29,7 @@ use Rattle.dom_worlds.proofs.ChildCounts.{kids, kids-absent, length-children}
 pub ancestors-step : (ts : Trees) (x y : NodeName) → Once ts → parent_of ts x ≡ Some y → inclusive_ancestors ts x ≡ x ∷ inclusive_ancestors ts y
 ancestors-step none x y u h = cc
 ancestors-step (tree n c r) x y u h =
-    let uc : Once c = λ k. let o = u k in let m = times-more n c r k in omega arith in
-    let ur : Once r = λ k. let o = u k in let m = times-more n c r k in omega arith in
+    let parts = once_parts n c r u in
     let once = u x in
     let once_y = u y in
     let top = on_top (inclusive_ancestors c x) n.name (inclusive_ancestors r x) in
@@ -46,12 +45,12 @@ ancestors-step (tree n c r) x y u h =
     let there = parent-there r x y up in
     let other : name_eq n.name y ≡ false = by_cases (name_eq n.name y) (λ k. absurd (let q = times-here n c r y k in omega arith)) (λ k. k) in
     let gy = times-elsewhere n c r y other in
-    all ∙ ancestors-step r x y ur up ∙ ap (λ p. x ∷ p)
+    all ∙ ancestors-step r x y parts.after up ∙ ap (λ p. x ∷ p)
     (sym (cond-false (name_eq n.name y) (y ∷ []) top_y other ∙ ap (λ p. on_top p n.name (inclusive_ancestors r y))
     (path_none c y (omega arith)))))
     (λ z. let at = ancestors-present c x z in
     let all : inclusive_ancestors (tree n c r) x ≡ (x ∷ at.0) ++ n.name ∷ [] = here ∙ ap (λ p. on_top p n.name (inclusive_ancestors r x)) at.1 in
-    from (λ e. ancestors-step c x y uc e) at.0 at.1 all (sym (ap (λ p. first_of (drop 1 p)) all) ∙ h) once_y))
+    from (λ e. ancestors-step c x y parts.below e) at.0 at.1 all (sym (ap (λ p. first_of (drop 1 p)) all) ∙ h) once_y))
   where
     from : (parent_of c x ≡ Some y → inclusive_ancestors c x ≡ x ∷ inclusive_ancestors c y) → (path : List NodeName) →
         inclusive_ancestors c x ≡ x ∷ path → inclusive_ancestors (tree n c r) x ≡ (x ∷ path) ++ n.name ∷ [] →
@@ -92,8 +91,7 @@ module _ {y : NodeName} (ts : Trees) (x : NodeName) (u : Once ts) (h : parent_of
 pub parent-apart : (ts : Trees) (x y : NodeName) → Once ts → parent_of ts x ≡ Some y → inside ts x y ≡ 0
 parent-apart none x y u h = cc
 parent-apart (tree n c r) x y u h =
-    let uc : Once c = λ k. let o = u k in let m = times-more n c r k in omega arith in
-    let ur : Once r = λ k. let o = u k in let m = times-more n c r k in omega arith in
+    let parts = once_parts n c r u in
     let once = u x in
     let top = on_top (inclusive_ancestors c x) n.name (inclusive_ancestors r x) in
     by_cases (name_eq n.name x)
@@ -104,12 +102,12 @@ parent-apart (tree n c r) x y u h =
     by_times (times_in c x)
     (λ z. let all : inclusive_ancestors (tree n c r) x ≡ inclusive_ancestors r x = here ∙ ap (λ p. on_top p n.name (inclusive_ancestors r x))
     (path_none c x z) in
-    let behind = parent-apart r x y ur (sym (ap (λ p. first_of (drop 1 p)) all) ∙ h) in
+    let behind = parent-apart r x y parts.after (sym (ap (λ p. first_of (drop 1 p)) all) ∙ h) in
     let below = inside-absent c x y z in omega arith)
     (λ z. let at = ancestors-present c x z in
     let all : inclusive_ancestors (tree n c r) x ≡ (x ∷ at.0) ++ n.name ∷ [] = here ∙ ap (λ p. on_top p n.name (inclusive_ancestors r x)) at.1 in
     let behind = inside-absent r x y (omega arith) in
-    let below = from (λ up. parent-apart c x y uc up) at.0 at.1 (sym (ap (λ p. first_of (drop 1 p)) all) ∙ h) (u y) in omega arith))
+    let below = from (λ up. parent-apart c x y parts.below up) at.0 at.1 (sym (ap (λ p. first_of (drop 1 p)) all) ∙ h) (u y) in omega arith))
   where
     from : (parent_of c x ≡ Some y → inside c x y ≡ 0) → (path : List NodeName) → inclusive_ancestors c x ≡ x ∷ path →
         first_of (path ++ n.name ∷ []) ≡ Some y → times_in (tree n c r) y ≤ 1 → inside c x y ≡ 0

@@ -6,7 +6,7 @@ use Rattle.dom_base.specs.declared.NodeName.{NodeName}
 use Rattle.dom_base.specs.declared.Refusal.TheVariants.{Hierarchy}
 use Rattle.dom_model.specs.Command.{NodeWord}
 use Rattle.dom_model.specs.CommandNames.{named}
-use Rattle.dom_model.specs.Effects.{Effect, tables, changes, with_range, collapsed_to, moves_iterator, sets_walker}
+use Rattle.dom_model.specs.Effects.{answers, Effect, tables, changes, with_range, collapsed_to, moves_iterator, sets_walker}
 use Rattle.dom_model.specs.Names.{name_eq, first_of, last_of, items_before, items_after}
 use Rattle.dom_model.specs.Part.{Part}
 use Rattle.dom_model.specs.Place.{Boundary, same_root, is_before}
@@ -28,7 +28,7 @@ use Rattle.dom_worlds.proofs.Lists.{which_way, all-set, all-dropped, all-append,
 use Rattle.std.specs.List.{AllByRecursion}
 use Rattle.dom_base.specs.declared.Move.{Move}
 use Rattle.dom_base.specs.declared.Move.TheVariants.{Parent, First, Last, Next, Previous, NextSibling, PreviousSibling}
-use Rattle.dom_model.specs.Output.{Value}
+use Rattle.dom_model.specs.Output.{Value, nothing}
 use Rattle.dom_model.specs.Traversal.{Iterator, Walker, iterator_next_node, iterator_previous_node, nodes_ahead, nodes_passed, accepts, walker_move}
 use Rattle.dom_model.specs.Traversal.{walker_step, walker_children, walker_nodes, walker_siblings}
 use Rattle.dom_laws.proofs.Counts.{Once}
@@ -85,16 +85,11 @@ exists-third p x y z h =
     let both = and_parts (has_node p.trees (named p x)) more (and_parts (has_node p.trees (named p x) && more) true h).0 in
     has_node-times p.trees (named p z) (and_parts (has_node p.trees (named p z)) true (and_parts (has_node p.trees (named p y)) last both.1).1).0
 
--- What is made of something, and where there is nothing, holds.
-pub record HoldsEach {X : Type 0} (P : X → Type 0) (p : Part) (f : X → Effect) (d : Effect) : Type 0 where
-  pub each : (x : X) → P x → Holds p (f x)
-  pub otherwise : Holds p d
-
--- what holds in each case holds of what is made of it
-pub some-holds : {X : Type 0} {P : X → Type 0} (p : Part) (o : Option X) (f : X → Effect) (d : Effect) → IfSome P o → HoldsEach P p f d →
-    Holds p (option_map_or f o d)
-some-holds p None f d h made = made.otherwise
-some-holds p (Some x) f d h made = made.each x h
+-- what holds in each case holds of what is made of a thing that may not be there
+pub some-holds : {X : Type 0} {P : X → Type 0} (p : Part) (o : Option X) (f : X → Effect) → IfSome P o → ((x : X) → P x → Holds p (f x)) → HasTables p →
+    Holds p (option_map_or f o (answers p nothing))
+some-holds p None f g each h = h
+some-holds p (Some x) f g each h = each x g
 
 -- a range that is written
 pub tables-range : (p : Part) (k : ℕ) (r : Option (Range NodeName)) → HasTables p → EndsIn p.trees r → HasTables (with_range p k r)

@@ -3,25 +3,22 @@ use Rattle.std.proofs.Common.{◌≡◌, ℕ, true, false, ◌&&◌, List, [], �
 use Rattle.std.proofs.Common.{arith, true≢false}
 use Rattle.std.specs.Prelude.{slice_get, nat_eq}
 use Rattle.std.specs.List.{AllByRecursion}
-use Rattle.std.specs.Option.{option_map_or}
 use Rattle.dom_base.specs.declared.NodeName.{NodeName}
 use Rattle.dom_model.specs.Changes.{observed, reference_for}
 use Rattle.dom_model.specs.Command.{Command, Line, EventWords, part_refusal, effect}
 use Rattle.dom_model.specs.CommandNames.{named}
-use Rattle.dom_model.specs.CommandRefusals.{of_range}
 use Rattle.dom_model.specs.Effects.{Effect, tables, changes, answers, moves_iterator, sets_walker, node_or_null}
 use Rattle.dom_model.specs.Extract.{extracting}
 use Rattle.dom_model.specs.Output.{Value, nothing, a_node, a_string, boundaries, reference}
 use Rattle.dom_model.specs.Part.{Part, range_at, first_node}
 use Rattle.dom_model.specs.RangeOps.{deleting, inserting_into_range, range_text_of}
 use Rattle.dom_model.specs.Ranges.{Range}
-use Rattle.dom_model.specs.Steps.{Step}
 use Rattle.dom_model.specs.Traversal.{Iterator, Walker, iterator_next_node, iterator_previous_node, walker_move}
 use Rattle.dom_model.specs.Tree.{has_node, length_of, node_in}
 use Rattle.dom_worlds.specs.Worlds.{IsPart, IsThere}
 use Rattle.dom_worlds.specs.Tables.{IsRecordIn, HasTables, HasRecords, IsNodeIn, IsRegistrationIn, IsListenerIn, IsNodeAt, IsWhole}
-use Rattle.dom_worlds.proofs.Effects.{part-accepted, attach-may, KeepsBase, base-effect}
-use Rattle.dom_worlds.proofs.Lists.{all-append, all-set, all-filter, either_way, by_some_is}
+use Rattle.dom_worlds.proofs.Effects.{part-accepted, attach-may, KeepsBase, base-effect, some-effect, range-steps}
+use Rattle.dom_worlds.proofs.Lists.{all-append, all-set, all-filter, either_way}
 use Rattle.dom_worlds.proofs.PlanContents.{range-ends}
 use Rattle.dom_worlds.proofs.Recorded.{TellsIn, reference-there, tells-removing, tells-adopting, tells-inserting, tells-replacing, tells-setting_attribute}
 use Rattle.dom_worlds.proofs.Recorded.{tells-unsetting_attribute, tells-replacing_data, records-emptied}
@@ -50,8 +47,7 @@ use Rattle.dom_worlds.specs.Wholes.{FirstIsWhole, StepKeepsWhole, EndingKeepsWho
 use Rattle.dom_worlds.proofs.InsideAncestors.{times-has_node}
 use Rattle.dom_worlds.proofs.KindLines.{attach-free}
 use Rattle.dom_worlds.proofs.Owners.{absent-part, next-absent, there-hosted}
-use Rattle.dom_worlds.proofs.Reached.{first-is_reached, IsSound, reached-of, sound-keeps, sound-of}
-use Rattle.dom_worlds.proofs.ReachedFacts.{shadow_roots-are_roots}
+use Rattle.dom_worlds.proofs.Reached.{first-is_reached, IsSound, reached-of, sound-keeps, sound-of, shadow_roots-are_roots}
 use Rattle.dom_worlds.proofs.TableSteps.{Grows}
 use Rattle.dom_worlds.proofs.TableRecords.{queues-set}
 use Rattle.dom_worlds.proofs.TableWorlds.{Ground, ground-of, Frame, frame-with_part, frame-world_after}
@@ -64,23 +60,10 @@ abbrev pub Records : Part → Effect → Type 0
 Records p (tables q lines v) = HasRecords q
 Records p (changes steps v) = TellsIn p steps
 
--- of a thing that may not be there
-some-records : {X : Type 0} (p : Part) (o : Option X) (f : X → Effect) (d : Effect) → ((x : X) → Records p (f x)) → Records p d →
-    Records p (option_map_or f o d)
-some-records p None f d h g = g
-some-records p (Some x) f d h g = h x
-
 -- a walker that is set
 walker-records : (p : Part) (k : ℕ) (w : Walker) (o : Option NodeName) (v : Value) → HasRecords p → Records p (sets_walker p k w o v)
 walker-records p k w None v h = h
 walker-records p k w (Some x) v h = h
-
--- a plan for a range
-range-records : (p : Part) (k : ℕ) (f : Range NodeName → List Step) →
-    ((range : Range NodeName) → range_at p k ≡ Some range → TellsIn p (f range)) → TellsIn p (of_range p k [] f)
-range-records p k f g =
-    by_some_is (λ (o : Option (Range NodeName)). TellsIn p (of_range p k [] f)) (range_at p k) (λ e. subst (λ o. TellsIn p (option_map_or f o [])) (sym e) tt)
-    (λ range e. subst (λ o. TellsIn p (option_map_or f o [])) (sym e) (g range e))
 
 -- Every accepted command.
 pub records-effect : (p : Part) → IsPart p → HasTables p → HasRecords p → (c : Command) → part_refusal p c ≡ None → Records p (effect p c)
@@ -126,31 +109,31 @@ records-effect p i t h (Command.split x j) r = let k =
 records-effect p i t h (Command.set_text x s) r = let k =
     part-accepted p (Command.set_text x s) r in tells-setting_text (named p x) s p i (exists-first p x true true k.exist)
 records-effect p i t h (Command.range_get k) r =
-    some-records p (range_at p k) (λ (r : Range NodeName). answers p (boundaries r.start r.end)) (answers p nothing) (λ x. h) h
+    some-effect (Records p) (range_at p k) (λ (r : Range NodeName). answers p (boundaries r.start r.end)) (λ x. h) h
 records-effect p i t h (Command.range_text k) r =
-    some-records p (range_at p k) (λ (r : Range NodeName). answers p (a_string (range_text_of p.trees r))) (answers p nothing) (λ x. h) h
+    some-effect (Records p) (range_at p k) (λ (r : Range NodeName). answers p (a_string (range_text_of p.trees r))) (λ x. h) h
 records-effect p i t h (Command.extract k) r =
-    range-records p k (λ range. extracting k range p) (λ range e. tells-extracting k range p i (range-ends p k t range e).0)
+    range-steps (TellsIn p) p k tt (λ range. extracting k range p) (λ range e. tells-extracting k range p i (range-ends p k t range e).0)
 records-effect p i t h (Command.delete k) r =
-    range-records p k (λ range. deleting k range p) (λ range e. let ends = range-ends p k t range e in tells-deleting k range p i ends.0 ends.1)
+    range-steps (TellsIn p) p k tt (λ range. deleting k range p) (λ range e. let ends = range-ends p k t range e in tells-deleting k range p i ends.0 ends.1)
 records-effect p i t h (Command.insert_node k x) r =
     let a = part-accepted p (Command.insert_node k x) r in
-    range-records p k (λ range. inserting_into_range k range (named p x) p)
+    range-steps (TellsIn p) p k tt (λ range. inserting_into_range k range (named p x) p)
     (λ range e. tells-inserting_into_range k range i (range-ends p k t range e).0
     (insert_node-may i t a e))
 records-effect p i t h (Command.iterator_next k) r =
-    some-records p (slice_get p.iterators k) (λ i. moves_iterator p k false i (iterator_next_node p.trees i)) (answers p nothing) (λ i. h) h
+    some-effect (Records p) (slice_get p.iterators k) (λ i. moves_iterator p k false i (iterator_next_node p.trees i)) (λ i. h) h
 records-effect p i t h (Command.iterator_previous k) r =
-    some-records p (slice_get p.iterators k) (λ i. moves_iterator p k true i (iterator_previous_node p.trees i)) (answers p nothing) (λ i. h) h
+    some-effect (Records p) (slice_get p.iterators k) (λ i. moves_iterator p k true i (iterator_previous_node p.trees i)) (λ i. h) h
 records-effect p i t h (Command.iterator_at k) r =
-    some-records p (slice_get p.iterators k) (λ (i : Iterator). answers p (reference i.reference i.before)) (answers p nothing) (λ i. h) h
+    some-effect (Records p) (slice_get p.iterators k) (λ (i : Iterator). answers p (reference i.reference i.before)) (λ i. h) h
 records-effect p i t h (Command.walk k m) r =
-    some-records p (slice_get p.walkers k) (λ w. sets_walker p k w (walker_move p.trees w m) (node_or_null (walker_move p.trees w m)))
-    (answers p nothing) (λ w. walker-records p k w (walker_move p.trees w m) (node_or_null (walker_move p.trees w m)) h) h
+    some-effect (Records p) (slice_get p.walkers k) (λ w. sets_walker p k w (walker_move p.trees w m) (node_or_null (walker_move p.trees w m)))
+    (λ w. walker-records p k w (walker_move p.trees w m) (node_or_null (walker_move p.trees w m)) h) h
 records-effect p i t h (Command.walker_at k) r =
-    some-records p (slice_get p.walkers k) (λ (w : Walker). answers p (a_node w.current)) (answers p nothing) (λ w. h) h
+    some-effect (Records p) (slice_get p.walkers k) (λ (w : Walker). answers p (a_node w.current)) (λ w. h) h
 records-effect p i t h (Command.walker_set k x) r =
-    some-records p (slice_get p.walkers k) (λ w. sets_walker p k w (Some (named p x)) nothing) (answers p nothing)
+    some-effect (Records p) (slice_get p.walkers k) (λ w. sets_walker p k w (Some (named p x)) nothing)
     (λ w. walker-records p k w (Some (named p x)) nothing h) h
 records-effect p i t h Command.observer r = all-append (AllByRecursion (IsRecordIn p.trees)) p.record_queues ([] ∷ []) h (tt, tt)
 records-effect p i t h (Command.disconnect k) r = all-set (AllByRecursion (IsRecordIn p.trees)) p.record_queues k [] h tt

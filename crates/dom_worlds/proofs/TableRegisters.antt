@@ -1,6 +1,6 @@
 -- Listeners and observers keep to nodes that are there, and so does what an accepted command does to tables.
 use Rattle.std.proofs.Common.{◌≡◌, ◌≤◌, ◌<◌, ℕ, true, false, not, ◌&&◌, List, [], ◌∷◌, ◌++◌, map, filter, length, Option, Some, None, refl, sym, ap, ◌∙◌, arith}
-use Rattle.std.proofs.Common.{subst, length-append}
+use Rattle.std.proofs.Common.{length-append}
 use Rattle.std.specs.Prelude.{⊤, slice_get, slice_set, is_some, ◌==◌}
 use Rattle.std.specs.List.{AllByRecursion, list_any}
 use Rattle.std.specs.Option.{option_map_or, option_or}
@@ -10,7 +10,7 @@ use Rattle.dom_base.specs.declared.NodeName.{NodeName}
 use Rattle.dom_model.specs.Changes.{observed}
 use Rattle.dom_model.specs.Command.{Command, NodeWord, ObserveWords, ListenerWords, part_refusal, own_refusal, effect}
 use Rattle.dom_model.specs.CommandNames.{named, has_range}
-use Rattle.dom_model.specs.CommandRefusals.{of_range, limit_on, made_by_insert_node}
+use Rattle.dom_model.specs.CommandRefusals.{limit_on, made_by_insert_node}
 use Rattle.dom_model.specs.Effects.{answers, moves_iterator, sets_walker, node_or_null, collapsed_to, new_iterator, new_walker}
 use Rattle.dom_model.specs.Extract.{both_at, extracting}
 use Rattle.dom_model.specs.Listeners.{Listener, listened, is_listener}
@@ -20,18 +20,17 @@ use Rattle.dom_model.specs.Output.{nothing, a_node, a_string, boundaries, refere
 use Rattle.dom_model.specs.Part.{Part, first_node, range_at}
 use Rattle.dom_model.specs.RangeOps.{cannot_take_node, insert_node_refusal, insertion_parent, start_reference, range_text_of, inserting_into_range, deleting}
 use Rattle.dom_model.specs.Ranges.{Range, at, with_start, with_end}
-use Rattle.dom_model.specs.Steps.{Step}
 use Rattle.dom_model.specs.Traversal.{Iterator, Walker, iterator_next_node, iterator_previous_node, walker_move}
 use Rattle.dom_model.specs.Tree.{Trees, has_node, parent_of, length_of}
 use Rattle.dom_model.specs.Validity.{insertion_refusal}
 use Rattle.dom_worlds.specs.Worlds.{IsPart}
 use Rattle.dom_worlds.specs.Tables.{IsNodeIn, EndsIn, IsIteratorIn, IsWalkerIn, IsRegistrationIn, IsListenerIn, HasTables}
-use Rattle.dom_worlds.proofs.Effects.{IsPartAccepted, or-none, part-accepted}
+use Rattle.dom_worlds.proofs.Effects.{IsPartAccepted, or-none, part-accepted, range-steps}
 use Rattle.dom_worlds.proofs.Descents.{inside-ancestor}
 use Rattle.dom_worlds.proofs.Insides.{inside-itself}
 use Rattle.dom_worlds.proofs.InsideAncestors.{times-has_node, parent-there}
 use Rattle.dom_worlds.proofs.KindLines.{has_node-times}
-use Rattle.dom_worlds.proofs.Lists.{all-append, all-then, all-filter, all-map, get-below, either_way, by_some_is}
+use Rattle.dom_worlds.proofs.Lists.{all-append, all-then, all-filter, all-map, get-below, either_way}
 use Rattle.dom_worlds.proofs.Owners.{owner-named}
 use Rattle.dom_worlds.proofs.PlanPlaces.{MayGo, leads-removing, leads-adopting, leads-inserting}
 use Rattle.dom_worlds.proofs.PlanTexts.{leads-replacing, leads-setting_attribute, leads-unsetting_attribute, leads-replacing_data, leads-splitting}
@@ -106,13 +105,6 @@ more-registered ts j k e rs h = all-then (IsRegistrationIn ts j) (IsRegistration
 -- and more pending
 pub more-pending : (j k : ℕ) → j ≤ k → (ks : List ℕ) → AllByRecursion (λ i. i < j) ks → AllByRecursion (λ i. i < k) ks
 more-pending j k e ks h = all-then (λ i. i < j) (λ i. i < k) (λ i o. omega arith) ks h
-
--- Ranges that plans are for.
-range-made : (p : Part) (k : ℕ) (f : Range NodeName → List Step) → ((range : Range NodeName) → range_at p k ≡ Some range → MadeIn p (f range)) →
-    MadeIn p (of_range p k [] f)
-range-made p k f h =
-    by_some_is (λ (o : Option (Range NodeName)). MadeIn p (of_range p k [] f)) (range_at p k) (λ e. subst (λ o. MadeIn p (option_map_or f o [])) (sym e) tt)
-    (λ range e. subst (λ o. MadeIn p (option_map_or f o [])) (sym e) (h range e))
 
 -- the parent into which a node goes is there
 pub parent-of_range : (p : Part) (range : Range NodeName) → HasNode p range.start.node → HasNode p (insertion_parent p.trees range)
@@ -207,22 +199,16 @@ holds-effect p i h f (Command.range_collapse k s) r =
     tables-range p k _ h (ends-mapped p.trees (collapsed_to s) (ends-collapsed p.trees s) (range_at p k) (ends-at p k h))
 holds-effect p i h f (Command.range_drop k) r = tables-range p k None h tt
 holds-effect p i h f (Command.range_get k) r =
-    some-holds p (range_at p k) (λ (r : Range NodeName). answers p (boundaries r.start r.end)) (answers p nothing) (some-any (range_at p k)) (record {
-      each = λ x t. h;
-      otherwise = h;
-    })
+    some-holds p (range_at p k) (λ (r : Range NodeName). answers p (boundaries r.start r.end)) (some-any (range_at p k)) (λ x t. h) h
 holds-effect p i h f (Command.range_text k) r =
-    some-holds p (range_at p k) (λ (r : Range NodeName). answers p (a_string (range_text_of p.trees r))) (answers p nothing) (some-any (range_at p k)) (record {
-      each = λ x t. h;
-      otherwise = h;
-    })
+    some-holds p (range_at p k) (λ (r : Range NodeName). answers p (a_string (range_text_of p.trees r))) (some-any (range_at p k)) (λ x t. h) h
 holds-effect p i h f (Command.extract k) r =
-    range-made p k (λ range. extracting k range p) (λ range e. (leads-extracting k range p i (range-ends p k h range e).0).made)
+    range-steps (MadeIn p) p k tt (λ range. extracting k range p) (λ range e. (leads-extracting k range p i (range-ends p k h range e).0).made)
 holds-effect p i h f (Command.delete k) r =
-    range-made p k (λ range. deleting k range p) (λ range e. (leads-deleting k range p i (range-ends p k h range e).0).made)
+    range-steps (MadeIn p) p k tt (λ range. deleting k range p) (λ range e. (leads-deleting k range p i (range-ends p k h range e).0).made)
 holds-effect p i h f (Command.insert_node k x) r =
     let a = part-accepted p (Command.insert_node k x) r in
-    range-made p k (λ range. inserting_into_range k range (named p x) p)
+    range-steps (MadeIn p) p k tt (λ range. inserting_into_range k range (named p x) p)
     (λ range e. (leads-inserting_into_range k (named p x) i h e
     (insert_node-may i h a e)).made)
 holds-effect p i h f (Command.iterator_new x w) r =
@@ -242,43 +228,26 @@ holds-effect p i h f (Command.walker_new x w) r =
     let t = times-has_node p.trees (named p x) (exists-first p x true true a.exist) in
     tables-walkers h (all-append (IsWalkerIn p.trees) p.walkers (new_walker (named p x) w ∷ []) h.walkers (record { root = t; current = t }, tt))
 holds-effect p i h f (Command.iterator_next k) r =
-    some-holds p (slice_get p.iterators k) (λ i. moves_iterator p k false i (iterator_next_node p.trees i)) (answers p nothing)
-    (all-get (IsIteratorIn p.trees) p.iterators k h.iterators) (record {
-      each = λ j g. tables-iterator k false (iterator_next_node p.trees j) h g (iterator-next p.trees j i.unique g);
-      otherwise = h;
-    })
+    some-holds p (slice_get p.iterators k) (λ i. moves_iterator p k false i (iterator_next_node p.trees i))
+    (all-get (IsIteratorIn p.trees) p.iterators k h.iterators)
+    (λ j g. tables-iterator k false (iterator_next_node p.trees j) h g (iterator-next p.trees j i.unique g)) h
 holds-effect p i h f (Command.iterator_previous k) r =
-    some-holds p (slice_get p.iterators k) (λ i. moves_iterator p k true i (iterator_previous_node p.trees i)) (answers p nothing)
-    (all-get (IsIteratorIn p.trees) p.iterators k h.iterators) (record {
-      each = λ j g. tables-iterator k true (iterator_previous_node p.trees j) h g (iterator-previous p.trees j i.unique g);
-      otherwise = h;
-    })
+    some-holds p (slice_get p.iterators k) (λ i. moves_iterator p k true i (iterator_previous_node p.trees i))
+    (all-get (IsIteratorIn p.trees) p.iterators k h.iterators)
+    (λ j g. tables-iterator k true (iterator_previous_node p.trees j) h g (iterator-previous p.trees j i.unique g)) h
 holds-effect p i h f (Command.iterator_at k) r =
-    some-holds p (slice_get p.iterators k) (λ (i : Iterator). answers p (reference i.reference i.before)) (answers p nothing)
-    (all-get (IsIteratorIn p.trees) p.iterators k h.iterators) (record {
-      each = λ j g. h;
-      otherwise = h;
-    })
+    some-holds p (slice_get p.iterators k) (λ (i : Iterator). answers p (reference i.reference i.before))
+    (all-get (IsIteratorIn p.trees) p.iterators k h.iterators) (λ j g. h) h
 holds-effect p i h f (Command.walk k m) r =
-    some-holds p (slice_get p.walkers k) (λ w. sets_walker p k w (walker_move p.trees w m) (node_or_null (walker_move p.trees w m))) (answers p nothing)
-    (all-get (IsWalkerIn p.trees) p.walkers k h.walkers) (record {
-      each = λ w g. tables-walker k (walker_move p.trees w m) _ h g (walker-moved p.trees w m);
-      otherwise = h;
-    })
+    some-holds p (slice_get p.walkers k) (λ w. sets_walker p k w (walker_move p.trees w m) (node_or_null (walker_move p.trees w m)))
+    (all-get (IsWalkerIn p.trees) p.walkers k h.walkers) (λ w g. tables-walker k (walker_move p.trees w m) _ h g (walker-moved p.trees w m)) h
 holds-effect p i h f (Command.walker_at k) r =
-    some-holds p (slice_get p.walkers k) (λ (w : Walker). answers p (a_node w.current)) (answers p nothing)
-    (all-get (IsWalkerIn p.trees) p.walkers k h.walkers) (record {
-      each = λ j g. h;
-      otherwise = h;
-    })
+    some-holds p (slice_get p.walkers k) (λ (w : Walker). answers p (a_node w.current)) (all-get (IsWalkerIn p.trees) p.walkers k h.walkers) (λ j g. h) h
 holds-effect p i h f (Command.walker_set k x) r =
     let a = part-accepted p (Command.walker_set k x) r in
     let t = times-has_node p.trees (named p x) (exists-first p x true (is_some (slice_get p.walkers k)) a.exist) in
-    some-holds p (slice_get p.walkers k) (λ w. sets_walker p k w (Some (named p x)) nothing) (answers p nothing)
-    (all-get (IsWalkerIn p.trees) p.walkers k h.walkers) (record {
-      each = λ w g. tables-walker k (Some (named p x)) nothing h g t;
-      otherwise = h;
-    })
+    some-holds p (slice_get p.walkers k) (λ w. sets_walker p k w (Some (named p x)) nothing) (all-get (IsWalkerIn p.trees) p.walkers k h.walkers)
+    (λ w g. tables-walker k (Some (named p x)) nothing h g t) h
 holds-effect p i h f (Command.listen x w) r =
     let a = part-accepted p (Command.listen x w) r in
     tables-listeners p _ h (all-heard (IsListenerIn p.trees) (named p x) w p.listeners

@@ -1,5 +1,5 @@
 -- Steps in the world keep the tables of all parts, and each signalled slot a node.
-use Rattle.std.proofs.Common.{◌≡◌, ℕ, zero, suc, ◌≤◌, ◌<◌, Bool, true, false, ◌&&◌, List, [], ◌∷◌, ◌++◌, filter, filter_map, find, fold, Option, Some, None}
+use Rattle.std.proofs.Common.{◌≡◌, ℕ, zero, suc, ◌≤◌, ◌<◌, Bool, true, ◌&&◌, List, [], ◌∷◌, ◌++◌, filter, filter_map, find, fold, Option, Some, None}
 use Rattle.std.proofs.Common.{option_map, refl, sym, ap, ◌∙◌, arith, true≢false, subst}
 use Rattle.std.specs.Prelude.{if◌then◌else◌, option_to_list, unwrap_or}
 use Rattle.std.specs.List.{AllByRecursion, cons_option}

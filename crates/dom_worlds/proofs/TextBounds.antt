@@ -33,10 +33,10 @@ use Rattle.dom_worlds.proofs.PlanTexts.{IsReplaced, replaced-by, MayFollow, may-
 use Rattle.dom_worlds.proofs.PlanTexts.{leads-tail, leads-joins, leads-replacing_data, leads-normalizing_text}
 use Rattle.dom_worlds.proofs.TableSteps.{HasNode}
 use Rattle.dom_worlds.proofs.TableRecords.{all-kept}
-use Rattle.dom_worlds.proofs.TreeChangeLaws.{HasRoot, put_where, where-here, where-later, put_root-where, root-put_root_new, root-first, times-below}
+use Rattle.dom_worlds.proofs.TreeChangeLaws.{HasRoot, root-put_root_new, root-first, times-below}
 use Rattle.dom_laws.proofs.Counts.{times-here, times-elsewhere, times-more, times_subtree}
 use Rattle.dom_laws.proofs.Paths.{path_none}
-use Rattle.dom_worlds.proofs.Trees.{all-both}
+use Rattle.dom_worlds.proofs.Trees.{all-both, where-here, where-later, put_root-where, put_where}
 
 -- A new node changes no ancestors.
 ancestors-followed : (new ts : Trees) (x : NodeName) → times_in new x ≡ 0 → inclusive_ancestors (followed_by new ts) x ≡ inclusive_ancestors ts x

@@ -1,5 +1,5 @@
 -- What the elementary changes do to how often a name is there, to all nodes, and to the roots.
-use Rattle.std.proofs.Common.{◌≡◌, ◌+◌, ◌≤◌, Bool, true, false, Option, refl, sym, ap, ◌∙◌, arith, true≢false, subst}
+use Rattle.std.proofs.Common.{◌≡◌, ◌+◌, ◌≤◌, Bool, true, false, Option, refl, sym, ap, ◌∙◌, arith, true≢false, subst, ℕ}
 use Rattle.std.specs.Prelude.{if◌then◌else◌}
 use Rattle.std.specs.List.{AllByRecursion}
 use Rattle.std.proofs.lemmas.Bool.{cond-true, cond-false}
@@ -12,12 +12,7 @@ use Rattle.dom_worlds.specs.Worlds.{AllNodes}
 use Rattle.dom_worlds.proofs.Lists.{all-append, by_cases, or-later, or-first, or-second}
 use Rattle.dom_laws.proofs.Counts.{Once, by_times, times-here, times-elsewhere, times-more, times-parts, times_subtree, times_or_else}
 use Rattle.dom_laws.proofs.Paths.{subtree_gone}
-use Rattle.dom_worlds.proofs.Trees.{root-there}
-
--- How often a name is there.
-pub times-followed : (a b : Trees) (x : NodeName) → times_in (followed_by a b) x ≡ times_in a x + times_in b x
-times-followed none b x = omega arith
-times-followed (tree n c r) b x = let h = times-followed r b x in omega arith
+use Rattle.dom_worlds.proofs.Trees.{root-there, IsSum, put_before-where, put_root-where, sum-put_before, sum-put_root, where-here, where-later, put_where}
 
 -- a tree at hand, by whether its first root is the one
 pub without-here : (n : Node) (c r : Trees) (y : NodeName) → name_eq n.name y ≡ true → without y (tree n c r) ≡ without y r
@@ -45,45 +40,17 @@ times-without (tree n c r) y x =
     (λ e. let a = ap (λ t. times_in t x) (without-elsewhere n c r y e) in let b = ap (λ t. times_in t x) (subtree-elsewhere n c r y e) in
     let d = times_or_else (subtree c y) (subtree r y) x in let f = times-without c y x in let g = times-without r y x in omega arith)
 
--- trees put into a list before the first root that passes a test, or behind all
-abbrev pub put_where : (NodeName → Bool) → Trees → Trees → Trees
-put_where test new none = new
-put_where test new (tree n c r) = if test n.name then followed_by new (tree n c r) else tree n c (put_where test new r)
-
--- put before this root
-pub where-here : (test : NodeName → Bool) (new : Trees) (n : Node) (c r : Trees) → test n.name ≡ true →
-    put_where test new (tree n c r) ≡ followed_by new (tree n c r)
-where-here test new n c r e = cond-true (test n.name) (followed_by new (tree n c r)) (tree n c (put_where test new r)) e
-
--- put further on
-pub where-later : (test : NodeName → Bool) (new : Trees) (n : Node) (c r : Trees) → test n.name ≡ false →
-    put_where test new (tree n c r) ≡ tree n c (put_where test new r)
-where-later test new n c r e = cond-false (test n.name) (followed_by new (tree n c r)) (tree n c (put_where test new r)) e
-
--- before the node given
-pub put_before-where : (before : Option NodeName) (new ts : Trees) → put_before before new ts ≡ put_where (is_given before) new ts
-put_before-where before new none = refl
-put_before-where before new (tree n c r) = ap (λ t. if is_given before n.name then followed_by new (tree n c r) else tree n c t) (put_before-where before new r)
-
--- by the order of names
-pub put_root-where : (y : NodeName) (new ts : Trees) → put_root y new ts ≡ put_where (name_before y) new ts
-put_root-where y new none = refl
-put_root-where y new (tree n c r) = ap (λ t. if name_before y n.name then followed_by new (tree n c r) else tree n c t) (put_root-where y new r)
-
--- all that was put in and all that was there
-times-where : (test : NodeName → Bool) (new ts : Trees) (x : NodeName) → times_in (put_where test new ts) x ≡ times_in new x + times_in ts x
-times-where test new none x = omega arith
-times-where test new (tree n c r) x =
-    by_cases (test n.name) (λ e. ap (λ t. times_in t x) (where-here test new n c r e) ∙ times-followed new (tree n c r) x)
-    (λ e. let a = ap (λ t. times_in t x) (where-later test new n c r e) in let h = times-where test new r x in omega arith)
+-- how often a node is there
+times-sum : (x : NodeName) → IsSum (λ ts. times_in ts x)
+times-sum x = record { nothing = refl; more = λ n c r. omega arith }
 
 -- how often a name is there after trees were put before the node given
 pub times-put_before : (before : Option NodeName) (new ts : Trees) (x : NodeName) → times_in (put_before before new ts) x ≡ times_in new x + times_in ts x
-times-put_before before new ts x = ap (λ t. times_in t x) (put_before-where before new ts) ∙ times-where (is_given before) new ts x
+times-put_before before new ts x = sum-put_before (times-sum x) before new ts
 
 -- and by the order of names
 pub times-put_root : (y : NodeName) (new ts : Trees) (x : NodeName) → times_in (put_root y new ts) x ≡ times_in new x + times_in ts x
-times-put_root y new ts x = ap (λ t. times_in t x) (put_root-where y new ts) ∙ times-where (name_before y) new ts x
+times-put_root y new ts x = sum-put_root (times-sum x) y new ts
 
 -- a new node
 pub times-with_node : (n : Node) (ts : Trees) (x : NodeName) → times_in (with_node n ts) x ≡ times_in (tree n none none) x + times_in ts x
@@ -118,23 +85,71 @@ put_below-absent parent before new (tree n c r) h =
     put_below-elsewhere parent before new n c r e ∙ ap (λ t. tree n t (put_below parent before new r))
     (put_below-absent parent before new c (omega arith)) ∙ ap (tree n c) (put_below-absent parent before new r (omega arith)))
 
--- what is put below a node
+-- A count of what each node gives, by itself and its children.
+pub record IsNodeSum (m : Trees → ℕ) (g : Node → Trees → ℕ) : Type 0 where
+  pub nothing : m none ≡ 0
+  pub each : (n : Node) (c r : Trees) → m (tree n c r) ≡ g n c + m c + m r
+
+-- What is put below a node: the node gives so much more, and others as much as before.
+module _ {m : Trees → ℕ} {g : Node → Trees → ℕ} (sum : IsNodeSum m g) (parent : NodeName) (before : Option NodeName) (new : Trees) (d : ℕ)
+    (here : (n : Node) (c : Trees) → name_eq n.name parent ≡ true → g n (put_before before new c) ≡ g n c + d)
+    (elsewhere : (n : Node) (c : Trees) → g n (put_below parent before new c) ≡ g n c) where
+  -- it goes from tree to tree
+  along : IsSum m
+  along = record {
+    nothing = sum.nothing;
+    more = λ n c r. let a = sum.each n c r in let b = sum.each n c none in let z = sum.nothing in omega arith;
+  }
+
+  -- all that is put in, and all that was there
+  pub sum-put_below : (ts : Trees) → times_in ts parent ≡ 1 → m (put_below parent before new ts) ≡ m new + m ts + d
+  sum-put_below none h = absurd (omega arith)
+  sum-put_below (tree n c r) h =
+      let was = sum.each n c r in
+      by_cases (name_eq n.name parent)
+      (λ e. let t = times-here n c r parent e in
+      let s = put_below-here parent before new n c r e in
+      let a = ap m (s ∙ ap (λ t. tree n (put_before before new t) (put_below parent before new r)) (put_below-absent parent before new c (omega arith)) ∙
+      ap (tree n (put_before before new c)) (put_below-absent parent before new r (omega arith))) in
+      let now = sum.each n (put_before before new c) r in let more = here n c e in let p = sum-put_before along before new c in omega arith)
+      (λ e. let t = times-elsewhere n c r parent e in
+      let s = put_below-elsewhere parent before new n c r e in
+      by_times (times_in c parent)
+      (λ z. let a = ap m (s ∙ ap (λ t. tree n t (put_below parent before new r)) (put_below-absent parent before new c z)) in
+      let now = sum.each n c (put_below parent before new r) in let b = sum-put_below r (omega arith) in omega arith)
+      (λ z. let a = ap m (s ∙ ap (tree n (put_below parent before new c)) (put_below-absent parent before new r (omega arith))) in
+      let now = sum.each n (put_below parent before new c) r in let same = elsewhere n c in let b = sum-put_below c (omega arith) in omega arith))
+
+-- What is counted among the children of nodes of a name.
+module _ (y parent : NodeName) (before : Option NodeName) (new : Trees) where
+  -- more, where it is the name of the node below which something is put
+  pub sum-put_below_name : {m f : Trees → ℕ} → IsNodeSum m (λ n c. if name_eq n.name y then f c else 0) → IsSum f →
+      ((c : Trees) → f (put_below parent before new c) ≡ f c) → (ts : Trees) → times_in ts parent ≡ 1 →
+      m (put_below parent before new ts) ≡ m new + m ts + (if name_eq parent y then f new else 0)
+  sum-put_below_name {m} {f} sum along same ts h =
+      sum-put_below sum parent before new (if name_eq parent y then f new else 0) here (λ n c. ap (λ k. if name_eq n.name y then k else 0) (same c)) ts h
+    where
+      here : (n : Node) (c : Trees) → name_eq n.name parent ≡ true → (if name_eq n.name y then f (put_before before new c) else 0) ≡
+          (if name_eq n.name y then f c else 0) + (if name_eq parent y then f new else 0)
+      here n c e = rw (name_eq-true n.name parent e) (from (name_eq parent y))
+        where
+          from : (b : Bool) → (if b then f (put_before before new c) else 0) ≡ (if b then f c else 0) + (if b then f new else 0)
+          from true = let p = sum-put_before along before new c in omega arith
+          from false = refl
+
+-- all that is put below a node
+pub times-put_below_all : (parent : NodeName) (before : Option NodeName) (new ts : Trees) (x : NodeName) → times_in ts parent ≡ 1 →
+    times_in (put_below parent before new ts) x ≡ times_in new x + times_in ts x
+times-put_below_all parent before new ts x h =
+    let sum : IsNodeSum (λ ts. times_in ts x) (λ n c. times_in (tree n none none) x) = record { nothing = refl; each = λ n c r. omega arith } in
+    let all = sum-put_below sum parent before new 0 (λ n c e. omega arith) (λ n c. refl) ts h in omega arith
+
+-- at most that, where the node is not there
 times-put_below : (parent : NodeName) (before : Option NodeName) (new ts : Trees) (x : NodeName) → times_in ts parent ≤ 1 →
     times_in (put_below parent before new ts) x ≤ times_in new x + times_in ts x
-times-put_below parent before new none x h = omega arith
-times-put_below parent before new (tree n c r) x h =
-    by_cases (name_eq n.name parent)
-    (λ e. let a = ap (λ t. times_in t x) (put_below-here parent before new n c r e) in
-    let g = times-here n c r parent e in
-    let b = times-put_before before new (put_below parent before new c) x in
-    let d = ap (λ t. times_in t x) (put_below-absent parent before new c (omega arith)) in
-    let f = ap (λ t. times_in t x) (put_below-absent parent before new r (omega arith)) in omega arith)
-    (λ e. let a = ap (λ t. times_in t x) (put_below-elsewhere parent before new n c r e) in
-    let g = times-elsewhere n c r parent e in
-    by_times (times_in c parent)
-    (λ z. let b = ap (λ t. times_in t x) (put_below-absent parent before new c z) in let d = times-put_below parent before new r x (omega arith) in omega arith)
-    (λ z. let b = ap (λ t. times_in t x) (put_below-absent parent before new r (omega arith)) in let d = times-put_below parent before new c x
-    (omega arith) in omega arith))
+times-put_below parent before new ts x h =
+    by_times (times_in ts parent) (λ z. let a = ap (λ t. times_in t x) (put_below-absent parent before new ts z) in omega arith)
+    (λ z. let a = times-put_below_all parent before new ts x (omega arith) in omega arith)
 
 -- a node that is placed
 pub times-placed : (y parent : NodeName) (before : Option NodeName) (ts : Trees) (x : NodeName) → times_in ts parent ≤ 1 →

@@ -1,14 +1,17 @@
 -- Where the nodes of a list of trees stand, by how often their names are there.
 use Rattle.std.proofs.Common.{◌≡◌, ◌≤◌, ◌||◌, Bool, true, false, List, [], ◌∷◌, ◌++◌, Option, Some, unwrap_or, refl, sym, ap, ◌∙◌, arith, true≢false, subst}
+use Rattle.std.proofs.Common.{◌+◌, ℕ}
 use Rattle.std.specs.List.{AllByRecursion, last_or}
 use Rattle.std.proofs.lemmas.Bool.{cond-true, cond-false}
 use Rattle.dom_base.specs.declared.NodeName.{NodeName}
-use Rattle.dom_model.specs.Names.{name_eq, is_in, last_of}
+use Rattle.dom_model.specs.Names.{name_eq, is_in, last_of, name_before}
 use Rattle.dom_model.specs.Tree.{Trees, none, tree, Node, nodes, names_of, roots, subtree, or_else, inclusive_ancestors, on_top, root_of, times_in}
 use Rattle.dom_model.proofs.OwnerLaws.{name_eq-same, name_eq-true, name_eq-turned}
 use Rattle.dom_laws.proofs.Counts.{Once, once_parts, by_times, times-here, times-elsewhere, times-more, times-parts, times_subtree}
 use Rattle.dom_laws.proofs.Paths.{path_none, subtree_gone}
 use Rattle.dom_worlds.proofs.Lists.{all-append, all-then, by_cases, or-first, or-later}
+use Rattle.std.specs.Prelude.{if◌then◌else◌}
+use Rattle.dom_model.specs.TreeChanges.{followed_by, is_given, put_before, put_root}
 
 -- What holds of all nodes of a list holds of one of them.
 pub all-in : (P : NodeName → Type 0) (x : NodeName) (ys : List NodeName) → AllByRecursion P ys → is_in name_eq x ys ≡ true → P x
@@ -164,3 +167,57 @@ nodes-there (tree n c r) =
           (all-then (λ m. 1 ≤ times_in c m.name) P (λ m h. let g = times-more n c r m.name in omega arith) (nodes c) (nodes-there c))
           (all-then (λ m. 1 ≤ times_in r m.name) P (λ m h. let g = times-more n c r m.name in omega arith) (nodes r) (nodes-there r)),
     )
+
+-- trees put into a list before the first root that passes a test, or behind all
+abbrev pub put_where : (NodeName → Bool) → Trees → Trees → Trees
+put_where test new none = new
+put_where test new (tree n c r) = if test n.name then followed_by new (tree n c r) else tree n c (put_where test new r)
+
+-- put before this root
+pub where-here : (test : NodeName → Bool) (new : Trees) (n : Node) (c r : Trees) → test n.name ≡ true →
+    put_where test new (tree n c r) ≡ followed_by new (tree n c r)
+where-here test new n c r e = cond-true (test n.name) (followed_by new (tree n c r)) (tree n c (put_where test new r)) e
+
+-- put further on
+pub where-later : (test : NodeName → Bool) (new : Trees) (n : Node) (c r : Trees) → test n.name ≡ false →
+    put_where test new (tree n c r) ≡ tree n c (put_where test new r)
+where-later test new n c r e = cond-false (test n.name) (followed_by new (tree n c r)) (tree n c (put_where test new r)) e
+
+-- before the node given
+pub put_before-where : (before : Option NodeName) (new ts : Trees) → put_before before new ts ≡ put_where (is_given before) new ts
+put_before-where before new none = refl
+put_before-where before new (tree n c r) = ap (λ t. if is_given before n.name then followed_by new (tree n c r) else tree n c t) (put_before-where before new r)
+
+-- by the order of names
+pub put_root-where : (y : NodeName) (new ts : Trees) → put_root y new ts ≡ put_where (name_before y) new ts
+put_root-where y new none = refl
+put_root-where y new (tree n c r) = ap (λ t. if name_before y n.name then followed_by new (tree n c r) else tree n c t) (put_root-where y new r)
+
+-- A count that goes from tree to tree of a list.
+pub record IsSum (m : Trees → ℕ) : Type 0 where
+  pub nothing : m none ≡ 0
+  pub more : (n : Node) (c r : Trees) → m (tree n c r) ≡ m (tree n c none) + m r
+
+-- It counts what is put into a list, and what was there.
+module _ {m : Trees → ℕ} (sum : IsSum m) where
+  -- one list behind another
+  sum-followed : (a b : Trees) → m (followed_by a b) ≡ m a + m b
+  sum-followed none b = let z = sum.nothing in omega arith
+  sum-followed (tree n c r) b =
+      let h = sum-followed r b in let g = sum.more n c r in let k = sum.more n c (followed_by r b) in omega arith
+
+  -- where a test holds
+  sum-where : (test : NodeName → Bool) (new ts : Trees) → m (put_where test new ts) ≡ m new + m ts
+  sum-where test new none = let z = sum.nothing in omega arith
+  sum-where test new (tree n c r) =
+      by_cases (test n.name) (λ e. ap m (where-here test new n c r e) ∙ sum-followed new (tree n c r))
+      (λ e. let s = ap m (where-later test new n c r e) in let h = sum-where test new r in let g = sum.more n c r in
+      let k = sum.more n c (put_where test new r) in omega arith)
+
+  -- before the node given
+  pub sum-put_before : (before : Option NodeName) (new ts : Trees) → m (put_before before new ts) ≡ m new + m ts
+  sum-put_before before new ts = ap m (put_before-where before new ts) ∙ sum-where (is_given before) new ts
+
+  -- by the order of names
+  pub sum-put_root : (y : NodeName) (new ts : Trees) → m (put_root y new ts) ≡ m new + m ts
+  sum-put_root y new ts = ap m (put_root-where y new ts) ∙ sum-where (name_before y) new ts

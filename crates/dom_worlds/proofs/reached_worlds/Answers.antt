@@ -1,6 +1,6 @@
 use Rattle.dom_worlds.proofs.Reached.{first-is_reached, step-keeps_reached, ending-keeps_reached, finish-keeps_reached, scripts-reach, quiet_scripts-reach}
-use Rattle.dom_worlds.proofs.Reached.{sound, assigned-are_siblings}
-use Rattle.dom_worlds.proofs.ReachedFacts.{shadow_roots-are_roots, no_other_shadow_roots, attached-are_there, owners-have_words, hosts-are_theirs}
+use Rattle.dom_worlds.proofs.Reached.{sound, assigned-are_siblings, shadow_roots-are_roots, no_other_shadow_roots, attached-are_there, owners-have_words}
+use Rattle.dom_worlds.proofs.Reached.{hosts-are_theirs}
 use Rattle.dom_worlds.proofs.reached_worlds.Goals as goal
 
 pub returns : goal.returns
