@@ -32,13 +32,13 @@ use Rattle.dom_isolation.specs.Laws.{page_run, PageVisitsAgree, OutwardVisitsAgr
 use Rattle.dom_worlds.specs.Reached.{Invariant}
 use Rattle.dom_worlds.specs.Worlds.{IsWorld, IsForeignTo}
 use Rattle.dom_isolation.specs.Interference.{Interference, first_record, interference_at, accepted_records, command_records, untouched}
-use Rattle.dom_isolation.proofs.Dispatches.{done_to, dispatch-page}
+use Rattle.dom_isolation.proofs.PageSteps.{done_to, dispatch-page, run_then-square, same_page_of, outputs_for_page-other, page_of-world_after-other}
+use Rattle.dom_isolation.proofs.PageSteps.{page_run-unseen}
 use Rattle.dom_worlds.proofs.ListLemmas.{by_cases, and-true_false}
 use Rattle.dom_worlds.proofs.CommandLemmas.{next-test, part-accepted, accepted-facts, KeepsBase, base-effect}
 use Rattle.dom_worlds.proofs.TurnLemmas.{part_of-opening, quiet-opening}
 use Rattle.dom_worlds.proofs.OwnerLemmas.{owner-named}
-use Rattle.dom_isolation.proofs.PageSteps.{run_then-square, same_page_of, outputs_for_page-other, page_of-world_after-other, page_run-unseen}
-use Rattle.dom_isolation.proofs.GroupDispatches.{outward_at, HasSameRoot, comes_to}
+use Rattle.dom_isolation.proofs.GroupDispatches.{outward_at, HasSameRoot, comes_to, no_dispatch}
 use Rattle.dom_isolation.proofs.PageCommands.{quiet_then, ending-component, opening-component}
 use Rattle.dom_isolation.proofs.PagePaths.{views-page}
 use Rattle.dom_model.specs.Paths.{views}
@@ -46,7 +46,6 @@ use Rattle.dom_isolation.specs.TouchedMachines.{page_dispatch_under, page_outwar
 use Rattle.dom_isolation.proofs.Families.{page-is_group}
 use Rattle.dom_isolation.proofs.OwnVisits.{group_visits}
 use Rattle.dom_isolation.proofs.OutsideViews.{has-exit, views-exit}
-use Rattle.dom_isolation.proofs.GroupDispatches.{no_dispatch}
 
 -- The page's answer to a dispatch of a component, as far as others let the event come.
 abbrev pub outward_run : Option ℕ → PageState → Option OutwardEvent → Run PageState

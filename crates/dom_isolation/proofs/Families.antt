@@ -12,8 +12,7 @@ use Rattle.dom_model.specs.Names.{owner_eq, owner_depth}
 use Rattle.dom_model.specs.World.{component_made, MayAttach, World, host_above, host_chain}
 use Rattle.dom_model.specs.Groups.{is_in_family, family_group, top_owner, makers_from, is_inside, makers_group}
 use Rattle.dom_model.specs.Trace.{is_page, boundary_host}
-use Rattle.dom_model.proofs.OwnerLaws.{owner_eq-true, owner_eq-false, owner_eq-same, ne-owner_eq, component_made-no_page, maker-word, made_by-is}
-use Rattle.dom_model.proofs.OwnerLaws.{made_by-made}
+use Rattle.dom_model.proofs.OwnerLaws.{owner_eq-true, owner_eq-false, owner_eq-same, ne-owner_eq, component_made-no_page, maker-word, made_by-is, made_by-made}
 use Rattle.dom_worlds.proofs.ListLemmas.{by_cases, or-second, or-later}
 use Rattle.dom_worlds.proofs.ShadowTreeLemmas.{IsBelow, above-host, below-host}
 use Rattle.dom_worlds.proofs.OwnerLemmas.{hosted, hosted-owned, hosted-maker}

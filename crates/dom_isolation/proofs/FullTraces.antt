@@ -40,7 +40,7 @@ use Rattle.dom_model.specs.Dispatch.{world_visit, visits_of}
 use Rattle.dom_model.proofs.OwnerLaws.{owner_eq-true, owner_eq-false}
 use Rattle.dom_model.proofs.PartLaws.{part_of-with_part, part_of-with_part-other, owner-part_of}
 use Rattle.dom_worlds.specs.Worlds.{OnlyLogs, ComponentsOnlyLog}
-use Rattle.dom_isolation.proofs.GroupParts.{filter-here, filter-away}
+use Rattle.dom_isolation.proofs.GroupSlots.{filter-here, filter-away}
 use Rattle.dom_isolation.proofs.OwnVisits.{kept-visited}
 use Rattle.dom_isolation.proofs.Touches.{untouched-on}
 

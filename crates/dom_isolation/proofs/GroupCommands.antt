@@ -1,7 +1,7 @@
 -- A command of the group does the same to the group in two worlds of which the group has the same. After each line the group has tasks in a turn of its own
 -- alone.
 use Rattle.std.proofs.Common.{◌≡◌, Bool, true, not, ◌&&◌, List, [], ◌∷◌, ◌++◌, length, map, filter, Option, Some, None, option_map, unwrap_or, sym, ap, ◌∙◌}
-use Rattle.std.proofs.Common.{false, ◌||◌, refl, true≢false}
+use Rattle.std.proofs.Common.{false, refl, true≢false}
 use Rattle.std.specs.Prelude.{option_to_list}
 use Rattle.std.specs.List.{AllByRecursion, last_or}
 use Rattle.std.specs.Option.{option_or}
@@ -32,12 +32,10 @@ use Rattle.dom_worlds.proofs.OwnerLemmas.{owner-named}
 use Rattle.dom_worlds.proofs.CommandLemmas.{KeepsBase, base-effect, accepted-facts, Holds, holds-effect}
 use Rattle.dom_worlds.proofs.ListLemmas.{by_cases}
 use Rattle.dom_worlds.proofs.WorldLemmas.{turn-world_after}
-use Rattle.dom_isolation.proofs.GroupParts.{in_node, part-in, there-in, with_part-in, with_part-out, filter-here}
-use Rattle.dom_isolation.proofs.GroupSlots.{IsGround, ground-of, assigned-in}
+use Rattle.dom_isolation.proofs.GroupSlots.{in_node, part-in, there-in, with_part-in, with_part-out, filter-here, IsGround, ground-of, assigned-in}
 use Rattle.dom_isolation.proofs.GroupSteps.{IsSameGround, steps-in}
 use Rattle.dom_isolation.proofs.GroupPaths.{In, including-in, including-inside}
-use Rattle.dom_isolation.proofs.GroupDispatches.{same-ground, runs-then, outward_run}
-use Rattle.dom_isolation.proofs.GroupDispatches.{IsSameWorld}
+use Rattle.dom_isolation.proofs.GroupDispatches.{same-ground, runs-then, outward_run, IsSameWorld}
 use Rattle.dom_isolation.proofs.GroupTurns.{same-part, same-page_turn, tasks-dispatch, tasks-ending_turn, no_other-ended, calm-ended, opening-own, turn-kept}
 use Rattle.dom_model.specs.Trace.{OutwardEvent, is_of, owner_of_line, outward_event}
 use Rattle.dom_model.proofs.TurnLaws.{turn-dispatch_in}

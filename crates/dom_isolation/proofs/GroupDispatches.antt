@@ -24,12 +24,11 @@ use Rattle.dom_worlds.proofs.ShadowTreeLemmas.{below-host, hosts-alone}
 use Rattle.dom_worlds.proofs.ListLemmas.{by_cases, all-then, all-passed}
 use Rattle.dom_worlds.proofs.OwnerLemmas.{people-dispatch, AreAlike, world-alike}
 use Rattle.dom_worlds.proofs.TurnLemmas.{there-visits, InWorld, part_of-visits, rest-visits, with_listeners}
-use Rattle.dom_isolation.proofs.GroupParts.{in_node}
+use Rattle.dom_isolation.proofs.GroupSlots.{in_node, ground-of}
 use Rattle.dom_isolation.proofs.OwnVisits.{in_view, in_line, group_going, visit-in, group_visits, outputs-event_lines, group_dispatched}
-use Rattle.dom_isolation.proofs.GroupViews.{views-in}
+use Rattle.dom_isolation.proofs.GroupPaths.{views-in}
 use Rattle.dom_isolation.proofs.OutsideViews.{has-exit, exit-away, views-exit, views-kept_in, views-far, views-related}
 use Rattle.dom_isolation.proofs.GroupSteps.{IsSameGround}
-use Rattle.dom_isolation.proofs.GroupSlots.{ground-of}
 use Rattle.dom_base.specs.declared.Owner.TheVariants.{Page}
 use Rattle.dom_model.specs.Listeners.{Visit, begun}
 use Rattle.dom_model.specs.Part.{Part}

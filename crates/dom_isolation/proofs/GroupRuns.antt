@@ -1,27 +1,233 @@
--- Whole scripts: a group has of a script what it has of its trace where all others are silent. So two scripts with one trace show it the same.
-use Rattle.std.proofs.Common.{◌≡◌, Bool, true, false, not, List, [], ◌∷◌, map, Option, Some, None, refl, sym, ap, ◌∙◌, subst}
-use Rattle.std.specs.Prelude.{option_to_list}
+-- Where no component listener stops or cancels, others do nothing to an event. So the laws of a group without interference follow from those with it: two
+-- worlds of which the group has the same do what one silent run does, whose records tell nothing. A group has of a script what it has of its trace.
+use Rattle.std.proofs.Common.{◌≡◌, Bool, true, false, not, List, [], ◌∷◌, map, Option, Some, None, refl, sym, ap, ◌∙◌, subst, ◌&&◌, ◌||◌, ◌++◌, length}
+use Rattle.std.proofs.Common.{option_map, true≢false, arith, length-append}
+use Rattle.std.specs.Prelude.{option_to_list, is_none, is_some, replicate}
 use Rattle.std.proofs.lemmas.Bool.{cond-true, cond-false, and_parts, not-true}
 use Rattle.dom_base.specs.declared.Owner.{Owner}
-use Rattle.dom_model.specs.Command.{Line}
-use Rattle.dom_model.specs.Runs.{Run, run_each}
-use Rattle.dom_model.specs.World.{World}
-use Rattle.dom_model.specs.DocumentMachine.{first_world, step, finish, run_lines}
-use Rattle.dom_model.specs.Groups.{KeepsMakers, group_world, group_outputs, group_run, outward_words, silent_step, ends_group_turn}
-use Rattle.dom_model.specs.Trace.{OutwardEvent, line, outward, is_of, owner_of_line, outward_event, line_may_stop}
-use Rattle.dom_model.specs.Trace.{items_of, trace_from, no_component_stops, no_component_stops_from}
+use Rattle.dom_model.specs.Command.{Line, Command, EventWords, NodeWord, no_owner, no_command, command, part_refusal}
+use Rattle.dom_model.specs.Runs.{Run, run_each, run_then}
+use Rattle.dom_model.specs.World.{World, part_of}
+use Rattle.dom_model.specs.DocumentMachine.{first_world, step, finish, run_lines, refusal, perform}
+use Rattle.dom_model.specs.Groups.{KeepsMakers, group_world, group_outputs, group_run, outward_words, silent_step, ends_group_turn, outward_in}
+use Rattle.dom_model.specs.Trace.{OutwardEvent, line, outward, is_of, owner_of_line, outward_event, line_may_stop, items_of, trace_from, no_component_stops}
+use Rattle.dom_model.specs.Trace.{no_component_stops_from, is_page, is_log, outward_dispatch, may_stop}
 use Rattle.dom_model.specs.Isolation.{output_of, group_turns_stand, group_turns_stand_from, silent_output, GroupSeesItsTrace, SameGroup}
 use Rattle.dom_worlds.specs.Reached.{IsQuiet, IsReached}
 use Rattle.dom_worlds.specs.Tables.{IsWhole}
 use Rattle.dom_worlds.proofs.WorldLemmas.{quiet-first, sound, first-is_reached, step-keeps_reached, quiet-step, first-is_whole, step-keeps_whole}
-use Rattle.dom_worlds.proofs.ListLemmas.{by_cases}
+use Rattle.dom_worlds.proofs.ListLemmas.{by_cases, either_way, all-append}
 use Rattle.dom_worlds.proofs.TurnLemmas.{quiet-dispatch}
-use Rattle.dom_isolation.proofs.PageRuns.{run_each-append}
-use Rattle.dom_isolation.specs.GroupLaws.{IsCalm}
-use Rattle.dom_isolation.proofs.GroupDispatches.{run_each-one, outward_run, runs-then}
+use Rattle.dom_isolation.proofs.PageTexts.{run_each-append}
+use Rattle.dom_isolation.specs.GroupLaws.{IsCalm, AssignedAgree, SignalsAgree, StepAgrees, ViewsAgree, OutwardViewsAgree, DispatchAgrees, OtherDispatchAgrees}
+use Rattle.dom_isolation.specs.GroupLaws.{EndingAgrees, LineAgrees, OtherLineAgrees, FinishAgrees}
+use Rattle.dom_isolation.proofs.GroupDispatches.{run_each-one, outward_run, runs-then, outward_told, IsSameWorld, any_world, touched-in}
 use Rattle.dom_isolation.proofs.GroupTurns.{same-calm}
-use Rattle.dom_isolation.proofs.GroupCommands.{calm-in, calm-outward, event-host}
-use Rattle.dom_isolation.proofs.QuietGroups.{IsSameView, outward-in, ending_any-in, line-in, line-out, may_stop-in}
+use Rattle.dom_isolation.proofs.GroupCommands.{calm-in, calm-outward, event-host, refusal-in}
+use Rattle.std.specs.List.{AllByRecursion}
+use Rattle.dom_base.specs.declared.Owner.TheVariants.{Component, Page}
+use Rattle.dom_base.specs.declared.NodeName.{NodeName}
+use Rattle.dom_model.specs.Names.{ComponentName}
+use Rattle.dom_model.specs.CommandNames.{named}
+use Rattle.dom_model.specs.Dispatch.{Dispatched, dispatch_in}
+use Rattle.dom_model.specs.Turns.{ending_turn, ending_any_turn, ending_other_turn}
+use Rattle.dom_isolation.specs.FullGroups.{last_records}
+use Rattle.dom_isolation.specs.Interference.{Interference, untouched, first_record, ending_records, before_records, own_records}
+use Rattle.dom_isolation.specs.SilentRuns.{Told, told_run, dispatch_under, outward_under, ending_under, ending_other_under, ending_any_under, step_under}
+use Rattle.dom_isolation.proofs.FullTraces.{TellNothing, first-nothing, nothing-at, ending-nothing, before-nothing, own-nothing}
+use Rattle.dom_isolation.proofs.GroupSlots.{in_node, ground-of, assigned-in}
+use Rattle.dom_isolation.proofs.OwnVisits.{group_dispatched}
+use Rattle.dom_isolation.proofs.OutsideCommands.{event-inside, touched_dispatch-out}
+use Rattle.dom_isolation.proofs.TouchedLines.{ended_told, line-follows, others-alike}
+use Rattle.dom_isolation.proofs.TouchedTurns.{Follows, ending-follows, ending_other-follows, ending_any-follows}
+use Rattle.dom_isolation.proofs.GroupSignals.{signals-group}
+use Rattle.dom_isolation.proofs.GroupSteps.{step-in}
+use Rattle.dom_isolation.proofs.GroupPaths.{views-in}
+use Rattle.dom_isolation.proofs.OutsideViews.{has-exit, views-exit}
+
+-- records that tell nothing are known by how many they are
+nothing-repeated : (records : List Interference) → TellNothing records → records ≡ replicate (length records) untouched
+nothing-repeated [] h = refl
+nothing-repeated (i ∷ records) h = ap (λ j. j ∷ records) h.0 ∙ ap (λ is. untouched ∷ is) (nothing-repeated records h.1)
+
+-- so it does not matter which of them come first
+nothing-turned : (xs ys : List Interference) → TellNothing xs → TellNothing ys → xs ++ ys ≡ ys ++ xs
+nothing-turned xs ys h k =
+    let sizes : length (xs ++ ys) ≡ length (ys ++ xs) = omega (arith, length-append xs ys, length-append ys xs) in
+    nothing-repeated (xs ++ ys) (all-append (λ i. i ≡ untouched) xs ys h k) ∙ ap (λ n. replicate n untouched) sizes
+    ∙ sym (nothing-repeated (ys ++ xs) (all-append (λ i. i ≡ untouched) ys xs k h))
+
+-- Two worlds in which components' listeners only log, of which a group sees the same.
+pub record IsSameView (g : Owner → Bool) (w v : World) : Type 0 where
+  pub first : IsQuiet w
+  pub second : IsQuiet v
+  pub same : group_world g w ≡ group_world g v
+
+-- whatever their listeners do
+same-world : {g : Owner → Bool} {w v : World} → IsSameView g w v → IsSameWorld g w v
+same-world a = record { first = any_world a.first.world; second = any_world a.second.world; same = a.same }
+
+-- a world and itself
+itself : {g : Owner → Bool} {w : World} → IsQuiet w → IsSameWorld g w w
+itself q = record { first = any_world q.world; second = any_world q.world; same = refl }
+
+-- whether a `listen` may stop is told by its refusal
+may_stop-same : (w v : World) (o : Owner) (c : Command) → refusal w o c ≡ refusal v o c → may_stop w o c ≡ may_stop v o c
+may_stop-same w v o (Command.listen x words) e = ap (λ r. not (is_page o || is_log words.action) && is_none r) e
+may_stop-same w v o c e = refl
+
+module _ (g : Owner → Bool) (closed : KeepsMakers g) where
+  -- Two runs are alike that follow one silent run, of whose records none tells anything.
+  module _ {r s : Run World} (v : World) (f : Told → Run Told) where
+    -- whatever the records
+    both-follow : (is js : List Interference) → TellNothing is → TellNothing js → ((rest : List Interference) → Follows g closed r (f (v, is ++ rest)) rest) →
+        ((rest : List Interference) → Follows g closed s (f (v, js ++ rest)) rest) → group_run g r ≡ group_run g s
+    both-follow is js h k a b =
+        (a js).shown ∙ ap (λ records. group_run g (told_run (f (v, records)))) (nothing-turned is js h k) ∙ sym (b is).shown
+
+  -- An event of a node of the group,
+  pub dispatch-in : {w v : World} → IsSameView g w v → (x : NodeName) (r : Option NodeName) (e : EventWords) → in_node g x ≡ true →
+      AllByRecursion (λ y. in_node g y ≡ true) (option_to_list r) → group_dispatched g (dispatch_in w x r e) ≡ group_dispatched g (dispatch_in v x r e)
+  dispatch-in {w} {v} s x r e h k =
+      touched-in g (same-world s) e closed x r h k
+      ∙ ap (λ i. group_dispatched g (dispatch_under g i v x r e)) (nothing-at g closed.page w s.first x r e ∙ sym (nothing-at g closed.page v s.second x r e))
+      ∙ sym (touched-in g (itself s.second) e closed x r h k)
+
+  -- an outward event,
+  pub outward-in : (w v : World) → IsSameView g w v → (o : Option OutwardEvent) → ((e : OutwardEvent) → o ≡ Some e → in_node g e.host ≡ true) →
+      group_run g (outward_run w o) ≡ group_run g (outward_run v o)
+  outward-in w v s None inside = ap (λ u. (u, [])) s.same
+  outward-in w v s (Some e) inside =
+      ap (group_run g) (run_each-one outward_in w e)
+      ∙ ap (λ (d : Dispatched World). d.run) (dispatch-in s e.host None (outward_words e) (inside e refl) tt)
+      ∙ ap (group_run g) (sym (run_each-one outward_in v e))
+
+  -- which others let come to all visits,
+  told-nothing : {i : Interference} (w : World) → IsQuiet w → i ≡ untouched → (o : Option OutwardEvent) →
+      ((e : OutwardEvent) → o ≡ Some e → in_node g e.host ≡ true) → group_run g (outward_told g closed i.reached w o) ≡ group_run g (outward_run w o)
+  told-nothing w q h None inside = refl
+  told-nothing {i} w q h (Some e) inside =
+      ap (λ (i : Interference). group_run g (outward_told g closed i.reached w (Some e))) h ∙ ap (group_run g) (run_each-one (outward_under g None) w e)
+      ∙ ap (λ (d : Dispatched World). d.run)
+      (ap (λ i. group_dispatched g (dispatch_under g i w e.host None (outward_words e))) (sym (nothing-at g closed.page w q e.host None (outward_words e)))
+      ∙ sym (touched-in g (itself q) (outward_words e) closed e.host None (inside e refl) tt))
+      ∙ ap (group_run g) (sym (run_each-one outward_in w e))
+
+  -- and one of a component outside.
+  module _ {w : World} (k : ComponentName) (q : IsQuiet w) (h : g (Component k) ≡ false) where
+    -- which passes
+    pub dispatched-out : (x : NodeWord) (e : EventWords) (r : Option NodeWord) →
+        let c = Command.dispatch x e r in
+        part_refusal (part_of w (Component k)) c ≡ None →
+        group_run g (perform w (Component k) c) ≡ group_run g (outward_run w (outward_dispatch g w (Component k) c))
+    dispatched-out x e r a =
+        let p = part_of w (Component k) in
+        let c = Command.dispatch x e r in
+        touched_dispatch-out g closed (itself q) k h x e r a
+        ∙ told-nothing w q (nothing-at g closed.page w q (named p x) (option_map (named p) r) e) (outward_dispatch g w (Component k) c)
+        (event-inside g w (Component k) c)
+
+  -- The ending of a turn,
+  pub ending-in : (w v : World) → IsSameView g w v → group_run g (ending_turn w) ≡ group_run g (ending_turn v)
+  ending-in w v s =
+      both-follow v (ending_under g) _ _ (ending-nothing g closed.page w s.first) (ending-nothing g closed.page v s.second)
+      (ending-follows g closed (same-world s)) (ending-follows g closed (itself s.second))
+
+  -- before a line,
+  ending_other-in : (w v : World) → IsSameView g w v → IsCalm g w → (o : Owner) → group_run g (ending_other_turn w o) ≡ group_run g (ending_other_turn v o)
+  ending_other-in w v s calm o =
+      both-follow v (λ t. ending_other_under g t o) _ _ (before-nothing g closed.page w s.first (no_command o))
+      (before-nothing g closed.page v s.second (no_command o)) (λ rest. ending_other-follows g closed (same-world s) calm rest o)
+      (λ rest. ending_other-follows g closed (itself s.second) (same-calm g closed w v s.same calm) rest o)
+
+  -- and at the end of input.
+  pub ending_any-in : (w v : World) → IsSameView g w v → IsCalm g w → group_run g (ending_any_turn w) ≡ group_run g (ending_any_turn v)
+  ending_any-in w v s calm =
+      both-follow v (ending_any_under g) _ _ (last-nothing w s.first) (last-nothing v s.second) (ending_any-follows g closed (same-world s) calm)
+      (ending_any-follows g closed (itself s.second) (same-calm g closed w v s.same calm))
+    where
+      last-nothing : (w : World) → IsQuiet w → TellNothing (last_records g w)
+      last-nothing w q = either_way TellNothing (is_some w.turn) (ending_records g w) [] (ending-nothing g closed.page w q) tt
+
+  -- A line of the group,
+  pub line-in : (w v : World) → IsSameView g w v → IsCalm g w → (l : Line) → is_of g (owner_of_line l) ≡ true → group_run g (step w l) ≡ group_run g (step v l)
+  line-in w v s calm l h =
+      both-follow v (λ t. step_under g t l) _ _ (line-nothing w s.first) (line-nothing v s.second) (line-follows g closed (same-world s) calm l h)
+      (line-follows g closed (itself s.second) (same-calm g closed w v s.same calm) l h)
+    where
+      line-nothing : (w : World) → IsQuiet w → TellNothing (before_records g w l ++ own_records g w l)
+      line-nothing w q =
+          all-append (λ i. i ≡ untouched) (before_records g w l) (own_records g w l) (before-nothing g closed.page w q l) (own-nothing g closed.page w q l)
+
+  -- which may stop an event in both worlds or in none,
+  pub may_stop-in : (w v : World) → IsSameView g w v → IsCalm g w → (l : Line) → is_of g (owner_of_line l) ≡ true → line_may_stop w l ≡ line_may_stop v l
+  may_stop-in w v s calm no_owner h = refl
+  may_stop-in w v s calm (no_command o) h = refl
+  may_stop-in w v s calm (command o c) h =
+      let first = ending_other-in w v s calm o in
+      may_stop-same (ending_other_turn w o).0 (ending_other_turn v o).0 o c
+      (refusal-in g closed (ending_other_turn w o).0 (ending_other_turn v o).0 (ap (λ (r : Run World). r.0) first) o h c)
+
+  -- and one of another owner, which ends no turn of the group.
+  pub line-out : {w : World} → IsReached true w → IsWhole w → IsCalm g w → (l : Line) → is_of g (owner_of_line l) ≡ false → ends_group_turn g w l ≡ false →
+      group_run g (step w l) ≡ group_run g (outward_run w (outward_event g w l))
+  line-out {w} r k calm l h t =
+      let q = sound w r in
+      let any : IsReached false w = record { world = r.world; kinds = r.kinds; owners = r.owners; logs = λ e. absurd (true≢false (sym e)) } in
+      let own = own_records g w l in
+      let send : World → Run World = λ u. outward_told g closed (first_record own).reached u (outward_event g w l) in
+      (others-alike g closed (itself q) any k calm l h).0
+      ∙ ap (λ b. group_run g (run_then (ended_told g closed b w (before_records g w l)) send)) t
+      ∙ told-nothing w q (first-nothing own (own-nothing g closed.page w q l)) (outward_event g w l) (event-host g w l)
+
+-- slots
+pub assigned-agree : AssignedAgree
+assigned-agree g closed w i s h = assigned-in g closed w (ground-of w i) s h
+
+-- signals
+pub signals-agree : SignalsAgree
+signals-agree g closed was now i j x around is_move = signals-group g closed (ground-of was i) (ground-of now j) x around is_move
+
+-- steps
+pub step-agrees : StepAgrees
+step-agrees g closed o h w i s = step-in g closed o h w (ground-of w i) s
+
+-- views
+pub views-agree : ViewsAgree
+views-agree g closed w i x related composed h k = views-in g closed w i x related h k composed
+
+-- views of an event that goes out
+pub outward_views-agree : OutwardViewsAgree
+outward_views-agree g closed w i x host h e =
+    let k = has-exit g closed w i x host e in
+    views-exit g closed w i x host k ∙ views-in g closed w i host None k.inside tt true
+
+-- a dispatch
+pub dispatch-agrees : DispatchAgrees
+dispatch-agrees g closed w v q p same x related e h k =
+    let shown = dispatch-in g closed (record { first = q; second = p; same = same }) x related e h k in
+    (ap (λ (d : Dispatched World). d.run) shown, ap (λ (d : Dispatched World). d.answer) shown)
+
+-- of a component outside
+pub other_dispatch-agrees : OtherDispatchAgrees
+other_dispatch-agrees g closed w Page h q x e related r = absurd (true≢false (sym closed.page ∙ h))
+other_dispatch-agrees g closed w (Component k) h q x e related r = dispatched-out g closed k q h x e related r
+
+-- the ending of a turn
+pub ending-agrees : EndingAgrees
+ending-agrees g closed w v q p same = ending-in g closed w v (record { first = q; second = p; same = same })
+
+-- lines
+pub line-agrees : LineAgrees
+line-agrees g closed w v q p same calm l h = line-in g closed w v (record { first = q; second = p; same = same }) calm l h
+
+-- of others
+pub other_line-agrees : OtherLineAgrees
+other_line-agrees g closed w r k calm l h t = line-out g closed r k calm l h t
+
+-- the end of input
+pub finish-agrees : FinishAgrees
+finish-agrees g closed w v q p same calm = ending_any-in g closed w v (record { first = q; second = p; same = same }) calm
 
 -- The world of a script, and the one of its trace where all others are silent: of both the group has the same.
 pub record IsPair (g : Owner → Bool) (closed : KeepsMakers g) (w v : World) : Type 0 where

@@ -16,7 +16,7 @@ use Rattle.dom_model.specs.Groups.{KeepsMakers, group_world}
 use Rattle.dom_model.proofs.OwnerLaws.{name_eq-true}
 use Rattle.dom_worlds.specs.Worlds.{IsOf}
 use Rattle.dom_worlds.proofs.ListLemmas.{all-filter, all-then, all-passed, all-distinct, all-map, filter_all, filter_none, filter_same, filter-filter, by_cases}
-use Rattle.dom_isolation.proofs.GroupParts.{in_node, part-in, part-out, filter-here, filter-away}
+use Rattle.dom_isolation.proofs.GroupSlots.{in_node, part-in, part-out, filter-here, filter-away}
 use Rattle.dom_isolation.proofs.GroupSlots.{IsGround, nodes-of, component-outside, slot-group, host_above-in, assigned-in}
 
 module _ {X : Type 0} where

@@ -1,29 +1,183 @@
--- Hosts, slots and signals as a group has them: what is assigned to its slots is the same, and its own signals are those of the world
--- with its own parts alone.
-use Rattle.std.proofs.Common.{◌≡◌, ◌≢◌, ℕ, ◌≤◌, Bool, true, false, ◌||◌, List, [], ◌∷◌, filter, find, position}
-use Rattle.std.proofs.Common.{option_map, Option, Some, None, refl, sym, ap, ◌∙◌, true≢false, arith}
-use Rattle.std.specs.Prelude.{is_some, slice_get, option_to_list}
-use Rattle.std.specs.List.{AllByRecursion}
+-- What a group has of a world: the parts of its owners are there, and those of all others are empty. What is assigned to its slots is the same.
+use Rattle.std.proofs.Common.{◌++◌, ◌||◌, true≢false, append-nil, ◌≡◌, ◌≢◌, ℕ, ◌≤◌, Bool, true, false, List, [], ◌∷◌, filter, find, position, option_map}
+use Rattle.std.proofs.Common.{Option, Some, None, refl, sym, ap, ◌∙◌, arith, unwrap_or}
+use Rattle.std.specs.Prelude.{if◌then◌else◌, is_some, slice_get, option_to_list}
+use Rattle.std.specs.List.{list_any, AllByRecursion}
+use Rattle.std.proofs.lemmas.List.Elements.{filter-append}
 use Rattle.std.specs.Option.{option_and_then, option_map_or}
 use Rattle.dom_base.specs.declared.Owner.{Owner}
 use Rattle.dom_base.specs.declared.Owner.TheVariants.{Page}
 use Rattle.dom_base.specs.declared.NodeName.{NodeName}
-use Rattle.dom_model.specs.Names.{DomString, name_eq, is_in}
+use Rattle.dom_model.specs.Names.{DomString, name_eq, is_in, owner_eq}
 use Rattle.dom_model.specs.Tree.{none, Node, nodes, node_in, parent_of, root_of, inclusive_ancestors, subtree, children_of, times_in}
-use Rattle.dom_model.specs.Part.{Part}
+use Rattle.dom_model.specs.Part.{Part, empty_part}
 use Rattle.dom_model.specs.World.{World, part_of, trees_with, node_at, root_at, parent_at, component_at, component_made, made_by, host_of, MayAttach}
-use Rattle.dom_model.specs.World.{host_above, some_if, shadow_root_of, shadow_tree}
+use Rattle.dom_model.specs.World.{host_above, some_if, shadow_root_of, shadow_tree, Task, find_part, put_part, with_part, is_there}
 use Rattle.dom_model.specs.Slots.{slot_of, slot_in, slottable_name, has_slot_name, assigned, assigned_below, is_assigned_to}
-use Rattle.dom_model.specs.Groups.{KeepsMakers, group_world}
-use Rattle.dom_model.proofs.OwnerLaws.{made_by-is, name_eq-true}
+use Rattle.dom_model.specs.Groups.{KeepsMakers, group_world, group_turn, group_outputs, is_task_of}
+use Rattle.dom_model.proofs.OwnerLaws.{made_by-is, name_eq-true, owner_eq-true}
 use Rattle.dom_worlds.specs.Worlds.{IsPart, IsWorld, IsOf, HasMakers}
 use Rattle.dom_model.proofs.PartLaws.{owner-part_of}
 use Rattle.dom_worlds.proofs.ShadowTreeLemmas.{slot_in-there, above-host}
-use Rattle.dom_worlds.proofs.ListLemmas.{all-then, all-from, all-dropped, filter_same, get-all, get-below, by_cases}
+use Rattle.dom_worlds.proofs.ListLemmas.{all-then, all-from, all-dropped, filter_same, get-all, get-below, all-passed, filter_all, filter-filter, by_cases}
 use Rattle.dom_worlds.proofs.OwnerLemmas.{component-made, component-maker, hosted, hosted-maker}
 use Rattle.dom_worlds.proofs.TreeLemmas.{ancestors-there, nodes-there}
 use Rattle.dom_laws.proofs.Counts.{times_subtree as times-subtree}
-use Rattle.dom_isolation.proofs.GroupParts.{in_node, part-in, part-out, filter-here, filter-away}
+use Rattle.std.proofs.lemmas.Bool.{cond-true, cond-false}
+use Rattle.dom_model.specs.Output.{Output}
+use Rattle.dom_model.specs.Trace.{is_of, owner_of_output, outputs_for}
+
+-- a world by its fields
+abbrev world_with : List Part → List NodeName → List Task → Option Owner → World
+world_with parts signalled tasks turn = record { parts = parts; signalled = signalled; tasks = tasks; turn = turn }
+
+-- worlds with the same fields are the same
+pub same_world : (u v : World) → u.parts ≡ v.parts → u.signalled ≡ v.signalled → u.tasks ≡ v.tasks → u.turn ≡ v.turn → u ≡ v
+same_world u v a b c d =
+    ap (λ x. world_with x u.signalled u.tasks u.turn) a ∙ ap (λ x. world_with v.parts x u.tasks u.turn) b
+    ∙ ap (λ x. world_with v.parts v.signalled x u.turn) c ∙ ap (world_with v.parts v.signalled v.tasks) d
+
+-- a test on the items of which another holds anyway
+pub filter-sub : {X : Type 0} (p t : X → Bool) → ((x : X) → p x ≡ true → t x ≡ true) → (xs : List X) → filter p (filter t xs) ≡ filter p xs
+filter-sub p t f xs =
+    filter-filter p t xs ∙ filter_all t (filter p xs) (all-then (λ x. p x ≡ true) (λ x. t x ≡ true) f (filter p xs) (all-passed (λ x. p x ≡ true) p
+    (λ x h. h) xs))
+
+-- a member's lines are among those of its group
+pub member-outputs : (g : Owner → Bool) (o : Owner) → g o ≡ true → (ls : List Output) → outputs_for o (group_outputs g ls) ≡ outputs_for o ls
+member-outputs g o h ls =
+    filter-sub (λ l. is_of (owner_eq o) (owner_of_output l)) (λ l. is_of g (owner_of_output l)) (λ l e. from (owner_of_output l) e) ls
+  where
+    from : (m : Option Owner) → is_of (owner_eq o) m ≡ true → is_of g m ≡ true
+    from None e = e
+    from (Some a) e = ap g (sym (owner_eq-true o a e)) ∙ h
+
+module _ {X : Type 0} where
+  -- an item that passes, and one that does not
+  pub filter-here : (test : X → Bool) (x : X) (xs : List X) → test x ≡ true → filter test (x ∷ xs) ≡ x ∷ filter test xs
+  filter-here test x xs h = cond-true (test x) (x ∷ filter test xs) (filter test xs) h
+
+  -- one that does not
+  pub filter-away : (test : X → Bool) (x : X) (xs : List X) → test x ≡ false → filter test (x ∷ xs) ≡ filter test xs
+  filter-away test x xs h = cond-false (test x) (x ∷ filter test xs) (filter test xs) h
+
+  -- a test twice is the test
+  pub filter-twice : (test : X → Bool) (xs : List X) → filter test (filter test xs) ≡ filter test xs
+  filter-twice test xs = filter_all test (filter test xs) (all-passed (λ x. test x ≡ true) test (λ x h. h) xs)
+
+  -- whether an item passes a test, which holds of none that fails another
+  pub any-kept : (p t : X → Bool) → ((x : X) → p x ≡ true → t x ≡ true) → (xs : List X) → list_any p (filter t xs) ≡ list_any p xs
+  any-kept p t f [] = refl
+  any-kept p t f (x ∷ xs) =
+      by_cases (t x) (λ h. ap (list_any p) (filter-here t x xs h) ∙ ap (λ b. p x || b) (any-kept p t f xs))
+      (λ h. ap (list_any p) (filter-away t x xs h) ∙ any-kept p t f xs
+      ∙ ap (λ b. b || list_any p xs) (sym (by_cases (p x) (λ e. absurd (true≢false (sym (f x e) ∙ h))) (λ e. e))))
+
+  -- an item that is put behind others, if it is not among them
+  module _ (t : X → Bool) (xs : List X) (x : X) where
+    -- where it passes
+    pub added-in : (b c : Bool) → c ≡ b → t x ≡ true → filter t (if b then xs else xs ++ x ∷ []) ≡ (if c then filter t xs else filter t xs ++ x ∷ [])
+    added-in true true e h = refl
+    added-in false false e h = filter-append t xs (x ∷ []) ∙ ap (λ ys. filter t xs ++ ys) (filter-here t x [] h)
+    added-in true false e h = absurd (true≢false (sym e))
+    added-in false true e h = absurd (true≢false e)
+
+    -- and where it does not
+    pub added-out : (b : Bool) → t x ≡ false → filter t (if b then xs else xs ++ x ∷ []) ≡ filter t xs
+    added-out true h = refl
+    added-out false h = filter-append t xs (x ∷ []) ∙ ap (λ ys. filter t xs ++ ys) (filter-away t x [] h) ∙ append-nil (filter t xs)
+
+module _ (g : Owner → Bool) where
+  -- whether a part is of the group
+  abbrev pub in_part : Part → Bool
+  in_part p = g p.owner
+
+  -- whether a node is of the group
+  abbrev pub in_node : NodeName → Bool
+  in_node x = g x.owner
+
+  -- a part of the group is found
+  find-in : (ps : List Part) (o : Owner) → g o ≡ true → find_part (filter in_part ps) o ≡ find_part ps o
+  find-in [] o h = refl
+  find-in (q ∷ qs) o h =
+      by_cases (owner_eq q.owner o)
+      (λ e. ap (λ ps. find_part ps o) (filter-here in_part q qs (ap g (owner_eq-true q.owner o e) ∙ h))
+      ∙ cond-true (owner_eq q.owner o) (Some q) (find_part (filter in_part qs) o) e ∙ sym (cond-true (owner_eq q.owner o) (Some q) (find_part qs o) e))
+      (λ e. by_cases (in_part q)
+      (λ t. ap (λ ps. find_part ps o) (filter-here in_part q qs t) ∙ cond-false (owner_eq q.owner o) (Some q) (find_part (filter in_part qs) o) e
+      ∙ find-in qs o h ∙ sym (cond-false (owner_eq q.owner o) (Some q) (find_part qs o) e))
+      (λ t. ap (λ ps. find_part ps o) (filter-away in_part q qs t) ∙ find-in qs o h ∙ sym (cond-false (owner_eq q.owner o) (Some q) (find_part qs o) e)))
+
+  -- another is not
+  find-out : (ps : List Part) (o : Owner) → g o ≡ false → find_part (filter in_part ps) o ≡ None
+  find-out [] o h = refl
+  find-out (q ∷ qs) o h =
+      by_cases (in_part q)
+      (λ t. let other : owner_eq q.owner o ≡ false = by_cases (owner_eq q.owner o)
+      (λ e. let both : true ≡ false = sym t ∙ ap g (owner_eq-true q.owner o e) ∙ h in e ∙ both) (λ e. e) in
+      ap (λ ps. find_part ps o) (filter-here in_part q qs t) ∙ cond-false (owner_eq q.owner o) (Some q) (find_part (filter in_part qs) o) other
+      ∙ find-out qs o h)
+      (λ t. ap (λ ps. find_part ps o) (filter-away in_part q qs t) ∙ find-out qs o h)
+
+  -- so the part of an owner of the group is the same,
+  pub part-in : (w : World) (o : Owner) → g o ≡ true → part_of (group_world g w) o ≡ part_of w o
+  part-in w o h = ap (λ p. unwrap_or p (empty_part o)) (find-in w.parts o h)
+
+  -- another owner has nothing,
+  pub part-out : (w : World) (o : Owner) → g o ≡ false → part_of (group_world g w) o ≡ empty_part o
+  part-out w o h = ap (λ p. unwrap_or p (empty_part o)) (find-out w.parts o h)
+
+  -- and who is there is the same
+  pub there-in : (w : World) (o : Owner) → g o ≡ true → is_there (group_world g w) o ≡ is_there w o
+  there-in w o h = ap is_some (find-in w.parts o h)
+
+  -- A part that is written.
+  put-in : (ps : List Part) (p : Part) → g p.owner ≡ true → filter in_part (put_part ps p) ≡ put_part (filter in_part ps) p
+  put-in [] p h = filter-here in_part p [] h
+  put-in (q ∷ qs) p h =
+      by_cases (owner_eq q.owner p.owner)
+      (λ e. ap (filter in_part) (cond-true (owner_eq q.owner p.owner) (p ∷ qs) (q ∷ put_part qs p) e) ∙ filter-here in_part p qs h
+      ∙ sym (ap (λ ps. put_part ps p) (filter-here in_part q qs (ap g (owner_eq-true q.owner p.owner e) ∙ h))
+      ∙ cond-true (owner_eq q.owner p.owner) (p ∷ filter in_part qs) (q ∷ put_part (filter in_part qs) p) e))
+      (λ e. ap (filter in_part) (cond-false (owner_eq q.owner p.owner) (p ∷ qs) (q ∷ put_part qs p) e)
+      ∙ by_cases (in_part q)
+      (λ t. filter-here in_part q (put_part qs p) t ∙ ap (λ ps. q ∷ ps) (put-in qs p h)
+      ∙ sym (ap (λ ps. put_part ps p) (filter-here in_part q qs t)
+      ∙ cond-false (owner_eq q.owner p.owner) (p ∷ filter in_part qs) (q ∷ put_part (filter in_part qs) p) e))
+      (λ t. filter-away in_part q (put_part qs p) t ∙ put-in qs p h ∙ sym (ap (λ ps. put_part ps p) (filter-away in_part q qs t))))
+
+  -- one of another owner
+  put-out : (ps : List Part) (p : Part) → g p.owner ≡ false → filter in_part (put_part ps p) ≡ filter in_part ps
+  put-out [] p h = filter-away in_part p [] h
+  put-out (q ∷ qs) p h =
+      by_cases (owner_eq q.owner p.owner)
+      (λ e. ap (filter in_part) (cond-true (owner_eq q.owner p.owner) (p ∷ qs) (q ∷ put_part qs p) e) ∙ filter-away in_part p qs h
+      ∙ sym (filter-away in_part q qs (ap g (owner_eq-true q.owner p.owner e) ∙ h)))
+      (λ e. ap (filter in_part) (cond-false (owner_eq q.owner p.owner) (p ∷ qs) (q ∷ put_part qs p) e)
+      ∙ by_cases (in_part q)
+      (λ t. filter-here in_part q (put_part qs p) t ∙ ap (λ ps. q ∷ ps) (put-out qs p h) ∙ sym (filter-here in_part q qs t))
+      (λ t. filter-away in_part q (put_part qs p) t ∙ put-out qs p h ∙ sym (filter-away in_part q qs t)))
+
+  -- the world with one of the group
+  pub with_part-in : (w : World) (p : Part) → g p.owner ≡ true → group_world g (with_part w p) ≡ with_part (group_world g w) p
+  with_part-in w p h = ap (λ ps. record (group_world g w) { parts = ps }) (put-in w.parts p h)
+
+  -- and with another
+  pub with_part-out : (w : World) (p : Part) → g p.owner ≡ false → group_world g (with_part w p) ≡ group_world g w
+  with_part-out w p h = ap (λ ps. record (group_world g w) { parts = ps }) (put-out w.parts p h)
+
+  -- a turn twice
+  turn-twice : (t : Option Owner) → group_turn g (group_turn g t) ≡ group_turn g t
+  turn-twice None = refl
+  turn-twice (Some o) =
+      by_cases (g o) (λ e. ap (group_turn g) (cond-true (g o) (Some o) None e)) (λ e. ap (group_turn g) (cond-false (g o) (Some o) None e)
+      ∙ sym (cond-false (g o) (Some o) None e))
+
+  -- What a group has of what it has is the same.
+  pub group-twice : (w : World) → group_world g (group_world g w) ≡ group_world g w
+  group-twice w =
+      same_world (group_world g (group_world g w)) (group_world g w) (filter-twice in_part w.parts) (filter-twice (λ s. g s.owner) w.signalled)
+      (filter-twice (is_task_of g) w.tasks) (turn-twice w.turn)
 
 -- What is asked of a world: nodes and hosts are their owners', and whoever has hosts may attach.
 pub record IsGround (w : World) : Type 0 where
@@ -222,12 +376,7 @@ module _ (g : Owner → Bool) (closed : KeepsMakers g) where
 
   -- whether a node of the group is among others is told by those of the group
   pub is_in-kept : (s : NodeName) (xs : List NodeName) → in_node g s ≡ true → is_in name_eq s (filter (in_node g) xs) ≡ is_in name_eq s xs
-  is_in-kept s [] h = refl
-  is_in-kept s (x ∷ xs) h =
-      by_cases (in_node g x) (λ t. ap (is_in name_eq s) (filter-here (in_node g) x xs t) ∙ ap (λ b. name_eq s x || b) (is_in-kept s xs h))
-      (λ t. ap (is_in name_eq s) (filter-away (in_node g) x xs t) ∙ is_in-kept s xs h
-      ∙ sym (ap (λ b. b || is_in name_eq s xs)
-      (by_cases (name_eq s x) (λ e. absurd (true≢false (sym h ∙ ap (in_node g) (name_eq-true s x e) ∙ t))) (λ e. e))))
+  is_in-kept s xs h = any-kept (name_eq s) (in_node g) (λ x e. ap (in_node g) (sym (name_eq-true s x e)) ∙ h) xs
 
   -- What is assigned to a slot of the group is the same.
   pub assigned-in : (w : World) → IsGround w → (s : NodeName) → in_node g s ≡ true → assigned (group_world g w) s ≡ assigned w s

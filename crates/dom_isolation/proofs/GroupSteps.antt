@@ -1,19 +1,15 @@
 -- Steps as a group has them: those of its owners are the same in the world with its own parts alone, and others' are none.
 use Rattle.std.proofs.Common.{◌≡◌, Bool, true, false, not, List, [], ◌∷◌, ◌++◌, filter, fold, Option, Some, None, refl, sym, ap, ◌∙◌, subst, true≢false}
-use Rattle.std.proofs.Common.{append-nil}
-use Rattle.std.specs.Prelude.{⊤, ◌&&◌, ◌||◌, if◌then◌else◌}
+use Rattle.std.specs.Prelude.{⊤, ◌&&◌, if◌then◌else◌}
 use Rattle.std.specs.List.{AllByRecursion, list_any}
-use Rattle.std.proofs.lemmas.Bool.{cond-true, cond-false}
-use Rattle.std.proofs.lemmas.List.Elements.{filter-append}
 use Rattle.dom_base.specs.declared.Owner.{Owner}
 use Rattle.dom_base.specs.declared.NodeName.{NodeName}
-use Rattle.dom_model.specs.Names.{name_eq, owner_eq, is_in, is_empty, append_once, distinct, list_eq, max_depth}
+use Rattle.dom_model.specs.Names.{name_eq, is_in, is_empty, append_once, distinct, list_eq, max_depth}
 use Rattle.dom_model.specs.Tree.{node_in, parent_of}
 use Rattle.dom_model.specs.Part.{Part}
-use Rattle.dom_model.specs.Steps.{Step, place, take_out, set_document, set_attribute}
-use Rattle.dom_model.specs.Steps.{queue_record, part_step, is_taken}
-use Rattle.dom_model.specs.World.{World, Task, micro_task, notify_task, part_of, with_part, is_notify_of, queued_notify, with_notify}
-use Rattle.dom_model.specs.World.{components_below, shadow_root_of, is_in_shadow_tree}
+use Rattle.dom_model.specs.Steps.{Step, place, take_out, set_document, set_attribute, queue_record, part_step, is_taken}
+use Rattle.dom_model.specs.World.{World, Task, micro_task, notify_task, part_of, with_part, is_notify_of, with_notify, components_below}
+use Rattle.dom_model.specs.World.{shadow_root_of, is_in_shadow_tree}
 use Rattle.dom_model.specs.Slots.{signals, with_signal, assigned, is_slot_element, is_changed, own_slots, other_slots}
 use Rattle.dom_model.specs.WorldSteps.{world_step, world_after, stepped, with_signals, with_removal_signals, with_notify_if, with_shadow_document}
 use Rattle.dom_model.specs.Groups.{KeepsMakers, group_world, is_task_of}
@@ -24,8 +20,8 @@ use Rattle.dom_worlds.specs.Worlds.{IsOf}
 use Rattle.dom_worlds.proofs.ListLemmas.{filter_none, all-from, by_cases}
 use Rattle.dom_worlds.proofs.PlanLemmas.{rest-step, Fits, MadeIn}
 use Rattle.dom_worlds.proofs.WorldLemmas.{Ground, ground-stepped, ground-world_step, part-own_step, IsKeptIn, holds-world_after, attached-with_part}
-use Rattle.dom_isolation.proofs.GroupParts.{in_node, part-in, part-out, with_part-in, with_part-out, group-twice, filter-here, filter-away}
-use Rattle.dom_isolation.proofs.GroupSlots.{IsGround, owned-by, parent-in, is_in-kept}
+use Rattle.dom_isolation.proofs.GroupSlots.{in_node, part-in, part-out, with_part-in, with_part-out, group-twice, filter-here, filter-away, IsGround, owned-by}
+use Rattle.dom_isolation.proofs.GroupSlots.{parent-in, is_in-kept, any-kept, added-in, added-out}
 use Rattle.dom_isolation.proofs.GroupSignals.{signals-group, below-outside, below-group}
 
 -- What is asked of a world stays with steps.
@@ -76,64 +72,23 @@ unchanged : (w : World) (xs : List NodeName) → filter (is_changed w w) xs ≡ 
 unchanged w xs = filter_none (is_changed w w) xs (all-from (λ s. is_changed w w s ≡ false) (λ s. ap not (list_eq-same (assigned w s))) xs)
 
 module _ (g : Owner → Bool) where
-  -- Notifications. One of the group is queued among the group's tasks,
-  has_notify-in : (o : Owner) → g o ≡ true → (ts : List Task) → list_any (is_notify_of o) (filter (is_task_of g) ts) ≡ list_any (is_notify_of o) ts
-  has_notify-in o h [] = refl
-  has_notify-in o h (micro_task x label ∷ ts) =
-      by_cases (g x) (λ t. ap (list_any (is_notify_of o)) (filter-here (is_task_of g) (micro_task x label) ts t) ∙ has_notify-in o h ts)
-      (λ t. ap (list_any (is_notify_of o)) (filter-away (is_task_of g) (micro_task x label) ts t) ∙ has_notify-in o h ts)
-  has_notify-in o h (notify_task x ∷ ts) =
-      by_cases (g x)
-      (λ t. ap (list_any (is_notify_of o)) (filter-here (is_task_of g) (notify_task x) ts t) ∙ ap (λ b. owner_eq x o || b) (has_notify-in o h ts))
-      (λ t. ap (list_any (is_notify_of o)) (filter-away (is_task_of g) (notify_task x) ts t) ∙ has_notify-in o h ts
-      ∙ sym (ap (λ b. b || list_any (is_notify_of o) ts)
-      (by_cases (owner_eq x o) (λ e. absurd (true≢false (sym h ∙ ap g (sym (owner_eq-true x o e)) ∙ t))) (λ e. e))))
-
-  -- one that is queued
-  queued-in : (o : Owner) → g o ≡ true → (ts : List Task) → filter (is_task_of g) (queued_notify o ts) ≡ queued_notify o (filter (is_task_of g) ts)
-  queued-in o h ts =
-      let mine = filter (is_task_of g) ts in
-      by_cases (list_any (is_notify_of o) ts)
-      (λ e. ap (filter (is_task_of g)) (cond-true (list_any (is_notify_of o) ts) ts (ts ++ notify_task o ∷ []) e)
-      ∙ sym (cond-true (list_any (is_notify_of o) mine) mine (mine ++ notify_task o ∷ []) (has_notify-in o h ts ∙ e)))
-      (λ e. ap (filter (is_task_of g)) (cond-false (list_any (is_notify_of o) ts) ts (ts ++ notify_task o ∷ []) e)
-      ∙ filter-append (is_task_of g) ts (notify_task o ∷ []) ∙ ap (λ ys. mine ++ ys) (filter-here (is_task_of g) (notify_task o) [] h)
-      ∙ sym (cond-false (list_any (is_notify_of o) mine) mine (mine ++ notify_task o ∷ []) (has_notify-in o h ts ∙ e)))
-
-  -- another's is not seen
-  queued-out : (o : Owner) → g o ≡ false → (ts : List Task) → filter (is_task_of g) (queued_notify o ts) ≡ filter (is_task_of g) ts
-  queued-out o h ts =
-      by_cases (list_any (is_notify_of o) ts) (λ e. ap (filter (is_task_of g)) (cond-true (list_any (is_notify_of o) ts) ts (ts ++ notify_task o ∷ []) e))
-      (λ e. ap (filter (is_task_of g)) (cond-false (list_any (is_notify_of o) ts) ts (ts ++ notify_task o ∷ []) e)
-      ∙ filter-append (is_task_of g) ts (notify_task o ∷ [])
-      ∙ ap (λ ys. filter (is_task_of g) ts ++ ys) (filter-away (is_task_of g) (notify_task o) [] h) ∙ append-nil (filter (is_task_of g) ts))
+  -- Notifications: one of the group is among its tasks,
+  notify-in : (o : Owner) → g o ≡ true → (t : Task) → is_notify_of o t ≡ true → is_task_of g t ≡ true
+  notify-in o h (micro_task x label) e = absurd (true≢false (sym e))
+  notify-in o h (notify_task x) e = ap g (owner_eq-true x o e) ∙ h
 
   -- in the world
   pub with_notify-in : (o : Owner) → g o ≡ true → (w : World) → group_world g (with_notify w o) ≡ with_notify (group_world g w) o
-  with_notify-in o h w = ap (λ ts. record (group_world g w) { tasks = ts }) (queued-in o h w.tasks)
+  with_notify-in o h w =
+      let mine = filter (is_task_of g) w.tasks in
+      ap (λ ts. record (group_world g w) { tasks = ts })
+      (added-in (is_task_of g) w.tasks (notify_task o) (list_any (is_notify_of o) w.tasks) (list_any (is_notify_of o) mine)
+      (any-kept (is_notify_of o) (is_task_of g) (notify-in o h) w.tasks) h)
 
-  -- another's
+  -- another's is not seen
   pub with_notify-out : (o : Owner) → g o ≡ false → (w : World) → group_world g (with_notify w o) ≡ group_world g w
-  with_notify-out o h w = ap (λ ts. record (group_world g w) { tasks = ts }) (queued-out o h w.tasks)
-
-  -- Signals of slots.
-  signalled-in : (s : NodeName) → in_node g s ≡ true → (closed : KeepsMakers g) → (xs : List NodeName) →
-      filter (in_node g) (append_once name_eq xs s) ≡ append_once name_eq (filter (in_node g) xs) s
-  signalled-in s h closed xs =
-      let mine = filter (in_node g) xs in
-      by_cases (is_in name_eq s xs)
-      (λ e. ap (filter (in_node g)) (cond-true (is_in name_eq s xs) xs (xs ++ s ∷ []) e)
-      ∙ sym (cond-true (is_in name_eq s mine) mine (mine ++ s ∷ []) (is_in-kept g closed s xs h ∙ e)))
-      (λ e. ap (filter (in_node g)) (cond-false (is_in name_eq s xs) xs (xs ++ s ∷ []) e) ∙ filter-append (in_node g) xs (s ∷ [])
-      ∙ ap (λ ys. mine ++ ys) (filter-here (in_node g) s [] h)
-      ∙ sym (cond-false (is_in name_eq s mine) mine (mine ++ s ∷ []) (is_in-kept g closed s xs h ∙ e)))
-
-  -- of a slot outside
-  signalled-out : (s : NodeName) → in_node g s ≡ false → (xs : List NodeName) → filter (in_node g) (append_once name_eq xs s) ≡ filter (in_node g) xs
-  signalled-out s h xs =
-      by_cases (is_in name_eq s xs) (λ e. ap (filter (in_node g)) (cond-true (is_in name_eq s xs) xs (xs ++ s ∷ []) e))
-      (λ e. ap (filter (in_node g)) (cond-false (is_in name_eq s xs) xs (xs ++ s ∷ []) e) ∙ filter-append (in_node g) xs (s ∷ [])
-      ∙ ap (λ ys. filter (in_node g) xs ++ ys) (filter-away (in_node g) s [] h) ∙ append-nil (filter (in_node g) xs))
+  with_notify-out o h w =
+      ap (λ ts. record (group_world g w) { tasks = ts }) (added-out (is_task_of g) w.tasks (notify_task o) (list_any (is_notify_of o) w.tasks) h)
 
   -- A step in a part of the group, and in another.
   pub stepped-in : (o : Owner) → g o ≡ true → (w : World) (s : Step) → group_world g (stepped o w s) ≡ stepped o (group_world g w) s
@@ -168,14 +123,16 @@ module _ (g : Owner → Bool) (closed : KeepsMakers g) where
   -- a signal
   signal-in : (s : NodeName) → in_node g s ≡ true → (w : World) → group_world g (with_signal w s) ≡ with_signal (group_world g w) s
   signal-in s h w =
-      with_notify-in g s.owner h (record w { signalled = append_once name_eq w.signalled s })
-      ∙ ap (λ xs. with_notify (record (group_world g w) { signalled = xs }) s.owner) (signalled-in g s h closed w.signalled)
+      let xs = w.signalled in
+      with_notify-in g s.owner h (record w { signalled = append_once name_eq xs s })
+      ∙ ap (λ xs. with_notify (record (group_world g w) { signalled = xs }) s.owner)
+      (added-in (in_node g) xs s (is_in name_eq s xs) (is_in name_eq s (filter (in_node g) xs)) (is_in-kept g closed s xs h) h)
 
   -- of a slot outside
   signal-out : (s : NodeName) → in_node g s ≡ false → (w : World) → group_world g (with_signal w s) ≡ group_world g w
   signal-out s h w =
       with_notify-out g s.owner h (record w { signalled = append_once name_eq w.signalled s })
-      ∙ ap (λ xs. record (group_world g w) { signalled = xs }) (signalled-out g s h w.signalled)
+      ∙ ap (λ xs. record (group_world g w) { signalled = xs }) (added-out (in_node g) w.signalled s (is_in name_eq s w.signalled) h)
 
   -- all of them
   each_signal : (ss : List NodeName) (w : World) → group_world g (fold with_signal w ss) ≡ fold with_signal (group_world g w) (filter (in_node g) ss)

@@ -1,7 +1,6 @@
 -- Members of groups: two scripts, or texts, that agree for a group have equal output of each member. So it is of families, of components with their makers,
 -- and around components. An owner's lines of output are those that begin with its word and a space.
-use Rattle.std.proofs.Common.{◌≡◌, ◌<◌, ◌^◌, ℕ, List, [], ◌∷◌, map, Some, refl, sym, ap, ◌∙◌, inl, inr, arith, subst, Bool, true, false, not, ◌&&◌, Option}
-use Rattle.std.proofs.Common.{None}
+use Rattle.std.proofs.Common.{◌≡◌, ◌<◌, ◌^◌, ℕ, List, [], ◌∷◌, map, Some, refl, sym, ap, ◌∙◌, inl, inr, arith, subst, Bool, true, false, not, ◌&&◌}
 use Rattle.std.proofs.lemmas.Bool.{cases_eq, and_parts, not-true}
 use Rattle.std.specs.List.{AllByRecursion}
 use Rattle.std.specs.Fmt.{decimal}
@@ -31,19 +30,17 @@ use Rattle.dom_isolation.specs.GroupTexts.{IsWordOf, ReadsOwners, DecodeReadsOwn
 use Rattle.dom_isolation.specs.GroupTexts.{SameGroupText, SameGroupTextWhileTurnsStand, SameComponentText, SameComponentTextWhileTurnsStand, SameAroundText}
 use Rattle.dom_isolation.specs.GroupTexts.{SameAroundTextWhileTurnsStand, SameGroupTextInFull, SameFamilyTextInFull, SameComponentTextInFull}
 use Rattle.dom_isolation.specs.GroupTexts.{SameAroundTextInFull}
-use Rattle.dom_isolation.proofs.Families.{family-is_group, makers-are_group, others-are_group, own-maker, page-is_group}
+use Rattle.dom_isolation.proofs.Families.{family-is_group, makers-are_group, others-are_group, own-maker}
 use Rattle.dom_isolation.proofs.WordedRuns.{IsWordedInput, worded-outputs}
-use Rattle.std.specs.Option.{option_map_or}
 use Rattle.dom_model.specs.World.{World}
-use Rattle.dom_model.specs.Turns.{is_other_component}
-use Rattle.dom_model.specs.Isolation.{output_of, turns_are_closed_from, group_turns_stand_from, SamePage, SameFamily, SameFamilyWhileTurnsStand}
+use Rattle.dom_model.specs.Isolation.{output_of, turns_are_closed_from, group_turns_stand_from, SameFamily, SameFamilyWhileTurnsStand}
 use Rattle.dom_model.specs.Isolation.{SameComponent, SameComponentWhileTurnsStand, SameAround, SameAroundWhileTurnsStand}
 use Rattle.dom_isolation.specs.FullGroups.{SameMemberInFull, SameFamilyInFull, SameComponentInFull, SameAroundInFull}
 use Rattle.dom_isolation.specs.Agreement.{AgreeWhileTurnsStand, AgreeWithClosedTurns, SameMember, SameMemberWhileTurnsStand}
 use Rattle.dom_isolation.proofs.GroupRuns.{same-group}
 use Rattle.dom_isolation.proofs.TouchedRuns.{same-group_in_full}
-use Rattle.dom_isolation.proofs.GroupParts.{member-outputs}
-use Rattle.dom_isolation.proofs.GroupViews.{and-no}
+use Rattle.dom_isolation.proofs.GroupSlots.{member-outputs}
+use Rattle.dom_isolation.proofs.GroupPaths.{and-no}
 
 module _ {L : Type 0} (read : L → Line) where
   -- a member
@@ -70,29 +67,6 @@ module _ {L : Type 0} (read : L → Line) where
   -- a member
   pub same-member : SameMember read
   same-member g closed o h ls ms k = same-member_while_turns_stand g closed o h ls ms (agree-standing g ls ms k)
-
-  -- No line ends a turn of the page.
-  page-stands : (w : World) (l : Line) → ends_group_turn is_page w l ≡ false
-  page-stands w l =
-      ap (λ b. not (is_of is_page (owner_of_line l)) && b) (from w.turn (owner_of_line l)) ∙ and-no (not (is_of is_page (owner_of_line l)))
-    where
-      from : (t o : Option Owner) → (is_of is_page t && is_of (λ o. option_map_or (is_other_component o) t false) o) ≡ false
-      from None o = refl
-      from (Some Page) None = refl
-      from (Some Page) (Some o) = refl
-      from (Some (Component k)) o = refl
-
-  -- of a script
-  page-turns_stand : (ls : List L) (w : World) → group_turns_stand_from read is_page w ls ≡ true
-  page-turns_stand [] w = refl
-  page-turns_stand (l ∷ ls) w =
-      let u = (step w (read l)).0 in
-      ap (λ b. not b && group_turns_stand_from read is_page u ls) (page-stands w (read l)) ∙ page-turns_stand ls u
-
-  -- the page
-  pub same-page : SamePage read
-  same-page ls ms a b e =
-      same-member_while_turns_stand is_page page-is_group Page refl ls ms ((a, b, e), page-turns_stand ls first_world, page-turns_stand ms first_world)
 
   -- families
   pub same-family_while_turns_stand : SameFamilyWhileTurnsStand read

@@ -17,10 +17,9 @@ use Rattle.dom_worlds.specs.Reached.{Invariant}
 use Rattle.dom_worlds.proofs.ListLemmas.{all-append, all-then, all-passed, filter_none, filter-filter, by_cases}
 use Rattle.dom_worlds.proofs.TurnLemmas.{told_in, quiet-told, quiet-dispatch, quiet-running, at_end, quiet-at_end, quiet-opening, rest-visits}
 use Rattle.dom_isolation.specs.GroupLaws.{IsCalm}
-use Rattle.dom_isolation.proofs.GroupParts.{filter-sub, in_node, part-in, with_part-in, with_part-out, filter-here, filter-away}
-use Rattle.dom_isolation.proofs.GroupDispatches.{no_dispatch}
+use Rattle.dom_isolation.proofs.GroupSlots.{filter-sub, in_node, part-in, with_part-in, with_part-out, filter-here, filter-away, outside-no_page}
+use Rattle.dom_isolation.proofs.GroupDispatches.{no_dispatch, quiet-then}
 use Rattle.dom_isolation.proofs.OutsideViews.{views-kept_in}
-use Rattle.dom_isolation.proofs.GroupDispatches.{quiet-then}
 use Rattle.std.specs.Prelude.{is_some, if◌then◌else◌}
 use Rattle.std.specs.Option.{option_map_or}
 use Rattle.std.proofs.lemmas.Bool.{cond-true, cond-false}
@@ -31,7 +30,6 @@ use Rattle.dom_model.specs.Listeners.{begun}
 use Rattle.dom_model.specs.Paths.{views}
 use Rattle.dom_model.specs.Dispatch.{dispatch_in, visits_of}
 use Rattle.dom_model.proofs.TurnLaws.{turn-ending_turn}
-use Rattle.dom_isolation.proofs.GroupSlots.{outside-no_page}
 
 -- The lines of a notification are its owner's.
 abbrev pub IsLineOf : Owner → Output → Type 0

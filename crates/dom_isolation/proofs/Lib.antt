@@ -1,14 +1,11 @@
 mod PageSteps
-mod GroupParts
 mod OwnVisits
 mod Touches
-mod Dispatches
 mod PagePaths
 mod PageCommands
 mod ComponentCommands
 mod Lines
 mod FullTraces
-pub mod PageRuns
 pub mod PageTexts
 mod PlainWords
 mod SaidRuns
@@ -19,7 +16,6 @@ mod GroupSlots
 mod GroupSignals
 mod GroupSteps
 mod GroupPaths
-mod GroupViews
 mod OutsideViews
 mod GroupDispatches
 mod GroupTurns
@@ -27,7 +23,6 @@ mod TouchedTurns
 mod GroupCommands
 mod OutsideCommands
 mod TouchedLines
-mod QuietGroups
 mod GroupRuns
 mod TouchedRuns
 mod WordedRuns

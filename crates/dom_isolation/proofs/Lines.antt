@@ -21,13 +21,10 @@ use Rattle.dom_worlds.specs.Reached.{Invariant, IsQuiet}
 use Rattle.dom_isolation.specs.FullLaws.{EndingsAreNotTold, PageDispatchAgreesInFull, PageLineAgreesInFull, OtherLineAgreesInFull}
 use Rattle.dom_worlds.proofs.ListLemmas.{by_cases}
 use Rattle.dom_worlds.proofs.TurnLemmas.{at_end, quiet-running, quiet-at_end, quiet-ending_other, page_time}
-use Rattle.dom_isolation.proofs.PageSteps.{run_then-square}
-use Rattle.dom_isolation.proofs.PageCommands.{ending_other-quiet, no_page_slots}
-use Rattle.dom_isolation.proofs.PageCommands.{command-page}
-use Rattle.dom_isolation.proofs.ComponentCommands.{outward_run, run_then-quiet_end}
-use Rattle.dom_isolation.proofs.ComponentCommands.{command-component, dispatched-component}
+use Rattle.dom_isolation.proofs.PageSteps.{run_then-square, dispatch-page}
+use Rattle.dom_isolation.proofs.PageCommands.{ending_other-quiet, no_page_slots, command-page}
+use Rattle.dom_isolation.proofs.ComponentCommands.{outward_run, run_then-quiet_end, command-component, dispatched-component}
 use Rattle.dom_model.specs.CommandNames.{named}
-use Rattle.dom_isolation.proofs.Dispatches.{dispatch-page}
 use Rattle.dom_isolation.proofs.FullTraces.{first-nothing, nothing-at, own-nothing, line-plain}
 use Rattle.dom_isolation.proofs.PagePaths.{views-page}
 

@@ -1,7 +1,6 @@
 -- A command of a component outside the group does nothing to the group, or what its outward event does.
-use Rattle.std.proofs.Common.{◌≡◌, ℕ, Bool, true, false, not, ◌&&◌, List, [], ◌∷◌, ◌++◌, length, map, filter, Option, Some, None, option_map}
-use Rattle.std.proofs.Common.{refl, sym, ap, ◌∙◌}
-use Rattle.std.proofs.Common.{subst, true≢false, append-nil}
+use Rattle.std.proofs.Common.{◌≡◌, ℕ, Bool, true, false, not, ◌&&◌, List, [], ◌∷◌, ◌++◌, length, map, filter, Option, Some, None, option_map, refl, sym, ap}
+use Rattle.std.proofs.Common.{◌∙◌, subst, true≢false, append-nil}
 use Rattle.std.specs.Prelude.{is_none, if◌then◌else◌}
 use Rattle.std.specs.Option.{option_map_or}
 use Rattle.std.proofs.lemmas.List.Elements.{filter-append}
@@ -34,16 +33,12 @@ use Rattle.dom_worlds.proofs.TurnLemmas.{part_of-opening}
 use Rattle.dom_worlds.proofs.OwnerLemmas.{owner-named}
 use Rattle.dom_worlds.proofs.ListLemmas.{by_cases, and-true_false}
 use Rattle.dom_isolation.proofs.ComponentCommands.{opened-event, related-same_root, outward-same}
-use Rattle.dom_isolation.proofs.GroupDispatches.{outward_at}
+use Rattle.dom_isolation.proofs.GroupDispatches.{outward_at, outward_told, quiet-then, touched-out, IsSameWorld}
 use Rattle.dom_isolation.specs.GroupLaws.{IsCalm}
-use Rattle.dom_isolation.proofs.GroupParts.{in_node, with_part-out, filter-away}
-use Rattle.dom_isolation.proofs.GroupSlots.{IsGround, ground-of, made-outside}
+use Rattle.dom_isolation.proofs.GroupSlots.{in_node, with_part-out, filter-away, IsGround, ground-of, made-outside}
 use Rattle.dom_isolation.proofs.GroupSteps.{steps-out}
-use Rattle.dom_isolation.proofs.GroupDispatches.{outward_told, quiet-then, touched-out}
-use Rattle.dom_isolation.proofs.GroupDispatches.{IsSameWorld}
 use Rattle.dom_isolation.proofs.OutsideViews.{found-passes}
-use Rattle.dom_isolation.proofs.GroupTurns.{ending-out}
-use Rattle.dom_isolation.proofs.GroupTurns.{turn-none, same-turn, same-calm, opening-out, opened-quiet}
+use Rattle.dom_isolation.proofs.GroupTurns.{ending-out, turn-none, same-turn, same-calm, opening-out, opened-quiet}
 
 -- the host of an outward event is of the group
 pub event-inside : (g : Owner → Bool) (w : World) (o : Owner) (c : Command) (e : OutwardEvent) → outward_dispatch g w o c ≡ Some e → in_node g e.host ≡ true

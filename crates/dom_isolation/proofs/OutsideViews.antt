@@ -22,10 +22,9 @@ use Rattle.dom_worlds.proofs.ListLemmas.{all-before, by_cases, either_way}
 use Rattle.dom_worlds.proofs.TreeLemmas.{all-both, ancestors-present}
 use Rattle.dom_isolation.proofs.PagePaths.{IsInSome, slot_way-in_some, uncut}
 use Rattle.std.proofs.lemmas.List.Elements.{filter-append}
-use Rattle.dom_isolation.proofs.GroupParts.{in_node}
+use Rattle.dom_isolation.proofs.GroupSlots.{in_node}
 use Rattle.dom_isolation.proofs.OwnVisits.{in_view}
-use Rattle.dom_isolation.proofs.GroupPaths.{hidden-outside, way-outside}
-use Rattle.dom_isolation.proofs.GroupViews.{ground, Inside, Outside, veiled-hidden}
+use Rattle.dom_isolation.proofs.GroupPaths.{hidden-outside, way-outside, ground, Inside, Outside, veiled-hidden}
 use Rattle.dom_model.specs.Tree.{times_in}
 use Rattle.dom_model.proofs.OwnerLaws.{name_eq-same}
 use Rattle.dom_laws.proofs.Counts.{by_times}

@@ -1,7 +1,6 @@
 -- Visits as a group has them: one at a node of the group does what it does where no others are, and one at another node does nothing to the
 -- group but to the flags of the event. The visits at its nodes are those of the views there.
-use Rattle.std.proofs.Common.{◌≡◌, Bool, true, false, ◌||◌, List, [], ◌∷◌, ◌++◌, filter, fold, refl, sym, ap, ◌∙◌, append-nil, true≢false, subst, map}
-use Rattle.std.proofs.Common.{reverse}
+use Rattle.std.proofs.Common.{◌≡◌, Bool, true, false, ◌||◌, List, [], ◌∷◌, ◌++◌, filter, fold, refl, sym, ap, ◌∙◌, append-nil, true≢false, subst, map, reverse}
 use Rattle.std.proofs.lemmas.Bool.{cond-true, cond-false}
 use Rattle.std.proofs.lemmas.List.Elements.{filter-append}
 use Rattle.dom_base.specs.declared.Owner.{Owner}
@@ -20,7 +19,7 @@ use Rattle.dom_model.proofs.PartLaws.{owner-part_of}
 use Rattle.dom_worlds.proofs.ListLemmas.{by_cases, filter-filter, filter-map, filter-reverse}
 use Rattle.dom_worlds.proofs.TurnLemmas.{Going, InWorld, with_listeners, call, call-of, no_call, sifted-after_action}
 use Rattle.dom_isolation.specs.Interference.{is_own_visit}
-use Rattle.dom_isolation.proofs.GroupParts.{part-in, with_part-in, with_part-out, group-twice, filter-here, filter-away, filter-twice}
+use Rattle.dom_isolation.proofs.GroupSlots.{part-in, with_part-in, with_part-out, group-twice, filter-here, filter-away, filter-twice}
 use Rattle.dom_model.specs.Paths.{View}
 use Rattle.dom_model.specs.Trace.{is_of, owner_of_output}
 

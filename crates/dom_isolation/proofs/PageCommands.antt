@@ -40,7 +40,7 @@ use Rattle.dom_worlds.proofs.CommandLemmas.{KeepsBase, base-effect}
 use Rattle.dom_worlds.proofs.OwnerLemmas.{owner-named}
 use Rattle.dom_worlds.proofs.ListLemmas.{by_cases, all-then, filter_all, filter_none}
 use Rattle.dom_isolation.proofs.PagePaths.{shadow_including-page, views-page}
-use Rattle.dom_isolation.proofs.Dispatches.{done_to, dispatch-page}
+use Rattle.dom_isolation.proofs.PageSteps.{done_to, dispatch-page}
 use Rattle.std.proofs.lemmas.Bool.{cond-true, cond-false}
 use Rattle.dom_base.specs.declared.Owner.{Owner}
 use Rattle.dom_model.proofs.StepLaws.{Component-IsNoPage}

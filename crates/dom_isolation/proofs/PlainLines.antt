@@ -1,6 +1,6 @@
 -- The text of what is said without line feeds has none, and the protocol's reading gives words without line feeds alone.
-use Rattle.std.proofs.Common.{◌≡◌, ℕ, zero, suc, ◌+◌, ◌/◌, ◌%◌, ◌≤◌, Bool, true, false, not, cond, ◌||◌, eqb, List, [], ◌∷◌, ◌++◌, map, Option, Some}
-use Rattle.std.proofs.Common.{None, refl, sym, ap, ◌∙◌, arith, true≢false, subst}
+use Rattle.std.proofs.Common.{◌≡◌, ℕ, zero, suc, ◌+◌, ◌/◌, ◌%◌, ◌≤◌, Bool, true, false, not, cond, ◌||◌, eqb, List, [], ◌∷◌, ◌++◌, map, Option, Some, None}
+use Rattle.std.proofs.Common.{refl, sym, ap, ◌∙◌, arith, true≢false, subst}
 use Rattle.std.specs.Prelude.{codes, nat_lt, take, if◌then◌else◌}
 use Rattle.std.specs.List.{AllByRecursion, list_all, flat_map}
 use Rattle.std.specs.Int.{is_in_range}
@@ -17,17 +17,16 @@ use Rattle.dom_base.specs.declared.Refusal.{Refusal}
 use Rattle.dom_base.specs.declared.Refusal.TheVariants.{Syntax}
 use Rattle.dom_model.specs.Command.{Command, Line, no_owner, no_command, command}
 use Rattle.dom_model.specs.Names.{ComponentName, DomString, owner_eq}
-use Rattle.dom_model.specs.Output.{Change, child_list, attributes, character_data, EventLine, Boundary, Value}
-use Rattle.dom_model.specs.Output.{a_tree}
-use Rattle.dom_model.specs.Output.{Said, replied, refused, event_seen, recorded, micro_ran, Output, bad_owner, says}
+use Rattle.dom_model.specs.Output.{Change, child_list, attributes, character_data, EventLine, Boundary, Value, a_tree, Said, replied, refused, event_seen}
+use Rattle.dom_model.specs.Output.{recorded, micro_ran, Output, bad_owner, says}
 use Rattle.dom_model.specs.Tree.{Trees, none, tree, Node, Attribute}
 use Rattle.dom_text.specs.Decode.{decode}
 use Rattle.dom_text.specs.Grammar.{Says, Spells}
 use Rattle.dom_text.specs.Commands.{parts}
 use Rattle.dom_text.specs.Lines.{line_feed, lines_of}
 use Rattle.dom_text.specs.Text.{hex_digits, unit_text, string_text, string_or_null, node_text_of, node_text, node_or_null, next_node_text, nodes_text}
-use Rattle.dom_text.specs.Text.{list_text, attribute_text, own_parts, opening_text, trees_text, boundary_text, truth_text, side_text}
-use Rattle.dom_text.specs.Text.{value_text, event_text, change_text, said_text, output_line, output_text}
+use Rattle.dom_text.specs.Text.{list_text, attribute_text, own_parts, opening_text, trees_text, boundary_text, truth_text, side_text, value_text, event_text}
+use Rattle.dom_text.specs.Text.{change_text, said_text, output_line, output_text}
 use Rattle.dom_text.specs.Tokens.{IsWord, IsWordByte, IsLabel, is_label_byte}
 use Rattle.dom_text.specs.Words.{next_number_text, numbers_text, component_word, owner_word, kind_word}
 use Rattle.dom_text.proofs.DecodeLaws.{decode_says}

@@ -23,16 +23,16 @@ use Rattle.dom_worlds.proofs.WorldLemmas.{ending-keeps_reached, ending-keeps_who
 use Rattle.dom_worlds.proofs.ListLemmas.{by_cases}
 use Rattle.dom_isolation.specs.Interference.{Interference, untouched, first_record, ending_records, before_records, own_records, interference_at}
 use Rattle.dom_isolation.specs.Interference.{accepted_records, command_records}
-use Rattle.dom_isolation.proofs.GroupParts.{filter-away}
+use Rattle.dom_isolation.proofs.GroupSlots.{filter-away}
 use Rattle.dom_isolation.specs.GroupLaws.{IsCalm}
 use Rattle.dom_isolation.specs.SilentRuns.{Told, told_run, ending_under, ending_other_under, run_command_under, step_under, untold, dispatch_under}
 use Rattle.dom_isolation.specs.SilentRuns.{accepted_under}
-use Rattle.dom_isolation.proofs.GroupTurns.{same-calm, ending_other-out, no_other-ended, calm-ended, opening-in, opened-quiet}
-use Rattle.dom_isolation.proofs.GroupDispatches.{outward_told, runs-then}
-use Rattle.dom_isolation.proofs.GroupCommands.{fits}
-use Rattle.dom_isolation.proofs.GroupViews.{and-no}
+use Rattle.dom_isolation.proofs.GroupTurns.{same-calm, ending_other-out, no_other-ended, calm-ended, opening-in, opened-quiet, same-part}
+use Rattle.dom_isolation.proofs.GroupDispatches.{outward_told, runs-then, IsSameWorld, any_world, world-dispatch_under, touched-in}
+use Rattle.dom_isolation.proofs.GroupCommands.{fits, AreOfGroup, refusal-in, attach-alike, connected-alike, assigned-alike, micro-alike, effect-alike}
+use Rattle.dom_isolation.proofs.GroupCommands.{words-inside}
+use Rattle.dom_isolation.proofs.GroupPaths.{and-no}
 use Rattle.dom_isolation.proofs.OutsideCommands.{touched_command-out}
-use Rattle.dom_isolation.proofs.GroupDispatches.{IsSameWorld, any_world, world-dispatch_under, touched-in}
 use Rattle.dom_isolation.proofs.TouchedTurns.{Follows, follows-same, then-follows, ending-follows, ending_other-follows, rest-dispatch_under}
 use Rattle.dom_isolation.proofs.TouchedTurns.{no_other-ended_under}
 use Rattle.dom_base.specs.declared.NodeName.{NodeName}
@@ -40,8 +40,6 @@ use Rattle.dom_base.specs.declared.Refusal.{Refusal}
 use Rattle.dom_model.specs.CommandNames.{named}
 use Rattle.dom_model.specs.Part.{Part}
 use Rattle.dom_model.specs.Dispatch.{Dispatched, dispatch_in}
-use Rattle.dom_isolation.proofs.GroupCommands.{AreOfGroup, refusal-in, attach-alike, connected-alike, assigned-alike, micro-alike, effect-alike, words-inside}
-use Rattle.dom_isolation.proofs.GroupTurns.{same-part}
 
 -- an accepted command keeps what holds of the world
 accepted-world : {w : World} → Invariant false w → (o : Owner) → has_other_turn w o ≡ false → (c : Command) → refusal w o c ≡ None →

@@ -17,14 +17,13 @@ use Rattle.dom_worlds.proofs.WorldLemmas.{quiet-first, first-is_reached, step-ke
 use Rattle.dom_worlds.proofs.ListLemmas.{by_cases}
 use Rattle.dom_isolation.specs.Interference.{Interference, FullItem, line_with, outward_with, turn_ended, first_record, before_records, own_records}
 use Rattle.dom_isolation.specs.Interference.{others_items, full_items, full_trace_from}
-use Rattle.dom_isolation.proofs.PageRuns.{run_each-append}
+use Rattle.dom_isolation.proofs.PageTexts.{run_each-append}
 use Rattle.dom_isolation.specs.FullGroups.{records_at_end, GroupSeesItsFullTrace, SameGroupInFull}
 use Rattle.dom_isolation.specs.GroupLaws.{IsCalm}
 use Rattle.dom_isolation.specs.SilentRuns.{told_run, ending_any_under, step_under, silent_step_under, silent_output_under}
-use Rattle.dom_isolation.proofs.GroupDispatches.{run_each-one, outward_told, runs-then}
+use Rattle.dom_isolation.proofs.GroupDispatches.{run_each-one, outward_told, runs-then, IsSameWorld, any_world}
 use Rattle.dom_isolation.proofs.GroupCommands.{calm-in}
 use Rattle.dom_isolation.proofs.GroupTurns.{same-calm}
-use Rattle.dom_isolation.proofs.GroupDispatches.{IsSameWorld, any_world}
 use Rattle.dom_isolation.proofs.TouchedLines.{line-follows, others-alike, others_told, ended_told}
 use Rattle.dom_isolation.proofs.TouchedTurns.{ending_any-follows}
 

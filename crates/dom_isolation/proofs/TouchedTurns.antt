@@ -23,17 +23,16 @@ use Rattle.dom_model.specs.Trace.{is_of}
 use Rattle.dom_worlds.specs.Reached.{Invariant}
 use Rattle.dom_worlds.proofs.ListLemmas.{by_cases}
 use Rattle.dom_worlds.proofs.TurnLemmas.{told_in, quiet-told, quiet-dispatch, quiet-running, at_end, quiet-at_end, quiet-ending_turn, rest-visits}
-use Rattle.dom_isolation.specs.Interference.{Interference, first_record, is_own_visit, interference_at, records_each, slot_record, task_records, ending_records}
+use Rattle.dom_isolation.specs.Interference.{Interference, first_record, is_own_visit, interference_at, records_each, slot_record, task_records}
+use Rattle.dom_isolation.specs.Interference.{ending_records}
 use Rattle.dom_isolation.specs.TouchedMachines.{first_visits}
-use Rattle.dom_isolation.proofs.GroupParts.{in_node, filter-here, filter-away}
+use Rattle.dom_isolation.proofs.GroupSlots.{in_node, filter-here, filter-away}
 use Rattle.dom_isolation.specs.FullGroups.{last_records}
 use Rattle.dom_isolation.specs.GroupLaws.{IsCalm}
 use Rattle.dom_isolation.specs.SilentRuns.{Told, told_run, untold, dispatch_under, firing_under, notifying_under, running_under, ending_under}
 use Rattle.dom_isolation.specs.SilentRuns.{ending_other_under, ending_any_under}
-use Rattle.dom_isolation.proofs.GroupTurns.{turn-none, same-turn, same-calm}
-use Rattle.dom_isolation.proofs.GroupDispatches.{runs-then, quiet-then}
-use Rattle.dom_isolation.proofs.GroupTurns.{slots, told-in, slots-in, slots-inside, running-out, at_end-calm, ending-out}
-use Rattle.dom_isolation.proofs.GroupDispatches.{IsSameWorld, any_world, touched-in, world-dispatch_under}
+use Rattle.dom_isolation.proofs.GroupTurns.{turn-none, same-turn, same-calm, slots, told-in, slots-in, slots-inside, running-out, at_end-calm, ending-out}
+use Rattle.dom_isolation.proofs.GroupDispatches.{runs-then, quiet-then, IsSameWorld, any_world, touched-in, world-dispatch_under}
 
 module _ (g : Owner → Bool) (closed : KeepsMakers g) where
   -- A run, as the group has it, is one of the silent run, which leaves these records.

@@ -22,7 +22,7 @@ use Rattle.dom_worlds.proofs.TurnLemmas.{Going, InWorld, with_listeners}
 use Rattle.dom_isolation.specs.Interference.{Interference, untouched, touched, one_more, is_own_visit, interference_from}
 use Rattle.dom_isolation.specs.FullLaws.{OwnIsThere, InterferenceIsEnough}
 use Rattle.dom_isolation.specs.TouchedMachines.{first_visits}
-use Rattle.dom_isolation.proofs.GroupParts.{with_part-out, filter-here, filter-away}
+use Rattle.dom_isolation.proofs.GroupSlots.{with_part-out, filter-here, filter-away}
 use Rattle.dom_isolation.proofs.OwnVisits.{AreAlike, IsOrdered, ordered-visit, visited-stopped, cancelled-visit, in_line, group_going, visit-alike, visit-out}
 
 -- A part that is there is written over itself.

@@ -1,7 +1,6 @@
 -- Whose lines are written: only those of owners that lines are read of, or of the page. Others have no listeners, registrations and
 -- pending observers.
-use Rattle.std.proofs.Common.{◌≡◌, ◌⊎◌, inl, inr, Bool, List, [], ◌∷◌, ◌++◌, flat_map, fold, Option, Some, None, refl, sym, ap, ◌∙◌}
-use Rattle.std.proofs.Common.{subst}
+use Rattle.std.proofs.Common.{◌≡◌, ◌⊎◌, inl, inr, Bool, List, [], ◌∷◌, ◌++◌, flat_map, fold, Option, Some, None, refl, sym, ap, ◌∙◌, subst}
 use Rattle.std.specs.Prelude.{⊤, nat_eq}
 use Rattle.std.specs.List.{AllByRecursion}
 use Rattle.std.specs.Option.{option_map_or}
@@ -13,17 +12,14 @@ use Rattle.dom_base.specs.declared.Action.TheVariants.{Log, Stop, StopNow, Cance
 use Rattle.dom_model.specs.Names.{name_eq, append_once}
 use Rattle.dom_model.specs.Tree.{parent_of, inclusive_ancestors}
 use Rattle.dom_model.specs.Command.{Command, Line, EventWords, effect}
-use Rattle.dom_model.specs.DocumentMachine.{first_world, step}
-use Rattle.dom_model.specs.DocumentMachine.{outputs_of}
+use Rattle.dom_model.specs.DocumentMachine.{first_world, outputs_of}
 use Rattle.dom_model.specs.Effects.{Effect, tables, changes}
-use Rattle.dom_model.specs.Listeners.{Listener, Visit, Dispatching, visited, called, kept_after, after_action, may_cancel, line_of}
+use Rattle.dom_model.specs.Listeners.{Listener, Visit, Dispatching, visited, kept_after, after_action, may_cancel, line_of}
 use Rattle.dom_model.specs.Observers.{interested, target_of, transients_for, without_transients}
 use Rattle.dom_model.specs.Output.{Output, bad_owner, says}
 use Rattle.dom_model.specs.Part.{Part}
-use Rattle.dom_model.specs.Steps.{Step, take_out}
-use Rattle.dom_model.specs.Steps.{queue_record, part_step, leave}
-use Rattle.dom_model.specs.Turns.{notified, notified_lines}
-use Rattle.dom_model.specs.Turns.{records_of}
+use Rattle.dom_model.specs.Steps.{Step, take_out, queue_record, part_step, leave}
+use Rattle.dom_model.specs.Turns.{notified, notified_lines, records_of}
 use Rattle.dom_model.specs.World.{Task, micro_task, notify_task, part_of}
 use Rattle.dom_model.specs.Trace.{owner_of_line}
 use Rattle.dom_model.proofs.StepLaws.{owner-part_step}

@@ -68,6 +68,7 @@ pub fn group_sees_its_trace()
 
 /// So two scripts that agree for a group that keeps makers have equal output of the group, and of each member: where no line of an owner
 /// outside ends a member's turn, and so where each component's turn is ended by its own `.`. The page is such a group, of which no line ends a turn.
+#[tactic(auto, using(crate::proofs::StatedLaws::group_laws))]
 pub fn same_group()
     ensures group { (read : List ℕ → Line) → SameGroup read }
     ensures standing { (read : List ℕ → Line) → SameMemberWhileTurnsStand read }
@@ -76,6 +77,7 @@ pub fn same_group()
 {}
 
 /// So it is of each member of a family.
+#[tactic(auto, using(crate::proofs::StatedLaws::family_laws))]
 pub fn same_family()
     ensures standing { (read : List ℕ → Line) → SameFamilyWhileTurnsStand read }
     ensures closed { (read : List ℕ → Line) → SameFamily read }
@@ -90,6 +92,7 @@ pub fn same_component()
 
 /// So it is of each owner who is not inside a component, by the trace for all such owners: of what happens inside the component the outward
 /// events alone are told, to its maker too.
+#[tactic(auto, using(crate::proofs::StatedLaws::around_laws))]
 pub fn same_around()
     ensures standing { (read : List ℕ → Line) → SameAroundWhileTurnsStand read }
     ensures closed { (read : List ℕ → Line) → SameAround read }
@@ -117,6 +120,7 @@ pub fn same_component_text()
 {}
 
 /// Two texts that agree around a component give each owner who is not inside it the same.
+#[tactic(auto, using(crate::proofs::StatedLaws::around_text_laws))]
 pub fn same_around_text()
     ensures standing { (read : List ℕ → Line) → ReadsOwners read → ReadsPlainWords read → SameAroundTextWhileTurnsStand read }
     ensures closed { (read : List ℕ → Line) → ReadsOwners read → ReadsPlainWords read → SameAroundText read }
@@ -130,6 +134,7 @@ pub fn group_sees_its_full_trace()
 
 /// So two scripts with equal lines of the group, equal outward events and equal interference have equal output of it, and of each member: of a
 /// family, of a component by the lines of it and its makers, and of all who are not inside a component.
+#[tactic(auto, using(crate::proofs::StatedLaws::full_laws))]
 pub fn same_group_in_full()
     ensures group { (read : List ℕ → Line) → SameGroupInFull read }
     ensures member { (read : List ℕ → Line) → SameMemberInFull read }

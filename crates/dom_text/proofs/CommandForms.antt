@@ -1,29 +1,28 @@
 -- What is read behind a keyword: the forms of commands with words of their own, from `new` to `unlisten`.
-use Rattle.std.proofs.Common.{◌≡◌, ℕ, Bool, List, [], ◌∷◌, ◌++◌, drop, Some, refl, subst}
-use Rattle.std.specs.Prelude.{codes}
+use Rattle.std.proofs.lemmas.Bool.{eqb-false}
+use Rattle.dom_base.specs.declared.Kind.TheVariants as kinds
+use Rattle.dom_text.specs.Commands as keyword
+use Rattle.std.proofs.Common.{eqb, ◌≡◌, ℕ, Bool, List, [], ◌∷◌, ◌++◌, Some, refl, subst, ◌≢◌, true, false, get_or, Option, None, sym, ap, ◌∙◌}
+use Rattle.std.specs.Prelude.{codes, bytes_eq}
 use Rattle.dom_base.specs.declared.Owner.{Owner}
 use Rattle.dom_base.specs.declared.Owner.TheVariants.{Page, Component}
 use Rattle.dom_base.specs.declared.Kind.{Kind}
-use Rattle.dom_base.specs.declared.Kind.TheVariants as kinds
-use Rattle.dom_base.specs.declared.Action.{Action}
 use Rattle.dom_base.specs.declared.Move.{Move}
 use Rattle.dom_model.specs.Names.{Word, DomString}
-use Rattle.dom_model.specs.Command.{NodeWord, Filter, ListenerWords, Command, new_element, new_text, new_comment, new_fragment, assigned, listen, unlisten}
+use Rattle.dom_model.specs.Command.{NodeWord, Filter, Command, new_element, new_text, new_comment, new_fragment, assigned, listen, unlisten, dispatch, observe}
 use Rattle.dom_text.specs.Commands.{Keyword, keyword_word, parts}
-use Rattle.dom_text.specs.Commands as keyword
 use Rattle.dom_text.specs.Words.{kind_word, new_kinds}
 use Rattle.dom_text.specs.Tokens.{IsWord, IsShow, IsNameFilter, IsAttributeFilter}
 use Rattle.dom_text.specs.Grammar.{MayUse, Spells}
-use Rattle.dom_text.specs.LineParts.{LinePart, key, label, node, flag, perhaps, filter_parts, listener_parts}
-use Rattle.dom_text.specs.Readers.{◌>>=◌, next_as, named, show_of, name_filter_of, attribute_filter_of, flag_at, last_as}
-use Rattle.dom_text.specs.Forms.{node_at, label_at, new_of, new_at, assigned_at, action_at, cursor_at, listen_end, listen_at, unlisten_end, unlisten_at}
-use Rattle.dom_text.proofs.WordLaws.{bind_then, some_is, at_end_some}
-use Rattle.dom_text.proofs.PartLaws.{ReadsPart, next_word_reads, next_as_reads, Spells-ends, LineReader, part_then, one_part}
-use Rattle.dom_text.proofs.PartLaws.{next_string_reads}
+use Rattle.dom_text.specs.LineParts.{LinePart, key, node, flag, perhaps, related_parts}
+use Rattle.dom_text.specs.Readers.{next_as, named, show_of, name_filter_of, attribute_filter_of, flag_at, last_as}
+use Rattle.dom_text.specs.Forms.{new_of, new_at, assigned_at, related_at}
+use Rattle.dom_text.proofs.WordLaws.{bind_then, at_end_some}
+use Rattle.dom_text.proofs.PartLaws.{ReadsPart, next_word_reads, next_as_reads, LineReader, part_then, one_part, next_string_reads}
 use Rattle.dom_text.proofs.NameLaws.{word_by_test, named_sound, show_says, name_filter_says, attribute_filter_says}
-use Rattle.dom_text.proofs.CommandParts.{avoids_nothing, avoids_flag, flag_sound, flag_complete, last_sound, last_complete}
-use Rattle.dom_text.proofs.CommandParts.{node_reads, number_reads, range_reads, iterator_reads, walker_reads, observer_reads, label_reads, action_reads}
-use Rattle.dom_text.proofs.CommandParts.{move_reads, end_reads}
+use Rattle.dom_text.proofs.CommandParts.{avoids_nothing, flag_sound, flag_complete, last_sound, last_complete, node_reads, number_reads, range_reads}
+use Rattle.dom_text.proofs.CommandParts.{iterator_reads, walker_reads, observer_reads, label_reads, action_reads, move_reads, end_reads, Avoids, avoids_word}
+use Rattle.dom_text.proofs.CommandParts.{avoids_key, flag_then, no_flags, last_then}
 
 -- ---- a command behind its keyword
 
@@ -120,11 +119,7 @@ a_label makes = one_part label_reads makes
 
 pub kind_is_word : (k : Kind) → IsWord (kind_word k)
 kind_is_word kinds.Document = word_by_test (codes "document") refl refl
-kind_is_word kinds.Fragment = word_by_test (codes "fragment") refl refl
-kind_is_word kinds.Shadow = word_by_test (codes "shadow") refl refl
-kind_is_word kinds.Element = word_by_test (codes "element") refl refl
-kind_is_word kinds.Text = word_by_test (codes "text") refl refl
-kind_is_word kinds.Comment = word_by_test (codes "comment") refl refl
+kind_is_word k = word_by_test (kind_word k) refl refl
 
 -- the word of a kind that `new` makes
 unfoldable pub new_kind : Kind → LinePart
@@ -175,137 +170,91 @@ name_filter_reads = next_as_reads name_filter_says
 pub attribute_filter_reads : ReadsPart (next_as attribute_filter_of) IsAttributeFilter
 attribute_filter_reads = next_as_reads attribute_filter_says
 
-pub cursor_sound : (o : Owner) (makes : NodeWord → Filter → Command) (bytes : List ℕ) (c : Command) → cursor_at o makes bytes ≡ Some c →
-    (root : NodeWord) × (f : Filter) × (makes root f ≡ c) × Spells (node o root ∷ filter_parts f) bytes
-cursor_sound o makes bytes c e =
-    bind_then (node_at o bytes) (λ root. next_as show_of root.1 >>= λ shown. last_as name_filter_of shown.1 >>= λ f. Some
-    (makes root.0 (record { shown = shown.0; named = f }))) c e λ root h₁ k₁.
-    bind_then (next_as show_of root.1) (λ shown. last_as name_filter_of shown.1 >>= λ f. Some
-    (makes root.0 (record { shown = shown.0; named = f }))) c k₁ λ shown h₂ k₂.
-    bind_then (last_as name_filter_of shown.1) (λ f. Some (makes root.0 (record { shown = shown.0; named = f }))) c k₂ λ f h₃ k₃.
-    let root_is = (node_reads o).sound bytes root.0 root.1 h₁ in
-    let shown_is = show_reads.sound root.1 shown.0 shown.1 h₂ in
-    let last = last_sound name_filter_of name_filter_reads shown.1 f h₃ in
-    (root.0, record { shown = shown.0; named = f }, some_is k₃, (root_is.0, root.1, root_is.1, (shown_is.0, shown.1, shown_is.1, last, shown_is.2), root_is.2))
+-- ---- the forms with words that may be left out
 
-pub cursor_complete : (o : Owner) (makes : NodeWord → Filter → Command) (bytes : List ℕ) (root : NodeWord) (f : Filter) →
-    Spells (node o root ∷ filter_parts f) bytes → cursor_at o makes bytes ≡ Some (makes root f)
-cursor_complete o makes bytes root f s =
-    let e₁ : node_at o bytes ≡ Some (root, s.1) = rw (s.4) ((node_reads o).complete s.0 s.1 root s.2 (Spells-ends (filter_parts f) s.1 s.3)) in
-    let t = s.3 in
-    let e₂ : next_as show_of s.1 ≡ Some (f.shown, t.1) =
-    rw (t.4) (show_reads.complete t.0 t.1 f.shown t.2 (Spells-ends (perhaps IsNameFilter f.named) t.1 t.3)) in
-    let e₃ : last_as name_filter_of t.1 ≡ Some f.named = last_complete name_filter_of name_filter_reads t.1 f.named t.3 in
-    rw (e₁, e₂, e₃) refl
+-- a node, which nodes are shown, and a filter
+abbrev pub cursor : Owner → (NodeWord → Filter → Command) → LineReader Command
+cursor o makes = part_then (node_reads o) λ root. part_then show_reads λ shown. last_then (last_as name_filter_of) (perhaps IsNameFilter)
+    (last_sound name_filter_of name_filter_reads) (last_complete name_filter_of name_filter_reads) (λ f. makes root (record { shown = shown; named = f }))
 
--- the flags of `listen`
-abbrev pub listener_flags : Bool → Bool → Bool → List LinePart
-listener_flags capture once passive = flag capture (codes "capture") (flag once (codes "once") (flag passive (codes "passive") []))
+-- a node, the words of a listener, and its flags
+abbrev pub a_listener : Owner → LineReader Command
+a_listener o = part_then (node_reads o) λ n. part_then label_reads λ event. part_then label_reads λ l. part_then action_reads λ a.
+    (flag_then (codes "capture") (word_by_test (codes "capture") refl refl) (λ capture.
+    flag_then (codes "once") (word_by_test (codes "once") refl refl) (λ once.
+    flag_then (codes "passive") (word_by_test (codes "passive") refl refl) (λ passive.
+    no_flags (listen n (record { event = event; label = l; action = a; capture = capture; once = once; passive = passive }))) refl) refl) refl).reader
 
-pub listen_end_sound : {c : Command} (n : NodeWord) (event l : Word) (a : Action) (bytes : List ℕ) → listen_end n event l a bytes ≡ Some c →
-    (capture : Bool) × (once : Bool) × (passive : Bool) ×
-    (listen n (record { event = event; label = l; action = a; capture = capture; once = once; passive = passive }) ≡ c) ×
-    Spells (listener_flags capture once passive) bytes
-listen_end_sound {c} n event l a bytes e =
-    let capture = flag_at (codes "capture") bytes in
-    let once = flag_at (codes "once") capture.1 in
-    let passive = flag_at (codes "passive") once.1 in
-    let end = at_end_some (listen n (record { event = event; label = l; action = a; capture = capture.0; once = once.0; passive = passive.0 })) c
-    passive.1 e in (
-      capture.0,
-      once.0,
-      passive.0,
-      end.0,
-      flag_sound (codes "capture") bytes (flag once.0 (codes "once") (flag passive.0 (codes "passive") []))
-          (flag_sound (codes "once") capture.1 (flag passive.0 (codes "passive") []) (flag_sound (codes "passive") once.1 [] end.1)),
-    )
+-- a node, and which listener it loses
+abbrev pub no_listener : Owner → LineReader Command
+no_listener o = part_then (node_reads o) λ n. part_then label_reads λ event. part_then label_reads λ l.
+    (flag_then (codes "capture") (word_by_test (codes "capture") refl refl) (λ capture. no_flags (unlisten n event l capture)) refl).reader
 
-pub listen_end_complete : (n : NodeWord) (l : ListenerWords) (bytes : List ℕ) → Spells (listener_flags l.capture l.once l.passive) bytes →
-    listen_end n l.event l.label l.action bytes ≡ Some (listen n l)
-listen_end_complete n l bytes s =
-    let after_once = flag l.passive (codes "passive") [] in
-    let after_capture = flag l.once (codes "once") after_once in
-    let is_once = word_by_test (codes "once") refl refl in
-    let is_passive = word_by_test (codes "passive") refl refl in
-    let f₁ = flag_complete l.capture after_capture bytes (word_by_test (codes "capture") refl refl)
-    (λ q. avoids_flag l.once (codes "once") is_once refl
-    (avoids_flag l.passive (codes "passive") is_passive refl (avoids_nothing (codes "capture")))) s in
-    let f₂ = flag_complete l.once after_once f₁.0 is_once
-    (λ q. avoids_flag l.passive (codes "passive") is_passive refl (avoids_nothing (codes "once"))) f₁.2 in
-    let f₃ = flag_complete l.passive [] f₂.0 is_passive (λ q. avoids_nothing (codes "passive")) f₂.2 in
-    rw (f₁.1, f₂.1, f₃.1, f₃.2) refl
+pub related_sound : (o : Owner) (bytes : List ℕ) (r : Option NodeWord) →
+    related_at o (flag_at (codes "related") bytes).0 (flag_at (codes "related") bytes).1 ≡ Some r → Spells (related_parts o r) bytes
+related_sound o bytes r e = go (flag_at (codes "related") bytes) e (λ behind s. flag_sound (codes "related") bytes behind s)
+  where
+    go : (f : Bool × List ℕ) → related_at o f.0 f.1 ≡ Some r →
+        ((behind : List LinePart) → Spells behind f.1 → Spells (flag f.0 (codes "related") behind) bytes) → Spells (related_parts o r) bytes
+    go (true, rest) k sound =
+        let s = (one_part (node_reads o) Some).sound rest r k in
+        subst (λ (x : Option NodeWord). Spells (related_parts o x) bytes) s.1 (sound (node o s.0.0 ∷ []) s.2)
+    go (false, rest) k sound =
+        let end = at_end_some None r rest k in
+        subst (λ (x : Option NodeWord). Spells (related_parts o x) bytes) end.0 (sound [] end.1)
 
-pub listen_sound : (o : Owner) (bytes : List ℕ) (c : Command) → listen_at o bytes ≡ Some c → IsBehind keyword.Listen o bytes c
-listen_sound o bytes c e =
-    bind_then (node_at o bytes) (λ n. label_at n.1 >>= λ event. label_at event.1 >>= λ l. action_at l.1 >>= λ a. listen_end n.0 event.0 l.0 a.0
-    a.1) c e λ n h₁ k₁.
-    bind_then (label_at n.1) (λ event. label_at event.1 >>= λ l. action_at l.1 >>= λ a. listen_end n.0 event.0 l.0 a.0 a.1) c k₁ λ event h₂ k₂.
-    bind_then (label_at event.1) (λ l. action_at l.1 >>= λ a. listen_end n.0 event.0 l.0 a.0 a.1) c k₂ λ l h₃ k₃.
-    bind_then (action_at l.1) (λ a. listen_end n.0 event.0 l.0 a.0 a.1) c k₃ λ a h₄ k₄.
-    let n_is = (node_reads o).sound bytes n.0 n.1 h₁ in
-    let event_is = label_reads.sound n.1 event.0 event.1 h₂ in
-    let l_is = label_reads.sound event.1 l.0 l.1 h₃ in
-    let a_is = action_reads.sound l.1 a.0 a.1 h₄ in
-    let end = listen_end_sound n.0 event.0 l.0 a.0 a.1 k₄ in
-    subst (IsBehind keyword.Listen o bytes) end.3 (
-      tt,
-      (
-        codes "listen",
-        bytes,
-        refl,
-        (n_is.0, n.1, n_is.1, (event_is.0, event.1, event_is.1, (l_is.0, l.1, l_is.1, (a_is.0, a.1, a_is.1, end.4, a_is.2), l_is.2), event_is.2), n_is.2),
-        refl,
-      ),
-    )
+pub related_complete : (o : Owner) (r : Option NodeWord) (bytes : List ℕ) → Spells (related_parts o r) bytes →
+    related_at o (flag_at (codes "related") bytes).0 (flag_at (codes "related") bytes).1 ≡ Some r
+related_complete o None bytes s =
+    let f = flag_complete false [] bytes (word_by_test (codes "related") refl refl) (λ q. avoids_nothing (codes "related")) s in
+    rw (f.1, f.2) refl
+related_complete o (Some n) bytes s =
+    let f = flag_complete true (node o n ∷ []) bytes (word_by_test (codes "related") refl refl)
+    (λ q. absurd cc) s in
+    rw (f.1) ((one_part (node_reads o) Some).complete f.0 (n, tt) f.2)
 
-pub listen_complete : (o : Owner) (n : NodeWord) (l : ListenerWords) (bytes : List ℕ) → Spells (node o n ∷ listener_parts l) bytes →
-    listen_at o bytes ≡ Some (listen n l)
-listen_complete o n l bytes s =
-    let e₁ : node_at o bytes ≡ Some (n, s.1) = rw (s.4) ((node_reads o).complete s.0 s.1 n s.2 (Spells-ends (listener_parts l) s.1 s.3)) in
-    let t = s.3 in
-    let e₂ : label_at s.1 ≡ Some (l.event, t.1) = rw (t.4) (label_reads.complete t.0 t.1 l.event t.2 (Spells-ends (drop 1 (listener_parts l)) t.1 t.3)) in
-    let u = t.3 in
-    let e₃ : label_at t.1 ≡ Some (l.label, u.1) = rw (u.4) (label_reads.complete u.0 u.1 l.label u.2 (Spells-ends (drop 2 (listener_parts l)) u.1 u.3)) in
-    let v = u.3 in
-    let e₄ : action_at u.1 ≡ Some (l.action, v.1) =
-    rw (v.4) (action_reads.complete v.0 v.1 l.action v.2 (Spells-ends (listener_flags l.capture l.once l.passive) v.1 v.3)) in
-    rw (e₁, e₂, e₃, e₄) (listen_end_complete n l v.1 v.3)
+pub avoids_related : (name : List ℕ) (o : Owner) (r : Option NodeWord) → bytes_eq (codes "related") name ≡ false → Avoids name (related_parts o r)
+avoids_related name o None differs = avoids_nothing name
+avoids_related name o (Some n) differs = avoids_key name (codes "related") (node o n ∷ []) (word_by_test (codes "related") refl refl) differs
 
-pub unlisten_end_sound : (n : NodeWord) (event l : Word) (bytes : List ℕ) (c : Command) → unlisten_end n event l bytes ≡ Some c →
-    (capture : Bool) × (unlisten n event l capture ≡ c) × Spells (flag capture (codes "capture") []) bytes
-unlisten_end_sound n event l bytes c e =
-    let capture = flag_at (codes "capture") bytes in
-    let end = at_end_some (unlisten n event l capture.0) c capture.1 e in
-    (capture.0, end.0, flag_sound (codes "capture") bytes [] end.1)
+-- the first part, if there is one, begins as an attribute filter does
+pub avoids_attribute_filter : (name : List ℕ) (f : Option (List Word)) → get_or name 0 0 ≢ 102 → Avoids name (perhaps IsAttributeFilter f)
+avoids_attribute_filter name None differs = avoids_nothing name
+avoids_attribute_filter name (Some names) differs = avoids_word name (IsAttributeFilter names) [] λ text h.
+    (attribute_filter_says.is_word text names h, λ e. differs (ap (λ (x : List ℕ). get_or x 0 0) (sym e ∙ h.2)))
 
-pub unlisten_sound : (o : Owner) (bytes : List ℕ) (c : Command) → unlisten_at o bytes ≡ Some c → IsBehind keyword.Unlisten o bytes c
-unlisten_sound o bytes c e =
-    bind_then (node_at o bytes) (λ n. label_at n.1 >>= λ event. label_at event.1 >>= λ l. unlisten_end n.0 event.0 l.0 l.1) c e λ n h₁ k₁.
-    bind_then (label_at n.1) (λ event. label_at event.1 >>= λ l. unlisten_end n.0 event.0 l.0 l.1) c k₁ λ event h₂ k₂.
-    bind_then (label_at event.1) (λ l. unlisten_end n.0 event.0 l.0 l.1) c k₂ λ l h₃ k₃.
-    let n_is = (node_reads o).sound bytes n.0 n.1 h₁ in
-    let event_is = label_reads.sound n.1 event.0 event.1 h₂ in
-    let l_is = label_reads.sound event.1 l.0 l.1 h₃ in
-    let end = unlisten_end_sound n.0 event.0 l.0 l.1 c k₃ in
-    subst (IsBehind keyword.Unlisten o bytes) end.1 (
-      tt,
-      (
-        codes "unlisten",
-        bytes,
-        refl,
-        (n_is.0, n.1, n_is.1, (event_is.0, event.1, event_is.1, (l_is.0, l.1, l_is.1, end.2, l_is.2), event_is.2), n_is.2),
-        refl,
-      ),
-    )
+-- a node, the words of an event, its flags, and the related node
+abbrev pub an_event : Owner → LineReader Command
+an_event o = part_then (node_reads o) λ n. part_then label_reads λ event.
+    (flag_then (codes "bubbles") (word_by_test (codes "bubbles") refl refl) (λ bubbles.
+    flag_then (codes "cancelable") (word_by_test (codes "cancelable") refl refl) (λ cancelable.
+    flag_then (codes "composed") (word_by_test (codes "composed") refl refl) (λ composed. record {
+      reader = last_then (λ bytes. related_at o (flag_at (codes "related") bytes).0 (flag_at (codes "related") bytes).1) (related_parts o)
+          (related_sound o) (λ bytes r s. related_complete o r bytes s)
+          (dispatch n (record { event = event; bubbles = bubbles; cancelable = cancelable; composed = composed }));
+      begins = λ name. bytes_eq (codes "related") name;
+      avoids = λ name h r. avoids_related name o r h;
+    }) refl) refl) refl).reader
 
-pub unlisten_complete : (o : Owner) {n : NodeWord} {event l : Word} {capture : Bool} (bytes : List ℕ) →
-    Spells (node o n ∷ label event ∷ label l ∷ flag capture (codes "capture") []) bytes → unlisten_at o bytes ≡ Some (unlisten n event l capture)
-unlisten_complete o {n} {event} {l} {capture} bytes s =
-    let flags = flag capture (codes "capture") [] in
-    let e₁ : node_at o bytes ≡ Some (n, s.1) = rw (s.4) ((node_reads o).complete s.0 s.1 n s.2 (Spells-ends (label event ∷ label l ∷ flags) s.1 s.3)) in
-    let t = s.3 in
-    let e₂ : label_at s.1 ≡ Some (event, t.1) = rw (t.4) (label_reads.complete t.0 t.1 event t.2 (Spells-ends (label l ∷ flags) t.1 t.3)) in
-    let u = t.3 in
-    let e₃ : label_at t.1 ≡ Some (l, u.1) = rw (u.4) (label_reads.complete u.0 u.1 l u.2 (Spells-ends flags u.1 u.3)) in
-    let f = flag_complete capture [] u.1 (word_by_test (codes "capture") refl refl) (λ q. avoids_nothing (codes "capture")) u.3 in
-    rw (e₁, e₂, e₃, f.1, f.2) refl
+-- an observer, a node, and what is observed
+abbrev pub observed_node : Owner → LineReader Command
+observed_node o = part_then observer_reads λ k. part_then (node_reads o) λ n.
+    (flag_then (codes "childList") (word_by_test (codes "childList") refl refl) (λ child_list.
+    flag_then (codes "attributes") (word_by_test (codes "attributes") refl refl) (λ attributes.
+    flag_then (codes "characterData") (word_by_test (codes "characterData") refl refl) (λ character_data.
+    flag_then (codes "subtree") (word_by_test (codes "subtree") refl refl) (λ subtree.
+    flag_then (codes "attributeOldValue") (word_by_test (codes "attributeOldValue") refl refl) (λ attribute_old_value.
+    flag_then (codes "characterDataOldValue") (word_by_test (codes "characterDataOldValue") refl refl) (λ character_data_old_value. record {
+      reader = last_then (last_as attribute_filter_of) (perhaps IsAttributeFilter) (last_sound attribute_filter_of attribute_filter_reads)
+          (last_complete attribute_filter_of attribute_filter_reads) (λ f. observe k n (record {
+            child_list = child_list;
+            attributes = attributes;
+            character_data = character_data;
+            subtree = subtree;
+            attribute_old_value = attribute_old_value;
+            character_data_old_value = character_data_old_value;
+            filter = f;
+          }));
+      begins = λ name. eqb (get_or name 0 0) 102;
+      avoids = λ name h f. avoids_attribute_filter name f (eqb-false (get_or name 0 0) 102 h);
+    }) refl) refl) refl) refl) refl) refl).reader

@@ -4,12 +4,11 @@ use Rattle.dom_base.specs.declared.Owner.{Owner}
 use Rattle.dom_base.specs.declared.Owner.TheVariants.{Page, Component}
 use Rattle.dom_base.specs.declared.Kind.{Kind}
 use Rattle.dom_base.specs.declared.Kind.TheVariants as kinds
-use Rattle.dom_model.specs.Command.{Command, NodeWord, new_element, new_text, new_comment, new_fragment, new_document, append, insert, replace}
-use Rattle.dom_model.specs.Command.{adopt, set_attribute, unset_attribute, set_data, replace_data, split, set_text, attribute}
-use Rattle.dom_model.specs.Command.{contains, assigned, range_new, range_start}
-use Rattle.dom_model.specs.Command.{range_end, range_collapse, range_drop, range_get, range_text, extract, delete, insert_node, iterator_new}
-use Rattle.dom_model.specs.Command.{walker_new, iterator_next, iterator_previous, iterator_at, walk, walker_at, walker_set, query, matches, listen}
-use Rattle.dom_model.specs.Command.{unlisten, dispatch, observer, observe, disconnect, take, micro, end_turn}
+use Rattle.dom_model.specs.Command.{Command, NodeWord, new_element, new_text, new_comment, new_fragment, new_document, append, insert, replace, adopt}
+use Rattle.dom_model.specs.Command.{set_attribute, unset_attribute, set_data, replace_data, split, set_text, attribute, contains, assigned, range_new}
+use Rattle.dom_model.specs.Command.{range_start, range_end, range_collapse, range_drop, range_get, range_text, extract, delete, insert_node, iterator_new}
+use Rattle.dom_model.specs.Command.{walker_new, iterator_next, iterator_previous, iterator_at, walk, walker_at, walker_set, query, matches, listen, unlisten}
+use Rattle.dom_model.specs.Command.{dispatch, observer, observe, disconnect, take, micro, end_turn}
 use Rattle.dom_text.specs.Commands.{Keyword, keyword_word, parts, command_behind}
 use Rattle.dom_text.specs.Commands as keyword
 use Rattle.dom_text.specs.Words.{kind_word, new_kinds}
@@ -18,16 +17,12 @@ use Rattle.dom_text.specs.LineParts.{LinePart, key, word, string, node}
 use Rattle.dom_text.specs.Readers.{◌>>=◌, next_as, named}
 use Rattle.dom_text.specs.Decode.{keyword_of, command_at}
 use Rattle.dom_text.specs.Forms.{new_of, new_at, node_at, one}
-use Rattle.dom_text.proofs.PartLaws.{LineReader, next_word_reads, next_as_reads, Spells-ends, ended, one_part}
-use Rattle.dom_text.proofs.PartLaws.{next_string_reads}
+use Rattle.dom_text.proofs.PartLaws.{LineReader, next_word_reads, next_as_reads, Spells-ends, ended, one_part, next_string_reads}
 use Rattle.dom_text.proofs.CommandParts.{keyword_says}
-use Rattle.dom_text.proofs.CommandForms.{IsBehind, read_behind, new_kind, kind_reads, new_behind}
+use Rattle.dom_text.proofs.CommandForms.{cursor, a_listener, no_listener, an_event, observed_node, IsBehind, read_behind, new_kind, kind_reads, new_behind}
 use Rattle.dom_text.proofs.CommandForms.{a_node, two_nodes, three_nodes, node_and_word, node_and_string, node_word_string, node_and_number}
-use Rattle.dom_text.proofs.CommandForms.{node_numbers_string, a_range, range_and_place, range_and_end, range_and_node, an_iterator, a_walker}
-use Rattle.dom_text.proofs.CommandForms.{walker_and_move, walker_and_node, an_observer, a_label}
-use Rattle.dom_text.proofs.CommandForms.{assigned_behind, cursor_sound, cursor_complete, listen_sound, listen_complete, unlisten_sound}
-use Rattle.dom_text.proofs.CommandForms.{unlisten_complete}
-use Rattle.dom_text.proofs.EventForms.{dispatch_sound, dispatch_complete, observe_sound, observe_complete}
+use Rattle.dom_text.proofs.CommandForms.{node_numbers_string, a_range, range_and_place, range_and_end, range_and_node, an_iterator, a_walker, walker_and_move}
+use Rattle.dom_text.proofs.CommandForms.{walker_and_node, an_observer, a_label, assigned_behind}
 
 pub command_sound : (k : Keyword) (o : Owner) (bytes : List ℕ) (c : Command) → command_behind k o bytes ≡ Some c → IsBehind k o bytes c
 command_sound keyword.New o bytes c e = new_behind o bytes c e
@@ -55,12 +50,8 @@ command_sound keyword.RangeText o bytes c e = read_behind (a_range range_text) k
 command_sound keyword.Extract o bytes c e = read_behind (a_range extract) keyword.Extract o bytes (λ x s. (tt, s)) e
 command_sound keyword.Delete o bytes c e = read_behind (a_range delete) keyword.Delete o bytes (λ x s. (tt, s)) e
 command_sound keyword.InsertNode o bytes c e = read_behind (range_and_node o insert_node) keyword.InsertNode o bytes (λ x s. (tt, s)) e
-command_sound keyword.IterNew o bytes c e =
-    let s = cursor_sound o iterator_new bytes c e in
-    subst (IsBehind keyword.IterNew o bytes) s.2 (tt, (keyword_word keyword.IterNew, bytes, refl, s.3, refl))
-command_sound keyword.WalkNew o bytes c e =
-    let s = cursor_sound o walker_new bytes c e in
-    subst (IsBehind keyword.WalkNew o bytes) s.2 (tt, (keyword_word keyword.WalkNew, bytes, refl, s.3, refl))
+command_sound keyword.IterNew o bytes c e = read_behind (cursor o iterator_new) keyword.IterNew o bytes (λ x s. (tt, s)) e
+command_sound keyword.WalkNew o bytes c e = read_behind (cursor o walker_new) keyword.WalkNew o bytes (λ x s. (tt, s)) e
 command_sound keyword.IterNext o bytes c e = read_behind (an_iterator iterator_next) keyword.IterNext o bytes (λ x s. (tt, s)) e
 command_sound keyword.IterPrev o bytes c e = read_behind (an_iterator iterator_previous) keyword.IterPrev o bytes (λ x s. (tt, s)) e
 command_sound keyword.IterAt o bytes c e = read_behind (an_iterator iterator_at) keyword.IterAt o bytes (λ x s. (tt, s)) e
@@ -69,11 +60,11 @@ command_sound keyword.WalkAt o bytes c e = read_behind (a_walker walker_at) keyw
 command_sound keyword.WalkSet o bytes c e = read_behind (walker_and_node o walker_set) keyword.WalkSet o bytes (λ x s. (tt, s)) e
 command_sound keyword.Query o bytes c e = read_behind (node_and_string o query) keyword.Query o bytes (λ x s. (tt, s)) e
 command_sound keyword.Matches o bytes c e = read_behind (node_and_string o matches) keyword.Matches o bytes (λ x s. (tt, s)) e
-command_sound keyword.Listen o bytes c e = listen_sound o bytes c e
-command_sound keyword.Unlisten o bytes c e = unlisten_sound o bytes c e
-command_sound keyword.Dispatch o bytes c e = dispatch_sound o bytes c e
+command_sound keyword.Listen o bytes c e = read_behind (a_listener o) keyword.Listen o bytes (λ x s. (tt, s)) e
+command_sound keyword.Unlisten o bytes c e = read_behind (no_listener o) keyword.Unlisten o bytes (λ x s. (tt, s)) e
+command_sound keyword.Dispatch o bytes c e = read_behind (an_event o) keyword.Dispatch o bytes (λ x s. (tt, s)) e
 command_sound keyword.Observer o bytes c e = read_behind (ended observer) keyword.Observer o bytes (λ x s. (tt, s)) e
-command_sound keyword.Observe o bytes c e = observe_sound o bytes c e
+command_sound keyword.Observe o bytes c e = read_behind (observed_node o) keyword.Observe o bytes (λ x s. (tt, s)) e
 command_sound keyword.Disconnect o bytes c e = read_behind (an_observer disconnect) keyword.Disconnect o bytes (λ x s. (tt, s)) e
 command_sound keyword.Take o bytes c e = read_behind (an_observer take) keyword.Take o bytes (λ x s. (tt, s)) e
 command_sound keyword.Micro o bytes c e = read_behind (a_label micro) keyword.Micro o bytes (λ x s. (tt, s)) e
@@ -177,12 +168,36 @@ command_complete o new_fragment said u s =
 command_complete Page (assigned e) said u s = absurd u
 command_complete (Component q) (assigned e) said u s =
     at keyword.Assigned (Component q) (others (Component q) (assigned e)) said s ∙ (a_node (Component q) assigned).complete s.1 (e, tt) s.3
-command_complete o (iterator_new n f) said u s = at keyword.IterNew o (others o (iterator_new n f)) said s ∙ cursor_complete o iterator_new s.1 n f s.3
-command_complete o (walker_new n f) said u s = at keyword.WalkNew o (others o (walker_new n f)) said s ∙ cursor_complete o walker_new s.1 n f s.3
-command_complete o (listen n l) said u s = at keyword.Listen o (others o (listen n l)) said s ∙ listen_complete o n l s.1 s.3
+command_complete o (iterator_new n f) said u s = completed o keyword.IterNew (cursor o iterator_new) (n, (f.shown, f.named)) said (λ bytes. refl) s
+command_complete o (walker_new n f) said u s = completed o keyword.WalkNew (cursor o walker_new) (n, (f.shown, f.named)) said (λ bytes. refl) s
+command_complete o (listen n l) said u s =
+    completed o keyword.Listen (a_listener o) (n, (l.event, (l.label, (l.action, (l.capture, (l.once, (l.passive, tt))))))) said (λ bytes. refl) s
 command_complete o (unlisten n event l capture) said u s =
-    at keyword.Unlisten o (others o (unlisten n event l capture)) said s ∙ unlisten_complete o s.1 s.3
-command_complete o (dispatch n e r) said u s = at keyword.Dispatch o (others o (dispatch n e r)) said s ∙ dispatch_complete o n e r s.1 s.3
-command_complete o (observe k n w) said u s = at keyword.Observe o (others o (observe k n w)) said s ∙ observe_complete o k n w s.1 s.3
+    completed o keyword.Unlisten (no_listener o) (n, (event, (l, (capture, tt)))) said (λ bytes. refl) s
+command_complete o (dispatch n e r) said u s =
+    completed o keyword.Dispatch (an_event o) (n, (e.event, (e.bubbles, (e.cancelable, (e.composed, r))))) said (λ bytes. refl) s
+command_complete o (observe k n w) said u s =
+    completed o keyword.Observe (observed_node o) (
+      k,
+      (
+        n,
+        (
+          w.child_list,
+          (
+            w.attributes,
+            (
+              w.character_data,
+              (
+                w.subtree,
+                (
+                  w.attribute_old_value,
+                  (w.character_data_old_value, w.filter),
+                ),
+              ),
+            ),
+          ),
+        ),
+      ),
+    ) said (λ bytes. refl) s
 -- a keyword and a node
 command_complete o c said u s = node_complete o _ said (record { found = refl; behind = λ bytes. refl }) s

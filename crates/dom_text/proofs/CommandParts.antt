@@ -1,5 +1,5 @@
 -- The readers of the parts of commands: what they read is the part, and each part is read. Words may be left out.
-use Rattle.std.proofs.Common.{◌≡◌, Bool, true, false, [], ◌∷◌, Some, refl, arith, ◌≢◌, ℕ, cond, List, Option, None, sym, ap, subst, ◌∙◌}
+use Rattle.std.proofs.Common.{◌||◌, ◌≡◌, Bool, true, false, [], ◌∷◌, Some, refl, arith, ◌≢◌, ℕ, cond, List, Option, None, sym, ap, subst, ◌∙◌}
 use Rattle.std.specs.Prelude.{codes, bytes_eq}
 use Rattle.dom_base.specs.declared.Owner.{Owner}
 use Rattle.dom_base.specs.declared.Move.{Move}
@@ -12,18 +12,18 @@ use Rattle.dom_text.specs.Words.{action_word, actions_listed, move_word, moves_l
 use Rattle.dom_text.specs.Tokens.{IsWord}
 use Rattle.dom_text.specs.Grammar.{Spells}
 use Rattle.dom_text.specs.LineParts.{key, label, number, node, range, iterator, walker, observed, LinePart, flag, perhaps}
-use Rattle.dom_text.specs.Readers.{named, next_word, next_as, flag_found, flag_at, last_as}
+use Rattle.dom_text.specs.Readers.{◌>>=◌, named, next_word, next_as, flag_found, flag_at, last_as}
 use Rattle.dom_text.specs.Forms.{node_at, range_number_at, iterator_number_at, walker_number_at, observer_number_at, number_at, label_at, to_start_at}
 use Rattle.dom_text.specs.Forms.{action_at, move_at}
 use Rattle.dom_text.specs.Decode.{keyword_of}
-use Rattle.dom_text.proofs.PartLaws.{SaysPart, ReadsPart, next_as_reads, next_word_reads, Spells-ends, one_part}
+use Rattle.dom_text.proofs.PartLaws.{LineReader, ended, SaysPart, ReadsPart, next_as_reads, next_word_reads, Spells-ends, one_part}
 use Rattle.dom_text.proofs.NumberLaws.{number_says, numbered_says, bytes_eq-true, eq-bytes_eq}
 use Rattle.dom_text.proofs.NodeLaws.{node_says}
 use Rattle.dom_text.proofs.NameLaws.{word_by_test, named_says, label_says}
-use Rattle.std.proofs.lemmas.Bool.{false_from_ne_true}
+use Rattle.std.proofs.lemmas.Bool.{or_parts, false_from_ne_true}
 use Rattle.std.specs.Cmp.Lexicographic.{other_text}
 use Rattle.dom_model.specs.Names.{Word}
-use Rattle.dom_text.proofs.WordLaws.{some_is}
+use Rattle.dom_text.proofs.WordLaws.{bind_then, some_is}
 
 -- ---- what is found
 
@@ -69,11 +69,6 @@ avoids_word name part others differs = record {
 pub avoids_key : (name other : List ℕ) (others : List LinePart) → IsWord other → bytes_eq other name ≡ false → Avoids name (key other ∷ others)
 avoids_key name other others w differs = avoids_word name (key other) others (λ text e. rw e (w, other_text other name (sym differs)))
 
-pub avoids_flag : {name : List ℕ} {others : List LinePart} (b : Bool) (other : List ℕ) → IsWord other → bytes_eq other name ≡ false → Avoids name others →
-    Avoids name (flag b other others)
-avoids_flag {name} {others} true other w differs a = avoids_key name other others w differs
-avoids_flag false other w differs a = a
-
 pub flag_complete : {name : List ℕ} (b : Bool) (others : List LinePart) (bytes : List ℕ) → IsWord name → (b ≡ false → Avoids name others) →
     Spells (flag b name others) bytes →
     (rest : List ℕ) × (flag_at name bytes ≡ (b, rest)) × Spells others rest
@@ -86,6 +81,52 @@ flag_complete {name} false others bytes w a s = (bytes, go (next_word bytes) ref
     go None e = refl
     go (Some found) e = rw (false_from_ne_true (bytes_eq found.0 name)
         (λ h. (a refl).avoids bytes found.1 s (e ∙ ap (λ (x : List ℕ). Some (x, found.1)) (bytes_eq-true found.0 name h)))) refl
+
+-- ---- readers of such words
+
+-- a reader of the rest of a line, and which words may come first in it
+pub record FlagReader (C : Type 0) : Type 1 where
+  pub reader : LineReader C
+  pub begins : List ℕ → Bool
+  pub avoids : (name : List ℕ) → begins name ≡ false → (x : reader.Values) → Avoids name (reader.parts x)
+
+-- nothing follows
+abbrev pub no_flags : {C : Type 0} → C → FlagReader C
+no_flags c = record { reader = ended c; begins = λ name. false; avoids = λ name h x. avoids_nothing name }
+
+-- a word that may be left out, and the rest, in which it does not come first
+module _ {C : Type 0} (name : List ℕ) (w : IsWord name) (next : Bool → FlagReader C) (differs : (next false).begins name ≡ false) where
+  pub then_avoids : (other : List ℕ) → (bytes_eq name other || (next false).begins other) ≡ false → (x : (b : Bool) × (next b).reader.Values) →
+      Avoids other (flag x.0 name ((next x.0).reader.parts x.1))
+  then_avoids other h (true, x) =
+      avoids_key other name ((next true).reader.parts x) w (or_parts (bytes_eq name other) ((next false).begins other) h).0
+  then_avoids other h (false, x) = (next false).avoids other (or_parts (bytes_eq name other) ((next false).begins other) h).1 x
+
+  pub then_reads : (bytes : List ℕ) (x : (b : Bool) × (next b).reader.Values) → Spells (flag x.0 name ((next x.0).reader.parts x.1)) bytes →
+      (next (flag_at name bytes).0).reader.reads (flag_at name bytes).1 ≡ Some ((next x.0).reader.makes x.1)
+  then_reads bytes (true, x) s =
+      let f = flag_complete true ((next true).reader.parts x) bytes w (λ e. absurd cc) s in
+      rw (f.1) ((next true).reader.complete f.0 x f.2)
+  then_reads bytes (false, x) s =
+      let f = flag_complete false ((next false).reader.parts x) bytes w (λ e. (next false).avoids name differs x) s in
+      rw (f.1) ((next false).reader.complete f.0 x f.2)
+
+  abbrev pub flag_then : FlagReader C
+  flag_then = record {
+    reader = record {
+      reads = λ bytes. (next (flag_at name bytes).0).reader.reads (flag_at name bytes).1;
+      Values = (b : Bool) × (next b).reader.Values;
+      makes = λ x. (next x.0).reader.makes x.1;
+      parts = λ x. flag x.0 name ((next x.0).reader.parts x.1);
+      sound = λ bytes c e.
+          let f = flag_at name bytes in
+          let s = (next f.0).reader.sound f.1 c e in
+          ((f.0, s.0), s.1, flag_sound name bytes ((next f.0).reader.parts s.0) s.2);
+      complete = then_reads;
+    };
+    begins = λ other. bytes_eq name other || (next false).begins other;
+    avoids = then_avoids;
+  }
 
 -- ---- the last word
 
@@ -128,36 +169,22 @@ label_reads = next_as_reads label_says
 
 pub move_found : (m : Move) → named move_word moves_listed (move_word m) ≡ Some m
 move_found moves.Parent = refl
-move_found moves.First = refl
-move_found moves.Last = refl
-move_found moves.Next = refl
-move_found moves.Previous = refl
-move_found moves.NextSibling = refl
-move_found moves.PreviousSibling = refl
+move_found m = refl
 
 pub move_is_word : (m : Move) → IsWord (move_word m)
 move_is_word moves.Parent = word_by_test (codes "parent") refl refl
-move_is_word moves.First = word_by_test (codes "first") refl refl
-move_is_word moves.Last = word_by_test (codes "last") refl refl
-move_is_word moves.Next = word_by_test (codes "next") refl refl
-move_is_word moves.Previous = word_by_test (codes "previous") refl refl
-move_is_word moves.NextSibling = word_by_test (codes "next-sibling") refl refl
-move_is_word moves.PreviousSibling = word_by_test (codes "previous-sibling") refl refl
+move_is_word m = word_by_test (move_word m) refl refl
 
 pub move_reads : ReadsPart move_at (λ m. key (move_word m))
 move_reads = next_as_reads (named_says move_word moves_listed move_found move_is_word)
 
 pub action_found : (a : Action) → named action_word actions_listed (action_word a) ≡ Some a
 action_found actions.Log = refl
-action_found actions.Stop = refl
-action_found actions.StopNow = refl
-action_found actions.Cancel = refl
+action_found a = refl
 
 pub action_is_word : (a : Action) → IsWord (action_word a)
 action_is_word actions.Log = word_by_test (codes "log") refl refl
-action_is_word actions.Stop = word_by_test (codes "stop") refl refl
-action_is_word actions.StopNow = word_by_test (codes "stop-now") refl refl
-action_is_word actions.Cancel = word_by_test (codes "cancel") refl refl
+action_is_word a = word_by_test (action_word a) refl refl
 
 pub action_reads : ReadsPart action_at (λ a. key (action_word a))
 action_reads = next_as_reads (named_says action_word actions_listed action_found action_is_word)
@@ -185,3 +212,17 @@ keyword_is_word k = word_by_test (keyword_word k) refl refl
 pub keyword_says : SaysPart keyword_of (λ k. key (keyword_word k))
 unfolding keyword_of
 keyword_says = named_says keyword_word keywords keyword_found keyword_is_word
+
+-- a last part that may be left out, of which something is made
+module _ {A C : Type 0} (given : List ℕ → Option A) (said : A → List LinePart)
+    (is_said : (bytes : List ℕ) (x : A) → given bytes ≡ Some x → Spells (said x) bytes)
+    (is_given : (bytes : List ℕ) (x : A) → Spells (said x) bytes → given bytes ≡ Some x) where
+  abbrev pub last_then : (A → C) → LineReader C
+  last_then makes = record {
+    reads = λ bytes. given bytes >>= λ x. Some (makes x);
+    Values = A;
+    makes = makes;
+    parts = said;
+    sound = λ bytes c e. bind_then (given bytes) (λ x. Some (makes x)) c e λ x h k. (x, some_is k, is_said bytes x h);
+    complete = λ bytes x s. rw (is_given bytes x s) refl;
+  }

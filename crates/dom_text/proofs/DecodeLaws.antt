@@ -16,8 +16,7 @@ use Rattle.dom_text.specs.Readers.{◌>>=◌, word_at, next_as, owner_of}
 use Rattle.dom_text.specs.Decode.{keyword_of, command_at, before_space, owner_at, owned_line, said_by, line_of, decode}
 use Rattle.dom_text.proofs.WordLaws.{bind_then, some_is, only_if_some, word_at_sound, word_at_complete}
 use Rattle.dom_text.proofs.PartLaws.{next_as_reads}
-use Rattle.dom_text.proofs.NodeLaws.{component_short}
-use Rattle.dom_text.proofs.NodeLaws.{owner_sound, owner_complete, owner_is_word}
+use Rattle.dom_text.proofs.NodeLaws.{component_short, owner_sound, owner_complete, owner_is_word}
 use Rattle.dom_text.proofs.CommandParts.{keyword_says}
 use Rattle.dom_text.proofs.CommandLaws.{command_sound, command_complete}
 

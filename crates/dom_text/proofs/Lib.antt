@@ -8,7 +8,6 @@ mod NodeLaws
 mod NameLaws
 mod CommandParts
 mod CommandForms
-mod EventForms
 mod CommandLaws
 pub mod DecodeLaws
 pub mod TextLaws

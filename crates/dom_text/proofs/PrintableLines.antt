@@ -8,13 +8,11 @@ use Rattle.std.proofs.lemmas.Bool.Decides.{nat_tests}
 use Rattle.dom_base.specs.declared.Owner.{Owner}
 use Rattle.dom_base.specs.declared.Move.{Move}
 use Rattle.dom_model.specs.Names.{Word}
-use Rattle.dom_model.specs.Command.{NodeWord, Filter, ListenerWords, EventWords, ObserveWords, Command, new_element}
-use Rattle.dom_model.specs.Command.{iterator_new, walker_new}
-use Rattle.dom_model.specs.Command.{listen, unlisten, dispatch}
-use Rattle.dom_model.specs.Command.{observe}
+use Rattle.dom_model.specs.Command.{NodeWord, Filter, ListenerWords, EventWords, ObserveWords, Command, new_element, iterator_new, walker_new, listen}
+use Rattle.dom_model.specs.Command.{unlisten, dispatch, observe}
 use Rattle.dom_text.specs.Words.{end_word, move_word, action_word}
 use Rattle.dom_text.specs.Tokens.{IsWord, IsNumbered, IsItem, itself, quote, backslash, by_digits, AreItems}
-use Rattle.dom_text.specs.LineParts.{LinePart, key, word, label, string, flag, perhaps, filter_parts, listener_parts, related_parts, event_parts, observe_parts}
+use Rattle.dom_text.specs.LineParts.{LinePart, key, word, string, flag, perhaps, filter_parts, listener_parts, related_parts, event_parts, observe_parts}
 use Rattle.dom_text.specs.Grammar.{Spells, IsLine}
 use Rattle.dom_text.specs.Commands.{parts}
 use Rattle.dom_text.proofs.WordLaws.{in_range_is, each_from, list_all_each}

@@ -3,8 +3,7 @@ use Rattle.std.proofs.Common.{◌≡◌, ℕ, Bool, true, false, List, [], ◌�
 use Rattle.std.specs.Prelude.{codes}
 use Rattle.std.specs.List.{list_all}
 use Rattle.dom_base.specs.declared.Owner.TheVariants.{Page}
-use Rattle.dom_model.specs.Command.{micro, Line}
-use Rattle.dom_model.specs.Command.{no_owner, no_command, command}
+use Rattle.dom_model.specs.Command.{micro, Line, no_owner, no_command, command}
 use Rattle.dom_text.specs.Decode.{decode, keyword_of}
 
 -- ---- refusals

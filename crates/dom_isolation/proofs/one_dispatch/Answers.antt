@@ -1,4 +1,4 @@
-use Rattle.dom_isolation.proofs.Dispatches.{fold-skips_components}
+use Rattle.dom_isolation.proofs.PageSteps.{fold-skips_components}
 use Rattle.dom_isolation.proofs.ComponentCommands.{page_visits-agree, outward_visits-agree}
 use Rattle.dom_isolation.proofs.Lines.{page_dispatch-agrees_in_full, page_dispatch-agrees, component_dispatch-agrees}
 use Rattle.dom_isolation.proofs.one_dispatch.Goals as goal

@@ -1,7 +1,6 @@
 use Rattle.dom_isolation.proofs.Touches.{interference-is_enough}
-use Rattle.dom_isolation.proofs.FullTraces.{interference-is_on_purpose, interference-is_small}
+use Rattle.dom_isolation.proofs.FullTraces.{interference-is_on_purpose, interference-is_small, full_trace-is_trace, nothing-touches}
 use Rattle.dom_isolation.proofs.Lines.{endings-are_not_told}
-use Rattle.dom_isolation.proofs.FullTraces.{full_trace-is_trace, nothing-touches}
 use Rattle.dom_isolation.proofs.one_interference.Goals as goal
 
 pub returns : goal.returns

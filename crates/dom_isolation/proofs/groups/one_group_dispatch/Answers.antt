@@ -1,4 +1,4 @@
-use Rattle.dom_isolation.proofs.QuietGroups.{views-agree, outward_views-agree, dispatch-agrees, other_dispatch-agrees}
+use Rattle.dom_isolation.proofs.GroupRuns.{views-agree, outward_views-agree, dispatch-agrees, other_dispatch-agrees}
 use Rattle.dom_isolation.proofs.groups.one_group_dispatch.Goals as goal
 
 pub returns : goal.returns

@@ -1,4 +1,4 @@
-use Rattle.dom_isolation.proofs.QuietGroups.{assigned-agree, signals-agree, step-agrees}
+use Rattle.dom_isolation.proofs.GroupRuns.{assigned-agree, signals-agree, step-agrees}
 use Rattle.dom_isolation.proofs.groups.one_step.Goals as goal
 
 pub returns : goal.returns
